@@ -1,0 +1,17 @@
+-- Writing one thing after another.
+use Rattle.std.proofs.Common.{◌≡◌, ℕ, List, ◌++◌, length, Result, Ok, Err, sym, ap, ◌∙◌, arith, append_assoc}
+use Rattle.std.proofs.lemmas.List.{length-append}
+use Rattle.ber_core.specs.declared.fault.BerFault.{BerFault}
+use Rattle.ber_core.specs.declared.out.Out.{Out}
+use Rattle.ber_core.specs.Writing.{written, capacity, Prepends}
+
+pub prepends_then : (a b c : Out) (r : Result (Unit {0}) BerFault) (x y : List ℕ) → written b ≡ x ++ written a → capacity b ≡ capacity a → Prepends b c r y → Prepends a c r (y ++ x)
+prepends_then a b c (Ok u) x y w k p = (p.0 ∙ ap (λ (t : List ℕ). y ++ t) w ∙ sym (append_assoc y x (written a)), p.1 ∙ k)
+prepends_then a b c (Err f) x y w k p =
+    (p.0, (let e = ap (λ (t : List ℕ). length (y ++ t)) w ∙ ap length (sym (append_assoc y x (written a))) in omega (arith, p.1, e, k)), p.2 ∙ k)
+
+pub prepends_stop : (a b : Out) (f : BerFault) (x y : List ℕ) → Prepends a b (Err f) x → Prepends a b (Err f) (y ++ x)
+prepends_stop a b f x y p = (p.0, omega (arith, p.1, length-append x (written a), length-append (y ++ x) (written a), length-append y x), p.2)
+
+pub written_then : (a b c x y : List ℕ) → b ≡ x ++ a → c ≡ y ++ b → c ≡ (y ++ x) ++ a
+written_then a b c x y p q = q ∙ ap (λ (t : List ℕ). y ++ t) p ∙ sym (append_assoc y x a)

@@ -1,0 +1,18 @@
+-- Writing from the back of a slice that was lent.
+use Rattle.std.specs.Prelude.{◌≡◌, ℕ, ◌<◌, List, ◌++◌, length, drop, Result, Ok, Err}
+use Rattle.ber_core.specs.declared.fault.BerFault.{BerFault}
+use Rattle.ber_core.specs.declared.fault.BerFault.TheVariants.{NoRoom}
+use Rattle.ber_core.specs.declared.out.Out.{Out}
+
+-- what was written so far
+abbrev pub written : Out → List ℕ
+written out = drop out.start out.room.now
+
+-- how many octets there is room for in all
+abbrev pub capacity : Out → ℕ
+capacity out = length out.room.now
+
+-- Writing these octets: they stand in front of the others, or there is no room for them.
+abbrev pub Prepends : Out → Out → Result (Unit {0}) BerFault → List ℕ → Type 0
+Prepends old new (Ok _) octets = (written new ≡ octets ++ written old) × (capacity new ≡ capacity old)
+Prepends old new (Err fault) octets = (fault ≡ NoRoom) × (capacity old < length (octets ++ written old)) × (capacity new ≡ capacity old)

@@ -1,0 +1,11 @@
+//! The basic encoding rules of X.690 over slices, as far as SNMP uses them.
+#![tactic(auto)]
+
+mod fault;
+mod out;
+mod reading;
+mod shortest;
+
+pub use fault::BerFault;
+pub use out::Out;
+pub use reading::{Tag, read_i32, read_tlv};

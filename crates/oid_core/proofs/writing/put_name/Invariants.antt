@@ -1,0 +1,17 @@
+use Rattle.std.proofs.Common.{◌≡◌, ◌≤◌, ◌++◌, take, length}
+use Rattle.std.specs.List.{flat_map}
+use Rattle.ber_core.specs.Writing.{written, capacity}
+use Rattle.oid_core.specs.Name.{packed, canon_coded, canon_name}
+use Rattle.oid_core.proofs.writing.put_name.Given as goal
+
+abbrev pub invariant-loop-i : goal.invariant-loop-i
+invariant-loop-i l = record {
+  all : canon_name l.name ++ written l.fn.out ≡ flat_map canon_coded (packed (take l.i l.name)) ++ written l.out;
+  room : capacity l.out ≡ capacity l.fn.out;
+  same : l.out.room.ghost_name ≡ l.fn.out.room.ghost_name;
+  low : 2 ≤ l.i;
+  high : l.i ≤ length l.name;
+}
+
+abbrev pub decreases-loop-i : goal.decreases-loop-i
+decreases-loop-i l = l.i
