@@ -1,30 +1,51 @@
-ghost use Rattle.std.specs.Prelude.{◌≡◌, ◌<◌, ◌≤◌, take, length, IfOk, OnErr};
+ghost use Rattle.std.specs.Prelude.{◌≡◌, ◌<◌, ◌≤◌, ◌++◌, drop, length, IfOk, OnErr};
 ghost use Rattle.std.specs.List.{flat_map};
-ghost use Rattle.ber_core.specs.Writing.{written, Prepends};
 ghost use Rattle.ber_core.specs.Spelling.{canon_tlv};
-ghost use Rattle.oid_core.specs.Name.{HasRoot, IsSpellable, canon_name};
-ghost use Rattle.message_core.specs.Canon.{canon_value, canon_binding, canon_tail, canon_body, canon_pdu, canon_inside, canon_reply, IsSpellableValue, IsSpellableBinding, AreSpellable};
+ghost use Rattle.oid_core.specs.Name.{HasRoot, canon_name};
+ghost use Rattle.message_core.specs.Tags as tags;
+ghost use Rattle.message_core.specs.Spellable.{IsSpellableValue, IsSpellableBinding, AreSpellable};
+ghost use Rattle.message_core.specs.Canon.{canon_name_tlv, canon_value, canon_binding, canon_bindings, canon_tail, canon_body, canon_inside, canon_message, canon_reply, answer_to};
+ghost use Rattle.ber_core.specs.Writing.{Prepends};
 
-use crate::request::{Binding, Reply, Value};
-use ber_core::{Out, BerFault, Tag};
+use crate::binding::Binding;
+use crate::reply::Reply;
+use crate::request::Request;
+use crate::status::ErrorStatus;
+use crate::tag;
+use crate::value::Value;
+use ber_core::{BerFault, Out, Tag};
 use oid_core::{Oid, put_name};
+use thiserror::Error;
 
-const SEQUENCE: Tag = Tag(48);
+/// The longest reply that is written, in octets.
+pub const MAX_REPLY: usize = 1472;
 
-/// The message does not fit.
-#[derive(Clone, Copy, Debug, PartialEq, Eq)]
+/// The message is longer than the buffer.
+#[derive(Clone, Copy, Debug, PartialEq, Eq, Error)]
+#[error("the message is longer than the buffer")]
 pub struct TooBig;
+
+/// What a message says beside its version.
+#[derive(Drop)]
+struct Message<'a> {
+    tag: Tag,
+    id: i32,
+    first: i32,
+    second: i32,
+    community: &'a [u8],
+    bindings: &'a [Binding],
+}
 
 #[tactic(auto, unfolding(ber_core::specs::Spelling::canon_tlv))]
 fn put_oid(out: &mut Out<'_>, name: &Oid) -> Result<(), BerFault>
     requires { HasRoot name.now }
     ensures same_reference { out.new.room.ghost_name ≡ out.old.room.ghost_name }
-    ensures puts { Prepends out.old out.new result (canon_tlv 6 (canon_name name.now)) }
+    ensures puts { Prepends out.old out.new result (canon_name_tlv name.now) }
 {
     let mark = out.len();
     put_name(out, name.as_slice())?;
     let len = out.len() - mark;
-    out.put_tlv_head(Tag(6), len)
+    out.put_tlv_head(Tag(tag::OBJECT_IDENTIFIER), len)
 }
 
 fn put_value(out: &mut Out<'_>, value: &Value) -> Result<(), BerFault>
@@ -33,13 +54,19 @@ fn put_value(out: &mut Out<'_>, value: &Value) -> Result<(), BerFault>
     ensures puts { Prepends out.old out.new result (canon_value value.now) }
 {
     match value {
-        Value::Integer(number) => out.put_i32(*number),
-        Value::Octets(octets) => out.put_tlv(Tag(4), octets.as_slice()),
-        Value::Null => out.put_tlv(Tag(5), &[]),
-        Value::Name(name) => put_oid(out, name),
-        Value::NoSuchObject => out.put_tlv(Tag(128), &[]),
-        Value::NoSuchInstance => out.put_tlv(Tag(129), &[]),
-        Value::EndOfMibView => out.put_tlv(Tag(130), &[]),
+        Value::Integer(number) => out.put_i32(Tag(tag::INTEGER), *number),
+        Value::OctetString(octets) => out.put_tlv(Tag(tag::OCTET_STRING), octets.as_slice()),
+        Value::Null => out.put_tlv(Tag(tag::NULL), &[]),
+        Value::ObjectIdentifier(name) => put_oid(out, name),
+        Value::IpAddress(address) => out.put_tlv(Tag(tag::IP_ADDRESS), address),
+        Value::Counter32(count) => out.put_u32(Tag(tag::COUNTER32), *count),
+        Value::Gauge32(level) => out.put_u32(Tag(tag::GAUGE32), *level),
+        Value::TimeTicks(ticks) => out.put_u32(Tag(tag::TIME_TICKS), *ticks),
+        Value::Opaque(octets) => out.put_tlv(Tag(tag::OPAQUE), octets.as_slice()),
+        Value::Counter64(count) => out.put_u64(Tag(tag::COUNTER64), *count),
+        Value::NoSuchObject => out.put_tlv(Tag(tag::NO_SUCH_OBJECT), &[]),
+        Value::NoSuchInstance => out.put_tlv(Tag(tag::NO_SUCH_INSTANCE), &[]),
+        Value::EndOfMibView => out.put_tlv(Tag(tag::END_OF_MIB_VIEW), &[]),
     }
 }
 
@@ -53,7 +80,7 @@ fn put_binding(out: &mut Out<'_>, binding: &Binding) -> Result<(), BerFault>
     put_value(out, &binding.value)?;
     put_oid(out, &binding.name)?;
     let len = out.len() - mark;
-    out.put_tlv_head(SEQUENCE, len)
+    out.put_tlv_head(Tag(tag::SEQUENCE), len)
 }
 
 fn put_bindings(out: &mut Out<'_>, bindings: &[Binding]) -> Result<(), BerFault>
@@ -73,82 +100,133 @@ fn put_bindings(out: &mut Out<'_>, bindings: &[Binding]) -> Result<(), BerFault>
 fn put_list(out: &mut Out<'_>, bindings: &[Binding]) -> Result<(), BerFault>
     requires { AreSpellable bindings.now }
     ensures same_reference { out.new.room.ghost_name ≡ out.old.room.ghost_name }
-    ensures puts { Prepends out.old out.new result (canon_tlv 48 (flat_map canon_binding bindings.now)) }
+    ensures puts { Prepends out.old out.new result (canon_tlv tags.sequence (flat_map canon_binding bindings.now)) }
 {
     let mark = out.len();
     put_bindings(out, bindings)?;
     let len = out.len() - mark;
-    out.put_tlv_head(SEQUENCE, len)
+    out.put_tlv_head(Tag(tag::SEQUENCE), len)
 }
 
 #[tactic(auto, unfolding(crate::specs::Canon::canon_tail))]
-fn put_tail(out: &mut Out<'_>, reply: &Reply) -> Result<(), BerFault>
-    requires { AreSpellable reply.now.bindings }
+fn put_tail(out: &mut Out<'_>, second: i32, bindings: &[Binding]) -> Result<(), BerFault>
+    requires { AreSpellable bindings.now }
     ensures same_reference { out.new.room.ghost_name ≡ out.old.room.ghost_name }
-    ensures puts { Prepends out.old out.new result (canon_tail reply.now) }
+    ensures puts { Prepends out.old out.new result (canon_tail second bindings.now) }
 {
-    put_list(out, reply.bindings.as_slice())?;
-    out.put_i32(reply.index)
+    put_list(out, bindings)?;
+    out.put_i32(Tag(tag::INTEGER), second)
 }
 
 #[tactic(auto, unfolding(crate::specs::Canon::canon_body))]
-fn put_body(out: &mut Out<'_>, reply: &Reply) -> Result<(), BerFault>
-    requires { AreSpellable reply.now.bindings }
+fn put_body(out: &mut Out<'_>, message: &Message<'_>) -> Result<(), BerFault>
+    requires { AreSpellable message.now.bindings.now }
     ensures same_reference { out.new.room.ghost_name ≡ out.old.room.ghost_name }
-    ensures puts { Prepends out.old out.new result (canon_body reply.now) }
+    ensures puts { let m = message.now in Prepends out.old out.new result (canon_body m.id m.first m.second m.bindings.now) }
 {
-    put_tail(out, reply)?;
-    out.put_i32(reply.status)?;
-    out.put_i32(reply.id)
+    put_tail(out, message.second, message.bindings)?;
+    out.put_i32(Tag(tag::INTEGER), message.first)?;
+    out.put_i32(Tag(tag::INTEGER), message.id)
 }
 
-#[tactic(auto, unfolding(ber_core::specs::Spelling::canon_tlv, crate::specs::Canon::canon_pdu))]
-fn put_pdu(out: &mut Out<'_>, reply: &Reply) -> Result<(), BerFault>
-    requires { AreSpellable reply.now.bindings }
+#[tactic(auto, unfolding(ber_core::specs::Spelling::canon_tlv))]
+fn put_pdu(out: &mut Out<'_>, message: &Message<'_>) -> Result<(), BerFault>
+    requires { AreSpellable message.now.bindings.now }
     ensures same_reference { out.new.room.ghost_name ≡ out.old.room.ghost_name }
-    ensures puts { Prepends out.old out.new result (canon_pdu reply.now) }
+    ensures puts { let m = message.now in Prepends out.old out.new result (canon_tlv m.tag.0 (canon_body m.id m.first m.second m.bindings.now)) }
 {
     let mark = out.len();
-    put_body(out, reply)?;
+    put_body(out, message)?;
     let len = out.len() - mark;
-    out.put_tlv_head(Tag(162), len)
+    out.put_tlv_head(message.tag, len)
 }
 
 #[tactic(auto, unfolding(crate::specs::Canon::canon_inside))]
-fn put_inside(out: &mut Out<'_>, reply: &Reply) -> Result<(), BerFault>
-    requires { AreSpellable reply.now.bindings }
+fn put_inside(out: &mut Out<'_>, message: &Message<'_>) -> Result<(), BerFault>
+    requires { AreSpellable message.now.bindings.now }
     ensures same_reference { out.new.room.ghost_name ≡ out.old.room.ghost_name }
-    ensures puts { Prepends out.old out.new result (canon_inside reply.now) }
+    ensures puts { let m = message.now in Prepends out.old out.new result (canon_inside m.community.now m.tag.0 (canon_body m.id m.first m.second m.bindings.now)) }
 {
-    put_pdu(out, reply)?;
-    out.put_tlv(Tag(4), reply.community.as_slice())?;
-    out.put_i32(1)
+    put_pdu(out, message)?;
+    out.put_tlv(Tag(tag::OCTET_STRING), message.community)?;
+    out.put_i32(Tag(tag::INTEGER), 1)
 }
 
-#[tactic(auto, unfolding(ber_core::specs::Spelling::canon_tlv, crate::specs::Canon::canon_reply))]
-fn put_reply(out: &mut Out<'_>, reply: &Reply) -> Result<(), BerFault>
-    requires { AreSpellable reply.now.bindings }
+#[tactic(auto, unfolding(ber_core::specs::Spelling::canon_tlv, crate::specs::Canon::canon_message))]
+fn put_message(out: &mut Out<'_>, message: &Message<'_>) -> Result<(), BerFault>
+    requires { AreSpellable message.now.bindings.now }
     ensures same_reference { out.new.room.ghost_name ≡ out.old.room.ghost_name }
-    ensures puts { Prepends out.old out.new result (canon_reply reply.now) }
+    ensures puts { let m = message.now in Prepends out.old out.new result (canon_message m.community.now m.tag.0 (canon_body m.id m.first m.second m.bindings.now)) }
 {
     let mark = out.len();
-    put_inside(out, reply)?;
+    put_inside(out, message)?;
     let len = out.len() - mark;
-    out.put_tlv_head(SEQUENCE, len)
+    out.put_tlv_head(Tag(tag::SEQUENCE), len)
 }
 
-/// Writes the one shortest spelling of a reply, and answers how long it is.
-pub fn encode_reply(reply: &Reply, buffer: &mut [u8; 1472]) -> Result<usize, TooBig>
-    requires { AreSpellable reply.now.bindings }
-    ensures ok { IfOk result (λ n. take n buffer.new ≡ canon_reply reply.now) }
-    ensures len { IfOk result (λ n. (n ≡ length (canon_reply reply.now)) × (n ≤ 1472)) }
-    ensures too_big { OnErr result (1472 < length (canon_reply reply.now)) }
+/// Writes a message to the front of the buffer, and answers how long it is. A message that does not fit changes nothing.
+fn encode(message: &Message<'_>, buffer: &mut [u8; MAX_REPLY]) -> Result<usize, TooBig>
+    requires { AreSpellable message.now.bindings.now }
+    ensures ok { let m = message.now in IfOk result (λ n. buffer.new ≡ canon_message m.community.now m.tag.0 (canon_body m.id m.first m.second m.bindings.now) ++ drop n buffer.old) }
+    ensures len { let m = message.now in IfOk result (λ n. (n ≡ length (canon_message m.community.now m.tag.0 (canon_body m.id m.first m.second m.bindings.now))) × (n ≤ MAX_REPLY)) }
+    ensures too_big { let m = message.now in OnErr result (MAX_REPLY < length (canon_message m.community.now m.tag.0 (canon_body m.id m.first m.second m.bindings.now))) }
+    ensures unchanged { OnErr result (buffer.new ≡ buffer.old) }
 {
-    let mut out = Out::new(buffer);
-    if put_reply(&mut out, reply).is_err() {
+    let mut room = [0u8; MAX_REPLY];
+    let mut out = Out::new(&mut room);
+    if put_message(&mut out, message).is_err() {
         return Err(TooBig);
     }
     let len = out.len();
-    buffer.rotate_left(1472 - len);
+    buffer[..len].copy_from_slice(&room[MAX_REPLY - len..]);
     Ok(len)
+}
+
+/// Writes the shortest spelling of a reply to the front of the buffer, and answers how long it is, at most 1,472 octets.
+///
+/// What stands behind it stays. `TooBig` exactly where it is longer than 1,472 octets; the buffer is then as before.
+/// Takes no memory. A name that cannot be spelled is the caller's to keep out (`Binding::is_spellable`).
+pub fn encode_reply(reply: &Reply, buffer: &mut [u8; MAX_REPLY]) -> Result<usize, TooBig>
+    requires { AreSpellable reply.now.bindings }
+    ensures ok { IfOk result (λ n. buffer.new ≡ canon_reply reply.now ++ drop n buffer.old) }
+    ensures len { IfOk result (λ n. (n ≡ length (canon_reply reply.now)) × (n ≤ MAX_REPLY)) }
+    ensures too_big { OnErr result (MAX_REPLY < length (canon_reply reply.now)) }
+    ensures unchanged { OnErr result (buffer.new ≡ buffer.old) }
+{
+    let message = Message {
+        tag: Tag(tag::RESPONSE),
+        id: reply.id,
+        first: reply.status.code(),
+        second: reply.index,
+        community: reply.community.as_slice(),
+        bindings: reply.bindings.as_slice(),
+    };
+    encode(&message, buffer)
+}
+
+/// Writes the shortest spelling of the reply to a request that has this status, index and bindings, as `encode_reply` does.
+///
+/// The request-id and the community are the request's (RFC 3416, section 4.2). Takes no memory and copies nothing.
+pub fn encode_answer(
+    request: &Request,
+    status: ErrorStatus,
+    index: i32,
+    bindings: &[Binding],
+    buffer: &mut [u8; MAX_REPLY],
+) -> Result<usize, TooBig>
+    requires { AreSpellable bindings.now }
+    ensures ok { IfOk result (λ n. buffer.new ≡ canon_reply (answer_to request.now status index bindings.now) ++ drop n buffer.old) }
+    ensures len { IfOk result (λ n. (n ≡ length (canon_reply (answer_to request.now status index bindings.now))) × (n ≤ MAX_REPLY)) }
+    ensures too_big { OnErr result (MAX_REPLY < length (canon_reply (answer_to request.now status index bindings.now))) }
+    ensures unchanged { OnErr result (buffer.new ≡ buffer.old) }
+{
+    let message = Message {
+        tag: Tag(tag::RESPONSE),
+        id: request.id,
+        first: status.code(),
+        second: index,
+        community: request.community.as_slice(),
+        bindings,
+    };
+    encode(&message, buffer)
 }

@@ -9,11 +9,12 @@ pub returns-clause-puts : goal.returns-clause-puts
 unfolding canon_body
 returns-clause-puts c =
     let old = c.args.out.now in
-    let r = c.args.reply.now in
-    let status_fits : FitsSigned w32 r.status = search rules in
-    let id_fits : FitsSigned w32 r.id = search rules in
-    let one = c.in_ok-put_tail.ensures.puts in
+    let m = c.args.message.now in
+    let second_fits : FitsSigned w32 m.second = search rules in
+    let first_fits : FitsSigned w32 m.first = search rules in
+    let id_fits : FitsSigned w32 m.id = search rules in
+    let one = simp to_z-of_z at c.in_ok-put_tail.ensures.puts in
     let two = simp to_z-of_z at c.in_ok-put_i32.ensures.puts in
     let three = simp to_z-of_z at c.put_i32-2.ensures.puts in
-    prepends_then old c.put_i32.new.self c.put_i32-2.new.self c.put_i32-2.result (canon_int r.status ++ canon_tail r) (canon_int r.id)
-    (written_then (written old) (written c.put_tail.new.out) (written c.put_i32.new.self) (canon_tail r) (canon_int r.status) one.0 two.0) (two.1 ∙ one.1) three
+    prepends_then old c.put_i32.new.self c.put_i32-2.new.self c.put_i32-2.result (canon_int m.first ++ canon_tail m.second m.bindings.now) (canon_int m.id)
+    (written_then (written old) (written c.put_tail.new.out) (written c.put_i32.new.self) (canon_tail m.second m.bindings.now) (canon_int m.first) one.0 two.0) (two.1 ∙ one.1) three

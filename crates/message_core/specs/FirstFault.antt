@@ -1,0 +1,178 @@
+-- A datagram read from left to right, up to the first faulty place: the value and the octets left, or the cause. The grammar itself stands in `Message`.
+use Rattle.std.specs.Prelude.{◌≡◌, ◌≢◌, ℕ, zero, suc, ℤ, pos, negsuc, ◌+◌, ◌^◌, Bool, false, List, [], ◌∷◌, length, Result, Ok, Err, nat_lt, ◌==◌, if◌then◌else◌}
+use Rattle.ber_core.specs.declared.fault.BerFault.{BerFault}
+use Rattle.ber_core.specs.Spelling.{signed}
+use Rattle.ber_core.specs.Reading.{tlv_at}
+use Rattle.oid_core.specs.declared.fault.OidFault.{OidFault}
+use Rattle.oid_core.specs.Reading.{name_at}
+use Rattle.message_core.specs.Cause.{cause_of}
+use Rattle.message_core.specs.Tags as tags
+use Rattle.message_core.specs.declared.cause.DropCause.{DropCause}
+use Rattle.message_core.specs.declared.cause.DropCause.TheVariants.{TooLong, Malformed, BadVersion, BadKind, Memory}
+use Rattle.message_core.specs.declared.request.Kind.{Kind}
+use Rattle.message_core.specs.declared.request.Kind.TheVariants.{Get, GetNext, Set, GetBulk}
+use Rattle.message_core.specs.declared.value.Value.{Value}
+use Rattle.message_core.specs.declared.value.Value.TheVariants.{Integer, OctetString, Null, ObjectIdentifier, IpAddress, Counter32, Gauge32, TimeTicks, Opaque, Counter64, NoSuchObject, NoSuchInstance, EndOfMibView}
+use Rattle.message_core.specs.declared.binding.Binding.{Binding}
+use Rattle.message_core.specs.declared.request.Request.{Request}
+
+infixl 10 ◌>>=◌
+abbrev pub ◌>>=◌ : {A B : Type 0} → Result A DropCause → (A → Result B DropCause) → Result B DropCause
+(Ok x) >>= f = f x
+(Err e) >>= f = Err e
+
+-- what a function returned, seen by view, is what reading gives, unless memory ran out
+abbrev pub Gives : {X Y : Type 0} → (X → Y) → Result X DropCause → Result Y DropCause → Type 0
+Gives view (Ok x) read = read ≡ Ok (view x)
+Gives view (Err e) read = e ≢ Memory → read ≡ Err e
+
+abbrev pub malformed : {A : Type 0} → Result A BerFault → Result A DropCause
+malformed (Ok x) = Ok x
+malformed (Err e) = Err Malformed
+
+abbrev pub named : {A : Type 0} → Result A OidFault → Result A DropCause
+named (Ok x) = Ok x
+named (Err e) = Err (cause_of e)
+
+-- the tag and the content at the front, and what comes after them
+unfoldable pub any_at : List ℕ → Result (ℕ × List ℕ × List ℕ) DropCause
+any_at octets = malformed (tlv_at octets)
+
+-- the content under this tag, and what comes after it
+unfoldable pub content_at : ℕ → List ℕ → Result (List ℕ × List ℕ) DropCause
+content_at tag octets = do
+  t ← any_at octets
+  if t.0 == tag then Ok (t.1, t.2) else Err Malformed
+
+abbrev pub integer_of : List ℕ → Result ℤ DropCause
+integer_of content = if length content == 0 then Err Malformed else if nat_lt 4 (length content) then Err Malformed else Ok (signed content)
+
+-- a number below the limit that is not negative
+abbrev pub natural_of : ℕ → ℤ → Result ℕ DropCause
+natural_of limit (pos n) = if nat_lt n limit then Ok n else Err Malformed
+natural_of limit (negsuc n) = Err Malformed
+
+-- the content of a number that is not negative, of so many octets or one more
+unfoldable pub unsigned_of : ℕ → List ℕ → Result ℕ DropCause
+unsigned_of width content =
+    if length content == 0 then Err Malformed
+    else if nat_lt (width + 1) (length content) then Err Malformed
+    else natural_of (256 ^ width) (signed content)
+
+unfoldable pub integer_at : List ℕ → Result (ℤ × List ℕ) DropCause
+integer_at octets = do
+  t ← content_at tags.integer octets
+  z ← integer_of t.0
+  Ok (z, t.1)
+
+unfoldable pub nametlv_at : List ℕ → Result (List ℕ × List ℕ) DropCause
+nametlv_at octets = do
+  t ← content_at tags.object_identifier octets
+  n ← named (name_at t.0)
+  Ok (n, t.1)
+
+-- nothing is left
+abbrev pub end_at : List ℕ → Result (Unit {0}) DropCause
+end_at rest = if length rest == 0 then Ok tt else Err Malformed
+
+abbrev pub empty_of : List ℕ → Value → Result Value DropCause
+empty_of content v = if length content == 0 then Ok v else Err Malformed
+
+abbrev pub address_of : List ℕ → Result (List ℕ) DropCause
+address_of content = if length content == 4 then Ok content else Err Malformed
+
+-- the exceptions of RFC 3416, section 3
+unfoldable pub exception_of : ℕ → List ℕ → Result Value DropCause
+exception_of tag content =
+    if tag == tags.no_such_object then empty_of content NoSuchObject
+    else if tag == tags.no_such_instance then empty_of content NoSuchInstance
+    else if tag == tags.end_of_mib_view then empty_of content EndOfMibView
+    else Err Malformed
+
+-- the application-wide types of RFC 2578, 7.1, or what is none of them
+unfoldable pub application_of : ℕ → List ℕ → Result Value DropCause
+application_of tag content =
+    if tag == tags.ip_address then (address_of content >>= λ a. Ok (IpAddress a))
+    else if tag == tags.counter32 then (unsigned_of 4 content >>= λ n. Ok (Counter32 n))
+    else if tag == tags.gauge32 then (unsigned_of 4 content >>= λ n. Ok (Gauge32 n))
+    else if tag == tags.time_ticks then (unsigned_of 4 content >>= λ n. Ok (TimeTicks n))
+    else if tag == tags.opaque then Ok (Opaque content)
+    else if tag == tags.counter64 then (unsigned_of 8 content >>= λ n. Ok (Counter64 n))
+    else exception_of tag content
+
+unfoldable pub value_of : ℕ → List ℕ → Result Value DropCause
+value_of tag content =
+    if tag == tags.integer then (integer_of content >>= λ z. Ok (Integer z))
+    else if tag == tags.octet_string then Ok (OctetString content)
+    else if tag == tags.null then empty_of content Null
+    else if tag == tags.object_identifier then (named (name_at content) >>= λ n. Ok (ObjectIdentifier n))
+    else application_of tag content
+
+unfoldable pub value_at : List ℕ → Result (Value × List ℕ) DropCause
+value_at octets = do
+  t ← any_at octets
+  v ← value_of t.0 t.1
+  Ok (v, t.2)
+
+unfoldable pub binding_at : List ℕ → Result (Binding × List ℕ) DropCause
+binding_at octets = do
+  t ← content_at tags.sequence octets
+  n ← nametlv_at t.0
+  v ← value_at n.1
+  e ← end_at v.1
+  Ok (record { name = n.0; value = v.0 }, t.1)
+
+-- bindings up to the end, at most so many
+unfoldable pub bindings_at : ℕ → List ℕ → Result (List Binding) DropCause
+bindings_at most [] = Ok []
+bindings_at zero (octet ∷ octets) = Err Malformed
+bindings_at (suc most) (octet ∷ octets) = do
+  b ← binding_at (octet ∷ octets)
+  bs ← bindings_at most b.1
+  Ok (b.0 ∷ bs)
+
+-- the numbers and the bindings of a PDU, up to its end
+unfoldable pub body_of : List ℕ → Result (ℤ × ℤ × ℤ × List Binding) DropCause
+body_of content = do
+  id ← integer_at content
+  first ← integer_at id.1
+  second ← integer_at first.1
+  list ← content_at tags.sequence second.1
+  bindings ← bindings_at (length list.0) list.0
+  e ← end_at list.1
+  Ok (id.0, first.0, second.0, bindings)
+
+abbrev pub is_one : ℤ → Bool
+is_one (pos n) = n == 1
+is_one (negsuc n) = false
+
+abbrev pub version_of : ℤ → Result (Unit {0}) DropCause
+version_of z = if is_one z then Ok tt else Err BadVersion
+
+-- A message up to its PDU: the community, the PDU's tag and content, and what comes after the PDU and after the message.
+unfoldable pub head_at : List ℕ → Result (List ℕ × ℕ × List ℕ × List ℕ × List ℕ) DropCause
+head_at datagram = if nat_lt 2048 (length datagram) then Err TooLong else do
+  m ← content_at tags.sequence datagram
+  v ← integer_at m.0
+  one ← version_of v.0
+  c ← content_at tags.octet_string v.1
+  p ← any_at c.1
+  Ok (c.0, p.0, p.1, p.2, m.1)
+
+unfoldable pub kind_of : ℕ → Result Kind DropCause
+kind_of tag =
+    if tag == tags.get_request then Ok Get
+    else if tag == tags.get_next_request then Ok GetNext
+    else if tag == tags.set_request then Ok Set
+    else if tag == tags.get_bulk_request then Ok GetBulk
+    else Err BadKind
+
+-- The request that a datagram gives, or the cause of its first faulty place.
+unfoldable pub request_at : List ℕ → Result Request DropCause
+request_at datagram = do
+  h ← head_at datagram
+  kind ← kind_of h.1
+  body ← body_of h.2
+  e ← end_at h.3
+  f ← end_at h.4
+  Ok (record { kind = kind; id = body.0; first = body.1; second = body.2; community = h.0; bindings = body.3 })

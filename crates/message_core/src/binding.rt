@@ -1,0 +1,91 @@
+ghost use Rattle.std.specs.Prelude.{◌≡◌, ◌↔◌, [], ◌∷◌, ◌++◌, IsTrue, IfOk, OnOk, OnErr};
+ghost use Rattle.message_core.specs.Spellable.{IsSpellableBinding};
+
+use crate::names::{copy_of, has_root};
+use crate::value::Value;
+use oid_core::Oid;
+use std::alloc::{AllocError, Global};
+use std::marker::Model;
+
+/// A name and its value: a VarBind of RFC 3416, section 3.
+#[derive(Drop)]
+pub struct Binding {
+    /// The name of the variable.
+    pub name: Oid,
+    /// Its value.
+    pub value: Value,
+}
+
+impl Binding {
+    /// A copy. Takes memory only for octets and names.
+    pub fn try_copy(&self, alloc: Global) -> Result<Binding, AllocError>
+        ensures { IfOk result (λ copy. copy ≡ self.now) }
+    {
+        let name = copy_of(alloc, &self.name)?;
+        let value = self.value.try_copy(alloc)?;
+        Ok(Binding { name, value })
+    }
+
+    /// Whether it has a spelling: whether its name and an OBJECT IDENTIFIER value begin as X.690, 8.19.4 asks.
+    pub fn is_spellable(&self) -> bool
+        ensures { IsTrue result ↔ IsSpellableBinding self.now }
+    {
+        has_root(&self.name) && self.value.is_spellable()
+    }
+}
+
+/// The bindings of a message, in order.
+#[derive(Drop)]
+pub struct Bindings {
+    items: Vec<Binding>,
+}
+
+impl Model for Bindings {
+    ghost use Rattle.std.specs.Prelude.{List};
+    ghost use Rattle.message_core.specs.declared.binding.Binding.{Binding};
+
+    ghost Value = { List Binding };
+
+    ghost view = { λ b. b.items.items };
+}
+
+impl Bindings {
+    /// No bindings.
+    pub fn new(alloc: Global) -> Bindings
+        ensures { result ≡ [] }
+    {
+        Bindings {
+            items: Vec::new(alloc),
+        }
+    }
+
+    /// The bindings of a vector. Takes no memory.
+    pub fn from_vec(items: Vec<Binding>) -> Bindings
+        ensures { result ≡ items.items }
+    {
+        Bindings { items }
+    }
+
+    /// The bindings as a vector. Takes no memory.
+    pub fn into_vec(self) -> Vec<Binding>
+        ensures { result.items ≡ self }
+    {
+        self.items
+    }
+
+    /// Adds a binding at the end. Takes memory; without it, nothing changes and the binding is let go.
+    pub fn push(&mut self, binding: Binding) -> Result<(), AllocError>
+        ensures ok { OnOk result (self.new ≡ self.old ++ binding ∷ []) }
+        ensures err { OnErr result (self.new ≡ self.old) }
+    {
+        self.items.push(binding)?;
+        Ok(())
+    }
+
+    /// The bindings.
+    pub fn as_slice(&self) -> &[Binding]
+        ensures { result.now ≡ self.now }
+    {
+        self.items.as_slice()
+    }
+}

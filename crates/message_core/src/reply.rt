@@ -1,0 +1,18 @@
+use crate::binding::Bindings;
+use crate::octets::Octets;
+use crate::status::ErrorStatus;
+
+/// A reply: what a message of version 2c with a Response says.
+#[derive(Drop)]
+pub struct Reply {
+    /// The request-id of the request that it answers.
+    pub id: i32,
+    /// The error-status.
+    pub status: ErrorStatus,
+    /// The error-index: the number of the faulty binding from 1 on, or 0.
+    pub index: i32,
+    /// The community of the request that it answers.
+    pub community: Octets,
+    /// The bindings.
+    pub bindings: Bindings,
+}

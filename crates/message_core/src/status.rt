@@ -1,0 +1,74 @@
+ghost use Rattle.std.specs.Prelude.{◌≡◌};
+ghost use Rattle.message_core.specs.Status.{code_of};
+
+/// The error-status of a reply (RFC 3416, section 3).
+#[derive(Clone, Copy, Debug, PartialEq, Eq)]
+pub enum ErrorStatus {
+    /// No error.
+    NoError,
+    /// The reply does not fit into one message.
+    TooBig,
+    /// A version 1 status; an agent of version 2 never sends it.
+    NoSuchName,
+    /// A version 1 status; an agent of version 2 never sends it.
+    BadValue,
+    /// A version 1 status; an agent of version 2 never sends it.
+    ReadOnly,
+    /// A failure that has no status of its own.
+    GenErr,
+    /// The name is not accessible to the caller.
+    NoAccess,
+    /// The value's type is not the variable's.
+    WrongType,
+    /// The variable has no value of this length.
+    WrongLength,
+    /// The value's octets do not spell it as its tag asks.
+    WrongEncoding,
+    /// The variable can never have this value.
+    WrongValue,
+    /// The variable does not exist and can never be created.
+    NoCreation,
+    /// The variable cannot have this value now.
+    InconsistentValue,
+    /// A resource that the assignment needs is not there.
+    ResourceUnavailable,
+    /// An assignment failed; the others were undone.
+    CommitFailed,
+    /// An assignment failed, and not all others could be undone.
+    UndoFailed,
+    /// The caller has no access at all.
+    AuthorizationError,
+    /// The variable can never be written.
+    NotWritable,
+    /// The variable does not exist and cannot be created now.
+    InconsistentName,
+}
+
+impl ErrorStatus {
+    /// The number that stands for it in a message, 0 to 18.
+    pub fn code(self) -> i32
+        ensures { result ≡ code_of self }
+    {
+        match self {
+            ErrorStatus::NoError => 0,
+            ErrorStatus::TooBig => 1,
+            ErrorStatus::NoSuchName => 2,
+            ErrorStatus::BadValue => 3,
+            ErrorStatus::ReadOnly => 4,
+            ErrorStatus::GenErr => 5,
+            ErrorStatus::NoAccess => 6,
+            ErrorStatus::WrongType => 7,
+            ErrorStatus::WrongLength => 8,
+            ErrorStatus::WrongEncoding => 9,
+            ErrorStatus::WrongValue => 10,
+            ErrorStatus::NoCreation => 11,
+            ErrorStatus::InconsistentValue => 12,
+            ErrorStatus::ResourceUnavailable => 13,
+            ErrorStatus::CommitFailed => 14,
+            ErrorStatus::UndoFailed => 15,
+            ErrorStatus::AuthorizationError => 16,
+            ErrorStatus::NotWritable => 17,
+            ErrorStatus::InconsistentName => 18,
+        }
+    }
+}
