@@ -1,0 +1,3 @@
+pub mod LinesLemmas
+pub mod RunsLemmas
+pub mod WordsLemmas

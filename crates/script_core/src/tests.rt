@@ -1,0 +1,208 @@
+//! Scripts over octets in memory.
+ghost use Rattle.std.specs.Prelude.{◌≡◌, ◌++◌, codes, true};
+ghost use Rattle.std.specs.List.{flat_map};
+
+use crate::words::{read_hex, read_number, split_word, write_hex};
+use crate::{LineFault, RunFault, Session, run_script};
+use std::alloc::Global;
+use std::io;
+use std::io::{Error, ErrorKind, Read, Write};
+use std::test::Fail;
+
+/// Says each line again with `!` behind it, and `end` at the end. The line `stop` stops the run.
+#[derive(Drop)]
+struct Shouter;
+
+impl Session for Shouter {
+    ghost text = { λ s lines. flat_map (λ line. line ++ codes "!\n") lines ++ codes "end\n" };
+
+    ghost last = { λ s lines. s };
+
+    ghost is_whole = { λ s. true };
+
+    fn line(&mut self, line: &[u8], out: &mut Vec<u8>) -> Result<(), LineFault> {
+        if line == b"stop".as_slice() {
+            return Err(LineFault::Stopped);
+        }
+        out.extend_from_slice(line)?;
+        out.extend_from_slice(b"!\n")?;
+        Ok(())
+    }
+
+    fn end(&mut self, out: &mut Vec<u8>) -> Result<(), LineFault> {
+        out.extend_from_slice(b"end\n")?;
+        Ok(())
+    }
+}
+
+/// Gives one part a read, and then fails if it is told to.
+#[derive(Drop)]
+struct Parts<'a> {
+    parts: &'a [&'a [u8]],
+    fails: bool,
+}
+
+impl Read for Parts<'_> {
+    fn read(&mut self, buf: &mut [u8]) -> io::Result<usize> {
+        let Some((first, rest)) = self.parts.split_first() else {
+            return if self.fails {
+                Err(Error::from(ErrorKind::Other))
+            } else {
+                Ok(0)
+            };
+        };
+        if buf.len() < first.len() {
+            return Err(Error::from(ErrorKind::Other));
+        }
+        buf[..first.len()].copy_from_slice(first);
+        self.parts = rest;
+        Ok(first.len())
+    }
+}
+
+/// Counts its writes, and takes no more than it is told.
+#[derive(Drop)]
+struct Counted {
+    writes: usize,
+    most: usize,
+    octets: Vec<u8>,
+}
+
+impl Write for Counted {
+    fn write(&mut self, buf: &[u8]) -> io::Result<usize> {
+        if self.writes >= self.most || self.octets.extend_from_slice(buf).is_err() {
+            return Err(Error::from(ErrorKind::Other));
+        }
+        self.writes += 1;
+        Ok(buf.len())
+    }
+
+    fn flush(&mut self) -> io::Result<()> {
+        Ok(())
+    }
+}
+
+#[test]
+fn answers_each_line(rt: HostRuntime) -> Result<(), Fail> {
+    let rows: [(&[u8], &[u8]); 5] = [
+        (b"", b"end\n"),
+        (b"\n", b"!\nend\n"),
+        (b"a\nb\n", b"a!\nb!\nend\n"),
+        (b"a\n\nb", b"a!\n!\nb!\nend\n"),
+        (b"a\r\n \xff", b"a\r!\n \xff!\nend\n"),
+    ];
+    for (input, want) in rows {
+        let mut reader = input;
+        let mut out = Vec::new(rt.alloc());
+        let result = run_script(rt.alloc(), &mut Shouter, &mut reader, &mut out);
+        assert_eq!(rt; result, Ok(()));
+        assert_eq!(rt; out.as_slice(), want);
+    }
+    Ok(())
+}
+
+#[test]
+fn stops_where_the_session_does(rt: HostRuntime) {
+    let mut reader = b"a\nstop\nb\n".as_slice();
+    let mut out = Vec::new(rt.alloc());
+    let result = run_script(rt.alloc(), &mut Shouter, &mut reader, &mut out);
+    assert_eq!(rt; result, Err(RunFault::Stopped));
+    assert_eq!(rt; out.as_slice(), b"a!\n".as_slice());
+}
+
+// Runs over three reads, and gives back the writer.
+fn run_parts(alloc: Global, fails: bool, most: usize) -> (Result<(), RunFault>, Counted) {
+    let parts: [&[u8]; 3] = [b"a\nb\n", b"c", b"d\ne"];
+    let mut reader = Parts {
+        parts: &parts,
+        fails,
+    };
+    let mut writer = Counted {
+        writes: 0,
+        most,
+        octets: Vec::new(alloc),
+    };
+    let result = run_script(alloc, &mut Shouter, &mut reader, &mut writer);
+    (result, writer)
+}
+
+#[test]
+fn writes_once_a_read(rt: HostRuntime) {
+    let (result, writer) = run_parts(rt.alloc(), false, 9);
+    assert_eq!(rt; result, Ok(()));
+    assert_eq!(rt;
+        writer.octets.as_slice(),
+        b"a!\nb!\ncd!\ne!\nend\n".as_slice()
+    );
+    assert_eq!(rt; writer.writes, 3);
+}
+
+#[test]
+fn fails_with_its_input(rt: HostRuntime) {
+    let (result, writer) = run_parts(rt.alloc(), true, 9);
+    assert_eq!(rt; result, Err(RunFault::Input));
+    assert_eq!(rt; writer.octets.as_slice(), b"a!\nb!\ncd!\n".as_slice());
+    assert_eq!(rt; writer.writes, 2);
+}
+
+#[test]
+fn fails_with_its_output(rt: HostRuntime) {
+    let (result, writer) = run_parts(rt.alloc(), false, 1);
+    assert_eq!(rt; result, Err(RunFault::Output));
+    assert_eq!(rt; writer.octets.as_slice(), b"a!\nb!\n".as_slice());
+}
+
+#[test]
+fn cuts_words(rt: HostRuntime) {
+    let rows: [(&[u8], &[u8], &[u8]); 4] = [
+        (b"tick 5", b"tick", b"5"),
+        (b"link 1 up", b"link", b"1 up"),
+        (b"request ", b"request", b""),
+        (b" a  b", b"", b"a  b"),
+    ];
+    for (line, word, rest) in rows {
+        assert_eq!(rt; split_word(line), Some((word, rest)));
+    }
+    assert_eq!(rt; split_word(b"counts"), None);
+}
+
+#[test]
+fn reads_numbers(rt: HostRuntime) {
+    for (n, word) in [b"0".as_slice(), b"1", b"2", b"3"].iter().enumerate() {
+        assert_eq!(rt; read_number(word, 3), Some(n as u32));
+    }
+    assert_eq!(rt; read_number(b"4294967295", u32::MAX), Some(u32::MAX));
+    assert_eq!(rt; read_number(b"4294967296", u32::MAX), None);
+    let none: [&[u8]; 7] = [b"", b"00", b"05", b"+1", b"-0", b"1 ", b"4"];
+    for word in none {
+        assert_eq!(rt; read_number(word, 3), None);
+    }
+}
+
+#[test]
+fn reads_and_writes_hex(rt: HostRuntime) -> Result<(), Fail> {
+    let mut out = Vec::new(rt.alloc());
+    let octets = read_hex(rt.alloc(), b"00aBf9")?;
+    assert!(rt; octets.is_some());
+    if let Some(octets) = octets {
+        assert_eq!(rt; octets.as_slice(), b"\x00\xab\xf9".as_slice());
+        write_hex(&mut out, &octets)?;
+    }
+    assert_eq!(rt; out.as_slice(), b"00ABF9".as_slice());
+    Ok(())
+}
+
+#[test]
+fn refuses_what_is_no_hex(rt: HostRuntime) -> Result<(), Fail> {
+    let rows: [(&[u8], bool); 5] = [
+        (b"", true),
+        (b"0", false),
+        (b"0g", false),
+        (b"ab ", false),
+        (b"AB", true),
+    ];
+    for (text, reads) in rows {
+        assert_eq!(rt; read_hex(rt.alloc(), text)?.is_some(), reads);
+    }
+    Ok(())
+}
