@@ -1,0 +1,6 @@
+pub mod Rising
+pub mod Rest
+pub mod Below
+pub mod Short
+pub mod Sizes
+pub mod Spellings

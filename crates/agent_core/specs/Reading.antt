@@ -1,0 +1,52 @@
+-- What is read of a list of instances whose names rise, and what Get answers (RFC 3416, 4.2.1).
+use Rattle.std.specs.Prelude.{ℕ, Bool, if◌then◌else◌, ◌&&◌, ◌||◌, List, [], ◌∷◌, map, filter, find, Option, Some, None, IsTrue, AllPairs}
+use Rattle.std.specs.List.{list_any}
+use Rattle.oid_core.specs.Order.{name_lt, name_eq, is_prefix}
+use Rattle.message_core.specs.declared.binding.Binding.{Binding}
+use Rattle.message_core.specs.declared.value.Value.{Value}
+use Rattle.message_core.specs.declared.value.Value.TheVariants.{NoSuchObject, NoSuchInstance}
+
+-- each name is less than all later ones
+abbrev pub IsRising : List Binding → Type 0
+IsRising rows = AllPairs (λ a b. IsTrue (name_lt a.name b.name)) rows
+
+-- the instances that a view shows
+abbrev pub visible : (List ℕ → Bool) → List Binding → List Binding
+visible shows rows = filter (λ row. shows row.name) rows
+
+-- the instances that stand after a name
+abbrev pub after : List ℕ → List Binding → List Binding
+after name rows = filter (λ row. name_lt name row.name) rows
+
+-- the first instance after a name
+abbrev pub next_of : List Binding → List ℕ → Option Binding
+next_of rows name = find (λ row. name_lt name row.name) rows
+
+-- the value under a name, if an instance has that name
+abbrev pub value_of : List Binding → List ℕ → Option Value
+value_of [] name = None
+value_of (row ∷ rows) name = if name_eq row.name name then Some row.value else value_of rows name
+
+-- An object's name begins the asked name, and the asked name is in the view or an instance of that object is seen.
+abbrev pub has_object : List (List ℕ) → Bool → List Binding → List ℕ → Bool
+has_object objects shown rows name =
+    list_any (λ object. is_prefix object name && (shown || list_any (λ row. is_prefix object row.name) rows)) objects
+
+-- the value, or noSuchInstance where the object is known, else noSuchObject
+abbrev pub or_missing : Option Value → Bool → Value
+or_missing (Some value) known = value
+or_missing None known = if known then NoSuchInstance else NoSuchObject
+
+-- What Get answers under a name: `rows` are the instances that are seen, and `shown` says whether the name is in the view.
+abbrev pub get_answer : List (List ℕ) → Bool → List Binding → List ℕ → Binding
+get_answer objects shown rows name =
+    record { name = name; value = or_missing (value_of rows name) (has_object objects shown rows name) }
+
+-- the names of bindings
+abbrev pub names_of : List Binding → List (List ℕ)
+names_of bindings = map (λ b. b.name) bindings
+
+-- the bindings that Get answers, one for each asked name, in order
+abbrev pub get_answers : List (List ℕ) → (List ℕ → Bool) → List Binding → List Binding → List Binding
+get_answers objects shows rows asked =
+    map (λ b. get_answer objects (shows b.name) (visible shows rows) b.name) asked

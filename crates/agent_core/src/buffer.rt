@@ -1,0 +1,99 @@
+ghost use Rattle.std.specs.Prelude.{◌≡◌, ◌≤◌, [], length, pos, take};
+ghost use Rattle.message_core.specs.Canon.{canon_reply, answer_to};
+ghost use Rattle.message_core.specs.Spellable.{AreSpellable};
+ghost use Rattle.agent_core.specs.Replies.{sized};
+
+use message_core::{Binding, ErrorStatus, MAX_REPLY, Request, TooBig, encode_answer};
+use std::marker::Model;
+
+/// Room for what one event gives to send: one reply of at most 1,472 octets. It takes no memory.
+#[derive(Drop)]
+pub struct Buffer {
+    octets: [u8; MAX_REPLY],
+    length: usize,
+}
+
+impl Model for Buffer {
+    ghost use Rattle.std.specs.Prelude.{◌≤◌, take};
+    ghost use Rattle.agent_core.specs.Buffered.{Buffered};
+
+    ghost Value = { Buffered };
+
+    ghost view = { λ b. record { reply = take b.length b.octets } };
+
+    ghost invariant = { λ b. b.length ≤ 1472 };
+}
+
+impl Buffer {
+    /// A buffer with nothing in it.
+    pub fn new() -> Buffer
+        ensures { result.reply ≡ [] }
+    {
+        Buffer {
+            octets: [0; MAX_REPLY],
+            length: 0,
+        }
+    }
+
+    /// The octets of the reply, none where there is no reply.
+    pub fn reply(&self) -> &[u8]
+        ensures { result.now ≡ self.now.reply }
+    {
+        &self.octets[..self.length]
+    }
+
+    /// Empties the buffer.
+    pub fn clear(&mut self)
+        ensures { self.new.reply ≡ [] }
+    {
+        self.length = 0;
+    }
+
+    // Puts the reply to a request in, as far as its size allows, and answers how many octets it has.
+    pub(crate) fn put(
+        &mut self,
+        request: &Request,
+        status: ErrorStatus,
+        bindings: &[Binding],
+    ) -> usize
+        requires community { length request.now.community ≤ 255 }
+        requires spellable { AreSpellable bindings.now }
+        ensures reply { self.new.reply ≡ canon_reply (sized (answer_to request.now status (pos 0) bindings.now)) }
+        ensures len { result ≡ length self.new.reply }
+    {
+        self.length = put_sized(request, status, bindings, &mut self.octets);
+        self.length
+    }
+}
+
+// Writes the reply to a request, or tooBig without bindings where that is too long.
+fn put_sized(
+    request: &Request,
+    status: ErrorStatus,
+    bindings: &[Binding],
+    octets: &mut [u8; MAX_REPLY],
+) -> usize
+    requires community { length request.now.community ≤ 255 }
+    requires spellable { AreSpellable bindings.now }
+    ensures reply { take result octets.new ≡ canon_reply (sized (answer_to request.now status (pos 0) bindings.now)) }
+    ensures len { result ≡ length (canon_reply (sized (answer_to request.now status (pos 0) bindings.now))) }
+    ensures most { result ≤ 1472 }
+{
+    match encode_answer(request, status, 0, bindings, octets) {
+        Ok(length) => length,
+        Err(TooBig) => put_too_big(request, octets),
+    }
+}
+
+// Writes tooBig without bindings, which fits beside a community of at most 255 octets.
+fn put_too_big(request: &Request, octets: &mut [u8; MAX_REPLY]) -> usize
+    requires { length request.now.community ≤ 255 }
+    ensures reply { take result octets.new ≡ canon_reply (answer_to request.now ErrorStatus.TooBig (pos 0) []) }
+    ensures len { result ≡ length (canon_reply (answer_to request.now ErrorStatus.TooBig (pos 0) [])) }
+    ensures most { result ≤ 1472 }
+{
+    match encode_answer(request, ErrorStatus::TooBig, 0, &[], octets) {
+        Ok(length) => length,
+        Err(TooBig) => unreachable!(),
+    }
+}

@@ -1,0 +1,118 @@
+ghost use Rattle.std.specs.Prelude.{◌≡◌, IfOk, None};
+ghost use Rattle.std.specs.List.{list_any};
+ghost use Rattle.oid_core.specs.Order.{is_prefix};
+ghost use Rattle.oid_core.specs.Name.{HasRoot};
+ghost use Rattle.message_core.specs.Spellable.{AreSpellable, IsSpellableBinding};
+ghost use Rattle.agent_core.specs.Reading.{visible, get_answer, get_answers, has_object, value_of, or_missing};
+
+use crate::reading::next_shown;
+use crate::source::{Source, View};
+use message_core::{Binding, Bindings, Value};
+use oid_core::Oid;
+use std::alloc::{AllocError, Global};
+
+// The value under a name, where the view shows it.
+fn shown_value<S: Source, V: View>(
+    alloc: Global,
+    source: &S,
+    view: &V,
+    name: &Oid,
+) -> Result<Option<Value>, AllocError>
+    ensures { IfOk result (λ found. found ≡ value_of (visible (V.shows view.now) (S.instances source.now)) name.now) }
+{
+    if !view.has_name(name) {
+        return Ok(None);
+    }
+    let found = source.get(alloc, name)?;
+    Ok(found)
+}
+
+// Whether the view shows an instance whose name begins so.
+fn shows_below<S: Source, V: View>(
+    alloc: Global,
+    source: &S,
+    view: &V,
+    object: &Oid,
+) -> Result<bool, AllocError>
+    ensures { IfOk result (λ b. b ≡ list_any (λ row. is_prefix object.now row.name) (visible (V.shows view.now) (S.instances source.now))) }
+{
+    source.known();
+    if let Some(_itself) = shown_value(alloc, source, view, object)? {
+        return Ok(true);
+    }
+    match next_shown(alloc, source, view, object)? {
+        Some(row) => Ok(object.is_prefix(&row.name)),
+        None => Ok(false),
+    }
+}
+
+// Whether an object begins the name, and the name is in the view or the view shows an instance of that object.
+fn knows_object<S: Source, V: View>(
+    alloc: Global,
+    source: &S,
+    view: &V,
+    objects: &[Oid],
+    shown: bool,
+    name: &Oid,
+) -> Result<bool, AllocError>
+    ensures { IfOk result (λ b. b ≡ has_object objects.now shown (visible (V.shows view.now) (S.instances source.now)) name.now) }
+{
+    for object in objects {
+        if object.is_prefix(name) && (shown || shows_below(alloc, source, view, object)?) {
+            return Ok(true);
+        }
+    }
+    Ok(false)
+}
+
+// What stands under a name that has no value.
+fn missing(known: bool) -> Value
+    ensures { result ≡ or_missing None known }
+{
+    if known {
+        Value::NoSuchInstance
+    } else {
+        Value::NoSuchObject
+    }
+}
+
+/// What Get answers under a name (RFC 3416, 4.2.1), over the instances that the view shows. Only memory can fail.
+pub fn get<S: Source, V: View>(
+    alloc: Global,
+    source: &S,
+    view: &V,
+    objects: &[Oid],
+    name: &Oid,
+) -> Result<Binding, AllocError>
+    ensures { IfOk result (λ b. b ≡ get_answer objects.now (V.shows view.now name.now) (visible (V.shows view.now) (S.instances source.now)) name.now) }
+{
+    let Ok(asked) = name.try_copy(alloc) else {
+        return Err(AllocError);
+    };
+    if let Some(value) = shown_value(alloc, source, view, name)? {
+        return Ok(Binding { name: asked, value });
+    }
+    let shown = view.has_name(name);
+    let known = knows_object(alloc, source, view, objects, shown, name)?;
+    Ok(Binding {
+        name: asked,
+        value: missing(known),
+    })
+}
+
+/// What Get answers to each asked name, in order. Only memory can fail.
+pub fn get_all<S: Source, V: View>(
+    alloc: Global,
+    source: &S,
+    view: &V,
+    objects: &[Oid],
+    asked: &[Binding],
+) -> Result<Bindings, AllocError>
+    ensures { IfOk result (λ answers. answers ≡ get_answers objects.now (V.shows view.now) (S.instances source.now) asked.now) }
+{
+    let mut answers = Bindings::new(alloc);
+    for binding in asked {
+        answers.push(get(alloc, source, view, objects, &binding.name)?)?;
+    }
+    Ok(answers)
+}

@@ -1,0 +1,133 @@
+ghost use Rattle.std.specs.Prelude.{◌≡◌, ◌↔◌, IfOk, IsOk, IsErrOf, IsTrue, All, ℕ};
+ghost use Rattle.oid_core.specs.Order.{name_lt};
+ghost use Rattle.message_core.specs.Spellable.{AreSpellable};
+ghost use Rattle.agent_core.specs.Reading.{IsRising, next_of, value_of};
+
+use crate::order::{precedes, same_name};
+use crate::source::Source;
+use message_core::{Binding, Value};
+use oid_core::Oid;
+use std::alloc::{AllocError, Global};
+use std::marker::Model;
+
+/// Why there is no plain world of some instances.
+#[derive(Clone, Copy, Debug, PartialEq, Eq)]
+pub enum WorldFault {
+    /// A name is not less than a later one.
+    Unsorted,
+    /// A name or an OBJECT IDENTIFIER value has no spelling (X.690, 8.19.4).
+    Unspellable,
+}
+
+/// A list of instances by rising name, and the names of the objects that they belong to.
+#[derive(Drop)]
+pub struct PlainWorld {
+    instances: Vec<Binding>,
+    objects: Vec<Oid>,
+}
+
+impl Model for PlainWorld {
+    ghost use Rattle.agent_core.specs.World.{World, IsServable};
+
+    ghost Value = { World };
+
+    ghost view = { λ w. record { instances = w.instances.items; objects = w.objects.items } };
+
+    ghost invariant = { λ w. IsServable w.instances.items };
+}
+
+impl PlainWorld {
+    /// The world of these instances and objects. It takes no memory.
+    ///
+    /// # Errors
+    /// `Unsorted` where the names do not rise; else `Unspellable` where one has no spelling.
+    pub fn new(instances: Vec<Binding>, objects: Vec<Oid>) -> Result<PlainWorld, WorldFault>
+        ensures ok { IfOk result (λ w. w ≡ record { instances = instances.items; objects = objects.items }) }
+        ensures unsorted { IsErrOf result WorldFault.Unsorted ↔ ¬ IsRising instances.items }
+        ensures unspellable { IsErrOf result WorldFault.Unspellable ↔ (IsRising instances.items × ¬ AreSpellable instances.items) }
+    {
+        if !rises(instances.as_slice()) {
+            return Err(WorldFault::Unsorted);
+        }
+        if !are_spellable(instances.as_slice()) {
+            return Err(WorldFault::Unspellable);
+        }
+        Ok(PlainWorld { instances, objects })
+    }
+
+    /// The names of the objects.
+    pub fn objects(&self) -> &[Oid]
+        ensures { result.now ≡ self.now.objects }
+    {
+        self.objects.as_slice()
+    }
+}
+
+// Whether each name is less than all later ones.
+fn rises(rows: &[Binding]) -> bool
+    ensures { IsTrue result ↔ IsRising rows.now }
+{
+    let Some((row, others)) = rows.split_first() else {
+        return true;
+    };
+    is_below(row, others) && rises(others)
+}
+
+// Whether a row's name is less than those of all others.
+fn is_below(row: &Binding, others: &[Binding]) -> bool
+    ensures { IsTrue result ↔ All (λ other. IsTrue (name_lt row.now.name other.name)) others.now }
+{
+    others.iter().all(|other| precedes(row.name.as_slice(), other.name.as_slice()))
+}
+
+// Whether each name and each OBJECT IDENTIFIER value has a spelling.
+fn are_spellable(rows: &[Binding]) -> bool
+    ensures { IsTrue result ↔ AreSpellable rows.now }
+{
+    let Some((row, others)) = rows.split_first() else {
+        return true;
+    };
+    row.is_spellable() && are_spellable(others)
+}
+
+// A copy of the value of the instance of that name.
+fn value_in(alloc: Global, rows: &[Binding], name: &Oid) -> Result<Option<Value>, AllocError>
+    ensures { IfOk result (λ found. found ≡ value_of rows.now name.now) }
+{
+    let Some((row, others)) = rows.split_first() else {
+        return Ok(None);
+    };
+    if same_name(row.name.as_slice(), name.as_slice()) {
+        return Ok(Some(row.value.try_copy(alloc)?));
+    }
+    value_in(alloc, others, name)
+}
+
+// A copy of the first instance after a name.
+fn next_in(alloc: Global, rows: &[Binding], name: &Oid) -> Result<Option<Binding>, AllocError>
+    ensures { IfOk result (λ found. found ≡ next_of rows.now name.now) }
+{
+    let Some((row, others)) = rows.split_first() else {
+        return Ok(None);
+    };
+    if precedes(name.as_slice(), row.name.as_slice()) {
+        return Ok(Some(row.try_copy(alloc)?));
+    }
+    next_in(alloc, others, name)
+}
+
+impl Source for PlainWorld {
+    ghost instances = { λ w. w.instances };
+
+    fn known(&self) {
+        let _rows = self.instances.as_slice();
+    }
+
+    fn get(&self, alloc: Global, name: &Oid) -> Result<Option<Value>, AllocError> {
+        value_in(alloc, self.instances.as_slice(), name)
+    }
+
+    fn next(&self, alloc: Global, name: &Oid) -> Result<Option<Binding>, AllocError> {
+        next_in(alloc, self.instances.as_slice(), name)
+    }
+}

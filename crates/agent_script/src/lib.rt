@@ -1,0 +1,11 @@
+//! The script of the agent: what it says to each line.
+#![tactic(auto)]
+
+mod built_in;
+mod commands;
+mod saying;
+mod session;
+
+pub use built_in::{NoWorld, built_in_world};
+pub use session::{Run, run_script};
+

@@ -1,0 +1,31 @@
+//! The agent, driven by a script from standard input.
+#![tactic(auto)]
+
+mod run;
+
+use run::run_words;
+use std::process::ExitCode;
+use std::{env, io};
+
+fn main(rt: HostRuntime) -> ExitCode {
+    let mut errors = rt.stderr();
+    let words = match read_words(&rt) {
+        Ok(words) => words,
+        Err(_) => return ExitCode::from(run::USAGE),
+    };
+    let mut reader = rt.reader();
+    let mut writer = io::writer(&rt);
+    ExitCode::from(run_words(&rt, &words, &mut reader, &mut writer, &mut errors))
+}
+
+// The words of the command line, the program's name first.
+fn read_words(rt: &HostRuntime) -> io::Result<Vec<String>> {
+    let mut words = Vec::new(rt.alloc());
+    for word in env::args(rt)? {
+        words.push(word)?;
+    }
+    Ok(words)
+}
+
+#[cfg(test)]
+mod tests;

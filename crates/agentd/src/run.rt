@@ -1,0 +1,103 @@
+//! What the program does with its words.
+ghost use Rattle.std.specs.Prelude.{◌≤◌};
+
+use agent_script::{built_in_world, run_script};
+use script_core::RunFault;
+use std::fmt;
+use std::io::{Read, Write};
+
+/// The status for words that are no command.
+pub const USAGE: u8 = 2;
+
+/// Why the program ends with another status than 0.
+#[derive(Clone, Copy, Debug, PartialEq, Eq)]
+pub enum Failure {
+    /// The words are no command.
+    Usage,
+    /// The input could not be read to its end.
+    Input,
+    /// The output could not be written.
+    Output,
+    /// The run found no memory for its own lines and lists.
+    Run,
+}
+
+impl fmt::Display for Failure {
+    fn fmt<W: fmt::Write>(&self, f: &mut fmt::Formatter<W>) -> fmt::Result {
+        match self {
+            Failure::Usage => f.write_str("usage: agentd, with a script on standard input"),
+            Failure::Input => f.write_str("input failed"),
+            Failure::Output => f.write_str("output failed"),
+            Failure::Run => f.write_str("run failed"),
+        }
+    }
+}
+
+impl From<RunFault> for Failure {
+    fn from(fault: RunFault) -> Failure {
+        match fault {
+            RunFault::Input => Failure::Input,
+            RunFault::Output => Failure::Output,
+            RunFault::Memory | RunFault::Stopped => Failure::Run,
+        }
+    }
+}
+
+impl Failure {
+    // The exit status.
+    fn status(self) -> u8
+        ensures { result ≤ 2 }
+    {
+        match self {
+            Failure::Usage => USAGE,
+            Failure::Input | Failure::Output | Failure::Run => 1,
+        }
+    }
+}
+
+/// Runs the program on the words of its command line, its name first, and gives its exit status: 0; 1 where input, output or
+/// the run failed; 2 for words that are no command. A failure is written to `errors` as one line.
+pub fn run_words<R, I, O, E>(
+    rt: &R,
+    words: &[String],
+    reader: &mut I,
+    writer: &mut O,
+    errors: &mut E,
+) -> u8
+where
+    R: AllocGlobal,
+    I: Read,
+    O: Write,
+    E: Write,
+    ensures { result ≤ 2 }
+{
+    match try_words(rt, words, reader, writer) {
+        Ok(()) => 0,
+        Err(failure) => {
+            let _ = writeln!(errors, "agentd: {failure}");
+            failure.status()
+        }
+    }
+}
+
+fn try_words<R, I, O>(
+    rt: &R,
+    words: &[String],
+    reader: &mut I,
+    writer: &mut O,
+) -> Result<(), Failure>
+where
+    R: AllocGlobal,
+    I: Read,
+    O: Write,
+{
+    if words.len() > 1 {
+        return Err(Failure::Usage);
+    }
+    let world = match built_in_world(rt.alloc()) {
+        Ok(world) => world,
+        Err(_) => return Err(Failure::Run),
+    };
+    run_script(rt.alloc(), world, reader, writer)?;
+    Ok(())
+}
