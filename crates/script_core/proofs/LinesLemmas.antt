@@ -1,9 +1,8 @@
 -- How lines are cut as a text grows, and that they are the text's only lines.
-use Rattle.std.proofs.Common.{◌≡◌, ◌≢◌, ◌⊎◌, inl, inr, ℕ, ◌<◌, ◌+◌, List, [], ◌∷◌, ◌++◌, length, All, eqb, Bool, true, false, refl, ap, ◌∙◌, ne_eqb, eq-eqb, append_assoc, append-nil, sym, subst, arith}
+use Rattle.std.proofs.Common.{◌≡◌, ◌≢◌, ◌⊎◌, inl, inr, ℕ, ◌<◌, List, [], ◌∷◌, ◌++◌, length, All, eqb, refl, ap, ◌∙◌, ne_eqb, eq-eqb, append_assoc, sym, arith}
 use Rattle.std.proofs.lemmas.Bool.{cases_Bool, eqb-true}
 use Rattle.std.proofs.lemmas.List.Elements.{All-head, All-tail, All-cons, All-nil}
 use Rattle.std.specs.List.{flat_map}
-use Rattle.std.proofs.lemmas.Bool.{cases_eq}
 use Rattle.script_core.specs.Lines.{onto_first, lines_of, with_end, HasNoEnd, IsOpen, AreLines}
 
 -- a line that ends is the first line

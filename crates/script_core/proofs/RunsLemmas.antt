@@ -1,6 +1,6 @@
 -- How what is owed is said and paid in parts, and how a reader's octets are followed.
-use Rattle.std.proofs.Common.{◌≡◌, ℕ, List, [], ◌∷◌, ◌++◌, Option, None, Some, IfSome, refl, ap, ◌∙◌, append_assoc, append-nil, sym}
-use Rattle.std.proofs.KnownBytes.{Appends-nil, Appends-trans}
+use Rattle.std.proofs.Common.{◌≡◌, ℕ, List, [], ◌++◌, Option, None, Some, IfSome, ap, ◌∙◌, append_assoc, append-nil, sym}
+use Rattle.std.proofs.KnownBytes.{Appends-trans}
 use Rattle.std.specs.Io.KnownBytes.{Appends, Consumes, IsAtEnd, Keeps}
 use Rattle.std.specs.Prelude.{Result, Ok, Err, IfErr, OnErr, IsErrAnd}
 use Rattle.script_core.specs.Runs.{Answers, IsFront, Pays, WritesFront, Reads, Stands, StopsBetween}
@@ -38,10 +38,6 @@ Pays-trans {a} {b} {c} {x} {y} {z} p q = record {
   split = p.split ∙ ap (λ l. p.paid ++ l) q.split ∙ sym (append_assoc p.paid q.paid z);
 }
 
--- the last of what is owed
-pub Pays-last : (a b c : Option (List ℕ)) (x y : List ℕ) → Pays a b x y → Appends b c y → Appends a c x
-Pays-last a b c x y p q = rw p.split (Appends-trans a b c p.paid y p.took q)
-
 -- a front of what is left
 pub Pays-front : {a b c : Option (List ℕ)} {x y : List ℕ} → Pays a b x y → WritesFront b c y → WritesFront a c x
 Pays-front p q = record { left = q.left; pays = Pays-trans p q.pays }
@@ -60,10 +56,6 @@ module _ {X : Type 0} {text : X → List (List ℕ) → List ℕ} {last : X → 
 
   pub Stands-stop : HasNoEnd part → Stands text last before now old new part input rest → StopsBetween text last before now old new input rest
   Stands-stop no_end stands = record { part = part; no_end = no_end; stands = stands }
-
-pub Reads-first : (a : Option (List ℕ)) (P : List ℕ → List ℕ → Type 0) → ((xs : List ℕ) → P xs xs) → Reads a a P
-Reads-first None P h = tt
-Reads-first (Some xs) P h = h xs
 
 pub Reads-more : (a b c : Option (List ℕ)) (bs : List ℕ) (P Q : List ℕ → List ℕ → Type 0)
     → Reads a b P → Consumes b c bs → ((xs ys : List ℕ) → P xs (bs ++ ys) → Q xs ys) → Reads a c Q

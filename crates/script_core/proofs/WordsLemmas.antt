@@ -1,19 +1,16 @@
 -- How a line is cut into words, and what digits write.
-use Rattle.std.proofs.Common.{◌≡◌, ◌≢◌, ℕ, zero, suc, ◌+◌, ◌-◌, ◌*◌, ◌<◌, ◌≤◌, Bool, true, false, ◌&&◌, eqb, cond, List, [], ◌∷◌, length, take, drop, get_or, Option, Some, None, option_map, refl, ap, ◌∙◌, ne_eqb, eq-eqb, arith, rules}
+use Rattle.std.proofs.Common.{◌≡◌, ◌≢◌, ℕ, zero, suc, ◌+◌, ◌-◌, ◌*◌, ◌<◌, ◌≤◌, true, false, eqb, List, [], ◌∷◌, length, take, drop, get_or, Option, Some, None, option_map, refl, ap, ◌∙◌, ne_eqb, eq-eqb, arith, rules, inl, inr, nat_le, ◌^◌, decimal, sym, ◌++◌, All, IfSome, IfNone, leb-true, IsSome, ◌%◌}
 use Rattle.std.proofs.lemmas.Bool.{and_parts, cases_Bool, eqb-true}
 use Rattle.std.specs.List.{list_all}
 use Rattle.std.specs.Char.{is_ascii_digit}
-use Rattle.std.proofs.Common.{inl, inr, nat_le, ◌^◌, decimal, sym}
 use Rattle.std.proofs.lemmas.List.{drop_more}
 use Rattle.std.proofs.lemmas.Str.Parse.{IsNumeralModel, numerals_by_fold}
 use Rattle.std.proofs.lemmas.Fmt.{digits_decimal, digits_value-decimal, decimal-digits_value, first_decimal, decimal_nonempty, decimal_digit}
 use Rattle.std.specs.Str.{all_ascii_digits}
 use Rattle.script_core.specs.Words.{split_word, is_number, value_on, number_of}
-use Rattle.std.proofs.Common.{◌++◌, All, IfSome, IfNone, leb-true}
 use Rattle.std.proofs.lemmas.List.Elements.{All-nil, All-cons}
-use Rattle.std.proofs.Common.{IsSome, ◌%◌}
 use Rattle.std.specs.List.{AllPass}
-use Rattle.hex.specs.Hex.{decode_of, is_hex_digit}
+use Rattle.hex.specs.Hex.{is_hex_digit}
 use Rattle.hex.proofs.HexLemmas.{decode_of-digits}
 use Rattle.script_core.specs.Words.{octets_of}
 

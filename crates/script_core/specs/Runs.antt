@@ -1,5 +1,5 @@
 -- What a session says to lines, what a run has written, and what it still owes.
-use Rattle.std.specs.Prelude.{◌≡◌, ◌≢◌, ℕ, List, ◌++◌, All, Option, None, Some}
+use Rattle.std.specs.Prelude.{◌≡◌, ℕ, List, ◌++◌, Option, None, Some}
 use Rattle.std.specs.Io.KnownBytes.{Appends}
 use Rattle.script_core.specs.Lines.{lines_of, HasNoEnd}
 

@@ -1,4 +1,4 @@
-use Rattle.std.proofs.Common.{◌<◌, slice_index, arith}
+use Rattle.std.proofs.Common.{arith}
 use Rattle.hex.proofs.HexLemmas.{decode_of-encode_upper}
 use Rattle.script_core.proofs.laws.reads_back_hex.Goals as goal
 

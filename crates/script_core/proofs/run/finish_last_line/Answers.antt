@@ -1,4 +1,4 @@
-use Rattle.std.proofs.Common.{◌≡◌, ◌<◌, length, [], rules}
+use Rattle.std.proofs.Common.{◌<◌, length, [], rules}
 use Rattle.script_core.proofs.LinesLemmas.{lines_of-last}
 use Rattle.script_core.proofs.run.finish_last_line.Goals as goal
 

@@ -1,4 +1,4 @@
-use Rattle.std.proofs.Common.{◌≡◌, ◌≢◌, true, ℕ, List, [], ◌++◌, All}
+use Rattle.std.proofs.Common.{◌≡◌, ◌≢◌, true, [], All}
 use Rattle.script_core.specs.Runs.{Reads, Stands}
 use Rattle.script_core.proofs.run.run_script.Given as goal
 

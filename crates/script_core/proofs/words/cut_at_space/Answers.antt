@@ -1,4 +1,4 @@
-use Rattle.std.proofs.Common.{add-one, sym, ◌∙◌, arith, ◌≡◌, length, drop, take, ◌+◌, ◌-◌, rules, take_all, length-drop}
+use Rattle.std.proofs.Common.{add-one, sym, arith, ◌≡◌, length, drop, take, ◌+◌, ◌-◌, take_all, length-drop}
 use Rattle.script_core.proofs.WordsLemmas.{split_word_at, split_word_none}
 use Rattle.script_core.proofs.words.cut_at_space.Goals as goal
 

@@ -1,4 +1,4 @@
-use Rattle.std.proofs.Common.{◌∙◌, arith, rules}
+use Rattle.std.proofs.Common.{◌∙◌, arith}
 use Rattle.script_core.proofs.WordsLemmas.{number_of_printed, number_of_read}
 use Rattle.script_core.proofs.words.read_number.Goals as goal
 

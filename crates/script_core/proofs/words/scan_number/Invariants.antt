@@ -1,4 +1,4 @@
-use Rattle.std.proofs.Common.{◌≡◌, ◌≤◌, drop, true}
+use Rattle.std.proofs.Common.{◌≡◌, ◌≤◌, drop}
 use Rattle.script_core.specs.Words.{value_on}
 use Rattle.script_core.proofs.WordsLemmas.{IsDigits}
 use Rattle.script_core.proofs.words.scan_number.Given as goal
