@@ -4,7 +4,7 @@ use Rattle.std.specs.Prelude.{IfSome, IfOk, IfErr, IsOkAnd, slice_get}
 use Rattle.std.specs.Char.{is_ascii_digit, digit_value}
 use Rattle.std.specs.Fmt.{decimal}
 use Rattle.std.specs.Int.{IsInRange}
-use Rattle.std.specs.List.{AllByRecursion, join_with_byte, position_or_len, onto_first}
+use Rattle.std.specs.List.{AllByRecursion, join_with_byte, position_or_len, onto_first, flat_map}
 use Rattle.std.specs.Result.{OkIff, result_ok}
 use Rattle.std.specs.Str.Parse.{AllDigits, digits_value, ParsesUnsigned}
 use Rattle.std.proofs.lemmas.Bool.{cases_lt, ne_eqb}
@@ -234,3 +234,21 @@ list_fault text numbers (Err BadText) d few h = absurd h
 list_fault text numbers (Err TooLong) d few h = (numbers, d, h)
 list_fault text numbers (Err BadContent) d few h = absurd (let some = d.some in omega arith)
 list_fault text numbers (Err NoRoom) d few h = absurd h
+
+-- ---- written from left to right
+
+-- a dot, and a number
+abbrev pub pointed : ℕ → List ℕ
+pointed n = 46 ∷ decimal n
+
+dotted_points : (n : ℕ) (ns : List ℕ) → dotted (n ∷ ns) ≡ decimal n ++ flat_map pointed ns
+dotted_points n [] = sym (append-nil (decimal n))
+dotted_points n (m ∷ ns) = ap (λ (t : List ℕ). decimal n ++ 46 ∷ t) (dotted_points m ns)
+
+abbrev pub joined : List ℕ → List ℕ
+joined [] = []
+joined (n ∷ ns) = decimal n ++ flat_map pointed ns
+
+pub joined_dotted : (name : List ℕ) → joined name ≡ dotted name
+joined_dotted [] = refl
+joined_dotted (n ∷ ns) = sym (dotted_points n ns)
