@@ -5,8 +5,7 @@ use Rattle.std.proofs.Math.Nat.{pow-suc, pow-le-pow_right, mul-le-mul_right}
 use Rattle.std.proofs.lemmas.Bool.{lt-ltb, le-ltb}
 use Rattle.std.proofs.lemmas.Int.{ints}
 use Rattle.std.proofs.lemmas.Int.Digits.{number_lt}
-use Rattle.ber_core.specs.Spelling.{number, signed, IsUnsigned}
-use Rattle.ber_core.proofs.Signed.{AreOctets}
+use Rattle.ber_core.specs.Spelling.{AreOctets, number, signed, IsUnsigned}
 
 all_below : (digits : List ℕ) → AreOctets digits → AllBelowBase 256 digits
 all_below [] fits = tt
@@ -15,7 +14,7 @@ all_below (d ∷ digits) fits = (fits 0, all_below digits (λ i. fits (suc i)))
 pub number_below : (digits : List ℕ) → AreOctets digits → number digits < 256 ^ length digits
 number_below digits fits = number_lt 256 digits (all_below digits fits)
 
-power_le : (i j : ℕ) → i ≤ j → 256 ^ i ≤ 256 ^ j
+pub power_le : (i j : ℕ) → i ≤ j → 256 ^ i ≤ 256 ^ j
 power_le i j le = let some : 0 < 256 = omega arith in pow-le-pow_right some le
 
 pub whole_below : (width : ℕ) (content : List ℕ) → AreOctets content → length content ≤ width → number content < 256 ^ width

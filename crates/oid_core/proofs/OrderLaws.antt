@@ -1,5 +1,5 @@
 -- What `cmp` and the tests of two lists say.
-use Rattle.std.proofs.Common.{◌≡◌, ℕ, ◌<◌, Bool, true, false, cond, eqb, List, [], ◌∷◌, ◌++◌, length, take, refl, sym, ap, subst, ◌∙◌, arith, inl, inr}
+use Rattle.std.proofs.Common.{◌⊎◌, ◌≡◌, ℕ, ◌<◌, Bool, true, false, cond, eqb, List, [], ◌∷◌, ◌++◌, length, take, refl, sym, ap, subst, ◌∙◌, arith, inl, inr}
 use Rattle.std.specs.Cmp.Lexicographic.{slice_cmp, pointwise}
 use Rattle.std.specs.declared.cmp.Ordering.{Ordering}
 use Rattle.std.specs.declared.cmp.Ordering.TheVariants.{Less, Equal, Greater}
@@ -7,7 +7,7 @@ use Rattle.std.specs.Ordering.{nat_cmp, ordering_then, MatchOrdering, is_lt, ord
 use Rattle.std.proofs.lemmas.Cmp.{ranked, same_from_slice_cmp, nat_list_cmp_total, tied_itself}
 use Rattle.std.proofs.lemmas.Bool.{eq-eqb}
 use Rattle.std.proofs.lemmas.Bool.Decides.{nat_tests, eqb_tells}
-use Rattle.oid_core.specs.Order.{IsPrefix, IsBefore, name_lt, is_prefix}
+use Rattle.oid_core.specs.Order.{IsPrefix, IsBefore, name_lt, name_eq, is_prefix}
 
 -- one number more in front
 grow : (x y : ℕ) (xs ys : List ℕ) → x ≡ y → IsBefore xs ys → IsBefore (x ∷ xs) (y ∷ ys)
@@ -115,3 +115,53 @@ prefix_test (x ∷ xs) (y ∷ ys) =
       | inl same ↦ rw same.0 (prefix_test xs ys)
       | inr other ↦ rw other.0 refl
     ]
+
+-- ---- the tests, and the order as a whole
+
+cmp_lt : (a b : List ℕ) → is_lt (slice_cmp nat_cmp a b) ≡ name_lt a b
+cmp_lt a b = name_lt-cmp a b (slice_cmp nat_cmp a b) refl
+
+lt_less : (o : Ordering) → is_lt o ≡ true → o ≡ Less
+lt_less Less e = refl
+lt_less Equal e = absurd cc
+lt_less Greater e = absurd cc
+
+pub lt_before : (a b : List ℕ) → name_lt a b ≡ true → IsBefore a b
+lt_before a b e = cmp_before a b (lt_less (slice_cmp nat_cmp a b) (cmp_lt a b ∙ e))
+
+pub before_lt : (a b : List ℕ) → IsBefore a b → name_lt a b ≡ true
+before_lt a b h = sym (cmp_lt a b) ∙ ap is_lt (before_cmp a b h)
+
+pub eq_same : (a b : List ℕ) → name_eq a b ≡ true → a ≡ b
+eq_same [] [] e = refl
+eq_same [] (y ∷ ys) e = absurd cc
+eq_same (x ∷ xs) [] e = absurd cc
+eq_same (x ∷ xs) (y ∷ ys) e =
+    elim (eqb_tells x y) [
+      | inl same ↦
+          let tail = eq_same xs ys (let step = ap (λ (t : Bool). cond t (name_eq xs ys) false) same.0 in sym step ∙ e) in
+          let head = same.1 in
+          cc
+      | inr other ↦ absurd (let step = ap (λ (t : Bool). cond t (name_eq xs ys) false) other.0 in cc)
+    ]
+
+eq_itself : (a : List ℕ) → name_eq a a ≡ true
+eq_itself [] = refl
+eq_itself (x ∷ xs) = ap (λ (t : Bool). cond t (name_eq xs xs) false) (eq-eqb x x refl) ∙ eq_itself xs
+
+pub same_eq : (a b : List ℕ) → a ≡ b → name_eq a b ≡ true
+same_eq a b e = ap (λ (t : List ℕ). name_eq t b) e ∙ eq_itself b
+
+in_order : (o : Ordering) (a b : List ℕ) → MatchOrdering o (IsBefore a b) (a ≡ b) (IsBefore b a) → IsBefore a b ⊎ ((a ≡ b) ⊎ IsBefore b a)
+in_order Less a b m = inl m
+in_order Equal a b m = inr (inl m)
+in_order Greater a b m = inr (inr m)
+
+pub any_two : (a b : List ℕ) → IsBefore a b ⊎ ((a ≡ b) ⊎ IsBefore b a)
+any_two a b = in_order (slice_cmp nat_cmp a b) a b (compared a b)
+
+pub not_itself : (a : List ℕ) → ¬ IsBefore a a
+not_itself a h = let e = before_cmp a a h in let f = equal_cmp a a refl in cc
+
+pub before_then : (a b c : List ℕ) → IsBefore a b → IsBefore b c → IsBefore a c
+before_then a b c h k = cmp_before a c (nat_list_cmp_total.trans a b c (before_cmp a b h) (before_cmp b c k))
