@@ -70,7 +70,8 @@ impl Bindings {
     pub fn into_vec(self) -> Vec<Binding>
         ensures { result.items ≡ self }
     {
-        self.items
+        let Bindings { items } = self;
+        items
     }
 
     /// Adds a binding at the end. Takes memory; without it, nothing changes and the binding is let go.

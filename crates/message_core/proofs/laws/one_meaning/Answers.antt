@@ -1,0 +1,5 @@
+use Rattle.message_core.proofs.One.{one_value, one_binding, one_list, one_request}
+use Rattle.message_core.proofs.laws.one_meaning.Goals as goal
+
+pub returns : goal.returns
+returns c = record { value = one_value; binding = one_binding; bindings = one_list; request = one_request }
