@@ -1,6 +1,5 @@
 pub mod Rising
 pub mod Rest
 pub mod Below
-pub mod Short
 pub mod Sizes
 pub mod Spellings

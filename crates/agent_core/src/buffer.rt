@@ -3,6 +3,7 @@ ghost use Rattle.message_core.specs.Canon.{canon_reply, answer_to};
 ghost use Rattle.message_core.specs.Spellable.{AreSpellable};
 ghost use Rattle.agent_core.specs.Replies.{sized};
 
+use message_core::laws::short_reply_fits;
 use message_core::{Binding, ErrorStatus, MAX_REPLY, Request, TooBig, encode_answer};
 use std::marker::Model;
 
@@ -92,6 +93,7 @@ fn put_too_big(request: &Request, octets: &mut [u8; MAX_REPLY]) -> usize
     ensures len { result ≡ length (canon_reply (answer_to request.now ErrorStatus.TooBig (pos 0) [])) }
     ensures most { result ≤ 1472 }
 {
+    short_reply_fits();
     match encode_answer(request, ErrorStatus::TooBig, 0, &[], octets) {
         Ok(length) => length,
         Err(TooBig) => unreachable!(),

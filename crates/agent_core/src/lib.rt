@@ -18,3 +18,6 @@ pub use getting::get;
 pub use source::{Source, View};
 pub use views::BridgeView;
 pub use world::{PlainWorld, WorldFault};
+
+#[cfg(test)]
+mod tests;

@@ -85,6 +85,10 @@ impl AgentSession {
     fn run(&self) -> Run
         ensures { result ≡ Run.Whole → self.now.is_whole ≡ true }
     {
-        if self.is_whole { Run::Whole } else { Run::Short }
+        if self.is_whole {
+            Run::Whole
+        } else {
+            Run::Short
+        }
     }
 }

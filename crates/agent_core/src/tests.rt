@@ -1,0 +1,101 @@
+use super::*;
+use message_core::{Binding, Value};
+use oid_core::Oid;
+use std::alloc::Global;
+use std::test::Fail;
+
+// The name of these numbers under 1.3.6.1.2.1.17.
+fn named(alloc: Global, text: &str) -> Result<Oid, Fail> {
+    let name = Oid::parse(alloc, text).ok().ok_or("a name")?;
+    Ok(name)
+}
+
+fn bound(alloc: Global, text: &str, number: i32) -> Result<Binding, Fail> {
+    Ok(Binding {
+        name: named(alloc, text)?,
+        value: Value::Integer(number),
+    })
+}
+
+// Two columns of two ports each.
+fn ports(alloc: Global) -> Result<PlainWorld, Fail> {
+    let mut instances = Vec::new(alloc);
+    for (text, number) in [
+        ("1.3.6.1.2.1.17.2.15.1.3.1", 1),
+        ("1.3.6.1.2.1.17.2.15.1.3.2", 2),
+        ("1.3.6.1.2.1.17.2.15.1.5.1", 3),
+        ("1.3.6.1.2.1.17.2.15.1.5.2", 4),
+    ] {
+        instances.push(bound(alloc, text, number)?)?;
+    }
+    let mut objects = Vec::new(alloc);
+    objects.push(named(alloc, "1.3.6.1.2.1.17.2.15.1.3")?)?;
+    objects.push(named(alloc, "1.3.6.1.2.1.17.2.15.1.5")?)?;
+    Ok(PlainWorld::new(instances, objects).ok().ok_or("a world")?)
+}
+
+// A view of one name.
+#[derive(Drop)]
+struct Only<'a>(&'a Oid);
+
+impl View for Only<'_> {
+    ghost use Rattle.std.specs.Cmp.Lexicographic.{pointwise};
+    ghost use Rattle.std.specs.Prelude.{◌==◌};
+
+    ghost shows = { λ v name. pointwise ◌==◌ name v.0.now };
+
+    fn has_name(&self, name: &Oid) -> bool {
+        *name == *self.0
+    }
+}
+
+#[test]
+fn tells_a_hidden_name_by_what_is_seen_beside_it(rt: HostRuntime) -> Result<(), Fail> {
+    let world = ports(rt.alloc())?;
+    let seen = named(rt.alloc(), "1.3.6.1.2.1.17.2.15.1.3.1")?;
+    for (text, want) in [
+        ("1.3.6.1.2.1.17.2.15.1.3.1", 1u8),
+        ("1.3.6.1.2.1.17.2.15.1.3.2", 2),
+        ("1.3.6.1.2.1.17.2.15.1.3.9", 2),
+        ("1.3.6.1.2.1.17.2.15.1.5.1", 3),
+        ("1.3.6.1.2.1.17.2.15.1.4.1", 3),
+    ] {
+        let asked = named(rt.alloc(), text)?;
+        let answer = get(rt.alloc(), &world, &Only(&seen), world.objects(), &asked)?;
+        let found = match answer.value {
+            Value::Integer(1) => 1u8,
+            Value::NoSuchInstance => 2,
+            Value::NoSuchObject => 3,
+            _ => 4,
+        };
+        assert_eq!(rt; found, want, "{text}");
+    }
+    Ok(())
+}
+
+#[test]
+fn refuses_a_world_that_is_not_sorted(rt: HostRuntime) -> Result<(), Fail> {
+    let mut instances = Vec::new(rt.alloc());
+    instances.push(bound(rt.alloc(), "1.3.6", 1)?)?;
+    instances.push(bound(rt.alloc(), "1.3", 1)?)?;
+    assert!(rt;
+        matches!(
+            PlainWorld::new(instances, Vec::new(rt.alloc())),
+            Err(WorldFault::Unsorted)
+        )
+    );
+    Ok(())
+}
+
+#[test]
+fn refuses_a_world_that_cannot_be_spelled(rt: HostRuntime) -> Result<(), Fail> {
+    let mut instances = Vec::new(rt.alloc());
+    instances.push(bound(rt.alloc(), "1.40", 1)?)?;
+    assert!(rt;
+        matches!(
+            PlainWorld::new(instances, Vec::new(rt.alloc())),
+            Err(WorldFault::Unspellable)
+        )
+    );
+    Ok(())
+}
