@@ -1,5 +1,5 @@
 //! What the program does with its words.
-ghost use Rattle.std.specs.Prelude.{◌≤◌};
+ghost use Rattle.std.specs.Prelude.{◌≡◌, ◌≢◌, ◌≤◌, ◌<◌, ◌↔◌, length, IsErrOf};
 
 use agent_script::{built_in_world, run_script};
 use script_core::RunFault;
@@ -34,6 +34,11 @@ impl fmt::Display for Failure {
 }
 
 impl From<RunFault> for Failure {
+    ghost use Rattle.std.specs.Prelude.{◌≢◌};
+    ghost use Rattle.agentd.specs.declared.run.Failure.TheVariants.{Usage};
+
+    ghost from_gives = { λ _ failure. failure ≢ Usage };
+
     fn from(fault: RunFault) -> Failure {
         match fault {
             RunFault::Input => Failure::Input,
@@ -46,7 +51,9 @@ impl From<RunFault> for Failure {
 impl Failure {
     // The exit status.
     fn status(self) -> u8
-        ensures { result ≤ 2 }
+        ensures most { result ≤ 2 }
+        ensures usage { result ≡ 2 ↔ (self ≡ Failure.Usage) }
+        ensures failed { result ≢ 0 }
     {
         match self {
             Failure::Usage => USAGE,
@@ -69,7 +76,8 @@ where
     I: Read,
     O: Write,
     E: Write,
-    ensures { result ≤ 2 }
+    ensures status { result ≤ 2 }
+    ensures usage { result ≡ 2 ↔ (1 < length words.now) }
 {
     match try_words(rt, words, reader, writer) {
         Ok(()) => 0,
@@ -90,6 +98,7 @@ where
     R: AllocGlobal,
     I: Read,
     O: Write,
+    ensures { IsErrOf result Failure.Usage ↔ (1 < length words.now) }
 {
     if words.len() > 1 {
         return Err(Failure::Usage);

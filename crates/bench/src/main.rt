@@ -1,32 +1,32 @@
-//! Measurements in one process. Without words it prints their names; with a name it measures and prints figures.
+//! Measurements in one process. Without words it prints their names, one a line; with a name it measures and prints figures.
 #![tactic(auto)]
 
-mod codec;
-mod report;
-mod script;
+mod measures;
+mod sources;
 
-use anyhow::Result;
-use report::Measurement;
-use std::env;
+use measures::{measure_decode, measure_encode, measure_script};
+use std::{env, io};
 
-fn main(rt: HostRuntime) -> Result<()> {
+/// The names of the measurements.
+const NAMES: [&str; 3] = ["decode", "encode", "script"];
+
+fn main(rt: HostRuntime) -> io::Result<()> {
     let mut words = env::args(&rt)?;
     let _name = words.next();
-    let Some(word) = words.next() else {
-        return print_names(&rt);
-    };
-    match Measurement::named(word.as_str()) {
-        Some(Measurement::Decode) => codec::measure_decode(&rt),
-        Some(Measurement::Answer) => codec::measure_answer(&rt),
-        Some(Measurement::Script) => script::measure_script(&rt),
+    match words.next() {
         None => print_names(&rt),
+        Some(word) => match word.as_str() {
+            "decode" => measure_decode(&rt),
+            "encode" => measure_encode(&rt),
+            "script" => measure_script(&rt),
+            _ => print_names(&rt),
+        },
     }
 }
 
-// Prints the names of the measurements, one a line.
-fn print_names(rt: &HostRuntime) -> Result<()> {
-    for measurement in Measurement::ALL {
-        println!(rt; "{}", measurement.name())?;
+fn print_names(rt: &HostRuntime) -> io::Result<()> {
+    for name in NAMES {
+        println!(rt; "{name}")?;
     }
     Ok(())
 }
