@@ -1,6 +1,6 @@
 -- What keeps the rows by rising address, and young.
 use Rattle.std.proofs.Common.{◌≡◌, ℕ, ◌+◌, ◌<◌, ◌≤◌, Bool, true, false, cond, List, [], ◌∷◌, ◌++◌, length, map, refl, sym, ap, ◌∙◌, arith}
-use Rattle.std.specs.Prelude.{filter, nat_lt}
+use Rattle.std.specs.Prelude.{filter, nat_lt, ◌==◌}
 use Rattle.std.specs.List.{AllByRecursion}
 use Rattle.std.specs.List.Sorted.{IsStrictlySortedBy}
 use Rattle.std.specs.Ordering.{is_lt, is_gt}
@@ -14,7 +14,7 @@ use Rattle.fdb_core.specs.declared.row.TheConstants.{MAX_AGING_TIME}
 use Rattle.fdb_core.specs.declared.learnt.Learnt.{Learnt}
 use Rattle.fdb_core.specs.declared.learnt.Learnt.TheVariants.{New, Moved, Same, Full, Memory}
 use Rattle.fdb_core.specs.Rows.{address_cmp, IsRising, IsYoung, rows_below, rows_above, aged, young_rows}
-use Rattle.fdb_core.specs.Learning.{with_row, seen, learned}
+use Rattle.fdb_core.specs.Learning.{with_row, seen, seen_again, answer_on, learned}
 use Rattle.fdb_core.proofs.Order.{below_from_above, below_trans}
 
 -- what holds of each row holds of those that a filter keeps
@@ -46,7 +46,7 @@ module _ (a : Mac) where
   above_more : (x : Row) (kept : List Row) (o : Ordering) → address_cmp x.address a ≡ o → AllByRecursion (λ s. address_cmp a s.address ≡ Less) kept → AllByRecursion (λ s. address_cmp a s.address ≡ Less) (cond (is_gt o) (x ∷ kept) kept)
   above_more x kept Less e h = h
   above_more x kept Equal e h = h
-  above_more x kept Greater e h = (below_from_above _ _ e, h)
+  above_more x kept Greater e h = (below_from_above x.address a e, h)
 
   all_above_of : (xs : List Row) → AllByRecursion (λ s. address_cmp a s.address ≡ Less) (rows_above xs a)
   all_above_of [] = tt
@@ -58,8 +58,8 @@ unfolding IsStrictlySortedBy
 rising_joined [] r back up below rest = rest
 rising_joined (x ∷ xs) r back up below rest =
     let behind : AllByRecursion (λ s. address_cmp x.address s.address ≡ Less) (r ∷ back) =
-    (below.0, all_weaker _ _ (λ s e. below_trans _ _ _ below.0 e) back rest.0) in
-    (all_joined _ xs (r ∷ back) up.0 behind, rising_joined xs r back up.1 below.1 rest)
+    (below.0, all_weaker (λ s. address_cmp r.address s.address ≡ Less) (λ s. address_cmp x.address s.address ≡ Less) (λ s e. below_trans x.address r.address s.address below.0 e) back rest.0) in
+    (all_joined (λ s. address_cmp x.address s.address ≡ Less) xs (r ∷ back) up.0 behind, rising_joined xs r back up.1 below.1 rest)
 
 pub rising_with_row : (rows : List Row) (r : Row) → IsRising rows → IsRising (with_row rows r)
 unfolding IsStrictlySortedBy
@@ -105,3 +105,17 @@ young_left limit (x ∷ xs) most = young_more (nat_lt x.age limit) refl (young_l
     young_more : (b : Bool) → nat_lt x.age limit ≡ b → IsYoung (young_rows limit xs) → IsYoung (cond b (x ∷ young_rows limit xs) (young_rows limit xs))
     young_more true e h = (let lt = ltb-true x.age limit e in omega arith, h)
     young_more false e h = h
+
+pub rising_none : IsRising []
+unfolding IsStrictlySortedBy
+rising_none = tt
+
+pub rising_kept : (p : Row → Bool) (rows : List Row) → IsRising rows → IsRising (filter p rows)
+rising_kept p rows up = IsStrictlySortedBy-filter _ p rows up
+
+-- a row that is seen again is a row that is seen now
+pub relearned : (known port : ℕ) (rows : List Row) (a : Mac) → learned (answer_on known port) rows a port ≡ with_row rows (seen a port)
+relearned known port rows a = elim (known == port) as (λ b. learned (cond b Same Moved) rows a port ≡ with_row rows (seen a port)) [ true ↦ refl | false ↦ refl ]
+
+pub again : (row : Row) (a : Mac) (port : ℕ) → row.address ≡ a → seen_again row port ≡ seen a port
+again row a port e = ap (λ (m : Mac). seen m port) e

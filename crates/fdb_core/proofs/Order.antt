@@ -1,5 +1,5 @@
 -- The order of addresses, around one of them.
-use Rattle.std.proofs.Common.{◌≡◌, ℕ, ◌<◌, ◌≤◌, List, length, get_or, refl, sym, ap, ◌∙◌, arith}
+use Rattle.std.proofs.Common.{◌≡◌, ℕ, ◌+◌, ◌<◌, ◌≤◌, List, length, get_or, refl, sym, ap, ◌∙◌, arith}
 use Rattle.std.specs.Cmp.{IsTotalOrder}
 use Rattle.std.specs.Cmp.Lexicographic.{slice_cmp}
 use Rattle.std.specs.Ordering.{nat_cmp, is_lt, ordering_reverse, ordering_index}
@@ -38,4 +38,4 @@ module _ (rows : List Row) (rising : IsRising rows) where
 
   -- rows by rising address are sorted as a binary search asks
   pub searchable : (a : Mac) → IsNonDecreasingBy (λ r. ordering_index (address_cmp r.address a)) rows
-  searchable a = searchable_from_sorted nat_list_cmp_total (λ r. r.address.0) rows a.0 (λ k d _ within. ap is_lt (above_from_below _ _ (below_later k (k + 1) d (omega arith) within)))
+  searchable a = searchable_from_sorted nat_list_cmp_total (λ r. r.address.0) rows a.0 (λ k d _ within. ap is_lt (above_from_below (get_or rows k d).address (get_or rows (k + 1) d).address (below_later k (k + 1) d (omega arith) within)))

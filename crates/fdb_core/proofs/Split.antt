@@ -74,10 +74,10 @@ module _ (a : Mac) where
   -- at a row of the address
   module _ (rows : List Row) (rising : IsRising rows) (i : ℕ) (within : i < length rows) (equal : HoldsAt (λ r. address_cmp r.address a ≡ Equal) rows i) where
     low : AllWithin (λ r. address_cmp r.address a ≡ Less) rows 0 i
-    low k d _ lt = sym (same_right _ _ _ (equal d)) ∙ below_later rows rising k i d lt within
+    low k d _ lt = sym (same_right (get_or rows i d).address a (get_or rows k d).address (equal d)) ∙ below_later rows rising k i d lt within
 
     high : AllWithin (λ r. address_cmp r.address a ≡ Greater) rows (i + 1) (length rows)
-    high k d le lt = sym (same_right _ _ _ (equal d)) ∙ above_from_below _ _ (below_later rows rising i k d (omega arith) lt)
+    high k d le lt = sym (same_right (get_or rows i d).address a (get_or rows k d).address (equal d)) ∙ above_from_below (get_or rows i d).address (get_or rows k d).address (below_later rows rising i k d (omega arith) lt)
 
     front : Fronts (take i rows) (drop i rows)
     front = fronts (take i rows) (drop i rows) (before_place rows i (omega arith) low)
@@ -106,16 +106,17 @@ module _ (a : Mac) where
         let rest_above = ap (λ l. rows_above l a) (here d) ∙ above_here _ _ (equal d) ∙ back.above in
         record {
           within = within;
-          has_address = λ e. same_address _ a (equal e);
+          has_address = λ e. same_address (get_or rows i e).address a (equal e);
           row = λ e. ap (λ l. row_of l a) (sym whole) ∙ front.row ∙ ap (λ l. row_of l a) (here e) ∙ found_here _ _ (equal e);
           before = sym (ap (λ l. rows_below l a) (sym whole) ∙ front.below ∙ ap (λ l. take i rows ++ l) none_below ∙ append-nil _);
           behind = sym (ap (λ l. rows_above l a) (sym whole) ∙ front.above ∙ rest_above);
         }
 
 -- what a binary search by address finds
-pub placed : (rows : List Row) → IsRising rows → (a : Mac) (d : Row) (r : Result ℕ ℕ) → IsSearchInRange r (length rows) → IsBinarySearchResult (λ y. address_cmp y.address a) rows r → record { found : IfOk r (IsRowAt rows a); absent : IfErr r (IsGapAt rows a) }
-placed rows rising a d (Ok i) within equal = record { found = hit a rows rising i within equal d; absent = tt }
-placed rows rising a d (Err i) within parted = record { found = tt; absent = gap a rows i within (parted (searchable rows rising a)) }
+pub placed : (rows : List Row) → IsRising rows → (a : Mac) (r : Result ℕ ℕ) → IsSearchInRange r (length rows) → IsBinarySearchResult (λ y. address_cmp y.address a) rows r → record { found : IfOk r (IsRowAt rows a); absent : IfErr r (IsGapAt rows a) }
+placed [] rising a (Ok i) within equal = absurd (omega arith)
+placed (row ∷ rows) rising a (Ok i) within equal = record { found = hit a (row ∷ rows) rising i within equal row; absent = tt }
+placed rows rising a (Err i) within parted = record { found = tt; absent = gap a rows i within (parted (searchable rows rising a)) }
 
 -- a new row in its place
 pub inserted : (rows : List Row) (i : ℕ) (row : Row) → IsGapAt rows row.address i → insert rows i row ≡ with_row rows row

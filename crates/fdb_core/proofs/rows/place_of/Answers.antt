@@ -8,4 +8,4 @@ pub returns : goal.returns
 returns c =
     let facts = c.binary_search_by_key.ensures in
     let by_key = facts.position (λ r. r.address) (answers_always _ _ _ (λ f a r g called. search rules)) in
-    placed _ c.requires c.args.address _ _ facts.bound by_key
+    placed _ c.requires c.args.address _ facts.bound by_key
