@@ -1,8 +1,6 @@
 -- The flags in one octet.
-use Rattle.std.proofs.Common.{◌≡◌, ℕ, ◌+◌, ◌*◌, ◌/◌, ◌%◌, ◌^◌, ◌<◌, Bool, true, false, refl, sym, ap, ◌∙◌, arith}
+use Rattle.std.proofs.Common.{◌≡◌, ℕ, ◌*◌, ◌^◌, ◌<◌, Bool, true, false, sym, ap, arith}
 use Rattle.std.specs.Prelude.{◌==◌}
-use Rattle.std.specs.Int.{bit_at}
-use Rattle.frame_core.specs.Octets.{has_bit}
 use Rattle.frame_core.specs.Layout.{AreConfigFlags, AreRapidFlags, role_number}
 use Rattle.frame_core.specs.Sending.{weight, config_flags, rapid_flags}
 use Rattle.frame_core.specs.declared.bpdu.PortRole.{PortRole}

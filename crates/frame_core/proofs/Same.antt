@@ -5,7 +5,7 @@ use Rattle.std.specs.Str.{bytes_eq}
 use Rattle.std.proofs.lemmas.Slice.Eq.{bytes_eq-Decides}
 use Rattle.std.proofs.lemmas.List.{take-append-drop}
 use Rattle.frame_core.specs.Octets.{number_at}
-use Rattle.frame_core.specs.Layout.{IsBridgeId, IsVector, AreTimes, AreConfigFlags, AreRapidFlags, IsConfig, IsRapid, HasKind, IsBpdu, role_number}
+use Rattle.frame_core.specs.Layout.{IsBridgeId, IsVector, AreTimes, IsConfig, IsRapid, HasKind, IsBpdu, role_number}
 use Rattle.frame_core.specs.Frames.{CarriesBpdu, IsFrame, IsFault}
 use Rattle.frame_core.specs.declared.fault.FrameFault.{FrameFault}
 use Rattle.frame_core.specs.declared.fault.FrameFault.TheVariants.{Short, TooLong, BadBpdu}
@@ -166,7 +166,7 @@ carried_from frame content octets n r number most within part llc behind found =
   where
     matched : (o : Option Bpdu) → take (number_at frame 12 2) (drop 14 frame) ≡ 0x42 ∷ 0x42 ∷ 0x03 ∷ octets → MatchOption o ((b : Bpdu) → ¬ IsBpdu octets b) (λ b. IsBpdu octets b) → MatchOption o ((b : Bpdu) → ¬ CarriesBpdu frame b) (λ b. CarriesBpdu frame b)
     matched None whole none = λ b h.
-      let joined = sym h.content ∙ whole in
-      let same : h.octets ≡ octets = cc in
-      none b (subst (λ l. IsBpdu l b) same h.bpdu)
+        let joined = sym h.content ∙ whole in
+        let same : h.octets ≡ octets = cc in
+        none b (subst (λ l. IsBpdu l b) same h.bpdu)
     matched (Some b) whole here = record { octets = octets; most = rw (sym number) most; within = rw (sym number) within; content = whole; bpdu = here }

@@ -4,9 +4,9 @@ use Rattle.std.proofs.lemmas.List.{take_at, drop_at, length-replicate}
 use Rattle.byteorder.specs.Endian.{big_bytes}
 use Rattle.byteorder.specs.Numbers.{big_number-reads_back}
 use Rattle.frame_core.specs.Octets.{number_at}
-use Rattle.frame_core.specs.Layout.{IsBridgeId, IsVector, AreTimes, IsConfig, IsRapid, HasKind, IsBpdu}
-use Rattle.frame_core.specs.Frames.{CarriesBpdu, IsFrame}
-use Rattle.frame_core.specs.Sending.{bridge_id_octets, root_octets, sender_octets, vector_octets, times_octets, body_octets, head_octets, config_flags, rapid_flags, config_octets, rapid_octets, bpdu_octets, bpdu_len, address_octets, llc_octets, header_octets, frame_octets, FitsBridgeId, FitsVector, FitsTimes, FitsBpdu}
+use Rattle.frame_core.specs.Layout.{IsBridgeId, IsVector, AreTimes, IsBpdu}
+use Rattle.frame_core.specs.Frames.{IsFrame}
+use Rattle.frame_core.specs.Sending.{bridge_id_octets, root_octets, sender_octets, vector_octets, times_octets, body_octets, head_octets, config_octets, rapid_octets, bpdu_octets, bpdu_len, address_octets, llc_octets, header_octets, frame_octets, FitsBridgeId, FitsVector, FitsTimes, FitsBpdu}
 use Rattle.frame_core.specs.declared.mac.Mac.{Mac}
 use Rattle.frame_core.specs.declared.mac.TheConstants.{BRIDGE_GROUP}
 use Rattle.frame_core.specs.declared.bpdu.BridgeId.{BridgeId}

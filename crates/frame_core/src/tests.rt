@@ -11,6 +11,14 @@ const WORKED: [u8; 60] = [
     0x02, 0x00, 0x0F, 0x00, 0x00, 0x00, 0x00, 0x00, 0x00, 0x00, 0x00, 0x00,
 ];
 
+// The same without its padding.
+const UNPADDED: [u8; 53] = [
+    0x01, 0x80, 0xC2, 0x00, 0x00, 0x00, 0x02, 0x00, 0x00, 0x00, 0x00, 0x0A, 0x00, 0x27, 0x42, 0x42,
+    0x03, 0x00, 0x00, 0x02, 0x02, 0x0E, 0x80, 0x00, 0x02, 0x00, 0x00, 0x00, 0x00, 0x0A, 0x00, 0x00,
+    0x00, 0x00, 0x80, 0x00, 0x02, 0x00, 0x00, 0x00, 0x00, 0x0A, 0x80, 0x01, 0x00, 0x00, 0x14, 0x00,
+    0x02, 0x00, 0x0F, 0x00, 0x00,
+];
+
 const OWN: Mac = Mac([0x02, 0x00, 0x00, 0x00, 0x00, 0x0A]);
 
 fn worked() -> Bpdu {
@@ -58,7 +66,7 @@ fn writes_the_worked_frame(rt: HostRuntime) {
 #[test]
 fn reads_the_worked_frame_with_and_without_padding(rt: HostRuntime) {
     assert_eq!(rt; read_frame(&WORKED), Ok(worked_frame()));
-    assert_eq!(rt; read_frame(&WORKED[..53]), Ok(worked_frame()));
+    assert_eq!(rt; read_frame(&UNPADDED), Ok(worked_frame()));
 }
 
 #[test]
@@ -66,13 +74,13 @@ fn refuses_a_frame_without_its_last_octet(rt: HostRuntime) {
     assert_eq!(rt; read_frame(&WORKED[..52]), Err(FrameFault::BadBpdu));
 }
 
-// The worked frame without padding, with another octet at one place.
+// What the worked frame without its padding and with another octet at one place is read as.
 fn changed(place: usize, octet: u8) -> Result<FrameIn, FrameFault> {
-    let mut frame = WORKED;
+    let mut frame = UNPADDED;
     if place < 53 {
         frame[place] = octet;
     }
-    read_frame(&frame[..53])
+    read_frame(&frame)
 }
 
 #[test]

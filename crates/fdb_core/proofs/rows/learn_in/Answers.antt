@@ -1,5 +1,4 @@
 use Rattle.std.proofs.Common.{◌≡◌, ◌∙◌, ap, sym, set, subst, List}
-use Rattle.frame_core.specs.declared.mac.Mac.{Mac}
 use Rattle.fdb_core.specs.declared.row.Row.{Row}
 use Rattle.fdb_core.specs.declared.learnt.Learnt.{Learnt}
 use Rattle.fdb_core.specs.Places.{IsRowAt}

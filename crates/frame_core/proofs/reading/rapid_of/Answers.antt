@@ -1,4 +1,4 @@
-use Rattle.std.proofs.Common.{◌∙◌, ◌/◌, slice_index, rules, subst}
+use Rattle.std.proofs.Common.{◌∙◌, ◌/◌, slice_index, subst}
 use Rattle.std.proofs.lemmas.Nat.{and_mask}
 use Rattle.std.proofs.lemmas.List.{take_rest}
 use Rattle.frame_core.specs.Layout.{IsVector, AreTimes}

@@ -1,5 +1,3 @@
-use Rattle.std.proofs.Common.{refl}
-use Rattle.byteorder.specs.Endian.{big_bytes}
 use Rattle.frame_core.specs.Sending.{address_octets, llc_octets, header_octets}
 use Rattle.frame_core.proofs.Puts.{puts_rest}
 use Rattle.frame_core.proofs.Sent.{address_len}

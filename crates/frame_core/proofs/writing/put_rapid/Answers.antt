@@ -1,4 +1,4 @@
-use Rattle.std.proofs.Common.{◌≡◌, ◌∙◌, ◌++◌, ap, set, refl, arith, length, drop}
+use Rattle.std.proofs.Common.{◌≡◌, ◌∙◌, ◌++◌, ap, refl, arith, length, drop}
 use Rattle.frame_core.specs.Sending.{head_octets, body_octets, rapid_flags, rapid_octets}
 use Rattle.frame_core.proofs.Puts.{puts_rest, puts_last}
 use Rattle.frame_core.proofs.Sent.{body_len}

@@ -1,4 +1,3 @@
-use Rattle.std.proofs.Common.{refl}
 use Rattle.byteorder.specs.Endian.{big_bytes}
 use Rattle.frame_core.specs.Sending.{bridge_id_octets, sender_octets}
 use Rattle.frame_core.proofs.Puts.{puts_rest}

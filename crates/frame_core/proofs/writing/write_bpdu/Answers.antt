@@ -1,4 +1,4 @@
-use Rattle.std.proofs.Common.{◌≡◌, ◌∙◌, ◌+◌, ◌++◌, ap, sym, subst, refl, drop, rules, Some, length, replicate, arith}
+use Rattle.std.proofs.Common.{◌≡◌, ◌∙◌, ◌+◌, ◌++◌, ap, sym, subst, drop, rules, Some, length, replicate, arith}
 use Rattle.frame_core.specs.Frames.{IsFrame}
 use Rattle.frame_core.specs.declared.mac.TheConstants.{BRIDGE_GROUP}
 use Rattle.frame_core.specs.Sending.{header_octets, bpdu_octets, bpdu_len, frame_octets}

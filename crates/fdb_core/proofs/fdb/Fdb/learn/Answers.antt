@@ -1,4 +1,4 @@
-use Rattle.std.proofs.Common.{sym, subst, arith}
+use Rattle.std.proofs.Common.{sym, subst}
 use Rattle.fdb_core.specs.Rows.{IsRising, IsYoung}
 use Rattle.fdb_core.proofs.Kept.{rising_learned, young_learned}
 use Rattle.fdb_core.proofs.fdb.Fdb.learn.Goals as goal
