@@ -3,7 +3,7 @@
 
 mod run;
 
-use run::run_words;
+use run::{Failure, report, run_words};
 use std::process::ExitCode;
 use std::{env, io};
 
@@ -11,7 +11,7 @@ fn main(rt: HostRuntime) -> ExitCode {
     let mut errors = rt.stderr();
     let words = match read_words(&rt) {
         Ok(words) => words,
-        Err(_) => return ExitCode::from(run::USAGE),
+        Err(error) => return ExitCode::from(report(&Failure::from(error), &mut errors)),
     };
     let mut reader = rt.reader();
     let mut writer = io::writer(&rt);

@@ -3,11 +3,11 @@ ghost use Rattle.std.specs.Prelude.{◌≡◌, ◌≢◌, ◌≤◌, ◌<◌, �
 
 use agent_script::{built_in_world, run_script};
 use script_core::RunFault;
-use std::fmt;
-use std::io::{Read, Write};
+use std::io::{ErrorKind, Read, Write};
+use std::{fmt, io};
 
 /// The status for words that are no command.
-pub const USAGE: u8 = 2;
+const USAGE: u8 = 2;
 
 /// Why the program ends with another status than 0.
 #[derive(Clone, Copy, Debug, PartialEq, Eq)]
@@ -48,6 +48,16 @@ impl From<RunFault> for Failure {
     }
 }
 
+impl From<io::Error> for Failure {
+    // Words that cannot be read are no command; want of memory for them is not their fault.
+    fn from(error: io::Error) -> Failure {
+        match error.kind() {
+            ErrorKind::OutOfMemory => Failure::Run,
+            _ => Failure::Usage,
+        }
+    }
+}
+
 impl Failure {
     // The exit status.
     fn status(self) -> u8
@@ -81,11 +91,18 @@ where
 {
     match try_words(rt, words, reader, writer) {
         Ok(()) => 0,
-        Err(failure) => {
-            let _ = writeln!(errors, "agentd: {failure}");
-            failure.status()
-        }
+        Err(failure) => report(&failure, errors),
     }
+}
+
+/// Writes a failure as one line, and gives its exit status.
+pub fn report<E: Write>(failure: &Failure, errors: &mut E) -> u8
+    ensures most { result ≤ 2 }
+    ensures usage { result ≡ 2 ↔ (failure.now ≡ Failure.Usage) }
+    ensures failed { result ≢ 0 }
+{
+    let _ = writeln!(errors, "agentd: {failure}");
+    failure.status()
 }
 
 fn try_words<R, I, O>(
