@@ -145,7 +145,7 @@ eq_same (x ∷ xs) (y ∷ ys) e =
       | inr other ↦ absurd (let step = ap (λ (t : Bool). cond t (name_eq xs ys) false) other.0 in cc)
     ]
 
-eq_itself : (a : List ℕ) → name_eq a a ≡ true
+pub eq_itself : (a : List ℕ) → name_eq a a ≡ true
 eq_itself [] = refl
 eq_itself (x ∷ xs) = ap (λ (t : Bool). cond t (name_eq xs xs) false) (eq-eqb x x refl) ∙ eq_itself xs
 
@@ -165,3 +165,25 @@ not_itself a h = let e = before_cmp a a h in let f = equal_cmp a a refl in cc
 
 pub before_then : (a b c : List ℕ) → IsBefore a b → IsBefore b c → IsBefore a c
 before_then a b c h k = cmp_before a c (nat_list_cmp_total.trans a b c (before_cmp a b h) (before_cmp b c k))
+
+-- ---- laws of the test
+
+pub name_lt-irrefl : (xs : List ℕ) → name_lt xs xs ≡ false
+name_lt-irrefl xs = sym (cmp_lt xs xs) ∙ ap is_lt (equal_cmp xs xs refl)
+
+pub name_lt-trans : (xs ys zs : List ℕ) → name_lt xs ys ≡ true → name_lt ys zs ≡ true → name_lt xs zs ≡ true
+name_lt-trans xs ys zs h k = before_lt xs zs (before_then xs ys zs (lt_before xs ys h) (lt_before ys zs k))
+
+-- not both ways
+pub name_lt-asym : (xs ys : List ℕ) (b : Bool) → name_lt xs ys ≡ true → name_lt ys xs ≡ b → b ≡ false
+name_lt-asym xs ys b h k = sym k ∙ sym (cmp_lt ys xs) ∙ ap is_lt (after_cmp ys xs (lt_before xs ys h))
+
+pub eq_test : (a b : List ℕ) → pointwise eqb a b ≡ name_eq a b
+eq_test [] [] = refl
+eq_test [] (y ∷ ys) = refl
+eq_test (x ∷ xs) [] = refl
+eq_test (x ∷ xs) (y ∷ ys) =
+    elim (eqb_tells x y) [
+      | inl same ↦ rw same.0 (eq_test xs ys)
+      | inr other ↦ rw other.0 refl
+    ]
