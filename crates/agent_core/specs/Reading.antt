@@ -1,4 +1,4 @@
--- What is read of a list of instances whose names rise, and what Get answers (RFC 3416, 4.2.1).
+-- What is read of a list of instances whose names rise, and what Get answers (RFC 3416, 4.2.1). That a name counts as known by what the view shows is this agent's choice: so a hidden instance leaves no trace.
 use Rattle.std.specs.Prelude.{ℕ, Bool, if◌then◌else◌, ◌&&◌, ◌||◌, List, [], ◌∷◌, map, filter, find, Option, Some, None, IsTrue, AllPairs}
 use Rattle.std.specs.List.{list_any}
 use Rattle.oid_core.specs.Order.{name_lt, name_eq, is_prefix}

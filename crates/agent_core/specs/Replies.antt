@@ -22,18 +22,18 @@ sized reply =
     then record reply { status = TooBig; index = pos 0; bindings = [] }
     else reply
 
--- what answers a failure of no binding of its own, as want of memory: genErr, index 0, the request's bindings
+-- What answers a failure that is no binding's own, as want of memory: genErr, with index 0 and the request's bindings. The standard leaves the index open.
 abbrev pub failed : Request → Reply
 failed request = sized (answer_to request GenErr (pos 0) request.bindings)
 
--- the reply to a request that has bindings, by its kind: Get alone is built, and the others fail
+-- The reply to a request that has bindings, by its kind. GetNext, Set and GetBulk are answered genErr.
 abbrev pub kind_reply : World → Request → Kind → Reply
 kind_reply world request Get = sized (answer_to request NoError (pos 0) (get_answers world.objects in_bridge world.instances request.bindings))
 kind_reply world request GetNext = failed request
 kind_reply world request Set = failed request
 kind_reply world request GetBulk = failed request
 
--- the reply to a known caller: with no bindings there is nothing to answer
+-- The reply to a known caller. A request with no bindings is answered noError with none, whatever its kind; the standard says nothing of it.
 abbrev pub known_reply : World → Request → List Binding → Reply
 known_reply world request [] = sized (answer_to request NoError (pos 0) [])
 known_reply world request (b ∷ bs) = kind_reply world request request.kind

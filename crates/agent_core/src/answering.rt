@@ -17,6 +17,8 @@ use std::alloc::{AllocError, Global};
 /// Answers a request over a plain world by RFC 3416, 4.2. The buffer holds the reply in its minimal spelling, or nothing where
 /// the community is unknown.
 ///
+/// The caller hands in a request whose names and OBJECT IDENTIFIER values have a spelling, as `decode` gives it.
+///
 /// # Errors
 /// Only memory can fail: then the buffer is empty, and the request is one that has a reply. An unknown community takes none.
 pub fn answer(
@@ -40,7 +42,8 @@ pub fn answer(
 }
 
 /// Writes the reply to a request that found no memory: genErr, index 0, its own bindings, or tooBig where that is too long.
-/// It takes no memory, and answers how many octets the reply has.
+/// It takes no memory, and answers how many octets the reply has. The community has at most 255 octets, and the names and OBJECT
+/// IDENTIFIER values have a spelling: `answer` fails for no other request.
 pub fn short_reply(request: &Request, buffer: &mut Buffer) -> usize
     requires community { length request.now.community ≤ 255 }
     requires spellable { AreSpellable request.now.bindings }

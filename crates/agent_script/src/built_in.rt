@@ -1,4 +1,7 @@
 //! The plain world of the built-in bridge.
+ghost use Rattle.std.specs.Prelude.{◌≡◌, [], ◌∷◌, IfOk};
+ghost use Rattle.agent_script.specs.BuiltIn.{base_bridge_address, base_num_ports, base_type, built_in, scalar};
+
 use agent_core::PlainWorld;
 use message_core::{Binding, Octets, Value};
 use oid_core::Oid;
@@ -22,7 +25,7 @@ const PORTS: i32 = 2;
 /// dot1dBaseType transparent-only.
 const TRANSPARENT_ONLY: i32 = 2;
 
-/// Why there is no built-in world.
+/// There was no memory for the built-in world.
 #[derive(Clone, Copy, Debug, PartialEq, Eq)]
 pub struct NoWorld;
 
@@ -38,39 +41,57 @@ impl<T: Drop> From<AllocFailed<T>> for NoWorld {
     }
 }
 
-/// The three scalars of a bridge of two ports.
-pub fn built_in_world(alloc: Global) -> Result<PlainWorld, NoWorld> {
-    let mut instances = Vec::new(alloc);
-    let address = Value::OctetString(Octets::from_slice(alloc, &ADDRESS)?);
-    instances.push(scalar(alloc, &BASE_BRIDGE_ADDRESS, address)?)?;
-    instances.push(scalar(alloc, &BASE_NUM_PORTS, Value::Integer(PORTS))?)?;
-    instances.push(scalar(alloc, &BASE_TYPE, Value::Integer(TRANSPARENT_ONLY))?)?;
-    match PlainWorld::new(instances, built_in_objects(alloc)?) {
+/// The three scalars of a bridge of two ports (RFC 4188, dot1dBase): its address, how many ports it has, and its type.
+#[tactic(auto, unfolding(crate::specs::BuiltIn::built_in))]
+pub fn built_in_world(alloc: Global) -> Result<PlainWorld, NoWorld>
+    ensures { IfOk result (λ world. world ≡ built_in) }
+{
+    let instances = built_in_instances(alloc)?;
+    let objects = built_in_objects(alloc)?;
+    match PlainWorld::new(instances, objects) {
         Ok(world) => Ok(world),
         Err(_) => Err(NoWorld),
     }
 }
 
+// The three instances.
+#[tactic(auto, unfolding(crate::specs::BuiltIn::built_in))]
+fn built_in_instances(alloc: Global) -> Result<Vec<Binding>, NoWorld>
+    ensures { IfOk result (λ instances. instances.items ≡ built_in.instances) }
+{
+    let address = Value::OctetString(Octets::from_slice(alloc, &ADDRESS)?);
+    let mut instances = Vec::new(alloc);
+    instances.push(scalar(alloc, &BASE_BRIDGE_ADDRESS, address)?)?;
+    instances.push(scalar(alloc, &BASE_NUM_PORTS, Value::Integer(PORTS))?)?;
+    instances.push(scalar(alloc, &BASE_TYPE, Value::Integer(TRANSPARENT_ONLY))?)?;
+    Ok(instances)
+}
+
 // The names of the three objects.
-fn built_in_objects(alloc: Global) -> Result<Vec<Oid>, NoWorld> {
+#[tactic(auto, unfolding(crate::specs::BuiltIn::built_in))]
+fn built_in_objects(alloc: Global) -> Result<Vec<Oid>, NoWorld>
+    ensures { IfOk result (λ objects. objects.items ≡ built_in.objects) }
+{
     let mut objects = Vec::new(alloc);
-    for object in [&BASE_BRIDGE_ADDRESS, &BASE_NUM_PORTS, &BASE_TYPE] {
-        objects.push(named(alloc, object)?)?;
-    }
+    objects.push(named(alloc, &BASE_BRIDGE_ADDRESS)?)?;
+    objects.push(named(alloc, &BASE_NUM_PORTS)?)?;
+    objects.push(named(alloc, &BASE_TYPE)?)?;
     Ok(objects)
 }
 
-// The one instance of a scalar: its object's name and .0.
-fn scalar(alloc: Global, object: &[u32], value: Value) -> Result<Binding, NoWorld> {
-    let mut name = Vec::from_slice(alloc, object)?;
-    name.push(0)?;
-    Ok(Binding {
-        name: named(alloc, name.as_slice())?,
-        value,
-    })
+// The one instance of a scalar.
+fn scalar(alloc: Global, object: &[u32], value: Value) -> Result<Binding, NoWorld>
+    ensures { IfOk result (λ b. b ≡ scalar object.now value) }
+{
+    let mut numbers = Vec::from_slice(alloc, object)?;
+    numbers.push(0)?;
+    let name = named(alloc, numbers.as_slice())?;
+    Ok(Binding { name, value })
 }
 
-fn named(alloc: Global, numbers: &[u32]) -> Result<Oid, NoWorld> {
+fn named(alloc: Global, numbers: &[u32]) -> Result<Oid, NoWorld>
+    ensures { IfOk result (λ name. name ≡ numbers.now) }
+{
     match Oid::from_slice(alloc, numbers) {
         Ok(name) => Ok(name),
         Err(_) => Err(NoWorld),
