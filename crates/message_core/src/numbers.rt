@@ -12,7 +12,7 @@ pub fn integer_from_content(content: &[u8]) -> Result<i32, DropCause>
 }
 
 /// The number of a Counter32's, a Gauge32's or a TimeTicks' content.
-pub fn unsigned_from_content(content: &[u8]) -> Result<u32, DropCause>
+pub fn unsigned32_from_content(content: &[u8]) -> Result<u32, DropCause>
     ensures { Gives (λ n. n) result (unsigned_of 4 content.now) }
 {
     let number = read_u32(content)?;
@@ -20,7 +20,7 @@ pub fn unsigned_from_content(content: &[u8]) -> Result<u32, DropCause>
 }
 
 /// The number of a Counter64's content.
-pub fn unsigned_long_from_content(content: &[u8]) -> Result<u64, DropCause>
+pub fn unsigned64_from_content(content: &[u8]) -> Result<u64, DropCause>
     ensures { Gives (λ n. n) result (unsigned_of 8 content.now) }
 {
     let number = read_u64(content)?;

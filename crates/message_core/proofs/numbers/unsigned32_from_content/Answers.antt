@@ -1,12 +1,12 @@
 use Rattle.std.proofs.lemmas.Result.{err_from_is_err_and}
 use Rattle.message_core.proofs.Readers.{unsigned_only}
 use Rattle.message_core.proofs.Unsigned.{unsigned_none}
-use Rattle.message_core.proofs.numbers.unsigned_long_from_content.Goals as goal
+use Rattle.message_core.proofs.numbers.unsigned32_from_content.Goals as goal
 
 pub returns-in_err-number : goal.returns-in_err-number
 returns-in_err-number c =
     let p = err_from_is_err_and c.from_residual.result c.from_residual.ensures.1 in
-    rw (p.1, p.2) (λ other. unsigned_none 8 c.args.content.now c.in_err-number.ensures.only)
+    rw (p.1, p.2) (λ other. unsigned_none 4 c.args.content.now c.in_err-number.ensures.only)
 
 pub returns : goal.returns
-returns c = unsigned_only 8 c.args.content.now c.in_ok-number.number c.in_ok-number.ensures.found
+returns c = unsigned_only 4 c.args.content.now c.in_ok-number.number c.in_ok-number.ensures.found
