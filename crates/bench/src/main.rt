@@ -1,14 +1,17 @@
 //! Measurements in one process. Without words it prints their names, one a line; with a name it measures and prints figures.
 #![tactic(auto)]
 
-mod measures;
+mod bridge;
+mod messages;
+mod print;
 mod sources;
 
-use measures::{measure_decode, measure_encode, measure_script};
+use bridge::{measure_addresses, measure_frames};
+use messages::{measure_decode, measure_encode, measure_script};
 use std::{env, io};
 
 /// The names of the measurements.
-const NAMES: [&str; 3] = ["decode", "encode", "script"];
+const NAMES: [&str; 5] = ["decode", "encode", "script", "frames", "addresses"];
 
 fn main(rt: HostRuntime) -> io::Result<()> {
     let mut words = env::args(&rt)?;
@@ -19,6 +22,8 @@ fn main(rt: HostRuntime) -> io::Result<()> {
             "decode" => measure_decode(&rt),
             "encode" => measure_encode(&rt),
             "script" => measure_script(&rt),
+            "frames" => measure_frames(&rt),
+            "addresses" => measure_addresses(&rt),
             _ => print_names(&rt),
         },
     }

@@ -1,4 +1,5 @@
-//! What is measured.
+//! Messages and scripts.
+use crate::print::print_turns;
 use crate::sources::{Nowhere, Repeated};
 use agent_script::{built_in_world, run_script};
 use message_core::{ErrorStatus, MAX_REPLY, Request, decode, encode_answer};
@@ -20,12 +21,6 @@ const GET: [u8; 41] = [
 const LINE: &[u8] =
     b"request 302702010104067075626C6963A01A020101020100020100300F300D06092B06010201110102000500\n";
 
-// Prints how long so many turns took since the start.
-fn print_turns(rt: &HostRuntime, what: &str, start: &Instant) -> io::Result<()> {
-    let micros = start.elapsed(rt)?.as_micros();
-    println!(rt; "{what}: {TURNS} turns in {micros} microseconds")
-}
-
 fn worked_request(rt: &HostRuntime) -> io::Result<Request> {
     match decode(rt.alloc(), &GET) {
         Ok(request) => Ok(request),
@@ -39,7 +34,7 @@ pub fn measure_decode(rt: &HostRuntime) -> io::Result<()> {
     for _ in 0..TURNS {
         let _request = worked_request(rt)?;
     }
-    print_turns(rt, "decode", &start)
+    print_turns(rt, "requests decoded", TURNS, &start)
 }
 
 /// Writes the worked request's bindings back over and over.
@@ -56,7 +51,7 @@ pub fn measure_encode(rt: &HostRuntime) -> io::Result<()> {
             return Err(Error::from(ErrorKind::InvalidData));
         }
     }
-    print_turns(rt, "encode", &start)
+    print_turns(rt, "replies encoded", TURNS, &start)
 }
 
 /// Runs a script of the worked request, from memory to nowhere.
@@ -70,5 +65,5 @@ pub fn measure_script(rt: &HostRuntime) -> io::Result<()> {
     if run_script(rt.alloc(), world, &mut reader, &mut Nowhere).is_err() {
         return Err(Error::from(ErrorKind::Other));
     }
-    print_turns(rt, "script lines", &start)
+    print_turns(rt, "script lines", TURNS, &start)
 }

@@ -1,0 +1,55 @@
+//! Frames and learned addresses.
+use crate::print::print_turns;
+use fdb_core::Fdb;
+use frame_core::{Mac, read_frame};
+use std::hint::black_box;
+use std::io;
+use std::time::Instant;
+
+/// How often a frame is read.
+const FRAMES: u32 = 1_000_000;
+
+/// How many addresses are learned.
+const ADDRESSES: u32 = 1_024;
+
+/// A frame of 60 octets with an RST BPDU.
+const HELLO: [u8; 60] = [
+    0x01, 0x80, 0xC2, 0x00, 0x00, 0x00, 0x02, 0x00, 0x00, 0x00, 0x00, 0x0A, 0x00, 0x27, 0x42, 0x42,
+    0x03, 0x00, 0x00, 0x02, 0x02, 0x0E, 0x80, 0x00, 0x02, 0x00, 0x00, 0x00, 0x00, 0x0A, 0x00, 0x00,
+    0x00, 0x00, 0x80, 0x00, 0x02, 0x00, 0x00, 0x00, 0x00, 0x0A, 0x80, 0x01, 0x00, 0x00, 0x14, 0x00,
+    0x02, 0x00, 0x0F, 0x00, 0x00, 0x00, 0x00, 0x00, 0x00, 0x00, 0x00, 0x00,
+];
+
+/// Reads a frame with a BPDU over and over.
+pub fn measure_frames(rt: &HostRuntime) -> io::Result<()> {
+    let start = Instant::now(rt)?;
+    let mut read = 0u32;
+    for _ in 0..FRAMES {
+        if read_frame(black_box(&HELLO)).is_ok() {
+            read = read.saturating_add(1);
+        }
+    }
+    print_turns(rt, "frames read", read, &start)
+}
+
+// The addresses in an order that looks random: a step that meets each of 1,024 once.
+fn address_at(turn: u32) -> Mac {
+    let number = (turn % ADDRESSES * 389) % ADDRESSES;
+    let [_, _, high, low] = number.to_be_bytes();
+    Mac([0x02, 0x00, 0x00, 0x00, high, low])
+}
+
+/// Learns 1,024 addresses in random order, and finds each.
+pub fn measure_addresses(rt: &HostRuntime) -> io::Result<()> {
+    let mut table = Fdb::new(rt.alloc(), 1_024);
+    let start = Instant::now(rt)?;
+    for turn in 0..ADDRESSES {
+        black_box(table.learn(address_at(turn), 1));
+    }
+    print_turns(rt, "new addresses learned", ADDRESSES, &start)?;
+    let start = Instant::now(rt)?;
+    for turn in 0..ADDRESSES {
+        black_box(table.find(address_at(turn)));
+    }
+    print_turns(rt, "addresses found among 1024", ADDRESSES, &start)
+}
