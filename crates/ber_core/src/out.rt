@@ -5,6 +5,9 @@ use crate::reading::Tag;
 use crate::shortest::shortest_of;
 
 /// A writer that fills the slice that it was lent from the back, so that a value's content is written before its length.
+///
+/// The slice is shorter than 2^32 octets. A call that is refused leaves what is written, and the room for more, as they
+/// were.
 #[derive(Drop)]
 pub struct Out<'a> {
     pub room: &'a mut [u8],
@@ -37,6 +40,8 @@ impl<'a> Out<'a> {
     }
 
     /// Writes octets in front of those written.
+    ///
+    /// `NoRoom` where they do not fit.
     pub fn put_octets(&mut self, octets: &[u8]) -> Result<(), BerFault>
         ensures same_reference { self.new.room.ghost_name ≡ self.old.room.ghost_name }
         ensures puts { Prepends self.old self.new result octets.now }
@@ -51,7 +56,9 @@ impl<'a> Out<'a> {
         Ok(())
     }
 
-    /// Writes a tag and the shortest length in front of the content.
+    /// Writes a tag and the shortest length in front of a content of `len` octets (X.690, 8.1.3).
+    ///
+    /// `NoRoom` where they do not fit.
     #[tactic(auto, using(crate::proofs::Lengths::canon_1, crate::proofs::Lengths::canon_2, crate::proofs::Lengths::canon_3, crate::proofs::Lengths::canon_4))]
     pub fn put_tlv_head(&mut self, tag: Tag, len: usize) -> Result<(), BerFault>
         requires { len < 2 ^ 32 }
