@@ -2,3 +2,4 @@ pub mod Order
 pub mod Split
 pub mod Kept
 pub mod Steps
+pub mod Found

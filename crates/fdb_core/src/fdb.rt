@@ -1,5 +1,5 @@
 //! The table of learned addresses.
-ghost use Rattle.std.specs.Prelude.{◌≡◌, ◌≢◌, ◌≤◌, [], length, map};
+ghost use Rattle.std.specs.Prelude.{◌≡◌, ◌≢◌, ◌≤◌, [], length, map, Some};
 
 use crate::learnt::Learnt;
 use crate::row::{MAX_AGING_TIME, MIN_AGING_TIME, Row};
@@ -26,10 +26,10 @@ impl Model for Fdb {
 }
 
 impl Fdb {
-    ghost use Rattle.fdb_core.specs.Rows.{aged, port_of, next_after, young_rows, other_rows};
-    ghost use Rattle.fdb_core.specs.Learning.{answer, learned};
+    ghost use Rattle.fdb_core.specs.Rows.{aged, row_of, port_of, next_after, young_rows, other_rows};
+    ghost use Rattle.fdb_core.specs.Learning.{answer, learned, seen};
     ghost use Rattle.fdb_core.specs.Table.{Table, IsTable};
-    ghost use Rattle.fdb_core.specs.declared.learnt.Learnt.TheVariants.{New, Memory};
+    ghost use Rattle.fdb_core.specs.declared.learnt.Learnt.TheVariants.{New, Full, Memory};
 
     /// A table without rows, which will have at most `limit` of them. This takes no memory.
     pub fn new(alloc: Global, limit: usize) -> Fdb
@@ -65,6 +65,9 @@ impl Fdb {
         ensures answer { result ≢ Memory → result ≡ answer self.old.rows self.old.limit address port }
         // and `Memory` only for a new address that has a place.
         ensures memory { result ≡ Memory → answer self.old.rows self.old.limit address port ≡ New }
+        // So the address has this row, where there is a place for it, and each other address the row that it had.
+        ensures own { result ≢ Full → result ≢ Memory → row_of self.new.rows address ≡ Some (seen address port) }
+        ensures others { (other : Mac) → other ≢ address → row_of self.new.rows other ≡ row_of self.old.rows other }
     {
         rows::learn_in(&mut self.rows, self.limit, address, port)
     }

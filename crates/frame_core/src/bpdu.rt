@@ -5,7 +5,7 @@ ghost use Rattle.frame_core.specs.Layout.{role_number};
 use crate::mac::Mac;
 
 /// A bridge identifier (9.2.5): the priority, and then the address. Lower identifiers are better.
-#[derive(Clone, Copy, Debug, PartialEq, Eq, PartialOrd, Ord, Hash)]
+#[derive(Clone, Copy, Debug, Default, PartialEq, Eq, PartialOrd, Ord, Hash)]
 pub struct BridgeId {
     /// The priority, 0 to 65,535; the lower the better.
     pub priority: u16,
@@ -14,7 +14,7 @@ pub struct BridgeId {
 }
 
 /// A priority vector (17.5): its parts are compared as unsigned numbers in this order, and lower vectors are better.
-#[derive(Clone, Copy, Debug, PartialEq, Eq, PartialOrd, Ord, Hash)]
+#[derive(Clone, Copy, Debug, Default, PartialEq, Eq, PartialOrd, Ord, Hash)]
 pub struct PriorityVector {
     /// The bridge that is taken for the root.
     pub root: BridgeId,
@@ -27,7 +27,7 @@ pub struct PriorityVector {
 }
 
 /// The times of a BPDU (9.2.8), each in units of 1/256 second.
-#[derive(Clone, Copy, Debug, PartialEq, Eq, PartialOrd, Ord, Hash)]
+#[derive(Clone, Copy, Debug, Default, PartialEq, Eq, PartialOrd, Ord, Hash)]
 pub struct Times {
     pub message_age: u16,
     pub max_age: u16,

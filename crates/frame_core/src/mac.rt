@@ -4,7 +4,7 @@ ghost use Rattle.frame_core.specs.Octets.{is_group};
 
 /// An address of 48 bits, six octets in the order in which they are sent (IEEE 802.3, 3.2.3). Addresses are compared octet
 /// by octet.
-#[derive(Clone, Copy, Debug, PartialEq, Eq, PartialOrd, Ord, Hash)]
+#[derive(Clone, Copy, Debug, Default, PartialEq, Eq, PartialOrd, Ord, Hash)]
 pub struct Mac(pub [u8; 6]);
 
 /// The group address to which bridges send their BPDUs (IEEE 802.1D-2004, 7.12.3).

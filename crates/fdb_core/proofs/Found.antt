@@ -1,0 +1,116 @@
+-- Which row an address has once another was learned.
+use Rattle.std.proofs.Common.{◌≡◌, ◌≢◌, ℕ, Bool, true, false, cond, List, [], ◌∷◌, ◌++◌, Option, Some, None, refl, ap, ◌∙◌}
+use Rattle.std.specs.Prelude.{filter, find}
+use Rattle.std.specs.Ordering.{is_lt, is_eq, is_gt}
+use Rattle.std.specs.declared.cmp.Ordering.{Ordering}
+use Rattle.std.specs.declared.cmp.Ordering.TheVariants.{Less, Equal, Greater}
+use Rattle.std.proofs.lemmas.Cmp.{nat_list_cmp_total, tied_itself}
+use Rattle.frame_core.specs.declared.mac.Mac.{Mac}
+use Rattle.fdb_core.specs.declared.row.Row.{Row}
+use Rattle.fdb_core.specs.declared.learnt.Learnt.{Learnt}
+use Rattle.fdb_core.specs.declared.learnt.Learnt.TheVariants.{New, Moved, Same, Full, Memory}
+use Rattle.fdb_core.specs.Rows.{address_cmp, rows_below, rows_above, row_of}
+use Rattle.fdb_core.specs.Learning.{with_row, seen, learned}
+use Rattle.fdb_core.proofs.Order.{same_address, above_from_below, below_from_above}
+
+not_true : (b : Bool) → (b ≡ true → ⊥) → b ≡ false
+not_true true h = absurd (h refl)
+not_true false h = refl
+
+is_equal : (o : Ordering) → is_eq o ≡ true → o ≡ Equal
+is_equal Less h = cc
+is_equal Equal h = refl
+is_equal Greater h = cc
+
+abbrev first_of : Option Row → Option Row → Option Row
+first_of None o = o
+first_of (Some r) o = Some r
+
+module _ (p : Row → Bool) where
+  found_joined : (xs ys : List Row) → find p (xs ++ ys) ≡ first_of (find p xs) (find p ys)
+  found_joined [] ys = refl
+  found_joined (x ∷ xs) ys =
+      let more = found_joined xs ys in
+      elim (p x) as (λ b. cond b (Some x) (find p (xs ++ ys)) ≡ first_of (cond b (Some x) (find p xs)) (find p ys)) [ true ↦ refl | false ↦ more ]
+
+  kept_step : (x : Row) (xs ys : List Row) (d : Bool) → (p x ≡ true → d ≡ true) → find p ys ≡ find p xs → find p (cond d (x ∷ ys) ys) ≡ cond (p x) (Some x) (find p xs)
+  kept_step x xs ys true h e = ap (λ o. cond (p x) (Some x) o) e
+  kept_step x xs ys false h e =
+      let no : p x ≡ false = not_true (p x) (λ t. let bad = h t in cc) in
+      rw no e
+
+  dropped_step : (x : Row) (ys : List Row) (d : Bool) → (p x ≡ true → d ≡ false) → find p ys ≡ None → find p (cond d (x ∷ ys) ys) ≡ None
+  dropped_step x ys false h e = e
+  dropped_step x ys true h e =
+      let no : p x ≡ false = not_true (p x) (λ t. let bad = h t in cc) in
+      rw no e
+
+  module _ (q : Row → Bool) where
+    -- a filter that keeps what is sought, and one that drops it
+    found_kept : ((x : Row) → p x ≡ true → q x ≡ true) → (xs : List Row) → find p (filter q xs) ≡ find p xs
+    found_kept keeps [] = refl
+    found_kept keeps (x ∷ xs) = kept_step x xs (filter q xs) (q x) (keeps x) (found_kept keeps xs)
+
+    found_dropped : ((x : Row) → p x ≡ true → q x ≡ false) → (xs : List Row) → find p (filter q xs) ≡ None
+    found_dropped drops [] = refl
+    found_dropped drops (x ∷ xs) = dropped_step x (filter q xs) (q x) (drops x) (found_dropped drops xs)
+
+-- how a row of an address compares with another address
+compares : (x : Row) (a b : Mac) → is_eq (address_cmp x.address b) ≡ true → address_cmp x.address a ≡ address_cmp b a
+compares x a b e = ap (λ (m : Mac). address_cmp m a) (same_address x.address b (is_equal _ e))
+
+first_none : (o : Option Row) → first_of o None ≡ o
+first_none None = refl
+first_none (Some r) = refl
+
+module _ (rows : List Row) (r : Row) (b : Mac) where
+  parts : row_of (with_row rows r) b ≡ first_of (row_of (rows_below rows r.address) b) (row_of (r ∷ rows_above rows r.address) b)
+  parts = found_joined (λ x. is_eq (address_cmp x.address b)) (rows_below rows r.address) (r ∷ rows_above rows r.address)
+
+  below_it : address_cmp b r.address ≡ Less → row_of (with_row rows r) b ≡ row_of rows b
+  below_it e =
+      let kept : row_of (rows_below rows r.address) b ≡ row_of rows b = found_kept (λ x. is_eq (address_cmp x.address b)) (λ x. is_lt (address_cmp x.address r.address)) (λ x h. ap is_lt (compares x r.address b h ∙ e)) rows in
+      let dropped : row_of (rows_above rows r.address) b ≡ None = found_dropped (λ x. is_eq (address_cmp x.address b)) (λ x. is_gt (address_cmp x.address r.address)) (λ x h. ap is_gt (compares x r.address b h ∙ e)) rows in
+      let here : address_cmp r.address b ≡ Greater = above_from_below b r.address e in
+      let back : row_of (r ∷ rows_above rows r.address) b ≡ None = rw here dropped in
+      parts ∙ ap (λ o. first_of (row_of (rows_below rows r.address) b) o) back ∙ first_none _ ∙ kept
+
+  above_it : address_cmp b r.address ≡ Greater → row_of (with_row rows r) b ≡ row_of rows b
+  above_it e =
+      let dropped : row_of (rows_below rows r.address) b ≡ None = found_dropped (λ x. is_eq (address_cmp x.address b)) (λ x. is_lt (address_cmp x.address r.address)) (λ x h. ap is_lt (compares x r.address b h ∙ e)) rows in
+      let kept : row_of (rows_above rows r.address) b ≡ row_of rows b = found_kept (λ x. is_eq (address_cmp x.address b)) (λ x. is_gt (address_cmp x.address r.address)) (λ x h. ap is_gt (compares x r.address b h ∙ e)) rows in
+      let here : address_cmp r.address b ≡ Less = below_from_above b r.address e in
+      let back : row_of (r ∷ rows_above rows r.address) b ≡ row_of rows b = rw here kept in
+      parts ∙ ap (λ o. first_of o (row_of (r ∷ rows_above rows r.address) b)) dropped ∙ back
+
+  by_order : (o : Ordering) → address_cmp b r.address ≡ o → b ≢ r.address → row_of (with_row rows r) b ≡ row_of rows b
+  by_order Less e other = below_it e
+  by_order Equal e other = absurd (other (same_address b r.address e))
+  by_order Greater e other = above_it e
+
+-- each other address has the row that it had
+others_keep : (rows : List Row) (r : Row) (b : Mac) → b ≢ r.address → row_of (with_row rows r) b ≡ row_of rows b
+others_keep rows r b other = by_order rows r b (address_cmp b r.address) refl other
+
+-- and this one has its own
+its_own : (rows : List Row) (r : Row) → row_of (with_row rows r) r.address ≡ Some r
+its_own rows r =
+    let a = r.address in
+    let equal : address_cmp a a ≡ Equal = tied_itself nat_list_cmp_total a.0 in
+    let dropped : row_of (rows_below rows a) a ≡ None = found_dropped (λ x. is_eq (address_cmp x.address a)) (λ x. is_lt (address_cmp x.address a)) (λ x h. ap is_lt (is_equal _ h)) rows in
+    let back : row_of (r ∷ rows_above rows a) a ≡ Some r = rw equal refl in
+    parts rows r a ∙ ap (λ o. first_of o (row_of (r ∷ rows_above rows a) a)) dropped ∙ back
+
+pub learned_others : (l : Learnt) (rows : List Row) (a : Mac) (port : ℕ) (b : Mac) → b ≢ a → row_of (learned l rows a port) b ≡ row_of rows b
+learned_others New rows a port b other = others_keep rows (seen a port) b other
+learned_others Moved rows a port b other = others_keep rows (seen a port) b other
+learned_others Same rows a port b other = others_keep rows (seen a port) b other
+learned_others Full rows a port b other = refl
+learned_others Memory rows a port b other = refl
+
+pub learned_here : (l : Learnt) (rows : List Row) (a : Mac) (port : ℕ) → l ≢ Full → l ≢ Memory → row_of (learned l rows a port) a ≡ Some (seen a port)
+learned_here New rows a port full memory = its_own rows (seen a port)
+learned_here Moved rows a port full memory = its_own rows (seen a port)
+learned_here Same rows a port full memory = its_own rows (seen a port)
+learned_here Full rows a port full memory = absurd (full refl)
+learned_here Memory rows a port full memory = absurd (memory refl)
