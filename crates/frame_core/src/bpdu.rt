@@ -1,61 +1,85 @@
+//! BPDUs and their parameters (IEEE 802.1D-2004, 9.2 and 9.3).
 use crate::mac::Mac;
 
-/// A bridge identifier (IEEE 802.1D-2004 9.2.5): compared as one unsigned number of eight octets,
-/// which is the order of its fields.
-#[derive(Clone, Copy, Debug, Default, PartialEq, Eq, PartialOrd, Ord)]
+/// A bridge identifier (9.2.5): the priority, and then the address. Lower identifiers are better.
+#[derive(Clone, Copy, Debug, PartialEq, Eq, PartialOrd, Ord, Hash)]
 pub struct BridgeId {
+    /// The priority, 0 to 65,535; the lower the better.
     pub priority: u16,
+    /// The bridge's own address.
     pub address: Mac,
 }
 
-/// A Configuration BPDU (IEEE 802.1D-2004 9.3.1). Times are in 1/256 s.
-#[derive(Clone, Copy, Debug, PartialEq, Eq)]
-pub struct Config {
+/// A priority vector (17.5): its parts are compared as unsigned numbers in this order, and lower vectors are better.
+#[derive(Clone, Copy, Debug, PartialEq, Eq, PartialOrd, Ord, Hash)]
+pub struct PriorityVector {
+    /// The bridge that is taken for the root.
     pub root: BridgeId,
+    /// The cost of the path to the root, from the sending bridge on.
     pub cost: u32,
+    /// The bridge that sends.
     pub bridge: BridgeId,
+    /// The port that sends: its priority in the highest octet, its number below.
     pub port: u16,
+}
+
+/// The times of a BPDU (9.2.8), each in units of 1/256 second.
+#[derive(Clone, Copy, Debug, PartialEq, Eq, PartialOrd, Ord, Hash)]
+pub struct Times {
     pub message_age: u16,
     pub max_age: u16,
     pub hello: u16,
     pub forward_delay: u16,
-    pub topology_change: bool,
-    pub proposal: bool,
-    pub acknowledgment: bool,
 }
 
-/// The port role of an RST BPDU (IEEE 802.1D-2004 9.2.9).
-#[derive(Clone, Copy, Debug, PartialEq, Eq)]
-pub enum SaidRole {
+/// The role of the port that sends an RST BPDU (9.2.9).
+#[derive(Clone, Copy, Debug, PartialEq, Eq, PartialOrd, Ord, Hash)]
+pub enum PortRole {
     Unknown,
     AlternateOrBackup,
     Root,
     Designated,
 }
 
-/// A Rapid Spanning Tree BPDU (IEEE 802.1D-2004 9.3.3). Times are in 1/256 s.
-#[derive(Clone, Copy, Debug, PartialEq, Eq)]
-pub struct Rapid {
-    pub root: BridgeId,
-    pub cost: u32,
-    pub bridge: BridgeId,
-    pub port: u16,
-    pub message_age: u16,
-    pub max_age: u16,
-    pub hello: u16,
-    pub forward_delay: u16,
+/// What a Configuration BPDU says (9.3.1).
+#[derive(Clone, Copy, Debug, PartialEq, Eq, Hash)]
+pub struct Config {
+    /// The flag of a topology change.
     pub topology_change: bool,
+    /// The flag of a proposal. The sender's version has no such flag; it is kept as it stands.
     pub proposal: bool,
-    pub role: SaidRole,
-    pub learning: bool,
-    pub forwarding: bool,
-    pub agreement: bool,
+    /// The flag that acknowledges a topology change notification.
+    pub acknowledge: bool,
+    pub vector: PriorityVector,
+    pub times: Times,
 }
 
-/// A BPDU.
-#[derive(Clone, Copy, Debug, PartialEq, Eq)]
+/// What an RST BPDU says (9.3.3). Its bit of acknowledgment is not used: it is not looked at, and sent as 0.
+#[derive(Clone, Copy, Debug, PartialEq, Eq, Hash)]
+pub struct Rapid {
+    /// The flag of a topology change.
+    pub topology_change: bool,
+    /// The flag of a proposal.
+    pub proposal: bool,
+    /// The role of the port that sends.
+    pub role: PortRole,
+    /// Whether the port that sends learns addresses.
+    pub learning: bool,
+    /// Whether the port that sends forwards frames.
+    pub forwarding: bool,
+    /// The flag of an agreement.
+    pub agreement: bool,
+    pub vector: PriorityVector,
+    pub times: Times,
+}
+
+/// A message between bridges (9.3).
+#[derive(Clone, Copy, Debug, PartialEq, Eq, Hash)]
 pub enum Bpdu {
+    /// A Configuration BPDU.
     Config(Config),
+    /// A Topology Change Notification BPDU (9.3.2).
     TopologyChange,
+    /// A Rapid Spanning Tree BPDU.
     Rapid(Rapid),
 }

@@ -1,5 +1,8 @@
-//! Addresses and bridge protocol data units (BPDUs), IEEE 802.1D-2004 clause 9.
+//! Addresses and BPDUs (IEEE 802.1D-2004, clause 9).
 #![tactic(auto)]
 
-pub mod bpdu;
-pub mod mac;
+mod bpdu;
+mod mac;
+
+pub use bpdu::{Bpdu, BridgeId, Config, PortRole, PriorityVector, Rapid, Times};
+pub use mac::{BRIDGE_GROUP, Mac};

@@ -1,5 +1,8 @@
-/// A MAC address, in the order of its octets (IEEE 802).
-#[derive(Clone, Copy, Debug, Default, PartialEq, Eq, PartialOrd, Ord)]
-pub struct Mac {
-    pub octets: [u8; 6],
-}
+//! Addresses of 48 bits.
+/// An address of 48 bits, six octets in the order in which they are sent (IEEE 802.3, 3.2.3). Addresses are compared octet
+/// by octet.
+#[derive(Clone, Copy, Debug, PartialEq, Eq, PartialOrd, Ord, Hash)]
+pub struct Mac(pub [u8; 6]);
+
+/// The group address to which bridges send their BPDUs (IEEE 802.1D-2004, 7.12.3).
+pub const BRIDGE_GROUP: Mac = Mac([0x01, 0x80, 0xC2, 0x00, 0x00, 0x00]);

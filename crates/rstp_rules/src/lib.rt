@@ -1,13 +1,17 @@
-// A library with one function.
+//! The rules of the Rapid Spanning Tree Protocol for one port (IEEE 802.1D-2004 clause 17): the types
+//! of a port, and one small function for each rule. What all ports do together is in `rstp_core`.
 #![tactic(auto)]
 
-ghost use Rattle.std.specs.Prelude.{◌≡◌};
-ghost use Rattle.rstp_rules.specs.Echo.{echo_of};
-
-// The `ensures` clause is the contract: what `echo` returns is `echo_of` of its argument, a definition
-// in `specs/Echo.antt`, which a caller's clause can cite too.
-pub fn echo(x: usize) -> usize
-    ensures { result ≡ echo_of x }
-{
-    x
-}
+pub mod arrivals;
+pub mod bpdus;
+pub mod config;
+pub mod lines;
+pub mod port;
+pub mod restarts;
+pub mod roles;
+pub mod row;
+pub mod sends;
+pub mod settled;
+pub mod ticks;
+pub mod transitions;
+pub mod vector;
