@@ -20,7 +20,6 @@ use Rattle.rstp_rules.specs.declared.row.Context.{Context}
 use Rattle.rstp_rules.specs.declared.row.Timing.{Timing}
 use Rattle.rstp_rules.specs.declared.settled.Timers.{Timers}
 use Rattle.rstp_rules.specs.declared.settled.SettledPort.{SettledPort}
-use Rattle.rstp_rules.specs.declared.settled.Settled.{Settled}
 use Rattle.rstp_rules.specs.Vectors.{port_id}
 use Rattle.rstp_rules.specs.Ports.{is_root}
 

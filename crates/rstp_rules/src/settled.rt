@@ -1,6 +1,3 @@
-use arrayvec::ArrayVec;
-use rstp_settings::settings::MAX_PORTS;
-
 /// The three times of the settings (IEEE 802.1D-2004 17.14), in 1/100 s.
 #[derive(Clone, Copy, Debug, Default, PartialEq, Eq)]
 pub struct Timers {
@@ -14,13 +11,4 @@ pub struct Timers {
 pub struct SettledPort {
     pub enabled: bool,
     pub edge: bool,
-}
-
-/// What is kept of the settings when they are settled. The next settling finds by it what has changed.
-#[derive(Debug, Drop)]
-pub struct Settled {
-    /// The version: 0 or 2.
-    pub version: u32,
-    pub timers: Timers,
-    pub ports: ArrayVec<SettledPort, MAX_PORTS>,
 }

@@ -140,9 +140,10 @@ impl Settings {
 
     /// The number of ports.
     pub fn ports(&self) -> usize
-        ensures { result ≡ length self.now.ports }
+        ensures count { result ≡ length self.now.ports }
+        ensures few { result ≤ MAX_PORTS }
     {
-        self.ports.len()
+        self.ports.as_slice().len()
     }
 
     /// The value of a setting that there is, in the unit of its key.
