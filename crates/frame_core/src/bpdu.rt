@@ -1,4 +1,7 @@
 //! BPDUs and their parameters (IEEE 802.1D-2004, 9.2 and 9.3).
+ghost use Rattle.std.specs.Prelude.{◌≡◌, ◌<◌};
+ghost use Rattle.frame_core.specs.Layout.{role_number};
+
 use crate::mac::Mac;
 
 /// A bridge identifier (9.2.5): the priority, and then the address. Lower identifiers are better.
@@ -39,6 +42,33 @@ pub enum PortRole {
     AlternateOrBackup,
     Root,
     Designated,
+}
+
+impl PortRole {
+    /// The role that two bits of the flags stand for.
+    pub fn from_number(number: u8) -> PortRole
+        requires { number < 4 }
+        ensures { role_number result ≡ number }
+    {
+        match number {
+            0 => PortRole::Unknown,
+            1 => PortRole::AlternateOrBackup,
+            2 => PortRole::Root,
+            _ => PortRole::Designated,
+        }
+    }
+
+    /// The two bits of the flags that stand for the role.
+    pub fn number(self) -> u8
+        ensures { result ≡ role_number self }
+    {
+        match self {
+            PortRole::Unknown => 0,
+            PortRole::AlternateOrBackup => 1,
+            PortRole::Root => 2,
+            PortRole::Designated => 3,
+        }
+    }
 }
 
 /// What a Configuration BPDU says (9.3.1).

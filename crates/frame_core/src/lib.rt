@@ -1,8 +1,21 @@
-//! Addresses and BPDUs (IEEE 802.1D-2004, clause 9).
+//! Ethernet frames and spanning tree BPDUs as octets: addresses, what a bridge reads of a frame, and the frames in which
+//! it sends its BPDUs (IEEE 802.1D-2004, clause 9; IEEE 802.3, 3.2). Nothing here takes memory.
 #![tactic(auto)]
 
 mod bpdu;
+mod fault;
+mod frame;
+mod layout;
 mod mac;
+mod reading;
+mod writing;
 
 pub use bpdu::{Bpdu, BridgeId, Config, PortRole, PriorityVector, Rapid, Times};
+pub use fault::FrameFault;
+pub use frame::{FrameIn, MAX_FRAME_LEN, MIN_FRAME_LEN, SENT_FRAME_LEN};
 pub use mac::{BRIDGE_GROUP, Mac};
+pub use reading::read_frame;
+pub use writing::write_bpdu;
+
+#[cfg(test)]
+mod tests;

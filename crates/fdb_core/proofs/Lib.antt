@@ -1,0 +1,4 @@
+pub mod Order
+pub mod Split
+pub mod Kept
+pub mod Steps

@@ -1,0 +1,40 @@
+-- What learning an address does (IEEE 802.1D-2004, 7.8).
+use Rattle.std.specs.Prelude.{ℕ, ◌==◌, nat_lt, if◌then◌else◌, List, ◌∷◌, ◌++◌, length, Option, Some, None}
+use Rattle.frame_core.specs.declared.mac.Mac.{Mac}
+use Rattle.fdb_core.specs.declared.row.Row.{Row}
+use Rattle.fdb_core.specs.declared.learnt.Learnt.{Learnt}
+use Rattle.fdb_core.specs.declared.learnt.Learnt.TheVariants.{New, Moved, Same, Full, Memory}
+use Rattle.fdb_core.specs.Rows.{rows_below, rows_above, port_of}
+
+-- a row in its place: the rows of lower addresses, the row, and the rows of higher addresses
+abbrev pub with_row : List Row → Row → List Row
+with_row rows row = rows_below rows row.address ++ row ∷ rows_above rows row.address
+
+-- a row of this port, seen just now
+abbrev pub seen : Mac → ℕ → Row
+seen address port = record { address = address; port = port; age = 0 }
+
+-- a row after its address was seen on this port
+abbrev pub seen_again : Row → ℕ → Row
+seen_again row port = record row { port = port; age = 0 }
+
+-- where an address is known on the first port, and is seen on the second
+abbrev pub answer_on : ℕ → ℕ → Learnt
+answer_on known port = if known == port then Same else Moved
+
+-- where an address is known on this port, or on none
+abbrev pub answer_from : Option ℕ → List Row → ℕ → ℕ → Learnt
+answer_from (Some known) rows limit port = answer_on known port
+answer_from None rows limit port = if nat_lt (length rows) limit then New else Full
+
+-- what learning answers where there is memory
+abbrev pub answer : List Row → ℕ → Mac → ℕ → Learnt
+answer rows limit address port = answer_from (port_of rows address) rows limit port
+
+-- the rows after an answer
+abbrev pub learned : Learnt → List Row → Mac → ℕ → List Row
+learned New rows address port = with_row rows (seen address port)
+learned Moved rows address port = with_row rows (seen address port)
+learned Same rows address port = with_row rows (seen address port)
+learned Full rows address port = rows
+learned Memory rows address port = rows

@@ -1,0 +1,55 @@
+-- The rows of learned addresses (IEEE 802.1D-2004, 7.9.2), by rising address.
+use Rattle.std.specs.Prelude.{ℕ, ◌+◌, ◌<◌, not, ◌==◌, nat_lt, List, filter, find, slice_get, Option, Some, None}
+use Rattle.std.specs.List.{AllByRecursion}
+use Rattle.std.specs.List.Sorted.{IsStrictlySortedBy}
+use Rattle.std.specs.Option.{option_map}
+use Rattle.std.specs.Ordering.{nat_cmp, is_lt, is_eq, is_gt}
+use Rattle.std.specs.declared.cmp.Ordering.{Ordering}
+use Rattle.std.specs.Cmp.Lexicographic.{slice_cmp}
+use Rattle.frame_core.specs.declared.mac.Mac.{Mac}
+use Rattle.fdb_core.specs.declared.row.Row.{Row}
+use Rattle.fdb_core.specs.declared.row.TheConstants.{MAX_AGING_TIME}
+
+-- addresses are compared octet by octet
+abbrev pub address_cmp : Mac → Mac → Ordering
+address_cmp a b = slice_cmp nat_cmp a.0 b.0
+
+-- each address is below those of all later rows, so none comes twice
+abbrev pub IsRising : List Row → Type 0
+IsRising rows = IsStrictlySortedBy (λ r s. address_cmp r.address s.address) rows
+
+-- each age is below the longest aging time
+abbrev pub IsYoung : List Row → Type 0
+IsYoung rows = AllByRecursion (λ r. r.age < MAX_AGING_TIME) rows
+
+-- the rows of lower addresses, and those of higher ones
+abbrev pub rows_below : List Row → Mac → List Row
+rows_below rows address = filter (λ r. is_lt (address_cmp r.address address)) rows
+
+abbrev pub rows_above : List Row → Mac → List Row
+rows_above rows address = filter (λ r. is_gt (address_cmp r.address address)) rows
+
+-- the row of the address
+abbrev pub row_of : List Row → Mac → Option Row
+row_of rows address = find (λ r. is_eq (address_cmp r.address address)) rows
+
+-- its port
+abbrev pub port_of : List Row → Mac → Option ℕ
+port_of rows address = option_map (λ r. r.port) (row_of rows address)
+
+-- the first row, or the first above an address
+abbrev pub next_after : List Row → Option Mac → Option Row
+next_after rows None = slice_get rows 0
+next_after rows (Some address) = slice_get (rows_above rows address) 0
+
+-- a row one second later
+abbrev pub aged : Row → Row
+aged r = record r { age = r.age + 1 }
+
+-- the rows whose age is below the limit
+abbrev pub young_rows : ℕ → List Row → List Row
+young_rows limit rows = filter (λ r. nat_lt r.age limit) rows
+
+-- the rows of other ports
+abbrev pub other_rows : ℕ → List Row → List Row
+other_rows port rows = filter (λ r. not (r.port == port)) rows

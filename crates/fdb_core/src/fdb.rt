@@ -1,0 +1,101 @@
+//! The table of learned addresses.
+ghost use Rattle.std.specs.Prelude.{◌≡◌, ◌≢◌, ◌≤◌, [], length, map};
+
+use crate::learnt::Learnt;
+use crate::row::{MAX_AGING_TIME, MIN_AGING_TIME, Row};
+use crate::rows;
+use frame_core::Mac;
+use std::alloc::Global;
+use std::marker::Model;
+
+/// The table of learned addresses, seen as the list of its rows by rising address and the most rows that it may have.
+#[derive(Drop)]
+pub struct Fdb {
+    rows: Vec<Row>,
+    limit: usize,
+}
+
+impl Model for Fdb {
+    ghost use Rattle.fdb_core.specs.Table.{Table, IsTable};
+
+    ghost Value = { Table };
+
+    ghost view = { λ f. record { rows = f.rows.items; limit = f.limit } };
+
+    ghost invariant = { λ f. IsTable (record { rows = f.rows.items; limit = f.limit }) };
+}
+
+impl Fdb {
+    ghost use Rattle.fdb_core.specs.Rows.{aged, port_of, next_after, young_rows, other_rows};
+    ghost use Rattle.fdb_core.specs.Learning.{answer, learned};
+    ghost use Rattle.fdb_core.specs.Table.{Table, IsTable};
+    ghost use Rattle.fdb_core.specs.declared.learnt.Learnt.TheVariants.{New, Memory};
+
+    /// A table without rows, which will have at most `limit` of them. This takes no memory.
+    pub fn new(alloc: Global, limit: usize) -> Fdb
+        ensures { result ≡ record { rows = []; limit = limit } }
+    {
+        Fdb {
+            rows: Vec::new(alloc),
+            limit,
+        }
+    }
+
+    /// The rows, by rising address.
+    pub fn rows(&self) -> &[Row]
+        ensures rows { result.now ≡ self.now.rows }
+        ensures table { IsTable self.now }
+    {
+        &self.rows
+    }
+
+    /// How many rows there are.
+    pub fn len(&self) -> usize
+        ensures { result ≡ length self.now.rows }
+    {
+        self.rows.len()
+    }
+
+    /// Learns that a frame from the address came in on the port: its row is of this port and of age 0. Only a new address
+    /// takes memory, and that before anything changes.
+    pub fn learn(&mut self, address: Mac, port: u16) -> Learnt
+        // The whole list: a row of the address in its place, or nothing changed.
+        ensures rows { self.new ≡ record self.old { rows = learned result self.old.rows address port } }
+        // Which answer it is,
+        ensures answer { result ≢ Memory → result ≡ answer self.old.rows self.old.limit address port }
+        // and `Memory` only for a new address that has a place.
+        ensures memory { result ≡ Memory → answer self.old.rows self.old.limit address port ≡ New }
+    {
+        rows::learn_in(&mut self.rows, self.limit, address, port)
+    }
+
+    /// The port of the address's row, if it has one.
+    pub fn find(&self, address: Mac) -> Option<u16>
+        ensures { result ≡ port_of self.now.rows address }
+    {
+        rows::port_at(&self.rows, address)
+    }
+
+    /// Lets one second pass: each row is a second older, and those whose age has come to the limit go.
+    pub fn age(&mut self, limit: u32)
+        requires least { MIN_AGING_TIME ≤ limit }
+        requires most { limit ≤ MAX_AGING_TIME }
+        ensures { self.new ≡ record self.old { rows = young_rows limit (map aged self.old.rows) } }
+    {
+        rows::age_in(&mut self.rows, limit);
+    }
+
+    /// Removes the rows of a port.
+    pub fn flush_port(&mut self, port: u16)
+        ensures { self.new ≡ record self.old { rows = other_rows port self.old.rows } }
+    {
+        rows::flush_in(&mut self.rows, port);
+    }
+
+    /// The row of the lowest address above this one, or of the lowest address of all.
+    pub fn next_after(&self, after: Option<Mac>) -> Option<Row>
+        ensures { result ≡ next_after self.now.rows after }
+    {
+        rows::row_after(&self.rows, after)
+    }
+}

@@ -1,0 +1,81 @@
+//! A full table, ageing, flushing and a walk.
+use crate::*;
+use frame_core::Mac;
+use std::process::Abort;
+
+const ROWS: u16 = 1_024;
+
+// Addresses that rise with their number.
+fn numbered(number: u16) -> Mac {
+    let [high, low] = number.to_be_bytes();
+    Mac([0x02, 0x00, 0x00, 0x00, high, low])
+}
+
+// Learns the numbers from 0 on in an order that is far from rising, each on port 1 or 2.
+fn learn_all(rt: &impl Abort, fdb: &mut Fdb) {
+    for turn in 0..ROWS {
+        let number = (turn % 32) * 32 + turn / 32;
+        assert_eq!(rt; fdb.learn(numbered(number), 1 + number % 2), Learnt::New);
+    }
+}
+
+#[test]
+fn a_full_table_moves_and_refuses(rt: HostRuntime) {
+    let mut fdb = Fdb::new(rt.alloc(), usize::from(ROWS));
+    learn_all(&rt, &mut fdb);
+    assert_eq!(rt; fdb.len(), usize::from(ROWS));
+    assert_eq!(rt; fdb.learn(numbered(5_000), 1), Learnt::Full);
+    assert_eq!(rt; fdb.find(numbered(5_000)), None);
+    assert_eq!(rt; fdb.learn(numbered(7), 9), Learnt::Moved);
+    assert_eq!(rt; fdb.find(numbered(7)), Some(9));
+}
+
+#[test]
+fn a_walk_gives_all_rows_in_order(rt: HostRuntime) {
+    let mut fdb = Fdb::new(rt.alloc(), usize::from(ROWS));
+    learn_all(&rt, &mut fdb);
+    let mut after = None;
+    for number in 0..ROWS {
+        let row = Row {
+            address: numbered(number),
+            port: 1 + number % 2,
+            age: 0,
+        };
+        assert_eq!(rt; fdb.next_after(after), Some(row));
+        after = Some(row.address);
+    }
+    assert_eq!(rt; fdb.next_after(after), None);
+    assert_eq!(rt;
+        fdb.next_after(Some(Mac([0x02, 0x00, 0x00, 0x00, 0x00, 0x00]))),
+        fdb.rows().get(1).copied()
+    );
+}
+
+#[test]
+fn a_row_seen_again_is_young(rt: HostRuntime) {
+    let mut fdb = Fdb::new(rt.alloc(), 2);
+    assert_eq!(rt; fdb.learn(numbered(1), 1), Learnt::New);
+    assert_eq!(rt; fdb.learn(numbered(2), 1), Learnt::New);
+    for _ in 0..9 {
+        fdb.age(10);
+    }
+    assert_eq!(rt; fdb.learn(numbered(1), 1), Learnt::Same);
+    fdb.age(10);
+    assert_eq!(rt; fdb.find(numbered(2)), None);
+    let row = Row {
+        address: numbered(1),
+        port: 1,
+        age: 1,
+    };
+    assert_eq!(rt; fdb.rows(), [row].as_slice());
+}
+
+#[test]
+fn a_flush_removes_the_rows_of_one_port(rt: HostRuntime) {
+    let mut fdb = Fdb::new(rt.alloc(), usize::from(ROWS));
+    learn_all(&rt, &mut fdb);
+    fdb.flush_port(1);
+    assert_eq!(rt; fdb.len(), 512);
+    assert_eq!(rt; fdb.find(numbered(2)), None);
+    assert_eq!(rt; fdb.find(numbered(3)), Some(2));
+}

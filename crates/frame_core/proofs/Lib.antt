@@ -1,0 +1,4 @@
+pub mod Puts
+pub mod Same
+pub mod Sent
+pub mod Bits

@@ -1,0 +1,4 @@
+pub mod Octets
+pub mod Layout
+pub mod Frames
+pub mod Sending

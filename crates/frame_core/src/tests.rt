@@ -1,0 +1,133 @@
+//! Worked frames, to the octet.
+use crate::*;
+
+mod vectors;
+
+// An RST BPDU of a designated port that proposes: flags 0E, and times of 0, 20, 2 and 15 seconds.
+const WORKED: [u8; 60] = [
+    0x01, 0x80, 0xC2, 0x00, 0x00, 0x00, 0x02, 0x00, 0x00, 0x00, 0x00, 0x0A, 0x00, 0x27, 0x42, 0x42,
+    0x03, 0x00, 0x00, 0x02, 0x02, 0x0E, 0x80, 0x00, 0x02, 0x00, 0x00, 0x00, 0x00, 0x0A, 0x00, 0x00,
+    0x00, 0x00, 0x80, 0x00, 0x02, 0x00, 0x00, 0x00, 0x00, 0x0A, 0x80, 0x01, 0x00, 0x00, 0x14, 0x00,
+    0x02, 0x00, 0x0F, 0x00, 0x00, 0x00, 0x00, 0x00, 0x00, 0x00, 0x00, 0x00,
+];
+
+// The same without its padding.
+const UNPADDED: [u8; 53] = [
+    0x01, 0x80, 0xC2, 0x00, 0x00, 0x00, 0x02, 0x00, 0x00, 0x00, 0x00, 0x0A, 0x00, 0x27, 0x42, 0x42,
+    0x03, 0x00, 0x00, 0x02, 0x02, 0x0E, 0x80, 0x00, 0x02, 0x00, 0x00, 0x00, 0x00, 0x0A, 0x00, 0x00,
+    0x00, 0x00, 0x80, 0x00, 0x02, 0x00, 0x00, 0x00, 0x00, 0x0A, 0x80, 0x01, 0x00, 0x00, 0x14, 0x00,
+    0x02, 0x00, 0x0F, 0x00, 0x00,
+];
+
+const OWN: Mac = Mac([0x02, 0x00, 0x00, 0x00, 0x00, 0x0A]);
+
+fn worked() -> Bpdu {
+    let own = BridgeId {
+        priority: 0x8000,
+        address: OWN,
+    };
+    Bpdu::Rapid(Rapid {
+        topology_change: false,
+        proposal: true,
+        role: PortRole::Designated,
+        learning: false,
+        forwarding: false,
+        agreement: false,
+        vector: PriorityVector {
+            root: own,
+            cost: 0,
+            bridge: own,
+            port: 0x8001,
+        },
+        times: Times {
+            message_age: 0x0000,
+            max_age: 0x1400,
+            hello: 0x0200,
+            forward_delay: 0x0F00,
+        },
+    })
+}
+
+fn worked_frame() -> FrameIn {
+    FrameIn {
+        destination: BRIDGE_GROUP,
+        source: OWN,
+        bpdu: Some(worked()),
+    }
+}
+
+#[test]
+fn writes_the_worked_frame(rt: HostRuntime) {
+    let mut frame = [0xFF; 60];
+    assert_eq!(rt; write_bpdu(&worked(), OWN, &mut frame), 60);
+    assert_eq!(rt; frame, WORKED);
+}
+
+#[test]
+fn reads_the_worked_frame_with_and_without_padding(rt: HostRuntime) {
+    assert_eq!(rt; read_frame(&WORKED), Ok(worked_frame()));
+    assert_eq!(rt; read_frame(&UNPADDED), Ok(worked_frame()));
+}
+
+#[test]
+fn refuses_a_frame_without_its_last_octet(rt: HostRuntime) {
+    assert_eq!(rt; read_frame(&WORKED[..52]), Err(FrameFault::BadBpdu));
+}
+
+// What the worked frame without its padding and with another octet at one place is read as.
+fn changed(place: usize, octet: u8) -> Result<FrameIn, FrameFault> {
+    let mut frame = UNPADDED;
+    if place < 53 {
+        frame[place] = octet;
+    }
+    read_frame(&frame)
+}
+
+#[test]
+fn refuses_another_length_type_or_version(rt: HostRuntime) {
+    for (place, octet) in [
+        (13, 0x26),
+        (20, 0x01),
+        (19, 0x01),
+        (14, 0x43),
+        (16, 0x13),
+        (18, 1),
+    ] {
+        assert_eq!(rt;
+            changed(place, octet),
+            Err(FrameFault::BadBpdu),
+            "octet {place}"
+        );
+    }
+}
+
+#[test]
+fn reads_a_later_version(rt: HostRuntime) {
+    assert_eq!(rt; changed(19, 0x03), Ok(worked_frame()));
+    assert_eq!(rt; changed(52, 0xFF), Ok(worked_frame()));
+}
+
+#[test]
+fn refuses_too_few_and_too_many_octets(rt: HostRuntime) {
+    assert_eq!(rt; read_frame(&[0x02, 0x00]), Err(FrameFault::Short));
+    assert_eq!(rt; read_frame(&WORKED[..13]), Err(FrameFault::Short));
+    assert_eq!(rt; read_frame(&[0xFF; 1_519]), Err(FrameFault::TooLong));
+}
+
+#[test]
+fn reads_only_the_addresses_of_another_frame(rt: HostRuntime) {
+    let frame = FrameIn {
+        destination: Mac([0xFF; 6]),
+        source: Mac([0xFF; 6]),
+        bpdu: None,
+    };
+    assert_eq!(rt; read_frame(&[0xFF; 14]), Ok(frame));
+    assert_eq!(rt; read_frame(&[0xFF; 1_518]), Ok(frame));
+}
+
+#[test]
+fn tells_group_addresses(rt: HostRuntime) {
+    assert!(rt; BRIDGE_GROUP.is_group());
+    assert!(rt; !OWN.is_group());
+    assert!(rt; PortRole::from_number(2) == PortRole::Root && PortRole::Root.number() == 2);
+}
