@@ -1,5 +1,5 @@
 -- What the settings come to: for a port (IEEE 802.1D-2004 6.4.3, 9.2.5, 9.2.7, 17.14), and as times in
--- force (17.13.3, 17.20).
+-- force (17.18.4, 17.18.7, 17.20.5 to 17.20.8).
 use Rattle.std.specs.Prelude.{ℕ, ◌+◌, ◌*◌, ◌/◌, ◌≤◌, Bool, true, false, ◌&&◌, ◌||◌, if◌then◌else◌, ◌==◌, min, max, List, Option, Some, None}
 use Rattle.std.specs.List.{find}
 use Rattle.frame_core.specs.declared.mac.Mac.{Mac}
@@ -95,7 +95,7 @@ timers_of s = record {
 abbrev pub set_times : Timers → Times
 set_times m = record { message_age = 0; max_age = in_256ths m.max_age; hello = in_256ths m.hello; forward_delay = in_256ths m.forward_delay }
 
--- 17.20.9, 17.21.25. The times in force: the settings where this bridge is root, and else those of the root port
+-- 17.18.7, 17.21.25. The times in force: the settings where this bridge is root, and else those of the root port
 -- with one second added to the message age, at most 65535.
 abbrev pub times_by : Timers → Option Row → Times
 times_by m None = set_times m

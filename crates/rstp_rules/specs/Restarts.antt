@@ -1,4 +1,5 @@
--- A port that starts anew, a link that changes, and settling the settings (IEEE 802.1D-2004 17.19, 17.23).
+-- A port that starts anew, a link that changes, and settling the settings (IEEE 802.1D-2004 17.19.13,
+-- 17.24, 17.25, 17.29.1).
 use Rattle.std.specs.Prelude.{ℕ, Bool, true, false, ◌&&◌, ◌||◌, not, if◌then◌else◌, ◌==◌}
 use Rattle.rstp_rules.specs.declared.row.Row.{Row}
 use Rattle.rstp_rules.specs.declared.port.Info.TheVariants.{Mine}

@@ -1,4 +1,6 @@
--- How the state of a port follows from its role (IEEE 802.1D-2004 17.24, 17.29, 17.30, 17.31).
+-- How the state of a port follows from its role (IEEE 802.1D-2004 17.29 to 17.31), in six steps, each taken for all
+-- ports before the next: a. blocked ports, b. changed roles, c. what is to be told, d. synchronization, e. the next
+-- state, f. topology changes.
 use Rattle.std.specs.Prelude.{ℕ, ◌+◌, ◌%◌, ◌^◌, Bool, true, false, ◌&&◌, ◌||◌, not, if◌then◌else◌, ◌==◌, List, map}
 use Rattle.std.specs.List.{list_any, list_all}
 use Rattle.rstp_rules.specs.declared.row.Row.{Row}

@@ -46,7 +46,8 @@ impl Row {
     fn record(&mut self, vector: &PriorityVector, times: &Times, proposal: bool)
         ensures { self.new ≡ recorded vector.now times.now proposal self.old }
     {
-        let same = is_same_vector(vector, &self.port.vector) && is_same_times(times, &self.port.times);
+        let same = is_same_vector(vector, &self.port.vector)
+            && is_same_times(times, &self.port.times);
         let port = &mut self.port;
         port.info = Info::Received;
         port.vector = *vector;

@@ -90,8 +90,10 @@ impl PortConfig {
             cost: self.cost_in_use(settings.get(Key::Port(number, PortKey::Cost))),
             enabled,
             on: enabled && link,
-            point_to_point: self
-                .is_point_to_point(settings.get(Key::Port(number, PortKey::PointToPoint))),
+            point_to_point: self.is_point_to_point(settings.get(Key::Port(
+                number,
+                PortKey::PointToPoint,
+            ))),
             edge: is_set_edge(settings, number),
             migrate: settings.get(Key::Port(number, PortKey::Migrate)) == 1,
             was_enabled: settled.enabled,

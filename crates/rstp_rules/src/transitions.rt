@@ -90,7 +90,7 @@ impl Row {
         self.announce(context);
     }
 
-    /// Synchronizes the port, where the root port was proposed to (17.29.2).
+    /// Synchronizes the port, where the root port was proposed to (17.21.14, 17.29.2).
     pub fn synchronize(&mut self, context: &Context)
         ensures { self.new ≡ synced context.now self.old }
     {

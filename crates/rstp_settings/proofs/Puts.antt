@@ -177,9 +177,9 @@ put-comm t (Port n k) (Port m l) v w d h i =
     ]) where
       here : eqb n m ≡ true → n ≡ m → set (set t.ports (n - 1) (with_port_value (get_or t.ports (n - 1) no_values) k v)) (m - 1) (with_port_value (get_or (set t.ports (n - 1) (with_port_value (get_or t.ports (n - 1) no_values) k v)) (m - 1) no_values) l w) ≡ set (set t.ports (m - 1) (with_port_value (get_or t.ports (m - 1) no_values) l w)) (n - 1) (with_port_value (get_or (set t.ports (m - 1) (with_port_value (get_or t.ports (m - 1) no_values) l w)) (n - 1) no_values) k v)
       here s e =
-        let apart : (eqb n m && same_port_key k l) ≡ false = same_key-false (Port n k) (Port m l) (same_key (Port n k) (Port m l)) refl d in
-        let keys : same_port_key k l ≡ false = rw s at apart in
-        rw (← e) (puts_here t.ports (n - 1) k l v w (omega (arith, h.0, h.1)) keys)
+          let apart : (eqb n m && same_port_key k l) ≡ false = same_key-false (Port n k) (Port m l) (same_key (Port n k) (Port m l)) refl d in
+          let keys : same_port_key k l ≡ false = rw s at apart in
+          rw (← e) (puts_here t.ports (n - 1) k l v w (omega (arith, h.0, h.1)) keys)
 
 same_port : (p q : PortValues) → ((k : PortKey) → port_value p k ≡ port_value q k) → p ≡ q
 same_port p q e =
@@ -208,8 +208,8 @@ table-ext t u same e =
     let b = same_bridge t.bridge u.bridge (λ k. e (Bridge k) tt) in
     let p = ext_get_or no_values t.ports u.ports same at in
     λ i. record { bridge = b i; ports = p i }
-    where
-      at : (i : ℕ) → i < length t.ports → get_or t.ports i no_values ≡ get_or u.ports i no_values
-      at i h = same_port (get_or t.ports i no_values) (get_or u.ports i no_values) (λ k.
+  where
+    at : (i : ℕ) → i < length t.ports → get_or t.ports i no_values ≡ get_or u.ports i no_values
+    at i h = same_port (get_or t.ports i no_values) (get_or u.ports i no_values) (λ k.
         let j : (i + 1) - 1 ≡ i = omega arith in
         rw j at (e (Port (i + 1) k) (omega arith, omega (arith, h))))

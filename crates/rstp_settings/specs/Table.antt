@@ -1,3 +1,4 @@
+-- The settings of a bridge as a finite map from keys to numbers (IEEE 802.1D-2004 17.13, 17.14).
 use Rattle.std.specs.Prelude.{◌≡◌, ℕ, ◌+◌, ◌-◌, ◌≤◌, ◌<◌, Bool, true, false, ◌&&◌, ◌==◌, List, length, slice_index_or, slice_set, replicate, map}
 use Rattle.rstp_settings.specs.declared.key.Key.{Key}
 use Rattle.rstp_settings.specs.declared.key.Key.TheVariants.{Bridge, Port}

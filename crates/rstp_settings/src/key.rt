@@ -22,7 +22,7 @@ pub enum BridgeKey {
 pub enum PortKey {
     /// Port priority: 0 to 240 in steps of 16, at first 128 (IEEE 802.1D-2004 17.14).
     Priority,
-    /// Administrative state (14.8.2.2): 1 is enabled, 2 is disabled, at first 1.
+    /// Administrative state (RFC 4188 dot1dStpPortEnable): 1 is enabled, 2 is disabled, at first 1.
     Enable,
     /// Path cost (17.14): 0 to 200000000, where 0 is the default cost of the port's speed, at first 0.
     Cost,

@@ -133,7 +133,8 @@ impl Settings {
 
     /// Puts each protocol migration check to 0, and changes no other setting.
     pub fn spend(&mut self)
-        ensures { self.new ≡ spent self.old }
+        ensures spent { self.new ≡ spent self.old }
+        ensures ports { length self.new.ports ≡ length self.old.ports }
     {
         spend_all(self.ports.as_mut_slice());
     }
@@ -164,6 +165,7 @@ impl Settings {
         requires value { IsInRange key value }
         ensures before { result ≡ get self.old key }
         ensures after { self.new ≡ put self.old key value }
+        ensures ports { length self.new.ports ≡ length self.old.ports }
     {
         let before = self.get(key);
         match key {
