@@ -1,0 +1,180 @@
+-- A port as the roles are about to be chosen, after an event's own part.
+use Rattle.std.proofs.Common.{◌≡◌, ℕ, Bool, true, false, cond, ◌&&◌, ◌||◌, not, ◌⊎◌, inl, inr, refl, sym, ap, subst, ◌∙◌, ◌≤◌}
+use Rattle.frame_core.specs.declared.bpdu.BridgeId.{BridgeId}
+use Rattle.frame_core.specs.declared.bpdu.PriorityVector.{PriorityVector}
+use Rattle.frame_core.specs.declared.bpdu.Times.{Times}
+use Rattle.frame_core.specs.declared.bpdu.Bpdu.{Bpdu}
+use Rattle.frame_core.specs.declared.bpdu.Bpdu.TheVariants.{Config, TopologyChange, Rapid}
+use Rattle.frame_core.specs.declared.bpdu.PortRole.{PortRole}
+use Rattle.frame_core.specs.declared.bpdu.PortRole.TheVariants as said
+use Rattle.rstp_rules.specs.declared.port.Role.TheVariants.{Disabled}
+use Rattle.rstp_rules.specs.declared.port.State.{State}
+use Rattle.rstp_rules.specs.declared.row.Line.{Line}
+use Rattle.rstp_rules.specs.declared.row.Row.{Row}
+use Rattle.rstp_rules.specs.declared.row.Timing.{Timing}
+use Rattle.rstp_rules.specs.Ports.{is_designated, is_root_or_designated, is_forwarding}
+use Rattle.rstp_rules.specs.Roles.{expired}
+use Rattle.rstp_rules.specs.Restarts.{restarted, switched, linked, is_renewed, renewed, edged, migrated, settled_anew}
+use Rattle.rstp_rules.specs.Arrivals.{is_taken, is_superior, marked, recorded, offered, answered, by_role, taken, received, acknowledged, told}
+use Rattle.rstp_rules.specs.Ticks.{ticked}
+use Rattle.rstp_rules.specs.Transitions.{started, spread}
+use Rattle.rstp_core.proofs.Keeps.{IsStill}
+
+-- Its number is n and its id is id; it was in the state st at the start of the event.
+pub record IsFresh (n tag : ℕ) (enabled : Bool) (st : State) (r : Row) : Type 0 where
+  pub number : r.line.number ≡ n
+  pub id : r.line.id ≡ tag
+  pub cost : 1 ≤ r.line.cost
+  pub on : r.line.on ≡ (enabled && r.port.link)
+  pub was : r.was.role ≡ r.port.role
+  pub still : IsStill r
+  pub off : r.line.on ≡ false → r.port.role ≡ Disabled
+  pub left : is_forwarding st ≡ true → (is_root_or_designated r.port.role ≡ true) ⊎ (r.flushed ≡ true)
+
+-- What a message, a tick and the ages keep.
+pub record Same (r q : Row) : Type 0 where
+  pub line : q.line ≡ r.line
+  pub was : q.was ≡ r.was
+  pub role : q.port.role ≡ r.port.role
+  pub state : q.port.state ≡ r.port.state
+  pub link : q.port.link ≡ r.port.link
+  pub flushed : r.flushed ≡ true → q.flushed ≡ true
+
+same : (r : Row) → Same r r
+same r = record { line = refl; was = refl; role = refl; state = refl; link = refl; flushed = λ e. e }
+
+Same-trans : (r q p : Row) → Same r q → Same q p → Same r p
+Same-trans r q p h i = record {
+  line = i.line ∙ h.line;
+  was = i.was ∙ h.was;
+  role = i.role ∙ h.role;
+  state = i.state ∙ h.state;
+  link = i.link ∙ h.link;
+  flushed = λ e. i.flushed (h.flushed e);
+}
+
+Same-if : (b : Bool) (r x y : Row) → Same r x → Same r y → Same r (cond b x y)
+Same-if true r x y h i = h
+Same-if false r x y h i = i
+
+pub Fresh-same : (n id : ℕ) (e : Bool) (st : State) (r q : Row) → IsFresh n id e st r → Same r q → IsFresh n id e st q
+Fresh-same n id e st r q h s = record {
+  number = ap (λ l. l.number) s.line ∙ h.number;
+  id = ap (λ l. l.id) s.line ∙ h.id;
+  cost = subst (λ (l : Line). 1 ≤ l.cost) (sym s.line) h.cost;
+  on = ap (λ l. l.on) s.line ∙ (h.on ∙ ap (λ k. e && k) (sym s.link));
+  was = ap (λ b. b.role) s.was ∙ (h.was ∙ sym s.role);
+  still = λ i. s.state ∙ h.still (ap is_root_or_designated (sym s.role) ∙ i);
+  off = λ i. s.role ∙ h.off (ap (λ l. l.on) (sym s.line) ∙ i);
+  left = λ i. elim (h.left i) [ inl a ↦ inl (ap is_root_or_designated s.role ∙ a) | inr f ↦ inr (s.flushed f) ];
+}
+
+-- the ages, and a tick
+pub expired-same : (r : Row) → Same r (expired r)
+expired-same r = Same-if _ r _ r (record { line = refl; was = refl; role = refl; state = refl; link = refl; flushed = λ e. e }) (same r)
+
+pub ticked-same : (r : Row) → Same r (ticked r)
+ticked-same r = record { line = refl; was = refl; role = refl; state = refl; link = refl; flushed = λ e. e }
+
+-- a message
+marked-same : (b : Bool) (r : Row) → Same r (marked b r)
+marked-same b r = record { line = refl; was = refl; role = refl; state = refl; link = refl; flushed = λ e. e }
+
+abbrev answering : Row → Row
+answering r = record r { port = record r.port { pending = true } }
+
+offered-same : (v : PriorityVector) (t : Times) (p : Bool) (r : Row) → Same r (offered v t p r)
+offered-same v t p r = Same-if (is_superior v r) r (recorded v t p r) (cond (is_designated r.port.role) (answering r) r) (record { line = refl; was = refl; role = refl; state = refl; link = refl; flushed = λ e. e }) (Same-if (is_designated r.port.role) r (answering r) r (record { line = refl; was = refl; role = refl; state = refl; link = refl; flushed = λ e. e }) (same r))
+
+answered-same : (v : PriorityVector) (a : Bool) (r : Row) → Same r (answered v a r)
+answered-same v a r = Same-if _ r _ r (record { line = refl; was = refl; role = refl; state = refl; link = refl; flushed = λ e. e }) (same r)
+
+by_role-same : (o : PortRole) (v : PriorityVector) (t : Times) (p a : Bool) (r : Row) → Same r (by_role o v t p a r)
+by_role-same said.Unknown v t p a r = same r
+by_role-same said.AlternateOrBackup v t p a r = answered-same v a r
+by_role-same said.Root v t p a r = answered-same v a r
+by_role-same said.Designated v t p a r = offered-same v t p r
+
+taken-same : (rstp : Bool) (b : Bpdu) (r : Row) → Same r (taken rstp b r)
+taken-same rstp TopologyChange r = marked-same false r
+taken-same rstp (Config m) r = Same-trans r (marked false r) _ (marked-same false r) (offered-same m.vector m.times (m.proposal && rstp) (marked false r))
+taken-same rstp (Rapid m) r = Same-trans r (marked true r) _ (marked-same true r) (by_role-same m.role m.vector m.times (m.proposal && rstp) (m.agreement && rstp) (marked true r))
+
+pub received-same : (own : BridgeId) (rstp : Bool) (n : ℕ) (b : Bpdu) (r : Row) → Same r (received own rstp n b r)
+received-same own rstp n b r = Same-if _ r _ r (taken-same rstp b r) (same r)
+
+acknowledged-same : (b : Bpdu) (r : Row) → Same r (acknowledged b r)
+acknowledged-same TopologyChange r = Same-if _ r _ r (record { line = refl; was = refl; role = refl; state = refl; link = refl; flushed = λ e. e }) (same r)
+acknowledged-same (Config m) r = Same-if _ r _ r (record { line = refl; was = refl; role = refl; state = refl; link = refl; flushed = λ e. e }) (same r)
+acknowledged-same (Rapid m) r = same r
+
+started-same : (t : Timing) (r : Row) → Same r (started t r)
+started-same t r = Same-if _ r _ r (record { line = refl; was = refl; role = refl; state = refl; link = refl; flushed = λ e. e }) (same r)
+
+spread-same : (t : Timing) (r : Row) → Same r (spread t r)
+spread-same t r =
+    let h = started-same t r in
+    Same-if _ r _ r (record { line = h.line; was = h.was; role = h.role; state = h.state; link = h.link; flushed = λ _. refl }) (same r)
+
+pub told-same : (t : Timing) (own : BridgeId) (n : ℕ) (b : Bpdu) (change : Bool) (r : Row) → Same r (told t own n b change r)
+told-same t own n b change r = Same-if _ r _ _ (Same-if _ r _ r (acknowledged-same b r) (same r)) (Same-if _ r _ r (spread-same t r) (same r))
+
+-- a restart
+restarted-fresh : (n id : ℕ) (e : Bool) (st : State) (r : Row) → r.line.number ≡ n → r.line.id ≡ id → 1 ≤ r.line.cost → r.line.on ≡ (e && r.port.link) → IsFresh n id e st (restarted r)
+restarted-fresh n id e st r number id' cost on = record {
+  number = number;
+  id = id';
+  cost = cost;
+  on = on;
+  was = refl;
+  still = λ _. refl;
+  off = λ _. refl;
+  left = λ _. inr refl;
+}
+
+-- a link
+Fresh-if : (n id : ℕ) (e : Bool) (st : State) (b : Bool) (x y : Row) → (b ≡ true → IsFresh n id e st x) → (b ≡ false → IsFresh n id e st y) → IsFresh n id e st (cond b x y)
+Fresh-if n id e st true x y h i = h refl
+Fresh-if n id e st false x y h i = i refl
+
+pub linked-fresh : (n id : ℕ) (e : Bool) (st : State) (m : ℕ) (up : Bool) (r : Row) → r.line.enabled ≡ e → IsFresh n id e st r → IsFresh n id e st (linked m up r)
+linked-fresh n id e st m up r en h = Fresh-if n id e st _ (switched up r) r (λ _. switch) (λ _. h) where
+  moved : Row
+  moved = record r { line = record r.line { on = r.line.enabled && up }; port = record r.port { link = up } }
+
+  on : (r.line.enabled && up) ≡ (e && up)
+  on = ap (λ b. b && up) en
+
+  disabled : r.line.enabled ≡ false → r.line.on ≡ false
+  disabled not_so = h.on ∙ ap (λ b. b && r.port.link) (sym en ∙ not_so)
+
+  stays : r.line.enabled ≡ false → IsFresh n id e st (record r { line = record r.line { on = r.line.enabled && up }; port = record r.port { link = up } })
+  stays not_so = record { number = h.number; id = h.id; cost = h.cost; on = on; was = h.was; still = h.still; off = λ _. h.off (disabled not_so); left = h.left }
+
+  switch : IsFresh n id e st (switched up r)
+  switch = Fresh-if n id e st r.line.enabled _ _ (λ _. restarted-fresh n id e st (record r { line = record r.line { on = r.line.enabled && up }; port = record r.port { link = up } }) h.number h.id h.cost on) (λ not_so. stays not_so)
+
+-- settling
+kept : (v k e w : Bool) → (v || (k && cond e (not w) w)) ≡ false → (e && k) ≡ false → (w && k) ≡ false
+kept v false e true h i = refl
+kept v false e false h i = refl
+kept v true true w h i = cc
+kept true true false w h i = cc
+kept false true false true h i = cc
+kept false true false false h i = refl
+
+pub settled-fresh : (n id : ℕ) (e : Bool) (st : State) (v : Bool) (r : Row) → r.line.number ≡ n → r.line.id ≡ id → 1 ≤ r.line.cost → r.line.enabled ≡ e → r.line.on ≡ (e && r.port.link) → r.was.role ≡ r.port.role → IsStill r → ((r.line.was_enabled && r.port.link) ≡ false → r.port.role ≡ Disabled) → (is_forwarding st ≡ true → is_root_or_designated r.port.role ≡ true) → IsFresh n id e st (settled_anew v r)
+settled-fresh n id e st v r number id' cost en on was still off left =
+    let new = renewed v r in
+    Fresh-same n id e st new (settled_anew v r) anew (Same-trans new (edged new) _ (Same-if _ new _ new (record { line = refl; was = refl; role = refl; state = refl; link = refl; flushed = λ i. i }) (same new)) (Same-if _ (edged new) _ (edged new) (record { line = refl; was = refl; role = refl; state = refl; link = refl; flushed = λ i. i }) (same (edged new)))) where
+      anew : IsFresh n id e st (renewed v r)
+      anew = Fresh-if n id e st (is_renewed v r) (restarted r) r (λ _. restarted-fresh n id e st r number id' cost on) (λ not_so. record {
+        number = number;
+        id = id';
+        cost = cost;
+        on = on;
+        was = was;
+        still = still;
+        off = λ i. off (kept v r.port.link r.line.enabled r.line.was_enabled not_so (ap (λ b. b && r.port.link) en ∙ (sym on ∙ i)));
+        left = λ i. inl (left i);
+      })

@@ -1,0 +1,157 @@
+-- What each step of an event keeps of one port.
+use Rattle.std.proofs.Common.{◌≡◌, ◌≢◌, ℕ, ◌+◌, Bool, true, false, cond, ◌&&◌, ◌||◌, not, ◌⊎◌, inl, inr, refl, sym, ap, subst, ◌∙◌, eqb}
+use Rattle.frame_core.specs.declared.bpdu.BridgeId.{BridgeId}
+use Rattle.frame_core.specs.declared.bpdu.PriorityVector.{PriorityVector}
+use Rattle.frame_core.specs.declared.bpdu.Times.{Times}
+use Rattle.frame_core.specs.declared.bpdu.Bpdu.{Bpdu}
+use Rattle.frame_core.specs.declared.bpdu.Bpdu.TheVariants.{Config, TopologyChange, Rapid}
+use Rattle.frame_core.specs.declared.bpdu.PortRole.{PortRole}
+use Rattle.frame_core.specs.declared.bpdu.PortRole.TheVariants as said
+use Rattle.rstp_rules.specs.declared.port.Port.{Port}
+use Rattle.rstp_rules.specs.declared.port.Role.{Role}
+use Rattle.rstp_rules.specs.declared.port.Role.TheVariants.{Disabled, Designated, Root, Alternate, Backup}
+use Rattle.rstp_rules.specs.declared.port.State.{State}
+use Rattle.rstp_rules.specs.declared.port.State.TheVariants.{Discarding, Learning, Forwarding}
+use Rattle.rstp_rules.specs.declared.row.Line.{Line}
+use Rattle.rstp_rules.specs.declared.row.Before.{Before}
+use Rattle.rstp_rules.specs.declared.row.Row.{Row}
+use Rattle.rstp_rules.specs.declared.row.Best.{Best}
+use Rattle.rstp_rules.specs.declared.row.Context.{Context}
+use Rattle.rstp_rules.specs.declared.row.Timing.{Timing}
+use Rattle.rstp_rules.specs.Ports.{is_received, is_root, is_designated, is_root_or_designated, is_alternate_or_backup, same_role, is_discarding, is_forwarding}
+use Rattle.rstp_rules.specs.Vectors.{vector_cmp, same_mac}
+use Rattle.rstp_rules.specs.Roles.{expired, with_role, designated_vector}
+use Rattle.rstp_rules.specs.Restarts.{restarted, switched, linked, is_renewed, renewed, edged, migrated, settled_anew}
+use Rattle.rstp_rules.specs.Arrivals.{is_taken, marked, recorded, offered, answered, by_role, taken, received, acknowledged, told}
+use Rattle.rstp_rules.specs.Ticks.{ticked, greeted}
+use Rattle.rstp_rules.specs.Transitions.{has_changed_role, blocked, delayed, retired, disagreed, rested, announced, turned, synced, is_quick, advanced, started, spread, counted}
+use Rattle.rstp_rules.specs.Turns.{spread_but, begun}
+use Rattle.rstp_rules.specs.Sends.{sent}
+
+-- A port that is neither root nor designated is discarding.
+abbrev pub IsStill : Row → Type 0
+IsStill r = is_root_or_designated r.port.role ≡ false → r.port.state ≡ Discarding
+
+-- What the steps after the roles keep.
+pub record Keeps (r q : Row) : Type 0 where
+  pub line : q.line ≡ r.line
+  pub role : q.port.role ≡ r.port.role
+  pub vector : q.port.vector ≡ r.port.vector
+  pub link : q.port.link ≡ r.port.link
+  pub flushed : r.flushed ≡ true → q.flushed ≡ true
+  pub still : IsStill r → IsStill q
+
+pub Keeps-refl : (r : Row) → Keeps r r
+Keeps-refl r = record { line = refl; role = refl; vector = refl; link = refl; flushed = λ e. e; still = λ h. h }
+
+pub Keeps-trans : (r q p : Row) → Keeps r q → Keeps q p → Keeps r p
+Keeps-trans r q p h i = record {
+  line = i.line ∙ h.line;
+  role = i.role ∙ h.role;
+  vector = i.vector ∙ h.vector;
+  link = i.link ∙ h.link;
+  flushed = λ e. i.flushed (h.flushed e);
+  still = λ s. i.still (h.still s);
+}
+
+Keeps-if : (b : Bool) (r x y : Row) → (b ≡ true → Keeps r x) → Keeps r y → Keeps r (cond b x y)
+Keeps-if true r x y h i = h refl
+Keeps-if false r x y h i = i
+
+-- a step that changes none of these
+Keeps-same : (r q : Row) → q.line ≡ r.line → q.port.role ≡ r.port.role → q.port.vector ≡ r.port.vector → q.port.link ≡ r.port.link → q.flushed ≡ r.flushed → q.port.state ≡ r.port.state → Keeps r q
+Keeps-same r q l o v k f s = record {
+  line = l;
+  role = o;
+  vector = v;
+  link = k;
+  flushed = λ e. f ∙ e;
+  still = λ h e. s ∙ h (ap is_root_or_designated (sym o) ∙ e);
+}
+
+pub delayed-keeps : (c : Context) (r : Row) → Keeps r (delayed c r)
+delayed-keeps c r = Keeps-if _ r _ r (λ _. Keeps-same r _ refl refl refl refl refl refl) (Keeps-refl r)
+
+pub retired-keeps : (c : Context) (r : Row) → Keeps r (retired c r)
+retired-keeps c r = Keeps-if _ r _ r (λ _. Keeps-same r _ refl refl refl refl refl refl) (Keeps-refl r)
+
+pub disagreed-keeps : (r : Row) → Keeps r (disagreed r)
+disagreed-keeps r = Keeps-if _ r _ r (λ _. Keeps-same r _ refl refl refl refl refl refl) (Keeps-refl r)
+
+pub rested-keeps : (r : Row) → Keeps r (rested r)
+rested-keeps r = Keeps-if _ r _ r (λ _. Keeps-same r _ refl refl refl refl refl refl) (Keeps-refl r)
+
+pub announced-keeps : (c : Context) (r : Row) → Keeps r (announced c r)
+announced-keeps c r = Keeps-if _ r _ r (λ _. Keeps-same r _ refl refl refl refl refl refl) (Keeps-refl r)
+
+-- c after a and b
+pub turned-keeps : (c : Context) (r : Row) → Keeps (blocked r) (turned c r)
+turned-keeps c r =
+    let r1 = blocked r in
+    let r2 = delayed c r1 in
+    let r3 = retired c r2 in
+    let r4 = disagreed r3 in
+    let r5 = rested r4 in
+    Keeps-trans r1 r2 (announced c r5) (delayed-keeps c r1) (Keeps-trans r2 r3 (announced c r5) (retired-keeps c r2) (Keeps-trans r3 r4 (announced c r5) (disagreed-keeps r3) (Keeps-trans r4 r5 (announced c r5) (rested-keeps r4) (announced-keeps c r5))))
+
+abbrev agreeing : Row → Row
+agreeing r = record r { port = record r.port { agree = true; pending = true } }
+
+abbrev waiting : Context → Row → Row
+waiting c r = record r { port = record r.port { state = Discarding; forward_while = c.timing.forward_delay; recent_root_while = 0; pending = true } }
+
+pub synced-keeps : (c : Context) (r : Row) → Keeps r (synced c r)
+synced-keeps c r =
+    Keeps-if (is_root r.port.role) r (agreeing r) (cond (is_designated r.port.role && not r.port.edge && not r.port.agreed && not (is_discarding r.port.state)) (waiting c r) r) (λ _. Keeps-same r (agreeing r) refl refl refl refl refl refl) (Keeps-if (is_designated r.port.role && not r.port.edge && not r.port.agreed && not (is_discarding r.port.state)) r (waiting c r) r (λ _. record { line = refl; role = refl; vector = refl; link = refl; flushed = λ e. e; still = λ _ _. refl }) (Keeps-refl r))
+
+active : (v clear e : Bool) (o : Role) → (v && (is_root o && clear || is_designated o && e)) ≡ true → is_root_or_designated o ≡ true
+active v clear e Root h = refl
+active v clear e Designated h = refl
+active true clear e Disabled h = cc
+active false clear e Disabled h = cc
+active true clear e Alternate h = cc
+active false clear e Alternate h = cc
+active true clear e Backup h = cc
+active false clear e Backup h = cc
+
+first_of_both : (a b : Bool) → (a && b) ≡ true → a ≡ true
+first_of_both true b e = refl
+first_of_both false b e = cc
+
+-- a step that gives an active port another state
+Keeps-active : (r q : Row) → q.line ≡ r.line → q.port.role ≡ r.port.role → q.port.vector ≡ r.port.vector → q.port.link ≡ r.port.link → q.flushed ≡ r.flushed → is_root_or_designated r.port.role ≡ true → Keeps r q
+Keeps-active r q l o v k f a = record {
+  line = l;
+  role = o;
+  vector = v;
+  link = k;
+  flushed = λ e. f ∙ e;
+  still = λ h e. let clash : true ≡ false = sym a ∙ (ap is_root_or_designated (sym o) ∙ e) in cc;
+}
+
+pub advanced-keeps : (c : Context) (clear : Bool) (r : Row) → Keeps r (advanced c clear r)
+advanced-keeps c clear r =
+    Keeps-if _ r _ _ (λ e. Keeps-active r _ refl refl refl refl refl (active c.timing.rstp_version clear (r.port.edge || r.port.agreed) r.port.role e)) (Keeps-if _ r _ r (λ e. Keeps-active r _ refl refl refl refl refl (first_of_both (is_root_or_designated r.port.role) _ e)) (Keeps-refl r))
+
+pub started-keeps : (t : Timing) (r : Row) → Keeps r (started t r)
+started-keeps t r = Keeps-if _ r _ r (λ _. Keeps-same r _ refl refl refl refl refl refl) (Keeps-refl r)
+
+Keeps-flush : (r q : Row) → Keeps r q → Keeps r (record q { flushed = true })
+Keeps-flush r q h = record { line = h.line; role = h.role; vector = h.vector; link = h.link; flushed = λ _. refl; still = h.still }
+
+pub spread-keeps : (t : Timing) (r : Row) → Keeps r (spread t r)
+spread-keeps t r = Keeps-if _ r _ r (λ _. Keeps-flush r (started t r) (started-keeps t r)) (Keeps-refl r)
+
+pub spread_but-keeps : (t : Timing) (n : ℕ) (r : Row) → Keeps r (spread_but t n r)
+spread_but-keeps t n r = Keeps-if _ r r _ (λ _. Keeps-refl r) (spread-keeps t r)
+
+pub begun-keeps : (t : Timing) (r : Row) → Keeps r (begun t r)
+begun-keeps t r =
+    let one = Keeps-same r (counted r) refl refl refl refl refl refl in
+    Keeps-if _ r (counted r) _ (λ _. one) (Keeps-trans r (counted r) (started t (counted r)) one (started-keeps t (counted r)))
+
+pub greeted-keeps : (t : Timing) (r : Row) → Keeps r (greeted t r)
+greeted-keeps t r = Keeps-if _ r _ r (λ _. Keeps-same r _ refl refl refl refl refl refl) (Keeps-refl r)
+
+pub sent-keeps : (c : Context) (r : Row) → Keeps r (sent c r)
+sent-keeps c r = Keeps-if _ r _ _ (λ _. Keeps-same r _ refl refl refl refl refl refl) (Keeps-if _ r r _ (λ _. Keeps-refl r) (Keeps-same r _ refl refl refl refl refl refl))

@@ -1,0 +1,128 @@
+-- Rows by their place.
+use Rattle.std.proofs.Common.{◌≡◌, ◌≢◌, ℕ, zero, suc, ◌+◌, ◌-◌, ◌<◌, ◌≤◌, Bool, true, false, cond, List, [], ◌∷◌, ◌++◌, length, get_or, set, map, ◌⊎◌, inl, inr, refl, sym, ap, ◌∙◌, arith, Contains}
+use Rattle.std.specs.List.{filter_map, filter}
+use Rattle.std.specs.Prelude.{Option, Some, None}
+use Rattle.std.proofs.lemmas.List.{get_or-set_same, get_or-set_other, get_or-map, length-map, length-set}
+use Rattle.std.proofs.lemmas.Bool.Decides.{eqb_tells}
+use Rattle.frame_core.specs.declared.bpdu.BridgeId.{BridgeId}
+use Rattle.rstp_settings.specs.Table.{Table}
+use Rattle.rstp_rules.specs.declared.config.PortConfig.{PortConfig}
+use Rattle.rstp_rules.specs.declared.port.Port.{Port}
+use Rattle.rstp_rules.specs.declared.row.Row.{Row}
+use Rattle.rstp_rules.specs.declared.row.Best.{Best}
+use Rattle.rstp_rules.specs.declared.row.Context.{Context}
+use Rattle.rstp_rules.specs.declared.row.Timing.{Timing}
+use Rattle.rstp_rules.specs.Lines.{row_of}
+use Rattle.rstp_rules.specs.Roles.{candidate}
+use Rattle.rstp_rules.specs.Transitions.{has_begun, turned, synced, synced_all, advanced, advanced_all, no_recent_root}
+use Rattle.rstp_rules.specs.Turns.{no_row, spread_but, begun, turn_at, first_turns, turns}
+use Rattle.rstp_rules.specs.Ticks.{greeted}
+use Rattle.rstp_rules.specs.Sends.{sent}
+use Rattle.rstp_core.specs.Settled.{SettledValues, settled_port}
+use Rattle.rstp_core.specs.Passes.{moved, greeted_all, ready}
+use Rattle.rstp_core.specs.Tree.{rows_from, ports_of}
+use Rattle.rstp_core.proofs.Keeps.{Keeps, Keeps-refl, Keeps-trans, synced-keeps, advanced-keeps, spread_but-keeps, begun-keeps, greeted-keeps, sent-keeps}
+
+abbrev pub no_config : PortConfig
+no_config = record { ifindex = 0; speed = 0; full = false }
+
+-- the rows as an event begins
+pub length-rows_from : (s : Table) (w : SettledValues) (n : ℕ) (cs : List PortConfig) (ps : List Port) → length cs ≡ length ps → length (rows_from s w n cs ps) ≡ length ps
+length-rows_from s w n [] [] e = refl
+length-rows_from s w n [] (p ∷ ps) e = absurd (omega arith)
+length-rows_from s w n (c ∷ cs) [] e = refl
+length-rows_from s w n (c ∷ cs) (p ∷ ps) e = ap suc (length-rows_from s w (n + 1) cs ps (omega arith))
+
+pub rows_from-at : (s : Table) (w : SettledValues) (n : ℕ) (cs : List PortConfig) (ps : List Port) (k : ℕ) → length cs ≡ length ps → k < length ps → get_or (rows_from s w n cs ps) k no_row ≡ row_of s (settled_port w (n + k)) (n + k) (get_or cs k no_config) (get_or ps k no_row.port)
+rows_from-at s w n [] [] k e h = absurd (omega arith)
+rows_from-at s w n [] (p ∷ ps) k e h = absurd (omega arith)
+rows_from-at s w n (c ∷ cs) [] k e h = absurd (omega arith)
+rows_from-at s w n (c ∷ cs) (p ∷ ps) zero e h = let m : n + 0 ≡ n = omega arith in rw m
+rows_from-at s w n (c ∷ cs) (p ∷ ps) (suc k) e h = let m : n + suc k ≡ (n + 1) + k = omega arith in rw m (rows_from-at s w (n + 1) cs ps k (omega arith) (omega arith))
+
+-- what a pass over all rows keeps at each place
+pub record AllKeep (xs ys : List Row) : Type 0 where
+  pub same : length ys ≡ length xs
+  pub at : (k : ℕ) → k < length xs → Keeps (get_or xs k no_row) (get_or ys k no_row)
+
+pub keep-refl : (xs : List Row) → AllKeep xs xs
+keep-refl xs = record { same = refl; at = λ k _. Keeps-refl (get_or xs k no_row) }
+
+pub keep-trans : (xs ys zs : List Row) → AllKeep xs ys → AllKeep ys zs → AllKeep xs zs
+keep-trans xs ys zs h i = record {
+  same = i.same ∙ h.same;
+  at = λ k b. Keeps-trans (get_or xs k no_row) (get_or ys k no_row) (get_or zs k no_row) (h.at k b) (i.at k (omega (arith, b, h.same)));
+}
+
+pub keep-map : (f : Row → Row) (xs : List Row) → ((r : Row) → Keeps r (f r)) → AllKeep xs (map f xs)
+keep-map f xs h = record {
+  same = length-map xs f;
+  at = λ k b. rw (get_or-map f xs k no_row no_row b) (h (get_or xs k no_row));
+}
+
+keep-if : (b : Bool) (xs ys zs : List Row) → AllKeep xs ys → AllKeep xs zs → AllKeep xs (cond b ys zs)
+keep-if true xs ys zs h i = h
+keep-if false xs ys zs h i = i
+
+keep-set : (t : Timing) (xs : List Row) (k : ℕ) → AllKeep xs (set xs k (begun t (get_or xs k no_row)))
+keep-set t xs k = record { same = length-set xs k (begun t (get_or xs k no_row)); at = at } where
+  at : (i : ℕ) → i < length xs → Keeps (get_or xs i no_row) (get_or (set xs k (begun t (get_or xs k no_row))) i no_row)
+  at i b = elim (eqb_tells i k) [
+    | inl e ↦ here (sym e.1)
+    | inr d ↦ rw (get_or-set_other xs k i (begun t (get_or xs k no_row)) no_row d.1) (Keeps-refl (get_or xs i no_row))
+  ] where
+    here : k ≡ i → Keeps (get_or xs i no_row) (get_or (set xs k (begun t (get_or xs k no_row))) i no_row)
+    here e = rw (e, get_or-set_same xs i (begun t (get_or xs i no_row)) no_row b) (begun-keeps t (get_or xs i no_row))
+
+keep-turn : (t : Timing) (xs : List Row) (k : ℕ) → AllKeep xs (turn_at t xs k)
+keep-turn t xs k =
+    let r = get_or xs k no_row in
+    let one = set xs k (begun t r) in
+    keep-if _ xs _ xs (keep-if _ xs one _ (keep-set t xs k) (keep-trans xs one (map (spread_but t r.line.number) one) (keep-set t xs k) (keep-map (spread_but t r.line.number) one (spread_but-keeps t r.line.number)))) (keep-refl xs)
+
+keep-turns : (t : Timing) (n : ℕ) (xs : List Row) → AllKeep xs (first_turns t n xs)
+keep-turns t zero xs = keep-refl xs
+keep-turns t (suc n) xs = keep-trans xs (first_turns t n xs) (turn_at t (first_turns t n xs) n) (keep-turns t n xs) (keep-turn t (first_turns t n xs) n)
+
+-- the states from d on, and the hello step
+pub keep-ready : (tick : Bool) (c : Context) (rows : List Row) → AllKeep (map (turned c) rows) (ready tick c rows)
+keep-ready tick c rows =
+    let a = map (turned c) rows in
+    let b = synced_all c a in
+    let d = advanced_all c b in
+    let e = turns c.timing d in
+    let one : AllKeep a b = keep-if _ a (map (synced c) a) a (keep-map (synced c) a (synced-keeps c)) (keep-refl a) in
+    let two : AllKeep b d = keep-map (advanced c (no_recent_root b)) b (advanced-keeps c (no_recent_root b)) in
+    let three : AllKeep d e = keep-turns c.timing (length d) d in
+    let four : AllKeep e (greeted_all tick c e) = keep-if tick e (map (greeted c.timing) e) e (keep-map (greeted c.timing) e (greeted-keeps c.timing)) (keep-refl e) in
+    keep-trans a b (greeted_all tick c e) one (keep-trans b d (greeted_all tick c e) two (keep-trans d e (greeted_all tick c e) three four))
+
+pub keep-sent : (c : Context) (rows : List Row) → AllKeep rows (map (sent c) rows)
+keep-sent c rows = keep-map (sent c) rows (sent-keeps c)
+
+-- where a candidate comes from
+pub record IsFrom (own : BridgeId) (rows : List Row) (b : Best) : Type 0 where
+  pub place : ℕ
+  pub within : place < length rows
+  pub offers : candidate own (get_or rows place no_row) ≡ Some b
+
+from_rest : (own : BridgeId) (r : Row) (rows : List Row) (b : Best) → IsFrom own rows b → IsFrom own (r ∷ rows) b
+from_rest own r rows b h = record { place = suc h.place; within = omega (arith, h.within); offers = h.offers }
+
+pub candidate_from : (own : BridgeId) (rows : List Row) (b : Best) (k : ℕ) → k < length (filter_map (candidate own) rows) → get_or (filter_map (candidate own) rows) k b ≡ b → IsFrom own rows b
+candidate_from own [] b k h e = absurd (omega arith)
+candidate_from own (r ∷ rows) b k h e = by (candidate_from own rows b) (candidate own r) refl k h e where
+  by : ((j : ℕ) → j < length (filter_map (candidate own) rows) → get_or (filter_map (candidate own) rows) j b ≡ b → IsFrom own rows b) → (o : Option Best) → candidate own r ≡ o → (k : ℕ) → k < length (filter_map (candidate own) (r ∷ rows)) → get_or (filter_map (candidate own) (r ∷ rows)) k b ≡ b → IsFrom own (r ∷ rows) b
+  by rest None n k h e = from_rest own r rows b (rest k (rw n at h) (rw n at e))
+  by rest (Some c) n zero h e = record { place = 0; within = omega arith; offers = n ∙ ap Some (rw n at e) }
+  by rest (Some c) n (suc k) h e = let within : suc k < suc (length (filter_map (candidate own) rows)) = rw n at h in from_rest own r rows b (rest k (omega (arith, within)) (rw n at e))
+
+-- a port whose learned rows go is told
+contains_rest : (b : Bool) (r : Row) (rows : List Row) (n : ℕ) → Contains (map (λ x. x.line.number) rows) n → Contains (map (λ x. x.line.number) (cond b (r ∷ rows) rows)) n
+contains_rest true r rows n h = (suc h.0, omega (arith, h.1), h.2)
+contains_rest false r rows n h = h
+
+pub contains_flushed : (rows : List Row) (k n : ℕ) → k < length rows → (get_or rows k no_row).line.number ≡ n → (get_or rows k no_row).flushed ≡ true → Contains (map (λ r. r.line.number) (filter (λ r. r.flushed) rows)) n
+contains_flushed [] k n h e f = absurd (omega arith)
+contains_flushed (r ∷ rows) zero n h e f = rw f (0, omega arith, e)
+contains_flushed (r ∷ rows) (suc k) n h e f = contains_rest r.flushed r (filter (λ x. x.flushed) rows) n (contains_flushed rows k n (omega arith) e f)

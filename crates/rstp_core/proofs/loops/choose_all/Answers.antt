@@ -1,0 +1,7 @@
+use Rattle.std.proofs.Common.{arith}
+use Rattle.rstp_rules.specs.Roles.{with_role}
+use Rattle.rstp_core.proofs.Steps.{map_step}
+use Rattle.rstp_core.proofs.loops.choose_all.Goals as goal
+
+pub loop-row-preserved : goal.loop-row-preserved
+loop-row-preserved c = map_step (with_role c.args.own c.args.root.now) _ _ _ _ _ (omega arith) c.loop-row.auto.rows c.loop-row.invariant c.choose_role.ensures

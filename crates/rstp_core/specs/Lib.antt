@@ -1,0 +1,5 @@
+pub mod Settled
+pub mod Passes
+pub mod Tree
+pub mod TreeInside
+pub mod Runs

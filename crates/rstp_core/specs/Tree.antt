@@ -1,0 +1,136 @@
+-- The spanning tree of a bridge, and what each event does to it (IEEE 802.1D-2004 clause 17).
+use Rattle.std.specs.Prelude.{◌≡◌, ℕ, ◌+◌, ◌-◌, ◌%◌, ◌^◌, Bool, true, false, ◌&&◌, not, ◌==◌, if◌then◌else◌, nat_lt, min, List, [], ◌∷◌, ◌++◌, map, length, slice_index_or}
+use Rattle.std.specs.List.{list_any}
+use Rattle.std.proofs.Common.{zero, suc}
+use Rattle.frame_core.specs.declared.mac.Mac.{Mac}
+use Rattle.frame_core.specs.declared.bpdu.BridgeId.{BridgeId}
+use Rattle.frame_core.specs.declared.bpdu.Times.{Times}
+use Rattle.frame_core.specs.declared.bpdu.Bpdu.{Bpdu}
+use Rattle.rstp_settings.specs.Table.{Table, opening}
+use Rattle.rstp_rules.specs.declared.config.PortConfig.{PortConfig}
+use Rattle.rstp_rules.specs.declared.port.Port.{Port}
+use Rattle.rstp_rules.specs.declared.row.Row.{Row}
+use Rattle.rstp_rules.specs.declared.row.Best.{Best}
+use Rattle.rstp_rules.specs.declared.row.Context.{Context}
+use Rattle.rstp_rules.specs.Vectors.{port_id}
+use Rattle.rstp_rules.specs.Ports.{opening_port}
+use Rattle.rstp_rules.specs.Lines.{own_id, row_of, timers_of, set_times, times_in_force, context_of}
+use Rattle.rstp_rules.specs.Roles.{expired, candidates, own_best, IsBest}
+use Rattle.rstp_rules.specs.Restarts.{linked, settled_anew}
+use Rattle.rstp_rules.specs.Arrivals.{arrived}
+use Rattle.rstp_rules.specs.Ticks.{ticked}
+use Rattle.rstp_rules.specs.Turns.{no_row}
+use Rattle.rstp_rules.specs.Sends.{bpdu_of, sent, flushed_ports}
+use Rattle.rstp_core.specs.Settled.{SettledValues, settled_of, settled_port}
+use Rattle.rstp_core.specs.Passes.{chosen, ready}
+use Rattle.rstp_core.specs.declared.facts.BridgeFacts.{BridgeFacts}
+use Rattle.rstp_core.specs.declared.rstp.Outcome.{Outcome}
+
+-- What the spanning tree of a bridge keeps.
+pub record Tree : Type 0 where
+  pub address : Mac
+  pub config : List PortConfig
+  pub ports : List Port
+  pub facts : BridgeFacts
+  pub settled : SettledValues
+
+-- Port n, from 1.
+abbrev pub port_at : Tree → ℕ → Port
+port_at t n = slice_index_or t.ports (n - 1) no_row.port
+
+-- The rows of all ports, from port n on, as an event begins under the settings s, where w is what was settled.
+abbrev pub rows_from : Table → SettledValues → ℕ → List PortConfig → List Port → List Row
+rows_from s w n [] ports = []
+rows_from s w n (c ∷ configs) [] = []
+rows_from s w n (c ∷ configs) (p ∷ ports) = row_of s (settled_port w n) n c p ∷ rows_from s w (n + 1) configs ports
+
+abbrev pub rows_of : Table → Tree → List Row
+rows_of s t = rows_from s t.settled 1 t.config t.ports
+
+abbrev pub ports_of : List Row → List Port
+ports_of rows = map (λ r. r.port) rows
+
+-- Some port tells a topology change.
+abbrev pub has_change : List Port → Bool
+has_change ports = list_any (λ p. nat_lt 0 p.change_while) ports
+
+-- The root, the times in force, and the counts of topology changes, where one was told before the event or not,
+-- and one is told after it or not. A topology change is counted where one is told and none was. The ticks since
+-- the last are 0 while one is told.
+abbrev pub changes_after : ℕ → Bool → Bool → ℕ
+changes_after n had has = if has && not had then (n + 1) % 2 ^ 32 else n
+
+abbrev pub since_after : Bool → ℕ → Bool → ℕ
+since_after tick n has = if has then 0 else (if tick then min (n + 1) 18446744073709551615 else n)
+
+abbrev pub facts_after : Bool → Context → Bool → Bool → BridgeFacts → BridgeFacts
+facts_after tick c had has f = record {
+  root = c.root;
+  times = c.times;
+  topology_changes = changes_after f.topology_changes had has;
+  since = since_after tick f.since has;
+}
+
+-- How each event ends, from the rows that the event's own part left: vectors that are too old are received no
+-- longer; the root vector is a least element; the roles; the times in force; the states; on a tick the hello step;
+-- and what is sent.
+pub record Concludes (s : Table) (own : BridgeId) (tick : Bool) (was : Times) (old : List Row) (c : Context) (new : List Row) (out : Outcome) : Type 0 where
+  pub root : IsBest (candidates own (map expired old)) c.root
+  pub context : c ≡ context_of s own c.root was (times_in_force (timers_of s) (chosen own c.root (map expired old)))
+  pub rows : new ≡ map (sent c) (ready tick c (chosen own c.root (map expired old)))
+  pub bpdus : out.bpdus.items ≡ map (bpdu_of c) (ready tick c (chosen own c.root (map expired old)))
+  pub flushed : out.flushed.items ≡ flushed_ports (ready tick c (chosen own c.root (map expired old)))
+
+-- What an event leaves of the tree and gives, where its own part left these rows.
+pub record Ends (s : Table) (tick : Bool) (was : Times) (rows : List Row) (t u : Tree) (out : Outcome) : Type 0 where
+  pub context : Context
+  pub left : List Row
+  pub concludes : Concludes s (own_id s t.address) tick was rows context left out
+  pub tree : u ≡ record t {
+    ports = ports_of left;
+    facts = facts_after tick context (has_change t.ports) (has_change (ports_of left)) t.facts;
+  }
+
+-- The times in force as an event begins.
+abbrev pub times_before : Table → Tree → Times
+times_before s t = times_in_force (timers_of s) (rows_of s t)
+
+-- A tick of one second.
+abbrev pub Ticks : Table → Tree → Tree → Outcome → Type 0
+Ticks s t u out = Ends s true (times_before s t) (map ticked (rows_of s t)) t u out
+
+-- A BPDU at port n.
+abbrev pub Arrives : Table → ℕ → Bpdu → Tree → Tree → Outcome → Type 0
+Arrives s n b t u out = Ends s false (times_before s t) (arrived s (own_id s t.address) n b (rows_of s t)) t u out
+
+-- The link of port n is up, or down.
+abbrev pub Links : Table → ℕ → Bool → Tree → Tree → Outcome → Type 0
+Links s n up t u out = Ends s false (times_before s t) (map (linked n up) (rows_of s t)) t u out
+
+-- Settling finds that the version is another.
+abbrev pub has_other_version : Table → SettledValues → Bool
+has_other_version s w = not ((settled_of s).version == w.version)
+
+-- Settling the settings. What has changed, the times in force too, is measured against what was settled before.
+abbrev pub Settles : Table → Tree → Tree → Outcome → Type 0
+Settles s t u out =
+    Ends s false (times_in_force t.settled.timers (rows_of s t)) (map (settled_anew (has_other_version s t.settled)) (rows_of s t)) (record t { settled = settled_of s }) u out
+
+-- The opening: all links down, the opening settings settled, this bridge root. Each port holds its designated vector.
+abbrev pub opening_port_of : BridgeId → Times → ℕ → Port
+opening_port_of own times n = opening_port (record { root = own; cost = 0; bridge = own; port = port_id 128 n }) times
+
+abbrev pub opening_ports : BridgeId → Times → ℕ → List Port
+opening_ports own times zero = []
+opening_ports own times (suc n) = opening_ports own times n ++ opening_port_of own times (n + 1) ∷ []
+
+abbrev pub opening_tree : Mac → List PortConfig → Tree
+opening_tree address configs =
+    let s = opening (length configs) in
+    record {
+      address = address;
+      config = configs;
+      ports = opening_ports (own_id s address) (set_times (timers_of s)) (length configs);
+      facts = record { root = own_best (own_id s address); times = set_times (timers_of s); topology_changes = 0; since = 0 };
+      settled = settled_of s;
+    }

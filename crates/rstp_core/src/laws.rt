@@ -1,0 +1,55 @@
+// Laws of the spanning tree, for every list of happenings from the opening on in which each change of
+// settings is followed by settling them. Each function does nothing: its contract is the law.
+//
+// Not true here, and not claimed: that the learned rows of a port go when it is blocked by
+// synchronization (they stay); that no port forwards while it is off between a change of its enable
+// setting and settling it (it may, for that moment).
+ghost use Rattle.std.specs.Prelude.{◌≡◌, ◌≢◌, ◌≤◌, ℕ, List, length, All, Contains};
+ghost use Rattle.frame_core.specs.declared.mac.Mac.{Mac};
+ghost use Rattle.rstp_settings.specs.Table.{Table};
+ghost use Rattle.rstp_rules.specs.declared.config.PortConfig.{PortConfig};
+ghost use Rattle.rstp_rules.specs.declared.row.Best.{Best};
+ghost use Rattle.rstp_rules.specs.Lines.{own_id};
+ghost use Rattle.rstp_rules.specs.Roles.{IsBest};
+ghost use Rattle.rstp_core.specs.declared.rstp.Outcome.{Outcome};
+ghost use Rattle.rstp_core.specs.Tree.{Tree, rows_of, port_at};
+ghost use Rattle.rstp_core.specs.Runs.{Happening, Happens, Runs, MayForward, IsRootPort, LeavesForwarding};
+
+/// There is one root vector.
+pub fn root_is_one()
+    ensures { (bs : List Best) (a b : Best) → IsBest bs a → IsBest bs b → a ≡ b }
+{}
+
+/// No port forwards while it is off, disabled, alternate or backup.
+pub fn only_active_ports_forward()
+    ensures { (a : Mac) (cs : List PortConfig) (hs : List Happening) (s : Table) (t : Tree)
+        → Runs a cs hs s t → All MayForward (rows_of s t) }
+{}
+
+/// At most one port is the root port.
+pub fn root_port_is_one()
+    ensures { (a : Mac) (cs : List PortConfig) (hs : List Happening) (s : Table) (t : Tree)
+        → length cs ≤ 32 → Runs a cs hs s t
+        → (m n : ℕ) → IsRootPort t m → IsRootPort t n → m ≡ n }
+{}
+
+/// The address in the bridge identifier of a root port's vector is another bridge's.
+pub fn root_port_hears_another()
+    ensures { (a : Mac) (cs : List PortConfig) (hs : List Happening) (s : Table) (t : Tree)
+        → length cs ≤ 32 → Runs a cs hs s t
+        → (n : ℕ) → IsRootPort t n → (port_at t n).vector.bridge.address ≢ a }
+{}
+
+/// Where the root is this bridge by its whole identifier, priority included, there is no root port.
+pub fn root_bridge_has_no_root_port()
+    ensures { (a : Mac) (cs : List PortConfig) (hs : List Happening) (s : Table) (t : Tree)
+        → length cs ≤ 32 → Runs a cs hs s t → t.facts.root.vector.root ≡ own_id s a
+        → (n : ℕ) → ¬ IsRootPort t n }
+{}
+
+/// A port that forwarded and is now disabled, alternate or backup loses its learned rows in that event.
+pub fn leaving_forwarding_flushes()
+    ensures { (a : Mac) (cs : List PortConfig) (hs : List Happening) (s r : Table) (t u : Tree)
+        (h : Happening) (out : Outcome) → Runs a cs hs s t → Happens h s t r u out
+        → (n : ℕ) → LeavesForwarding t u n → Contains out.flushed.items n }
+{}

@@ -1,0 +1,23 @@
+//! The Rapid Spanning Tree Protocol of a bridge (IEEE 802.1D-2004 clause 17): what each event does to
+//! all its ports, what they send, and whose learned addresses go. Nothing here takes memory.
+#![tactic(auto)]
+
+mod events;
+mod facts;
+pub mod laws;
+mod loops;
+mod roles;
+mod rstp;
+mod settled;
+mod turns;
+
+pub use facts::BridgeFacts;
+pub use rstp::{Outcome, Rstp};
+pub use rstp_rules::config::{BridgeConfig, PortConfig};
+pub use rstp_rules::port::{Info, Port, Role, State};
+pub use rstp_rules::row::Best;
+pub use rstp_rules::settled::{SettledPort, Timers};
+pub use settled::Settled;
+
+#[cfg(test)]
+mod tests;

@@ -1,0 +1,83 @@
+ghost use Rattle.std.specs.Prelude.{◌≡◌, ◌≤◌, length, map};
+ghost use Rattle.rstp_rules.specs.Lines.{settled_port_of};
+ghost use Rattle.rstp_core.specs.Settled.{settled_of, settled_port};
+
+use arrayvec::ArrayVec;
+use rstp_rules::lines;
+use rstp_rules::settled::{SettledPort, Timers};
+use rstp_settings::key::{BridgeKey, Key};
+use rstp_settings::settings::{MAX_PORTS, Settings};
+use std::marker::Model;
+
+/// What is kept of the settings when they are settled: the version, the three times, and for each port
+/// whether it is enabled and whether it is set to be at the edge. The next settling finds by it what has
+/// changed.
+#[derive(Drop)]
+pub struct Settled {
+    version: u32,
+    timers: Timers,
+    ports: ArrayVec<SettledPort, MAX_PORTS>,
+}
+
+impl Model for Settled {
+    ghost use Rattle.rstp_core.specs.Settled.{SettledValues, AreTimers};
+
+    ghost Value = { SettledValues };
+
+    ghost view = { λ s. record { version = s.version; timers = s.timers; ports = s.ports.items } };
+
+    ghost invariant = { λ s. AreTimers s.timers };
+}
+
+fn settled_ports(settings: &Settings) -> ArrayVec<SettledPort, MAX_PORTS>
+    ensures { result.items ≡ map settled_port_of settings.now.ports }
+{
+    let mut ports = ArrayVec::new();
+    for i in 0..settings.ports() {
+        let number = i as u16 + 1;
+        ports.push(SettledPort {
+            enabled: lines::is_enabled(settings, number),
+            edge: lines::is_set_edge(settings, number),
+        });
+    }
+    ports
+}
+
+impl Settled {
+    /// What is kept of these settings.
+    pub fn of(settings: &Settings) -> Self
+        ensures { result ≡ settled_of settings.now }
+    {
+        Settled {
+            version: settings.get(Key::Bridge(BridgeKey::Version)),
+            timers: lines::timers(settings),
+            ports: settled_ports(settings),
+        }
+    }
+
+    /// The version: 0 or 2.
+    pub fn version(&self) -> u32
+        ensures { result ≡ self.now.version }
+    {
+        self.version
+    }
+
+    /// The three times, in 1/100 s.
+    pub fn timers(&self) -> Timers
+        ensures value { result ≡ self.now.timers }
+        ensures max_age { result.max_age ≤ 4000 }
+        ensures hello { result.hello ≤ 4000 }
+        ensures forward_delay { result.forward_delay ≤ 4000 }
+    {
+        self.timers
+    }
+
+    /// What is kept of port `number`.
+    pub fn port(&self, number: u16) -> SettledPort
+        requires first { 1 ≤ number }
+        requires last { number ≤ length self.now.ports }
+        ensures { result ≡ settled_port self.now number }
+    {
+        self.ports[number as usize - 1]
+    }
+}

@@ -1,0 +1,306 @@
+// Rows worked by hand from IEEE 802.1D-2004 clauses 9 and 17.
+ghost use Rattle.std.specs.Prelude.{◌≡◌, ◌≤◌, length};
+
+use crate::{BridgeConfig, Outcome, PortConfig, Role, Rstp, State};
+use arrayvec::ArrayVec;
+use frame_core::{Bpdu, BridgeId, Config, Mac, PortRole, PriorityVector, Rapid, Times, write_bpdu};
+use rstp_settings::key::{BridgeKey, Key, PortKey};
+use rstp_settings::settings::Settings;
+use std::test::Fail;
+
+const OWN: Mac = Mac([0x02, 0x00, 0x00, 0x00, 0x00, 0x0A]);
+
+const TIMES: Times = Times {
+    message_age: 0,
+    max_age: 0x1400,
+    hello: 0x0200,
+    forward_delay: 0x0F00,
+};
+
+// A bridge with a better identifier, and one with a worse.
+const BETTER: BridgeId = BridgeId {
+    priority: 0x1000,
+    address: Mac([0x02, 0x00, 0x00, 0x00, 0x00, 0x01]),
+};
+
+const WORSE: BridgeId = BridgeId {
+    priority: 0xF000,
+    address: Mac([0x02, 0x00, 0x00, 0x00, 0x00, 0x99]),
+};
+
+// The first message of a port whose link comes up: flags 0E.
+const PROPOSES: [u8; 60] = [
+    0x01, 0x80, 0xC2, 0x00, 0x00, 0x00, 0x02, 0x00, 0x00, 0x00, 0x00, 0x0A, 0x00, 0x27, 0x42, 0x42,
+    0x03, 0x00, 0x00, 0x02, 0x02, 0x0E, 0x80, 0x00, 0x02, 0x00, 0x00, 0x00, 0x00, 0x0A, 0x00, 0x00,
+    0x00, 0x00, 0x80, 0x00, 0x02, 0x00, 0x00, 0x00, 0x00, 0x0A, 0x80, 0x01, 0x00, 0x00, 0x14, 0x00,
+    0x02, 0x00, 0x0F, 0x00, 0x00, 0x00, 0x00, 0x00, 0x00, 0x00, 0x00, 0x00,
+];
+
+// The answer of the root port: flags 79.
+const AGREES: [u8; 60] = [
+    0x01, 0x80, 0xC2, 0x00, 0x00, 0x00, 0x02, 0x00, 0x00, 0x00, 0x00, 0x0A, 0x00, 0x27, 0x42, 0x42,
+    0x03, 0x00, 0x00, 0x02, 0x02, 0x79, 0x10, 0x00, 0x02, 0x00, 0x00, 0x00, 0x00, 0x01, 0x00, 0x00,
+    0x4E, 0x20, 0x80, 0x00, 0x02, 0x00, 0x00, 0x00, 0x00, 0x0A, 0x80, 0x01, 0x01, 0x00, 0x14, 0x00,
+    0x02, 0x00, 0x0F, 0x00, 0x00, 0x00, 0x00, 0x00, 0x00, 0x00, 0x00, 0x00,
+];
+
+// A port at the edge: flags 3C.
+const AT_EDGE_1: [u8; 60] = [
+    0x01, 0x80, 0xC2, 0x00, 0x00, 0x00, 0x02, 0x00, 0x00, 0x00, 0x00, 0x0A, 0x00, 0x27, 0x42, 0x42,
+    0x03, 0x00, 0x00, 0x02, 0x02, 0x3C, 0x80, 0x00, 0x02, 0x00, 0x00, 0x00, 0x00, 0x0A, 0x00, 0x00,
+    0x00, 0x00, 0x80, 0x00, 0x02, 0x00, 0x00, 0x00, 0x00, 0x0A, 0x80, 0x01, 0x00, 0x00, 0x14, 0x00,
+    0x02, 0x00, 0x0F, 0x00, 0x00, 0x00, 0x00, 0x00, 0x00, 0x00, 0x00, 0x00,
+];
+
+const AT_EDGE_2: [u8; 60] = [
+    0x01, 0x80, 0xC2, 0x00, 0x00, 0x00, 0x02, 0x00, 0x00, 0x00, 0x00, 0x0A, 0x00, 0x27, 0x42, 0x42,
+    0x03, 0x00, 0x00, 0x02, 0x02, 0x3C, 0x80, 0x00, 0x02, 0x00, 0x00, 0x00, 0x00, 0x0A, 0x00, 0x00,
+    0x00, 0x00, 0x80, 0x00, 0x02, 0x00, 0x00, 0x00, 0x00, 0x0A, 0x80, 0x02, 0x00, 0x00, 0x14, 0x00,
+    0x02, 0x00, 0x0F, 0x00, 0x00, 0x00, 0x00, 0x00, 0x00, 0x00, 0x00, 0x00,
+];
+
+fn two_ports() -> BridgeConfig
+    ensures { length result.ports.items ≡ 2 }
+{
+    let mut ports = ArrayVec::new();
+    ports.push(PortConfig {
+        ifindex: 1,
+        speed: 1000,
+        full: true,
+    });
+    ports.push(PortConfig {
+        ifindex: 2,
+        speed: 1000,
+        full: true,
+    });
+    BridgeConfig {
+        address: OWN,
+        ports,
+    }
+}
+
+fn opening() -> Rstp
+    ensures { length result.ports ≡ 2 }
+{
+    Rstp::new(&two_ports())
+}
+
+fn pass(tree: &mut Rstp, settings: &Settings, seconds: u32)
+    requires { length tree.old.ports ≤ length settings.now.ports }
+    ensures { length tree.new.ports ≡ length tree.old.ports }
+{
+    for _ in 0..seconds {
+        let _ = tree.tick(settings);
+    }
+}
+
+// What port `at + 1` sent.
+fn sent(outcome: &Outcome, at: usize) -> Option<Bpdu> {
+    match outcome.bpdus.as_slice().get(at) {
+        Some(bpdu) => *bpdu,
+        None => None,
+    }
+}
+
+// The frame of what port `at + 1` sent, or zeros.
+fn frame(outcome: &Outcome, at: usize) -> [u8; 60] {
+    let mut frame = [0; 60];
+    if let Some(bpdu) = sent(outcome, at) {
+        write_bpdu(&bpdu, OWN, &mut frame);
+    }
+    frame
+}
+
+fn is_config(bpdu: Option<Bpdu>) -> bool {
+    matches!(bpdu, Some(Bpdu::Config(_)))
+}
+
+fn is_rapid(bpdu: Option<Bpdu>) -> bool {
+    matches!(bpdu, Some(Bpdu::Rapid(_)))
+}
+
+// An RST message of a designated port that proposes: flags 0E.
+fn proposal(bridge: BridgeId, port: u16) -> Bpdu {
+    Bpdu::Rapid(Rapid {
+        topology_change: false,
+        proposal: true,
+        role: PortRole::Designated,
+        learning: false,
+        forwarding: false,
+        agreement: false,
+        vector: PriorityVector {
+            root: bridge,
+            cost: 0,
+            bridge,
+            port,
+        },
+        times: TIMES,
+    })
+}
+
+fn worse_config() -> Bpdu {
+    Bpdu::Config(Config {
+        topology_change: false,
+        proposal: false,
+        acknowledge: false,
+        vector: PriorityVector {
+            root: WORSE,
+            cost: 0,
+            bridge: WORSE,
+            port: 0x8001,
+        },
+        times: TIMES,
+    })
+}
+
+#[test]
+fn a_port_that_comes_up_proposes(rt: HostRuntime) -> Result<(), Fail> {
+    let settings = Settings::new(2);
+    let mut tree = opening();
+    let up = tree.link(1, true, &settings);
+    assert_eq!(rt; frame(&up, 0), PROPOSES);
+    assert_eq!(rt; frame(&up, 1), [0; 60]);
+    Ok(())
+}
+
+#[test]
+fn a_better_bridge_becomes_root(rt: HostRuntime) -> Result<(), Fail> {
+    let settings = Settings::new(2);
+    let mut tree = opening();
+    let _ = tree.link(1, true, &settings);
+    let answer = tree.on_bpdu(1, &proposal(BETTER, 0x8002), &settings);
+    assert_eq!(rt; frame(&answer, 0), AGREES);
+    assert_eq!(rt; tree.bridge_facts().root_port(), 1);
+    assert_eq!(rt; tree.bridge_facts().root.vector.cost, 20000);
+    Ok(())
+}
+
+#[test]
+fn a_root_port_forwards_at_once(rt: HostRuntime) -> Result<(), Fail> {
+    let settings = Settings::new(2);
+    let mut tree = opening();
+    let _ = tree.link(1, true, &settings);
+    let _ = tree.on_bpdu(1, &proposal(BETTER, 0x8002), &settings);
+    assert_eq!(rt; tree.state(1), State::Forwarding);
+    assert_eq!(rt; tree.bridge_facts().topology_changes, 1);
+    Ok(())
+}
+
+#[test]
+fn a_silent_root_is_forgotten(rt: HostRuntime) -> Result<(), Fail> {
+    let settings = Settings::new(2);
+    let mut tree = opening();
+    let _ = tree.link(1, true, &settings);
+    let _ = tree.on_bpdu(1, &proposal(BETTER, 0x8002), &settings);
+    pass(&mut tree, &settings, 5);
+    assert_eq!(rt; tree.bridge_facts().root_port(), 1);
+    pass(&mut tree, &settings, 1);
+    assert_eq!(rt; tree.bridge_facts().root_port(), 0);
+    Ok(())
+}
+
+#[test]
+fn a_designated_port_learns_and_then_forwards(rt: HostRuntime) -> Result<(), Fail> {
+    let settings = Settings::new(2);
+    let mut tree = opening();
+    let _ = tree.link(1, true, &settings);
+    pass(&mut tree, &settings, 15);
+    assert_eq!(rt; tree.state(1), State::Learning);
+    pass(&mut tree, &settings, 15);
+    assert_eq!(rt; tree.state(1), State::Forwarding);
+    assert_eq!(rt; tree.facts(1).forward_transitions, 1);
+    Ok(())
+}
+
+#[test]
+fn a_topology_change_is_counted_once(rt: HostRuntime) -> Result<(), Fail> {
+    let settings = Settings::new(2);
+    let mut tree = opening();
+    let _ = tree.link(1, true, &settings);
+    pass(&mut tree, &settings, 30);
+    assert_eq!(rt; tree.bridge_facts().topology_changes, 1);
+    assert_eq!(rt; tree.bridge_facts().since, 0);
+    pass(&mut tree, &settings, 3);
+    assert_eq!(rt; tree.bridge_facts().since, 1);
+    Ok(())
+}
+
+#[test]
+fn ports_at_the_edge_forward_at_once(rt: HostRuntime) -> Result<(), Fail> {
+    let mut settings = Settings::new(2);
+    let mut tree = opening();
+    settings.put(Key::Port(1, PortKey::Edge), 1);
+    settings.put(Key::Port(2, PortKey::Edge), 1);
+    let _ = tree.settle(&mut settings);
+    let first = tree.link(1, true, &settings);
+    assert_eq!(rt; frame(&first, 0), AT_EDGE_1);
+    let second = tree.link(2, true, &settings);
+    assert_eq!(rt; frame(&second, 1), AT_EDGE_2);
+    Ok(())
+}
+
+#[test]
+fn of_two_ports_on_one_wire_one_is_backup(rt: HostRuntime) -> Result<(), Fail> {
+    let settings = Settings::new(2);
+    let mut tree = opening();
+    let own = BridgeId {
+        priority: 0x8000,
+        address: OWN,
+    };
+    let _ = tree.link(1, true, &settings);
+    let _ = tree.link(2, true, &settings);
+    let _ = tree.on_bpdu(2, &proposal(own, 0x8001), &settings);
+    let _ = tree.on_bpdu(1, &proposal(own, 0x8002), &settings);
+    assert_eq!(rt; tree.role(1), Role::Designated);
+    assert_eq!(rt; tree.role(2), Role::Backup);
+    Ok(())
+}
+
+#[test]
+fn version_0_sends_config(rt: HostRuntime) -> Result<(), Fail> {
+    let mut settings = Settings::new(2);
+    let mut tree = opening();
+    settings.put(Key::Bridge(BridgeKey::Version), 0);
+    let _ = tree.settle(&mut settings);
+    let up = tree.link(1, true, &settings);
+    assert!(rt; is_config(sent(&up, 0)));
+    Ok(())
+}
+
+#[test]
+fn a_config_is_answered_by_config_until_an_rst_comes(rt: HostRuntime) -> Result<(), Fail> {
+    let settings = Settings::new(2);
+    let mut tree = opening();
+    let _ = tree.link(1, true, &settings);
+    let first = tree.on_bpdu(1, &worse_config(), &settings);
+    assert!(rt; is_config(sent(&first, 0)));
+    let second = tree.on_bpdu(1, &proposal(WORSE, 0x8001), &settings);
+    assert!(rt; is_rapid(sent(&second, 0)));
+    Ok(())
+}
+
+#[test]
+fn a_restart_forgets_an_old_neighbour(rt: HostRuntime) -> Result<(), Fail> {
+    let settings = Settings::new(2);
+    let mut tree = opening();
+    let _ = tree.link(1, true, &settings);
+    let _ = tree.on_bpdu(1, &worse_config(), &settings);
+    let _ = tree.link(1, false, &settings);
+    let up = tree.link(1, true, &settings);
+    assert!(rt; is_rapid(sent(&up, 0)));
+    Ok(())
+}
+
+#[test]
+fn a_migration_check_forgets_an_old_neighbour(rt: HostRuntime) -> Result<(), Fail> {
+    let mut settings = Settings::new(2);
+    let mut tree = opening();
+    let _ = tree.link(1, true, &settings);
+    let _ = tree.on_bpdu(1, &worse_config(), &settings);
+    settings.put(Key::Port(1, PortKey::Migrate), 1);
+    let _ = tree.settle(&mut settings);
+    assert_eq!(rt; settings.get(Key::Port(1, PortKey::Migrate)), 0);
+    let tick = tree.tick(&settings);
+    assert!(rt; is_rapid(sent(&tick, 0)));
+    Ok(())
+}

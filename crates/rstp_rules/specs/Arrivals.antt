@@ -1,0 +1,116 @@
+-- A BPDU that arrives (IEEE 802.1D-2004 17.21.1, 17.21.8 to 17.21.18, 17.21.22, 17.23, 17.27).
+use Rattle.std.specs.Prelude.{ℕ, Bool, true, false, ◌&&◌, ◌||◌, not, if◌then◌else◌, ◌==◌, List, map}
+use Rattle.std.specs.List.{list_any}
+use Rattle.std.specs.Ordering.{is_lt}
+use Rattle.frame_core.specs.declared.bpdu.BridgeId.{BridgeId}
+use Rattle.frame_core.specs.declared.bpdu.PriorityVector.{PriorityVector}
+use Rattle.frame_core.specs.declared.bpdu.Times.{Times}
+use Rattle.frame_core.specs.declared.bpdu.PortRole.{PortRole}
+use Rattle.frame_core.specs.declared.bpdu.PortRole.TheVariants as said
+use Rattle.frame_core.specs.declared.bpdu.Bpdu.{Bpdu}
+use Rattle.frame_core.specs.declared.bpdu.Bpdu.TheVariants.{Config, TopologyChange, Rapid}
+use Rattle.rstp_settings.specs.Table.{Table}
+use Rattle.rstp_rules.specs.declared.row.Row.{Row}
+use Rattle.rstp_rules.specs.declared.row.Timing.{Timing}
+use Rattle.rstp_rules.specs.declared.port.Info.TheVariants.{Received}
+use Rattle.rstp_rules.specs.Bpdus.{tells_change}
+use Rattle.rstp_rules.specs.Ports.{is_received, is_root, is_designated, is_root_or_designated}
+use Rattle.rstp_rules.specs.Vectors.{vector_cmp, same_mac, same_vector, same_times, same_sender, port_number, info_time}
+use Rattle.rstp_rules.specs.Lines.{rstp_version, timers_of, times_in_force, timing_of}
+use Rattle.rstp_rules.specs.Transitions.{spread}
+
+-- The sender of the vector is the port itself.
+abbrev pub is_own : BridgeId → Row → PriorityVector → Bool
+is_own own r v = same_mac v.bridge.address own.address && port_number v.port == port_number r.line.id
+
+-- A BPDU on a port that is off, or (Config and RST) of the port itself, is ignored.
+abbrev pub is_taken : BridgeId → Bpdu → Row → Bool
+is_taken own TopologyChange r = r.line.on
+is_taken own (Config m) r = r.line.on && not (is_own own r m.vector)
+is_taken own (Rapid m) r = r.line.on && not (is_own own r m.vector)
+
+-- 17.21.22, 17.25. Each message that is taken: the port is at no edge, and Config and TCN make it send no RST, RST make it send them.
+abbrev pub marked : Bool → Row → Row
+marked rapid r = record r { port = record r.port { edge = false; send_rstp = rapid } }
+
+-- 17.21.1, 17.21.8. A vector is taken where it is better, or where the port that sent the recorded one sends again.
+abbrev pub is_superior : PriorityVector → Row → Bool
+is_superior v r = is_lt (vector_cmp v r.port.vector) || (is_received r.port.info && same_sender v r.port.vector)
+
+-- 17.21.11 to 17.21.13, 17.21.23. It is recorded with its times and its age; what differs is not agreed; a
+-- proposal is noted.
+abbrev pub recorded : PriorityVector → Times → Bool → Row → Row
+recorded v t proposal r =
+    let same = same_vector v r.port.vector && same_times t r.port.times in
+    record r {
+      port = record r.port {
+        info = Received;
+        vector = v;
+        times = t;
+        info_while = info_time t;
+        agreed = r.port.agreed && same;
+        agree = r.port.agree && same;
+      };
+      proposed = proposal;
+    }
+
+-- A message of a designated port: its vector is recorded, or else a designated port answers it.
+abbrev pub offered : PriorityVector → Times → Bool → Row → Row
+offered v t proposal r =
+    if is_superior v r then recorded v t proposal r
+    else (if is_designated r.port.role then record r { port = record r.port { pending = true } } else r)
+
+-- 17.21.9. A message of a root, alternate or backup port to a designated port that it does not beat: agreed
+-- where it agrees over a point to point link.
+abbrev pub answered : PriorityVector → Bool → Row → Row
+answered v agreement r = if is_designated r.port.role && not (is_lt (vector_cmp v r.port.vector))
+    then record r { port = record r.port { agreed = agreement && r.line.point_to_point } }
+    else r
+
+-- 17.21.8. By the role that an RST message tells. One of unknown role does nothing here.
+abbrev pub by_role : PortRole → PriorityVector → Times → Bool → Bool → Row → Row
+by_role said.Unknown v t proposal agreement r = r
+by_role said.AlternateOrBackup v t proposal agreement r = answered v agreement r
+by_role said.Root v t proposal agreement r = answered v agreement r
+by_role said.Designated v t proposal agreement r = offered v t proposal r
+
+-- A message that is taken. Under version 0 the proposal and agreement flags are read as 0.
+abbrev pub taken : Bool → Bpdu → Row → Row
+taken rstp TopologyChange r = marked false r
+taken rstp (Config m) r = offered m.vector m.times (m.proposal && rstp) (marked false r)
+taken rstp (Rapid m) r = by_role m.role m.vector m.times (m.proposal && rstp) (m.agreement && rstp) (marked true r)
+
+-- A message at port n, as far as that port is concerned.
+abbrev pub received : BridgeId → Bool → ℕ → Bpdu → Row → Row
+received own rstp n b r = if r.line.number == n && is_taken own b r then taken rstp b r else r
+
+-- 17.21.17. Whether the message at port n tells the other ports of a topology change: with its flag, or as a TCN,
+-- on a root or designated port.
+abbrev pub spreads : BridgeId → ℕ → Bpdu → Row → Bool
+spreads own n b r = r.line.number == n && is_taken own b r && is_root_or_designated r.port.role && tells_change b
+
+-- 17.21.17. What it tells the port itself of a topology change: an acknowledgment to the root port, which need
+-- not tell any longer; a notification to a designated port, which acknowledges it.
+abbrev pub acknowledged : Bpdu → Row → Row
+acknowledged TopologyChange r = if is_designated r.port.role then record r { port = record r.port { acknowledge = true; pending = true } } else r
+acknowledged (Config m) r = if m.acknowledge && is_root r.port.role then record r { port = record r.port { change_while = 0 } } else r
+acknowledged (Rapid m) r = r
+
+-- A message at port n: the topology change, where `change` says that it tells one.
+abbrev pub told : Timing → BridgeId → ℕ → Bpdu → Bool → Row → Row
+told t own n b change r =
+    if r.line.number == n then (if is_taken own b r then acknowledged b r else r)
+    else (if change then spread t r else r)
+
+abbrev pub told_all : Timing → BridgeId → ℕ → Bpdu → List Row → List Row
+told_all t own n b rows = map (told t own n b (list_any (spreads own n b) rows)) rows
+
+abbrev pub received_all : BridgeId → Bool → ℕ → Bpdu → List Row → List Row
+received_all own rstp n b rows = map (received own rstp n b) rows
+
+-- A message at port n: first what it tells the port, then the topology change, with the times in force then.
+-- Roles are as they were before the event.
+unfoldable pub arrived : Table → BridgeId → ℕ → Bpdu → List Row → List Row
+arrived s own n b rows =
+    let heard = received_all own (rstp_version s) n b rows in
+    told_all (timing_of s (times_in_force (timers_of s) heard)) own n b heard

@@ -1,0 +1,10 @@
+-- What a BPDU tells of a topology change (IEEE 802.1D-2004 9.3, 17.21.8).
+use Rattle.std.specs.Prelude.{Bool, true}
+use Rattle.frame_core.specs.declared.bpdu.Bpdu.{Bpdu}
+use Rattle.frame_core.specs.declared.bpdu.Bpdu.TheVariants.{Config, TopologyChange, Rapid}
+
+-- The topology change flag; a topology change notification is one.
+abbrev pub tells_change : Bpdu → Bool
+tells_change TopologyChange = true
+tells_change (Config m) = m.topology_change
+tells_change (Rapid m) = m.topology_change

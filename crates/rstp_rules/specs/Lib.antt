@@ -1,0 +1,11 @@
+pub mod Vectors
+pub mod Ports
+pub mod Bpdus
+pub mod Lines
+pub mod Roles
+pub mod Restarts
+pub mod Arrivals
+pub mod Ticks
+pub mod Transitions
+pub mod Turns
+pub mod Sends

@@ -1,0 +1,135 @@
+-- What the settings come to: for a port (IEEE 802.1D-2004 6.4.3, 9.2.5, 9.2.7, 17.14), and as times in
+-- force (17.18.4, 17.18.7, 17.20.5 to 17.20.8).
+use Rattle.std.specs.Prelude.{ℕ, ◌+◌, ◌*◌, ◌/◌, ◌≤◌, Bool, true, false, ◌&&◌, ◌||◌, if◌then◌else◌, ◌==◌, min, max, List, Option, Some, None}
+use Rattle.std.specs.List.{find}
+use Rattle.frame_core.specs.declared.mac.Mac.{Mac}
+use Rattle.frame_core.specs.declared.bpdu.BridgeId.{BridgeId}
+use Rattle.frame_core.specs.declared.bpdu.PriorityVector.{PriorityVector}
+use Rattle.frame_core.specs.declared.bpdu.Times.{Times}
+use Rattle.rstp_settings.specs.Table.{Table, get}
+use Rattle.rstp_settings.specs.declared.key.PortValues.{PortValues}
+use Rattle.rstp_settings.specs.declared.key.Key.TheVariants as key
+use Rattle.rstp_settings.specs.declared.key.BridgeKey.TheVariants as bridge
+use Rattle.rstp_settings.specs.declared.key.PortKey.TheVariants as port
+use Rattle.rstp_rules.specs.declared.config.PortConfig.{PortConfig}
+use Rattle.rstp_rules.specs.declared.port.Port.{Port}
+use Rattle.rstp_rules.specs.declared.row.Line.{Line}
+use Rattle.rstp_rules.specs.declared.row.Row.{Row}
+use Rattle.rstp_rules.specs.declared.row.Best.{Best}
+use Rattle.rstp_rules.specs.declared.row.Context.{Context}
+use Rattle.rstp_rules.specs.declared.row.Timing.{Timing}
+use Rattle.rstp_rules.specs.declared.settled.Timers.{Timers}
+use Rattle.rstp_rules.specs.declared.settled.SettledPort.{SettledPort}
+use Rattle.rstp_rules.specs.Vectors.{port_id}
+use Rattle.rstp_rules.specs.Ports.{is_root}
+
+-- The bridge id: the priority setting and the bridge address.
+abbrev pub own_id : Table → Mac → BridgeId
+own_id s address = record { priority = get s (key.Bridge bridge.Priority); address = address }
+
+-- 17.20.11. Whether the version is 2.
+abbrev pub rstp_version : Table → Bool
+rstp_version s = get s (key.Bridge bridge.Version) == 2
+
+-- The default cost of a speed in Mb/s (17.14).
+abbrev pub default_cost : ℕ → ℕ
+default_cost speed = if speed == 10 then 2000000 else (if speed == 100 then 200000 else 20000)
+
+-- The cost in use is the setting, or where that is 0 the default.
+abbrev pub cost_in_use : ℕ → ℕ → ℕ
+cost_in_use setting speed = if setting == 0 then default_cost speed else setting
+
+-- 6.4.3. Forced true, forced false, or by full duplex.
+abbrev pub is_point_to_point : ℕ → Bool → Bool
+is_point_to_point setting full = setting == 0 || (setting == 2 && full)
+
+-- Whether a port is enabled by its setting.
+abbrev pub enabled_by : Table → ℕ → Bool
+enabled_by s n = get s (key.Port n port.Enable) == 1
+
+-- Whether a port is set to be at the edge.
+abbrev pub edge_by : Table → ℕ → Bool
+edge_by s n = get s (key.Port n port.Edge) == 1
+
+-- Port n under the settings s, where w are its settled values. It is on where it is enabled and its link is up.
+abbrev pub line_of : Table → SettledPort → ℕ → PortConfig → Bool → Line
+line_of s w n c link = record {
+  number = n;
+  id = port_id (get s (key.Port n port.Priority)) n;
+  cost = cost_in_use (get s (key.Port n port.Cost)) c.speed;
+  enabled = enabled_by s n;
+  on = enabled_by s n && link;
+  point_to_point = is_point_to_point (get s (key.Port n port.PointToPoint)) c.full;
+  edge = edge_by s n;
+  migrate = get s (key.Port n port.Migrate) == 1;
+  was_enabled = w.enabled;
+  was_edge = w.edge;
+}
+
+-- The row of port n as an event begins.
+abbrev pub row_of : Table → SettledPort → ℕ → PortConfig → Port → Row
+row_of s w n c p = record {
+  line = line_of s w n c p.link;
+  was = record { role = p.role; state = p.state; vector = p.vector };
+  port = p;
+  proposed = false;
+  flushed = false;
+}
+
+-- 1/256 s in seconds, rounded up and at least 1.
+abbrev pub seconds : ℕ → ℕ
+seconds t = max ((t + 255) / 256) 1
+
+-- Hundredths of a second in 1/256 s.
+abbrev pub in_256ths : ℕ → ℕ
+in_256ths t = t * 256 / 100
+
+abbrev pub timers_of : Table → Timers
+timers_of s = record {
+  max_age = get s (key.Bridge bridge.MaxAge);
+  hello = get s (key.Bridge bridge.Hello);
+  forward_delay = get s (key.Bridge bridge.ForwardDelay);
+}
+
+-- The settings as times, with message age 0.
+abbrev pub set_times : Timers → Times
+set_times m = record { message_age = 0; max_age = in_256ths m.max_age; hello = in_256ths m.hello; forward_delay = in_256ths m.forward_delay }
+
+-- 17.18.7, 17.21.25. The times in force: the settings where this bridge is root, and else those of the root port
+-- with one second added to the message age, at most 65535.
+abbrev pub times_by : Timers → Option Row → Times
+times_by m None = set_times m
+times_by m (Some r) = record r.port.times { message_age = min (r.port.times.message_age + 256) 65535 }
+
+abbrev pub times_in_force : Timers → List Row → Times
+times_in_force m rows = times_by m (find (λ r. is_root r.port.role) rows)
+
+-- The times in force in seconds.
+abbrev pub timing_of : Table → Times → Timing
+timing_of s t = record { rstp_version = rstp_version s; max_age = seconds t.max_age; hello = seconds t.hello; forward_delay = seconds t.forward_delay }
+
+-- What holds for all ports under a root vector.
+abbrev pub context_of : Table → BridgeId → Best → Times → Times → Context
+context_of s own root was times = record {
+  own = own;
+  root = root;
+  was_times = was;
+  times = times;
+  timing = timing_of s times;
+  hold_count = get s (key.Bridge bridge.HoldCount);
+}
+
+-- The values that settling the settings keeps: the version, the three times, and whether each port is enabled
+-- and at the edge.
+abbrev pub settled_port_of : PortValues → SettledPort
+settled_port_of p = record { enabled = p.enable == 1; edge = p.edge == 1 }
+
+-- Where there is no port.
+abbrev pub no_settled_port : SettledPort
+no_settled_port = record { enabled = false; edge = false }
+
+-- Times in force are at most 256 seconds.
+pub record IsSmall (t : Timing) : Type 0 where
+  pub max_age : t.max_age ≤ 256
+  pub hello : t.hello ≤ 256
+  pub forward_delay : t.forward_delay ≤ 256

@@ -1,0 +1,117 @@
+-- How the state of a port follows from its role (IEEE 802.1D-2004 17.29 to 17.31), in six steps, each taken for all
+-- ports before the next: a. blocked ports, b. changed roles, c. what is to be told, d. synchronization, e. the next
+-- state, f. topology changes.
+use Rattle.std.specs.Prelude.{ℕ, ◌+◌, ◌%◌, ◌^◌, Bool, true, false, ◌&&◌, ◌||◌, not, if◌then◌else◌, ◌==◌, List, map}
+use Rattle.std.specs.List.{list_any, list_all}
+use Rattle.rstp_rules.specs.declared.row.Row.{Row}
+use Rattle.rstp_rules.specs.declared.row.Context.{Context}
+use Rattle.rstp_rules.specs.declared.row.Timing.{Timing}
+use Rattle.rstp_rules.specs.declared.port.State.TheVariants.{Discarding, Forwarding}
+use Rattle.rstp_rules.specs.Ports.{is_root_or_designated, is_alternate_or_backup, is_root, is_designated, same_role, is_discarding, is_forwarding, next_state}
+use Rattle.rstp_rules.specs.Vectors.{same_vector, same_times}
+
+abbrev pub has_changed_role : Row → Bool
+has_changed_role r = not (same_role r.was.role r.port.role)
+
+-- a. A port whose role became alternate or backup: discarding; no wait, no topology change; its learned rows go.
+abbrev pub blocked : Row → Row
+blocked r = if is_alternate_or_backup r.port.role && has_changed_role r
+    then record r { port = record r.port { state = Discarding; forward_while = 0; change_while = 0 }; flushed = true }
+    else r
+
+-- b. A discarding port that became root or designated, and was neither, waits the forward delay.
+abbrev pub delayed : Context → Row → Row
+delayed c r = if is_root_or_designated r.port.role && not (is_root_or_designated r.was.role) && is_discarding r.port.state
+    then record r { port = record r.port { forward_while = c.timing.forward_delay } }
+    else r
+
+-- b. From root to designated while not discarding: a recent root.
+abbrev pub retired : Context → Row → Row
+retired c r = if is_root r.was.role && is_designated r.port.role && not (is_discarding r.port.state)
+    then record r { port = record r.port { recent_root_while = c.timing.forward_delay } }
+    else r
+
+-- b. A changed role has no agreement.
+abbrev pub disagreed : Row → Row
+disagreed r = if has_changed_role r
+    then record r { port = record r.port { agreed = false; agree = false } }
+    else r
+
+-- b. A discarding port is no recent root.
+abbrev pub rested : Row → Row
+rested r = if is_discarding r.port.state
+    then record r { port = record r.port { recent_root_while = 0 } }
+    else r
+
+-- c. A designated port whose role, vector or times in force changed in this event has something to send. A changed
+-- vector is not agreed.
+abbrev pub announced : Context → Row → Row
+announced c r = if is_designated r.port.role && (has_changed_role r || not (same_vector r.was.vector r.port.vector) || not (same_times c.was_times c.times))
+    then record r { port = record r.port { pending = true; agreed = r.port.agreed && same_vector r.was.vector r.port.vector } }
+    else r
+
+-- a to c, each of which looks at one port.
+abbrev pub turned : Context → Row → Row
+turned c r = announced c (rested (disagreed (retired c (delayed c (blocked r)))))
+
+-- d. A proposal was noted on the port that is now root.
+abbrev pub proposed_to_root : List Row → Bool
+proposed_to_root rows = list_any (λ r. is_root r.port.role && r.proposed) rows
+
+-- d. Each designated port that is not edge, not agreed and not discarding becomes discarding, and the root port agrees.
+abbrev pub synced : Context → Row → Row
+synced c r = if is_root r.port.role
+    then record r { port = record r.port { agree = true; pending = true } }
+    else (if is_designated r.port.role && not r.port.edge && not r.port.agreed && not (is_discarding r.port.state)
+    then record r { port = record r.port { state = Discarding; forward_while = c.timing.forward_delay; recent_root_while = 0; pending = true } }
+    else r)
+
+-- d. Under version 2.
+abbrev pub synced_all : Context → List Row → List Row
+synced_all c rows = if c.timing.rstp_version && proposed_to_root rows then map (synced c) rows else rows
+
+-- e. No port but the root port is a recent root.
+abbrev pub no_recent_root : List Row → Bool
+no_recent_root rows = list_all (λ r. is_root r.port.role || r.port.recent_root_while == 0) rows
+
+-- e. Under version 2 the root port forwards at once where no other port is a recent root, and a designated port
+-- where it is at the edge or agreed.
+abbrev pub is_quick : Context → Bool → Row → Bool
+is_quick c clear r = c.timing.rstp_version && (is_root r.port.role && clear || is_designated r.port.role && (r.port.edge || r.port.agreed))
+
+-- e. Any other root or designated port whose wait is over takes the next state, and waits again before it forwards.
+abbrev pub advanced : Context → Bool → Row → Row
+advanced c clear r = if is_quick c clear r
+    then record r { port = record r.port { state = Forwarding } }
+    else (if is_root_or_designated r.port.role && r.port.forward_while == 0
+    then record r { port = record r.port { state = next_state r.port.state; forward_while = (if is_discarding r.port.state then c.timing.forward_delay else 0) } }
+    else r)
+
+abbrev pub advanced_all : Context → List Row → List Row
+advanced_all c rows = map (advanced c (no_recent_root rows)) rows
+
+-- f. A port became forwarding.
+abbrev pub has_begun : Row → Bool
+has_begun r = is_forwarding r.port.state && not (is_forwarding r.was.state)
+
+-- 17.21.7. For how long a topology change is told: a hello time and a second to neighbours of RST, and else the
+-- maximum age and the forward delay.
+abbrev pub change_time : Timing → Row → ℕ
+change_time t r = if t.rstp_version && r.port.send_rstp then t.hello + 1 else t.max_age + t.forward_delay
+
+-- 17.21.7. A port starts to tell a topology change, unless it does already.
+abbrev pub started : Timing → Row → Row
+started t r = if r.port.change_while == 0
+    then record r { port = record r.port { change_while = change_time t r; pending = true } }
+    else r
+
+-- 17.21.18. Another port tells the change too, and its learned rows go: one that is on, root or designated, and
+-- not at the edge.
+abbrev pub spread : Timing → Row → Row
+spread t r = if r.line.on && is_root_or_designated r.port.role && not r.port.edge
+    then record (started t r) { flushed = true }
+    else r
+
+-- f. Its forward transitions rise by one.
+abbrev pub counted : Row → Row
+counted r = record r { port = record r.port { forward_transitions = (r.port.forward_transitions + 1) % 2 ^ 32 } }

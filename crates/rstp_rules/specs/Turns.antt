@@ -1,0 +1,50 @@
+-- Ports that became forwarding start topology changes, each in its turn (IEEE 802.1D-2004 17.31).
+use Rattle.std.specs.Prelude.{ℕ, ◌==◌, false, if◌then◌else◌, List, [], ◌∷◌, map, length, slice_index_or, slice_set}
+use Rattle.std.proofs.Common.{zero, suc}
+use Rattle.frame_core.specs.declared.bpdu.BridgeId.{BridgeId}
+use Rattle.frame_core.specs.declared.bpdu.PriorityVector.{PriorityVector}
+use Rattle.rstp_rules.specs.declared.port.Role.TheVariants.{Disabled}
+use Rattle.rstp_rules.specs.declared.port.State.TheVariants.{Discarding}
+use Rattle.rstp_rules.specs.declared.row.Row.{Row}
+use Rattle.rstp_rules.specs.declared.row.Timing.{Timing}
+use Rattle.rstp_rules.specs.Ports.{opening_port}
+use Rattle.rstp_rules.specs.Transitions.{has_begun, counted, started, spread}
+
+-- where there is no port
+abbrev pub no_bridge : BridgeId
+no_bridge = record { priority = 0; address = record { 0 = 0 ∷ 0 ∷ 0 ∷ 0 ∷ 0 ∷ 0 ∷ [] } }
+
+abbrev pub no_vector : PriorityVector
+no_vector = record { root = no_bridge; cost = 0; bridge = no_bridge; port = 0 }
+
+abbrev pub no_row : Row
+no_row = record {
+  line = record { number = 0; id = 0; cost = 0; enabled = false; on = false; point_to_point = false; edge = false; migrate = false; was_enabled = false; was_edge = false };
+  was = record { role = Disabled; state = Discarding; vector = no_vector };
+  port = opening_port no_vector (record { message_age = 0; max_age = 0; hello = 0; forward_delay = 0 });
+  proposed = false;
+  flushed = false;
+}
+
+-- The other ports.
+abbrev pub spread_but : Timing → ℕ → Row → Row
+spread_but t n r = if r.line.number == n then r else spread t r
+
+-- A port that became forwarding: its transitions rise by one, and where it is not at the edge it starts to tell.
+abbrev pub begun : Timing → Row → Row
+begun t r = if r.port.edge then counted r else started t (counted r)
+
+-- The turn of row k: where it became forwarding and is not at the edge, the other ports tell it too.
+abbrev pub turn_at : Timing → List Row → ℕ → List Row
+turn_at t rows k = let r = slice_index_or rows k no_row in
+    if has_begun r
+    then (if r.port.edge then slice_set rows k (begun t r) else map (spread_but t r.line.number) (slice_set rows k (begun t r)))
+    else rows
+
+-- The turns of the first n rows, in ascending order.
+abbrev pub first_turns : Timing → ℕ → List Row → List Row
+first_turns t zero rows = rows
+first_turns t (suc n) rows = turn_at t (first_turns t n rows) n
+
+abbrev pub turns : Timing → List Row → List Row
+turns t rows = first_turns t (length rows) rows

@@ -1,0 +1,15 @@
+ghost use Rattle.std.specs.Prelude.{◌≡◌};
+ghost use Rattle.rstp_rules.specs.Bpdus.{tells_change};
+
+use frame_core::Bpdu;
+
+/// Whether a message tells a topology change.
+pub fn has_topology_change(bpdu: &Bpdu) -> bool
+    ensures { result ≡ tells_change bpdu.now }
+{
+    match bpdu {
+        Bpdu::TopologyChange => true,
+        Bpdu::Config(message) => message.topology_change,
+        Bpdu::Rapid(message) => message.topology_change,
+    }
+}

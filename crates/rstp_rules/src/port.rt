@@ -1,0 +1,162 @@
+ghost use Rattle.std.specs.Prelude.{◌≡◌};
+ghost use Rattle.rstp_rules.specs.Ports.{is_received, is_root_or_designated, is_alternate_or_backup, is_root, is_designated, is_discarding, is_forwarding, next_state, opening_port};
+
+use frame_core::{PriorityVector, Times};
+
+/// Where a port's vector comes from (IEEE 802.1D-2004 17.19.10 infoIs).
+#[derive(Clone, Copy, Debug, Default, PartialEq, Eq)]
+pub enum Info {
+    /// The bridge's own designated vector.
+    #[default]
+    Mine,
+    /// A message of another port.
+    Received,
+}
+
+/// A port's role (17.7).
+#[derive(Clone, Copy, Debug, Default, PartialEq, Eq)]
+pub enum Role {
+    #[default]
+    Disabled,
+    Designated,
+    Root,
+    Alternate,
+    Backup,
+}
+
+/// A port's state (7.4).
+#[derive(Clone, Copy, Debug, Default, PartialEq, Eq)]
+pub enum State {
+    #[default]
+    Discarding,
+    Learning,
+    Forwarding,
+}
+
+/// What a port holds between events. Counts are in ticks of one second (17.17), and count down to 0.
+#[derive(Clone, Copy, Debug, PartialEq, Eq)]
+pub struct Port {
+    /// Whether its link is up.
+    pub link: bool,
+    pub info: Info,
+    /// The port priority vector (17.19.21).
+    pub vector: PriorityVector,
+    /// The times that came with the vector (17.19.22).
+    pub times: Times,
+    pub role: Role,
+    pub state: State,
+    /// How long the received vector is kept (rcvdInfoWhile).
+    pub info_while: u16,
+    /// The wait before the next state (fdWhile).
+    pub forward_while: u16,
+    /// How long the port counts as a recent root port (rrWhile).
+    pub recent_root_while: u16,
+    /// How long the port tells a topology change (tcWhile).
+    pub change_while: u16,
+    /// The wait before the next regular message (helloWhen).
+    pub hello_when: u16,
+    /// How many messages were sent lately (txCount).
+    pub sent_count: u16,
+    /// Whether the port is at the edge of the network (operEdge).
+    pub edge: bool,
+    /// Whether the port sends RST messages under version 2 (sendRSTP).
+    pub send_rstp: bool,
+    /// Whether the neighbour has agreed (agreed).
+    pub agreed: bool,
+    /// Whether the port tells its agreement (agree).
+    pub agree: bool,
+    /// Whether the port owes a topology change acknowledgment (tcAck).
+    pub acknowledge: bool,
+    /// Whether the port has something to send (newInfo).
+    pub pending: bool,
+    /// How often the port became forwarding, modulo 2^32.
+    pub forward_transitions: u32,
+}
+
+impl Info {
+    pub fn is_received(self) -> bool
+        ensures { result ≡ is_received self }
+    {
+        matches!(self, Info::Received)
+    }
+}
+
+impl Role {
+    pub fn is_root_or_designated(self) -> bool
+        ensures { result ≡ is_root_or_designated self }
+    {
+        matches!(self, Role::Root | Role::Designated)
+    }
+
+    pub fn is_alternate_or_backup(self) -> bool
+        ensures { result ≡ is_alternate_or_backup self }
+    {
+        matches!(self, Role::Alternate | Role::Backup)
+    }
+
+    pub fn is_root(self) -> bool
+        ensures { result ≡ is_root self }
+    {
+        matches!(self, Role::Root)
+    }
+
+    pub fn is_designated(self) -> bool
+        ensures { result ≡ is_designated self }
+    {
+        matches!(self, Role::Designated)
+    }
+}
+
+impl State {
+    pub fn is_discarding(self) -> bool
+        ensures { result ≡ is_discarding self }
+    {
+        matches!(self, State::Discarding)
+    }
+
+    pub fn is_forwarding(self) -> bool
+        ensures { result ≡ is_forwarding self }
+    {
+        matches!(self, State::Forwarding)
+    }
+
+    /// The state that follows when the wait is over.
+    pub fn next(self) -> State
+        ensures { result ≡ next_state self }
+    {
+        match self {
+            State::Discarding => State::Learning,
+            State::Learning => State::Forwarding,
+            State::Forwarding => State::Forwarding,
+        }
+    }
+}
+
+impl Port {
+    /// A port at the opening: as after a restart with its link down, with this vector and these times.
+    pub fn opening(vector: PriorityVector, times: Times) -> Self
+        ensures { result ≡ opening_port vector times }
+    {
+        Port {
+            link: false,
+            info: Info::Mine,
+            vector,
+            times,
+            role: Role::Disabled,
+            state: State::Discarding,
+            info_while: 0,
+            forward_while: 0,
+            recent_root_while: 0,
+            change_while: 0,
+            hello_when: 0,
+            sent_count: 0,
+            edge: false,
+            send_rstp: true,
+            agreed: false,
+            agree: false,
+            acknowledge: false,
+            pending: false,
+            forward_transitions: 0,
+        }
+    }
+}

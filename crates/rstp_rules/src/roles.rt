@@ -1,0 +1,112 @@
+ghost use Rattle.std.specs.Prelude.{◌≡◌};
+ghost use Rattle.rstp_rules.specs.Roles.{best_cmp, beats, expired, own_best, candidate, or_better, designated_vector, designated, with_role};
+
+use crate::port::{Info, Role};
+use crate::row::{Best, Line, Row};
+use crate::vector::{is_better, is_same_address};
+use frame_core::{BridgeId, PriorityVector};
+
+impl Best {
+    /// The bridge's own vector (IEEE 802.1D-2004 17.6).
+    pub fn own(own: BridgeId) -> Self
+        ensures { result ≡ own_best own }
+    {
+        Best {
+            vector: PriorityVector {
+                root: own,
+                cost: 0,
+                bridge: own,
+                port: 0,
+            },
+            receiver: 0,
+        }
+    }
+
+    /// Whether this is better than the other. Where the vectors are equal the receiving port decides.
+    pub fn beats(&self, other: &Best) -> bool
+        ensures { result ≡ beats self.now other.now }
+    {
+        self.cmp(other).is_lt()
+    }
+
+    /// The better of this and what a port may offer.
+    pub fn or_better(self, other: Option<Best>) -> Best
+        ensures { result ≡ or_better self other }
+    {
+        match other {
+            Some(candidate) if candidate.beats(&self) => candidate,
+            _ => self,
+        }
+    }
+
+    /// The vector of a designated port under this root (17.19.4).
+    pub fn designated(&self, own: BridgeId, line: &Line) -> PriorityVector
+        ensures { result ≡ designated_vector own self.now line.now }
+    {
+        PriorityVector {
+            root: self.vector.root,
+            cost: self.vector.cost,
+            bridge: own,
+            port: line.id,
+        }
+    }
+}
+
+impl Row {
+    /// A received vector whose time is over is received no longer.
+    pub fn expire(&mut self)
+        ensures { self.new ≡ expired self.old }
+    {
+        if self.port.info.is_received() && self.port.info_while == 0 {
+            self.port.info = Info::Mine;
+        }
+    }
+
+    /// What the port offers for the root vector.
+    pub fn candidate(&self, own: BridgeId) -> Option<Best>
+        ensures { result ≡ candidate own self.now }
+    {
+        if self.line.on
+            && self.port.info.is_received()
+            && !is_same_address(self.port.vector.bridge.address, own.address)
+        {
+            let mut vector = self.port.vector;
+            vector.cost = vector.cost.saturating_add(self.line.cost);
+            Some(Best {
+                vector,
+                receiver: self.line.id,
+            })
+        } else {
+            None
+        }
+    }
+
+    fn designate(&mut self, own: BridgeId, root: &Best)
+        ensures { self.new ≡ designated own root.now self.old }
+    {
+        self.port.info = Info::Mine;
+        self.port.role = Role::Designated;
+        self.port.vector = root.designated(own, &self.line);
+    }
+
+    /// Gives the port its role under a root (17.21.25).
+    pub fn choose_role(&mut self, own: BridgeId, root: &Best)
+        ensures { self.new ≡ with_role own root.now self.old }
+    {
+        let designated = root.designated(own, &self.line);
+        if !self.line.on {
+            self.port.role = Role::Disabled;
+            self.port.vector = designated;
+        } else if !self.port.info.is_received() {
+            self.designate(own, root);
+        } else if root.receiver == self.line.id {
+            self.port.role = Role::Root;
+        } else if is_better(&designated, &self.port.vector) {
+            self.designate(own, root);
+        } else if is_same_address(self.port.vector.bridge.address, own.address) {
+            self.port.role = Role::Backup;
+        } else {
+            self.port.role = Role::Alternate;
+        }
+    }
+}

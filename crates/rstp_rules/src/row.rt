@@ -1,0 +1,114 @@
+use crate::port::{Port, Role, State};
+use frame_core::{BridgeId, Mac, PriorityVector, Times};
+
+/// What a port's settings, its link and its number come to during an event.
+#[derive(Clone, Copy, Debug, Default)]
+pub struct Line {
+    /// The port's number, from 1.
+    pub number: u16,
+    /// Its port identifier.
+    pub id: u16,
+    /// Its path cost in use.
+    pub cost: u32,
+    /// Whether it is enabled by its setting.
+    pub enabled: bool,
+    /// Whether it is enabled and its link is up.
+    pub on: bool,
+    /// Whether its link is point to point.
+    pub point_to_point: bool,
+    /// Its edge setting.
+    pub edge: bool,
+    /// Whether a protocol migration check is asked for.
+    pub migrate: bool,
+    /// Whether it was enabled when the settings were last settled.
+    pub was_enabled: bool,
+    /// Its edge setting when the settings were last settled.
+    pub was_edge: bool,
+}
+
+/// What a port was before the roles are chosen anew: at the start of the event, or just restarted.
+#[derive(Clone, Copy, Debug)]
+pub struct Before {
+    pub role: Role,
+    pub state: State,
+    /// The vector at the start of the event.
+    pub vector: PriorityVector,
+}
+
+/// A port in the course of an event.
+#[derive(Clone, Copy, Debug)]
+pub struct Row {
+    pub line: Line,
+    pub was: Before,
+    pub port: Port,
+    /// Whether a proposal was noted in this event.
+    pub proposed: bool,
+    /// Whether its learned rows go in this event.
+    pub flushed: bool,
+}
+
+/// A root vector, and the port by which it came.
+#[derive(Clone, Copy, Debug, PartialEq, Eq, PartialOrd, Ord)]
+pub struct Best {
+    pub vector: PriorityVector,
+    /// The receiving port's identifier; 0, which is no port's, for the bridge's own vector.
+    pub receiver: u16,
+}
+
+/// The version, and the times in force in seconds.
+#[derive(Clone, Copy, Debug)]
+pub struct Timing {
+    /// Whether the version is 2 (IEEE 802.1D-2004 17.20.11 rstpVersion).
+    pub rstp_version: bool,
+    pub max_age: u16,
+    pub hello: u16,
+    pub forward_delay: u16,
+}
+
+/// What holds for all ports in an event once the root is known.
+#[derive(Clone, Copy, Debug)]
+pub struct Context {
+    /// This bridge's identifier.
+    pub own: BridgeId,
+    pub root: Best,
+    /// The times in force at the start of the event.
+    pub was_times: Times,
+    /// The times in force.
+    pub times: Times,
+    pub timing: Timing,
+    /// How many messages a port may send in a row.
+    pub hold_count: u16,
+}
+
+impl Default for Row {
+    fn default() -> Self {
+        let nobody = BridgeId {
+            priority: 0,
+            address: Mac([0; 6]),
+        };
+        let vector = PriorityVector {
+            root: nobody,
+            cost: 0,
+            bridge: nobody,
+            port: 0,
+        };
+        Row {
+            line: Line::default(),
+            was: Before {
+                role: Role::Disabled,
+                state: State::Discarding,
+                vector,
+            },
+            port: Port::opening(vector, ZERO),
+            proposed: false,
+            flushed: false,
+        }
+    }
+}
+
+const ZERO: Times = Times {
+    message_age: 0,
+    max_age: 0,
+    hello: 0,
+    forward_delay: 0,
+};

@@ -1,0 +1,101 @@
+ghost use Rattle.std.specs.Prelude.{◌≡◌};
+ghost use Rattle.rstp_rules.specs.Sends.{said, sends_rapid, config_of, rapid_of, due, sends, bpdu_of, sent};
+
+use crate::port::Role;
+use crate::row::{Context, Row};
+use frame_core::{Bpdu, Config, PortRole, Rapid};
+
+impl Role {
+    /// What an RST message says of the role (IEEE 802.1D-2004 9.2.9).
+    pub fn said(self) -> PortRole
+        ensures { result ≡ said self }
+    {
+        match self {
+            Role::Disabled => PortRole::Unknown,
+            Role::Designated => PortRole::Designated,
+            Role::Root => PortRole::Root,
+            Role::Alternate | Role::Backup => PortRole::AlternateOrBackup,
+        }
+    }
+}
+
+impl Row {
+    fn sends_rapid(&self, context: &Context) -> bool
+        ensures { result ≡ sends_rapid context.now self.now }
+    {
+        context.timing.rstp_version && self.port.send_rstp
+    }
+
+    fn config(&self, context: &Context) -> Config
+        ensures { result ≡ config_of context.now self.now }
+    {
+        Config {
+            topology_change: self.port.change_while > 0,
+            proposal: false,
+            acknowledge: self.port.acknowledge,
+            vector: context.root.designated(context.own, &self.line),
+            times: context.times,
+        }
+    }
+
+    fn rapid(&self, context: &Context) -> Rapid
+        ensures { result ≡ rapid_of context.now self.now }
+    {
+        Rapid {
+            topology_change: self.port.change_while > 0,
+            proposal: self.port.role.is_designated()
+                && !self.port.state.is_forwarding()
+                && !self.port.edge,
+            role: self.port.role.said(),
+            learning: !self.port.state.is_discarding(),
+            forwarding: self.port.state.is_forwarding(),
+            agreement: self.port.role.is_root() && self.port.agree,
+            vector: context.root.designated(context.own, &self.line),
+            times: context.times,
+        }
+    }
+
+    fn due(&self, context: &Context) -> Option<Bpdu>
+        ensures { result ≡ due context.now self.now }
+    {
+        let rapid = self.sends_rapid(context);
+        if self.port.role.is_designated() {
+            if rapid {
+                Some(Bpdu::Rapid(self.rapid(context)))
+            } else {
+                Some(Bpdu::Config(self.config(context)))
+            }
+        } else if self.port.role.is_root() {
+            if rapid {
+                Some(Bpdu::Rapid(self.rapid(context)))
+            } else if self.port.change_while > 0 {
+                Some(Bpdu::TopologyChange)
+            } else {
+                None
+            }
+        } else {
+            None
+        }
+    }
+
+    /// What the port sends now, if anything (17.26).
+    pub fn send(&mut self, context: &Context) -> Option<Bpdu>
+        ensures bpdu { result ≡ bpdu_of context.now self.old }
+        ensures port { self.new ≡ sent context.now self.old }
+    {
+        let due = self.due(context);
+        if due.is_none() {
+            self.port.pending = false;
+            return None;
+        }
+        if !self.port.pending || self.port.sent_count >= context.hold_count {
+            return None;
+        }
+        self.port.sent_count += 1;
+        self.port.pending = false;
+        if self.port.role.is_designated() && !self.sends_rapid(context) {
+            self.port.acknowledge = false;
+        }
+        due
+    }
+}

@@ -1,0 +1,31 @@
+ghost use Rattle.std.specs.Prelude.{◌≡◌};
+ghost use Rattle.rstp_rules.specs.Ticks.{ticked, greeted};
+
+use crate::row::{Row, Timing};
+
+impl Row {
+    /// One second passes (IEEE 802.1D-2004 17.22): each count above 0 falls by one.
+    pub fn tick(&mut self)
+        ensures { self.new ≡ ticked self.old }
+    {
+        let port = &mut self.port;
+        port.info_while = port.info_while.saturating_sub(1);
+        port.forward_while = port.forward_while.saturating_sub(1);
+        port.recent_root_while = port.recent_root_while.saturating_sub(1);
+        port.change_while = port.change_while.saturating_sub(1);
+        port.hello_when = port.hello_when.saturating_sub(1);
+        port.sent_count = port.sent_count.saturating_sub(1);
+    }
+
+    /// The hello step of a tick (17.26).
+    pub fn greet(&mut self, timing: &Timing)
+        ensures { self.new ≡ greeted timing.now self.old }
+    {
+        if self.port.role.is_root_or_designated() && self.port.hello_when == 0 {
+            self.port.hello_when = timing.hello;
+            self.port.pending = self.port.pending
+                || self.port.role.is_designated()
+                || self.port.change_while > 0;
+        }
+    }
+}

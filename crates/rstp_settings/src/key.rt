@@ -1,0 +1,65 @@
+/// A setting of the bridge as a whole.
+#[derive(Clone, Copy, Debug, PartialEq, Eq)]
+pub enum BridgeKey {
+    /// Bridge priority: 0 to 61440 in steps of 4096, at first 32768 (IEEE 802.1D-2004 17.14).
+    Priority,
+    /// Bridge max age in 1/100 s: 600 to 4000 in whole seconds, at first 2000.
+    MaxAge,
+    /// Bridge hello time in 1/100 s: 100 to 1000 in whole seconds, at first 200.
+    Hello,
+    /// Bridge forward delay in 1/100 s: 400 to 3000 in whole seconds, at first 1500.
+    ForwardDelay,
+    /// Force protocol version (17.13.4): 0 is STP compatible, 2 is RSTP, at first 2.
+    Version,
+    /// Transmit hold count (17.13.12): 1 to 10 BPDUs, at first 6.
+    HoldCount,
+    /// Ageing time of learned addresses in seconds (7.9.2): 10 to 1000000, at first 300.
+    Aging,
+}
+
+/// A setting of one port.
+#[derive(Clone, Copy, Debug, PartialEq, Eq)]
+pub enum PortKey {
+    /// Port priority: 0 to 240 in steps of 16, at first 128 (IEEE 802.1D-2004 17.14).
+    Priority,
+    /// Administrative state (RFC 4188 dot1dStpPortEnable): 1 is enabled, 2 is disabled, at first 1.
+    Enable,
+    /// Path cost (17.14): 0 to 200000000, where 0 is the default cost of the port's speed, at first 0.
+    Cost,
+    /// Protocol migration check (17.19.13): 1 asks for it, 0 is none, at first 0.
+    Migrate,
+    /// Admin edge port (17.13.1): 1 is true, 2 is false, at first 2.
+    Edge,
+    /// Admin point to point MAC (6.4.3): 0 forces true, 1 forces false, 2 is automatic, at first 2.
+    PointToPoint,
+}
+
+/// The name of a setting. Ports are numbered from 1.
+#[derive(Clone, Copy, Debug, PartialEq, Eq)]
+pub enum Key {
+    Bridge(BridgeKey),
+    Port(u16, PortKey),
+}
+
+/// The values of the bridge's settings, in the units of their keys.
+#[derive(Clone, Copy, Debug, PartialEq, Eq)]
+pub struct BridgeValues {
+    pub priority: u32,
+    pub max_age: u32,
+    pub hello: u32,
+    pub forward_delay: u32,
+    pub version: u32,
+    pub hold_count: u32,
+    pub aging: u32,
+}
+
+/// The values of a port's settings, in the units of their keys.
+#[derive(Clone, Copy, Debug, Default, PartialEq, Eq)]
+pub struct PortValues {
+    pub priority: u32,
+    pub enable: u32,
+    pub cost: u32,
+    pub migrate: u32,
+    pub edge: u32,
+    pub point_to_point: u32,
+}
