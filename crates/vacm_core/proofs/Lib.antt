@@ -1,0 +1,4 @@
+pub mod Agrees
+pub mod Bests
+pub mod Right
+pub mod Orders
