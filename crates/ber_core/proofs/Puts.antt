@@ -1,6 +1,6 @@
 -- Writing one thing after another.
-use Rattle.std.proofs.Common.{◌≡◌, ℕ, List, ◌++◌, length, Result, Ok, Err, sym, ap, ◌∙◌, arith, append_assoc}
-use Rattle.std.proofs.lemmas.List.{length-append}
+use Rattle.std.proofs.Common.{◌≡◌, ℕ, List, ◌++◌, length, Result, Ok, Err, sym, ap, ◌∙◌, arith, append_assoc, drop, ◌-◌, refl}
+use Rattle.std.proofs.lemmas.List.{length-append, drop_at}
 use Rattle.ber_core.specs.declared.fault.BerFault.{BerFault}
 use Rattle.ber_core.specs.declared.out.Out.{Out}
 use Rattle.ber_core.specs.Writing.{written, capacity, Prepends}
@@ -15,3 +15,9 @@ prepends_stop a b f x y p = (p.0, omega (arith, p.1, length-append x (written a)
 
 pub written_then : (a b c x y : List ℕ) → b ≡ x ++ a → c ≡ y ++ b → c ≡ (y ++ x) ++ a
 written_then a b c x y p q = q ∙ ap (λ (t : List ℕ). y ++ t) p ∙ sym (append_assoc y x a)
+
+-- what was written since is taken back
+pub truncated : (before after back more : List ℕ) → after ≡ more ++ before → back ≡ drop (length after - length before) after → back ≡ before
+truncated before after back more w b =
+    let extra : length after - length before ≡ length more = omega (arith, ap length w, length-append more before) in
+    b ∙ ap (λ (n : ℕ). drop n after) extra ∙ ap (λ (t : List ℕ). drop (length more) t) w ∙ drop_at more before (length more) refl

@@ -2,10 +2,14 @@
 #![tactic(auto)]
 
 mod fault;
+pub mod laws;
 mod out;
 mod reading;
 mod shortest;
 
 pub use fault::BerFault;
 pub use out::Out;
-pub use reading::{Tag, read_i32, read_tlv};
+pub use reading::{Tag, read_i32, read_tlv, read_u32, read_u64};
+
+#[cfg(test)]
+mod tests;

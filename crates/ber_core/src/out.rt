@@ -1,4 +1,4 @@
-ghost use Rattle.std.specs.Prelude.{◌≡◌, [], ◌∷◌, ◌++◌, ◌≤◌, ◌<◌, ◌^◌, length, OnErr};
+ghost use Rattle.std.specs.Prelude.{◌≡◌, [], ◌∷◌, ◌++◌, ◌≤◌, ◌<◌, ◌^◌, ◌-◌, length, drop, OnErr};
 
 use crate::fault::BerFault;
 use crate::reading::Tag;
@@ -14,8 +14,8 @@ pub struct Out<'a> {
 }
 
 impl<'a> Out<'a> {
-    ghost use Rattle.ber_core.specs.Writing.{written, Prepends};
-    ghost use Rattle.ber_core.specs.Spelling.{canon_length, canon_tlv, canon_integer};
+    ghost use Rattle.ber_core.specs.Writing.{written, capacity, Prepends};
+    ghost use Rattle.ber_core.specs.Spelling.{canon_length, canon_tlv, canon_integer, canon_unsigned};
 
     /// A writer that has written nothing.
     pub fn new(room: &'a mut [u8]) -> Out<'a>
@@ -73,25 +73,72 @@ impl<'a> Out<'a> {
         }
     }
 
-    /// Writes a value whose content is at hand.
+    /// Takes back what was written last, so that `len` octets stay.
+    pub fn truncate(&mut self, len: usize)
+        requires { len ≤ length (written self.old) }
+        ensures same_reference { self.new.room.ghost_name ≡ self.old.room.ghost_name }
+        ensures rest { written self.new ≡ drop (length (written self.old) - len) (written self.old) }
+        ensures room { capacity self.new ≡ capacity self.old }
+    {
+        self.start = self.room.len() - len;
+    }
+
+    /// Writes a value whose content is at hand, with the shortest length.
+    ///
+    /// `NoRoom` where it does not fit.
     #[tactic(auto, unfolding(crate::specs::Spelling::canon_tlv))]
     pub fn put_tlv(&mut self, tag: Tag, content: &[u8]) -> Result<(), BerFault>
         ensures same_reference { self.new.room.ghost_name ≡ self.old.room.ghost_name }
         ensures puts { Prepends self.old self.new result (canon_tlv tag.0 content.now) }
+        ensures err { OnErr result (written self.new ≡ written self.old) }
     {
         let mark = self.len();
         self.put_octets(content)?;
         let len = self.len() - mark;
-        self.put_tlv_head(tag, len)
+        let put = self.put_tlv_head(tag, len);
+        if put.is_err() {
+            self.truncate(mark);
+        }
+        put
     }
 
-    /// Writes an INTEGER.
+    /// Writes an INTEGER, or another value that is spelled like one, under its tag (X.690, 8.3).
+    ///
+    /// `NoRoom` where it does not fit.
     #[tactic(auto, unfolding(crate::specs::Spelling::canon_integer))]
-    pub fn put_i32(&mut self, value: i32) -> Result<(), BerFault>
+    pub fn put_i32(&mut self, tag: Tag, value: i32) -> Result<(), BerFault>
         ensures same_reference { self.new.room.ghost_name ≡ self.old.room.ghost_name }
-        ensures puts { Prepends self.old self.new result (canon_tlv 2 (canon_integer value)) }
+        ensures puts { Prepends self.old self.new result (canon_tlv tag.0 (canon_integer value)) }
+        ensures err { OnErr result (written self.new ≡ written self.old) }
     {
         let bytes = value.to_be_bytes();
-        self.put_tlv(Tag(2), shortest_of(&bytes))
+        self.put_tlv(tag, shortest_of(&bytes))
+    }
+
+    /// Writes a Counter32, a Gauge32 or TimeTicks under its tag (RFC 2578, 7.1).
+    ///
+    /// `NoRoom` where it does not fit.
+    pub fn put_u32(&mut self, tag: Tag, value: u32) -> Result<(), BerFault>
+        ensures same_reference { self.new.room.ghost_name ≡ self.old.room.ghost_name }
+        ensures puts { Prepends self.old self.new result (canon_tlv tag.0 (canon_unsigned value)) }
+        ensures err { OnErr result (written self.new ≡ written self.old) }
+    {
+        self.put_u64(tag, u64::from(value))
+    }
+
+    /// Writes a Counter64 under its tag (RFC 2578, 7.1.10).
+    ///
+    /// `NoRoom` where it does not fit.
+    #[tactic(auto, unfolding(crate::specs::Spelling::canon_unsigned))]
+    pub fn put_u64(&mut self, tag: Tag, value: u64) -> Result<(), BerFault>
+        ensures same_reference { self.new.room.ghost_name ≡ self.old.room.ghost_name }
+        ensures puts { Prepends self.old self.new result (canon_tlv tag.0 (canon_unsigned value)) }
+        ensures err { OnErr result (written self.new ≡ written self.old) }
+    {
+        let bytes = value.to_be_bytes();
+        let content = [
+            0, bytes[0], bytes[1], bytes[2], bytes[3], bytes[4], bytes[5], bytes[6], bytes[7],
+        ];
+        self.put_tlv(tag, shortest_of(&content))
     }
 }

@@ -1,14 +1,16 @@
-ghost use Rattle.std.specs.Prelude.{◌≡◌, length};
+ghost use Rattle.std.specs.Prelude.{◌≡◌, length, OnErr};
 ghost use Rattle.ber_core.specs.Writing.{written, Prepends};
 ghost use Rattle.oid_core.specs.Name.{HasRoot, canon_coded, canon_name};
+ghost use Rattle.oid_core.specs.Writing.{Extends};
 
-use ber_core::{Out, BerFault};
+use ber_core::{BerFault, Out};
 
 /// Writes a coded number.
 #[tactic(auto, unfolding(crate::specs::Name::canon_coded))]
 fn put_coded(out: &mut Out<'_>, number: u64) -> Result<(), BerFault>
     ensures same_reference { out.new.room.ghost_name ≡ out.old.room.ghost_name }
     ensures puts { Prepends out.old out.new result (canon_coded number) }
+    ensures behind { Extends (written out.old) (written out.new) }
 {
     out.put_octets(&[(number % 128) as u8])?;
     let mut left = number / 128;
@@ -19,11 +21,12 @@ fn put_coded(out: &mut Out<'_>, number: u64) -> Result<(), BerFault>
     Ok(())
 }
 
-/// Writes the content of an OBJECT IDENTIFIER.
-pub fn put_name(out: &mut Out<'_>, name: &[u32]) -> Result<(), BerFault>
+/// Writes the coded numbers of a name, the last one first.
+fn put_numbers(out: &mut Out<'_>, name: &[u32]) -> Result<(), BerFault>
     requires { HasRoot name.now }
     ensures same_reference { out.new.room.ghost_name ≡ out.old.room.ghost_name }
     ensures puts { Prepends out.old out.new result (canon_name name.now) }
+    ensures behind { Extends (written out.old) (written out.new) }
 {
     let mut i = name.len();
     while i > 2 {
@@ -31,4 +34,21 @@ pub fn put_name(out: &mut Out<'_>, name: &[u32]) -> Result<(), BerFault>
         put_coded(out, u64::from(name[i]))?;
     }
     put_coded(out, u64::from(name[0]) * 40 + u64::from(name[1]))
+}
+
+/// Writes the shortest content of an OBJECT IDENTIFIER in front of what is written (X.690, 8.19).
+///
+/// `NoRoom` where it does not fit, and then what is written is as it was.
+pub fn put_name(out: &mut Out<'_>, name: &[u32]) -> Result<(), BerFault>
+    requires { HasRoot name.now }
+    ensures same_reference { out.new.room.ghost_name ≡ out.old.room.ghost_name }
+    ensures puts { Prepends out.old out.new result (canon_name name.now) }
+    ensures err { OnErr result (written out.new ≡ written out.old) }
+{
+    let mark = out.len();
+    let put = put_numbers(out, name);
+    if put.is_err() {
+        out.truncate(mark);
+    }
+    put
 }

@@ -1,0 +1,39 @@
+//! Laws of names. Each holds of all octets and numbers, and its function does nothing.
+ghost use Rattle.std.specs.Prelude.{◌≡◌, ◌≤◌, ◌↔◌, ◌⊎◌, ℕ, List, length, IsTrue};
+ghost use Rattle.oid_core.specs.Name.{IsName, IsSpellable, canon_name};
+ghost use Rattle.oid_core.specs.Order.{IsBefore, IsPrefix, name_lt, name_eq, is_prefix};
+ghost use Rattle.oid_core.specs.Text.{IsDotted};
+
+/// The shortest content of a name is one of its contents.
+pub fn name_is_spelled()
+    ensures { (name : List ℕ) → IsSpellable name → IsName (canon_name name) name }
+{}
+
+/// No content of a name has fewer octets.
+pub fn no_name_is_shorter()
+    ensures { (content name : List ℕ) → IsName content name → length (canon_name name) ≤ length content }
+{}
+
+/// A content is that of one name at most.
+pub fn name_is_one()
+    ensures { (content a b : List ℕ) → IsName content a → IsName content b → a ≡ b }
+{}
+
+/// A text is the dotted text of one name at most.
+pub fn text_is_one()
+    ensures { (text a b : List ℕ) → IsDotted text a → IsDotted text b → a ≡ b }
+{}
+
+/// Names are in one order.
+pub fn order_is_total()
+    ensures one { (a b : List ℕ) → IsBefore a b ⊎ ((a ≡ b) ⊎ IsBefore b a) }
+    ensures strict { (a : List ℕ) → ¬ IsBefore a a }
+    ensures through { (a b c : List ℕ) → IsBefore a b → IsBefore b c → IsBefore a c }
+{}
+
+/// The tests of two lists say what the relations say.
+pub fn tests_tell()
+    ensures before { (a b : List ℕ) → IsTrue (name_lt a b) ↔ IsBefore a b }
+    ensures same { (a b : List ℕ) → IsTrue (name_eq a b) ↔ (a ≡ b) }
+    ensures prefix { (front name : List ℕ) → IsTrue (is_prefix front name) ↔ IsPrefix front name }
+{}
