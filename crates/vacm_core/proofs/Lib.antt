@@ -2,3 +2,4 @@ pub mod Agrees
 pub mod Bests
 pub mod Right
 pub mod Orders
+pub mod Sound

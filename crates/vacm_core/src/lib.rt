@@ -7,6 +7,7 @@ mod deciding;
 mod fault;
 mod limits;
 mod name;
+mod reading;
 mod rows;
 mod tables;
 mod text;

@@ -35,8 +35,34 @@ impl Model for Vacm {
 }
 
 impl Vacm {
+    ghost use Rattle.vacm_core.specs.Tables.{tables_of};
+    ghost use Rattle.vacm_core.specs.Faults.{AreAllRight, IsFault};
     ghost use Rattle.vacm_core.specs.Families.{family_answer, by_type};
     ghost use Rattle.vacm_core.specs.Access.{verdict_of, by_access, by_view, deciding_access};
+
+    /// The tables that the written rows stand for.
+    ///
+    /// # Errors
+    ///
+    /// The first fault, table by table in the order groups, access, families and contexts, in each
+    /// table row by row from 0, and in each row its lengths, then its fields, then its key;
+    /// `Memory` where a growth was refused.
+    pub fn new(alloc: Global, rows: VacmRows) -> Result<Vacm, PolicyFault>
+        ensures tables { IfOk result (λ v. v ≡ tables_of rows) }
+        ensures right { OnOk result (AreAllRight rows) }
+        ensures fault { IfErr result (λ e. e ≢ PolicyFault.Memory → IsFault rows e) }
+    {
+        let groups = checked_rows(alloc, PolicyTable::Groups, rows.groups)?;
+        let access = checked_rows(alloc, PolicyTable::Access, rows.access)?;
+        let families = checked_rows(alloc, PolicyTable::Families, rows.families)?;
+        let contexts = checked_rows(alloc, PolicyTable::Contexts, rows.contexts)?;
+        Ok(Vacm {
+            groups,
+            access,
+            families,
+            contexts,
+        })
+    }
 
     /// The decision on a request, up to its names (RFC 3415, section 3.2).
     pub fn decide(&self, ask: &Ask) -> Verdict
