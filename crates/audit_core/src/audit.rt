@@ -1,0 +1,58 @@
+//! The record of a request's decision.
+ghost use Rattle.std.specs.Prelude.{◌≡◌, Some};
+ghost use Rattle.audit_core.specs.Text.{audit_text, kind_text};
+
+use crate::decision::Decision;
+use crate::denied::DeniedBindings;
+use message_core::{ErrorStatus, Kind};
+use std::fmt;
+
+/// What was decided on a request, by which rows, and the status of the reply as it is sent.
+#[derive(Drop)]
+pub struct Audit {
+    /// What the request asks for.
+    pub kind: Kind,
+    /// The error-status of the reply (RFC 3416, section 3); means nothing where the request is dropped.
+    pub status: ErrorStatus,
+    /// The error-index of the reply, the number of a binding or 0; means nothing where the request is
+    /// dropped.
+    pub index: i32,
+    /// The decision up to the names.
+    pub decision: Decision,
+    /// The bindings that the view does not let through; none unless the request is allowed.
+    pub denied: DeniedBindings,
+}
+
+// The word for a kind of request.
+fn kind_word(kind: Kind) -> &'static str
+    ensures { result.now ≡ kind_text kind }
+{
+    match kind {
+        Kind::Get => "get",
+        Kind::GetNext => "next",
+        Kind::GetBulk => "bulk",
+        Kind::Set => "set",
+    }
+}
+
+/// As `set 16 0 noSuchView access(readers,,2,1) empty` or `get drop unknownCommunity`.
+impl fmt::Display for Audit {
+    ghost output = { λ audit. Some (audit_text audit) };
+
+    fn fmt<W: fmt::Write>(&self, f: &mut fmt::Formatter<W>) -> fmt::Result {
+        let Audit {
+            kind,
+            status,
+            index,
+            decision,
+            denied,
+        } = self;
+        let kind = kind_word(*kind);
+        let status = status.code();
+        if decision.is_drop() {
+            write!(f, "{kind} drop {decision}")
+        } else {
+            write!(f, "{kind} {status} {index} {decision}{denied}")
+        }
+    }
+}

@@ -1,0 +1,82 @@
+//! The keys of the rows that decide.
+ghost use Rattle.std.specs.Prelude.{◌≡◌, ◌<◌, Some, IfOk, OnErr, length};
+ghost use Rattle.audit_core.specs.Keys.{access_key, family_key};
+ghost use Rattle.audit_core.specs.Text.{access_text, family_text};
+
+use oid_core::Oid;
+use std::alloc::{AllocError, Global};
+use std::fmt;
+use vacm_core::{AccessRow, FamilyRow, Level, Name};
+
+/// The key of a row of vacmAccessTable, or what is asked of that table (RFC 3415, section 4).
+#[derive(Drop)]
+pub struct AccessKey {
+    /// The name of the group.
+    pub group: Name,
+    /// The context name or how it begins, of a row; the context name, of what is asked.
+    pub prefix: Name,
+    /// The security model; 0 in a row for any.
+    pub model: u32,
+    /// The security level.
+    pub level: Level,
+}
+
+impl AccessKey {
+    /// The key of a row. Takes no memory.
+    pub fn of(row: &AccessRow) -> AccessKey
+        ensures { result ≡ access_key row.now }
+    {
+        AccessKey {
+            group: row.group.copy(),
+            prefix: row.prefix.copy(),
+            model: row.model,
+            level: row.level,
+        }
+    }
+}
+
+/// As `access(readers,,2,1)`: the group, the prefix, the model and the level's number.
+impl fmt::Display for AccessKey {
+    ghost output = { λ key. Some (access_text key) };
+
+    fn fmt<W: fmt::Write>(&self, f: &mut fmt::Formatter<W>) -> fmt::Result {
+        let group = self.group.as_str();
+        let prefix = self.prefix.as_str();
+        let model = self.model;
+        let level = self.level.number();
+        write!(f, "access({group},{prefix},{model},{level})")
+    }
+}
+
+/// The key of a row of vacmViewTreeFamilyTable (RFC 3415, section 4).
+#[derive(Drop)]
+pub struct FamilyKey {
+    /// The name of the view.
+    pub view: Name,
+    /// The subtree of the family.
+    pub subtree: Oid,
+}
+
+impl FamilyKey {
+    /// The key of a row. There can be no memory for it only where the subtree has more than 24
+    /// sub-identifiers.
+    pub fn of(alloc: Global, row: &FamilyRow) -> Result<FamilyKey, AllocError>
+        ensures key { IfOk result (λ key. key ≡ family_key row.now) }
+        ensures inline { OnErr result (24 < length row.now.subtree) }
+    {
+        let subtree = row.subtree.try_copy(alloc)?;
+        let view = row.view.copy();
+        Ok(FamilyKey { view, subtree })
+    }
+}
+
+/// As `family(bridge,1.3.6.1.2.1.17)`: the view and the subtree.
+impl fmt::Display for FamilyKey {
+    ghost output = { λ key. Some (family_text key) };
+
+    fn fmt<W: fmt::Write>(&self, f: &mut fmt::Formatter<W>) -> fmt::Result {
+        let view = self.view.as_str();
+        let subtree = &self.subtree;
+        write!(f, "family({view},{subtree})")
+    }
+}

@@ -1,0 +1,5 @@
+pub mod Agrees
+pub mod Bests
+pub mod Right
+pub mod Orders
+pub mod Sound

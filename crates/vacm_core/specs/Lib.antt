@@ -1,0 +1,9 @@
+pub mod Texts
+pub mod Levels
+pub mod Rules
+pub mod Rows
+pub mod Faults
+pub mod Tables
+pub mod Best
+pub mod Families
+pub mod Access

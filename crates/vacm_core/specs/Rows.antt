@@ -1,0 +1,106 @@
+-- The rows of the tables of RFC 3415 (section 4): the lengths and fields that a written row may have, the row
+-- that it stands for, and its key.
+use Rattle.std.specs.Prelude.{ℕ, ℤ, pos, negsuc, ◌+◌, ◌==◌, Bool, false, ◌&&◌, if◌then◌else◌, List, length, nat_le, nat_eq, bytes_eq}
+use Rattle.std.specs.Cmp.Lexicographic.{pointwise}
+use Rattle.vacm_core.specs.declared.limits.TheConstants.{NAME_MAX, MASK_MAX, FAMILY_MAX, MODEL_MAX}
+use Rattle.vacm_core.specs.declared.tables.GroupRow.{GroupRow}
+use Rattle.vacm_core.specs.declared.tables.AccessRow.{AccessRow}
+use Rattle.vacm_core.specs.declared.tables.FamilyRow.{FamilyRow}
+use Rattle.vacm_core.specs.declared.tables.Level.{Level}
+use Rattle.vacm_core.specs.declared.tables.Level.TheVariants.{NoAuthNoPriv, AuthNoPriv, AuthPriv}
+use Rattle.vacm_core.specs.declared.written.WrittenGroup.{WrittenGroup}
+use Rattle.vacm_core.specs.declared.written.WrittenAccess.{WrittenAccess}
+use Rattle.vacm_core.specs.declared.written.WrittenFamily.{WrittenFamily}
+use Rattle.vacm_core.specs.Texts.{has_length, is_plain}
+use Rattle.vacm_core.specs.Levels.{level_number}
+use Rattle.vacm_core.specs.Rules.{Rules, rules_of}
+
+-- a number that is not negative
+abbrev pub natural : ℤ → ℕ
+natural (pos n) = n
+natural (negsuc n) = 0
+
+abbrev pub is_between : ℕ → ℕ → ℤ → Bool
+is_between least most (pos n) = nat_le least n && nat_le n most
+is_between least most (negsuc n) = false
+
+abbrev pub level_of : ℕ → Level
+level_of n = if n == 1 then NoAuthNoPriv else (if n == 2 then AuthNoPriv else AuthPriv)
+
+-- ---- vacmSecurityToGroupTable, under (model, security name)
+
+abbrev pub group_lengths : WrittenGroup → Bool
+group_lengths w = has_length 1 NAME_MAX w.name && has_length 1 NAME_MAX w.group
+
+abbrev pub group_fields : WrittenGroup → Bool
+group_fields w = is_between 1 MODEL_MAX w.model && is_plain w.name && is_plain w.group
+
+abbrev pub group_row : WrittenGroup → GroupRow
+group_row w = record { model = natural w.model; name = w.name; group = w.group }
+
+abbrev pub same_group : GroupRow → GroupRow → Bool
+same_group a b = (a.model == b.model) && bytes_eq a.name b.name
+
+-- ---- vacmAccessTable, under (group, context prefix, model, level)
+
+abbrev pub access_lengths : WrittenAccess → Bool
+access_lengths w =
+    has_length 1 NAME_MAX w.group && has_length 0 NAME_MAX w.prefix && has_length 0 NAME_MAX w.read
+    && has_length 0 NAME_MAX w.write && has_length 0 NAME_MAX w.notify
+
+abbrev pub access_fields : WrittenAccess → Bool
+access_fields w =
+    is_between 0 MODEL_MAX w.model && is_between 1 3 w.level && is_plain w.group && is_plain w.prefix
+    && is_plain w.read && is_plain w.write && is_plain w.notify
+
+abbrev pub access_row : WrittenAccess → AccessRow
+access_row w = record {
+  group = w.group;
+  prefix = w.prefix;
+  model = natural w.model;
+  level = level_of (natural w.level);
+  exact = w.exact;
+  read = w.read;
+  write = w.write;
+  notify = w.notify;
+}
+
+abbrev pub same_access : AccessRow → AccessRow → Bool
+same_access a b =
+    bytes_eq a.group b.group && bytes_eq a.prefix b.prefix && (a.model == b.model)
+    && (level_number a.level == level_number b.level)
+
+-- ---- vacmViewTreeFamilyTable, under (view, subtree)
+
+abbrev pub family_lengths : WrittenFamily → Bool
+family_lengths w =
+    has_length 1 NAME_MAX w.view && nat_le (length w.mask) MASK_MAX
+    && nat_le (length w.view + length w.subtree) FAMILY_MAX
+
+abbrev pub family_fields : WrittenFamily → Bool
+family_fields w = is_plain w.view
+
+abbrev pub family_row : WrittenFamily → FamilyRow
+family_row w = record { view = w.view; subtree = w.subtree; mask = w.mask; included = w.included }
+
+abbrev pub same_family : FamilyRow → FamilyRow → Bool
+same_family a b = bytes_eq a.view b.view && pointwise nat_eq a.subtree b.subtree
+
+-- ---- vacmContextTable; contexts may be equal
+
+abbrev pub context_lengths : List ℕ → Bool
+context_lengths w = has_length 0 NAME_MAX w
+
+-- ---- the rules of each table
+
+abbrev pub group_rules : Rules WrittenGroup GroupRow
+group_rules = rules_of group_lengths group_fields group_row same_group
+
+abbrev pub access_rules : Rules WrittenAccess AccessRow
+access_rules = rules_of access_lengths access_fields access_row same_access
+
+abbrev pub family_rules : Rules WrittenFamily FamilyRow
+family_rules = rules_of family_lengths family_fields family_row same_family
+
+abbrev pub context_rules : Rules (List ℕ) (List ℕ)
+context_rules = rules_of context_lengths is_plain (λ w. w) (λ a b. false)

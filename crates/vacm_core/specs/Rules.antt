@@ -1,0 +1,67 @@
+-- What is wrong with the rows of a table, and which row is the first at fault.
+use Rattle.std.specs.Prelude.{◌≡◌, ℕ, ◌<◌, Bool, if◌then◌else◌, List, take, Option, Some, None, slice_get, option_and_then, Result, Ok, Err}
+use Rattle.std.specs.List.{list_any}
+use Rattle.vacm_core.specs.declared.fault.PolicyFault.{PolicyFault}
+use Rattle.vacm_core.specs.declared.fault.PolicyFault.TheVariants.{Duplicate as SameKey, BadLength, BadField}
+use Rattle.vacm_core.specs.declared.fault.PolicyTable.{PolicyTable}
+use Rattle.vacm_core.specs.declared.fault.Wrong.{Wrong}
+use Rattle.vacm_core.specs.declared.fault.Wrong.TheVariants.{Length, Field, Duplicate}
+
+-- The rules of a table: which lengths and which fields a written row may have, the row that it stands for,
+-- and when two rows have one key.
+pub record Rules (W R : Type 0) : Type 0 where
+  pub lengths : W → Bool
+  pub fields : W → Bool
+  pub row_of : W → R
+  pub same_key : R → R → Bool
+
+abbrev pub rules_of : {W R : Type 0} → (W → Bool) → (W → Bool) → (W → R) → (R → R → Bool) → Rules W R
+rules_of lengths fields row_of same_key = record { lengths = lengths; fields = fields; row_of = row_of; same_key = same_key }
+
+-- an earlier row stands for one of the same key
+abbrev pub has_earlier : {W R : Type 0} → Rules W R → List W → W → Bool
+has_earlier rules earlier w = list_any (λ e. rules.same_key (rules.row_of e) (rules.row_of w)) earlier
+
+-- what is wrong with a row behind these: its lengths, then its fields, then its key
+abbrev pub wrong_of : {W R : Type 0} → Rules W R → List W → W → Option Wrong
+wrong_of rules earlier w =
+    if rules.lengths w
+    then (if rules.fields w then (if has_earlier rules earlier w then Some Duplicate else None) else Some Field)
+    else Some Length
+
+-- what is wrong with the row at a place, if there is a row and something is
+abbrev pub wrong_at : {W R : Type 0} → Rules W R → List W → ℕ → Option Wrong
+wrong_at rules rows n = option_and_then (wrong_of rules (take n rows)) (slice_get rows n)
+
+-- this is wrong with the row at this place, and nothing with the rows before it
+pub record IsFirstWrong {W R : Type 0} (rules : Rules W R) (rows : List W) (n : ℕ) (wrong : Wrong) : Type 0 where
+  pub here : wrong_at rules rows n ≡ Some wrong
+  pub before : (k : ℕ) → k < n → wrong_at rules rows k ≡ None
+
+-- nothing is wrong with any row
+abbrev pub AreRight : {W R : Type 0} → Rules W R → List W → Type 0
+AreRight rules rows = (k : ℕ) → wrong_at rules rows k ≡ None
+
+abbrev pub fault_of : Wrong → PolicyTable → ℕ → PolicyFault
+fault_of Length table row = BadLength table row
+fault_of Field table row = BadField table row
+fault_of Duplicate table row = SameKey table row
+
+-- this fault names the first row at fault
+pub record IsFirstFault {W R : Type 0} (rules : Rules W R) (table : PolicyTable) (rows : List W) (fault : PolicyFault) : Type 0 where
+  pub place : ℕ
+  pub wrong : Wrong
+  pub is : fault ≡ fault_of wrong table place
+  pub first : IsFirstWrong rules rows place wrong
+
+-- the row that a written row stands for, or what is wrong with it by itself
+abbrev pub by_itself : {W R : Type 0} → Rules W R → W → Result R Wrong
+by_itself rules w = if rules.lengths w then (if rules.fields w then Ok (rules.row_of w) else Err Field) else Err Length
+
+-- the same, behind rows of which none may have its key
+abbrev pub unless_known : {W R : Type 0} → Rules W R → List R → Result R Wrong → Result R Wrong
+unless_known rules rows (Ok row) = if list_any (λ r. rules.same_key r row) rows then Err Duplicate else Ok row
+unless_known rules rows (Err wrong) = Err wrong
+
+abbrev pub row_behind : {W R : Type 0} → Rules W R → List R → W → Result R Wrong
+row_behind rules rows w = unless_known rules rows (by_itself rules w)

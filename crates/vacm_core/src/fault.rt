@@ -1,0 +1,79 @@
+//! Why the tables of a policy are refused.
+ghost use Rattle.std.specs.Prelude.{◌≡◌};
+ghost use Rattle.vacm_core.specs.declared.fault.PolicyFault.TheVariants.{Memory};
+ghost use Rattle.vacm_core.specs.Rules.{fault_of};
+
+use std::alloc::{AllocError, AllocFailed};
+use thiserror::Error;
+
+/// The tables of a policy, in the order in which their rows are looked at.
+#[derive(Clone, Copy, Debug, PartialEq, Eq)]
+pub enum PolicyTable {
+    /// Who is of which group (vacmSecurityToGroupTable).
+    Groups,
+    /// What a group may do (vacmAccessTable).
+    Access,
+    /// The subtrees of each view (vacmViewTreeFamilyTable).
+    Families,
+    /// The contexts that are known (vacmContextTable).
+    Contexts,
+    /// The communities (snmpCommunityTable of RFC 3584).
+    Communities,
+}
+
+/// What may be wrong with a row, in the order in which it is looked for.
+#[derive(Clone, Copy, Debug, PartialEq, Eq)]
+pub enum Wrong {
+    /// A text, a mask or a name is too short or too long.
+    Length,
+    /// A number is out of its range, or a text has an octet that it may not have.
+    Field,
+    /// An earlier row of the table has the same key.
+    Duplicate,
+}
+
+/// Why a policy is refused: a table and the number of its first row at fault, counted from 0.
+#[derive(Clone, Copy, Debug, PartialEq, Eq, Error)]
+pub enum PolicyFault {
+    /// A growth was refused.
+    #[error("no memory for the policy")]
+    Memory,
+    /// The row has the key of an earlier row.
+    #[error("a row has the key of an earlier row")]
+    Duplicate(PolicyTable, usize),
+    /// A text, a mask or a name of the row is too short or too long.
+    #[error("a length that a row may not have")]
+    BadLength(PolicyTable, usize),
+    /// A field of the row may not have its value.
+    #[error("a value that a field may not have")]
+    BadField(PolicyTable, usize),
+}
+
+impl Wrong {
+    /// The fault of the row of this number, in this table.
+    pub fn at(self, table: PolicyTable, row: usize) -> PolicyFault
+        ensures { result ≡ fault_of self table row }
+    {
+        match self {
+            Wrong::Length => PolicyFault::BadLength(table, row),
+            Wrong::Field => PolicyFault::BadField(table, row),
+            Wrong::Duplicate => PolicyFault::Duplicate(table, row),
+        }
+    }
+}
+
+impl From<AllocError> for PolicyFault {
+    ghost from_gives = { λ _ e. e ≡ Memory };
+
+    fn from(_e: AllocError) -> PolicyFault {
+        PolicyFault::Memory
+    }
+}
+
+impl<T: Drop> From<AllocFailed<T>> for PolicyFault {
+    ghost from_gives = { λ _ e. e ≡ Memory };
+
+    fn from(_e: AllocFailed<T>) -> PolicyFault {
+        PolicyFault::Memory
+    }
+}

@@ -1,0 +1,125 @@
+//! Names of at most 32 octets, and masks of at most 16: what the tables keep, in place.
+ghost use Rattle.std.specs.Prelude.{◌≡◌, ◌≤◌, ◌==◌, ℕ, List, [], length, bytes_eq, if◌then◌else◌, nat_le};
+
+use crate::limits::{MASK_MAX, NAME_MAX};
+use arrayvec::{ArrayString, ArrayVec};
+use std::marker::Model;
+
+/// A name of at most [`NAME_MAX`] octets, which lie in the value itself.
+#[derive(Drop)]
+pub struct Name {
+    text: ArrayString<NAME_MAX>,
+}
+
+impl Model for Name {
+    ghost Value = { List ℕ };
+
+    ghost view = { λ n. n.text.bytes };
+
+    ghost invariant = { λ n. length n.text.bytes ≤ 32 };
+}
+
+impl Name {
+    /// The name of no octets.
+    pub fn empty() -> Name
+        ensures { result ≡ [] }
+    {
+        Name {
+            text: ArrayString::new(),
+        }
+    }
+
+    /// The name that a text is, if it is of at most [`NAME_MAX`] octets.
+    pub fn from_str(text: &str) -> Option<Name>
+        ensures { result ≡ (if nat_le (length text.now) NAME_MAX then Some text.now else None) }
+    {
+        if text.len() <= NAME_MAX {
+            Some(Name::of(text))
+        } else {
+            None
+        }
+    }
+
+    /// The name that a text of at most [`NAME_MAX`] octets is.
+    pub fn of(text: &str) -> Name
+        requires { length text.now ≤ NAME_MAX }
+        ensures { result ≡ text.now }
+    {
+        let mut name = ArrayString::new();
+        name.push_str(text);
+        Name { text: name }
+    }
+
+    /// The name again.
+    pub fn copy(&self) -> Name
+        ensures { result ≡ self.now }
+    {
+        Name { text: self.text }
+    }
+
+    /// The text of the name.
+    pub fn as_str(&self) -> &str
+        ensures value { result.now ≡ self.now }
+        ensures short { length self.now ≤ NAME_MAX }
+    {
+        self.text.as_str()
+    }
+
+    /// The octets of the name.
+    pub fn as_bytes(&self) -> &[u8]
+        ensures value { result.now ≡ self.now }
+        ensures short { length self.now ≤ NAME_MAX }
+    {
+        self.text.as_str().as_bytes()
+    }
+
+    /// Whether the name has no octets.
+    pub fn is_empty(&self) -> bool
+        ensures { result ≡ (length self.now == 0) }
+    {
+        self.as_str().len() == 0
+    }
+
+    /// Whether two names are one.
+    pub fn is(&self, other: &Name) -> bool
+        ensures { result ≡ bytes_eq self.now other.now }
+    {
+        self.as_bytes() == other.as_bytes()
+    }
+}
+
+/// A mask of at most [`MASK_MAX`] octets, which lie in the value itself.
+#[derive(Drop)]
+pub struct Mask {
+    octets: ArrayVec<u8, MASK_MAX>,
+}
+
+impl Model for Mask {
+    ghost Value = { List ℕ };
+
+    ghost view = { λ m. m.octets.items };
+
+    ghost invariant = { λ m. length m.octets.items ≤ 16 };
+}
+
+impl Mask {
+    /// The mask of at most [`MASK_MAX`] octets.
+    pub fn of(octets: &[u8]) -> Mask
+        requires { length octets.now ≤ MASK_MAX }
+        ensures { result ≡ octets.now }
+    {
+        let mut mask = ArrayVec::new();
+        for octet in octets {
+            mask.push(*octet);
+        }
+        Mask { octets: mask }
+    }
+
+    /// The octets of the mask.
+    pub fn as_slice(&self) -> &[u8]
+        ensures value { result.now ≡ self.now }
+        ensures short { length self.now ≤ MASK_MAX }
+    {
+        self.octets.as_slice()
+    }
+}

@@ -1,0 +1,139 @@
+//! The tables of access control.
+ghost use Rattle.std.specs.Prelude.{◌≡◌, ◌≢◌, ◌<◌, ◌≤◌, ◌+◌, length, IfOk, IfErr, OnOk, slice_get, Some};
+
+use crate::checking::checked_rows;
+use crate::deciding;
+use crate::fault::{PolicyFault, PolicyTable};
+use crate::limits::FAMILY_MAX;
+use crate::name::Name;
+use crate::rows::Rows;
+use crate::tables::{AccessRow, FamilyRow, GroupRow};
+use crate::verdict::{Ask, FamilyAnswer, Verdict};
+use crate::written::VacmRows;
+use oid_core::Oid;
+use std::alloc::Global;
+use std::marker::Model;
+
+/// The tables of the View-based Access Control Model (RFC 3415), seen as four lists of rows. No two
+/// rows of a table have one key, but contexts may be equal.
+#[derive(Drop)]
+pub struct Vacm {
+    groups: Rows<GroupRow>,
+    access: Rows<AccessRow>,
+    families: Rows<FamilyRow>,
+    contexts: Rows<Name>,
+}
+
+impl Model for Vacm {
+    ghost use Rattle.vacm_core.specs.Tables.{Tables, IsSound};
+
+    ghost Value = { Tables };
+
+    ghost view = { λ v. record { groups = v.groups; access = v.access; families = v.families; contexts = v.contexts } };
+
+    ghost invariant = { λ v. IsSound (record { groups = v.groups; access = v.access; families = v.families; contexts = v.contexts }) };
+}
+
+impl Vacm {
+    ghost use Rattle.vacm_core.specs.Tables.{tables_of};
+    ghost use Rattle.vacm_core.specs.Faults.{AreAllRight, IsFault};
+    ghost use Rattle.vacm_core.specs.Families.{family_answer, by_type};
+    ghost use Rattle.vacm_core.specs.Access.{verdict_of, by_access, by_view, deciding_access};
+
+    /// The tables that the written rows stand for.
+    ///
+    /// # Errors
+    ///
+    /// The first fault, table by table in the order groups, access, families and contexts, in each
+    /// table row by row from 0, and in each row its lengths, then its fields, then its key;
+    /// `Memory` where a growth was refused.
+    pub fn new(alloc: Global, rows: VacmRows) -> Result<Vacm, PolicyFault>
+        ensures tables { IfOk result (λ v. v ≡ tables_of rows) }
+        ensures right { OnOk result (AreAllRight rows) }
+        ensures fault { IfErr result (λ e. e ≢ PolicyFault.Memory → IsFault rows e) }
+    {
+        let groups = checked_rows(alloc, PolicyTable::Groups, rows.groups)?;
+        let access = checked_rows(alloc, PolicyTable::Access, rows.access)?;
+        let families = checked_rows(alloc, PolicyTable::Families, rows.families)?;
+        let contexts = checked_rows(alloc, PolicyTable::Contexts, rows.contexts)?;
+        Ok(Vacm {
+            groups,
+            access,
+            families,
+            contexts,
+        })
+    }
+
+    /// The decision on a request, up to its names (RFC 3415, section 3.2).
+    pub fn decide(&self, ask: &Ask) -> Verdict
+        ensures { result ≡ verdict_of self.now ask.now }
+    {
+        if !deciding::is_known(self.contexts.as_slice(), &ask.context) {
+            return Verdict::NoSuchContext(ask.context.copy());
+        }
+        match deciding::group_row(self.groups.as_slice(), ask) {
+            Some(row) => self.decide_access(ask, &row.group),
+            None => Verdict::NoGroupName(ask.model, ask.security.copy()),
+        }
+    }
+
+    // The decision for a group.
+    fn decide_access(&self, ask: &Ask, group: &Name) -> Verdict
+        ensures { result ≡ by_access self.now ask.now group.now (deciding_access self.now.access ask.now group.now) }
+    {
+        match deciding::deciding_access(self.access.as_slice(), ask, group) {
+            Some(n) => self.decide_view(n, deciding::view_of(self.access_row(n), ask.view)),
+            None => Verdict::NoAccessEntry(group.copy(), ask.context.copy(), ask.model, ask.level),
+        }
+    }
+
+    // The decision on a view, by an access row.
+    fn decide_view(&self, row: usize, view: &Name) -> Verdict
+        ensures { result ≡ by_view self.now row view.now }
+    {
+        if deciding::has_view(self.families.as_slice(), view) {
+            Verdict::Allowed(row, view.copy())
+        } else {
+            Verdict::NoSuchView(row, view.copy())
+        }
+    }
+
+    /// Whether a name is in a view, and by which family row.
+    pub fn in_view(&self, view: &Name, name: &Oid) -> FamilyAnswer
+        ensures { result ≡ family_answer self.now.families view.now name.now }
+    {
+        match deciding::deciding_family(self.families.as_slice(), view, name.as_slice()) {
+            Some(n) => self.answer_of(n),
+            None => FamilyAnswer::NoRow,
+        }
+    }
+
+    // The answer of the family row of this number.
+    fn answer_of(&self, n: usize) -> FamilyAnswer
+        requires { n < length self.now.families }
+        ensures { result ≡ by_type n (slice_get self.now.families n) }
+    {
+        if self.family_row(n).included {
+            FamilyAnswer::Included(n)
+        } else {
+            FamilyAnswer::Excluded(n)
+        }
+    }
+
+    /// The access row of this number.
+    pub fn access_row(&self, n: usize) -> &AccessRow
+        requires { n < length self.now.access }
+        ensures { slice_get self.now.access n ≡ Some result.now }
+    {
+        &self.access.as_slice()[n]
+    }
+
+    /// The family row of this number.
+    pub fn family_row(&self, n: usize) -> &FamilyRow
+        requires { n < length self.now.families }
+        ensures row { slice_get self.now.families n ≡ Some result.now }
+        ensures short { length result.now.view + length result.now.subtree ≤ FAMILY_MAX }
+    {
+        &self.families.as_slice()[n]
+    }
+}
