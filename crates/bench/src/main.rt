@@ -5,13 +5,15 @@ mod bridge;
 mod messages;
 mod print;
 mod sources;
+mod tree;
 
 use bridge::{measure_addresses, measure_frames};
 use messages::{measure_decode, measure_encode, measure_script};
+use tree::measure_tree;
 use std::{env, io};
 
 /// The names of the measurements.
-const NAMES: [&str; 5] = ["decode", "encode", "script", "frames", "addresses"];
+const NAMES: [&str; 6] = ["decode", "encode", "script", "frames", "addresses", "tree"];
 
 fn main(rt: HostRuntime) -> io::Result<()> {
     let mut words = env::args(&rt)?;
@@ -24,6 +26,7 @@ fn main(rt: HostRuntime) -> io::Result<()> {
             "script" => measure_script(&rt),
             "frames" => measure_frames(&rt),
             "addresses" => measure_addresses(&rt),
+            "tree" => measure_tree(&rt),
             _ => print_names(&rt),
         },
     }
