@@ -1,11 +1,21 @@
 -- No octets spell two things.
-use Rattle.std.proofs.Common.{◌≡◌, ℕ, List, [], ◌++◌, length, Ok, sym, ap, ◌∙◌, arith}
+use Rattle.std.proofs.Common.{◌≡◌, ℕ, ℤ, pos, negsuc, List, [], ◌∷◌, ◌++◌, length, get_or, Result, Ok, refl, sym, ap, ◌∙◌, arith}
+use Rattle.message_core.specs.Tags as tags
+use Rattle.message_core.specs.Status.{code_of}
+use Rattle.message_core.specs.declared.cause.DropCause.{DropCause}
+use Rattle.message_core.specs.declared.status.ErrorStatus.{ErrorStatus}
+use Rattle.message_core.specs.declared.status.ErrorStatus.TheVariants.{NoError, TooBig, NoSuchName, BadValue, ReadOnly, GenErr, NoAccess, WrongType, WrongLength, WrongEncoding, WrongValue, NoCreation, InconsistentValue, ResourceUnavailable, CommitFailed, UndoFailed, AuthorizationError, NotWritable, InconsistentName}
 use Rattle.message_core.specs.declared.value.Value.{Value}
 use Rattle.message_core.specs.declared.binding.Binding.{Binding}
 use Rattle.message_core.specs.declared.request.Request.{Request}
-use Rattle.message_core.specs.Message.{IsValue, IsBinding, AreBindings, IsRequest}
-use Rattle.message_core.proofs.Readers.{Reads, ok_is, value_reads, binding_reads, bindings_only}
-use Rattle.message_core.proofs.Requests.{request_only}
+use Rattle.message_core.specs.declared.reply.Reply.{Reply}
+use Rattle.message_core.specs.Message.{IsNameTlv, IsValue, IsBinding, AreBindings, IsMessage, IsRequest, IsReply}
+use Rattle.message_core.specs.FirstFault.{◌>>=◌, any_at, content_at, integer_at, body_of}
+use Rattle.message_core.proofs.Readers.{Reads, ok_is, any_only, content_reads, integer_reads, nametlv_reads, value_reads, binding_reads, bindings_only}
+use Rattle.message_core.proofs.Requests.{alone, content_again, body_only, request_only}
+
+pub one_name : (octets a b : List ℕ) → IsNameTlv octets a → IsNameTlv octets b → a ≡ b
+one_name octets a b i j = ap (λ (p : List ℕ × List ℕ). p.0) (ok_is (a, []) (b, []) (sym (nametlv_reads.only octets a [] i) ∙ nametlv_reads.only octets b [] j))
 
 pub one_value : (octets : List ℕ) (v w : Value) → IsValue octets v → IsValue octets w → v ≡ w
 one_value octets v w i j = ap (λ (p : Value × List ℕ). p.0) (ok_is (v, []) (w, []) (sym (value_reads.only octets v [] i) ∙ value_reads.only octets w [] j))
@@ -18,3 +28,60 @@ one_list octets bs cs i j = ok_is bs cs (sym (bindings_only (length octets) octe
 
 pub one_request : (octets : List ℕ) (r s : Request) → IsRequest octets r → IsRequest octets s → r ≡ s
 one_request octets r s i j = ok_is r s (sym (request_only octets r i) ∙ request_only octets s j)
+
+-- ---- replies: a message of any length, read from left to right
+
+parts_at : List ℕ → Result (List ℕ × List ℕ) DropCause
+parts_at octets = content_at tags.sequence octets >>= λ m. integer_at m.0 >>= λ v. content_at tags.octet_string v.1 >>= λ c. any_at c.1 >>= λ p. Ok (c.0, p.1)
+
+parts_only : (octets community : List ℕ) (tag : ℕ) (body : List ℕ) → IsMessage octets community tag body → parts_at octets ≡ Ok (community, body)
+unfolding parts_at
+parts_only octets community tag body m =
+    let e1 = content_again tags.sequence octets (m.version ++ (m.name ++ m.pdu)) [] (alone tags.sequence octets (m.version ++ (m.name ++ m.pdu)) m.framed) in
+    let e2 = integer_reads.only m.version (pos 1) (m.name ++ m.pdu) m.version_is in
+    let e3 = (content_reads tags.octet_string).only m.name community m.pdu m.community_is in
+    let e4 = any_only m.pdu tag body [] (alone tag m.pdu body m.pdu_is) in
+    rw (e1, e2, e3, e4) refl
+
+statuses : List ErrorStatus
+statuses = NoError ∷ TooBig ∷ NoSuchName ∷ BadValue ∷ ReadOnly ∷ GenErr ∷ NoAccess ∷ WrongType ∷ WrongLength ∷ WrongEncoding ∷ WrongValue ∷ NoCreation ∷ InconsistentValue ∷ ResourceUnavailable ∷ CommitFailed ∷ UndoFailed ∷ AuthorizationError ∷ NotWritable ∷ InconsistentName ∷ []
+
+-- the status of a number
+status_of : ℤ → ErrorStatus
+status_of (pos n) = get_or statuses n NoError
+status_of (negsuc n) = NoError
+
+status_again : (s : ErrorStatus) → status_of (code_of s) ≡ s
+unfolding status_of statuses
+status_again NoError = refl
+status_again TooBig = refl
+status_again NoSuchName = refl
+status_again BadValue = refl
+status_again ReadOnly = refl
+status_again GenErr = refl
+status_again NoAccess = refl
+status_again WrongType = refl
+status_again WrongLength = refl
+status_again WrongEncoding = refl
+status_again WrongValue = refl
+status_again NoCreation = refl
+status_again InconsistentValue = refl
+status_again ResourceUnavailable = refl
+status_again CommitFailed = refl
+status_again UndoFailed = refl
+status_again AuthorizationError = refl
+status_again NotWritable = refl
+status_again InconsistentName = refl
+
+reply_at : List ℕ → Result Reply DropCause
+reply_at octets = parts_at octets >>= λ p. body_of p.1 >>= λ b. Ok (record { id = b.0; status = status_of b.1; index = b.2; community = p.0; bindings = b.3 })
+
+reply_only : (octets : List ℕ) (r : Reply) → IsReply octets r → reply_at octets ≡ Ok r
+unfolding reply_at
+reply_only octets r i =
+    let e1 = parts_only octets r.community tags.response i.body i.message in
+    let e2 = body_only i.body (r.id, code_of r.status, r.index, r.bindings) i.body_is in
+    rw (e1, e2, status_again r.status) refl
+
+pub one_reply : (octets : List ℕ) (r s : Reply) → IsReply octets r → IsReply octets s → r ≡ s
+one_reply octets r s i j = ok_is r s (sym (reply_only octets r i) ∙ reply_only octets s j)

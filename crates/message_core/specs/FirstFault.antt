@@ -7,6 +7,7 @@ use Rattle.oid_core.specs.declared.fault.OidFault.{OidFault}
 use Rattle.oid_core.specs.Reading.{name_at}
 use Rattle.message_core.specs.Cause.{cause_of}
 use Rattle.message_core.specs.Tags as tags
+use Rattle.message_core.specs.Message.{longest_request}
 use Rattle.message_core.specs.declared.cause.DropCause.{DropCause}
 use Rattle.message_core.specs.declared.cause.DropCause.TheVariants.{TooLong, Malformed, BadVersion, BadKind, Memory}
 use Rattle.message_core.specs.declared.request.Kind.{Kind}
@@ -149,15 +150,21 @@ is_one (negsuc n) = false
 abbrev pub version_of : ℤ → Result (Unit {0}) DropCause
 version_of z = if is_one z then Ok tt else Err BadVersion
 
--- A message up to its PDU: the community, the PDU's tag and content, and what comes after the PDU and after the message.
-unfoldable pub head_at : List ℕ → Result (List ℕ × ℕ × List ℕ × List ℕ × List ℕ) DropCause
-head_at datagram = if nat_lt 2048 (length datagram) then Err TooLong else do
+-- A message up to its community: the community, and what comes after it and after the message.
+unfoldable pub start_at : List ℕ → Result (List ℕ × List ℕ × List ℕ) DropCause
+start_at datagram = if nat_lt longest_request (length datagram) then Err TooLong else do
   m ← content_at tags.sequence datagram
   v ← integer_at m.0
   one ← version_of v.0
   c ← content_at tags.octet_string v.1
-  p ← any_at c.1
-  Ok (c.0, p.0, p.1, p.2, m.1)
+  Ok (c.0, c.1, m.1)
+
+-- A message up to its PDU: the community, the PDU's tag and content, and what comes after the PDU and after the message.
+unfoldable pub head_at : List ℕ → Result (List ℕ × ℕ × List ℕ × List ℕ × List ℕ) DropCause
+head_at datagram = do
+  s ← start_at datagram
+  p ← any_at s.1
+  Ok (s.0, p.0, p.1, p.2, s.2)
 
 unfoldable pub kind_of : ℕ → Result Kind DropCause
 kind_of tag =

@@ -1,3 +1,4 @@
+ghost use Rattle.std.specs.Prelude.{◌≡◌, IfErr};
 ghost use Rattle.message_core.specs.FirstFault.{Gives, integer_of, unsigned_of};
 
 use crate::cause::DropCause;
@@ -5,7 +6,8 @@ use ber_core::{read_i32, read_u32, read_u64};
 
 /// The number of an INTEGER's content.
 pub fn integer_from_content(content: &[u8]) -> Result<i32, DropCause>
-    ensures { Gives (λ z. z) result (integer_of content.now) }
+    ensures exact { Gives (λ z. z) result (integer_of content.now) }
+    ensures fault { IfErr result (λ e. e ≡ DropCause.Malformed) }
 {
     let number = read_i32(content)?;
     Ok(number)

@@ -207,6 +207,8 @@ pub fn encode_reply(reply: &Reply, buffer: &mut [u8; MAX_REPLY]) -> Result<usize
 /// Writes the shortest spelling of the reply to a request that has this status, index and bindings, as `encode_reply` does.
 ///
 /// The request-id and the community are the request's (RFC 3416, section 4.2). Takes no memory and copies nothing.
+/// The caller owes that each binding has a spelling (`Binding::is_spellable`): its name, and an OBJECT IDENTIFIER value,
+/// begin as X.690, 8.19.4 asks. `decode` gives only requests whose bindings have one.
 pub fn encode_answer(
     request: &Request,
     status: ErrorStatus,

@@ -1,4 +1,4 @@
--- The order of names, which is lexicographic by sub-identifier with a name before those that it begins (RFC 3416, 4.2.2), and what begins a name.
+-- The lexicographic order of names (RFC 3416, 4.2.2): by the first sub-identifier that differs, and a name before those that it begins. And what begins a name.
 use Rattle.std.specs.Prelude.{◌≡◌, ◌<◌, ◌⊎◌, ℕ, Bool, true, false, nat_lt, nat_eq, if◌then◌else◌, List, [], ◌∷◌, ◌++◌}
 
 -- the first list begins the second

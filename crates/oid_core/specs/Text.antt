@@ -1,4 +1,4 @@
--- The dotted text of a name: its sub-identifiers in decimal without leading zeros, joined by dots (RFC 4512, 1.4). One number alone is a text too.
+-- The dotted text of a name: its sub-identifiers in decimal, joined by dots. As `numericoid` of RFC 4512, 1.4, and wider: one number alone is a text too.
 use Rattle.std.specs.Prelude.{◌≡◌, ℕ, ◌≤◌, ◌<◌, ◌^◌, ◌==◌, List, [], length, map, Option, Some, None}
 use Rattle.std.specs.Fmt.{decimal}
 use Rattle.std.specs.List.{AllByRecursion, join_with_byte, slice_split}

@@ -1,8 +1,12 @@
 //! Laws of names. Each holds of all octets and numbers, and its function does nothing.
-ghost use Rattle.std.specs.Prelude.{◌≡◌, ◌≤◌, ◌↔◌, ◌⊎◌, ℕ, List, length, IsTrue};
-ghost use Rattle.oid_core.specs.Name.{IsName, IsSpellable, canon_name};
+ghost use Rattle.std.specs.Prelude.{◌≡◌, ◌≤◌, ◌↔◌, ◌⊎◌, ℕ, List, length, IsTrue, Ok, Err};
+ghost use Rattle.oid_core.specs.declared.fault.OidFault.{OidFault};
+ghost use Rattle.oid_core.specs.Name.{AreOctets, IsName, IsSpellable, canon_name};
+ghost use Rattle.oid_core.specs.Reading.{name_at};
 ghost use Rattle.oid_core.specs.Order.{IsBefore, IsPrefix, name_lt, name_eq, is_prefix};
 ghost use Rattle.oid_core.specs.Text.{IsDotted};
+
+use crate::fault::OidFault;
 
 /// The shortest content of a name is one of its contents.
 pub fn name_is_spelled()
@@ -17,6 +21,12 @@ pub fn no_name_is_shorter()
 /// A content is that of one name at most.
 pub fn name_is_one()
     ensures { (content a b : List ℕ) → IsName content a → IsName content b → a ≡ b }
+{}
+
+/// Reading from left to right gives a name exactly where the grammar has one, and `BadContent` exactly where it has none.
+pub fn reading_is_the_grammar()
+    ensures name { (content name : List ℕ) → AreOctets content → (name_at content ≡ Ok name) ↔ IsName content name }
+    ensures fault { (content : List ℕ) (f : OidFault) → AreOctets content → (name_at content ≡ Err f) ↔ ((f ≡ OidFault.BadContent) × ((name : List ℕ) → ¬ IsName content name)) }
 {}
 
 /// A text is the dotted text of one name at most.
