@@ -1,7 +1,6 @@
 ghost use Rattle.std.specs.Prelude.{◌≡◌, ◌↔◌, [], ◌∷◌, ◌++◌, IsTrue, IfOk, OnOk, OnErr};
 ghost use Rattle.message_core.specs.Spellable.{IsSpellableBinding};
 
-use crate::names::{copy_of, has_root};
 use crate::value::Value;
 use oid_core::Oid;
 use std::alloc::{AllocError, Global};
@@ -21,7 +20,7 @@ impl Binding {
     pub fn try_copy(&self, alloc: Global) -> Result<Binding, AllocError>
         ensures { IfOk result (λ copy. copy ≡ self.now) }
     {
-        let name = copy_of(alloc, &self.name)?;
+        let name = self.name.try_copy(alloc)?;
         let value = self.value.try_copy(alloc)?;
         Ok(Binding { name, value })
     }
@@ -30,7 +29,7 @@ impl Binding {
     pub fn is_spellable(&self) -> bool
         ensures { IsTrue result ↔ IsSpellableBinding self.now }
     {
-        has_root(&self.name) && self.value.is_spellable()
+        self.name.is_spellable() && self.value.is_spellable()
     }
 }
 

@@ -1,7 +1,6 @@
 ghost use Rattle.std.specs.Prelude.{◌≡◌, ◌↔◌, IsTrue, IfOk};
 ghost use Rattle.message_core.specs.Spellable.{IsSpellableValue};
 
-use crate::names::{copy_of, has_root};
 use crate::octets::Octets;
 use oid_core::Oid;
 use std::alloc::{AllocError, Global};
@@ -46,7 +45,7 @@ impl Value {
             Value::Integer(number) => Value::Integer(*number),
             Value::OctetString(octets) => Value::OctetString(octets.try_copy(alloc)?),
             Value::Null => Value::Null,
-            Value::ObjectIdentifier(name) => Value::ObjectIdentifier(copy_of(alloc, name)?),
+            Value::ObjectIdentifier(name) => Value::ObjectIdentifier(name.try_copy(alloc)?),
             Value::IpAddress(address) => Value::IpAddress(*address),
             Value::Counter32(count) => Value::Counter32(*count),
             Value::Gauge32(level) => Value::Gauge32(*level),
@@ -64,7 +63,7 @@ impl Value {
         ensures { IsTrue result ↔ IsSpellableValue self.now }
     {
         match self {
-            Value::ObjectIdentifier(name) => has_root(name),
+            Value::ObjectIdentifier(name) => name.is_spellable(),
             _ => true,
         }
     }
