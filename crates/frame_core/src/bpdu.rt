@@ -22,7 +22,7 @@ pub struct PriorityVector {
     pub cost: u32,
     /// The bridge that sends.
     pub bridge: BridgeId,
-    /// The port that sends: its priority in the highest octet, its number below.
+    /// The port that sends: its priority in the highest four bits, its number in the low twelve (9.2.7).
     pub port: u16,
 }
 

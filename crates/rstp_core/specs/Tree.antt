@@ -111,7 +111,8 @@ Links s n up t u out = Ends s false (times_before s t) (map (linked n up) (rows_
 abbrev pub has_other_version : Table → SettledValues → Bool
 has_other_version s w = not ((settled_of s).version == w.version)
 
--- Settling the settings. What has changed, the times in force too, is measured against what was settled before.
+-- Settling the settings. The version, the edge settings, enabling and the times in force are measured against what was settled
+-- before; vectors against the event's start.
 abbrev pub Settles : Table → Tree → Tree → Outcome → Type 0
 Settles s t u out =
     Ends s false (times_in_force t.settled.timers (rows_of s t)) (map (settled_anew (has_other_version s t.settled)) (rows_of s t)) (record t { settled = settled_of s }) u out

@@ -1,9 +1,9 @@
-// Laws of the spanning tree, for every list of happenings from the opening on in which each change of
-// settings is followed by settling them. Each function does nothing: its contract is the law.
-//
-// Not true here, and not claimed: that the learned rows of a port go when it is blocked by
-// synchronization (they stay); that no port forwards while it is off between a change of its enable
-// setting and settling it (it may, for that moment).
+//! Laws of the spanning tree, for every list of happenings from the opening on in which each change of settings is followed by
+//! settling them. Each function does nothing: its contract is the law.
+//!
+//! Not true here, and not claimed: that the learned rows of a port go when it is blocked by synchronization (they stay); that no
+//! port forwards while it is off between a change of its enable setting and settling it, and, where its link goes down in between,
+//! until it starts anew.
 ghost use Rattle.std.specs.Prelude.{◌≡◌, ◌≢◌, ◌≤◌, ℕ, List, length, All, Contains};
 ghost use Rattle.frame_core.specs.declared.mac.Mac.{Mac};
 ghost use Rattle.rstp_settings.specs.Table.{Table};

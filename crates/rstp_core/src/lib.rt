@@ -17,6 +17,8 @@ pub use rstp_rules::config::{BridgeConfig, PortConfig};
 pub use rstp_rules::port::{Info, Port, Role, State};
 pub use rstp_rules::row::Best;
 pub use rstp_rules::settled::{SettledPort, Timers};
+pub use rstp_settings::key::{BridgeKey, Key, PortKey};
+pub use rstp_settings::settings::{MAX_PORTS, Settings};
 pub use settled::Settled;
 
 #[cfg(test)]

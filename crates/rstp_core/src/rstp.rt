@@ -223,7 +223,8 @@ impl Rstp {
         outcome
     }
 
-    /// The settings have been changed and are to stay for now. Each protocol migration check is spent.
+    /// Settles changed settings: ports whose version or enabling changed start anew, a changed edge setting takes effect, protocol
+    /// migration checks are done and spent, and what was settled is kept for the next settling.
     pub fn settle(&mut self, settings: &mut Settings) -> Outcome
         requires { length self.old.ports ≤ length settings.old.ports }
         ensures event { Settles settings.old self.old self.new result }

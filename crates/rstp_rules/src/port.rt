@@ -41,7 +41,8 @@ pub struct Port {
     pub info: Info,
     /// The port priority vector (17.19.21).
     pub vector: PriorityVector,
-    /// The times that came with the vector (17.19.22).
+    /// The times of the last message that was recorded, at first those of the opening; of no effect where the information is the
+    /// port's own (17.19.22).
     pub times: Times,
     pub role: Role,
     pub state: State,

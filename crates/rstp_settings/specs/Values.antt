@@ -41,7 +41,7 @@ with_port_value p port.Migrate v = record p { migrate = v }
 with_port_value p port.Edge v = record p { edge = v }
 with_port_value p port.PointToPoint v = record p { point_to_point = v }
 
--- 0, step, 2 step, .. up to a greatest
+-- the multiples of a step, from a least to a greatest
 abbrev pub IsStep : ℕ → ℕ → ℕ → ℕ → Type 0
 IsStep least most step v = (least ≤ v) × (v ≤ most) × (v % step ≡ 0)
 
