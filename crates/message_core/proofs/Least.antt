@@ -1,10 +1,10 @@
 -- No spelling is shorter than the shortest.
-use Rattle.std.proofs.Common.{◌≡◌, ℕ, ℤ, pos, ◌+◌, ◌≤◌, ◌<◌, ◌^◌, List, [], ◌∷◌, ◌++◌, length, refl, sym, ap, subst, arith, inl, inr, ◌⊎◌}
+use Rattle.std.proofs.Common.{ℕ, ℤ, pos, ◌+◌, ◌≤◌, List, [], ◌∷◌, ◌++◌, length, ap, subst, arith, inl, inr}
 use Rattle.std.specs.Int.Digits.{digits_of, AllBelowBase}
 use Rattle.std.proofs.lemmas.List.{length-append}
 use Rattle.std.proofs.lemmas.Bool.{cases_lt, lt-ltb, le-ltb}
 use Rattle.std.proofs.lemmas.Int.Digits.{number_lt, length-digits_of-le}
-use Rattle.ber_core.specs.Spelling.{IsShortForm, IsLongForm, IsLength, IsTlv, IsInteger, canon_length, canon_tlv, canon_integer, canon_unsigned}
+use Rattle.ber_core.specs.Spelling.{IsLength, IsTlv, IsInteger, canon_length, canon_tlv, canon_integer, canon_unsigned}
 use Rattle.oid_core.specs.Name.{canon_name}
 use Rattle.message_core.specs.Tags as tags
 use Rattle.message_core.specs.Status.{code_of}

@@ -11,7 +11,7 @@ use Rattle.message_core.specs.declared.request.Request.{Request}
 use Rattle.message_core.specs.declared.reply.Reply.{Reply}
 use Rattle.message_core.specs.Message.{IsNameTlv, IsValue, IsBinding, AreBindings, IsMessage, IsRequest, IsReply}
 use Rattle.message_core.specs.FirstFault.{◌>>=◌, any_at, content_at, integer_at, body_of}
-use Rattle.message_core.proofs.Readers.{Reads, ok_is, any_only, content_reads, integer_reads, nametlv_reads, value_reads, binding_reads, bindings_only}
+use Rattle.message_core.proofs.Readers.{ok_is, any_only, content_reads, integer_reads, nametlv_reads, value_reads, binding_reads, bindings_only}
 use Rattle.message_core.proofs.Requests.{alone, content_again, body_only, request_only}
 
 pub one_name : (octets a b : List ℕ) → IsNameTlv octets a → IsNameTlv octets b → a ≡ b

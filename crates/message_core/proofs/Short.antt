@@ -1,5 +1,5 @@
 -- A reply without bindings is short.
-use Rattle.std.proofs.Common.{◌≡◌, ℕ, ℤ, pos, ◌+◌, ◌≤◌, ◌<◌, ◌^◌, List, [], ◌++◌, length, ap, arith, inl, inr, ◌⊎◌, w32, of_z}
+use Rattle.std.proofs.Common.{◌≡◌, ℕ, ℤ, pos, ◌+◌, ◌≤◌, ◌<◌, ◌^◌, List, [], ◌++◌, length, ap, arith, inl, inr, w32, of_z}
 use Rattle.std.specs.Int.{to_be_bytes}
 use Rattle.std.proofs.lemmas.List.{length-append}
 use Rattle.ber_core.specs.Spelling.{IsLength, canon_length, canon_tlv, canon_integer}
@@ -7,7 +7,7 @@ use Rattle.ber_core.proofs.Canon.{canon_length_spells, shortest_len}
 use Rattle.message_core.specs.Tags as tags
 use Rattle.message_core.specs.Status.{code_of}
 use Rattle.message_core.specs.declared.reply.Reply.{Reply}
-use Rattle.message_core.specs.Canon.{canon_int, canon_bindings, canon_tail, canon_body, canon_inside, canon_message, canon_reply}
+use Rattle.message_core.specs.Canon.{canon_int, canon_tail, canon_body, canon_inside, canon_message, canon_reply}
 
 length_short : (head : List ℕ) (n : ℕ) → IsLength head n → length head ≤ 5
 length_short head n (inl short) = omega (arith, ap length short.0)
