@@ -3,3 +3,7 @@ pub mod Rest
 pub mod Below
 pub mod Sizes
 pub mod Spellings
+pub mod Fits
+pub mod Longest
+pub mod LawProofs
+pub mod Known

@@ -1,11 +1,12 @@
--- What Get answers can be spelled.
+-- What Get and GetNext answer can be spelled.
 use Rattle.std.proofs.Common.{◌≡◌, ℕ, Bool, true, false, cond, List, [], ◌∷◌, Option, Some, None, refl, subst}
 use Rattle.std.specs.List.{AllByRecursion}
-use Rattle.oid_core.specs.Order.{name_eq}
+use Rattle.oid_core.specs.Order.{name_eq, name_lt}
+use Rattle.oid_core.specs.Name.{HasRoot}
 use Rattle.message_core.specs.Spellable.{IsSpellableValue, IsSpellableBinding, AreSpellable}
 use Rattle.message_core.specs.declared.binding.Binding.{Binding}
 use Rattle.message_core.specs.declared.value.Value.{Value}
-use Rattle.agent_core.specs.Reading.{visible, value_of, or_missing, has_object, get_answers}
+use Rattle.agent_core.specs.Reading.{visible, value_of, next_of, or_end, or_missing, has_object, get_answers, next_answer, next_answers, names_of}
 
 -- what a view shows of instances that can be spelled
 visible_spellable : (shows : List ℕ → Bool) (rows : List Binding) → AreSpellable rows → AreSpellable (visible shows rows)
@@ -39,3 +40,23 @@ answers_spellable objects shows rows (b ∷ bs) h k = (
   },
   answers_spellable objects shows rows bs h k.1,
 )
+
+next_spellable : (rows : List Binding) (name : List ℕ) (row : Binding) → AreSpellable rows → next_of rows name ≡ Some row → IsSpellableBinding row
+next_spellable [] name row h e = absurd (cc)
+next_spellable (x ∷ xs) name row h e = pick (name_lt name x.name) e (λ k. next_spellable xs name row h.1 k)
+  where
+    pick : (b : Bool) → cond b (Some x) (next_of xs name) ≡ Some row → (next_of xs name ≡ Some row → IsSpellableBinding row) → IsSpellableBinding row
+    pick true k more = let same : x ≡ row = cc in subst IsSpellableBinding same h.0
+    pick false k more = more k
+
+-- what GetNext answers under a name that can be spelled
+pub next_answer_spellable : (shows : List ℕ → Bool) (rows : List Binding) (name : List ℕ) → AreSpellable rows → HasRoot name → IsSpellableBinding (next_answer (visible shows rows) name)
+next_answer_spellable shows rows name h root = pick (next_of (visible shows rows) name) refl
+  where
+    pick : (o : Option Binding) → next_of (visible shows rows) name ≡ o → IsSpellableBinding (or_end o name)
+    pick None e = record { name = root; value = tt }
+    pick (Some row) e = next_spellable (visible shows rows) name row (visible_spellable shows rows h) e
+
+pub nexts_spellable : (shows : List ℕ → Bool) (rows asked : List Binding) → AreSpellable rows → AreSpellable asked → AreSpellable (next_answers (visible shows rows) (names_of asked))
+nexts_spellable shows rows [] h k = tt
+nexts_spellable shows rows (b ∷ bs) h k = (next_answer_spellable shows rows b.name h k.0.name, nexts_spellable shows rows bs h k.1)

@@ -2,5 +2,8 @@ pub mod Reading
 pub mod World
 pub mod Views
 pub mod Buffered
+pub mod Bulk
+pub mod Fitting
+pub mod Sending
 pub mod Replies
 pub mod Answers

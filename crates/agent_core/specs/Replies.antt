@@ -1,5 +1,5 @@
--- Whole replies (RFC 3416, 4.2).
-use Rattle.std.specs.Prelude.{ℕ, pos, if◌then◌else◌, nat_lt, List, [], ◌∷◌, length, Option, Some, None}
+-- Whole replies (RFC 3416, 4.2), and walks.
+use Rattle.std.specs.Prelude.{ℕ, zero, suc, pos, Bool, if◌then◌else◌, nat_lt, List, [], ◌∷◌, length, Option, Some, None}
 use Rattle.message_core.specs.Canon.{canon_reply, answer_to}
 use Rattle.message_core.specs.declared.binding.Binding.{Binding}
 use Rattle.message_core.specs.declared.request.Kind.{Kind}
@@ -8,12 +8,10 @@ use Rattle.message_core.specs.declared.request.Request.{Request}
 use Rattle.message_core.specs.declared.reply.Reply.{Reply}
 use Rattle.message_core.specs.declared.status.ErrorStatus.TheVariants.{NoError, TooBig, GenErr}
 use Rattle.agent_core.specs.World.{World}
-use Rattle.agent_core.specs.Reading.{get_answers}
+use Rattle.agent_core.specs.Reading.{visible, names_of, get_answers, next_answer, next_answers}
+use Rattle.agent_core.specs.Bulk.{asked_list}
+use Rattle.agent_core.specs.Fitting.{reply_limit, fitting}
 use Rattle.agent_core.specs.Views.{in_bridge, is_public}
-
--- the longest reply that is sent, in octets
-abbrev pub reply_limit : ℕ
-reply_limit = 1472
 
 -- A reply that is too long is sent as tooBig, with index 0 and no bindings (RFC 3416, 4.2.1).
 unfoldable pub sized : Reply → Reply
@@ -22,22 +20,47 @@ sized reply =
     then record reply { status = TooBig; index = pos 0; bindings = [] }
     else reply
 
--- What answers a failure that is no binding's own, as want of memory: genErr, with index 0 and the request's bindings. The standard leaves the index open.
+-- what answers a failure of no binding of its own, as want of memory: genErr, index 0, the request's bindings
 abbrev pub failed : Request → Reply
 failed request = sized (answer_to request GenErr (pos 0) request.bindings)
 
--- The reply to a request that has bindings, by its kind. GetNext, Set and GetBulk are answered genErr.
-abbrev pub kind_reply : World → Request → Kind → Reply
-kind_reply world request Get = sized (answer_to request NoError (pos 0) (get_answers world.objects in_bridge world.instances request.bindings))
-kind_reply world request GetNext = failed request
-kind_reply world request Set = failed request
-kind_reply world request GetBulk = failed request
+-- The replies to Get, GetNext and GetBulk, by the names of the objects, the names that a view shows, and the instances.
+
+abbrev pub get_reply : List (List ℕ) → (List ℕ → Bool) → List Binding → Request → Reply
+get_reply objects shows rows request = sized (answer_to request NoError (pos 0) (get_answers objects shows rows request.bindings))
+
+abbrev pub next_reply : (List ℕ → Bool) → List Binding → Request → Reply
+next_reply shows rows request = sized (answer_to request NoError (pos 0) (next_answers (visible shows rows) (names_of request.bindings)))
+
+-- GetBulk is never too long: it sends the longest front of its list that fits.
+abbrev pub bulk_reply : (List ℕ → Bool) → List Binding → Request → Reply
+bulk_reply shows rows request = answer_to request NoError (pos 0) (fitting request (asked_list (visible shows rows) request))
+
+-- The reply to a request that has bindings, by its kind. Nothing can be written, so a Set is answered genErr.
+abbrev pub kind_reply : List (List ℕ) → (List ℕ → Bool) → List Binding → Request → Kind → Reply
+kind_reply objects shows rows request Get = get_reply objects shows rows request
+kind_reply objects shows rows request GetNext = next_reply shows rows request
+kind_reply objects shows rows request Set = failed request
+kind_reply objects shows rows request GetBulk = bulk_reply shows rows request
 
 -- The reply to a known caller. A request with no bindings is answered noError with none, whatever its kind; the standard says nothing of it.
-abbrev pub known_reply : World → Request → List Binding → Reply
-known_reply world request [] = sized (answer_to request NoError (pos 0) [])
-known_reply world request (b ∷ bs) = kind_reply world request request.kind
+abbrev pub known_reply : List (List ℕ) → (List ℕ → Bool) → List Binding → Request → List Binding → Reply
+known_reply objects shows rows request [] = sized (answer_to request NoError (pos 0) [])
+known_reply objects shows rows request (b ∷ bs) = kind_reply objects shows rows request request.kind
 
 -- The reply to a request, or none where its community is unknown.
 abbrev pub reply_of : World → Request → Option Reply
-reply_of world request = if is_public request.community then Some (known_reply world request request.bindings) else None
+reply_of world request =
+    if is_public request.community
+    then Some (known_reply world.objects in_bridge world.instances request request.bindings)
+    else None
+
+-- the answers to so many GetNext, each of the name that the one before answered
+abbrev pub walk : List Binding → ℕ → List ℕ → List Binding
+walk rows zero name = []
+walk rows (suc steps) name = next_answer rows name ∷ walk rows steps (next_answer rows name).name
+
+-- the name of the last binding, or the name before them
+abbrev pub last_name : List ℕ → List Binding → List ℕ
+last_name name [] = name
+last_name name (b ∷ bs) = last_name b.name bs

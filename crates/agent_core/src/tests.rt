@@ -99,3 +99,91 @@ fn refuses_a_world_that_cannot_be_spelled(rt: HostRuntime) -> Result<(), Fail> {
     );
     Ok(())
 }
+
+// A view of the names that begin with one of these, and with none of those.
+#[derive(Drop)]
+struct Families<'a> {
+    included: &'a [Oid],
+    excluded: &'a Oid,
+}
+
+impl View for Families<'_> {
+    ghost use Rattle.std.specs.List.{list_any};
+    ghost use Rattle.std.specs.Prelude.{◌&&◌, not};
+    ghost use Rattle.oid_core.specs.Order.{is_prefix};
+
+    ghost shows = { λ v name. list_any (λ p. is_prefix p name) v.included.now && not (is_prefix v.excluded.now name) };
+
+    fn has_name(&self, name: &Oid) -> bool {
+        self.included.iter().any(|p| p.is_prefix(name)) && !self.excluded.is_prefix(name)
+    }
+}
+
+// Columns 2 to 5 of the port table, for two ports.
+fn port_table(alloc: Global) -> Result<PlainWorld, Fail> {
+    let mut instances = Vec::new(alloc);
+    for (text, number) in [
+        ("1.3.6.1.2.1.17.2.15.1.2.1", 128),
+        ("1.3.6.1.2.1.17.2.15.1.2.2", 128),
+        ("1.3.6.1.2.1.17.2.15.1.3.1", 1),
+        ("1.3.6.1.2.1.17.2.15.1.3.2", 1),
+        ("1.3.6.1.2.1.17.2.15.1.4.1", 2),
+        ("1.3.6.1.2.1.17.2.15.1.4.2", 1),
+        ("1.3.6.1.2.1.17.2.15.1.5.1", 10),
+        ("1.3.6.1.2.1.17.2.15.1.5.2", 20000),
+    ] {
+        instances.push(bound(alloc, text, number)?)?;
+    }
+    Ok(
+        PlainWorld::new(instances, Vec::new(alloc))
+            .ok()
+            .ok_or("a world")?,
+    )
+}
+
+// Port 2 in the columns 2 to 5.
+fn second_port(alloc: Global) -> Result<Vec<Oid>, Fail> {
+    let mut names = Vec::new(alloc);
+    for text in [
+        "1.3.6.1.2.1.17.2.15.1.2.2",
+        "1.3.6.1.2.1.17.2.15.1.3.2",
+        "1.3.6.1.2.1.17.2.15.1.4.2",
+        "1.3.6.1.2.1.17.2.15.1.5.2",
+    ] {
+        names.push(named(alloc, text)?)?;
+    }
+    Ok(names)
+}
+
+// Column 3 is in the view for no port, and no column is for port 1.
+#[test]
+fn passes_over_what_is_hidden(rt: HostRuntime) -> Result<(), Fail> {
+    let world = port_table(rt.alloc())?;
+    let included = second_port(rt.alloc())?;
+    let excluded = named(rt.alloc(), "1.3.6.1.2.1.17.2.15.1.3")?;
+    let view = Families {
+        included: &included,
+        excluded: &excluded,
+    };
+    let asked = named(rt.alloc(), "1.3.6.1.2.1.17.2.15.1.2.2")?;
+    let next = get_next(rt.alloc(), &world, &view, &asked)?;
+    assert!(rt; next.name == named(rt.alloc(), "1.3.6.1.2.1.17.2.15.1.4.2")?);
+    assert!(rt; matches!(next.value, Value::Integer(1)));
+    Ok(())
+}
+
+#[test]
+fn ends_where_nothing_more_is_seen(rt: HostRuntime) -> Result<(), Fail> {
+    let world = port_table(rt.alloc())?;
+    let included = second_port(rt.alloc())?;
+    let excluded = named(rt.alloc(), "1.3.6.1.2.1.17.2.15.1.5")?;
+    let view = Families {
+        included: &included,
+        excluded: &excluded,
+    };
+    let asked = named(rt.alloc(), "1.3.6.1.2.1.17.2.15.1.4.2")?;
+    let next = get_next(rt.alloc(), &world, &view, &asked)?;
+    assert!(rt; next.name == asked);
+    assert!(rt; matches!(next.value, Value::EndOfMibView));
+    Ok(())
+}

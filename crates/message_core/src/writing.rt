@@ -71,7 +71,7 @@ fn put_value(out: &mut Out<'_>, value: &Value) -> Result<(), BerFault>
 }
 
 #[tactic(auto, unfolding(ber_core::specs::Spelling::canon_tlv, crate::specs::Canon::canon_binding))]
-fn put_binding(out: &mut Out<'_>, binding: &Binding) -> Result<(), BerFault>
+pub fn put_binding(out: &mut Out<'_>, binding: &Binding) -> Result<(), BerFault>
     requires { IsSpellableBinding binding.now }
     ensures same_reference { out.new.room.ghost_name ≡ out.old.room.ghost_name }
     ensures puts { Prepends out.old out.new result (canon_binding binding.now) }

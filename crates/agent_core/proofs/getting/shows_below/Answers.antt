@@ -1,5 +1,4 @@
 use Rattle.std.proofs.Common.{◌≡◌, ◌∙◌, ap, sym, Some, None, List}
-use Rattle.oid_core.specs.Order.{is_prefix}
 use Rattle.agent_core.specs.Reading.{visible, value_of, next_of}
 use Rattle.message_core.specs.declared.binding.Binding.{Binding}
 use Rattle.agent_core.proofs.Below.{below-itself, below-first, first_below, visible-rising}

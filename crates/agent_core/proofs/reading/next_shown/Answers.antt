@@ -1,4 +1,4 @@
-use Rattle.std.proofs.Common.{◌≡◌, ◌∙◌, ap, sym, refl, find, rules, Some}
+use Rattle.std.proofs.Common.{◌∙◌, ap, sym, refl, find, rules}
 use Rattle.agent_core.proofs.Rest.{from, next-visible, from_shorter, from_hidden}
 use Rattle.agent_core.proofs.reading.next_shown.Goals as goal
 

@@ -1,0 +1,110 @@
+-- The laws of replies.
+use Rattle.std.proofs.Common.{◌≡◌, ℕ, ℤ, pos, suc, ◌+◌, ◌*◌, ◌<◌, ◌≤◌, ◌∙◌, ap, refl, Bool, true, false, cond, List, [], ◌∷◌, ◌++◌, length, append-nil, arith, IsTrue, All, Contains, Option, Some, None, MatchOption, length-append}
+use Rattle.std.proofs.lemmas.List.Concat.{flat_map-cons}
+use Rattle.std.proofs.lemmas.List.Elements.{All-head, All-tail, All-cons, All-weaker}
+use Rattle.std.proofs.lemmas.List.Kept.{AllPairs-filter}
+use Rattle.oid_core.specs.Order.{name_lt}
+use Rattle.message_core.specs.Canon.{answer_to, canon_binding}
+use Rattle.message_core.specs.declared.binding.Binding.{Binding}
+use Rattle.message_core.specs.declared.request.Kind.{Kind}
+use Rattle.message_core.specs.declared.request.Kind.TheVariants.{Get, GetNext, Set, GetBulk}
+use Rattle.message_core.specs.declared.request.Request.{Request}
+use Rattle.message_core.specs.declared.status.ErrorStatus.TheVariants.{NoError}
+use Rattle.message_core.proofs.Smallest.{binding_some, reply_some}
+use Rattle.agent_core.specs.Reading.{IsRising, IsLeastAfter, visible, after, next_of, end_under, get_answer, get_answers, names_of, next_answers}
+use Rattle.agent_core.specs.Fitting.{total, fitting, reply_size}
+use Rattle.agent_core.specs.Bulk.{asked_list}
+use Rattle.agent_core.specs.Views.{in_bridge}
+use Rattle.agent_core.specs.World.{World}
+use Rattle.agent_core.specs.Replies.{sized, kind_reply, known_reply, walk, last_name}
+use Rattle.agent_core.proofs.Rising.{rising_tail, rising_head, name_lt-irrefl, name_lt-asym}
+use Rattle.agent_core.proofs.Rest.{find_is, after-first}
+use Rattle.agent_core.proofs.Fits.{total-append}
+use Rattle.agent_core.proofs.Longest.{longest_law}
+
+-- a walk
+walk-all : (rows ys : List Binding) (name : List ℕ) → IsRising rows → after name rows ≡ ys → walk rows (suc (length ys)) name ≡ ys ++ end_under (last_name name ys) ∷ []
+walk-all rows [] name h e = rw (find_is (λ row. name_lt name row.name) rows [] e) refl
+walk-all rows (y ∷ ys) name h e =
+    rw (find_is (λ row. name_lt name row.name) rows (y ∷ ys) e) (ap (λ zs. y ∷ zs) (walk-all rows ys y.name h (after-first rows name y ys h e)))
+
+pub walk_law : (shows : List ℕ → Bool) (rows : List Binding) (name : List ℕ) → IsRising rows →
+    walk (visible shows rows) (suc (length (after name (visible shows rows)))) name ≡ after name (visible shows rows) ++ end_under (last_name name (after name (visible shows rows))) ∷ []
+walk_law shows rows name h =
+    walk-all (visible shows rows) (after name (visible shows rows)) name (AllPairs-filter (λ (a b : Binding). IsTrue (name_lt a.name b.name)) (λ row. shows row.name) rows h) refl
+
+-- equal answers to the asked names
+pub get_same : (objects : List (List ℕ)) (asked : List Binding) (first second : List ℕ → Bool) (rows others : List Binding) → visible first rows ≡ visible second others → All (λ b. first b.name ≡ second b.name) asked →
+    get_answers objects first rows asked ≡ get_answers objects second others asked
+get_same objects [] first second rows others e h = refl
+get_same objects (b ∷ bs) first second rows others e h =
+    let shown : first b.name ≡ second b.name = All-head (λ (a : Binding). first a.name ≡ second a.name) b bs h in
+    let here : get_answer objects (first b.name) (visible first rows) b.name ≡ get_answer objects (second b.name) (visible second others) b.name =
+    ap (λ s. get_answer objects s (visible first rows) b.name) shown ∙ ap (λ vs. get_answer objects (second b.name) vs b.name) e in
+    let more = get_same objects bs first second rows others e (All-tail (λ (a : Binding). first a.name ≡ second a.name) b bs h) in
+    ap (λ z. z ∷ get_answers objects first rows bs) here ∙ ap (λ zs. get_answer objects (second b.name) (visible second others) b.name ∷ zs) more
+
+-- equal replies over worlds that show the same
+kind_same : (world other : World) (request : Request) (kind : Kind) → world.objects ≡ other.objects → visible in_bridge world.instances ≡ visible in_bridge other.instances →
+    kind_reply world.objects in_bridge world.instances request kind ≡ kind_reply other.objects in_bridge other.instances request kind
+kind_same world other request Get o e =
+    ap (λ bs. sized (answer_to request NoError (pos 0) bs))
+    (ap (λ objects. get_answers objects in_bridge world.instances request.bindings) o
+    ∙ get_same other.objects request.bindings in_bridge in_bridge world.instances other.instances e (λ k d within. refl))
+kind_same world other request GetNext o e = ap (λ vs. sized (answer_to request NoError (pos 0) (next_answers vs (names_of request.bindings)))) e
+kind_same world other request Set o e = refl
+kind_same world other request GetBulk o e = ap (λ vs. answer_to request NoError (pos 0) (fitting request (asked_list vs request))) e
+
+pub known_same : (world other : World) (request : Request) → world.objects ≡ other.objects → visible in_bridge world.instances ≡ visible in_bridge other.instances →
+    known_reply world.objects in_bridge world.instances request request.bindings ≡ known_reply other.objects in_bridge other.instances request request.bindings
+known_same world other request o e = split request.bindings
+  where
+    split : (bs : List Binding) → known_reply world.objects in_bridge world.instances request bs ≡ known_reply other.objects in_bridge other.instances request bs
+    split [] = refl
+    split (b ∷ bs) = kind_same world other request request.kind o e
+
+first_contained : (x : Binding) (xs : List Binding) → Contains (x ∷ xs) x
+first_contained x xs = (0, omega arith, refl)
+
+later_contained : (x : Binding) (xs : List Binding) (row : Binding) → Contains xs row → Contains (x ∷ xs) row
+later_contained x xs row c = (suc c.0, (let h : c.0 < length xs = c.1 in omega (arith, h)), c.2)
+
+-- the first is the least
+first_least_at : (b : Bool) (x : Binding) (xs : List Binding) (name : List ℕ) → name_lt name x.name ≡ b → IsRising (x ∷ xs) →
+    MatchOption (next_of xs name) (after name xs ≡ []) (λ row. IsLeastAfter xs name row) →
+    MatchOption (cond b (Some x) (next_of xs name)) (cond b (x ∷ after name xs) (after name xs) ≡ []) (λ row. IsLeastAfter (x ∷ xs) name row)
+first_least_at true x xs name e h more = record {
+  contained = first_contained x xs;
+  greater = e;
+  least = All-cons (λ (other : Binding). name_lt name other.name ≡ true → name_lt other.name x.name ≡ false) x xs
+      (λ _. name_lt-irrefl x.name)
+      (All-weaker (λ (y : Binding). name_lt x.name y.name ≡ true) (λ (other : Binding). name_lt name other.name ≡ true → name_lt other.name x.name ≡ false)
+      (λ y k _. name_lt-asym x.name y.name (name_lt y.name x.name) k refl) xs (rising_head x xs h));
+}
+first_least_at false x xs name e h more = lift (next_of xs name) more
+  where
+    lift : (o : Option Binding) → MatchOption o (after name xs ≡ []) (λ row. IsLeastAfter xs name row) → MatchOption o (after name xs ≡ []) (λ row. IsLeastAfter (x ∷ xs) name row)
+    lift None k = k
+    lift (Some row) k = record {
+      contained = later_contained x xs row k.contained;
+      greater = k.greater;
+      least = All-cons (λ (other : Binding). name_lt name other.name ≡ true → name_lt other.name row.name ≡ false) x xs (λ f. absurd (cc)) k.least;
+    }
+
+pub first_least : (rows : List Binding) (name : List ℕ) → IsRising rows → MatchOption (next_of rows name) (after name rows ≡ []) (λ row. IsLeastAfter rows name row)
+first_least [] name h = refl
+first_least (x ∷ xs) name h = first_least_at (name_lt name x.name) x xs name refl h (first_least xs name (rising_tail x xs h))
+
+total_some : (bs : List Binding) → 6 * length bs ≤ total bs
+total_some [] = omega arith
+total_some (b ∷ bs) =
+    let more : 6 * length bs ≤ total bs = total_some bs in
+    let one : total (b ∷ []) ≡ length (canon_binding b) = ap length (flat_map-cons canon_binding b [] ∙ append-nil (canon_binding b)) in
+    let sum : total (b ∷ bs) ≡ total (b ∷ []) + total bs = total-append (b ∷ []) bs in
+    omega (arith, more, binding_some b, one, sum)
+
+pub few_law : (request : Request) (all : List Binding) → length request.community ≤ 255 → 6 * length (fitting request all) ≤ 1472
+few_law request all community =
+    let sent : List Binding = fitting request all in
+    let fits : reply_size request sent ≤ 1472 = (longest_law request all community).fits in
+    omega (arith, fits, reply_some (answer_to request NoError (pos 0) sent), total_some sent)

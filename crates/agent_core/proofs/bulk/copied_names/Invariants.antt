@@ -1,0 +1,6 @@
+use Rattle.std.proofs.Common.{◌≡◌, take}
+use Rattle.agent_core.specs.Reading.{names_of}
+use Rattle.agent_core.proofs.bulk.copied_names.Given as goal
+
+abbrev pub invariant-loop-binding : goal.invariant-loop-binding
+invariant-loop-binding l = l.names.items ≡ names_of (take l.binding-index l.row)

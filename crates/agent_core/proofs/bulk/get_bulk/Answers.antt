@@ -1,0 +1,25 @@
+use Rattle.std.proofs.Common.{◌≡◌, ◌∙◌, ◌++◌, ◌≤◌, refl, ap, sym, subst, List, length, min}
+use Rattle.message_core.specs.declared.binding.Binding.{Binding}
+use Rattle.agent_core.specs.Reading.{visible, names_of}
+use Rattle.agent_core.specs.Bulk.{bulk_list, asked_list, count_of}
+use Rattle.agent_core.specs.Fitting.{total, IsFilled}
+use Rattle.agent_core.proofs.Fits.{filled_at}
+use Rattle.agent_core.proofs.Longest.{filled_fits}
+use Rattle.agent_core.proofs.bulk.get_bulk.Goals as goal
+
+pub returns-clause-answer : goal.returns-clause-answer
+returns-clause-answer g c =
+    let rows : List Binding = visible (g.V.View.shows c.args.view.now) (g.S.Source.instances c.args.source.now) in
+    let request = c.args.request.now in
+    let most : c.max_repetitions-most.result ≡ count_of request.second = c.max_repetitions-most.ensures in
+    let asked : c.as_slice-asked.result.now ≡ request.bindings = c.as_slice-asked.ensures in
+    let once : c.non_repeaters-once.result ≡ min (count_of request.first) (length request.bindings) = c.non_repeaters-once.ensures.count in
+    let room : c.new-sent.result.room ≡ c.bindings_room.result = ap (λ s. s.room) c.new-sent.ensures in
+    let list : c.new-sent.result.bindings ++ bulk_list rows c.non_repeaters-once.result c.max_repetitions-most.result (names_of c.as_slice-asked.result.now) ≡ asked_list rows request =
+    ap (λ s. s.bindings ++ bulk_list rows c.non_repeaters-once.result c.max_repetitions-most.result (names_of c.as_slice-asked.result.now)) c.new-sent.ensures
+    ∙ ap (λ n. bulk_list rows n c.max_repetitions-most.result (names_of c.as_slice-asked.result.now)) once
+    ∙ ap (λ n. bulk_list rows (min (count_of request.first) (length request.bindings)) n (names_of c.as_slice-asked.result.now)) most
+    ∙ ap (λ bs. bulk_list rows (min (count_of request.first) (length request.bindings)) (count_of request.second) (names_of bs)) asked in
+    let filled : IsFilled c.bindings_room.result (asked_list rows request) c.send_list.new.sent.bindings = filled_at _ _ _ _ c.send_list.new.sent.bindings room list c.in_ok-send_list.ensures.filled in
+    let within : total c.send_list.new.sent.bindings ≤ c.bindings_room.result = subst (λ r. total c.send_list.new.sent.bindings ≤ r) (c.in_ok-send_list.ensures.room ∙ room) c.into_bindings.ensures.within in
+    c.into_bindings.ensures.value ∙ filled_fits request c.bindings_room.result (asked_list rows request) c.send_list.new.sent.bindings c.bindings_room.ensures.room within filled

@@ -1,0 +1,23 @@
+use Rattle.std.proofs.Common.{◌∙◌, ◌++◌, ◌∷◌, [], ap, sym, subst, rules, List}
+use Rattle.oid_core.specs.Name.{HasRoot}
+use Rattle.message_core.specs.declared.binding.Binding.{Binding}
+use Rattle.agent_core.specs.Reading.{visible, next_answer}
+use Rattle.agent_core.specs.Fitting.{fit_into}
+use Rattle.agent_core.proofs.Fits.{all_at, once_cut, once_more}
+use Rattle.agent_core.proofs.bulk.repeat_once.Goals as goal
+
+pub send_next-requires : goal.send_next-requires
+send_next-requires g c = subst HasRoot (sym c.name-item.is) (all_at HasRoot c.args.names.now c.loop-name.name-index c.name-item.result c.requires c.loop-name-test.true)
+
+pub returns-then-not-branch-clause-cut : goal.returns-then-not-branch-clause-cut
+returns-then-not-branch-clause-cut g c = λ _ more.
+    once_cut (visible (g.V.View.shows c.args.view.now) (g.S.Source.instances c.args.source.now)) c.args.names.now c.loop-name.name-index c.name-item.result c.send_next.new.sent.room c.args.sent.now.bindings c.loop-name.sent.bindings c.send_next.new.sent.bindings more
+    c.loop-name-test.true c.name-item.is c.loop-name.invariant.whole (search rules) (search rules)
+
+pub loop-name-preserved : goal.loop-name-preserved
+loop-name-preserved g c = record {
+  whole =
+      once_more (visible (g.V.View.shows c.args.view.now) (g.S.Source.instances c.args.source.now)) c.args.names.now c.loop-name.name-index c.name-item.result c.args.sent.now.bindings c.loop-name.sent.bindings c.send_next.new.sent.bindings
+      c.loop-name-test.true c.name-item.is c.loop-name.invariant.whole (search rules);
+  room = search rules;
+}

@@ -1,0 +1,9 @@
+use Rattle.std.proofs.Common.{◌≡◌, ◌++◌, take}
+use Rattle.agent_core.specs.Reading.{visible, next_answers}
+use Rattle.agent_core.proofs.bulk.repeat_once.Given as goal
+
+abbrev pub invariant-loop-name : goal.invariant-loop-name
+invariant-loop-name g l = record {
+  whole : l.sent.bindings ≡ l.fn.sent.bindings ++ next_answers (visible (g.V.View.shows l.view) (g.S.Source.instances l.source)) (take l.name-index l.names);
+  room : l.sent.room ≡ l.fn.sent.room;
+}

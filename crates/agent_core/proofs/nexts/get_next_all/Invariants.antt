@@ -1,0 +1,6 @@
+use Rattle.std.proofs.Common.{◌≡◌, take}
+use Rattle.agent_core.specs.Reading.{visible, names_of, next_answers}
+use Rattle.agent_core.proofs.nexts.get_next_all.Given as goal
+
+abbrev pub invariant-loop-binding : goal.invariant-loop-binding
+invariant-loop-binding g l = l.answers ≡ next_answers (visible (g.V.View.shows l.view) (g.S.Source.instances l.source)) (names_of (take l.binding-index l.asked))

@@ -1,0 +1,17 @@
+-- Bindings that are to be sent, and the octets that there is room for.
+use Rattle.std.specs.Prelude.{◌≡◌, ℕ, ◌≤◌, List}
+use Rattle.message_core.specs.Spellable.{AreSpellable}
+use Rattle.message_core.specs.declared.binding.Binding.{Binding}
+use Rattle.agent_core.specs.Fitting.{total}
+
+pub record Sending : Type 0 where
+  -- the octets that the bindings may have
+  pub room : ℕ
+  pub bindings : List Binding
+
+-- bindings of so many octets, which fit into the room
+pub record IsSending (sending : Sending) (used : ℕ) : Type 0 where
+  pub used_is : used ≡ total sending.bindings
+  pub within : used ≤ sending.room
+  pub most : sending.room ≤ 1472
+  pub spellable : AreSpellable sending.bindings

@@ -1,0 +1,56 @@
+ghost use Rattle.std.specs.Prelude.{◌≡◌, IfOk};
+ghost use Rattle.oid_core.specs.Name.{HasRoot};
+ghost use Rattle.message_core.specs.Spellable.{IsSpellableBinding};
+ghost use Rattle.agent_core.specs.Reading.{visible, next_answer, next_answers, names_of, end_under};
+
+use crate::reading::next_shown;
+use crate::source::{Source, View};
+use message_core::{Binding, Bindings, Value};
+use oid_core::Oid;
+use std::alloc::{AllocError, Global};
+
+// endOfMibView under a name.
+fn end_under(alloc: Global, name: &Oid) -> Result<Binding, AllocError>
+    ensures { IfOk result (λ b. b ≡ end_under name.now) }
+{
+    let Ok(name) = name.try_copy(alloc) else {
+        return Err(AllocError);
+    };
+    Ok(Binding {
+        name,
+        value: Value::EndOfMibView,
+    })
+}
+
+/// What GetNext answers under a name (RFC 3416, 4.2.2), over the instances that the view shows. Only memory can fail.
+pub fn get_next<S: Source, V: View>(
+    alloc: Global,
+    source: &S,
+    view: &V,
+    name: &Oid,
+) -> Result<Binding, AllocError>
+    ensures answer { IfOk result (λ b. b ≡ next_answer (visible (V.shows view.now) (S.instances source.now)) name.now) }
+    ensures spellable { IfOk result (λ b. HasRoot name.now → IsSpellableBinding b) }
+{
+    source.known();
+    match next_shown(alloc, source, view, name)? {
+        Some(row) => Ok(row),
+        None => end_under(alloc, name),
+    }
+}
+
+/// What GetNext answers under each asked name, in order. Only memory can fail.
+pub fn get_next_all<S: Source, V: View>(
+    alloc: Global,
+    source: &S,
+    view: &V,
+    asked: &[Binding],
+) -> Result<Bindings, AllocError>
+    ensures { IfOk result (λ answers. answers ≡ next_answers (visible (V.shows view.now) (S.instances source.now)) (names_of asked.now)) }
+{
+    let mut answers = Bindings::new(alloc);
+    for binding in asked {
+        answers.push(get_next(alloc, source, view, &binding.name)?)?;
+    }
+    Ok(answers)
+}

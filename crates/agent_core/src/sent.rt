@@ -1,0 +1,79 @@
+ghost use Rattle.std.specs.Prelude.{◌≡◌, ◌≤◌, ◌-◌, ◌++◌, [], ◌∷◌, IfOk, OnErr, IsTrue, true, false, length, drop};
+ghost use Rattle.message_core.specs.Spellable.{IsSpellableBinding, AreSpellable};
+ghost use Rattle.agent_core.specs.Fitting.{total, fit_into};
+
+use message_core::{Binding, Bindings, encoded_len};
+use std::alloc::{AllocError, Global};
+use std::marker::Model;
+
+// Bindings that are to be sent, and the octets that they may have.
+#[derive(Drop)]
+pub struct Sent {
+    bindings: Vec<Binding>,
+    used: usize,
+    room: usize,
+}
+
+impl Model for Sent {
+    ghost use Rattle.agent_core.specs.Sending.{Sending, IsSending};
+
+    ghost Value = { Sending };
+
+    ghost view = { λ s. record { room = s.room; bindings = s.bindings.items } };
+
+    ghost invariant = { λ s. IsSending (record { room = s.room; bindings = s.bindings.items }) s.used };
+}
+
+impl Sent {
+    // No bindings, and room for so many octets.
+    pub fn new(alloc: Global, room: usize) -> Sent
+        requires { room ≤ 1472 }
+        ensures { result ≡ record { room = room; bindings = [] } }
+    {
+        Sent {
+            bindings: Vec::new(alloc),
+            used: 0,
+            room,
+        }
+    }
+
+    // Adds a binding where there is room for it, and says whether there was.
+    pub fn offer(&mut self, binding: Binding) -> Result<bool, AllocError>
+        requires { IsSpellableBinding binding }
+        ensures taken { IfOk result (λ taken. IsTrue taken → self.new.bindings ≡ self.old.bindings ++ binding ∷ []) }
+        ensures full { IfOk result (λ taken. taken ≡ false → self.new.bindings ≡ self.old.bindings) }
+        ensures fits { IfOk result (λ taken. taken ≡ fit_into self.old.room (self.old.bindings ++ binding ∷ [])) }
+        ensures room { self.new.room ≡ self.old.room }
+    {
+        let Some(len) = encoded_len(&binding, self.room - self.used) else {
+            return Ok(false);
+        };
+        self.bindings.push(binding)?;
+        self.used += len;
+        Ok(true)
+    }
+
+    // The last so many bindings.
+    pub fn last(&self, count: usize) -> &[Binding]
+        requires { count ≤ length self.now.bindings }
+        ensures value { result.now ≡ drop (length self.now.bindings - count) self.now.bindings }
+        ensures spellable { AreSpellable result.now }
+    {
+        let all = self.bindings.as_slice();
+        &all[all.len() - count..]
+    }
+
+    // The bindings. Takes no memory.
+    pub fn into_bindings(self) -> Bindings
+        ensures value { result ≡ self.bindings }
+        ensures spellable { AreSpellable self.bindings }
+        ensures within { total self.bindings ≤ self.room }
+    {
+        let Sent {
+            bindings,
+            used: _,
+            room: _,
+        } = self;
+        Bindings::from_vec(bindings)
+    }
+}

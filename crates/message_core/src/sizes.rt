@@ -1,0 +1,81 @@
+ghost use Rattle.std.specs.Prelude.{◌≡◌, ◌≤◌, ◌<◌, ◌+◌, ◌↔◌, length, List, pos, MatchOption};
+ghost use Rattle.ber_core.specs.Spelling.{canon_tlv};
+ghost use Rattle.message_core.specs.Tags as tags;
+ghost use Rattle.message_core.specs.Spellable.{IsSpellableBinding};
+ghost use Rattle.message_core.specs.Canon.{canon_int, canon_binding, canon_bindings, canon_reply, answer_to};
+ghost use Rattle.message_core.specs.declared.binding.Binding.{Binding};
+
+use crate::binding::Binding;
+use crate::request::Request;
+use crate::status::ErrorStatus;
+use crate::tag;
+use crate::writing::{MAX_REPLY, put_binding};
+use ber_core::{Out, Tag};
+
+// A tag and the length of 256 to 65,535 octets (X.690, 8.1.3.5).
+const LONG_HEAD: usize = 4;
+
+// The version of a message (RFC 1901, section 3).
+const VERSION: i32 = 1;
+
+// Room for an INTEGER of 32 bits.
+const INTEGER_ROOM: usize = 16;
+
+/// The octets of a binding's shortest spelling, where they are at most `most`; else there is no answer.
+///
+/// `most` is at most 1,472. Takes no memory. A name that cannot be spelled is the caller's to keep out.
+pub fn encoded_len(binding: &Binding, most: usize) -> Option<usize>
+    requires spellable { IsSpellableBinding binding.now }
+    requires most { most ≤ MAX_REPLY }
+    ensures { MatchOption result (most < length (canon_binding binding.now)) (λ len. (len ≡ length (canon_binding binding.now)) × (len ≤ most)) }
+{
+    let mut room = [0u8; MAX_REPLY];
+    let mut out = Out::new(&mut room[..most]);
+    match put_binding(&mut out, binding) {
+        Ok(()) => Some(out.len()),
+        Err(_) => None,
+    }
+}
+
+// The octets of an INTEGER with its tag and its length.
+fn integer_len(number: i32) -> usize
+    ensures len { result ≡ length (canon_int number) }
+    ensures most { result ≤ 10 }
+{
+    let mut room = [0u8; INTEGER_ROOM];
+    let mut out = Out::new(&mut room);
+    match out.put_i32(Tag(tag::INTEGER), number) {
+        Ok(()) => out.len(),
+        Err(_) => unreachable!(),
+    }
+}
+
+// The octets of a community of at most 255 octets with its tag and its length.
+#[tactic(auto, using(crate::proofs::Measures::short_tlv, crate::proofs::Measures::middle_tlv))]
+fn community_len(community: &[u8]) -> usize
+    requires { length community.now ≤ 255 }
+    ensures len { result ≡ length (canon_tlv tags.octet_string community.now) }
+    ensures most { result ≤ 258 }
+{
+    if community.len() < 128 {
+        community.len() + 2
+    } else {
+        community.len() + 3
+    }
+}
+
+/// The octets that bindings may have in a reply to a request with noError and index 0, so that it has at most 1,472.
+///
+/// The community has at most 255 octets. Takes no memory.
+pub fn bindings_room(request: &Request) -> usize
+    requires { length request.now.community ≤ 255 }
+    ensures room { (bindings : List Binding) → (length (canon_bindings bindings) ≤ result) ↔ (length (canon_reply (answer_to request.now ErrorStatus.NoError (pos 0) bindings)) ≤ MAX_REPLY) }
+    ensures most { result ≤ MAX_REPLY }
+{
+    let version = integer_len(VERSION);
+    let community = community_len(request.community.as_slice());
+    let id = integer_len(request.id);
+    let status = integer_len(ErrorStatus::NoError.code());
+    let index = integer_len(0);
+    MAX_REPLY - 3 * LONG_HEAD - (version + community + id + status + index)
+}
