@@ -56,14 +56,11 @@ fn audit_of(
     }
 }
 
-// Asserts the line of an audit, without its line feed.
-fn assert_line(rt: &HostRuntime, audit: &Audit, text: &str) -> Result<(), Fail> {
-    let mut line = Vec::new(rt.alloc());
+// The line of an audit.
+fn line_of(alloc: Global, audit: &Audit) -> Result<Vec<u8>, Fail> {
+    let mut line = Vec::new(alloc);
     audit_line(audit, &mut line).ok().ok_or("a line")?;
-    let mut wanted = Vec::from_slice(rt.alloc(), text.as_bytes())?;
-    wanted.push(b'\n')?;
-    assert_eq!(rt; line.as_slice(), wanted.as_slice());
-    Ok(())
+    Ok(line)
 }
 
 #[test]
@@ -75,11 +72,12 @@ fn names_the_row_without_a_view(rt: HostRuntime) -> Result<(), Fail> {
     };
     let status = ErrorStatus::AuthorizationError;
     let audit = audit_of(rt.alloc(), Kind::Set, status, 0, decision);
-    assert_line(
-        &rt,
-        &audit,
-        "set 16 0 noSuchView access(readers,,2,1) empty",
-    )
+    let line = line_of(rt.alloc(), &audit)?;
+    assert_eq!(rt;
+        line.as_slice(),
+        b"set 16 0 noSuchView access(readers,,2,1) empty\n".as_slice()
+    );
+    Ok(())
 }
 
 #[test]
@@ -88,14 +86,21 @@ fn names_who_has_no_group(rt: HostRuntime) -> Result<(), Fail> {
     let decision = Decision::NoGroupName { model: 2, name };
     let status = ErrorStatus::AuthorizationError;
     let audit = audit_of(rt.alloc(), Kind::Get, status, 0, decision);
-    assert_line(&rt, &audit, "get 16 0 noGroupName group(2,lost)")
+    let line = line_of(rt.alloc(), &audit)?;
+    assert_eq!(rt;
+        line.as_slice(),
+        b"get 16 0 noGroupName group(2,lost)\n".as_slice()
+    );
+    Ok(())
 }
 
 #[test]
 fn names_no_row_of_an_empty_request(rt: HostRuntime) -> Result<(), Fail> {
     let status = ErrorStatus::NoError;
     let audit = audit_of(rt.alloc(), Kind::Get, status, 0, Decision::Empty);
-    assert_line(&rt, &audit, "get 0 0 empty")
+    let line = line_of(rt.alloc(), &audit)?;
+    assert_eq!(rt; line.as_slice(), b"get 0 0 empty\n".as_slice());
+    Ok(())
 }
 
 #[test]
@@ -109,18 +114,21 @@ fn names_the_family_that_excludes(rt: HostRuntime) -> Result<(), Fail> {
         index: 1,
         family: Some(family),
     })?;
-    assert_line(
-        &rt,
-        &audit,
-        "get 0 0 ok access(readers,,2,1) view p2 denied 1 family(p2,1.3.6.1.2.1.17.2.15.1.3.0)",
-    )
+    let line = line_of(rt.alloc(), &audit)?;
+    assert_eq!(rt;
+        line.as_slice(),
+        b"get 0 0 ok access(readers,,2,1) view p2 denied 1 family(p2,1.3.6.1.2.1.17.2.15.1.3.0)\n".as_slice()
+    );
+    Ok(())
 }
 
 #[test]
 fn names_the_unknown_context(rt: HostRuntime) -> Result<(), Fail> {
     let decision = Decision::NoSuchContext(named("x")?);
     let audit = audit_of(rt.alloc(), Kind::Get, ErrorStatus::NoError, 0, decision);
-    assert_line(&rt, &audit, "get drop noSuchContext x")
+    let line = line_of(rt.alloc(), &audit)?;
+    assert_eq!(rt; line.as_slice(), b"get drop noSuchContext x\n".as_slice());
+    Ok(())
 }
 
 #[test]
@@ -129,7 +137,12 @@ fn names_the_view_of_a_failed_set(rt: HostRuntime) -> Result<(), Fail> {
     let view = named("bridge")?;
     let decision = Decision::Allowed { row, view };
     let audit = audit_of(rt.alloc(), Kind::Set, ErrorStatus::GenErr, 0, decision);
-    assert_line(&rt, &audit, "set 5 0 ok access(writers,,2,1) view bridge")
+    let line = line_of(rt.alloc(), &audit)?;
+    assert_eq!(rt;
+        line.as_slice(),
+        b"set 5 0 ok access(writers,,2,1) view bridge\n".as_slice()
+    );
+    Ok(())
 }
 
 #[test]
@@ -143,11 +156,12 @@ fn names_the_denied_binding_of_a_set(rt: HostRuntime) -> Result<(), Fail> {
         index: 1,
         family: Some(family),
     })?;
-    assert_line(
-        &rt,
-        &audit,
-        "set 6 1 ok access(writers,,2,1) view w denied 1 family(w,1.3.6.1.2.1.17.2.15.1.0.1)",
-    )
+    let line = line_of(rt.alloc(), &audit)?;
+    assert_eq!(rt;
+        line.as_slice(),
+        b"set 6 1 ok access(writers,,2,1) view w denied 1 family(w,1.3.6.1.2.1.17.2.15.1.0.1)\n".as_slice()
+    );
+    Ok(())
 }
 
 #[test]
