@@ -5,6 +5,7 @@
 mod checking;
 mod deciding;
 mod fault;
+pub mod laws;
 mod limits;
 mod name;
 mod reading;
