@@ -3,3 +3,4 @@ pub mod Bests
 pub mod Right
 pub mod Orders
 pub mod Sound
+pub mod Ties

@@ -5,6 +5,7 @@
 mod checking;
 mod deciding;
 mod fault;
+pub mod laws;
 mod limits;
 mod name;
 mod reading;
@@ -25,3 +26,6 @@ pub use text::{Octets, Text};
 pub use vacm::Vacm;
 pub use verdict::{Ask, FamilyAnswer, Verdict, ViewType};
 pub use written::{VacmRows, WrittenAccess, WrittenFamily, WrittenGroup};
+
+#[cfg(test)]
+mod tests;

@@ -1,5 +1,5 @@
 //! The tables of access control.
-ghost use Rattle.std.specs.Prelude.{◌≡◌, ◌≢◌, ◌<◌, ◌≤◌, ◌+◌, length, IfOk, IfErr, OnOk, slice_get, Some};
+ghost use Rattle.std.specs.Prelude.{◌≡◌, ◌≢◌, ◌<◌, ◌≤◌, ◌+◌, ℕ, List, length, IfOk, IfErr, OnOk, slice_get, Some};
 
 use crate::checking::checked_rows;
 use crate::deciding;
@@ -35,10 +35,12 @@ impl Model for Vacm {
 }
 
 impl Vacm {
+    ghost use Rattle.vacm_core.specs.declared.verdict.Ask.{Ask};
+    ghost use Rattle.vacm_core.specs.Best.{IsUnbeatenAt};
     ghost use Rattle.vacm_core.specs.Tables.{tables_of};
     ghost use Rattle.vacm_core.specs.Faults.{AreAllRight, IsFault};
-    ghost use Rattle.vacm_core.specs.Families.{family_answer, by_type};
-    ghost use Rattle.vacm_core.specs.Access.{verdict_of, by_access, by_view, deciding_access};
+    ghost use Rattle.vacm_core.specs.Families.{family_answer, by_type, matches, family_beats};
+    ghost use Rattle.vacm_core.specs.Access.{verdict_of, by_access, by_view, deciding_access, candidate, access_beats};
 
     /// The tables that the written rows stand for.
     ///
@@ -118,6 +120,17 @@ impl Vacm {
         } else {
             FamilyAnswer::Excluded(n)
         }
+    }
+
+    /// The law that at most one row decides: for what is asked and a group, at most one candidate is
+    /// beaten by no candidate, and for a view and a name at most one matching family row by none.
+    pub fn one_row_decides(&self)
+        ensures access { (ask : Ask) (group : List ℕ) (n m : ℕ) → IsUnbeatenAt (candidate ask group) (access_beats ask) self.now.access n
+            → IsUnbeatenAt (candidate ask group) (access_beats ask) self.now.access m → n ≡ m }
+        ensures family { (view name : List ℕ) (n m : ℕ) → IsUnbeatenAt (matches view name) family_beats self.now.families n
+            → IsUnbeatenAt (matches view name) family_beats self.now.families m → n ≡ m }
+    {
+        let _ = &self.access;
     }
 
     /// The access row of this number.

@@ -1,0 +1,32 @@
+use Rattle.std.proofs.Common.{◌≡◌, ◌<◌, length, sym, ◌∙◌, arith}
+use Rattle.std.specs.Cmp.{IsStrictWeakOrder}
+use Rattle.std.proofs.lemmas.Cmp.{nat_list_cmp_total}
+use Rattle.std.proofs.lemmas.List.MinMax.{ranks_by}
+use Rattle.vacm_core.proofs.Bests.{skips, takes, found, kept}
+use Rattle.community_core.specs.declared.community.CommunityRow.{CommunityRow}
+use Rattle.community_core.specs.Communities.{has_name, index_before}
+use Rattle.community_core.proofs.community.deciding_community.Goals as goal
+use Rattle.community_core.proofs.community.deciding_community.Goals.{then-is_better, else-is_better}
+
+index_order : IsStrictWeakOrder index_before
+index_order = ranks_by nat_list_cmp_total (λ (r : CommunityRow). r.index)
+
+pub loop-n-preserved : goal.loop-n-preserved
+loop-n-preserved c =
+    elim c.if-is_better.branch [
+      | then-is_better w ↦
+          let better = sym c.is_better.ensures ∙ w.if-is_better.true in
+          record {
+            within = kept c.if-is_better.best c.loop-n.n (length c.args.rows.now) w.best-is (omega arith);
+            best = rw w.best-is (takes index_order c.args.rows.now c.loop-n.n c.index-rows-n.result c.loop-n-test.true c.index-rows-n.is (has_name c.args.name.now) c.loop-n.best better c.loop-n.invariant.best);
+          }
+      | else-is_better w ↦
+          let worse = sym c.is_better.ensures ∙ w.if-is_better.false in
+          record {
+            within = rw w.best-is c.loop-n.invariant.within;
+            best = rw w.best-is (skips index_order c.args.rows.now c.loop-n.n c.index-rows-n.result c.loop-n-test.true c.index-rows-n.is (has_name c.args.name.now) c.loop-n.best worse c.loop-n.invariant.best);
+          }
+    ]
+
+pub returns-clause-place : goal.returns-clause-place
+returns-clause-place c = found (has_name c.args.name.now) index_before c.args.rows.now c.loop-n.n c.loop-n.best (omega arith) c.loop-n.invariant.best

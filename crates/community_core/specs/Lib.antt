@@ -1,0 +1,4 @@
+pub mod Communities
+pub mod Keys
+pub mod Reading
+pub mod Policies

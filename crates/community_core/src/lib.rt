@@ -1,0 +1,13 @@
+//! Communities (RFC 3584, section 5) over the tables of access control, and the policy that both make,
+//! as it is written in TOML.
+#![tactic(auto)]
+
+mod community;
+mod keys;
+mod policy;
+mod policy_text;
+mod rows;
+
+pub use community::{COMMUNITY_MAX, Caller, CommunityRow, WrittenCommunity};
+pub use policy::Policy;
+pub use policy_text::{PolicyRows, policy_of, policy_rows};

@@ -1,0 +1,79 @@
+//! A policy: the communities, and the tables of access control.
+ghost use Rattle.std.specs.Prelude.{◌≡◌, ◌≢◌, ◌<◌, length, map, slice_get, Some, IfOk, IfErr, OnOk};
+
+use crate::community::{Caller, CommunityRow, WrittenCommunity, deciding_community};
+use std::alloc::Global;
+use std::marker::Model;
+use vacm_core::{PolicyFault, PolicyTable, Rows, Vacm, checked_rows};
+
+/// Who may read and write what, seen as five lists of rows. No two communities have one index.
+#[derive(Drop)]
+pub struct Policy {
+    communities: Rows<CommunityRow>,
+    vacm: Vacm,
+}
+
+impl Model for Policy {
+    ghost use Rattle.vacm_core.specs.Tables.{KeysDiffer};
+    ghost use Rattle.community_core.specs.Communities.{PolicyTables, same_index};
+
+    ghost Value = { PolicyTables };
+
+    ghost view = { λ p. record { communities = p.communities; vacm = p.vacm } };
+
+    ghost invariant = { λ p. KeysDiffer same_index p.communities };
+}
+
+impl Policy {
+    ghost use Rattle.vacm_core.specs.Rules.{AreRight, IsFirstFault};
+    ghost use Rattle.community_core.specs.Communities.{community_row, community_rules, caller_of, caller_of_row};
+
+    /// The policy of these communities, as they are written, and these tables.
+    ///
+    /// # Errors
+    ///
+    /// The first community at fault, and in it its lengths, then its fields, then its index;
+    /// `Memory` where a growth was refused.
+    pub fn new(
+        alloc: Global,
+        communities: Rows<WrittenCommunity>,
+        vacm: Vacm,
+    ) -> Result<Policy, PolicyFault>
+        ensures policy { IfOk result (λ p. p ≡ record { communities = map community_row communities; vacm = vacm }) }
+        ensures right { OnOk result (AreRight community_rules communities) }
+        ensures fault { IfErr result (λ e. e ≢ PolicyFault.Memory →
+            IsFirstFault community_rules PolicyTable.Communities communities e) }
+    {
+        let communities = checked_rows(alloc, PolicyTable::Communities, communities)?;
+        Ok(Policy { communities, vacm })
+    }
+
+    /// The tables of access control.
+    pub fn vacm(&self) -> &Vacm
+        ensures { result.now ≡ self.now.vacm }
+    {
+        &self.vacm
+    }
+
+    /// Whom a community name stands for: the row of that name whose index comes first.
+    pub fn caller(&self, name: &[u8]) -> Option<Caller>
+        ensures { result ≡ caller_of self.now.communities name.now }
+    {
+        match deciding_community(self.communities.as_slice(), name) {
+            Some(n) => Some(self.caller_at(n)),
+            None => None,
+        }
+    }
+
+    // Whom the row of this number stands for.
+    fn caller_at(&self, n: usize) -> Caller
+        requires { n < length self.now.communities }
+        ensures { caller_of_row (slice_get self.now.communities n) ≡ Some result }
+    {
+        let row = &self.communities.as_slice()[n];
+        Caller {
+            security: row.security.copy(),
+            context: row.context.copy(),
+        }
+    }
+}
