@@ -9,8 +9,8 @@ mod tree;
 
 use bridge::{measure_addresses, measure_frames};
 use messages::{measure_decode, measure_encode, measure_script};
-use tree::measure_tree;
 use std::{env, io};
+use tree::measure_tree;
 
 /// The names of the measurements.
 const NAMES: [&str; 6] = ["decode", "encode", "script", "frames", "addresses", "tree"];

@@ -101,8 +101,7 @@ room_tells request bs version community id status index room v c i s x few sum =
     let inner : ℕ = length (canon_int request.id) + length (canon_int (code_of NoError)) + length (canon_int (pos 0)) in
     let n : ℕ = length (canon_bindings bs) in
     let size : length (canon_reply (answer_to request NoError (pos 0) bs)) ≡ message_size outer inner n = message_size_is request.community tags.response request.id (code_of NoError) (pos 0) bs in
-    let parts : outer + inner ≡ version + community + id + status + index = omega (arith, v, c, i, s, x) in
-    (
+    let parts : outer + inner ≡ version + community + id + status + index = omega (arith, v, c, i, s, x) in (
       (λ h. let fits : message_size outer inner n ≤ 1472 = size_fits outer inner n (omega (arith, parts, few)) (omega (arith, parts, sum, h)) in omega (arith, size, fits)),
       (λ h. let within : n + (outer + inner) ≤ 1460 = fits_size outer inner n (omega (arith, parts, few)) (omega (arith, size, h)) in omega (arith, parts, sum, within)),
     )
