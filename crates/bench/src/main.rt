@@ -2,18 +2,28 @@
 #![tactic(auto)]
 
 mod bridge;
+mod bulk;
 mod messages;
 mod print;
 mod sources;
 mod tree;
 
 use bridge::{measure_addresses, measure_frames};
+use bulk::measure_bulk;
 use messages::{measure_decode, measure_encode, measure_script};
 use std::{env, io};
 use tree::measure_tree;
 
 /// The names of the measurements.
-const NAMES: [&str; 6] = ["decode", "encode", "script", "frames", "addresses", "tree"];
+const NAMES: [&str; 7] = [
+    "decode",
+    "encode",
+    "bulk",
+    "script",
+    "frames",
+    "addresses",
+    "tree",
+];
 
 fn main(rt: HostRuntime) -> io::Result<()> {
     let mut words = env::args(&rt)?;
@@ -23,6 +33,7 @@ fn main(rt: HostRuntime) -> io::Result<()> {
         Some(word) => match word.as_str() {
             "decode" => measure_decode(&rt),
             "encode" => measure_encode(&rt),
+            "bulk" => measure_bulk(&rt),
             "script" => measure_script(&rt),
             "frames" => measure_frames(&rt),
             "addresses" => measure_addresses(&rt),
