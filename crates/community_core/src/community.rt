@@ -13,9 +13,13 @@ pub const COMMUNITY_MAX: usize = 255;
 /// A community row as it is written.
 #[derive(Drop)]
 pub struct WrittenCommunity {
+    /// The row's index; 1 to 32 plain octets are right.
     pub index: Text,
+    /// The community name; 1 to 255 octets of any text are right.
     pub name: Text,
+    /// The security name; 1 to 32 plain octets are right.
     pub security: Text,
+    /// The context name; 0 to 32 plain octets are right.
     pub context: Text,
 }
 

@@ -11,3 +11,6 @@ mod rows;
 pub use community::{COMMUNITY_MAX, Caller, CommunityRow, WrittenCommunity};
 pub use policy::Policy;
 pub use policy_text::{PolicyRows, policy_of, policy_rows};
+
+#[cfg(test)]
+mod tests;

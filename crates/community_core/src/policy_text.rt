@@ -14,7 +14,9 @@ use vacm_core::{PolicyFault, PolicyTable, Rows, Vacm, VacmRows};
 /// The rows of a policy as they are written.
 #[derive(Drop)]
 pub struct PolicyRows {
+    /// The communities.
     pub communities: Rows<WrittenCommunity>,
+    /// The tables of access control.
     pub vacm: VacmRows,
 }
 

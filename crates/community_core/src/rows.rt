@@ -229,6 +229,7 @@ fn read_subtree(alloc: Global, text: &str) -> Result<Option<Oid>, AllocError>
     match Oid::parse(alloc, text) {
         Ok(subtree) => Ok(Some(subtree)),
         Err(OidFault::BadText | OidFault::TooLong) => Ok(None),
+        // No other fault comes of a text.
         Err(_) => Err(AllocError),
     }
 }
