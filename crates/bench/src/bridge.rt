@@ -1,8 +1,7 @@
 //! Frames and learned addresses.
 use crate::print::print_turns;
-use fdb_core::Fdb;
+use fdb_core::{Fdb, Learnt};
 use frame_core::{Mac, read_frame};
-use std::hint::black_box;
 use std::io;
 use std::time::Instant;
 
@@ -22,14 +21,17 @@ const HELLO: [u8; 60] = [
 
 /// Reads a frame with a BPDU over and over.
 pub fn measure_frames(rt: &HostRuntime) -> io::Result<()> {
+    let mut frame = HELLO;
     let start = Instant::now(rt)?;
-    let mut read = 0u32;
-    for _ in 0..FRAMES {
-        if read_frame(black_box(&HELLO)).is_ok() {
-            read = read.saturating_add(1);
+    let mut sources = 0u32;
+    for turn in 0..FRAMES {
+        frame[11] = (turn % 256) as u8;
+        if let Ok(read) = read_frame(&frame) {
+            sources = sources.wrapping_add(u32::from(read.source.0[5]));
         }
     }
-    print_turns(rt, "frames read", read, &start)
+    print_turns(rt, "frames read", FRAMES, &start)?;
+    println!(rt; "sum of the last octets of their sources: {sources}")
 }
 
 // The addresses in an order that looks random: a step that meets each of 1,024 once.
@@ -43,13 +45,20 @@ fn address_at(turn: u32) -> Mac {
 pub fn measure_addresses(rt: &HostRuntime) -> io::Result<()> {
     let mut table = Fdb::new(rt.alloc(), 1_024);
     let start = Instant::now(rt)?;
+    let mut new = 0u32;
     for turn in 0..ADDRESSES {
-        black_box(table.learn(address_at(turn), 1));
+        if table.learn(address_at(turn), 1) == Learnt::New {
+            new = new.wrapping_add(1);
+        }
     }
-    print_turns(rt, "new addresses learned", ADDRESSES, &start)?;
+    print_turns(rt, "addresses learned in random order", ADDRESSES, &start)?;
     let start = Instant::now(rt)?;
+    let mut found = 0u32;
     for turn in 0..ADDRESSES {
-        black_box(table.find(address_at(turn)));
+        if table.find(address_at(turn)) == Some(1) {
+            found = found.wrapping_add(1);
+        }
     }
-    print_turns(rt, "addresses found among 1024", ADDRESSES, &start)
+    print_turns(rt, "addresses found among 1024", ADDRESSES, &start)?;
+    println!(rt; "{new} were new, {found} were found")
 }
