@@ -1,7 +1,7 @@
 //! Frames and learned addresses.
 use crate::print::print_turns;
 use fdb_core::{Fdb, Learnt};
-use frame_core::{Mac, read_frame};
+use frame_core::{Bpdu, FrameIn, Mac, read_frame};
 use std::io;
 use std::time::Instant;
 
@@ -19,19 +19,31 @@ const HELLO: [u8; 60] = [
     0x02, 0x00, 0x0F, 0x00, 0x00, 0x00, 0x00, 0x00, 0x00, 0x00, 0x00, 0x00,
 ];
 
-/// Reads a frame with a BPDU over and over.
+// The cost that a frame's RST BPDU tells.
+fn cost_in(frame: &[u8]) -> u32 {
+    match read_frame(frame) {
+        Ok(
+            FrameIn {
+                bpdu: Some(Bpdu::Rapid(bpdu)),
+                ..
+            },
+        ) => bpdu.vector.cost,
+        _ => 0,
+    }
+}
+
+/// Reads a frame with a BPDU over and over; each time another of its fields has changed.
 pub fn measure_frames(rt: &HostRuntime) -> io::Result<()> {
     let mut frame = HELLO;
     let start = Instant::now(rt)?;
-    let mut sources = 0u32;
+    let mut costs = 0u32;
     for turn in 0..FRAMES {
-        frame[11] = (turn % 256) as u8;
-        if let Ok(read) = read_frame(&frame) {
-            sources = sources.wrapping_add(u32::from(read.source.0[5]));
-        }
+        let place = 21 + (turn % 32) as usize;
+        frame[place] = frame[place].wrapping_add(1);
+        costs = costs.wrapping_add(cost_in(&frame));
     }
     print_turns(rt, "frames read", FRAMES, &start)?;
-    println!(rt; "sum of the last octets of their sources: {sources}")
+    println!(rt; "sum of their costs: {costs}")
 }
 
 // The addresses in an order that looks random: a step that meets each of 1,024 once.
