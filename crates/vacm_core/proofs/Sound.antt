@@ -66,13 +66,16 @@ keys_differ rules ws right i j d lt within =
 short_by : (w : WrittenFamily) → family_lengths w ≡ true → length w.view + length w.subtree ≤ FAMILY_MAX
 short_by w h = leb-true (length w.view + length w.subtree) FAMILY_MAX (and_true (has_length 1 NAME_MAX w.view && nat_le (length w.mask) MASK_MAX) (nat_le (length w.view + length w.subtree) FAMILY_MAX) h).1
 
-pub all_short : (ws : List WrittenFamily) → AreRight family_rules ws → All (λ (f : FamilyRow). length f.view + length f.subtree ≤ FAMILY_MAX) (map family_row ws)
-all_short ws right k d lt =
-    let within_ws : k < length ws = omega (arith, length-map ws family_row) in
+-- what right lengths give holds of all rows
+pub all_of : {W R : Type 0} (rules : Rules W R) (P : R → Type 0) → ((w : W) → rules.lengths w ≡ true → P (rules.row_of w)) → (ws : List W) → AreRight rules ws → All P (map rules.row_of ws)
+all_of rules P gives ws right k d lt =
+    let within_ws : k < length ws = omega (arith, length-map ws rules.row_of) in
     let p = placed ws k within_ws in
-    let w = p.w in
-    let is = get_or-map family_row ws k w d within_ws ∙ ap family_row (get_or_from_slice_get ws k w w p.is) in
-    subst (λ (f : FamilyRow). length f.view + length f.subtree ≤ FAMILY_MAX) (sym is) (short_by w (lengths_here family_rules ws right k p))
+    let is = get_or-map rules.row_of ws k p.w d within_ws ∙ ap rules.row_of (get_or_from_slice_get ws k p.w p.w p.is) in
+    subst P (sym is) (gives p.w (lengths_here rules ws right k p))
+
+pub all_short : (ws : List WrittenFamily) → AreRight family_rules ws → All (λ (f : FamilyRow). length f.view + length f.subtree ≤ FAMILY_MAX) (map family_row ws)
+all_short ws right = all_of family_rules (λ (f : FamilyRow). length f.view + length f.subtree ≤ FAMILY_MAX) short_by ws right
 
 pub sound : (rows : VacmRows) (t : Tables) → t.groups ≡ map group_row rows.groups → t.access ≡ map access_row rows.access → t.families ≡ map family_row rows.families
     → AreRight group_rules rows.groups → AreRight access_rules rows.access → AreRight family_rules rows.families → IsSound t

@@ -1,5 +1,5 @@
 -- The decision on a request up to its names (RFC 3415, section 3.2, steps 1 to 4).
-use Rattle.std.specs.Prelude.{ℕ, ◌==◌, Bool, not, ◌&&◌, ◌||◌, if◌then◌else◌, List, [], length, slice_get, nat_le, nat_eq, bytes_eq, find, Option, Some, None}
+use Rattle.std.specs.Prelude.{ℕ, ◌<◌, ◌==◌, Bool, not, ◌&&◌, ◌||◌, if◌then◌else◌, List, [], length, slice_get, nat_le, nat_eq, bytes_eq, find, Option, Some, None}
 use Rattle.std.specs.List.{list_any, starts_with}
 use Rattle.std.specs.Ordering.{nat_cmp, bool_cmp, ordering_then, is_lt}
 use Rattle.std.specs.declared.cmp.Ordering.{Ordering}
@@ -77,3 +77,11 @@ verdict_of t ask =
     if is_known t.contexts ask.context
     then by_group t ask (find (is_of ask.model ask.security) t.groups)
     else NoSuchContext ask.context
+
+-- the access row that a verdict names is one of these
+abbrev pub NamesRowOf : List AccessRow → Verdict → Type 0
+NamesRowOf rows (Allowed n view) = n < length rows
+NamesRowOf rows (NoSuchView n view) = n < length rows
+NamesRowOf rows (NoSuchContext name) = Unit {0}
+NamesRowOf rows (NoGroupName model name) = Unit {0}
+NamesRowOf rows (NoAccessEntry group context model level) = Unit {0}

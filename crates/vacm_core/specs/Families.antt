@@ -1,5 +1,5 @@
 -- Whether a name is in a view (RFC 3415, vacmViewTreeFamilyTable, and isAccessAllowed's last step in section 3.2).
-use Rattle.std.specs.Prelude.{ℕ, ◌+◌, ◌-◌, ◌/◌, ◌%◌, ◌^◌, ◌==◌, Bool, true, false, not, ◌&&◌, ◌||◌, if◌then◌else◌, List, [], ◌∷◌, length, slice_index, slice_get, nat_lt, bytes_eq, Option, Some, None}
+use Rattle.std.specs.Prelude.{ℕ, ◌<◌, ◌+◌, ◌-◌, ◌/◌, ◌%◌, ◌^◌, ◌==◌, Bool, true, false, not, ◌&&◌, ◌||◌, if◌then◌else◌, List, [], ◌∷◌, length, slice_index, slice_get, nat_lt, bytes_eq, Option, Some, None}
 use Rattle.std.specs.Cmp.Lexicographic.{slice_cmp}
 use Rattle.std.specs.Ordering.{nat_cmp, ordering_then, is_lt}
 use Rattle.std.specs.declared.cmp.Ordering.{Ordering}
@@ -53,3 +53,19 @@ by_family families None = NoRow
 -- what decides on a name, and how
 abbrev pub family_answer : List FamilyRow → List ℕ → List ℕ → FamilyAnswer
 family_answer families view name = by_family families (deciding_family families view name)
+
+-- whether an answer says that a name is in the view
+abbrev pub is_included : FamilyAnswer → Bool
+is_included (Included n) = true
+is_included (Excluded n) = false
+is_included NoRow = false
+
+-- whether a name is in a view
+abbrev pub in_view : List FamilyRow → List ℕ → List ℕ → Bool
+in_view families view name = is_included (family_answer families view name)
+
+-- the family row that an answer names is one of these
+abbrev pub NamesFamilyOf : List FamilyRow → FamilyAnswer → Type 0
+NamesFamilyOf rows (Included n) = n < length rows
+NamesFamilyOf rows (Excluded n) = n < length rows
+NamesFamilyOf rows NoRow = Unit {0}

@@ -39,8 +39,8 @@ impl Vacm {
     ghost use Rattle.vacm_core.specs.Best.{IsUnbeatenAt};
     ghost use Rattle.vacm_core.specs.Tables.{tables_of};
     ghost use Rattle.vacm_core.specs.Faults.{AreAllRight, IsFault};
-    ghost use Rattle.vacm_core.specs.Families.{family_answer, by_type, matches, family_beats};
-    ghost use Rattle.vacm_core.specs.Access.{verdict_of, by_access, by_view, deciding_access, candidate, access_beats};
+    ghost use Rattle.vacm_core.specs.Families.{family_answer, by_type, matches, family_beats, NamesFamilyOf};
+    ghost use Rattle.vacm_core.specs.Access.{verdict_of, by_access, by_view, deciding_access, candidate, access_beats, NamesRowOf};
 
     /// The tables that the written rows stand for.
     ///
@@ -68,7 +68,8 @@ impl Vacm {
 
     /// The decision on a request, up to its names (RFC 3415, section 3.2).
     pub fn decide(&self, ask: &Ask) -> Verdict
-        ensures { result ≡ verdict_of self.now ask.now }
+        ensures verdict { result ≡ verdict_of self.now ask.now }
+        ensures row { NamesRowOf self.now.access result }
     {
         if !deciding::is_known(self.contexts.as_slice(), &ask.context) {
             return Verdict::NoSuchContext(ask.context.copy());
@@ -81,7 +82,8 @@ impl Vacm {
 
     // The decision for a group.
     fn decide_access(&self, ask: &Ask, group: &Name) -> Verdict
-        ensures { result ≡ by_access self.now ask.now group.now (deciding_access self.now.access ask.now group.now) }
+        ensures verdict { result ≡ by_access self.now ask.now group.now (deciding_access self.now.access ask.now group.now) }
+        ensures row { NamesRowOf self.now.access result }
     {
         match deciding::deciding_access(self.access.as_slice(), ask, group) {
             Some(n) => self.decide_view(n, deciding::view_of(self.access_row(n), ask.view)),
@@ -91,7 +93,9 @@ impl Vacm {
 
     // The decision on a view, by an access row.
     fn decide_view(&self, row: usize, view: &Name) -> Verdict
-        ensures { result ≡ by_view self.now row view.now }
+        requires { row < length self.now.access }
+        ensures verdict { result ≡ by_view self.now row view.now }
+        ensures row { NamesRowOf self.now.access result }
     {
         if deciding::has_view(self.families.as_slice(), view) {
             Verdict::Allowed(row, view.copy())
@@ -102,7 +106,8 @@ impl Vacm {
 
     /// Whether a name is in a view, and by which family row.
     pub fn in_view(&self, view: &Name, name: &Oid) -> FamilyAnswer
-        ensures { result ≡ family_answer self.now.families view.now name.now }
+        ensures answer { result ≡ family_answer self.now.families view.now name.now }
+        ensures row { NamesFamilyOf self.now.families result }
     {
         match deciding::deciding_family(self.families.as_slice(), view, name.as_slice()) {
             Some(n) => self.answer_of(n),
@@ -113,7 +118,8 @@ impl Vacm {
     // The answer of the family row of this number.
     fn answer_of(&self, n: usize) -> FamilyAnswer
         requires { n < length self.now.families }
-        ensures { result ≡ by_type n (slice_get self.now.families n) }
+        ensures answer { result ≡ by_type n (slice_get self.now.families n) }
+        ensures row { NamesFamilyOf self.now.families result }
     {
         if self.family_row(n).included {
             FamilyAnswer::Included(n)

@@ -1,4 +1,6 @@
 //! What is asked of the tables, and what they answer.
+ghost use Rattle.std.specs.Prelude.{◌≡◌};
+ghost use Rattle.vacm_core.specs.Families.{is_included};
 
 use crate::name::Name;
 use crate::tables::Level;
@@ -51,4 +53,13 @@ pub enum FamilyAnswer {
     Excluded(usize),
     /// Not in the view, since no family row of it matches.
     NoRow,
+}
+
+impl FamilyAnswer {
+    /// Whether the name is in the view.
+    pub fn is_included(self) -> bool
+        ensures { result ≡ is_included self }
+    {
+        matches!(self, FamilyAnswer::Included(_))
+    }
 }
