@@ -1,7 +1,7 @@
 //! A policy: the communities, and the tables of access control.
-ghost use Rattle.std.specs.Prelude.{◌≡◌, ◌≢◌, ◌<◌, length, map, slice_get, Some, IfOk, IfErr, OnOk};
+ghost use Rattle.std.specs.Prelude.{◌≡◌, ◌≢◌, ◌<◌, ◌≤◌, length, map, slice_get, Some, IfOk, IfErr, IfSome, OnOk};
 
-use crate::community::{Caller, CommunityRow, WrittenCommunity, deciding_community};
+use crate::community::{COMMUNITY_MAX, Caller, CommunityRow, WrittenCommunity, deciding_community};
 use std::alloc::Global;
 use std::marker::Model;
 use vacm_core::{PolicyFault, PolicyTable, Rows, Vacm, checked_rows};
@@ -14,14 +14,13 @@ pub struct Policy {
 }
 
 impl Model for Policy {
-    ghost use Rattle.vacm_core.specs.Tables.{KeysDiffer};
-    ghost use Rattle.community_core.specs.Communities.{PolicyTables, same_index};
+    ghost use Rattle.community_core.specs.Communities.{PolicyTables, AreSound};
 
     ghost Value = { PolicyTables };
 
     ghost view = { λ p. record { communities = p.communities; vacm = p.vacm } };
 
-    ghost invariant = { λ p. KeysDiffer same_index p.communities };
+    ghost invariant = { λ p. AreSound p.communities };
 }
 
 impl Policy {
@@ -55,9 +54,11 @@ impl Policy {
         &self.vacm
     }
 
-    /// Whom a community name stands for: the row of that name whose index comes first.
+    /// Whom a community name stands for: the row of that name whose index comes first. A name that
+    /// stands for somebody has at most 255 octets.
     pub fn caller(&self, name: &[u8]) -> Option<Caller>
-        ensures { result ≡ caller_of self.now.communities name.now }
+        ensures caller { result ≡ caller_of self.now.communities name.now }
+        ensures short { IfSome result (λ _. length name.now ≤ COMMUNITY_MAX) }
     {
         match deciding_community(self.communities.as_slice(), name) {
             Some(n) => Some(self.caller_at(n)),

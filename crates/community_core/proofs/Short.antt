@@ -1,0 +1,42 @@
+-- A community name that stands for somebody is short.
+use Rattle.std.proofs.Common.{◌≡◌, ℕ, ◌≤◌, Bool, true, false, ◌&&◌, not, nat_le, List, [], length, map, All, Some, subst, ap, get_or}
+use Rattle.std.specs.List.{list_any}
+use Rattle.std.specs.Str.{bytes_eq}
+use Rattle.std.proofs.lemmas.List.Quantifiers.{position-Some}
+use Rattle.std.proofs.lemmas.Slice.Eq.{bytes_eq-Decides}
+use Rattle.vacm_core.specs.Best.{unbeaten, is_unbeaten}
+use Rattle.std.proofs.lemmas.Bool.{leb-true}
+use Rattle.vacm_core.specs.Rules.{AreRight}
+use Rattle.vacm_core.specs.Texts.{has_length}
+use Rattle.vacm_core.specs.declared.limits.TheConstants.{NAME_MAX}
+use Rattle.vacm_core.proofs.Sound.{and_true, all_of, keys_differ}
+use Rattle.community_core.specs.declared.community.CommunityRow.{CommunityRow}
+use Rattle.community_core.specs.declared.community.TheConstants.{COMMUNITY_MAX}
+use Rattle.community_core.specs.declared.community.WrittenCommunity.{WrittenCommunity}
+use Rattle.community_core.specs.Communities.{AreSound, community_lengths, community_row, community_rules, same_index, has_name, index_before, deciding_community}
+
+short_by : (w : WrittenCommunity) → community_lengths w ≡ true → length w.name ≤ COMMUNITY_MAX
+short_by w h =
+    let first = and_true (has_length 1 NAME_MAX w.index && has_length 1 COMMUNITY_MAX w.name && has_length 1 NAME_MAX w.security) (has_length 0 NAME_MAX w.context) h in
+    let second = and_true (has_length 1 NAME_MAX w.index && has_length 1 COMMUNITY_MAX w.name) (has_length 1 NAME_MAX w.security) first.0 in
+    let third = and_true (has_length 1 NAME_MAX w.index) (has_length 1 COMMUNITY_MAX w.name) second.0 in
+    leb-true (length w.name) COMMUNITY_MAX (and_true (nat_le 1 (length w.name)) (nat_le (length w.name) COMMUNITY_MAX) third.1).1
+
+pub sound : (ws : List WrittenCommunity) → AreRight community_rules ws → AreSound (map community_row ws)
+sound ws right = record {
+  indexes = keys_differ community_rules ws right;
+  short = all_of community_rules (λ (r : CommunityRow). length r.name ≤ COMMUNITY_MAX) short_by ws right;
+}
+
+no_row : CommunityRow
+no_row = record { index = []; name = []; security = []; context = [] }
+
+-- the name that a row decides on is the row's, and so is short
+pub named_short : (rows : List CommunityRow) (name : List ℕ) (n : ℕ) → AreSound rows → deciding_community rows name ≡ Some n → length name ≤ COMMUNITY_MAX
+unfolding unbeaten
+named_short rows name n sound is =
+    let found = position-Some (is_unbeaten (has_name name) index_before rows) rows n no_row is in
+    let row : CommunityRow = get_or rows n no_row in
+    let named = and_true (has_name name row) (not (list_any (λ other. has_name name other && index_before other row) rows)) found.1 in
+    let same : row.name ≡ name = (bytes_eq-Decides row.name name).0 named.0 in
+    subst (λ (l : List ℕ). length l ≤ COMMUNITY_MAX) same (sound.short n no_row found.0)
