@@ -1,5 +1,5 @@
 -- The laws of replies.
-use Rattle.std.proofs.Common.{◌≡◌, ℕ, ℤ, pos, suc, ◌+◌, ◌*◌, ◌<◌, ◌≤◌, ◌∙◌, ap, refl, Bool, true, false, cond, List, [], ◌∷◌, ◌++◌, length, append-nil, arith, IsTrue, All, Contains, Option, Some, None, MatchOption, length-append}
+use Rattle.std.proofs.Common.{◌≡◌, ℕ, ℤ, pos, suc, ◌+◌, ◌*◌, ◌<◌, ◌≤◌, ◌∙◌, ap, sym, refl, Bool, true, false, cond, List, [], ◌∷◌, ◌++◌, length, append-nil, arith, IsTrue, All, Contains, Option, Some, None, MatchOption, length-append}
 use Rattle.std.proofs.lemmas.List.Concat.{flat_map-cons}
 use Rattle.std.proofs.lemmas.List.Elements.{All-head, All-tail, All-cons, All-weaker}
 use Rattle.std.proofs.lemmas.List.Kept.{AllPairs-filter}
@@ -14,9 +14,14 @@ use Rattle.message_core.proofs.Smallest.{binding_some, reply_some}
 use Rattle.agent_core.specs.Reading.{IsRising, IsLeastAfter, visible, after, next_of, end_under, get_answer, get_answers, names_of, next_answers}
 use Rattle.agent_core.specs.Fitting.{total, fitting, reply_size}
 use Rattle.agent_core.specs.Bulk.{asked_list}
-use Rattle.agent_core.specs.Views.{in_bridge}
+use Rattle.vacm_core.specs.Families.{in_view}
+use Rattle.message_core.specs.declared.reply.Reply.{Reply}
+use Rattle.audit_core.specs.declared.keys.AccessKey.{AccessKey}
+use Rattle.audit_core.specs.declared.decision.Decision.{Decision}
+use Rattle.audit_core.specs.declared.decision.Decision.TheVariants.{Allowed}
+use Rattle.agent_core.specs.Deciding.{decided}
 use Rattle.agent_core.specs.World.{World}
-use Rattle.agent_core.specs.Replies.{sized, kind_reply, known_reply, walk, last_name}
+use Rattle.agent_core.specs.Replies.{sized, kind_reply, reply_by, reply_of, walk, last_name}
 use Rattle.agent_core.proofs.Rising.{rising_tail, rising_head, name_lt-irrefl, name_lt-asym}
 use Rattle.agent_core.proofs.Rest.{find_is, after-first}
 use Rattle.agent_core.proofs.Fits.{total-append}
@@ -44,24 +49,30 @@ get_same objects (b ∷ bs) first second rows others e h =
     let more = get_same objects bs first second rows others e (All-tail (λ (a : Binding). first a.name ≡ second a.name) b bs h) in
     ap (λ z. z ∷ get_answers objects first rows bs) here ∙ ap (λ zs. get_answer objects (second b.name) (visible second others) b.name ∷ zs) more
 
--- equal replies over worlds that show the same
-kind_same : (world other : World) (request : Request) (kind : Kind) → world.objects ≡ other.objects → visible in_bridge world.instances ≡ visible in_bridge other.instances →
-    kind_reply world.objects in_bridge world.instances request kind ≡ kind_reply other.objects in_bridge other.instances request kind
-kind_same world other request Get o e =
-    ap (λ bs. sized (answer_to request NoError (pos 0) bs))
-    (ap (λ objects. get_answers objects in_bridge world.instances request.bindings) o
-    ∙ get_same other.objects request.bindings in_bridge in_bridge world.instances other.instances e (λ k d within. refl))
-kind_same world other request GetNext o e = ap (λ vs. sized (answer_to request NoError (pos 0) (next_answers vs (names_of request.bindings)))) e
-kind_same world other request Set o e = refl
-kind_same world other request GetBulk o e = ap (λ vs. answer_to request NoError (pos 0) (fitting request (asked_list vs request))) e
+-- equal replies over what is seen
+kind_same : (objects : List (List ℕ)) (first second : List ℕ → Bool) (rows others : List Binding) (request : Request) (kind : Kind) → visible first rows ≡ visible second others →
+    All (λ b. first b.name ≡ second b.name) request.bindings → kind_reply objects first rows request kind ≡ kind_reply objects second others request kind
+kind_same objects first second rows others request Get e h =
+    ap (λ bs. sized (answer_to request NoError (pos 0) bs)) (get_same objects request.bindings first second rows others e h)
+kind_same objects first second rows others request GetNext e h = ap (λ vs. sized (answer_to request NoError (pos 0) (next_answers vs (names_of request.bindings)))) e
+kind_same objects first second rows others request Set e h = refl
+kind_same objects first second rows others request GetBulk e h = ap (λ vs. answer_to request NoError (pos 0) (fitting request (asked_list vs request))) e
 
-pub known_same : (world other : World) (request : Request) → world.objects ≡ other.objects → visible in_bridge world.instances ≡ visible in_bridge other.instances →
-    known_reply world.objects in_bridge world.instances request request.bindings ≡ known_reply other.objects in_bridge other.instances request request.bindings
-known_same world other request o e = split request.bindings
-  where
-    split : (bs : List Binding) → known_reply world.objects in_bridge world.instances request bs ≡ known_reply other.objects in_bridge other.instances request bs
-    split [] = refl
-    split (b ∷ bs) = kind_same world other request request.kind o e
+pub reply_same : (world other : World) (request : Request) (row other_row : AccessKey) (view other_view : List ℕ) →
+    decided world.policy request ≡ Allowed row view → decided other.policy request ≡ Allowed other_row other_view → world.objects ≡ other.objects →
+    visible (in_view world.policy.vacm.families view) world.instances ≡ visible (in_view other.policy.vacm.families other_view) other.instances →
+    All (λ b. in_view world.policy.vacm.families view b.name ≡ in_view other.policy.vacm.families other_view b.name) request.bindings →
+    reply_of world request ≡ reply_of other request
+unfolding reply_of
+reply_same world other request row other_row view other_view d f o e h =
+    let first : List ℕ → Bool = in_view world.policy.vacm.families view in
+    let second : List ℕ → Bool = in_view other.policy.vacm.families other_view in
+    let same : kind_reply world.objects first world.instances request request.kind ≡ kind_reply other.objects second other.instances request request.kind =
+    ap (λ (objects : List (List ℕ)). kind_reply objects first world.instances request request.kind) o
+    ∙ kind_same other.objects first second world.instances other.instances request request.kind e h in
+    ap (λ (decision : Decision). reply_by world request decision) d
+    ∙ ap (λ (reply : Reply). Some reply) same
+    ∙ sym (ap (λ (decision : Decision). reply_by other request decision) f)
 
 first_contained : (x : Binding) (xs : List Binding) → Contains (x ∷ xs) x
 first_contained x xs = (0, omega arith, refl)

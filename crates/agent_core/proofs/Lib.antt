@@ -6,4 +6,4 @@ pub mod Spellings
 pub mod Fits
 pub mod Longest
 pub mod LawProofs
-pub mod Known
+pub mod Denials

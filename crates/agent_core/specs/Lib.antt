@@ -1,6 +1,7 @@
 pub mod Reading
 pub mod World
-pub mod Views
+pub mod Deciding
+pub mod Denying
 pub mod Buffered
 pub mod Bulk
 pub mod Fitting

@@ -6,12 +6,15 @@ use Rattle.message_core.specs.declared.request.Kind.{Kind}
 use Rattle.message_core.specs.declared.request.Kind.TheVariants.{Get, GetNext, Set, GetBulk}
 use Rattle.message_core.specs.declared.request.Request.{Request}
 use Rattle.message_core.specs.declared.reply.Reply.{Reply}
-use Rattle.message_core.specs.declared.status.ErrorStatus.TheVariants.{NoError, TooBig, GenErr}
+use Rattle.message_core.specs.declared.status.ErrorStatus.TheVariants.{NoError, TooBig, GenErr, AuthorizationError}
+use Rattle.vacm_core.specs.Families.{in_view}
+use Rattle.audit_core.specs.declared.decision.Decision.{Decision}
+use Rattle.audit_core.specs.declared.decision.Decision.TheVariants.{UnknownCommunity, NoSuchContext, Empty, NoGroupName, NoAccessEntry, NoSuchView, Allowed}
 use Rattle.agent_core.specs.World.{World}
 use Rattle.agent_core.specs.Reading.{visible, names_of, get_answers, next_answer, next_answers}
 use Rattle.agent_core.specs.Bulk.{asked_list}
 use Rattle.agent_core.specs.Fitting.{reply_limit, fitting}
-use Rattle.agent_core.specs.Views.{in_bridge, is_public}
+use Rattle.agent_core.specs.Deciding.{decided}
 
 -- A reply that is too long is sent as tooBig, with index 0 and no bindings (RFC 3416, 4.2.1).
 unfoldable pub sized : Reply → Reply
@@ -43,17 +46,25 @@ kind_reply objects shows rows request GetNext = next_reply shows rows request
 kind_reply objects shows rows request Set = failed request
 kind_reply objects shows rows request GetBulk = bulk_reply shows rows request
 
--- The reply to a known caller. A request with no bindings is answered noError with none, whatever its kind; the standard says nothing of it.
-abbrev pub known_reply : List (List ℕ) → (List ℕ → Bool) → List Binding → Request → List Binding → Reply
-known_reply objects shows rows request [] = sized (answer_to request NoError (pos 0) [])
-known_reply objects shows rows request (b ∷ bs) = kind_reply objects shows rows request request.kind
+-- a request that the tables of access control halt: authorizationError, index 0, the request's bindings (RFC 3416, section 3)
+abbrev pub halted : Request → Reply
+halted request = sized (answer_to request AuthorizationError (pos 0) request.bindings)
 
--- The reply to a request, or none where its community is unknown.
-abbrev pub reply_of : World → Request → Option Reply
-reply_of world request =
-    if is_public request.community
-    then Some (known_reply world.objects in_bridge world.instances request request.bindings)
-    else None
+-- The reply by the decision, or none where the request is dropped. A request with no bindings is answered noError with none, whatever
+-- its kind; the standard says nothing of it.
+abbrev pub reply_by : World → Request → Decision → Option Reply
+reply_by world request UnknownCommunity = None
+reply_by world request (NoSuchContext name) = None
+reply_by world request Empty = Some (sized (answer_to request NoError (pos 0) []))
+reply_by world request (NoGroupName model name) = Some (halted request)
+reply_by world request (NoAccessEntry asked) = Some (halted request)
+reply_by world request (NoSuchView row view) = Some (halted request)
+reply_by world request (Allowed row view) =
+    Some (kind_reply world.objects (in_view world.policy.vacm.families view) world.instances request request.kind)
+
+-- The reply to a request, or none where it is dropped.
+unfoldable pub reply_of : World → Request → Option Reply
+reply_of world request = reply_by world request (decided world.policy request)
 
 -- the answers to so many GetNext, each of the name that the one before answered
 abbrev pub walk : List Binding → ℕ → List ℕ → List Binding

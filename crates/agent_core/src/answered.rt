@@ -1,8 +1,10 @@
+use audit_core::Audit;
+
 /// What a request is answered.
-#[derive(Clone, Copy, Debug, PartialEq, Eq)]
+#[derive(Drop)]
 pub enum Answered {
-    /// A reply of so many octets, which stands in the buffer.
-    Reply(usize),
-    /// The request is dropped: its community is unknown.
-    NoReply,
+    /// A reply of so many octets, which stands in the buffer, and the audit.
+    Reply(usize, Audit),
+    /// The request is dropped, since its community or its context is not known; the audit says which.
+    NoReply(Audit),
 }

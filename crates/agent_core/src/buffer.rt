@@ -2,7 +2,9 @@ ghost use Rattle.std.specs.Prelude.{◌≡◌, ◌≤◌, [], length, pos, take}
 ghost use Rattle.message_core.specs.Canon.{canon_reply, answer_to};
 ghost use Rattle.message_core.specs.Spellable.{AreSpellable};
 ghost use Rattle.agent_core.specs.Replies.{sized};
+ghost use Rattle.agent_core.specs.Answers.{IsSent};
 
+use crate::sent_reply::SentReply;
 use message_core::laws::short_reply_fits;
 use message_core::{Binding, ErrorStatus, MAX_REPLY, Request, TooBig, encode_answer};
 use std::marker::Model;
@@ -50,20 +52,20 @@ impl Buffer {
         self.length = 0;
     }
 
-    // Puts the reply to a request in, as far as its size allows, and answers how many octets it has.
+    // Puts the reply to a request in, as far as its size allows, and says what was put.
     pub(crate) fn put(
         &mut self,
         request: &Request,
         status: ErrorStatus,
         bindings: &[Binding],
-    ) -> usize
+    ) -> SentReply
         requires community { length request.now.community ≤ 255 }
         requires spellable { AreSpellable bindings.now }
-        ensures reply { self.new.reply ≡ canon_reply (sized (answer_to request.now status (pos 0) bindings.now)) }
-        ensures len { result ≡ length self.new.reply }
+        ensures { IsSent (sized (answer_to request.now status (pos 0) bindings.now)) result self.new }
     {
-        self.length = put_sized(request, status, bindings, &mut self.octets);
-        self.length
+        let sent = put_sized(request, status, bindings, &mut self.octets);
+        self.length = sent.length;
+        sent
     }
 }
 
@@ -73,16 +75,23 @@ fn put_sized(
     status: ErrorStatus,
     bindings: &[Binding],
     octets: &mut [u8; MAX_REPLY],
-) -> usize
+) -> SentReply
     requires community { length request.now.community ≤ 255 }
     requires spellable { AreSpellable bindings.now }
-    ensures reply { take result octets.new ≡ canon_reply (sized (answer_to request.now status (pos 0) bindings.now)) }
-    ensures len { result ≡ length (canon_reply (sized (answer_to request.now status (pos 0) bindings.now))) }
-    ensures most { result ≤ 1472 }
+    ensures sent { IsSent (sized (answer_to request.now status (pos 0) bindings.now)) result (record { reply = take result.length octets.new }) }
+    ensures most { result.length ≤ 1472 }
 {
     match encode_answer(request, status, 0, bindings, octets) {
-        Ok(length) => length,
-        Err(TooBig) => put_too_big(request, octets),
+        Ok(length) => SentReply {
+            length,
+            status,
+            index: 0,
+        },
+        Err(TooBig) => SentReply {
+            length: put_too_big(request, octets),
+            status: ErrorStatus::TooBig,
+            index: 0,
+        },
     }
 }
 

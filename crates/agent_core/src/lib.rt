@@ -1,16 +1,18 @@
-//! Requests answered by RFC 3416 over what their caller may see.
+//! Requests answered by RFC 3416 over what a policy lets their caller see (RFC 3415), with an audit of each.
 #![tactic(auto)]
 
 mod answered;
 mod answering;
 mod buffer;
 mod bulk;
+mod deciding;
+mod denying;
 mod getting;
 pub mod laws;
 mod nexts;
-mod order;
 mod reading;
 mod sent;
+mod sent_reply;
 mod source;
 mod views;
 mod world;
@@ -19,10 +21,13 @@ pub use answered::Answered;
 pub use answering::{answer, short_reply};
 pub use buffer::Buffer;
 pub use bulk::get_bulk;
+pub use deciding::decide;
+pub use denying::denied_bindings;
 pub use getting::get;
 pub use nexts::get_next;
+pub use sent_reply::SentReply;
 pub use source::{Source, View};
-pub use views::BridgeView;
+pub use views::PolicyView;
 pub use world::{PlainWorld, WorldFault};
 
 #[cfg(test)]

@@ -1,8 +1,29 @@
 use super::*;
+use community_core::Policy;
 use message_core::{Binding, Value};
 use oid_core::Oid;
 use std::alloc::Global;
 use std::test::Fail;
+use vacm_core::{Rows, Vacm, VacmRows};
+
+// A policy of no rows.
+fn no_policy(alloc: Global) -> Result<Policy, Fail> {
+    let vacm = Vacm::new(
+        alloc,
+        VacmRows {
+            groups: Rows::new(Vec::new(alloc)),
+            access: Rows::new(Vec::new(alloc)),
+            families: Rows::new(Vec::new(alloc)),
+            contexts: Rows::new(Vec::new(alloc)),
+        },
+    )
+    .ok()
+    .ok_or("tables")?;
+    let policy = Policy::new(alloc, Rows::new(Vec::new(alloc)), vacm)
+        .ok()
+        .ok_or("a policy")?;
+    Ok(policy)
+}
 
 // The name of these numbers under 1.3.6.1.2.1.17.
 fn named(alloc: Global, text: &str) -> Result<Oid, Fail> {
@@ -31,7 +52,11 @@ fn ports(alloc: Global) -> Result<PlainWorld, Fail> {
     let mut objects = Vec::new(alloc);
     objects.push(named(alloc, "1.3.6.1.2.1.17.2.15.1.3")?)?;
     objects.push(named(alloc, "1.3.6.1.2.1.17.2.15.1.5")?)?;
-    Ok(PlainWorld::new(instances, objects).ok().ok_or("a world")?)
+    Ok(
+        PlainWorld::new(instances, objects, no_policy(alloc)?)
+            .ok()
+            .ok_or("a world")?,
+    )
 }
 
 // A view of one name.
@@ -80,7 +105,7 @@ fn refuses_a_world_that_is_not_sorted(rt: HostRuntime) -> Result<(), Fail> {
     instances.push(bound(rt.alloc(), "1.3", 1)?)?;
     assert!(rt;
         matches!(
-            PlainWorld::new(instances, Vec::new(rt.alloc())),
+            PlainWorld::new(instances, Vec::new(rt.alloc()), no_policy(rt.alloc())?),
             Err(WorldFault::Unsorted)
         )
     );
@@ -93,7 +118,7 @@ fn refuses_a_world_that_cannot_be_spelled(rt: HostRuntime) -> Result<(), Fail> {
     instances.push(bound(rt.alloc(), "1.40", 1)?)?;
     assert!(rt;
         matches!(
-            PlainWorld::new(instances, Vec::new(rt.alloc())),
+            PlainWorld::new(instances, Vec::new(rt.alloc()), no_policy(rt.alloc())?),
             Err(WorldFault::Unspellable)
         )
     );
@@ -136,7 +161,7 @@ fn port_table(alloc: Global) -> Result<PlainWorld, Fail> {
         instances.push(bound(alloc, text, number)?)?;
     }
     Ok(
-        PlainWorld::new(instances, Vec::new(alloc))
+        PlainWorld::new(instances, Vec::new(alloc), no_policy(alloc)?)
             .ok()
             .ok_or("a world")?,
     )

@@ -1,21 +1,24 @@
 ghost use Rattle.std.specs.Prelude.{◌≡◌};
-ghost use Rattle.agent_core.specs.Views.{in_bridge};
 
-use crate::order::begins;
 use crate::source::View;
 use oid_core::Oid;
+use vacm_core::{Name, Vacm};
 
-/// dot1dBridge of RFC 4188, 1.3.6.1.2.1.17.
-const DOT1D_BRIDGE: [u32; 7] = [1, 3, 6, 1, 2, 1, 17];
+/// The view of a name in the tables of access control (RFC 3415, vacmViewTreeFamilyTable).
+#[derive(Drop)]
+pub struct PolicyView<'a> {
+    /// The tables.
+    pub vacm: &'a Vacm,
+    /// The name of the view.
+    pub view: &'a Name,
+}
 
-/// The view that shows all names under dot1dBridge of RFC 4188, and no others.
-#[derive(Clone, Copy, Debug)]
-pub struct BridgeView;
+impl View for PolicyView<'_> {
+    ghost use Rattle.vacm_core.specs.Families.{in_view};
 
-impl View for BridgeView {
-    ghost shows = { λ _ name. in_bridge name };
+    ghost shows = { λ v name. in_view v.vacm.now.families v.view.now name };
 
     fn has_name(&self, name: &Oid) -> bool {
-        begins(&DOT1D_BRIDGE, name.as_slice())
+        self.vacm.in_view(self.view, name).is_included()
     }
 }

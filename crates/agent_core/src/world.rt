@@ -2,11 +2,13 @@ ghost use Rattle.std.specs.Prelude.{◌≡◌, ◌↔◌, IfOk, IsOk, IsErrOf, I
 ghost use Rattle.oid_core.specs.Order.{name_lt};
 ghost use Rattle.message_core.specs.Spellable.{AreSpellable};
 ghost use Rattle.agent_core.specs.Reading.{IsRising, next_of, value_of};
+ghost use Rattle.agent_core.specs.Answers.{counted};
 
-use crate::order::{precedes, same_name};
 use crate::source::Source;
+use audit_core::Decision;
+use community_core::Policy;
 use message_core::{Binding, Value};
-use oid_core::Oid;
+use oid_core::{Oid, precedes, same_name};
 use std::alloc::{AllocError, Global};
 use std::marker::Model;
 
@@ -19,11 +21,15 @@ pub enum WorldFault {
     Unspellable,
 }
 
-/// A list of instances by rising name, and the names of the objects that they belong to.
+/// A list of instances by rising name, the names of the objects that they belong to, the policy that says who may see which of them,
+/// and the counts of requests that were dropped.
 #[derive(Drop)]
 pub struct PlainWorld {
     instances: Vec<Binding>,
     objects: Vec<Oid>,
+    policy: Policy,
+    bad_communities: u32,
+    unknown_contexts: u32,
 }
 
 impl Model for PlainWorld {
@@ -31,18 +37,34 @@ impl Model for PlainWorld {
 
     ghost Value = { World };
 
-    ghost view = { λ w. record { instances = w.instances.items; objects = w.objects.items } };
+    ghost view = { λ w. record {
+      instances = w.instances.items;
+      objects = w.objects.items;
+      policy = w.policy;
+      bad_communities = w.bad_communities;
+      unknown_contexts = w.unknown_contexts;
+    } };
 
     ghost invariant = { λ w. IsServable w.instances.items };
 }
 
 impl PlainWorld {
-    /// The world of these instances and objects. It takes no memory.
+    /// The world of these instances and objects under this policy, of which nothing was dropped yet. It takes no memory.
     ///
     /// # Errors
     /// `Unsorted` where the names do not rise; else `Unspellable` where one has no spelling.
-    pub fn new(instances: Vec<Binding>, objects: Vec<Oid>) -> Result<PlainWorld, WorldFault>
-        ensures ok { IfOk result (λ w. w ≡ record { instances = instances.items; objects = objects.items }) }
+    pub fn new(
+        instances: Vec<Binding>,
+        objects: Vec<Oid>,
+        policy: Policy,
+    ) -> Result<PlainWorld, WorldFault>
+        ensures ok { IfOk result (λ w. w ≡ record {
+          instances = instances.items;
+          objects = objects.items;
+          policy = policy;
+          bad_communities = 0;
+          unknown_contexts = 0;
+        }) }
         ensures unsorted { IsErrOf result WorldFault.Unsorted ↔ ¬ IsRising instances.items }
         ensures unspellable { IsErrOf result WorldFault.Unspellable ↔ (IsRising instances.items × ¬ AreSpellable instances.items) }
     {
@@ -52,7 +74,13 @@ impl PlainWorld {
         if !are_spellable(instances.as_slice()) {
             return Err(WorldFault::Unspellable);
         }
-        Ok(PlainWorld { instances, objects })
+        Ok(PlainWorld {
+            instances,
+            objects,
+            policy,
+            bad_communities: 0,
+            unknown_contexts: 0,
+        })
     }
 
     /// The names of the objects.
@@ -60,6 +88,49 @@ impl PlainWorld {
         ensures { result.now ≡ self.now.objects }
     {
         self.objects.as_slice()
+    }
+
+    /// Who may see what.
+    pub fn policy(&self) -> &Policy
+        ensures { result.now ≡ self.now.policy }
+    {
+        &self.policy
+    }
+
+    /// Puts another policy in place of the one that is there, and changes nothing else.
+    pub fn replace_policy(&mut self, policy: Policy)
+        ensures { self.new ≡ record self.old { policy = policy } }
+    {
+        self.policy = policy;
+    }
+
+    /// The requests that were dropped since no row has their community, modulo 2^32 (RFC 3418, snmpInBadCommunityNames).
+    pub fn bad_communities(&self) -> u32
+        ensures { result ≡ self.now.bad_communities }
+    {
+        self.bad_communities
+    }
+
+    /// The requests that were dropped since their context is not known, modulo 2^32 (RFC 3413, snmpUnknownContexts).
+    pub fn unknown_contexts(&self) -> u32
+        ensures { result ≡ self.now.unknown_contexts }
+    {
+        self.unknown_contexts
+    }
+
+    // Counts a request that is dropped.
+    pub(crate) fn count(&mut self, decision: &Decision)
+        ensures { self.new ≡ counted self.old decision.now }
+    {
+        match decision {
+            Decision::UnknownCommunity => {
+                self.bad_communities = self.bad_communities.wrapping_add(1);
+            }
+            Decision::NoSuchContext(_) => {
+                self.unknown_contexts = self.unknown_contexts.wrapping_add(1);
+            }
+            _ => {}
+        }
     }
 }
 

@@ -1,0 +1,89 @@
+//! The bindings whose names are not in the view.
+ghost use Rattle.std.specs.Prelude.{◌≡◌, ◌<◌, ◌++◌, OnOk, IfOk, length};
+ghost use Rattle.vacm_core.specs.Families.{family_answer, NamesFamilyOf};
+ghost use Rattle.agent_core.specs.Denying.{denial, denials, denied_in, denied_of};
+
+use audit_core::{Decision, Denied, DeniedBindings, FamilyKey};
+use message_core::{Binding, Kind, Request};
+use std::alloc::{AllocError, Global};
+use vacm_core::{FamilyAnswer, Name, Vacm};
+
+// Adds what is told of binding `index`, by the answer on its name.
+fn deny(
+    alloc: Global,
+    vacm: &Vacm,
+    index: usize,
+    answer: FamilyAnswer,
+    denied: &mut DeniedBindings,
+) -> Result<(), AllocError>
+    requires { NamesFamilyOf vacm.now.families answer }
+    ensures { OnOk result (denied.new ≡ denied.old ++ denial vacm.now.families index answer) }
+{
+    match answer {
+        FamilyAnswer::Included(_) => Ok(()),
+        FamilyAnswer::Excluded(n) => {
+            let family = FamilyKey::of(alloc, vacm.family_row(n))?;
+            denied.push(Denied {
+                index,
+                family: Some(family),
+            })
+        }
+        FamilyAnswer::NoRow => denied.push(Denied {
+            index,
+            family: None,
+        }),
+    }
+}
+
+// What is told of bindings, the first of which has number 1.
+fn denials(
+    alloc: Global,
+    vacm: &Vacm,
+    view: &Name,
+    bindings: &[Binding],
+) -> Result<DeniedBindings, AllocError>
+    ensures { IfOk result (λ denied. denied ≡ denials vacm.now.families view.now 1 bindings.now) }
+{
+    let mut denied = DeniedBindings::new(alloc);
+    for (n, binding) in bindings.iter().enumerate() {
+        deny(
+            alloc,
+            vacm,
+            n + 1,
+            vacm.in_view(view, &binding.name),
+            &mut denied,
+        )?;
+    }
+    Ok(denied)
+}
+
+// The denied bindings of a request that is allowed in a view.
+fn denied_in(
+    alloc: Global,
+    vacm: &Vacm,
+    view: &Name,
+    request: &Request,
+) -> Result<DeniedBindings, AllocError>
+    ensures { IfOk result (λ denied. denied ≡ denied_in vacm.now.families view.now request.now request.now.kind) }
+{
+    match request.kind {
+        Kind::Get => denials(alloc, vacm, view, request.bindings.as_slice()),
+        Kind::GetNext | Kind::GetBulk | Kind::Set => Ok(DeniedBindings::new(alloc)),
+    }
+}
+
+/// The denied bindings of a request by its decision: those of a Get that are not in the view, each with the family that excludes
+/// its name, if one does. Only memory can fail.
+pub fn denied_bindings(
+    alloc: Global,
+    vacm: &Vacm,
+    request: &Request,
+    decision: &Decision,
+) -> Result<DeniedBindings, AllocError>
+    ensures { IfOk result (λ denied. denied ≡ denied_of vacm.now.families request.now decision.now) }
+{
+    match decision {
+        Decision::Allowed { view, .. } => denied_in(alloc, vacm, view, request),
+        _ => Ok(DeniedBindings::new(alloc)),
+    }
+}
