@@ -1,7 +1,7 @@
 -- A table beside the members that it stands for.
-use Rattle.std.proofs.Common.{◌≡◌, ℕ, suc, ◌+◌, List, [], ◌∷◌, length, map, String, Global, Bor, Vec, Option, Some, None, option_map, option_and_then, refl, ap, ◌∙◌, sym}
-use Rattle.toml.specs.Data.{Data, Members, as_array}
-use Rattle.toml.specs.View.{view, members_view, items_of, items_view, array_view}
+use Rattle.std.proofs.Common.{◌≡◌, suc, List, [], ◌∷◌, length, map, String, Global, Bor, Vec, Option, Some, None, option_map, refl, ap, sym}
+use Rattle.toml.specs.Data.{Data}
+use Rattle.toml.specs.View.{view, members_view, items_of, array_view}
 use Rattle.toml.specs.declared.value.Value.{Value}
 use Rattle.community_core.specs.Keys.{key_count, list_of}
 

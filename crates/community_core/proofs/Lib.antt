@@ -1,3 +1,4 @@
 pub mod KeyLemmas
 pub mod RowLemmas
 pub mod Short
+pub mod SaidLemmas

@@ -1,5 +1,5 @@
 -- Communities (RFC 3584, section 5): the rules of their rows, and whom a community name stands for.
-use Rattle.std.specs.Prelude.{ℕ, ◌≡◌, ◌≤◌, Bool, false, ◌&&◌, All, List, length, slice_get, bytes_eq, Option, Some, None}
+use Rattle.std.specs.Prelude.{ℕ, ◌≤◌, Bool, ◌&&◌, All, List, length, slice_get, bytes_eq, Option, Some, None}
 use Rattle.std.specs.Cmp.Lexicographic.{slice_cmp}
 use Rattle.std.specs.Ordering.{nat_cmp, is_lt}
 use Rattle.vacm_core.specs.declared.limits.TheConstants.{NAME_MAX}

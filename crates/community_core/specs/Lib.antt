@@ -2,3 +2,4 @@ pub mod Communities
 pub mod Keys
 pub mod Reading
 pub mod Policies
+pub mod Said

@@ -1,16 +1,12 @@
 -- What a TOML table says as a policy, and its first fault.
-use Rattle.std.specs.Prelude.{◌≡◌, ◌⊎◌, ℕ, ◌==◌, if◌then◌else◌, codes, List, map, Option, Some, None}
+use Rattle.std.specs.Prelude.{◌≡◌, ◌⊎◌, ◌==◌, if◌then◌else◌, codes, List, map, Option, Some, None}
 use Rattle.toml.specs.Data.{Data, Members}
 use Rattle.vacm_core.specs.declared.fault.PolicyFault.{PolicyFault}
 use Rattle.vacm_core.specs.declared.fault.PolicyFault.TheVariants.{BadField}
 use Rattle.vacm_core.specs.declared.fault.PolicyTable.TheVariants.{Groups, Access, Families, Contexts, Communities}
-use Rattle.vacm_core.specs.declared.written.WrittenGroup.{WrittenGroup}
-use Rattle.vacm_core.specs.declared.written.WrittenAccess.{WrittenAccess}
-use Rattle.vacm_core.specs.declared.written.WrittenFamily.{WrittenFamily}
 use Rattle.vacm_core.specs.Rules.{AreRight, IsFirstFault}
 use Rattle.vacm_core.specs.Faults.{AreAllRight, IsFault}
 use Rattle.vacm_core.specs.Tables.{tables_of}
-use Rattle.community_core.specs.declared.community.WrittenCommunity.{WrittenCommunity}
 use Rattle.community_core.specs.declared.policy_text.PolicyRows.{PolicyRows}
 use Rattle.community_core.specs.Communities.{PolicyTables, community_rules, community_row}
 use Rattle.community_core.specs.Keys.{key_count, array_at}

@@ -4,6 +4,7 @@
 
 mod community;
 mod keys;
+pub mod laws;
 mod policy;
 mod policy_text;
 mod rows;

@@ -1,7 +1,8 @@
 //! Reads a policy from a TOML table.
-ghost use Rattle.std.specs.Prelude.{◌≡◌, ◌≢◌, ◌⊎◌, IfOk, IfErr, OnOk, map};
+ghost use Rattle.std.specs.Prelude.{◌≡◌, ◌≢◌, ◌⊎◌, IfOk, IfErr, OnOk, map, Some, None};
 ghost use Rattle.toml.specs.View.{table_view, view};
 ghost use Rattle.community_core.specs.Policies.{arrays, AreRowsOf, IsUnreadOf, SaysRows, IsUnread, IsPolicyFault, policy_tables, ArePolicyRowsRight, IsPolicy, IsWrongPolicy};
+ghost use Rattle.community_core.specs.Said.{policy_said};
 
 use crate::community::WrittenCommunity;
 use crate::keys::{array_at, key_count};
@@ -103,6 +104,9 @@ fn policy_of_rows(alloc: Global, rows: PolicyRows) -> Result<Policy, PolicyFault
 pub fn policy_of(alloc: Global, table: &Table) -> Result<Policy, PolicyFault>
     ensures policy { IfOk result (λ p. IsPolicy (table_view table.now) p) }
     ensures fault { IfErr result (λ e. e ≢ PolicyFault.Memory → IsUnread (table_view table.now) e ⊎ IsWrongPolicy (table_view table.now) e) }
+    // The same as a function of the table: its policy, or none.
+    ensures said { IfOk result (λ p. policy_said (table_view table.now) ≡ Some p) }
+    ensures refused { IfErr result (λ e. e ≢ PolicyFault.Memory → policy_said (table_view table.now) ≡ None) }
 {
     let rows = policy_rows(alloc, table)?;
     policy_of_rows(alloc, rows)

@@ -1,10 +1,11 @@
 //! Laws of names. Each holds of all octets and numbers, and its function does nothing.
-ghost use Rattle.std.specs.Prelude.{◌≡◌, ◌≤◌, ◌↔◌, ◌⊎◌, ℕ, List, length, IsTrue, Ok, Err};
+ghost use Rattle.std.specs.Prelude.{◌≡◌, ◌≤◌, ◌↔◌, ◌⊎◌, ℕ, List, length, IsTrue, Ok, Err, Some, None};
 ghost use Rattle.oid_core.specs.declared.fault.OidFault.{OidFault};
 ghost use Rattle.oid_core.specs.Name.{AreOctets, IsName, IsSpellable, canon_name};
 ghost use Rattle.oid_core.specs.Reading.{name_at};
 ghost use Rattle.oid_core.specs.Order.{IsBefore, IsPrefix, name_lt, name_eq, is_prefix};
 ghost use Rattle.oid_core.specs.Text.{IsDotted};
+ghost use Rattle.oid_core.specs.TextValue.{name_of_text};
 
 use crate::fault::OidFault;
 
@@ -32,6 +33,12 @@ pub fn reading_is_the_grammar()
 /// A text is the dotted text of one name at most.
 pub fn text_is_one()
     ensures { (text a b : List ℕ) → IsDotted text a → IsDotted text b → a ≡ b }
+{}
+
+/// The name of a text is a function of it: `name_of_text` gives the name exactly of the dotted texts, and none of every other.
+pub fn text_is_read()
+    ensures name { (text name : List ℕ) → (name_of_text text ≡ Some name) ↔ IsDotted text name }
+    ensures none { (text : List ℕ) → (name_of_text text ≡ None) ↔ ((name : List ℕ) → ¬ IsDotted text name) }
 {}
 
 /// Names are in one order.
