@@ -2,3 +2,4 @@ pub mod KeyLemmas
 pub mod RowLemmas
 pub mod Short
 pub mod SaidLemmas
+pub mod Ascii

@@ -3,3 +3,4 @@ pub mod Keys
 pub mod Reading
 pub mod Policies
 pub mod Said
+pub mod Texts

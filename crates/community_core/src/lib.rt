@@ -8,10 +8,12 @@ pub mod laws;
 mod policy;
 mod policy_text;
 mod rows;
+mod text;
 
 pub use community::{COMMUNITY_MAX, Caller, CommunityRow, WrittenCommunity};
 pub use policy::Policy;
 pub use policy_text::{PolicyRows, policy_of, policy_rows};
+pub use text::policy_in;
 
 #[cfg(test)]
 mod tests;
