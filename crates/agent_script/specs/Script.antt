@@ -1,63 +1,90 @@
--- What the agent says to the lines of a script.
-use Rattle.std.specs.Prelude.{ℕ, Bool, codes, if◌then◌else◌, List, ◌++◌, Option, Some, None, option_and_then, Result, Ok, Err}
+-- What the agent says to the lines of a script, and what they change.
+use Rattle.std.specs.Prelude.{ℕ, codes, decimal, if◌then◌else◌, List, [], ◌∷◌, ◌++◌, Option, Some, None}
 use Rattle.std.specs.List.{flat_map}
 use Rattle.std.specs.Str.{bytes_eq}
-use Rattle.hex.specs.Hex.{encode_upper}
-use Rattle.script_core.specs.Words.{split_word, octets_of}
-use Rattle.message_core.specs.Canon.{canon_reply}
-use Rattle.message_core.specs.FirstFault.{request_at}
-use Rattle.message_core.specs.declared.cause.DropCause.{DropCause}
-use Rattle.message_core.specs.declared.cause.DropCause.TheVariants.{TooLong, Malformed, BadVersion, BadKind, Memory}
-use Rattle.message_core.specs.declared.request.Request.{Request}
-use Rattle.message_core.specs.declared.reply.Reply.{Reply}
+use Rattle.community_core.specs.Communities.{PolicyTables}
+use Rattle.community_core.specs.Texts.{policy_in}
 use Rattle.agent_core.specs.World.{World}
-use Rattle.agent_core.specs.Replies.{reply_of}
+use Rattle.agent_script.specs.Commands.{Command, request, policy, audit, counts, command_of}
+use Rattle.agent_script.specs.Requests.{datagram_text, after_datagram}
+use Rattle.agent_script.specs.State.{Agent}
+use Rattle.agent_script.specs.declared.drops.Drops.{Drops}
 
--- the name of a cause
-abbrev pub cause_name : DropCause → List ℕ
-cause_name TooLong = codes "TooLong"
-cause_name Malformed = codes "Malformed"
-cause_name BadVersion = codes "BadVersion"
-cause_name BadKind = codes "BadKind"
-cause_name Memory = codes "Memory"
+-- a space and a number
+abbrev pub spaced : ℕ → List ℕ
+spaced n = codes " " ++ decimal n
 
--- `drop` and the name of a cause
-abbrev pub drop_text : List ℕ → List ℕ
-drop_text name = codes "drop " ++ name ++ codes "\n"
+-- the datagrams that each cause dropped, and the requests that an unknown community or context dropped
+abbrev pub counts_of : Drops → World → List ℕ
+counts_of drops world =
+    drops.too_long ∷ drops.malformed ∷ drops.bad_version ∷ drops.bad_kind ∷ drops.memory
+    ∷ world.bad_communities ∷ world.unknown_contexts ∷ []
 
--- `reply` and the octets of the reply in its minimal spelling, or the drop of an unknown community
-unfoldable pub reply_text : Option Reply → List ℕ
-reply_text (Some reply) = codes "reply " ++ encode_upper (canon_reply reply) ++ codes "\n"
-reply_text None = drop_text (codes "UnknownCommunity")
+abbrev pub counts_text : Drops → World → List ℕ
+counts_text drops world = codes "counts" ++ flat_map spaced (counts_of drops world) ++ codes "\n"
 
--- what is said to a datagram: the reply to its request, or the cause that drops it
-abbrev pub said_of : World → Result Request DropCause → List ℕ
-said_of world (Ok request) = reply_text (reply_of world request)
-said_of world (Err cause) = drop_text (cause_name cause)
+-- what is said to a command, or to a line that is none
+abbrev pub command_text : Agent → Option Command → List ℕ
+command_text agent None = codes "badline\n"
+command_text agent (Some (request datagram)) = datagram_text agent.is_auditing agent.world datagram
+command_text agent (Some policy) = []
+command_text agent (Some (audit on)) = []
+command_text agent (Some counts) = counts_text agent.drops agent.world
 
-unfoldable pub datagram_text : World → List ℕ → List ℕ
-datagram_text world datagram = said_of world (request_at datagram)
+-- the agent after it
+abbrev pub after_command : Agent → Option Command → Agent
+after_command agent None = agent
+after_command agent (Some (request datagram)) = after_datagram agent datagram
+after_command agent (Some policy) = record agent { policy_lines = Some [] }
+after_command agent (Some (audit on)) = record agent { is_auditing = on }
+after_command agent (Some counts) = agent
 
--- the octets of a line `request HEX`
-abbrev pub datagram_with : List ℕ × List ℕ → Option (List ℕ)
-datagram_with p = if bytes_eq p.0 (codes "request") then octets_of p.1 else None
+-- what is said at the end of a policy
+abbrev pub policy_text : Option PolicyTables → List ℕ
+policy_text (Some tables) = codes "policy ok\n"
+policy_text None = codes "policy refused\n"
 
-unfoldable pub datagram_of : List ℕ → Option (List ℕ)
-datagram_of line = option_and_then datagram_with (split_word line)
+-- a policy that is right takes the place of the one that was there, and nothing else changes
+abbrev pub with_policy : Agent → Option PolicyTables → Agent
+with_policy agent (Some tables) = record agent { world = record agent.world { policy = tables }; policy_lines = None }
+with_policy agent None = record agent { policy_lines = None }
 
--- what is said to a line: to its datagram, or that it is no line of a script
-abbrev pub said_to : World → Option (List ℕ) → List ℕ
-said_to world (Some datagram) = datagram_text world datagram
-said_to world None = codes "badline\n"
+-- a line of a policy behind these lines, or its end
+abbrev pub policy_line_text : List ℕ → List ℕ → List ℕ
+policy_line_text lines line = if bytes_eq line (codes "end") then policy_text (policy_in lines) else []
 
-abbrev pub line_text : World → List ℕ → List ℕ
-line_text world line = said_to world (datagram_of line)
+abbrev pub after_policy_line : Agent → List ℕ → List ℕ → Agent
+after_policy_line agent lines line =
+    if bytes_eq line (codes "end") then with_policy agent (policy_in lines)
+    else record agent { policy_lines = Some (lines ++ line ++ codes "\n") }
+
+-- what is said to a line, inside a policy or outside
+abbrev pub text_in : Agent → Option (List ℕ) → List ℕ → List ℕ
+text_in agent (Some lines) line = policy_line_text lines line
+text_in agent None line = command_text agent (command_of line)
+
+unfoldable pub line_text : Agent → List ℕ → List ℕ
+line_text agent line = text_in agent agent.policy_lines line
+
+-- the agent after it
+abbrev pub after_in : Agent → Option (List ℕ) → List ℕ → Agent
+after_in agent (Some lines) line = after_policy_line agent lines line
+after_in agent None line = after_command agent (command_of line)
+
+unfoldable pub after_line : Agent → List ℕ → Agent
+after_line agent line = after_in agent agent.policy_lines line
+
+-- what is said at the end of a script: a policy that has not ended is refused
+abbrev pub end_text : Option (List ℕ) → List ℕ
+end_text (Some lines) = codes "policy refused\n"
+end_text None = []
 
 -- What is said to all lines of a script, in their order.
-abbrev pub script_text : World → List (List ℕ) → List ℕ
-script_text world lines = flat_map (line_text world) lines
+abbrev pub script_text : Agent → List (List ℕ) → List ℕ
+script_text agent [] = end_text agent.policy_lines
+script_text agent (line ∷ lines) = line_text agent line ++ script_text (after_line agent line) lines
 
--- what a session is to its lines: the world, and whether no line so far met want of memory
-pub record Session : Type 0 where
-  pub world : World
-  pub is_whole : Bool
+-- the agent after them
+abbrev pub after_script : Agent → List (List ℕ) → Agent
+after_script agent [] = record agent { policy_lines = None }
+after_script agent (line ∷ lines) = after_script (after_line agent line) lines

@@ -1,8 +1,9 @@
 //! The plain world of the built-in bridge.
 ghost use Rattle.std.specs.Prelude.{◌≡◌, [], ◌∷◌, IfOk};
-ghost use Rattle.agent_script.specs.BuiltIn.{base_bridge_address, base_num_ports, base_type, built_in, scalar};
+ghost use Rattle.agent_script.specs.BuiltIn.{base_bridge_address, base_num_ports, base_type, built_in, built_in_instances, built_in_objects, scalar};
 
 use agent_core::PlainWorld;
+use community_core::Policy;
 use message_core::{Binding, Octets, Value};
 use oid_core::Oid;
 use std::alloc::{AllocError, AllocFailed, Global};
@@ -41,23 +42,22 @@ impl<T: Drop> From<AllocFailed<T>> for NoWorld {
     }
 }
 
-/// The three scalars of a bridge of two ports (RFC 4188, dot1dBase): its address, how many ports it has, and its type.
+/// The three scalars of a bridge of two ports (RFC 4188, dot1dBase): its address, how many ports it has, and its type; under a policy.
 #[tactic(auto, unfolding(crate::specs::BuiltIn::built_in))]
-pub fn built_in_world(alloc: Global) -> Result<PlainWorld, NoWorld>
-    ensures { IfOk result (λ world. world ≡ built_in) }
+pub fn built_in_world(alloc: Global, policy: Policy) -> Result<PlainWorld, NoWorld>
+    ensures { IfOk result (λ world. world ≡ built_in policy) }
 {
     let instances = built_in_instances(alloc)?;
     let objects = built_in_objects(alloc)?;
-    match PlainWorld::new(instances, objects) {
+    match PlainWorld::new(instances, objects, policy) {
         Ok(world) => Ok(world),
         Err(_) => Err(NoWorld),
     }
 }
 
 // The three instances.
-#[tactic(auto, unfolding(crate::specs::BuiltIn::built_in))]
 fn built_in_instances(alloc: Global) -> Result<Vec<Binding>, NoWorld>
-    ensures { IfOk result (λ instances. instances.items ≡ built_in.instances) }
+    ensures { IfOk result (λ instances. instances.items ≡ built_in_instances) }
 {
     let address = Value::OctetString(Octets::from_slice(alloc, &ADDRESS)?);
     let mut instances = Vec::new(alloc);
@@ -68,9 +68,8 @@ fn built_in_instances(alloc: Global) -> Result<Vec<Binding>, NoWorld>
 }
 
 // The names of the three objects.
-#[tactic(auto, unfolding(crate::specs::BuiltIn::built_in))]
 fn built_in_objects(alloc: Global) -> Result<Vec<Oid>, NoWorld>
-    ensures { IfOk result (λ objects. objects.items ≡ built_in.objects) }
+    ensures { IfOk result (λ objects. objects.items ≡ built_in_objects) }
 {
     let mut objects = Vec::new(alloc);
     objects.push(named(alloc, &BASE_BRIDGE_ADDRESS)?)?;

@@ -1,8 +1,10 @@
 //! The script of the agent: what it says to each line.
 #![tactic(auto)]
 
+mod agent;
 mod built_in;
 mod commands;
+mod drops;
 mod saying;
 mod session;
 

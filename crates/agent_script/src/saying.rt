@@ -1,16 +1,22 @@
-ghost use Rattle.std.specs.Prelude.{◌≡◌, ◌++◌, codes, IsTrue, OnOk, IfOk, option_map};
+//! What is said to a datagram and to `counts`.
+ghost use Rattle.std.specs.Prelude.{◌≡◌, ◌++◌, codes, IsTrue, OnOk, IfOk};
+ghost use Rattle.std.specs.List.{flat_map};
 ghost use Rattle.hex.specs.Hex.{encode_upper};
 ghost use Rattle.message_core.specs.Spellable.{AreSpellable};
-ghost use Rattle.agent_core.specs.Replies.{reply_of};
-ghost use Rattle.agent_script.specs.Script.{cause_name, drop_text, reply_text, datagram_text, said_to};
+ghost use Rattle.agent_core.specs.Answers.{world_after};
+ghost use Rattle.agent_script.specs.Requests.{cause_name, drop_text, dropped_name, told_audit, request_text};
+ghost use Rattle.agent_script.specs.Script.{spaced, counts_text};
 
+use crate::drops::Drops;
 use agent_core::{Answered, Buffer, PlainWorld, answer, short_reply};
-use message_core::{DropCause, Request, decode};
+use audit_core::{Audit, Decision, write_audit};
+use message_core::{DropCause, Request};
 use script_core::words::write_hex;
 use std::alloc::{AllocError, Global};
+use std::io::Write;
 
-// Appends `drop` and a name.
-fn say_drop(name: &[u8], out: &mut Vec<u8>) -> Result<(), AllocError>
+/// Appends `drop` and a name.
+pub fn say_drop(name: &[u8], out: &mut Vec<u8>) -> Result<(), AllocError>
     ensures { OnOk result (out.new.items ≡ out.old.items ++ drop_text name.now) }
 {
     out.extend_from_slice(b"drop ")?;
@@ -18,8 +24,8 @@ fn say_drop(name: &[u8], out: &mut Vec<u8>) -> Result<(), AllocError>
     out.extend_from_slice(b"\n")
 }
 
-// The name of a cause.
-fn cause_name(cause: DropCause) -> &'static [u8]
+/// The name of a cause.
+pub fn cause_name(cause: DropCause) -> &'static [u8]
     ensures { result.now ≡ cause_name cause }
 {
     match cause {
@@ -28,6 +34,16 @@ fn cause_name(cause: DropCause) -> &'static [u8]
         DropCause::BadVersion => b"BadVersion",
         DropCause::BadKind => b"BadKind",
         DropCause::Memory => b"Memory",
+    }
+}
+
+// The name of what drops a request.
+fn dropped_name(decision: &Decision) -> &'static [u8]
+    ensures { result.now ≡ dropped_name decision.now }
+{
+    match decision {
+        Decision::NoSuchContext(_) => b"NoSuchContext",
+        _ => b"UnknownCommunity",
     }
 }
 
@@ -40,25 +56,40 @@ fn say_reply(octets: &[u8], out: &mut Vec<u8>) -> Result<(), AllocError>
     out.extend_from_slice(b"\n")
 }
 
-// Appends what is said to a request; answers whether memory was there for it.
-#[tactic(auto, unfolding(crate::specs::Script::reply_text))]
-fn say_request(
+// Appends an audit, where it is told.
+fn say_audit(alloc: Global, on: bool, audit: &Audit, out: &mut Vec<u8>) -> Result<(), AllocError>
+    ensures { OnOk result (out.new.items ≡ out.old.items ++ told_audit on audit.now) }
+{
+    if !on {
+        return Ok(());
+    }
+    out.extend_from_slice(b"audit ")?;
+    write_audit(alloc, audit, out)
+}
+
+/// Appends what is said to a request, and counts it where it is dropped; answers whether memory was there for it.
+#[tactic(auto, unfolding(crate::specs::Requests::request_text))]
+pub fn say_request(
     alloc: Global,
-    world: &PlainWorld,
+    world: &mut PlainWorld,
     buffer: &mut Buffer,
+    on: bool,
     request: &Request,
     out: &mut Vec<u8>,
 ) -> Result<bool, AllocError>
     requires { AreSpellable request.now.bindings }
-    ensures { IfOk result (λ whole. IsTrue whole → out.new.items ≡ out.old.items ++ reply_text (reply_of world.now request.now)) }
+    ensures said { IfOk result (λ whole. IsTrue whole → out.new.items ≡ out.old.items ++ request_text on world.old request.now) }
+    ensures world { IfOk result (λ whole. IsTrue whole → world.new ≡ world_after world.old request.now) }
 {
     match answer(alloc, world, request, buffer) {
-        Ok(Answered::Reply(_)) => {
+        Ok(Answered::Reply(_, audit)) => {
             say_reply(buffer.reply(), out)?;
+            say_audit(alloc, on, &audit, out)?;
             Ok(true)
         }
-        Ok(Answered::NoReply) => {
-            say_drop(b"UnknownCommunity", out)?;
+        Ok(Answered::NoReply(audit)) => {
+            say_drop(dropped_name(&audit.decision), out)?;
+            say_audit(alloc, on, &audit, out)?;
             Ok(true)
         }
         Err(_) => {
@@ -69,42 +100,40 @@ fn say_request(
     }
 }
 
-// Appends what is said to a datagram; answers whether memory was there for it.
-#[tactic(auto, unfolding(crate::specs::Script::datagram_text))]
-fn say_datagram(
-    alloc: Global,
-    world: &PlainWorld,
-    buffer: &mut Buffer,
-    datagram: &[u8],
-    out: &mut Vec<u8>,
-) -> Result<bool, AllocError>
-    ensures { IfOk result (λ whole. IsTrue whole → out.new.items ≡ out.old.items ++ datagram_text world.now datagram.now) }
+// Appends a space and a number.
+fn say_spaced(number: u32, out: &mut Vec<u8>) -> Result<(), AllocError>
+    ensures { OnOk result (out.new.items ≡ out.old.items ++ spaced number) }
 {
-    match decode(alloc, datagram) {
-        Ok(request) => say_request(alloc, world, buffer, &request, out),
-        Err(cause) => {
-            say_drop(cause_name(cause), out)?;
-            Ok(cause != DropCause::Memory)
-        }
+    match write!(out, " {number}") {
+        Ok(()) => Ok(()),
+        Err(_) => Err(AllocError),
     }
 }
 
-/// Appends what is said to the datagram of a line, or that the line is none; answers whether memory was there for it.
-pub fn say_line(
-    alloc: Global,
-    world: &PlainWorld,
-    buffer: &mut Buffer,
-    datagram: Option<Vec<u8>>,
-    out: &mut Vec<u8>,
-) -> Result<bool, AllocError>
-    ensures { IfOk result (λ whole. IsTrue whole →
-        out.new.items ≡ out.old.items ++ said_to world.now (option_map (λ v. v.items) datagram)) }
+// Appends numbers, each behind a space.
+fn say_numbers(numbers: &[u32], out: &mut Vec<u8>) -> Result<(), AllocError>
+    ensures { OnOk result (out.new.items ≡ out.old.items ++ flat_map spaced numbers.now) }
 {
-    match datagram {
-        Some(octets) => say_datagram(alloc, world, buffer, octets.as_slice(), out),
-        None => {
-            out.extend_from_slice(b"badline\n")?;
-            Ok(true)
-        }
+    for number in numbers {
+        say_spaced(*number, out)?;
     }
+    Ok(())
+}
+
+/// Appends what was dropped.
+pub fn say_counts(drops: &Drops, world: &PlainWorld, out: &mut Vec<u8>) -> Result<(), AllocError>
+    ensures { OnOk result (out.new.items ≡ out.old.items ++ counts_text drops.now world.now) }
+{
+    let counts = [
+        drops.too_long,
+        drops.malformed,
+        drops.bad_version,
+        drops.bad_kind,
+        drops.memory,
+        world.bad_communities(),
+        world.unknown_contexts(),
+    ];
+    out.extend_from_slice(b"counts")?;
+    say_numbers(&counts, out)?;
+    out.extend_from_slice(b"\n")
 }

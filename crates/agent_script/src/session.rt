@@ -1,12 +1,11 @@
-ghost use Rattle.std.specs.Prelude.{◌≡◌, ◌++◌, ℕ, List, true, OnOk, IfOk, IfSome};
-ghost use Rattle.std.specs.List.{flat_map};
+ghost use Rattle.std.specs.Prelude.{◌≡◌, true, IfOk, IfSome};
 ghost use Rattle.std.specs.Io.KnownBytes.{Appends};
 ghost use Rattle.script_core.specs.Lines.{lines_of};
-ghost use Rattle.agent_script.specs.Script.{Session as State, line_text, script_text};
+ghost use Rattle.agent_script.specs.State.{Session as State, opening_agent};
+ghost use Rattle.agent_script.specs.Script.{script_text, after_script};
 
-use crate::commands::read_datagram;
-use crate::saying::say_line;
-use agent_core::{Buffer, PlainWorld};
+use crate::agent::Agent;
+use agent_core::PlainWorld;
 use script_core::{LineFault, RunFault, Session};
 use std::alloc::Global;
 use std::io::{Read, Write};
@@ -17,7 +16,7 @@ use std::marker::Model;
 pub enum Run {
     /// Each line was answered in full.
     Whole,
-    /// Some line met want of memory, and was answered so: by `drop Memory`, or by the reply for a want of memory.
+    /// Some line met want of memory, and was answered so: by `drop Memory`, by `policy refused`, or by the reply for a want of memory.
     Short,
 }
 
@@ -25,32 +24,31 @@ pub enum Run {
 #[derive(Drop)]
 struct AgentSession {
     alloc: Global,
-    world: PlainWorld,
-    buffer: Buffer,
+    agent: Agent,
     is_whole: bool,
 }
 
 impl Model for AgentSession {
     ghost Value = { State };
 
-    ghost view = { λ s. record { world = s.world; is_whole = s.is_whole } };
+    ghost view = { λ s. record { agent = s.agent; is_whole = s.is_whole } };
 }
 
 impl Session for AgentSession {
-    ghost text = { λ s lines. script_text s.world lines };
+    ghost text = { λ s lines. script_text s.agent lines };
 
-    ghost last = { λ s lines. s };
+    ghost last = { λ s lines. record { agent = after_script s.agent lines; is_whole = true } };
 
     ghost is_whole = { λ s. s.is_whole };
 
     fn line(&mut self, line: &[u8], out: &mut Vec<u8>) -> Result<(), LineFault> {
-        let datagram = read_datagram(self.alloc, line)?;
-        let whole = say_line(self.alloc, &self.world, &mut self.buffer, datagram, out)?;
+        let whole = self.agent.line(self.alloc, line, out)?;
         self.is_whole = self.is_whole && whole;
         Ok(())
     }
 
-    fn end(&mut self, _out: &mut Vec<u8>) -> Result<(), LineFault> {
+    fn end(&mut self, out: &mut Vec<u8>) -> Result<(), LineFault> {
+        self.agent.end(out)?;
         Ok(())
     }
 }
@@ -59,7 +57,7 @@ impl Session for AgentSession {
 ///
 /// # Errors
 /// `Input` where a read fails or the input has not ended after 4,294,967,295 reads, `Output` where a write fails, `Memory` where
-/// there is none for a line or its text.
+/// there is none for a line, for the lines of a policy or for what is said.
 pub fn run_script<R: Read, W: Write>(
     alloc: Global,
     world: PlainWorld,
@@ -68,12 +66,11 @@ pub fn run_script<R: Read, W: Write>(
 ) -> Result<Run, RunFault>
     // Where no line met want of memory, what is written is what is said to the lines that were read.
     ensures { IfOk result (λ run. run ≡ Run.Whole → IfSome (R.remaining reader.old) (λ input.
-        Appends (W.contents writer.old) (W.contents writer.new) (script_text world (lines_of input)))) }
+        Appends (W.contents writer.old) (W.contents writer.new) (script_text (opening_agent world) (lines_of input)))) }
 {
     let mut session = AgentSession {
         alloc,
-        world,
-        buffer: Buffer::new(),
+        agent: Agent::new(world),
         is_whole: true,
     };
     script_core::run_script(alloc, &mut session, reader, writer)?;

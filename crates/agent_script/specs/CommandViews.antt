@@ -1,0 +1,10 @@
+-- What the code's commands stand for.
+use Rattle.agent_script.specs.declared.commands.Command.{Command as Read}
+use Rattle.agent_script.specs.declared.commands.Command.TheVariants.{Request, Policy, Audit, Counts}
+use Rattle.agent_script.specs.Commands.{Command, request, policy, audit, counts}
+
+abbrev pub command_view : Read → Command
+command_view (Request datagram) = request datagram.items
+command_view Policy = policy
+command_view (Audit on) = audit on
+command_view Counts = counts

@@ -1,0 +1,27 @@
+-- What a script's agent is.
+use Rattle.std.specs.Prelude.{ℕ, Bool, false, List, Option, None}
+use Rattle.agent_core.specs.World.{World}
+use Rattle.agent_script.specs.declared.drops.Drops.{Drops}
+
+pub record Agent : Type 0 where
+  pub world : World
+  -- each request's audit is told
+  pub is_auditing : Bool
+  -- the datagrams that gave no request
+  pub drops : Drops
+  -- the lines so far of a policy that has not ended
+  pub policy_lines : Option (List ℕ)
+
+-- the agent at the start of a script
+abbrev pub opening_agent : World → Agent
+opening_agent world = record {
+  world = world;
+  is_auditing = false;
+  drops = record { too_long = 0; malformed = 0; bad_version = 0; bad_kind = 0; memory = 0 };
+  policy_lines = None;
+}
+
+-- an agent, and whether no line so far met want of memory
+pub record Session : Type 0 where
+  pub agent : Agent
+  pub is_whole : Bool

@@ -1,0 +1,49 @@
+//! The counts of datagrams that gave no request.
+ghost use Rattle.std.specs.Prelude.{◌≡◌};
+ghost use Rattle.agent_script.specs.Requests.{dropped_more, risen};
+
+use message_core::DropCause;
+
+/// How many datagrams each cause dropped, modulo 2^32.
+#[derive(Clone, Copy, Debug, Default, PartialEq, Eq)]
+pub struct Drops {
+    pub too_long: u32,
+    pub malformed: u32,
+    pub bad_version: u32,
+    pub bad_kind: u32,
+    pub memory: u32,
+}
+
+fn risen(count: u32) -> u32
+    ensures { result ≡ risen count }
+{
+    count.wrapping_add(1)
+}
+
+impl Drops {
+    /// None yet.
+    pub fn none() -> Drops
+        ensures { result ≡ record { too_long = 0; malformed = 0; bad_version = 0; bad_kind = 0; memory = 0 } }
+    {
+        Drops {
+            too_long: 0,
+            malformed: 0,
+            bad_version: 0,
+            bad_kind: 0,
+            memory: 0,
+        }
+    }
+
+    /// Counts one more.
+    pub fn count(&mut self, cause: DropCause)
+        ensures { self.new ≡ dropped_more self.old cause }
+    {
+        match cause {
+            DropCause::TooLong => self.too_long = risen(self.too_long),
+            DropCause::Malformed => self.malformed = risen(self.malformed),
+            DropCause::BadVersion => self.bad_version = risen(self.bad_version),
+            DropCause::BadKind => self.bad_kind = risen(self.bad_kind),
+            DropCause::Memory => self.memory = risen(self.memory),
+        }
+    }
+}
