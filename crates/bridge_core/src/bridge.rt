@@ -304,7 +304,7 @@ fn follow(fdb: &mut Fdb, counters: &mut [PortCounters], outcome: Outcome) -> Bpd
     requires { length outcome.bpdus.items ≡ length counters.old }
     ensures fdb { fdb.new ≡ record fdb.old { rows = without outcome.flushed.items fdb.old.rows } }
     ensures counters { counters.new ≡ sent_where (has_bpdu outcome.bpdus.items) counters.old }
-    ensures bpdus { result ≡ outcome.bpdus }
+    ensures bpdus { result.items ≡ outcome.bpdus.items }
 {
     let Outcome { bpdus, flushed } = outcome;
     flush_ports(fdb, flushed.as_slice());
