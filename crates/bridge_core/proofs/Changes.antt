@@ -1,5 +1,5 @@
 -- What the bodies leave of a bridge, as the definitions have it.
-use Rattle.std.proofs.Common.{◌≡◌, ℕ, ◌-◌, Bool, true, false, List, [], length, get_or, set, refl, sym, ap, ◌∙◌}
+use Rattle.std.proofs.Common.{◌≡◌, ℕ, ◌-◌, Bool, true, false, List, [], length, get_or, set, sym, ap, ◌∙◌}
 use Rattle.std.specs.Prelude.{◌==◌, Option}
 use Rattle.std.specs.List.{refill}
 use Rattle.std.proofs.lemmas.List.{length-set}

@@ -1,5 +1,5 @@
 -- What a bridge is: its settings, its spanning tree, the addresses that it has learned, and its counters.
-use Rattle.std.specs.Prelude.{ℕ, ◌-◌, Bool, true, false, ◌&&◌, List, length, slice_index_or}
+use Rattle.std.specs.Prelude.{ℕ, ◌-◌, Bool, false, ◌&&◌, List, length, slice_index_or}
 use Rattle.frame_core.specs.declared.mac.Mac.{Mac}
 use Rattle.fdb_core.specs.declared.row.Row.{Row}
 use Rattle.rstp_settings.specs.Table.{Table}

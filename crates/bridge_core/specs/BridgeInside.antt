@@ -1,5 +1,5 @@
 -- What holds of the fields of each bridge.
-use Rattle.std.specs.Prelude.{◌≡◌, ◌≤◌, ℕ, List, length}
+use Rattle.std.specs.Prelude.{◌≡◌, ◌≤◌, List, length}
 use Rattle.frame_core.specs.declared.mac.Mac.{Mac}
 use Rattle.fdb_core.specs.Table.{Table as Fdb}
 use Rattle.rstp_settings.specs.Table.{Table}

@@ -13,7 +13,6 @@ mod learning;
 mod opening;
 
 pub use bridge::{Bpdus, Bridge, Forwarding, MAX_LEARNED_ROWS};
-pub use counters::PortCounters;
 pub use facts::{Facts, PortFacts};
 pub use fault::BridgeFault;
 

@@ -1,4 +1,3 @@
-use Rattle.std.proofs.Common.{sym}
 use Rattle.bridge_core.specs.Facts.{facts_of}
 use Rattle.bridge_core.proofs.bridge.Bridge.facts.Goals as goal
 
