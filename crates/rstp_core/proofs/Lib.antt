@@ -5,3 +5,4 @@ pub mod Fresh
 pub mod Roled
 pub mod Places
 pub mod RunLaws
+pub mod Functions

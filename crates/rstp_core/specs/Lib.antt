@@ -3,3 +3,4 @@ pub mod Passes
 pub mod Tree
 pub mod TreeInside
 pub mod Runs
+pub mod Steps

@@ -4,7 +4,8 @@
 //! Not true here, and not claimed: that the learned rows of a port go when it is blocked by synchronization (they stay); that no
 //! port forwards while it is off between a change of its enable setting and settling it, and, where its link goes down in between,
 //! until it starts anew.
-ghost use Rattle.std.specs.Prelude.{◌≡◌, ◌≢◌, ◌≤◌, ℕ, List, length, All, Contains};
+ghost use Rattle.std.specs.Prelude.{◌≡◌, ◌≢◌, ◌≤◌, ℕ, Bool, List, length, All, Contains};
+ghost use Rattle.frame_core.specs.declared.bpdu.Bpdu.{Bpdu};
 ghost use Rattle.frame_core.specs.declared.mac.Mac.{Mac};
 ghost use Rattle.rstp_settings.specs.Table.{Table};
 ghost use Rattle.rstp_rules.specs.declared.config.PortConfig.{PortConfig};
@@ -12,7 +13,8 @@ ghost use Rattle.rstp_rules.specs.declared.row.Best.{Best};
 ghost use Rattle.rstp_rules.specs.Lines.{own_id};
 ghost use Rattle.rstp_rules.specs.Roles.{IsBest};
 ghost use Rattle.rstp_core.specs.declared.rstp.Outcome.{Outcome};
-ghost use Rattle.rstp_core.specs.Tree.{Tree, rows_of, port_at};
+ghost use Rattle.rstp_core.specs.Tree.{Tree, rows_of, port_at, Ticks, Arrives, Links, Settles};
+ghost use Rattle.rstp_core.specs.Steps.{tick_step, arrival_step, link_step, settling_step, IsStep};
 ghost use Rattle.rstp_core.specs.Runs.{Happening, Happens, Runs, MayForward, IsRootPort, LeavesForwarding};
 
 /// There is one root vector.
@@ -52,4 +54,27 @@ pub fn leaving_forwarding_flushes()
     ensures { (a : Mac) (cs : List PortConfig) (hs : List Happening) (s r : Table) (t u : Tree)
         (h : Happening) (out : Outcome) → Runs a cs hs s t → Happens h s t r u out
         → (n : ℕ) → LeavesForwarding t u n → Contains out.flushed.items n }
+{}
+
+/// A tick leaves and gives what its function says, and nothing else.
+pub fn tick_is_a_step()
+    ensures { (s : Table) (t u : Tree) (out : Outcome) → Ticks s t u out → IsStep (tick_step s t) t u out }
+{}
+
+/// A BPDU leaves and gives what its function says, and nothing else.
+pub fn arrival_is_a_step()
+    ensures { (s : Table) (n : ℕ) (b : Bpdu) (t u : Tree) (out : Outcome)
+        → Arrives s n b t u out → IsStep (arrival_step s n b t) t u out }
+{}
+
+/// A link event leaves and gives what its function says, and nothing else.
+pub fn link_is_a_step()
+    ensures { (s : Table) (n : ℕ) (up : Bool) (t u : Tree) (out : Outcome)
+        → Links s n up t u out → IsStep (link_step s n up t) t u out }
+{}
+
+/// Settling leaves and gives what its function says, and nothing else.
+pub fn settling_is_a_step()
+    ensures { (s : Table) (t u : Tree) (out : Outcome)
+        → Settles s t u out → IsStep (settling_step s t) t u out }
 {}

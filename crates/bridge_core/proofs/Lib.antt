@@ -1,0 +1,5 @@
+pub mod Counts
+pub mod Flushes
+pub mod Walks
+pub mod Changes
+pub mod Ways

@@ -1,0 +1,95 @@
+-- Which frames are learned from, and by which ports a frame goes out (IEEE 802.1D-2004 7.7, 7.8, 7.12).
+use Rattle.std.specs.Prelude.{◌≡◌, ℕ, ◌<◌, Bool, true, false, ◌&&◌, ◌||◌, not, ◌==◌, nat_lt, if◌then◌else◌, List, length, filter, take, slice_index, Option, Some, None}
+use Rattle.std.specs.List.{range_with_len}
+use Rattle.std.specs.Str.{bytes_eq}
+use Rattle.frame_core.specs.declared.mac.Mac.{Mac}
+use Rattle.frame_core.specs.declared.mac.TheConstants.{BRIDGE_GROUP}
+use Rattle.frame_core.specs.declared.frame.FrameIn.{FrameIn}
+use Rattle.frame_core.specs.Octets.{is_group}
+use Rattle.fdb_core.specs.declared.row.Row.{Row}
+use Rattle.fdb_core.specs.declared.learnt.Learnt.{Learnt}
+use Rattle.fdb_core.specs.declared.learnt.Learnt.TheVariants.{New, Moved, Same, Full, Memory}
+use Rattle.fdb_core.specs.Rows.{port_of as learned_port}
+use Rattle.fdb_core.specs.Learning.{answer, learned}
+use Rattle.rstp_rules.specs.declared.port.State.{State}
+use Rattle.rstp_rules.specs.Vectors.{same_mac}
+use Rattle.rstp_rules.specs.Ports.{is_discarding, is_forwarding}
+use Rattle.rstp_core.specs.Tree.{Tree, port_at}
+use Rattle.bridge_core.specs.declared.bridge.TheConstants.{MAX_LEARNED_ROWS}
+use Rattle.bridge_core.specs.declared.forwarding.Way.{Way}
+use Rattle.bridge_core.specs.declared.forwarding.Way.TheVariants.{Nowhere, Anywhere, By}
+use Rattle.bridge_core.specs.Bridge.{BridgeState, address_of, port_count, port_of}
+
+-- The addresses 01-80-C2-00-00-00 to 0F, which no bridge forwards (7.12.6).
+abbrev pub is_reserved : Mac → Bool
+is_reserved a = bytes_eq (take 5 a.0) (take 5 BRIDGE_GROUP.0) && nat_lt (slice_index a.0 5) 16
+
+abbrev pub forwards : BridgeState → ℕ → Bool
+forwards b n = is_forwarding (port_of b n).state
+
+-- Whether the source of a frame is to be learned at a port of this state: the port is learning or forwarding, and neither is the
+-- destination reserved nor the source a group address (7.8).
+abbrev pub learns : State → FrameIn → Bool
+learns state f = not (is_discarding state) && not (is_reserved f.destination) && not (is_group f.source)
+
+-- What learning the source gives, where its growth was refused or not; nothing where it is not to be learned.
+abbrev pub learnt_with : List Row → ℕ → State → ℕ → FrameIn → Bool → Option Learnt
+learnt_with rows limit state p f no_room = if learns state f then Some (if no_room then Memory else answer rows limit f.source p) else None
+
+abbrev pub learnt_of : BridgeState → ℕ → FrameIn → Bool → Option Learnt
+learnt_of b p f no_room = learnt_with b.learned MAX_LEARNED_ROWS (port_of b p).state p f no_room
+
+abbrev pub rows_after : Option Learnt → List Row → Mac → ℕ → List Row
+rows_after None rows a p = rows
+rows_after (Some l) rows a p = learned l rows a p
+
+-- Whether the growth for a learned row was refused.
+abbrev pub is_refused : Option Learnt → Bool
+is_refused None = false
+is_refused (Some Memory) = true
+is_refused (Some New) = false
+is_refused (Some Moved) = false
+is_refused (Some Same) = false
+is_refused (Some Full) = false
+
+-- The growth for a learned row may be refused where the source is to be learned and is new, and there is a place for it.
+pub record NeedsMemory (rows : List Row) (limit : ℕ) (state : State) (f : FrameIn) : Type 0 where
+  pub learns : learns state f ≡ true
+  pub is_new : learned_port rows f.source ≡ None
+  pub has_place : length rows < limit
+
+abbrev pub MayLackMemory : BridgeState → ℕ → FrameIn → Type 0
+MayLackMemory b p f = NeedsMemory b.learned MAX_LEARNED_ROWS (port_of b p).state f
+
+-- Whether an address that is learned at a port, or at none, may be behind port q.
+abbrev pub may_be_behind : Option ℕ → ℕ → Bool
+may_be_behind None q = true
+may_be_behind (Some r) q = r == q
+
+-- Whether a frame to this destination may go by port q, if q is another forwarding port: the port by which it came forwards, the
+-- destination is neither reserved nor the bridge itself, and it is a group, or learned at q or nowhere.
+abbrev pub is_way : List Row → Mac → State → Mac → ℕ → Bool
+is_way rows own state d q =
+    is_forwarding state && not (is_reserved d) && not (same_mac d own) && (is_group d || may_be_behind (learned_port rows d) q)
+
+-- The same as it is found: nowhere, anywhere, or by one port.
+abbrev pub leads : Way → ℕ → Bool
+leads Nowhere q = false
+leads Anywhere q = true
+leads (By r) q = r == q
+
+-- Whether a frame that came by port p goes out by port q, where it may go by a port that passes the test.
+abbrev pub goes_by : (ℕ → Bool) → ℕ → Tree → ℕ → Bool
+goes_by way p t q = is_forwarding (port_at t q).state && not (q == p) && way q
+
+-- Whether a frame to this destination that came by port p goes out by port q.
+abbrev pub goes_out : BridgeState → ℕ → Mac → ℕ → Bool
+goes_out b p d q = goes_by (is_way b.learned (address_of b) (port_of b p).state d) p b.tree q
+
+-- The ports of so many that pass the test, rising.
+unfoldable pub ports_where : (ℕ → Bool) → ℕ → List ℕ
+ports_where test count = filter test (range_with_len 1 count)
+
+-- The ports by which a frame goes out.
+unfoldable pub egress_of : BridgeState → ℕ → Mac → List ℕ
+egress_of b p d = ports_where (goes_out b p d) (port_count b)

@@ -1,0 +1,373 @@
+ghost use Rattle.std.specs.Prelude.{◌≡◌, ◌≤◌, length, true, Some, None, Ok, Err, IfOk};
+ghost use Rattle.rstp_settings.specs.Table.{get, HasKey, IsInRange};
+ghost use Rattle.bridge_core.specs.Bridge.{port_count, is_on};
+ghost use Rattle.bridge_core.specs.Opening.{fault_of, opening_bridge};
+ghost use Rattle.bridge_core.specs.Forwarding.{MayLackMemory, egress_of};
+ghost use Rattle.bridge_core.specs.Counting.{sent_where, has_bpdu};
+ghost use Rattle.bridge_core.specs.Events.{without, framed, taken, passed, received, learned_from, forwarded, stepped, arrival_of, tick_of, ticked_bridge, link_of, linked_bridge, settling_of, settled_bridge, set_bridge};
+ghost use Rattle.bridge_core.specs.Facts.{facts_of, port_facts_of};
+
+use crate::counters::{PortCounters, count_bpdus, count_discards};
+use crate::facts::{Facts, PortFacts};
+use crate::fault::{BridgeFault, find_fault};
+use crate::forwarding::{find_way, send_out};
+use crate::learning::{flush_ports, lacks_memory, learn_from};
+use crate::opening;
+use arrayvec::ArrayVec;
+use fdb_core::Fdb;
+use frame_core::{Bpdu, FrameIn, Mac};
+use rstp_core::{
+    BridgeConfig, BridgeKey, Key, MAX_PORTS, Outcome, PortConfig, PortKey, Rstp, Settings,
+};
+use rstp_rules::lines::is_enabled;
+use std::alloc::Global;
+use std::marker::Model;
+
+/// The most addresses that a bridge learns.
+pub const MAX_LEARNED_ROWS: usize = 1_024;
+
+/// What each port sends, port by port.
+pub type Bpdus = ArrayVec<Option<Bpdu>, MAX_PORTS>;
+
+/// What a frame gives.
+#[derive(Drop)]
+pub struct Forwarding {
+    /// The numbers of the ports by which the frame goes out, rising.
+    pub egress: ArrayVec<u16, MAX_PORTS>,
+    /// What each port sends, port by port.
+    pub bpdus: Bpdus,
+    /// Whether the growth for a learned row was refused.
+    pub no_room: bool,
+}
+
+/// A learning bridge that runs the Rapid Spanning Tree Protocol. It is seen as its settings, its spanning tree, its learned rows and
+/// its counters. Ports are numbered from 1. A change of settings is followed by `settle`.
+#[derive(Drop)]
+pub struct Bridge {
+    config: BridgeConfig,
+    settings: Settings,
+    tree: Rstp,
+    fdb: Fdb,
+    entry_discards: u32,
+    counters: ArrayVec<PortCounters, MAX_PORTS>,
+}
+
+impl Model for Bridge {
+    ghost use Rattle.bridge_core.specs.Bridge.{BridgeState};
+    ghost use Rattle.bridge_core.specs.BridgeInside.{IsBridge};
+
+    ghost Value = { BridgeState };
+
+    ghost view = { λ b. record {
+      settings = b.settings;
+      tree = b.tree;
+      learned = b.fdb.rows;
+      counters = record { entry_discards = b.entry_discards; ports = b.counters.items };
+    } };
+
+    ghost invariant = { λ b. IsBridge b.config.address b.config.ports.items b.settings b.tree b.fdb b.counters.items };
+}
+
+impl Bridge {
+    /// A bridge of 1 to 32 ports under the opening settings, with all its links down and nothing learned. It takes no memory.
+    pub fn new(alloc: Global, address: Mac, ports: &[PortConfig]) -> Result<Self, BridgeFault>
+        ensures opened { fault_of address ports.now ≡ None → result ≡ Ok (opening_bridge address ports.now) }
+        ensures refused { (fault : BridgeFault) → fault_of address ports.now ≡ Some fault → result ≡ Err fault }
+        ensures ports { IfOk result (λ b. port_count b ≡ length ports.now) }
+    {
+        match find_fault(address, ports) {
+            Some(fault) => Err(fault),
+            None => Ok(open(alloc, address, ports)),
+        }
+    }
+
+    /// The number of ports, 1 to 32. Each has settings.
+    pub fn ports(&self) -> usize
+        ensures count { result ≡ port_count self.now }
+        ensures least { 1 ≤ result }
+        ensures most { result ≤ 32 }
+        ensures set { length self.now.settings.ports ≡ result }
+    {
+        self.tree.ports()
+    }
+
+    /// What the bridge shows of itself.
+    pub fn facts(&self) -> Facts
+        ensures { result ≡ facts_of self.now }
+    {
+        let tree = self.tree.bridge_facts();
+        Facts {
+            address: self.config.address,
+            ports: self.tree.ports(),
+            root: tree.root.vector.root,
+            root_cost: tree.root.vector.cost,
+            root_port: tree.root_port(),
+            times: tree.times,
+            topology_changes: tree.topology_changes,
+            since: tree.since,
+            entry_discards: self.entry_discards,
+        }
+    }
+
+    /// What the bridge shows of port `port`.
+    pub fn port_facts(&self, port: u16) -> PortFacts
+        requires first { 1 ≤ port }
+        requires last { port ≤ port_count self.now }
+        ensures { result ≡ port_facts_of self.now port }
+    {
+        let at = port as usize - 1;
+        let config = self.config.ports[at];
+        let counters = self.counters[at];
+        let held = self.tree.facts(port);
+        PortFacts {
+            ifindex: config.ifindex,
+            on: self.is_on(port),
+            state: held.state,
+            role: held.role,
+            vector: held.vector,
+            forward_transitions: held.forward_transitions,
+            cost: config.cost_in_use(self.settings.get(Key::Port(port, PortKey::Cost))),
+            edge: held.edge,
+            point_to_point: config.is_point_to_point(
+                self.settings.get(Key::Port(port, PortKey::PointToPoint)),
+            ),
+            frames_in: counters.frames_in,
+            frames_out: counters.frames_out,
+            discards_in: counters.discards_in,
+        }
+    }
+
+    /// The learned addresses.
+    pub fn fdb(&self) -> &Fdb
+        ensures rows { result.now.rows ≡ self.now.learned }
+        ensures limit { result.now.limit ≡ MAX_LEARNED_ROWS }
+    {
+        &self.fdb
+    }
+
+    /// The value of a setting that there is, in the unit of its key.
+    pub fn get_setting(&self, key: Key) -> u32
+        requires { HasKey self.now.settings key }
+        ensures value { result ≡ get self.now.settings key }
+        ensures in_range { IsInRange key result }
+    {
+        self.settings.get(key)
+    }
+
+    /// Gives a setting that there is a value in its range, and answers the one before. It takes effect by `settle`.
+    pub fn put_setting(&mut self, key: Key, value: u32) -> u32
+        requires key { HasKey self.old.settings key }
+        requires value { IsInRange key value }
+        ensures before { result ≡ get self.old.settings key }
+        ensures after { self.new ≡ set_bridge key value self.old }
+        ensures ports { port_count self.new ≡ port_count self.old }
+    {
+        self.settings.put(key, value)
+    }
+
+    /// A frame comes by port `port`. Where the port is off nothing changes and nothing goes out. A BPDU goes to the spanning tree;
+    /// the source of any other frame is learned, and the frame goes out by the ports that lead to its destination. Only the growth
+    /// for a new learned row takes memory: where that is refused the frame is forwarded all the same, and noted in `no_room`.
+    pub fn frame(&mut self, port: u16, frame: &FrameIn) -> Forwarding
+        requires first { 1 ≤ port }
+        requires last { port ≤ port_count self.old }
+        ensures step { self.new ≡ (framed self.old port frame.now result.no_room).bridge }
+        ensures egress { result.egress.items ≡ (framed self.old port frame.now result.no_room).egress }
+        ensures bpdus { result.bpdus.items ≡ (framed self.old port frame.now result.no_room).bpdus }
+        ensures note { result.no_room ≡ true → MayLackMemory self.old port frame.now }
+        ensures ports { port_count self.new ≡ port_count self.old }
+    {
+        take_frame(self, port, frame)
+    }
+
+    /// One second passes: learned rows age, and then the spanning tree's tick. It answers what each port sends.
+    pub fn tick(&mut self) -> Bpdus
+        ensures step { self.new ≡ ticked_bridge self.old }
+        ensures bpdus { result.items ≡ (tick_of self.old).bpdus }
+        ensures ports { port_count self.new ≡ port_count self.old }
+        ensures each { length result.items ≡ port_count self.old }
+    {
+        self.fdb
+            .age(self.settings.get(Key::Bridge(BridgeKey::Aging)));
+        let outcome = self.tree.tick(&self.settings);
+        follow(&mut self.fdb, self.counters.as_mut_slice(), outcome)
+    }
+
+    /// The link of port `port` is up, or down. It answers what each port sends.
+    pub fn link(&mut self, port: u16, up: bool) -> Bpdus
+        requires first { 1 ≤ port }
+        requires last { port ≤ port_count self.old }
+        ensures step { self.new ≡ linked_bridge port up self.old }
+        ensures bpdus { result.items ≡ (link_of port up self.old).bpdus }
+        ensures ports { port_count self.new ≡ port_count self.old }
+        ensures each { length result.items ≡ port_count self.old }
+    {
+        let outcome = self.tree.link(port, up, &self.settings);
+        follow(&mut self.fdb, self.counters.as_mut_slice(), outcome)
+    }
+
+    /// Settles changed settings, and spends protocol migration checks. It answers what each port sends.
+    pub fn settle(&mut self) -> Bpdus
+        ensures step { self.new ≡ settled_bridge self.old }
+        ensures bpdus { result.items ≡ (settling_of self.old).bpdus }
+        ensures ports { port_count self.new ≡ port_count self.old }
+        ensures each { length result.items ≡ port_count self.old }
+    {
+        let outcome = self.tree.settle(&mut self.settings);
+        follow(&mut self.fdb, self.counters.as_mut_slice(), outcome)
+    }
+
+    fn is_on(&self, port: u16) -> bool
+        requires first { 1 ≤ port }
+        requires last { port ≤ port_count self.now }
+        ensures { result ≡ is_on self.now port }
+    {
+        is_enabled(&self.settings, port) && self.tree.facts(port).link
+    }
+
+    // One more frame in.
+    fn receive(&mut self, port: u16)
+        requires first { 1 ≤ port }
+        requires last { port ≤ port_count self.old }
+        ensures step { self.new ≡ received port self.old }
+        ensures ports { port_count self.new ≡ port_count self.old }
+    {
+        self.counters[port as usize - 1].receive();
+    }
+
+    // Learns the source where it is to be learned. Whether its growth was refused.
+    fn learn(&mut self, port: u16, frame: &FrameIn) -> bool
+        requires first { 1 ≤ port }
+        requires last { port ≤ port_count self.old }
+        ensures step { self.new ≡ learned_from port frame.now result self.old }
+        ensures note { result ≡ true → MayLackMemory self.old port frame.now }
+        ensures ports { port_count self.new ≡ port_count self.old }
+    {
+        let learnt = learn_from(&mut self.fdb, self.tree.state(port), port, frame);
+        self.entry_discards = count_discards(self.entry_discards, learnt);
+        lacks_memory(learnt)
+    }
+
+    // Sends a frame out, and answers the ports by which it goes.
+    fn forward(&mut self, port: u16, destination: Mac) -> ArrayVec<u16, MAX_PORTS>
+        requires first { 1 ≤ port }
+        requires last { port ≤ port_count self.old }
+        ensures step { self.new ≡ forwarded port destination self.old }
+        ensures egress { result.items ≡ egress_of self.old port destination }
+        ensures ports { port_count self.new ≡ port_count self.old }
+    {
+        let state = self.tree.state(port);
+        let way = find_way(&self.fdb, self.config.address, state, destination);
+        let counters = self.counters.as_mut_slice();
+        let egress = send_out(way, port, &self.tree, counters);
+        counters[port as usize - 1].discard(egress.is_empty());
+        egress
+    }
+
+    // A BPDU comes by a port.
+    fn hear(&mut self, port: u16, bpdu: &Bpdu) -> Bpdus
+        requires first { 1 ≤ port }
+        requires last { port ≤ port_count self.old }
+        ensures step { self.new ≡ stepped (arrival_of port bpdu.now self.old) self.old }
+        ensures bpdus { result.items ≡ (arrival_of port bpdu.now self.old).bpdus }
+        ensures ports { port_count self.new ≡ port_count self.old }
+        ensures each { length result.items ≡ port_count self.old }
+    {
+        let outcome = self.tree.on_bpdu(port, bpdu, &self.settings);
+        follow(&mut self.fdb, self.counters.as_mut_slice(), outcome)
+    }
+}
+
+fn open(alloc: Global, address: Mac, ports: &[PortConfig]) -> Bridge
+    requires least { 1 ≤ length ports.now }
+    requires most { length ports.now ≤ 32 }
+    ensures opened { result ≡ opening_bridge address ports.now }
+    ensures ports { port_count result ≡ length ports.now }
+{
+    let config = BridgeConfig {
+        address,
+        ports: opening::copied(ports),
+    };
+    let tree = Rstp::new(&config);
+    Bridge {
+        config,
+        settings: Settings::new(ports.len()),
+        tree,
+        fdb: Fdb::new(alloc, MAX_LEARNED_ROWS),
+        entry_discards: 0,
+        counters: opening::zero_counters(ports.len()),
+    }
+}
+
+// What follows a step of the spanning tree: the learned rows of the flushed ports go, and each BPDU is a frame out of its port.
+fn follow(fdb: &mut Fdb, counters: &mut [PortCounters], outcome: Outcome) -> Bpdus
+    requires { length outcome.bpdus.items ≡ length counters.old }
+    ensures fdb { fdb.new ≡ record fdb.old { rows = without outcome.flushed.items fdb.old.rows } }
+    ensures counters { counters.new ≡ sent_where (has_bpdu outcome.bpdus.items) counters.old }
+    ensures bpdus { result.items ≡ outcome.bpdus.items }
+{
+    let Outcome { bpdus, flushed } = outcome;
+    flush_ports(fdb, flushed.as_slice());
+    count_bpdus(bpdus.as_slice(), counters);
+    bpdus
+}
+
+fn take_frame(bridge: &mut Bridge, port: u16, frame: &FrameIn) -> Forwarding
+    requires first { 1 ≤ port }
+    requires last { port ≤ port_count bridge.old }
+    ensures step { bridge.new ≡ (framed bridge.old port frame.now result.no_room).bridge }
+    ensures egress { result.egress.items ≡ (framed bridge.old port frame.now result.no_room).egress }
+    ensures bpdus { result.bpdus.items ≡ (framed bridge.old port frame.now result.no_room).bpdus }
+    ensures note { result.no_room ≡ true → MayLackMemory bridge.old port frame.now }
+    ensures ports { port_count bridge.new ≡ port_count bridge.old }
+{
+    if bridge.is_on(port) {
+        bridge.receive(port);
+        take_received(bridge, port, frame)
+    } else {
+        Forwarding {
+            egress: ArrayVec::new(),
+            bpdus: opening::no_bpdus(bridge.ports()),
+            no_room: false,
+        }
+    }
+}
+
+// A frame that was received.
+fn take_received(bridge: &mut Bridge, port: u16, frame: &FrameIn) -> Forwarding
+    requires first { 1 ≤ port }
+    requires last { port ≤ port_count bridge.old }
+    ensures step { bridge.new ≡ (taken port frame.now frame.now.bpdu result.no_room bridge.old).bridge }
+    ensures egress { result.egress.items ≡ (taken port frame.now frame.now.bpdu result.no_room bridge.old).egress }
+    ensures bpdus { result.bpdus.items ≡ (taken port frame.now frame.now.bpdu result.no_room bridge.old).bpdus }
+    ensures note { result.no_room ≡ true → MayLackMemory bridge.old port frame.now }
+    ensures ports { port_count bridge.new ≡ port_count bridge.old }
+{
+    match &frame.bpdu {
+        Some(bpdu) => Forwarding {
+            egress: ArrayVec::new(),
+            bpdus: bridge.hear(port, bpdu),
+            no_room: false,
+        },
+        None => pass_on(bridge, port, frame),
+    }
+}
+
+// A frame that is no BPDU.
+fn pass_on(bridge: &mut Bridge, port: u16, frame: &FrameIn) -> Forwarding
+    requires first { 1 ≤ port }
+    requires last { port ≤ port_count bridge.old }
+    ensures step { bridge.new ≡ (passed port frame.now result.no_room bridge.old).bridge }
+    ensures egress { result.egress.items ≡ (passed port frame.now result.no_room bridge.old).egress }
+    ensures bpdus { result.bpdus.items ≡ (passed port frame.now result.no_room bridge.old).bpdus }
+    ensures note { result.no_room ≡ true → MayLackMemory bridge.old port frame.now }
+    ensures ports { port_count bridge.new ≡ port_count bridge.old }
+{
+    let no_room = bridge.learn(port, frame);
+    let egress = bridge.forward(port, frame.destination);
+    Forwarding {
+        egress,
+        bpdus: opening::no_bpdus(bridge.ports()),
+        no_room,
+    }
+}

@@ -1,0 +1,48 @@
+//! The parts of a bridge at first.
+ghost use Rattle.std.specs.Prelude.{◌≡◌, ◌≤◌, length, replicate, None};
+ghost use Rattle.bridge_core.specs.Bridge.{no_counters};
+
+use crate::counters::PortCounters;
+use arrayvec::ArrayVec;
+use frame_core::Bpdu;
+use rstp_core::{MAX_PORTS, PortConfig};
+
+/// The same list of configurations.
+pub fn copied(ports: &[PortConfig]) -> ArrayVec<PortConfig, MAX_PORTS>
+    requires { length ports.now ≤ 32 }
+    ensures { result.items ≡ ports.now }
+{
+    let mut copies = ArrayVec::new();
+    for port in ports {
+        copies.push(*port);
+    }
+    copies
+}
+
+/// Counters at 0.
+pub fn zero_counters(count: usize) -> ArrayVec<PortCounters, MAX_PORTS>
+    requires { count ≤ 32 }
+    ensures { result.items ≡ replicate count no_counters }
+{
+    let mut counters = ArrayVec::new();
+    for _ in 0..count {
+        counters.push(PortCounters {
+            frames_in: 0,
+            frames_out: 0,
+            discards_in: 0,
+        });
+    }
+    counters
+}
+
+/// No BPDU on any port.
+pub fn no_bpdus(count: usize) -> ArrayVec<Option<Bpdu>, MAX_PORTS>
+    requires { count ≤ 32 }
+    ensures { result.items ≡ replicate count None }
+{
+    let mut bpdus = ArrayVec::new();
+    for _ in 0..count {
+        bpdus.push(None);
+    }
+    bpdus
+}

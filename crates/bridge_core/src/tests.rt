@@ -1,0 +1,251 @@
+// Rows worked by hand from IEEE 802.1D-2004 clauses 7, 9 and 17.
+ghost use Rattle.std.specs.Prelude.{◌≡◌, ◌≤◌, length, IfOk};
+ghost use Rattle.bridge_core.specs.Bridge.{port_count};
+
+use crate::{Bpdus, Bridge, BridgeFault, Forwarding};
+use frame_core::{Mac, read_frame, write_bpdu};
+use rstp_core::{Key, PortConfig, PortKey, State};
+use std::alloc::Global;
+use std::process::Abort;
+use std::test::Fail;
+
+const OWN: Mac = Mac([0x02, 0x00, 0x00, 0x00, 0x00, 0x0A]);
+
+const PORT: PortConfig = PortConfig {
+    ifindex: 1,
+    speed: 1_000,
+    full: true,
+};
+
+// To everybody, from station 1.
+const TO_ALL: [u8; 14] = [
+    0xFF, 0xFF, 0xFF, 0xFF, 0xFF, 0xFF, 0x02, 0x00, 0x00, 0x00, 0x01, 0x01, 0x08, 0x00,
+];
+
+// To station 1, from station 2.
+const TO_1: [u8; 14] = [
+    0x02, 0x00, 0x00, 0x00, 0x01, 0x01, 0x02, 0x00, 0x00, 0x00, 0x02, 0x02, 0x08, 0x00,
+];
+
+// To station 1, from station 3.
+const TO_1_FROM_3: [u8; 14] = [
+    0x02, 0x00, 0x00, 0x00, 0x01, 0x01, 0x02, 0x00, 0x00, 0x00, 0x03, 0x03, 0x08, 0x00,
+];
+
+// To an address that no bridge forwards.
+const RESERVED: [u8; 14] = [
+    0x01, 0x80, 0xC2, 0x00, 0x00, 0x03, 0x02, 0x00, 0x00, 0x00, 0x03, 0x03, 0x08, 0x00,
+];
+
+// The first message of a port whose link comes up: flags 0E.
+const PROPOSES: [u8; 60] = [
+    0x01, 0x80, 0xC2, 0x00, 0x00, 0x00, 0x02, 0x00, 0x00, 0x00, 0x00, 0x0A, 0x00, 0x27, 0x42, 0x42,
+    0x03, 0x00, 0x00, 0x02, 0x02, 0x0E, 0x80, 0x00, 0x02, 0x00, 0x00, 0x00, 0x00, 0x0A, 0x00, 0x00,
+    0x00, 0x00, 0x80, 0x00, 0x02, 0x00, 0x00, 0x00, 0x00, 0x0A, 0x80, 0x01, 0x00, 0x00, 0x14, 0x00,
+    0x02, 0x00, 0x0F, 0x00, 0x00, 0x00, 0x00, 0x00, 0x00, 0x00, 0x00, 0x00,
+];
+
+// A proposal of a bridge with a better identifier: flags 0E.
+const BETTER: [u8; 60] = [
+    0x01, 0x80, 0xC2, 0x00, 0x00, 0x00, 0x02, 0x00, 0x00, 0x00, 0x00, 0x01, 0x00, 0x27, 0x42, 0x42,
+    0x03, 0x00, 0x00, 0x02, 0x02, 0x0E, 0x10, 0x00, 0x02, 0x00, 0x00, 0x00, 0x00, 0x01, 0x00, 0x00,
+    0x00, 0x00, 0x10, 0x00, 0x02, 0x00, 0x00, 0x00, 0x00, 0x01, 0x80, 0x02, 0x00, 0x00, 0x14, 0x00,
+    0x02, 0x00, 0x0F, 0x00, 0x00, 0x00, 0x00, 0x00, 0x00, 0x00, 0x00, 0x00,
+];
+
+// The answer of the root port: flags 79.
+const AGREES: [u8; 60] = [
+    0x01, 0x80, 0xC2, 0x00, 0x00, 0x00, 0x02, 0x00, 0x00, 0x00, 0x00, 0x0A, 0x00, 0x27, 0x42, 0x42,
+    0x03, 0x00, 0x00, 0x02, 0x02, 0x79, 0x10, 0x00, 0x02, 0x00, 0x00, 0x00, 0x00, 0x01, 0x00, 0x00,
+    0x4E, 0x20, 0x80, 0x00, 0x02, 0x00, 0x00, 0x00, 0x00, 0x0A, 0x80, 0x01, 0x01, 0x00, 0x14, 0x00,
+    0x02, 0x00, 0x0F, 0x00, 0x00, 0x00, 0x00, 0x00, 0x00, 0x00, 0x00, 0x00,
+];
+
+// A bridge of two ports with all links down.
+fn opened(alloc: Global) -> Result<Bridge, BridgeFault>
+    ensures { IfOk result (λ b. port_count b ≡ 2) }
+{
+    Bridge::new(alloc, OWN, &[PORT, PORT])
+}
+
+fn set_edge(bridge: &mut Bridge, port: u16)
+    ensures { port_count bridge.new ≡ port_count bridge.old }
+{
+    if port >= 1 && usize::from(port) <= bridge.ports() {
+        bridge.put_setting(Key::Port(port, PortKey::Edge), 1);
+    }
+}
+
+// A bridge of two ports at the edge, with both links up.
+fn running(alloc: Global) -> Result<Bridge, BridgeFault>
+    ensures { IfOk result (λ b. port_count b ≡ 2) }
+{
+    let mut bridge = opened(alloc)?;
+    set_edge(&mut bridge, 1);
+    set_edge(&mut bridge, 2);
+    let _ = bridge.settle();
+    let _ = bridge.link(1, true);
+    let _ = bridge.link(2, true);
+    Ok(bridge)
+}
+
+fn pass(bridge: &mut Bridge, seconds: u32)
+    ensures { port_count bridge.new ≡ port_count bridge.old }
+{
+    for _ in 0..seconds {
+        let _ = bridge.tick();
+    }
+}
+
+// The octets of a frame come by a port.
+fn come(bridge: &mut Bridge, port: u16, octets: &[u8]) -> Result<Forwarding, Fail>
+    requires first { 1 ≤ port }
+    requires last { port ≤ port_count bridge.old }
+    ensures { port_count bridge.new ≡ port_count bridge.old }
+{
+    let frame = read_frame(octets)?;
+    Ok(bridge.frame(port, &frame))
+}
+
+// The frame of what port `at + 1` sends, or zeros.
+fn sent(bpdus: &Bpdus, at: usize) -> [u8; 60] {
+    let mut frame = [0; 60];
+    if let Some(Some(bpdu)) = bpdus.as_slice().get(at) {
+        write_bpdu(bpdu, OWN, &mut frame);
+    }
+    frame
+}
+
+fn assert_goes(rt: &impl Abort, forwarding: &Forwarding, ports: &[u16]) {
+    assert_eq!(rt; forwarding.egress.as_slice(), ports);
+    assert!(rt; !forwarding.no_room);
+}
+
+#[test]
+fn frames_go_where_their_destination_is(rt: HostRuntime) -> Result<(), Fail> {
+    let mut bridge = running(rt.alloc())?;
+    assert_goes(&rt, &come(&mut bridge, 1, &TO_ALL)?, &[2]);
+    assert_goes(&rt, &come(&mut bridge, 2, &TO_1)?, &[1]);
+    assert_goes(&rt, &come(&mut bridge, 1, &TO_1_FROM_3)?, &[]);
+    Ok(())
+}
+
+#[test]
+fn frames_are_counted(rt: HostRuntime) -> Result<(), Fail> {
+    let mut bridge = running(rt.alloc())?;
+    let _ = come(&mut bridge, 1, &TO_ALL)?;
+    let _ = come(&mut bridge, 2, &TO_1)?;
+    let _ = come(&mut bridge, 1, &TO_1_FROM_3)?;
+    assert_goes(&rt, &come(&mut bridge, 1, &RESERVED)?, &[]);
+    let facts = bridge.port_facts(1);
+    assert_eq!(rt; facts.frames_in, 3);
+    assert_eq!(rt; facts.discards_in, 2);
+    // The frame to station 1, and the BPDU of the link.
+    assert_eq!(rt; facts.frames_out, 2);
+    Ok(())
+}
+
+#[test]
+fn learned_addresses_age(rt: HostRuntime) -> Result<(), Fail> {
+    let mut bridge = running(rt.alloc())?;
+    let _ = come(&mut bridge, 1, &TO_ALL)?;
+    assert_eq!(rt; bridge.fdb().len(), 1);
+    pass(&mut bridge, 299);
+    assert_eq!(rt; bridge.fdb().len(), 1);
+    pass(&mut bridge, 1);
+    assert_eq!(rt; bridge.fdb().len(), 0);
+    Ok(())
+}
+
+// A frame to everybody from the station of this number.
+fn from_station(number: u16) -> [u8; 14] {
+    let [high, low] = number.to_be_bytes();
+    [
+        0xFF, 0xFF, 0xFF, 0xFF, 0xFF, 0xFF, 0x02, 0x00, 0x00, 0x00, high, low, 0x08, 0x00,
+    ]
+}
+
+// Learns so many stations by port 1.
+fn learn_stations(rt: &impl Abort, bridge: &mut Bridge, count: u16) -> Result<(), Fail>
+    requires { port_count bridge.old ≡ 2 }
+    ensures { port_count bridge.new ≡ 2 }
+{
+    for number in 0..count {
+        let forwarding = come(bridge, 1, &from_station(number))?;
+        assert!(rt; !forwarding.no_room);
+    }
+    Ok(())
+}
+
+#[test]
+fn a_full_table_forwards_all_the_same(rt: HostRuntime) -> Result<(), Fail> {
+    let mut bridge = running(rt.alloc())?;
+    learn_stations(&rt, &mut bridge, 1_024)?;
+    assert_eq!(rt; bridge.facts().entry_discards, 0);
+    assert_goes(&rt, &come(&mut bridge, 1, &from_station(1_024))?, &[2]);
+    assert_eq!(rt; bridge.fdb().len(), 1_024);
+    assert_eq!(rt; bridge.facts().entry_discards, 1);
+    Ok(())
+}
+
+#[test]
+fn a_better_bridge_becomes_root(rt: HostRuntime) -> Result<(), Fail> {
+    let mut bridge = opened(rt.alloc())?;
+    let up = bridge.link(1, true);
+    assert_eq!(rt; sent(&up, 0), PROPOSES);
+    let answer = come(&mut bridge, 1, &BETTER)?;
+    assert_eq!(rt; sent(&answer.bpdus, 0), AGREES);
+    assert_eq!(rt; answer.egress.len(), 0);
+    Ok(())
+}
+
+#[test]
+fn a_root_is_shown_and_forgotten(rt: HostRuntime) -> Result<(), Fail> {
+    let mut bridge = opened(rt.alloc())?;
+    let _ = bridge.link(1, true);
+    let _ = come(&mut bridge, 1, &BETTER)?;
+    let facts = bridge.facts();
+    assert_eq!(rt;
+        (facts.root_port, facts.root_cost, facts.topology_changes),
+        (1, 20_000, 1)
+    );
+    assert_eq!(rt; bridge.port_facts(1).state, State::Forwarding);
+    pass(&mut bridge, 6);
+    assert_eq!(rt; bridge.facts().root_port, 0);
+    Ok(())
+}
+
+#[test]
+fn ports_that_are_off_take_nothing(rt: HostRuntime) -> Result<(), Fail> {
+    let mut bridge = opened(rt.alloc())?;
+    assert_goes(&rt, &come(&mut bridge, 1, &TO_ALL)?, &[]);
+    let facts = bridge.port_facts(1);
+    assert_eq!(rt;
+        (facts.on, facts.frames_in, facts.discards_in),
+        (false, 0, 0)
+    );
+    assert_eq!(rt; bridge.fdb().len(), 0);
+    Ok(())
+}
+
+#[test]
+fn the_first_fault_is_named(rt: HostRuntime) {
+    let group = Mac([0x01, 0x00, 0x00, 0x00, 0x00, 0x00]);
+    let slow = PortConfig { speed: 11, ..PORT };
+    assert_eq!(rt;
+        Bridge::new(rt.alloc(), group, &[]).err(),
+        Some(BridgeFault::BadPorts)
+    );
+    assert_eq!(rt;
+        Bridge::new(rt.alloc(), group, &[PORT; 33]).err(),
+        Some(BridgeFault::BadPorts)
+    );
+    assert_eq!(rt;
+        Bridge::new(rt.alloc(), group, &[slow]).err(),
+        Some(BridgeFault::BadAddress)
+    );
+    assert_eq!(rt;
+        Bridge::new(rt.alloc(), OWN, &[PORT, slow]).err(),
+        Some(BridgeFault::BadSpeed)
+    );
+}
