@@ -1,17 +1,36 @@
 -- What a line of a script asks for.
-use Rattle.std.specs.Prelude.{ℕ, Bool, true, false, codes, if◌then◌else◌, List, Option, Some, None, option_map}
+use Rattle.std.specs.Prelude.{ℕ, zero, suc, ◌≤◌, Bool, true, false, codes, if◌then◌else◌, List, Option, Some, None, option_map, option_and_then}
 use Rattle.std.specs.Str.{bytes_eq}
-use Rattle.script_core.specs.Words.{split_word, octets_of}
+use Rattle.script_core.specs.Words.{split_word, number_of, octets_of}
 
 pub data Command : Type 0 where
   -- `request HEX`: answer a datagram
   request : (datagram : List ℕ) → Command
+  -- `frame P HEX`: a frame comes in by a port
+  frame : (port : ℕ) (octets : List ℕ) → Command
+  -- `tick N`: so many seconds pass
+  tick : (seconds : ℕ) → Command
+  -- `link P up`, `link P down`: the link of a port
+  link : (port : ℕ) (up : Bool) → Command
   -- `policy`: the lines up to `end` are a policy
   policy : Command
   -- `audit on`, `audit off`: whether each request's audit is told
   audit : (on : Bool) → Command
   -- `counts`: tell what was dropped
   counts : Command
+
+-- the most seconds that one line lets pass
+abbrev pub most_seconds : ℕ
+most_seconds = 100000
+
+abbrev pub positive : Option ℕ → Option ℕ
+positive (Some (suc n)) = Some (suc n)
+positive (Some zero) = None
+positive None = None
+
+-- a number from 1 up to this
+abbrev pub counting_of : ℕ → List ℕ → Option ℕ
+counting_of most word = positive (number_of most word)
 
 -- `on` or `off`
 abbrev pub switch_of : List ℕ → Option Bool
@@ -20,10 +39,27 @@ switch_of word =
     else if bytes_eq word (codes "off") then Some false
     else None
 
+-- `up` or `down`
+abbrev pub direction_of : List ℕ → Option Bool
+direction_of word =
+    if bytes_eq word (codes "up") then Some true
+    else if bytes_eq word (codes "down") then Some false
+    else None
+
+-- a port, and what follows the space behind it
+abbrev pub frame_with : ℕ → List ℕ × List ℕ → Option Command
+frame_with ports p = option_and_then (λ port. option_map (λ octets. frame port octets) (octets_of p.1)) (counting_of ports p.0)
+
+abbrev pub link_with : ℕ → List ℕ × List ℕ → Option Command
+link_with ports p = option_and_then (λ port. option_map (λ up. link port up) (direction_of p.1)) (counting_of ports p.0)
+
 -- a word, and what follows the space behind it
-abbrev pub command_with : List ℕ × List ℕ → Option Command
-command_with p =
+abbrev pub command_with : ℕ → List ℕ × List ℕ → Option Command
+command_with ports p =
     if bytes_eq p.0 (codes "request") then option_map request (octets_of p.1)
+    else if bytes_eq p.0 (codes "frame") then option_and_then (frame_with ports) (split_word p.1)
+    else if bytes_eq p.0 (codes "tick") then option_map tick (counting_of most_seconds p.1)
+    else if bytes_eq p.0 (codes "link") then option_and_then (link_with ports) (split_word p.1)
     else if bytes_eq p.0 (codes "audit") then option_map audit (switch_of p.1)
     else None
 
@@ -34,10 +70,24 @@ command_alone line =
     else if bytes_eq line (codes "counts") then Some counts
     else None
 
-abbrev pub command_in : List ℕ → Option (List ℕ × List ℕ) → Option Command
-command_in line (Some p) = command_with p
-command_in line None = command_alone line
+abbrev pub command_in : ℕ → List ℕ → Option (List ℕ × List ℕ) → Option Command
+command_in ports line (Some p) = command_with ports p
+command_in ports line None = command_alone line
 
--- the command that a line is, if it is one
-unfoldable pub command_of : List ℕ → Option Command
-command_of line = command_in line (split_word line)
+-- the command that a line is, where there are so many ports, if it is one
+unfoldable pub command_of : ℕ → List ℕ → Option Command
+command_of ports line = command_in ports line (split_word line)
+
+-- the port that a command names is one of so many
+abbrev pub IsPortOf : ℕ → ℕ → Type 0
+IsPortOf ports port = (1 ≤ port) × (port ≤ ports)
+
+abbrev pub NamesPortOf : ℕ → Option Command → Type 0
+NamesPortOf ports None = Unit {0}
+NamesPortOf ports (Some (request datagram)) = Unit {0}
+NamesPortOf ports (Some (frame port octets)) = IsPortOf ports port
+NamesPortOf ports (Some (tick seconds)) = Unit {0}
+NamesPortOf ports (Some (link port up)) = IsPortOf ports port
+NamesPortOf ports (Some policy) = Unit {0}
+NamesPortOf ports (Some (audit on)) = Unit {0}
+NamesPortOf ports (Some counts) = Unit {0}

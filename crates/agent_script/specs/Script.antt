@@ -5,7 +5,10 @@ use Rattle.std.specs.Str.{bytes_eq}
 use Rattle.community_core.specs.Communities.{PolicyTables}
 use Rattle.community_core.specs.Texts.{policy_in}
 use Rattle.agent_core.specs.World.{World}
-use Rattle.agent_script.specs.Commands.{Command, request, policy, audit, counts, command_of}
+use Rattle.bridge_core.specs.Bridge.{port_count}
+use Rattle.bridge_core.specs.Events.{linked_bridge}
+use Rattle.agent_script.specs.BridgeLines.{frame_text, after_frame, ticks_text, after_ticks, link_text}
+use Rattle.agent_script.specs.Commands.{Command, request, frame, tick, link, policy, audit, counts, command_of}
 use Rattle.agent_script.specs.Requests.{datagram_text, after_datagram}
 use Rattle.agent_script.specs.State.{Agent}
 use Rattle.agent_script.specs.declared.drops.Drops.{Drops}
@@ -27,6 +30,9 @@ counts_text drops world = codes "counts" ++ flat_map spaced (counts_of drops wor
 abbrev pub command_text : Agent → Option Command → List ℕ
 command_text agent None = codes "badline\n"
 command_text agent (Some (request datagram)) = datagram_text agent.is_auditing agent.world datagram
+command_text agent (Some (frame port octets)) = frame_text agent.bridge port octets
+command_text agent (Some (tick seconds)) = ticks_text seconds agent.bridge
+command_text agent (Some (link port up)) = link_text port up agent.bridge
 command_text agent (Some policy) = []
 command_text agent (Some (audit on)) = []
 command_text agent (Some counts) = counts_text agent.drops agent.world
@@ -35,6 +41,9 @@ command_text agent (Some counts) = counts_text agent.drops agent.world
 abbrev pub after_command : Agent → Option Command → Agent
 after_command agent None = agent
 after_command agent (Some (request datagram)) = after_datagram agent datagram
+after_command agent (Some (frame port octets)) = record agent { bridge = after_frame agent.bridge port octets }
+after_command agent (Some (tick seconds)) = record agent { bridge = after_ticks seconds agent.bridge }
+after_command agent (Some (link port up)) = record agent { bridge = linked_bridge port up agent.bridge }
 after_command agent (Some policy) = record agent { policy_lines = Some [] }
 after_command agent (Some (audit on)) = record agent { is_auditing = on }
 after_command agent (Some counts) = agent
@@ -61,7 +70,7 @@ after_policy_line agent lines line =
 -- what is said to a line, inside a policy or outside
 abbrev pub text_in : Agent → Option (List ℕ) → List ℕ → List ℕ
 text_in agent (Some lines) line = policy_line_text lines line
-text_in agent None line = command_text agent (command_of line)
+text_in agent None line = command_text agent (command_of (port_count agent.bridge) line)
 
 unfoldable pub line_text : Agent → List ℕ → List ℕ
 line_text agent line = text_in agent agent.policy_lines line
@@ -69,7 +78,7 @@ line_text agent line = text_in agent agent.policy_lines line
 -- the agent after it
 abbrev pub after_in : Agent → Option (List ℕ) → List ℕ → Agent
 after_in agent (Some lines) line = after_policy_line agent lines line
-after_in agent None line = after_command agent (command_of line)
+after_in agent None line = after_command agent (command_of (port_count agent.bridge) line)
 
 unfoldable pub after_line : Agent → List ℕ → Agent
 after_line agent line = after_in agent agent.policy_lines line

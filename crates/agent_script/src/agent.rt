@@ -3,13 +3,17 @@ ghost use Rattle.std.specs.Prelude.{◌≡◌, ◌++◌, IsTrue, IfOk, OnOk, Som
 ghost use Rattle.agent_script.specs.State.{Agent as State, opening_agent};
 ghost use Rattle.agent_script.specs.Requests.{datagram_text, after_datagram};
 ghost use Rattle.agent_script.specs.CommandViews.{command_view};
+ghost use Rattle.agent_script.specs.Commands.{NamesPortOf};
+ghost use Rattle.bridge_core.specs.Bridge.{port_count};
 ghost use Rattle.agent_script.specs.Script.{command_text, after_command, policy_text, with_policy, policy_line_text, after_policy_line, line_text, after_line, end_text};
 ghost use Rattle.community_core.specs.Texts.{policy_in};
 
+use crate::bridging::{say_frame, say_link, say_ticks};
 use crate::commands::{Command, read_command};
 use crate::drops::Drops;
 use crate::saying::{cause_name, say_counts, say_drop, say_request};
 use agent_core::{Buffer, PlainWorld};
+use bridge_core::Bridge;
 use community_core::{Policy, policy_in};
 use message_core::{DropCause, decode};
 use std::alloc::{AllocError, Global};
@@ -19,6 +23,7 @@ use std::marker::Model;
 #[derive(Drop)]
 pub struct Agent {
     world: PlainWorld,
+    bridge: Bridge,
     buffer: Buffer,
     is_auditing: bool,
     drops: Drops,
@@ -30,6 +35,7 @@ impl Model for Agent {
 
     ghost view = { λ a. record {
       world = a.world;
+      bridge = a.bridge;
       is_auditing = a.is_auditing;
       drops = a.drops;
       policy_lines = option_map (λ v. v.items) a.policy_lines;
@@ -37,12 +43,13 @@ impl Model for Agent {
 }
 
 impl Agent {
-    /// An agent over a world, at the start of a script.
-    pub fn new(world: PlainWorld) -> Agent
-        ensures { result ≡ opening_agent world }
+    /// An agent over a world, beside a bridge, at the start of a script.
+    pub fn new(world: PlainWorld, bridge: Bridge) -> Agent
+        ensures { result ≡ opening_agent world bridge }
     {
         Agent {
             world,
+            bridge,
             buffer: Buffer::new(),
             is_auditing: false,
             drops: Drops::none(),
@@ -64,7 +71,7 @@ impl Agent {
         match self.policy_lines.take() {
             Some(lines) => self.policy_line(alloc, lines, line, out),
             None => {
-                let command = read_command(alloc, line)?;
+                let command = read_command(alloc, self.bridge.ports(), line)?;
                 self.command(alloc, command, out)
             }
         }
@@ -88,13 +95,19 @@ impl Agent {
         command: Option<Command>,
         out: &mut Vec<u8>,
     ) -> Result<bool, AllocError>
-        requires { self.old.policy_lines ≡ None }
+        requires outside { self.old.policy_lines ≡ None }
+        requires ports { NamesPortOf (port_count self.old.bridge) (option_map command_view command) }
         ensures said { IfOk result (λ whole. IsTrue whole → out.new.items ≡ out.old.items ++ command_text self.old (option_map command_view command)) }
         ensures after { IfOk result (λ whole. IsTrue whole → self.new ≡ after_command self.old (option_map command_view command)) }
     {
         match command {
             None => out.extend_from_slice(b"badline\n")?,
             Some(Command::Request(datagram)) => return self.datagram(alloc, &datagram, out),
+            Some(Command::Frame(port, octets)) => {
+                return say_frame(&mut self.bridge, port, &octets, out);
+            }
+            Some(Command::Tick(seconds)) => say_ticks(&mut self.bridge, seconds, out)?,
+            Some(Command::Link(port, up)) => say_link(&mut self.bridge, port, up, out)?,
             Some(Command::Policy) => self.policy_lines = Some(Vec::new(alloc)),
             Some(Command::Audit(on)) => self.is_auditing = on,
             Some(Command::Counts) => say_counts(&self.drops, &self.world, out)?,

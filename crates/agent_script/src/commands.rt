@@ -1,17 +1,26 @@
 //! What a line of a script asks for.
-ghost use Rattle.std.specs.Prelude.{◌≡◌, IfOk, option_map};
-ghost use Rattle.agent_script.specs.Commands.{request, switch_of, command_with, command_alone, command_of};
+ghost use Rattle.std.specs.Prelude.{◌≡◌, ◌≤◌, ℕ, IfOk, IfSome, option_map, option_and_then};
+ghost use Rattle.agent_script.specs.Commands.{request, counting_of, switch_of, direction_of, IsPortOf, NamesPortOf, frame_with, link_with, command_with, command_alone, command_of, most_seconds};
 ghost use Rattle.agent_script.specs.CommandViews.{command_view};
-ghost use Rattle.script_core.specs.Words.{octets_of};
+ghost use Rattle.script_core.specs.Words.{split_word, octets_of};
 
-use script_core::words::{read_hex, split_word};
+use script_core::words::{read_hex, read_number, split_word};
 use std::alloc::{AllocError, Global};
+
+/// The most seconds that one line lets pass.
+const MOST_SECONDS: u32 = 100_000;
 
 /// What a line asks for.
 #[derive(Debug, Drop)]
 pub enum Command {
     /// `request HEX`: answer a datagram.
     Request(Vec<u8>),
+    /// `frame P HEX`: a frame comes in by a port.
+    Frame(u16, Vec<u8>),
+    /// `tick N`: so many seconds pass.
+    Tick(u32),
+    /// `link P up` or `link P down`: the link of a port.
+    Link(u16, bool),
     /// `policy`: the lines up to `end` are a policy.
     Policy,
     /// `audit on` or `audit off`: whether each request's audit is told.
@@ -20,20 +29,27 @@ pub enum Command {
     Counts,
 }
 
-/// Reads a line, which may be no command. Only memory can fail.
+/// Reads a line, which may be no command, where there are so many ports. Only memory can fail.
 #[tactic(auto, unfolding(crate::specs::Commands::command_of))]
-pub fn read_command(alloc: Global, line: &[u8]) -> Result<Option<Command>, AllocError>
-    ensures { IfOk result (λ c. option_map command_view c ≡ command_of line.now) }
+pub fn read_command(
+    alloc: Global,
+    ports: usize,
+    line: &[u8],
+) -> Result<Option<Command>, AllocError>
+    requires { ports ≤ 32 }
+    ensures command { IfOk result (λ c. option_map command_view c ≡ command_of ports line.now) }
+    ensures port { IfOk result (λ c. NamesPortOf ports (option_map command_view c)) }
 {
     match split_word(line) {
-        Some((word, rest)) => read_with(alloc, word, rest),
+        Some((word, rest)) => read_with(alloc, ports, word, rest),
         None => Ok(read_alone(line)),
     }
 }
 
 // A word alone.
 fn read_alone(line: &[u8]) -> Option<Command>
-    ensures { option_map command_view result ≡ command_alone line.now }
+    ensures command { option_map command_view result ≡ command_alone line.now }
+    ensures port { (ports : ℕ) → NamesPortOf ports (option_map command_view result) }
 {
     if line == b"policy".as_slice() {
         return Some(Command::Policy);
@@ -45,11 +61,27 @@ fn read_alone(line: &[u8]) -> Option<Command>
 }
 
 // A word, and what follows the space behind it.
-fn read_with(alloc: Global, word: &[u8], rest: &[u8]) -> Result<Option<Command>, AllocError>
-    ensures { IfOk result (λ c. option_map command_view c ≡ command_with (word.now, rest.now)) }
+fn read_with(
+    alloc: Global,
+    ports: usize,
+    word: &[u8],
+    rest: &[u8],
+) -> Result<Option<Command>, AllocError>
+    requires { ports ≤ 32 }
+    ensures command { IfOk result (λ c. option_map command_view c ≡ command_with ports (word.now, rest.now)) }
+    ensures port { IfOk result (λ c. NamesPortOf ports (option_map command_view c)) }
 {
     if word == b"request".as_slice() {
         return read_request(alloc, rest);
+    }
+    if word == b"frame".as_slice() {
+        return read_frame(alloc, ports, rest);
+    }
+    if word == b"tick".as_slice() {
+        return Ok(read_counting(rest, MOST_SECONDS).map(Command::Tick));
+    }
+    if word == b"link".as_slice() {
+        return Ok(read_link(ports, rest));
     }
     if word == b"audit".as_slice() {
         return Ok(read_switch(rest).map(Command::Audit));
@@ -59,11 +91,86 @@ fn read_with(alloc: Global, word: &[u8], rest: &[u8]) -> Result<Option<Command>,
 
 // The octets of a datagram.
 fn read_request(alloc: Global, text: &[u8]) -> Result<Option<Command>, AllocError>
-    ensures { IfOk result (λ c. option_map command_view c ≡ option_map request (octets_of text.now)) }
+    ensures command { IfOk result (λ c. option_map command_view c ≡ option_map request (octets_of text.now)) }
+    ensures port { (ports : ℕ) → IfOk result (λ c. NamesPortOf ports (option_map command_view c)) }
 {
     match read_hex(alloc, text)? {
         Some(datagram) => Ok(Some(Command::Request(datagram))),
         None => Ok(None),
+    }
+}
+
+// A port and the octets of a frame.
+fn read_frame(alloc: Global, ports: usize, text: &[u8]) -> Result<Option<Command>, AllocError>
+    requires { ports ≤ 32 }
+    ensures command { IfOk result (λ c. option_map command_view c ≡ option_and_then (frame_with ports) (split_word text.now)) }
+    ensures port { IfOk result (λ c. NamesPortOf ports (option_map command_view c)) }
+{
+    match split_word(text) {
+        Some((word, rest)) => read_frame_of(alloc, ports, word, rest),
+        None => Ok(None),
+    }
+}
+
+fn read_frame_of(
+    alloc: Global,
+    ports: usize,
+    word: &[u8],
+    rest: &[u8],
+) -> Result<Option<Command>, AllocError>
+    requires { ports ≤ 32 }
+    ensures command { IfOk result (λ c. option_map command_view c ≡ frame_with ports (word.now, rest.now)) }
+    ensures port { IfOk result (λ c. NamesPortOf ports (option_map command_view c)) }
+{
+    let Some(port) = read_port(ports, word) else {
+        return Ok(None);
+    };
+    match read_hex(alloc, rest)? {
+        Some(octets) => Ok(Some(Command::Frame(port, octets))),
+        None => Ok(None),
+    }
+}
+
+// A port and the direction of its link.
+fn read_link(ports: usize, text: &[u8]) -> Option<Command>
+    requires { ports ≤ 32 }
+    ensures command { option_map command_view result ≡ option_and_then (link_with ports) (split_word text.now) }
+    ensures port { NamesPortOf ports (option_map command_view result) }
+{
+    match split_word(text) {
+        Some((word, rest)) => read_link_of(ports, word, rest),
+        None => None,
+    }
+}
+
+fn read_link_of(ports: usize, word: &[u8], rest: &[u8]) -> Option<Command>
+    requires { ports ≤ 32 }
+    ensures command { option_map command_view result ≡ link_with ports (word.now, rest.now) }
+    ensures port { NamesPortOf ports (option_map command_view result) }
+{
+    let port = read_port(ports, word)?;
+    let up = read_direction(rest)?;
+    Some(Command::Link(port, up))
+}
+
+// The number of one of so many ports.
+fn read_port(ports: usize, word: &[u8]) -> Option<u16>
+    requires { ports ≤ 32 }
+    ensures value { result ≡ counting_of ports word.now }
+    ensures port { IfSome result (λ n. IsPortOf ports n) }
+{
+    let port = read_counting(word, ports as u32)?;
+    Some(port as u16)
+}
+
+// A number from 1 up to this.
+fn read_counting(word: &[u8], most: u32) -> Option<u32>
+    ensures value { result ≡ counting_of most word.now }
+    ensures range { IfSome result (λ n. IsPortOf most n) }
+{
+    match read_number(word, most) {
+        Some(0) => None,
+        number => number,
     }
 }
 
@@ -75,6 +182,19 @@ fn read_switch(word: &[u8]) -> Option<bool>
         return Some(true);
     }
     if word == b"off".as_slice() {
+        return Some(false);
+    }
+    None
+}
+
+// `up` or `down`.
+fn read_direction(word: &[u8]) -> Option<bool>
+    ensures { result ≡ direction_of word.now }
+{
+    if word == b"up".as_slice() {
+        return Some(true);
+    }
+    if word == b"down".as_slice() {
         return Some(false);
     }
     None

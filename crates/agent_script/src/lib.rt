@@ -2,6 +2,7 @@
 #![tactic(auto)]
 
 mod agent;
+mod bridging;
 mod built_in;
 mod commands;
 mod drops;

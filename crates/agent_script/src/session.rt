@@ -6,6 +6,7 @@ ghost use Rattle.agent_script.specs.Script.{script_text, after_script};
 
 use crate::agent::Agent;
 use agent_core::PlainWorld;
+use bridge_core::Bridge;
 use script_core::{LineFault, RunFault, Session};
 use std::alloc::Global;
 use std::io::{Read, Write};
@@ -53,7 +54,7 @@ impl Session for AgentSession {
     }
 }
 
-/// Reads a script to its end, and writes what the agent says to each line over this world.
+/// Reads a script to its end, and writes what the agent says to each line over this world and beside this bridge.
 ///
 /// # Errors
 /// `Input` where a read fails or the input has not ended after 4,294,967,295 reads, `Output` where a write fails, `Memory` where
@@ -61,16 +62,17 @@ impl Session for AgentSession {
 pub fn run_script<R: Read, W: Write>(
     alloc: Global,
     world: PlainWorld,
+    bridge: Bridge,
     reader: &mut R,
     writer: &mut W,
 ) -> Result<Run, RunFault>
     // Where no line met want of memory, what is written is what is said to the lines that were read.
     ensures { IfOk result (λ run. run ≡ Run.Whole → IfSome (R.remaining reader.old) (λ input.
-        Appends (W.contents writer.old) (W.contents writer.new) (script_text (opening_agent world) (lines_of input)))) }
+        Appends (W.contents writer.old) (W.contents writer.new) (script_text (opening_agent world bridge) (lines_of input)))) }
 {
     let mut session = AgentSession {
         alloc,
-        agent: Agent::new(world),
+        agent: Agent::new(world, bridge),
         is_whole: true,
     };
     script_core::run_script(alloc, &mut session, reader, writer)?;

@@ -1,0 +1,203 @@
+//! What is said to the events of a bridge.
+ghost use Rattle.std.specs.Prelude.{◌≡◌, ◌≤◌, ◌++◌, codes, decimal, false, IsTrue, IfOk, OnOk, Some};
+ghost use Rattle.std.specs.List.{flat_map};
+ghost use Rattle.frame_core.specs.declared.bpdu.Bpdu.{Bpdu};
+ghost use Rattle.bridge_core.specs.Bridge.{address_of, port_count};
+ghost use Rattle.bridge_core.specs.Events.{framed, ticked_bridge, tick_of, linked_bridge};
+ghost use Rattle.agent_script.specs.BridgeLines.{bpdu_line, bpdu_lines, fault_name, another_port, egress_text, framed_text, frame_text, after_frame, ticks_text, after_ticks, link_text};
+
+use bridge_core::Bridge;
+use frame_core::{Bpdu, FrameFault, FrameIn, Mac, SENT_FRAME_LEN, read_frame, write_bpdu};
+use script_core::words::write_hex;
+use std::alloc::AllocError;
+use std::io::Write;
+
+// The address of a bridge.
+#[tactic(auto, unfolding(bridge_core::specs::Facts::facts_of))]
+fn address_of(bridge: &Bridge) -> Mac
+    ensures { result ≡ address_of bridge.now }
+{
+    bridge.facts().address
+}
+
+// Appends `bpdu`, a port and the frame that it sends.
+fn say_bpdu(address: Mac, port: usize, bpdu: &Bpdu, out: &mut Vec<u8>) -> Result<(), AllocError>
+    ensures { OnOk result (out.new.items ≡ out.old.items ++ bpdu_line address port (Some bpdu.now)) }
+{
+    let mut frame = [0; SENT_FRAME_LEN];
+    write_bpdu(bpdu, address, &mut frame);
+    if write!(out, "bpdu {port} ").is_err() {
+        return Err(AllocError);
+    }
+    write_hex(out, &frame)?;
+    out.extend_from_slice(b"\n")
+}
+
+// Appends what a port sends, if it sends something.
+fn say_sent(
+    address: Mac,
+    port: usize,
+    bpdu: &Option<Bpdu>,
+    out: &mut Vec<u8>,
+) -> Result<(), AllocError>
+    ensures { OnOk result (out.new.items ≡ out.old.items ++ bpdu_line address port bpdu.now) }
+{
+    match bpdu {
+        Some(bpdu) => say_bpdu(address, port, bpdu, out),
+        None => Ok(()),
+    }
+}
+
+// Appends what the ports send, in their order.
+fn say_bpdus(address: Mac, bpdus: &[Option<Bpdu>], out: &mut Vec<u8>) -> Result<(), AllocError>
+    ensures { OnOk result (out.new.items ≡ out.old.items ++ bpdu_lines address 1 bpdus.now) }
+{
+    for (i, bpdu) in bpdus.iter().enumerate() {
+        say_sent(address, i + 1, bpdu, out)?;
+    }
+    Ok(())
+}
+
+// The name of a fault.
+fn fault_name(fault: FrameFault) -> &'static [u8]
+    ensures { result.now ≡ fault_name fault }
+{
+    match fault {
+        FrameFault::Short => b"Short",
+        FrameFault::TooLong => b"TooLong",
+        FrameFault::BadBpdu => b"BadBpdu",
+    }
+}
+
+// Appends a comma and a port.
+fn say_another(port: u16, out: &mut Vec<u8>) -> Result<(), AllocError>
+    ensures { OnOk result (out.new.items ≡ out.old.items ++ another_port port) }
+{
+    match write!(out, ",{port}") {
+        Ok(()) => Ok(()),
+        Err(_) => Err(AllocError),
+    }
+}
+
+// Appends ports, each behind a comma.
+fn say_others(ports: &[u16], out: &mut Vec<u8>) -> Result<(), AllocError>
+    ensures { OnOk result (out.new.items ≡ out.old.items ++ flat_map another_port ports.now) }
+{
+    for port in ports {
+        say_another(*port, out)?;
+    }
+    Ok(())
+}
+
+// Appends a port.
+fn say_port(port: u16, out: &mut Vec<u8>) -> Result<(), AllocError>
+    ensures { OnOk result (out.new.items ≡ out.old.items ++ decimal port) }
+{
+    match write!(out, "{port}") {
+        Ok(()) => Ok(()),
+        Err(_) => Err(AllocError),
+    }
+}
+
+// Appends the ports by which a frame goes out, or a dash.
+fn say_egress(ports: &[u16], out: &mut Vec<u8>) -> Result<(), AllocError>
+    ensures { OnOk result (out.new.items ≡ out.old.items ++ egress_text ports.now) }
+{
+    match ports.split_first() {
+        None => out.extend_from_slice(b"-"),
+        Some((first, others)) => {
+            say_port(*first, out)?;
+            say_others(others, out)
+        }
+    }
+}
+
+// Appends why a frame is refused.
+fn say_bad_frame(fault: FrameFault, out: &mut Vec<u8>) -> Result<(), AllocError>
+    ensures { OnOk result (out.new.items ≡ out.old.items ++ (codes "badframe " ++ fault_name fault ++ codes "\n")) }
+{
+    out.extend_from_slice(b"badframe ")?;
+    out.extend_from_slice(fault_name(fault))?;
+    out.extend_from_slice(b"\n")
+}
+
+// Appends where a frame goes and what is sent; answers whether memory was there for a learned row.
+fn say_taken(
+    bridge: &mut Bridge,
+    port: u16,
+    frame: &FrameIn,
+    out: &mut Vec<u8>,
+) -> Result<bool, AllocError>
+    requires first { 1 ≤ port }
+    requires last { port ≤ port_count bridge.old }
+    ensures said { IfOk result (λ whole. IsTrue whole → out.new.items ≡ out.old.items ++ framed_text (address_of bridge.old) (framed bridge.old port frame.now false)) }
+    ensures after { IfOk result (λ whole. IsTrue whole → bridge.new ≡ (framed bridge.old port frame.now false).bridge) }
+{
+    let address = address_of(bridge);
+    let taken = bridge.frame(port, frame);
+    out.extend_from_slice(b"forward ")?;
+    say_egress(taken.egress.as_slice(), out)?;
+    out.extend_from_slice(b"\n")?;
+    say_bpdus(address, taken.bpdus.as_slice(), out)?;
+    Ok(!taken.no_room)
+}
+
+/// Appends what is said to a frame at a port; answers whether memory was there for a learned row.
+#[tactic(auto, unfolding(crate::specs::BridgeLines::frame_text, crate::specs::BridgeLines::after_frame))]
+pub fn say_frame(
+    bridge: &mut Bridge,
+    port: u16,
+    octets: &[u8],
+    out: &mut Vec<u8>,
+) -> Result<bool, AllocError>
+    requires first { 1 ≤ port }
+    requires last { port ≤ port_count bridge.old }
+    ensures said { IfOk result (λ whole. IsTrue whole → out.new.items ≡ out.old.items ++ frame_text bridge.old port octets.now) }
+    ensures after { IfOk result (λ whole. IsTrue whole → bridge.new ≡ after_frame bridge.old port octets.now) }
+{
+    match read_frame(octets) {
+        Ok(frame) => say_taken(bridge, port, &frame, out),
+        Err(fault) => {
+            say_bad_frame(fault, out)?;
+            Ok(true)
+        }
+    }
+}
+
+// Appends what is sent as one second passes.
+fn say_tick(bridge: &mut Bridge, out: &mut Vec<u8>) -> Result<(), AllocError>
+    ensures said { OnOk result (out.new.items ≡ out.old.items ++ bpdu_lines (address_of bridge.old) 1 (tick_of bridge.old).bpdus) }
+    ensures after { bridge.new ≡ ticked_bridge bridge.old }
+{
+    let address = address_of(bridge);
+    let bpdus = bridge.tick();
+    say_bpdus(address, bpdus.as_slice(), out)
+}
+
+/// Appends what is sent as so many seconds pass.
+pub fn say_ticks(bridge: &mut Bridge, seconds: u32, out: &mut Vec<u8>) -> Result<(), AllocError>
+    ensures said { OnOk result (out.new.items ≡ out.old.items ++ ticks_text seconds bridge.old) }
+    ensures after { OnOk result (bridge.new ≡ after_ticks seconds bridge.old) }
+{
+    for _ in 0..seconds {
+        say_tick(bridge, out)?;
+    }
+    Ok(())
+}
+
+/// Appends what is sent as the link of a port goes up or down.
+pub fn say_link(
+    bridge: &mut Bridge,
+    port: u16,
+    up: bool,
+    out: &mut Vec<u8>,
+) -> Result<(), AllocError>
+    requires first { 1 ≤ port }
+    requires last { port ≤ port_count bridge.old }
+    ensures said { OnOk result (out.new.items ≡ out.old.items ++ link_text port up bridge.old) }
+    ensures after { bridge.new ≡ linked_bridge port up bridge.old }
+{
+    let address = address_of(bridge);
+    let bpdus = bridge.link(port, up);
+    say_bpdus(address, bpdus.as_slice(), out)
+}
