@@ -1,0 +1,3 @@
+pub mod PolicyFaults
+pub mod PortLemmas
+pub mod Without
