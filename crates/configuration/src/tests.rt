@@ -49,7 +49,8 @@ fn digits_are_of_either_case(rt: HostRuntime) -> Result<(), Fail> {
         configuration.address.0,
         [0x02, 0xAB, 0xCD, 0xEF, 0x00, 0xFF]
     );
-    assert_eq!(rt; configuration.ports[0].config.ifindex, 2147483647);
+    let port = configuration.ports.first().ok_or("port")?;
+    assert_eq!(rt; port.config.ifindex, 2147483647);
     Ok(())
 }
 
@@ -60,7 +61,7 @@ fn what_may_be_there_is_read(rt: HostRuntime) -> Result<(), Fail> {
 [[port]]\nifindex = 1\nspeed = 10\nfull = true\nlisten = \"127.0.0.1:4001\"\npeer = \"[::1]:4002\"\n
 [serve]\nsnmp = \"127.0.0.1:1161\"\nworkers = 8\nrounds = 1000000\n";
     let configuration = configuration_of_text(rt.alloc(), text)?;
-    let port = configuration.ports[0];
+    let port = configuration.ports.first().ok_or("port")?;
     assert_eq!(rt; port.listen.ok_or("listen")?.port(), 4001);
     assert_eq!(rt; port.peer.ok_or("peer")?.port(), 4002);
     let serve = configuration.serve.ok_or("serve")?;
