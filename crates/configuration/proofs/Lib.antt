@@ -1,3 +1,4 @@
+pub mod NoFault
 pub mod PolicyFaults
 pub mod PortLemmas
 pub mod Without

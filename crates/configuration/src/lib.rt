@@ -5,6 +5,7 @@
 mod address;
 mod configuration;
 mod fault;
+pub mod laws;
 mod numbers;
 mod ports;
 mod reading;
