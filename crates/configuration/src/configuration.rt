@@ -17,7 +17,7 @@ pub const WORKERS_MAX: u32 = 8;
 pub const ROUNDS_MAX: u32 = 1000000;
 
 /// A port of the bridge.
-#[derive(Clone, Copy, Default)]
+#[derive(Clone, Copy, Debug, Default, PartialEq, Eq)]
 pub struct Port {
     /// Its interface number, 1 to 2147483647, its speed, 10, 100 or 1000 Mb/s, and its duplex.
     pub config: PortConfig,
@@ -28,7 +28,7 @@ pub struct Port {
 }
 
 /// How to serve.
-#[derive(Clone, Copy)]
+#[derive(Clone, Copy, Debug, PartialEq, Eq)]
 pub struct Serve {
     /// Where requests come in.
     pub snmp: SocketAddr,
