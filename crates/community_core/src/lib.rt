@@ -3,7 +3,7 @@
 #![tactic(auto)]
 
 mod community;
-mod keys;
+pub mod keys;
 pub mod laws;
 mod policy;
 mod policy_text;

@@ -1,0 +1,4 @@
+pub mod NoFault
+pub mod PolicyFaults
+pub mod PortLemmas
+pub mod Without

@@ -1,0 +1,60 @@
+-- What a TOML table, or a text, says as a configuration, and its first fault.
+use Rattle.std.specs.Prelude.{◌≡◌, ◌⊎◌, ℕ, codes, if◌then◌else◌, List, Option, Some, None}
+use Rattle.toml.specs.Data.{Members, no_members, member, same_key}
+use Rattle.toml.specs.Parse.{parse_document}
+use Rattle.frame_core.specs.declared.mac.Mac.{Mac}
+use Rattle.community_core.specs.Policies.{IsPolicy, IsUnread, IsWrongPolicy}
+use Rattle.configuration.specs.declared.configuration.Port.{Port}
+use Rattle.configuration.specs.declared.configuration.Serve.{Serve}
+use Rattle.configuration.specs.declared.configuration.Configuration.{Configuration}
+use Rattle.configuration.specs.declared.fault.ConfigurationFault.{ConfigurationFault}
+use Rattle.configuration.specs.declared.fault.ConfigurationFault.TheVariants.{Memory, BadText, BadAddress, BadPorts, BadPort, BadServe, Policy}
+use Rattle.configuration.specs.Address.{address_of}
+use Rattle.configuration.specs.Ports.{ArePorts, IsBadPort, port_rows}
+use Rattle.configuration.specs.Serving.{IsServing}
+
+-- the members but the one of this key
+abbrev pub without : List ℕ → Members → Members
+without key no_members = no_members
+without key (member other d ms) = if same_key key other then ms else member other d (without key ms)
+
+-- what is left for the policy
+abbrev pub policy_members : Members → Members
+policy_members ms = without (codes "serve") (without (codes "port") (without (codes "address") ms))
+
+-- the table says this configuration
+pub record IsConfiguration (ms : Members) (c : Configuration) : Type 0 where
+  pub address : address_of ms ≡ Some c.address
+  pub ports : ArePorts ms c.ports.items
+  pub serve : IsServing ms c.serve
+  pub policy : IsPolicy (policy_members ms) c.policy
+
+abbrev pub HasAddress : Members → Type 0
+HasAddress ms = (address : Mac) × (address_of ms ≡ Some address)
+
+abbrev pub HasPorts : Members → Type 0
+HasPorts ms = (ports : List Port) × ArePorts ms ports
+
+abbrev pub HasServing : Members → Type 0
+HasServing ms = (serve : Option Serve) × IsServing ms serve
+
+-- this is the first fault of the table: of its address, its ports, its way to serve, then of its policy
+abbrev pub IsFault : Members → ConfigurationFault → Type 0
+IsFault ms Memory = ⊥
+IsFault ms BadText = ⊥
+IsFault ms BadAddress = address_of ms ≡ None
+IsFault ms BadPorts = HasAddress ms × (port_rows ms ≡ None)
+IsFault ms (BadPort n) = HasAddress ms × IsBadPort ms n
+IsFault ms BadServe = HasAddress ms × HasPorts ms × ((serve : Option Serve) → ¬ IsServing ms serve)
+IsFault ms (Policy e) =
+    HasAddress ms × HasPorts ms × HasServing ms
+    × (IsUnread (policy_members ms) e ⊎ IsWrongPolicy (policy_members ms) e)
+
+-- the text is a TOML document that says this configuration
+abbrev pub IsConfigurationText : List ℕ → Configuration → Type 0
+IsConfigurationText text c = (ms : Members) × (parse_document text ≡ Some ms) × IsConfiguration ms c
+
+-- the text is no TOML document, or one with this first fault
+abbrev pub IsTextFault : List ℕ → ConfigurationFault → Type 0
+IsTextFault text e =
+    ((parse_document text ≡ None) × (e ≡ BadText)) ⊎ ((ms : Members) × (parse_document text ≡ Some ms) × IsFault ms e)

@@ -1,0 +1,78 @@
+//! Reads a configuration.
+ghost use Rattle.std.specs.Prelude.{◌≡◌, ◌≢◌, ◌⊎◌, ◌↔◌, IfOk, IfErr};
+ghost use Rattle.toml.specs.Errors.{IsMemory};
+ghost use Rattle.toml.specs.View.{table_view};
+ghost use Rattle.configuration.specs.Configurations.{without, policy_members, IsConfiguration, IsFault, IsConfigurationText, IsTextFault};
+
+use crate::address::address_of;
+use crate::configuration::Configuration;
+use crate::fault::ConfigurationFault;
+use crate::ports::ports_of;
+use crate::serve::serve_of;
+use community_core::policy_of;
+use std::alloc::Global;
+use toml::Table;
+
+// The table without what is under a key.
+fn without(mut table: Table, key: &str) -> Table
+    ensures { table_view result ≡ without key.now (table_view table) }
+{
+    let _ = table.remove(key);
+    table
+}
+
+// What is left of a table for its policy.
+fn policy_table(table: Table) -> Table
+    ensures { table_view result ≡ policy_members (table_view table) }
+{
+    without(without(without(table, "address"), "port"), "serve")
+}
+
+/// The configuration that a table says.
+///
+/// # Errors
+///
+/// The first fault, of `address`, then of `port`, then of `serve`, then of the rest, which is the
+/// policy's table; `Memory` where a growth was refused.
+pub fn configuration_of(alloc: Global, table: Table) -> Result<Configuration, ConfigurationFault>
+    ensures configuration { IfOk result (λ c. IsConfiguration (table_view table) c) }
+    ensures fault { IfErr result (λ e. e ≢ ConfigurationFault.Memory → IsFault (table_view table) e) }
+{
+    let address = address_of(&table).ok_or(ConfigurationFault::BadAddress)?;
+    let ports = ports_of(&table)?;
+    let serve = serve_of(&table)?;
+    let policy = policy_of(alloc, &policy_table(table))?;
+    Ok(Configuration {
+        address,
+        ports,
+        serve,
+        policy,
+    })
+}
+
+// Why a text is no TOML document.
+fn text_fault(error: &toml::de::Error) -> ConfigurationFault
+    ensures memory { IsMemory error.now → result ≡ ConfigurationFault.Memory }
+    ensures text { ¬ IsMemory error.now → result ≡ ConfigurationFault.BadText }
+{
+    if error.is_memory() {
+        ConfigurationFault::Memory
+    } else {
+        ConfigurationFault::BadText
+    }
+}
+
+/// The configuration that a TOML text says.
+///
+/// # Errors
+///
+/// `BadText` where the text is no TOML document, else as [`configuration_of`] has it.
+pub fn configuration_of_text(alloc: Global, text: &str) -> Result<Configuration, ConfigurationFault>
+    ensures configuration { IfOk result (λ c. IsConfigurationText text.now c) }
+    ensures fault { IfErr result (λ e. e ≢ ConfigurationFault.Memory → IsTextFault text.now e) }
+{
+    match toml::table_from_str(alloc, text) {
+        Ok(table) => configuration_of(alloc, table),
+        Err(error) => Err(text_fault(&error)),
+    }
+}

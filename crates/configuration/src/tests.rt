@@ -1,0 +1,183 @@
+use super::*;
+use std::alloc::Global;
+use std::test::Fail;
+use vacm_core::{PolicyFault, PolicyTable};
+
+const POLICY: &str = "
+contexts = []
+community = []
+group = []
+access = []
+family = []
+";
+
+const ADDRESS: &str = "address = \"02000000000A\"\n";
+
+const PORT: &str = "[[port]]\nifindex = 1\nspeed = 10\nfull = false\n";
+
+// The fault of a text in four parts, if it has one.
+fn fault_of(alloc: Global, parts: [&str; 4]) -> Result<Option<ConfigurationFault>, Fail> {
+    let mut text = String::new(alloc);
+    for part in parts {
+        text.push_str(part)?;
+    }
+    Ok(configuration_of_text(alloc, text.as_str()).err())
+}
+
+#[test]
+fn the_built_in_text_reads(rt: HostRuntime) -> Result<(), Fail> {
+    let configuration = configuration_of_text(rt.alloc(), BUILT_IN)?;
+    assert_eq!(rt; configuration.address.0, [2, 0, 0, 0, 0, 10]);
+    assert_eq!(rt; configuration.ports.len(), 2);
+    assert_eq!(rt; configuration.ports[0].config.ifindex, 1);
+    assert_eq!(rt; configuration.ports[1].config.ifindex, 2);
+    assert_eq!(rt; configuration.ports[1].config.speed, 1000);
+    assert!(rt; configuration.ports[1].config.full);
+    assert!(rt; configuration.serve.is_none());
+    let caller = configuration.policy.caller(b"public").ok_or("public")?;
+    assert_eq!(rt; caller.security.as_str(), "public");
+    Ok(())
+}
+
+#[test]
+fn digits_are_of_either_case(rt: HostRuntime) -> Result<(), Fail> {
+    let text =
+        "address = \"02aBcDeF00fF\"\ncontexts = []\ncommunity = []\ngroup = []\naccess = []\nfamily = []\n
+[[port]]\nifindex = 2147483647\nspeed = 100\nfull = false\n";
+    let configuration = configuration_of_text(rt.alloc(), text)?;
+    assert_eq!(rt;
+        configuration.address.0,
+        [0x02, 0xAB, 0xCD, 0xEF, 0x00, 0xFF]
+    );
+    let port = configuration.ports.first().ok_or("port")?;
+    assert_eq!(rt; port.config.ifindex, 2147483647);
+    Ok(())
+}
+
+#[test]
+fn what_may_be_there_is_read(rt: HostRuntime) -> Result<(), Fail> {
+    let text =
+        "address = \"02000000000A\"\ncontexts = []\ncommunity = []\ngroup = []\naccess = []\nfamily = []\n
+[[port]]\nifindex = 1\nspeed = 10\nfull = true\nlisten = \"127.0.0.1:4001\"\npeer = \"[::1]:4002\"\n
+[serve]\nsnmp = \"127.0.0.1:1161\"\nworkers = 8\nrounds = 1000000\n";
+    let configuration = configuration_of_text(rt.alloc(), text)?;
+    let port = configuration.ports.first().ok_or("port")?;
+    assert_eq!(rt; port.listen.ok_or("listen")?.port(), 4001);
+    assert_eq!(rt; port.peer.ok_or("peer")?.port(), 4002);
+    let serve = configuration.serve.ok_or("serve")?;
+    assert_eq!(rt; serve.snmp.port(), 1161);
+    assert_eq!(rt; serve.workers, 8);
+    assert_eq!(rt; serve.rounds, 1000000);
+    Ok(())
+}
+
+#[test]
+fn other_texts_are_refused(rt: HostRuntime) -> Result<(), Fail> {
+    let fault = fault_of(rt.alloc(), ["address = \r", "", "", ""])?;
+    assert_eq!(rt; fault, Some(ConfigurationFault::BadText));
+    Ok(())
+}
+
+#[test]
+fn addresses_are_refused(rt: HostRuntime) -> Result<(), Fail> {
+    for address in [
+        "",
+        "address = 2\n",
+        "address = \"\"\n",
+        "address = \"02000000000\"\n",
+        "address = \"02000000000A00\"\n",
+        "address = \"02000000000G\"\n",
+        "address = \"02-00-00-00-00-0A\"\n",
+        "address = \"03000000000A\"\n",
+        "address = \"FFFFFFFFFFFF\"\n",
+    ] {
+        let fault = fault_of(rt.alloc(), [address, "serve = 1\n", POLICY, ""])?;
+        assert_eq!(rt; fault, Some(ConfigurationFault::BadAddress), "{address}");
+    }
+    Ok(())
+}
+
+#[test]
+fn arrays_of_ports_are_refused(rt: HostRuntime) -> Result<(), Fail> {
+    for ports in [
+        "",
+        "port = 1\n",
+        "port = []\n",
+        "port = [1]\n",
+        "port = [{}, 1]\n",
+        "[port]\nifindex = 1\nspeed = 10\nfull = false\n",
+    ] {
+        let fault = fault_of(rt.alloc(), [ADDRESS, "serve = 1\n", POLICY, ports])?;
+        assert_eq!(rt; fault, Some(ConfigurationFault::BadPorts), "{ports}");
+    }
+    Ok(())
+}
+
+#[test]
+fn there_are_32_ports_at_most(rt: HostRuntime) -> Result<(), Fail> {
+    let mut text = String::from_str(rt.alloc(), ADDRESS)?;
+    text.push_str(POLICY)?;
+    for _ in 0..32 {
+        text.push_str(PORT)?;
+    }
+    let configuration = configuration_of_text(rt.alloc(), text.as_str())?;
+    assert_eq!(rt; configuration.ports.len(), 32);
+    text.push_str(PORT)?;
+    let fault = configuration_of_text(rt.alloc(), text.as_str()).err();
+    assert_eq!(rt; fault, Some(ConfigurationFault::BadPorts));
+    Ok(())
+}
+
+#[test]
+fn ports_are_refused(rt: HostRuntime) -> Result<(), Fail> {
+    for port in [
+        "[[port]]\nspeed = 10\nfull = true\n",
+        "[[port]]\nifindex = 0\nspeed = 10\nfull = true\n",
+        "[[port]]\nifindex = -1\nspeed = 10\nfull = true\n",
+        "[[port]]\nifindex = 2147483648\nspeed = 10\nfull = true\n",
+        "[[port]]\nifindex = 1\nspeed = 11\nfull = true\n",
+        "[[port]]\nifindex = 1\nspeed = 10000\nfull = true\n",
+        "[[port]]\nifindex = 1\nspeed = 10\nfull = 1\n",
+        "[[port]]\nifindex = 1\nspeed = 10\nfull = true\nname = \"\"\n",
+        "[[port]]\nifindex = 1\nspeed = 10\nfull = true\nlisten = \"localhost:1\"\n",
+        "[[port]]\nifindex = 1\nspeed = 10\nfull = true\nlisten = 1\n",
+        "[[port]]\nifindex = 1\nspeed = 10\nfull = true\npeer = \"127.0.0.1\"\n",
+        "[[port]]\nifindex = 1\nspeed = 10\nfull = true\npeer = \"127.0.0.1:65536\"\n",
+    ] {
+        let fault = fault_of(rt.alloc(), [ADDRESS, POLICY, PORT, port])?;
+        assert_eq!(rt; fault, Some(ConfigurationFault::BadPort(1)), "{port}");
+    }
+    Ok(())
+}
+
+#[test]
+fn ways_to_serve_are_refused(rt: HostRuntime) -> Result<(), Fail> {
+    for serve in [
+        "[serve]\n",
+        "[serve]\nsnmp = \"127.0.0.1\"\nworkers = 1\nrounds = 1\n",
+        "[serve]\nsnmp = \"127.0.0.1:161\"\nworkers = 0\nrounds = 1\n",
+        "[serve]\nsnmp = \"127.0.0.1:161\"\nworkers = 9\nrounds = 1\n",
+        "[serve]\nsnmp = \"127.0.0.1:161\"\nworkers = 1\nrounds = 0\n",
+        "[serve]\nsnmp = \"127.0.0.1:161\"\nworkers = 1\nrounds = 1000001\n",
+        "[serve]\nsnmp = \"127.0.0.1:161\"\nworkers = 1\n",
+        "[serve]\nsnmp = \"127.0.0.1:161\"\nworkers = 1\nrounds = 1\nlog = 1\n",
+        "[[serve]]\nsnmp = \"127.0.0.1:161\"\nworkers = 1\nrounds = 1\n",
+    ] {
+        let fault = fault_of(rt.alloc(), [ADDRESS, "contexts = 1\n", PORT, serve])?;
+        assert_eq!(rt; fault, Some(ConfigurationFault::BadServe), "{serve}");
+    }
+    Ok(())
+}
+
+#[test]
+fn policies_are_refused(rt: HostRuntime) -> Result<(), Fail> {
+    let fault = fault_of(rt.alloc(), [ADDRESS, "name = 1\n", POLICY, PORT])?;
+    let unknown_key = PolicyFault::BadField(PolicyTable::Contexts, 0);
+    assert_eq!(rt; fault, Some(ConfigurationFault::Policy(unknown_key)));
+    let contexts = "contexts = [\"\", \"a-name-of-33-octets-for-a-context\"]\n";
+    let tables = "community = []\ngroup = []\naccess = []\nfamily = []\n";
+    let fault = fault_of(rt.alloc(), [ADDRESS, contexts, tables, PORT])?;
+    let too_long = PolicyFault::BadLength(PolicyTable::Contexts, 1);
+    assert_eq!(rt; fault, Some(ConfigurationFault::Policy(too_long)));
+    Ok(())
+}
