@@ -179,7 +179,7 @@ pub fn say_ticks(bridge: &mut Bridge, seconds: u32, out: &mut Vec<u8>) -> Result
     ensures said { OnOk result (out.new.items ≡ out.old.items ++ ticks_text seconds bridge.old) }
     ensures after { OnOk result (bridge.new ≡ after_ticks seconds bridge.old) }
 {
-    for _ in 0..seconds {
+    for i in 0..seconds {
         say_tick(bridge, out)?;
     }
     Ok(())

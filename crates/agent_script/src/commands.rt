@@ -31,11 +31,7 @@ pub enum Command {
 
 /// Reads a line, which may be no command, where there are so many ports. Only memory can fail.
 #[tactic(auto, unfolding(crate::specs::Commands::command_of))]
-pub fn read_command(
-    alloc: Global,
-    ports: usize,
-    line: &[u8],
-) -> Result<Option<Command>, AllocError>
+pub fn read_command(alloc: Global, ports: usize, line: &[u8]) -> Result<Option<Command>, AllocError>
     requires { ports ≤ 32 }
     ensures command { IfOk result (λ c. option_map command_view c ≡ command_of ports line.now) }
     ensures port { IfOk result (λ c. NamesPortOf ports (option_map command_view c)) }

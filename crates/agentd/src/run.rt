@@ -1,19 +1,29 @@
 //! What the program does with its words.
-ghost use Rattle.std.specs.Prelude.{◌≡◌, ◌≢◌, ◌≤◌, ◌<◌, ◌↔◌, length, IsErrOf};
+ghost use Rattle.std.specs.Prelude.{◌≡◌, ◌≢◌, ◌≤◌};
 
 use agent_script::{built_in_world, run_script};
+use bridge_core::Bridge;
+use clap::{Arg, ArgAction, Command};
+use configuration::{BUILT_IN, Configuration, Port, configuration_of_text};
+use rstp_core::PortConfig;
 use script_core::RunFault;
+use std::alloc::{AllocError, Global};
 use std::io::{ErrorKind, Read, Write};
-use std::{fmt, io};
+use std::rt::Files;
+use std::{fmt, fs, io};
 
-/// The status for words that are no command.
+/// The status for words that are no command, and for a configuration that cannot be read or is refused.
 const USAGE: u8 = 2;
 
 /// Why the program ends with another status than 0.
 #[derive(Clone, Copy, Debug, PartialEq, Eq)]
-pub enum Failure {
+pub enum Failure<'a> {
     /// The words are no command.
     Usage,
+    /// The file of the configuration cannot be read.
+    CannotRead(&'a str),
+    /// The configuration is none, or there is no memory for it.
+    Refused,
     /// The input could not be read to its end.
     Input,
     /// The output could not be written.
@@ -22,10 +32,12 @@ pub enum Failure {
     Run,
 }
 
-impl fmt::Display for Failure {
+impl fmt::Display for Failure<'_> {
     fn fmt<W: fmt::Write>(&self, f: &mut fmt::Formatter<W>) -> fmt::Result {
         match self {
-            Failure::Usage => f.write_str("usage: agentd, with a script on standard input"),
+            Failure::Usage => f.write_str("usage: agentd [script --config FILE]"),
+            Failure::CannotRead(file) => write!(f, "cannot read {file}"),
+            Failure::Refused => f.write_str("configuration refused"),
             Failure::Input => f.write_str("input failed"),
             Failure::Output => f.write_str("output failed"),
             Failure::Run => f.write_str("run failed"),
@@ -33,13 +45,8 @@ impl fmt::Display for Failure {
     }
 }
 
-impl From<RunFault> for Failure {
-    ghost use Rattle.std.specs.Prelude.{◌≢◌};
-    ghost use Rattle.agentd.specs.declared.run.Failure.TheVariants.{Usage};
-
-    ghost from_gives = { λ _ failure. failure ≢ Usage };
-
-    fn from(fault: RunFault) -> Failure {
+impl From<RunFault> for Failure<'_> {
+    fn from(fault: RunFault) -> Self {
         match fault {
             RunFault::Input => Failure::Input,
             RunFault::Output => Failure::Output,
@@ -48,9 +55,9 @@ impl From<RunFault> for Failure {
     }
 }
 
-impl From<io::Error> for Failure {
+impl From<io::Error> for Failure<'_> {
     // Words that cannot be read are no command; want of memory for them is not their fault.
-    fn from(error: io::Error) -> Failure {
+    fn from(error: io::Error) -> Self {
         match error.kind() {
             ErrorKind::OutOfMemory => Failure::Run,
             _ => Failure::Usage,
@@ -58,22 +65,22 @@ impl From<io::Error> for Failure {
     }
 }
 
-impl Failure {
+impl Failure<'_> {
     // The exit status.
     fn status(self) -> u8
         ensures most { result ≤ 2 }
-        ensures usage { result ≡ 2 ↔ (self ≡ Failure.Usage) }
         ensures failed { result ≢ 0 }
     {
         match self {
-            Failure::Usage => USAGE,
+            Failure::Usage | Failure::CannotRead(_) | Failure::Refused => USAGE,
             Failure::Input | Failure::Output | Failure::Run => 1,
         }
     }
 }
 
 /// Runs the program on the words of its command line, its name first, and gives its exit status: 0; 1 where input, output or
-/// the run failed; 2 for words that are no command. A failure is written to `errors` as one line.
+/// the run failed; 2 for words that are no command, and for a configuration that cannot be read or is refused. A failure is
+/// written to `errors` as one line.
 pub fn run_words<R, I, O, E>(
     rt: &R,
     words: &[String],
@@ -82,12 +89,11 @@ pub fn run_words<R, I, O, E>(
     errors: &mut E,
 ) -> u8
 where
-    R: AllocGlobal,
+    R: Files + AllocGlobal,
     I: Read,
     O: Write,
     E: Write,
-    ensures status { result ≤ 2 }
-    ensures usage { result ≡ 2 ↔ (1 < length words.now) }
+    ensures { result ≤ 2 }
 {
     match try_words(rt, words, reader, writer) {
         Ok(()) => 0,
@@ -96,34 +102,123 @@ where
 }
 
 /// Writes a failure as one line, and gives its exit status.
-pub fn report<E: Write>(failure: &Failure, errors: &mut E) -> u8
+pub fn report<E: Write>(failure: &Failure<'_>, errors: &mut E) -> u8
     ensures most { result ≤ 2 }
-    ensures usage { result ≡ 2 ↔ (failure.now ≡ Failure.Usage) }
     ensures failed { result ≢ 0 }
 {
     let _ = writeln!(errors, "agentd: {failure}");
     failure.status()
 }
 
-fn try_words<R, I, O>(
+fn try_words<'a, R, I, O>(
     rt: &R,
-    words: &[String],
+    words: &'a [String],
     reader: &mut I,
     writer: &mut O,
-) -> Result<(), Failure>
+) -> Result<(), Failure<'a>>
 where
-    R: AllocGlobal,
+    R: Files + AllocGlobal,
     I: Read,
     O: Write,
-    ensures { IsErrOf result Failure.Usage ↔ (1 < length words.now) }
 {
-    if words.len() > 1 {
-        return Err(Failure::Usage);
+    let configuration = choose_configuration(rt, words)?;
+    run_configured(rt.alloc(), configuration, reader, writer)
+}
+
+// The configuration that the words name, or the built-in one where there are none.
+fn choose_configuration<'a, R: Files + AllocGlobal>(
+    rt: &R,
+    words: &'a [String],
+) -> Result<Configuration, Failure<'a>> {
+    if words.len() <= 1 {
+        return read_configuration(rt.alloc(), BUILT_IN.as_bytes());
     }
-    let world = match built_in_world(rt.alloc()) {
-        Ok(world) => world,
-        Err(_) => return Err(Failure::Run),
+    let Some(file) = config_file(rt.alloc(), words) else {
+        return Err(Failure::Usage);
     };
-    run_script(rt.alloc(), world, reader, writer)?;
+    let octets = read_file(rt, file)?;
+    read_configuration(rt.alloc(), &octets)
+}
+
+// The octets of a file. One for which there is no memory can be read all the same.
+fn read_file<'a, R: Files + AllocGlobal>(rt: &R, file: &'a str) -> Result<Vec<u8>, Failure<'a>> {
+    match fs::read(rt, file) {
+        Ok(octets) => Ok(octets),
+        Err(error) if error.kind() == ErrorKind::OutOfMemory => Err(Failure::Refused),
+        Err(_) => Err(Failure::CannotRead(file)),
+    }
+}
+
+// The configuration of a text.
+fn read_configuration<'a>(alloc: Global, octets: &[u8]) -> Result<Configuration, Failure<'a>> {
+    let Ok(text) = std::str::from_utf8(octets) else {
+        return Err(Failure::Refused);
+    };
+    match configuration_of_text(alloc, text) {
+        Ok(configuration) => Ok(configuration),
+        Err(_) => Err(Failure::Refused),
+    }
+}
+
+// The file that the words name, where they are `script --config FILE`.
+fn config_file(alloc: Global, words: &[String]) -> Option<&str> {
+    let Ok(command) = make_command(alloc) else {
+        return None;
+    };
+    let Ok(matches) = command.try_get_matches_from(words) else {
+        return None;
+    };
+    match matches.get_str("word") {
+        Some("script") => matches.get_str("config"),
+        _ => None,
+    }
+}
+
+fn make_command<'a>(alloc: Global) -> Result<Command<'a>, AllocError> {
+    let word = Arg::new(alloc, "word")
+        .required(true)
+        .action(ArgAction::Set);
+    let config = Arg::new(alloc, "config")
+        .long("config")
+        .required(true)
+        .action(ArgAction::Set);
+    Command::new(alloc, "agentd").arg(word)?.arg(config)
+}
+
+// What is fixed of each port.
+fn port_configs(alloc: Global, ports: &[Port]) -> Result<Vec<PortConfig>, AllocError> {
+    let mut configs = Vec::new(alloc);
+    for port in ports {
+        configs.push(port.config)?;
+    }
+    Ok(configs)
+}
+
+// The bridge of a configuration.
+fn make_bridge<'a>(
+    alloc: Global,
+    configuration: &Configuration,
+) -> Result<Bridge, Failure<'a>> {
+    let Ok(ports) = port_configs(alloc, configuration.ports.as_slice()) else {
+        return Err(Failure::Refused);
+    };
+    match Bridge::new(alloc, configuration.address, &ports) {
+        Ok(bridge) => Ok(bridge),
+        Err(_) => Err(Failure::Refused),
+    }
+}
+
+// Runs the script by a configuration.
+fn run_configured<'a, I: Read, O: Write>(
+    alloc: Global,
+    configuration: Configuration,
+    reader: &mut I,
+    writer: &mut O,
+) -> Result<(), Failure<'a>> {
+    let bridge = make_bridge(alloc, &configuration)?;
+    let Ok(world) = built_in_world(alloc, configuration.policy) else {
+        return Err(Failure::Refused);
+    };
+    run_script(alloc, world, bridge, reader, writer)?;
     Ok(())
 }
