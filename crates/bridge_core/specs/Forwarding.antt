@@ -18,7 +18,7 @@ use Rattle.rstp_core.specs.Tree.{Tree, port_at}
 use Rattle.bridge_core.specs.declared.bridge.TheConstants.{MAX_LEARNED_ROWS}
 use Rattle.bridge_core.specs.declared.forwarding.Way.{Way}
 use Rattle.bridge_core.specs.declared.forwarding.Way.TheVariants.{Nowhere, Anywhere, By}
-use Rattle.bridge_core.specs.Bridge.{BridgeState, address_of, port_count, port_of}
+use Rattle.bridge_core.specs.Bridge.{BridgeState, address_of, port_count, port_of, is_on}
 
 -- The addresses 01-80-C2-00-00-00 to 0F, which no bridge forwards (7.12.6).
 abbrev pub is_reserved : Mac → Bool
@@ -52,14 +52,20 @@ is_refused (Some Moved) = false
 is_refused (Some Same) = false
 is_refused (Some Full) = false
 
--- The growth for a learned row may be refused where the source is to be learned and is new, and there is a place for it.
+-- The growth for a learned row is asked for where the source is to be learned and is new, and there is a place for it.
 pub record NeedsMemory (rows : List Row) (limit : ℕ) (state : State) (f : FrameIn) : Type 0 where
   pub learns : learns state f ≡ true
   pub is_new : learned_port rows f.source ≡ None
   pub has_place : length rows < limit
 
-abbrev pub MayLackMemory : BridgeState → ℕ → FrameIn → Type 0
-MayLackMemory b p f = NeedsMemory b.learned MAX_LEARNED_ROWS (port_of b p).state f
+abbrev pub AsksMemory : BridgeState → ℕ → FrameIn → Type 0
+AsksMemory b p f = NeedsMemory b.learned MAX_LEARNED_ROWS (port_of b p).state f
+
+-- A frame may find no memory for its learned row only at a port that is on, where it is no BPDU and the growth is asked for.
+pub record MayLackMemory (b : BridgeState) (p : ℕ) (f : FrameIn) : Type 0 where
+  pub on : is_on b p ≡ true
+  pub plain : f.bpdu ≡ None
+  pub asks : AsksMemory b p f
 
 -- Whether an address that is learned at a port, or at none, may be behind port q.
 abbrev pub may_be_behind : Option ℕ → ℕ → Bool

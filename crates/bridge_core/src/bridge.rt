@@ -1,8 +1,9 @@
+//! The bridge: one event at a time.
 ghost use Rattle.std.specs.Prelude.{◌≡◌, ◌≤◌, length, true, Some, None, Ok, Err, IfOk};
 ghost use Rattle.rstp_settings.specs.Table.{get, HasKey, IsInRange};
 ghost use Rattle.bridge_core.specs.Bridge.{port_count, is_on};
 ghost use Rattle.bridge_core.specs.Opening.{fault_of, opening_bridge};
-ghost use Rattle.bridge_core.specs.Forwarding.{MayLackMemory, egress_of};
+ghost use Rattle.bridge_core.specs.Forwarding.{AsksMemory, MayLackMemory, egress_of};
 ghost use Rattle.bridge_core.specs.Counting.{sent_where, has_bpdu};
 ghost use Rattle.bridge_core.specs.Events.{without, framed, taken, passed, received, learned_from, forwarded, stepped, arrival_of, tick_of, ticked_bridge, link_of, linked_bridge, settling_of, settled_bridge, set_bridge};
 ghost use Rattle.bridge_core.specs.Facts.{facts_of, port_facts_of};
@@ -240,7 +241,7 @@ impl Bridge {
         requires first { 1 ≤ port }
         requires last { port ≤ port_count self.old }
         ensures step { self.new ≡ learned_from port frame.now result self.old }
-        ensures note { result ≡ true → MayLackMemory self.old port frame.now }
+        ensures note { result ≡ true → AsksMemory self.old port frame.now }
         ensures ports { port_count self.new ≡ port_count self.old }
     {
         let learnt = learn_from(&mut self.fdb, self.tree.state(port), port, frame);
@@ -340,7 +341,7 @@ fn take_received(bridge: &mut Bridge, port: u16, frame: &FrameIn) -> Forwarding
     ensures step { bridge.new ≡ (taken port frame.now frame.now.bpdu result.no_room bridge.old).bridge }
     ensures egress { result.egress.items ≡ (taken port frame.now frame.now.bpdu result.no_room bridge.old).egress }
     ensures bpdus { result.bpdus.items ≡ (taken port frame.now frame.now.bpdu result.no_room bridge.old).bpdus }
-    ensures note { result.no_room ≡ true → MayLackMemory bridge.old port frame.now }
+    ensures note { result.no_room ≡ true → (frame.now.bpdu ≡ None) × AsksMemory bridge.old port frame.now }
     ensures ports { port_count bridge.new ≡ port_count bridge.old }
 {
     match &frame.bpdu {
@@ -360,7 +361,7 @@ fn pass_on(bridge: &mut Bridge, port: u16, frame: &FrameIn) -> Forwarding
     ensures step { bridge.new ≡ (passed port frame.now result.no_room bridge.old).bridge }
     ensures egress { result.egress.items ≡ (passed port frame.now result.no_room bridge.old).egress }
     ensures bpdus { result.bpdus.items ≡ (passed port frame.now result.no_room bridge.old).bpdus }
-    ensures note { result.no_room ≡ true → MayLackMemory bridge.old port frame.now }
+    ensures note { result.no_room ≡ true → AsksMemory bridge.old port frame.now }
     ensures ports { port_count bridge.new ≡ port_count bridge.old }
 {
     let no_room = bridge.learn(port, frame);

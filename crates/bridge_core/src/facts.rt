@@ -33,7 +33,9 @@ pub struct PortFacts {
     pub ifindex: u32,
     /// Whether the port is enabled by its setting and its link is up.
     pub on: bool,
+    /// The port state.
     pub state: State,
+    /// The port role.
     pub role: Role,
     /// The port priority vector: the designated root, cost, bridge and port.
     pub vector: PriorityVector,

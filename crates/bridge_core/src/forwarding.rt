@@ -13,8 +13,11 @@ use rstp_rules::vector::is_same_address;
 /// By which ports a frame may go, of those that forward and are not its own.
 #[derive(Clone, Copy, Debug, PartialEq, Eq)]
 pub enum Way {
+    /// By no port.
     Nowhere,
+    /// By each of them.
     Anywhere,
+    /// By the port of this number.
     By(u16),
 }
 

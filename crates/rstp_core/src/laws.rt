@@ -1,5 +1,5 @@
 //! Laws of the spanning tree, for every list of happenings from the opening on in which each change of settings is followed by
-//! settling them. Each function does nothing: its contract is the law.
+//! settling them; and that each event is a function of the settings and the tree. Each function does nothing: its contract is the law.
 //!
 //! Not true here, and not claimed: that the learned rows of a port go when it is blocked by synchronization (they stay); that no
 //! port forwards while it is off between a change of its enable setting and settling it, and, where its link goes down in between,

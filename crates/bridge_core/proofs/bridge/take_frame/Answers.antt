@@ -16,7 +16,9 @@ returns-then-is_on-clause-bpdus c = c.take_received.ensures.bpdus ∙ (ap (λ (b
 
 pub returns-then-is_on-clause-note : goal.returns-then-is_on-clause-note
 unfolding received
-returns-then-is_on-clause-note c = λ e. rw c.receive.ensures.step at (c.take_received.ensures.note e)
+returns-then-is_on-clause-note c = λ e.
+    let h = c.take_received.ensures.note e in
+    record { on = sym c.is_on.ensures ∙ c.if-is_on.true; plain = h.0; asks = rw c.receive.ensures.step at h.1 }
 
 pub returns-else-is_on-clause-step : goal.returns-else-is_on-clause-step
 returns-else-is_on-clause-step c = ap (λ (g : Framed). g.bridge) (sym (framed_off c.args.bridge.now c.args.port c.args.frame.now false (sym c.is_on.ensures ∙ c.if-is_on.false)))
