@@ -195,10 +195,7 @@ fn port_configs(alloc: Global, ports: &[Port]) -> Result<Vec<PortConfig>, AllocE
 }
 
 // The bridge of a configuration.
-fn make_bridge<'a>(
-    alloc: Global,
-    configuration: &Configuration,
-) -> Result<Bridge, Failure<'a>> {
+fn make_bridge<'a>(alloc: Global, configuration: &Configuration) -> Result<Bridge, Failure<'a>> {
     let Ok(ports) = port_configs(alloc, configuration.ports.as_slice()) else {
         return Err(Failure::Refused);
     };

@@ -1,4 +1,5 @@
 //! GetBulk, whose work is bounded by what fits into a reply and not by how many repetitions are asked for.
+use crate::access::policy_with;
 use crate::print::print_turns;
 use agent_core::{Buffer, PlainWorld, answer};
 use message_core::{Binding, Value, decode};
@@ -61,13 +62,13 @@ fn world(alloc: Global) -> io::Result<PlainWorld> {
             value: Value::Integer(1),
         })?;
     }
-    match PlainWorld::new(instances, Vec::new(alloc)) {
+    match PlainWorld::new(instances, Vec::new(alloc), policy_with(alloc, 1)?) {
         Ok(world) => Ok(world),
         Err(_) => Err(Error::from(ErrorKind::InvalidData)),
     }
 }
 
-fn measure(rt: &HostRuntime, what: &str, world: &PlainWorld, octets: &[u8]) -> io::Result<()> {
+fn measure(rt: &HostRuntime, what: &str, world: &mut PlainWorld, octets: &[u8]) -> io::Result<()> {
     let request = match decode(rt.alloc(), octets) {
         Ok(request) => request,
         Err(_) => return Err(Error::from(ErrorKind::InvalidData)),
@@ -84,14 +85,14 @@ fn measure(rt: &HostRuntime, what: &str, world: &PlainWorld, octets: &[u8]) -> i
 
 /// Answers a GetBulk of 60 names with 10 and with 2,147,483,647 repetitions.
 pub fn measure_bulk(rt: &HostRuntime) -> io::Result<()> {
-    let world = world(rt.alloc())?;
+    let mut world = world(rt.alloc())?;
     let ten = datagram(rt.alloc(), &TEN)?;
-    measure(rt, "GetBulk of 10 repetitions", &world, ten.as_slice())?;
+    measure(rt, "GetBulk of 10 repetitions", &mut world, ten.as_slice())?;
     let most = datagram(rt.alloc(), &MOST)?;
     measure(
         rt,
         "GetBulk of 2147483647 repetitions",
-        &world,
+        &mut world,
         most.as_slice(),
     )
 }

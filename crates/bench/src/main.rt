@@ -1,21 +1,25 @@
 //! Measurements in one process. Without words it prints their names, one a line; with a name it measures and prints figures.
 #![tactic(auto)]
 
+mod access;
 mod bridge;
 mod bulk;
+mod forwarding;
 mod messages;
 mod print;
 mod sources;
 mod tree;
 
+use access::measure_access;
 use bridge::{measure_addresses, measure_frames};
 use bulk::measure_bulk;
+use forwarding::measure_forwarding;
 use messages::{measure_decode, measure_encode, measure_script};
 use std::{env, io};
 use tree::measure_tree;
 
 /// The names of the measurements.
-const NAMES: [&str; 7] = [
+const NAMES: [&str; 9] = [
     "decode",
     "encode",
     "bulk",
@@ -23,6 +27,8 @@ const NAMES: [&str; 7] = [
     "frames",
     "addresses",
     "tree",
+    "access",
+    "forwarding",
 ];
 
 fn main(rt: HostRuntime) -> io::Result<()> {
@@ -38,6 +44,8 @@ fn main(rt: HostRuntime) -> io::Result<()> {
             "frames" => measure_frames(&rt),
             "addresses" => measure_addresses(&rt),
             "tree" => measure_tree(&rt),
+            "access" => measure_access(&rt),
+            "forwarding" => measure_forwarding(&rt),
             _ => print_names(&rt),
         },
     }

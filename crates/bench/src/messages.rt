@@ -1,4 +1,6 @@
 //! Messages and scripts.
+use crate::access::policy_with;
+use crate::forwarding::bridge_of;
 use crate::print::print_turns;
 use crate::sources::{Nowhere, Repeated};
 use agent_script::{built_in_world, run_script};
@@ -56,13 +58,14 @@ pub fn measure_encode(rt: &HostRuntime) -> io::Result<()> {
 
 /// Runs a script of the worked request, from memory to nowhere.
 pub fn measure_script(rt: &HostRuntime) -> io::Result<()> {
-    let world = match built_in_world(rt.alloc()) {
+    let world = match built_in_world(rt.alloc(), policy_with(rt.alloc(), 1)?) {
         Ok(world) => world,
         Err(_) => return Err(Error::from(ErrorKind::OutOfMemory)),
     };
+    let bridge = bridge_of(rt.alloc(), 2)?;
     let mut reader = Repeated::new(LINE, TURNS);
     let start = Instant::now(rt)?;
-    if run_script(rt.alloc(), world, &mut reader, &mut Nowhere).is_err() {
+    if run_script(rt.alloc(), world, bridge, &mut reader, &mut Nowhere).is_err() {
         return Err(Error::from(ErrorKind::Other));
     }
     print_turns(rt, "script lines", TURNS, &start)
