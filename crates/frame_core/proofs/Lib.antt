@@ -2,3 +2,4 @@ pub mod Puts
 pub mod Same
 pub mod Sent
 pub mod Bits
+pub mod Readings

@@ -152,6 +152,18 @@ group_from d e = same_mac d BRIDGE_GROUP ((bytes_eq-Decides d.0 BRIDGE_GROUP.0).
     told true h = refl
     told false h = cc
 
+-- an address that `!=` tells from the group address
+pub other_from : (d : Mac) → true ≡ not (bytes_eq d.0 BRIDGE_GROUP.0) → d ≢ BRIDGE_GROUP
+other_from d e = λ group. told (bytes_eq d.0 BRIDGE_GROUP.0) e ((bytes_eq-Decides d.0 BRIDGE_GROUP.0).1 (ap (λ (m : Mac). m.0) group))
+  where
+    told : (b : Bool) → true ≡ not b → b ≡ true → ⊥
+    told true h k = cc
+    told false h k = cc
+
+-- a frame to another address
+pub to_other : (octets : List ℕ) (d s : Mac) → 14 ≤ length octets → length octets ≤ 1518 → d.0 ≡ take 6 octets → s.0 ≡ take 6 (drop 6 octets) → d ≢ BRIDGE_GROUP → IsFrame octets (record { destination = d; source = s; bpdu = None })
+to_other octets d s least most at behind other = record { least = least; most = most; destination = at; source = behind; bpdu = other }
+
 -- a frame to the group address, with what it carries
 pub to_group : (octets : List ℕ) (d s : Mac) (b : Bpdu) → 14 ≤ length octets → length octets ≤ 1518 → d.0 ≡ take 6 octets → s.0 ≡ take 6 (drop 6 octets) → d ≡ BRIDGE_GROUP → CarriesBpdu octets b → IsFrame octets (record { destination = d; source = s; bpdu = Some b })
 to_group octets d s b least most at behind group carried = record { least = least; most = most; destination = at; source = behind; bpdu = (group, carried) }

@@ -5,6 +5,7 @@
 mod bpdu;
 mod fault;
 mod frame;
+pub mod laws;
 mod layout;
 mod mac;
 mod reading;

@@ -3,6 +3,7 @@ ghost use Rattle.std.specs.Prelude.{◌≡◌, ◌≢◌, ◌≤◌, ◌<◌, le
 ghost use Rattle.frame_core.specs.Octets.{has_bit};
 ghost use Rattle.frame_core.specs.Layout.{IsBridgeId, IsVector, AreTimes, IsConfig, IsRapid, IsBpdu};
 ghost use Rattle.frame_core.specs.Frames.{CarriesBpdu, IsFrame, IsFault};
+ghost use Rattle.frame_core.specs.Reading.{frame_at};
 
 use crate::bpdu::{Bpdu, BridgeId, Config, PortRole, PriorityVector, Rapid, Times};
 use crate::fault::FrameFault;
@@ -147,6 +148,8 @@ pub fn read_frame(octets: &[u8]) -> Result<FrameIn, FrameFault>
     ensures fault { IfErr result (λ e. IsFault octets.now e) }
     // and where there is a cause it is the answer.
     ensures exactly { (e : FrameFault) → IsFault octets.now e → result ≡ Err e }
+    // So the answer is a function of the octets, by their kind and the places of their fields.
+    ensures reading { result ≡ frame_at octets.now }
 {
     if octets.len() < MIN_FRAME_LEN {
         return Err(FrameFault::Short);
