@@ -177,6 +177,7 @@ impl Bridge {
         ensures bpdus { result.bpdus.items ≡ (framed self.old port frame.now result.no_room).bpdus }
         ensures note { result.no_room ≡ true → MayLackMemory self.old port frame.now }
         ensures ports { port_count self.new ≡ port_count self.old }
+        ensures each { length result.bpdus.items ≡ port_count self.old }
     {
         take_frame(self, port, frame)
     }
@@ -321,6 +322,7 @@ fn take_frame(bridge: &mut Bridge, port: u16, frame: &FrameIn) -> Forwarding
     ensures bpdus { result.bpdus.items ≡ (framed bridge.old port frame.now result.no_room).bpdus }
     ensures note { result.no_room ≡ true → MayLackMemory bridge.old port frame.now }
     ensures ports { port_count bridge.new ≡ port_count bridge.old }
+    ensures each { length result.bpdus.items ≡ port_count bridge.old }
 {
     if bridge.is_on(port) {
         bridge.receive(port);
@@ -343,6 +345,7 @@ fn take_received(bridge: &mut Bridge, port: u16, frame: &FrameIn) -> Forwarding
     ensures bpdus { result.bpdus.items ≡ (taken port frame.now frame.now.bpdu result.no_room bridge.old).bpdus }
     ensures note { result.no_room ≡ true → (frame.now.bpdu ≡ None) × AsksMemory bridge.old port frame.now }
     ensures ports { port_count bridge.new ≡ port_count bridge.old }
+    ensures each { length result.bpdus.items ≡ port_count bridge.old }
 {
     match &frame.bpdu {
         Some(bpdu) => Forwarding {
@@ -363,6 +366,7 @@ fn pass_on(bridge: &mut Bridge, port: u16, frame: &FrameIn) -> Forwarding
     ensures bpdus { result.bpdus.items ≡ (passed port frame.now result.no_room bridge.old).bpdus }
     ensures note { result.no_room ≡ true → AsksMemory bridge.old port frame.now }
     ensures ports { port_count bridge.new ≡ port_count bridge.old }
+    ensures each { length result.bpdus.items ≡ port_count bridge.old }
 {
     let no_room = bridge.learn(port, frame);
     let egress = bridge.forward(port, frame.destination);
