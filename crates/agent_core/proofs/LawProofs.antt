@@ -21,7 +21,7 @@ use Rattle.audit_core.specs.declared.decision.Decision.{Decision}
 use Rattle.audit_core.specs.declared.decision.Decision.TheVariants.{Allowed}
 use Rattle.agent_core.specs.Deciding.{decided}
 use Rattle.agent_core.specs.World.{World}
-use Rattle.agent_core.specs.Replies.{sized, kind_reply, reply_by, reply_of, walk, last_name}
+use Rattle.agent_core.specs.Replies.{sized, kind_reply, reply_by, reply_of, AgreesOnAsked, walk, last_name}
 use Rattle.agent_core.proofs.Rising.{rising_tail, rising_head, name_lt-irrefl, name_lt-asym}
 use Rattle.agent_core.proofs.Rest.{find_is, after-first}
 use Rattle.agent_core.proofs.Fits.{total-append}
@@ -50,26 +50,28 @@ get_same objects (b ∷ bs) first second rows others e h =
     ap (λ z. z ∷ get_answers objects first rows bs) here ∙ ap (λ zs. get_answer objects (second b.name) (visible second others) b.name ∷ zs) more
 
 -- equal replies over what is seen
-kind_same : (objects : List (List ℕ)) (first second : List ℕ → Bool) (rows others : List Binding) (request : Request) (kind : Kind) → visible first rows ≡ visible second others →
-    All (λ b. first b.name ≡ second b.name) request.bindings → kind_reply objects first rows request kind ≡ kind_reply objects second others request kind
-kind_same objects first second rows others request Get e h =
-    ap (λ bs. sized (answer_to request NoError (pos 0) bs)) (get_same objects request.bindings first second rows others e h)
-kind_same objects first second rows others request GetNext e h = ap (λ vs. sized (answer_to request NoError (pos 0) (next_answers vs (names_of request.bindings)))) e
-kind_same objects first second rows others request Set e h = refl
-kind_same objects first second rows others request GetBulk e h = ap (λ vs. answer_to request NoError (pos 0) (fitting request (asked_list vs request))) e
+kind_same : (objects others_objects : List (List ℕ)) (first second : List ℕ → Bool) (rows others : List Binding) (request : Request) (kind : Kind) →
+    visible first rows ≡ visible second others → (kind ≡ Get → (objects ≡ others_objects) × All (λ b. first b.name ≡ second b.name) request.bindings) →
+    kind_reply objects first rows request kind ≡ kind_reply others_objects second others request kind
+kind_same objects others_objects first second rows others request Get e h =
+    ap (λ bs. sized (answer_to request NoError (pos 0) bs))
+    (ap (λ (os : List (List ℕ)). get_answers os first rows request.bindings) (h refl).0
+    ∙ get_same others_objects request.bindings first second rows others e (h refl).1)
+kind_same objects others_objects first second rows others request GetNext e h = ap (λ vs. sized (answer_to request NoError (pos 0) (next_answers vs (names_of request.bindings)))) e
+kind_same objects others_objects first second rows others request Set e h = refl
+kind_same objects others_objects first second rows others request GetBulk e h = ap (λ vs. answer_to request NoError (pos 0) (fitting request (asked_list vs request))) e
 
 pub reply_same : (world other : World) (request : Request) (row other_row : AccessKey) (view other_view : List ℕ) →
-    decided world.policy request ≡ Allowed row view → decided other.policy request ≡ Allowed other_row other_view → world.objects ≡ other.objects →
+    decided world.policy request ≡ Allowed row view → decided other.policy request ≡ Allowed other_row other_view →
     visible (in_view world.policy.vacm.families view) world.instances ≡ visible (in_view other.policy.vacm.families other_view) other.instances →
-    All (λ b. in_view world.policy.vacm.families view b.name ≡ in_view other.policy.vacm.families other_view b.name) request.bindings →
+    (request.kind ≡ Get → AgreesOnAsked world other view other_view request) →
     reply_of world request ≡ reply_of other request
 unfolding reply_of
-reply_same world other request row other_row view other_view d f o e h =
+reply_same world other request row other_row view other_view d f e h =
     let first : List ℕ → Bool = in_view world.policy.vacm.families view in
     let second : List ℕ → Bool = in_view other.policy.vacm.families other_view in
     let same : kind_reply world.objects first world.instances request request.kind ≡ kind_reply other.objects second other.instances request request.kind =
-    ap (λ (objects : List (List ℕ)). kind_reply objects first world.instances request request.kind) o
-    ∙ kind_same other.objects first second world.instances other.instances request request.kind e h in
+        kind_same world.objects other.objects first second world.instances other.instances request request.kind e (λ g. ((h g).objects, (h g).asked)) in
     ap (λ (decision : Decision). reply_by world request decision) d
     ∙ ap (λ (reply : Reply). Some reply) same
     ∙ sym (ap (λ (decision : Decision). reply_by other request decision) f)

@@ -1,5 +1,5 @@
 -- Whole replies (RFC 3416, 4.2), and walks.
-use Rattle.std.specs.Prelude.{ℕ, zero, suc, pos, Bool, if◌then◌else◌, nat_lt, List, [], ◌∷◌, length, Option, Some, None}
+use Rattle.std.specs.Prelude.{◌≡◌, All, ℕ, zero, suc, pos, Bool, if◌then◌else◌, nat_lt, List, [], ◌∷◌, length, Option, Some, None}
 use Rattle.message_core.specs.Canon.{canon_reply, answer_to}
 use Rattle.message_core.specs.declared.binding.Binding.{Binding}
 use Rattle.message_core.specs.declared.request.Kind.{Kind}
@@ -65,6 +65,11 @@ reply_by world request (Allowed row view) =
 -- The reply to a request, or none where it is dropped.
 unfoldable pub reply_of : World → Request → Option Reply
 reply_of world request = reply_by world request (decided world.policy request)
+
+-- two worlds have the same objects, and their views agree on whether each asked name is in them
+pub record AgreesOnAsked (world other : World) (view other_view : List ℕ) (request : Request) : Type 0 where
+  pub objects : world.objects ≡ other.objects
+  pub asked : All (λ b. in_view world.policy.vacm.families view b.name ≡ in_view other.policy.vacm.families other_view b.name) request.bindings
 
 -- the answers to so many GetNext, each of the name that the one before answered
 abbrev pub walk : List Binding → ℕ → List ℕ → List Binding

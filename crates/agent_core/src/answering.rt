@@ -26,7 +26,7 @@ use vacm_core::Name;
 
 /// Answers a request over a plain world by RFC 3416, 4.2, as the policy lets its caller see it (RFC 3415, 3.2). The buffer holds the
 /// reply in its minimal spelling, or nothing where the request is dropped; a drop is counted, and nothing else changes in the world.
-/// The work for a GetBulk is bounded by what fits into 1,472 octets, whatever max-repetitions says.
+/// A GetBulk looks for as many successors in the view as bindings are sent, and one more, whatever max-repetitions says.
 ///
 /// The caller hands in a request whose names and OBJECT IDENTIFIER values have a spelling, as `decode` gives it.
 ///

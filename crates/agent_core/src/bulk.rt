@@ -154,8 +154,8 @@ fn max_repetitions(request: &Request) -> u32
 
 /// What GetBulk answers (RFC 3416, 4.2.3): the longest front of the list that it asks for whose reply has at most 1,472 octets.
 ///
-/// The work is bounded by what fits and not by max-repetitions: it asks for one successor a binding that is sent, and for one
-/// more. A binding has 6 octets or more, so at most 246 successors are looked for. Only memory can fail.
+/// It looks for one successor in the view a binding that is sent, and for one more, whatever max-repetitions says: a binding has 6
+/// octets or more, so those are at most 246. Instances outside the view that are passed over do not count. Only memory can fail.
 pub fn get_bulk<S: Source, V: View>(
     alloc: Global,
     source: &S,

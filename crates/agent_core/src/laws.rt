@@ -2,6 +2,7 @@
 ghost use Rattle.std.specs.Prelude.{◌≡◌, ◌*◌, ◌≤◌, ℕ, suc, Bool, List, [], ◌∷◌, ◌++◌, length, All, MatchOption};
 ghost use Rattle.message_core.specs.declared.binding.Binding.{Binding};
 ghost use Rattle.message_core.specs.declared.request.Request.{Request};
+ghost use Rattle.message_core.specs.declared.request.Kind.TheVariants.{Get};
 ghost use Rattle.vacm_core.specs.Families.{in_view};
 ghost use Rattle.audit_core.specs.declared.keys.AccessKey.{AccessKey};
 ghost use Rattle.audit_core.specs.declared.decision.Decision.TheVariants.{Allowed};
@@ -9,10 +10,11 @@ ghost use Rattle.agent_core.specs.Deciding.{decided};
 ghost use Rattle.agent_core.specs.World.{World};
 ghost use Rattle.agent_core.specs.Reading.{IsRising, IsLeastAfter, visible, after, next_of, end_under};
 ghost use Rattle.agent_core.specs.Fitting.{fitting, IsLongestFitting};
-ghost use Rattle.agent_core.specs.Replies.{get_reply, next_reply, bulk_reply, reply_of, walk, last_name};
+ghost use Rattle.agent_core.specs.Replies.{AgreesOnAsked, get_reply, next_reply, bulk_reply, reply_of, walk, last_name};
 
 /// Only what is visible matters: where two worlds let the caller in and show it the same instances, the replies to GetNext and to
-/// GetBulk are equal, and so is the reply to Get where the views also agree on whether each asked name is in them.
+/// GetBulk are equal, and so is the reply to Get where they have the same objects and the views also agree on whether each asked name
+/// is in them.
 ///
 /// In particular a hidden instance that exists is answered as one that does not.
 pub fn same_visible()
@@ -25,9 +27,8 @@ pub fn same_visible()
         visible first rows ≡ visible second others → bulk_reply first rows request ≡ bulk_reply second others request }
     ensures reply { (world other : World) (request : Request) (row other_row : AccessKey) (view other_view : List ℕ) →
         decided world.policy request ≡ Allowed row view → decided other.policy request ≡ Allowed other_row other_view →
-        world.objects ≡ other.objects →
         visible (in_view world.policy.vacm.families view) world.instances ≡ visible (in_view other.policy.vacm.families other_view) other.instances →
-        All (λ asked. in_view world.policy.vacm.families view asked.name ≡ in_view other.policy.vacm.families other_view asked.name) request.bindings →
+        (request.kind ≡ Get → AgreesOnAsked world other view other_view request) →
         reply_of world request ≡ reply_of other request }
 {}
 

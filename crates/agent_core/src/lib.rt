@@ -25,7 +25,6 @@ pub use deciding::decide;
 pub use denying::denied_bindings;
 pub use getting::get;
 pub use nexts::get_next;
-pub use sent_reply::SentReply;
 pub use source::{Source, View};
 pub use views::PolicyView;
 pub use world::{PlainWorld, WorldFault};

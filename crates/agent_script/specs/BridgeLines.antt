@@ -1,5 +1,5 @@
 -- What is said to the events of a bridge, and what they make of it.
-use Rattle.std.specs.Prelude.{ℕ, zero, suc, ◌+◌, Bool, false, codes, decimal, List, [], ◌∷◌, ◌++◌, Option, Some, None, Result, Ok, Err}
+use Rattle.std.specs.Prelude.{ℕ, zero, suc, ◌+◌, Bool, codes, decimal, List, [], ◌∷◌, ◌++◌, Option, Some, None, Result, Ok, Err}
 use Rattle.std.specs.List.{flat_map}
 use Rattle.hex.specs.Hex.{encode_upper}
 use Rattle.frame_core.specs.declared.mac.Mac.{Mac}
@@ -10,6 +10,7 @@ use Rattle.frame_core.specs.declared.fault.FrameFault.TheVariants.{Short, TooLon
 use Rattle.frame_core.specs.Sending.{frame_octets}
 use Rattle.frame_core.specs.Reading.{frame_at}
 use Rattle.bridge_core.specs.Bridge.{BridgeState, address_of}
+use Rattle.bridge_core.specs.Forwarding.{MayLackMemory}
 use Rattle.bridge_core.specs.Events.{Framed, framed, tick_of, ticked_bridge, link_of, linked_bridge}
 
 -- a BPDU that a port sends, as the frame that the bridge of this address sends
@@ -41,21 +42,29 @@ egress_text (port ∷ ports) = decimal port ++ flat_map another_port ports
 abbrev pub framed_text : Mac → Framed → List ℕ
 framed_text address f = codes "forward " ++ egress_text f.egress ++ codes "\n" ++ bpdu_lines address 1 f.bpdus
 
--- A frame that is refused is no event.
-abbrev pub taken_text : BridgeState → ℕ → Result FrameIn FrameFault → List ℕ
-taken_text b port (Ok frame) = framed_text (address_of b) (framed b port frame false)
-taken_text b port (Err fault) = codes "badframe " ++ fault_name fault ++ codes "\n"
+-- A frame that is refused is no event. `no_room` notes that the growth for a learned row was refused.
+abbrev pub taken_text : BridgeState → ℕ → Bool → Result FrameIn FrameFault → List ℕ
+taken_text b port no_room (Ok frame) = framed_text (address_of b) (framed b port frame no_room)
+taken_text b port no_room (Err fault) = codes "badframe " ++ fault_name fault ++ codes "\n"
 
-abbrev pub after_taken : BridgeState → ℕ → Result FrameIn FrameFault → BridgeState
-after_taken b port (Ok frame) = (framed b port frame false).bridge
-after_taken b port (Err fault) = b
+abbrev pub after_taken : BridgeState → ℕ → Bool → Result FrameIn FrameFault → BridgeState
+after_taken b port no_room (Ok frame) = (framed b port frame no_room).bridge
+after_taken b port no_room (Err fault) = b
 
--- a frame's octets at a port, where there is memory for a learned row
-unfoldable pub frame_text : BridgeState → ℕ → List ℕ → List ℕ
-frame_text b port octets = taken_text b port (frame_at octets)
+-- a frame's octets at a port
+unfoldable pub frame_text : BridgeState → ℕ → Bool → List ℕ → List ℕ
+frame_text b port no_room octets = taken_text b port no_room (frame_at octets)
 
-unfoldable pub after_frame : BridgeState → ℕ → List ℕ → BridgeState
-after_frame b port octets = after_taken b port (frame_at octets)
+unfoldable pub after_frame : BridgeState → ℕ → Bool → List ℕ → BridgeState
+after_frame b port no_room octets = after_taken b port no_room (frame_at octets)
+
+-- the growth for a learned row may be refused: these octets are a frame that asks for one
+abbrev pub MayLackRow : BridgeState → ℕ → Result FrameIn FrameFault → Type 0
+MayLackRow b port (Ok frame) = MayLackMemory b port frame
+MayLackRow b port (Err fault) = ⊥
+
+unfoldable pub MayLackRoom : BridgeState → ℕ → List ℕ → Type 0
+MayLackRoom b port octets = MayLackRow b port (frame_at octets)
 
 -- so many seconds, one after another
 abbrev pub ticks_text : ℕ → BridgeState → List ℕ

@@ -1,5 +1,5 @@
 -- What is said to a datagram, and what it changes.
-use Rattle.std.specs.Prelude.{ℕ, ◌+◌, ◌%◌, ◌^◌, Bool, codes, if◌then◌else◌, List, [], ◌++◌, Option, Some, None, Result, Ok, Err}
+use Rattle.std.specs.Prelude.{ℕ, Bool, codes, if◌then◌else◌, List, [], ◌++◌, Option, Some, None, Result, Ok, Err}
 use Rattle.hex.specs.Hex.{encode_upper}
 use Rattle.message_core.specs.Canon.{canon_reply}
 use Rattle.message_core.specs.FirstFault.{request_at}
@@ -12,8 +12,8 @@ use Rattle.audit_core.specs.declared.audit.Audit.{Audit}
 use Rattle.audit_core.specs.declared.decision.Decision.{Decision}
 use Rattle.audit_core.specs.declared.decision.Decision.TheVariants.{UnknownCommunity, NoSuchContext, Empty, NoGroupName, NoAccessEntry, NoSuchView, Allowed}
 use Rattle.agent_core.specs.World.{World}
-use Rattle.agent_core.specs.Replies.{reply_of}
-use Rattle.agent_core.specs.Answers.{audit_of, world_after}
+use Rattle.agent_core.specs.Replies.{reply_of, failed}
+use Rattle.agent_core.specs.Answers.{audit_of, world_after, one_more}
 use Rattle.agent_script.specs.State.{Agent}
 use Rattle.agent_script.specs.declared.drops.Drops.{Drops}
 
@@ -29,7 +29,7 @@ cause_name Memory = codes "Memory"
 abbrev pub drop_text : List ℕ → List ℕ
 drop_text name = codes "drop " ++ name ++ codes "\n"
 
--- the name of what drops a request: its context, or its community
+-- the name of what drops a request: its context, or its community; the other decisions drop none
 abbrev pub dropped_name : Decision → List ℕ
 dropped_name UnknownCommunity = codes "UnknownCommunity"
 dropped_name (NoSuchContext name) = codes "NoSuchContext"
@@ -43,6 +43,10 @@ dropped_name (Allowed row view) = codes "UnknownCommunity"
 abbrev pub reply_text : Option Reply → Decision → List ℕ
 reply_text (Some reply) decision = codes "reply " ++ encode_upper (canon_reply reply) ++ codes "\n"
 reply_text None decision = drop_text (dropped_name decision)
+
+-- the reply for a want of memory
+unfoldable pub short_text : Request → List ℕ
+short_text request = codes "reply " ++ encode_upper (canon_reply (failed request)) ++ codes "\n"
 
 -- the audit, where it is told
 abbrev pub told_audit : Bool → Audit → List ℕ
@@ -60,17 +64,13 @@ said_of on world (Err cause) = drop_text (cause_name cause)
 unfoldable pub datagram_text : Bool → World → List ℕ → List ℕ
 datagram_text on world datagram = said_of on world (request_at datagram)
 
--- one more, modulo 2^32
-abbrev pub risen : ℕ → ℕ
-risen n = (n + 1) % 2 ^ 32
-
 -- one more datagram that this cause drops
 abbrev pub dropped_more : Drops → DropCause → Drops
-dropped_more drops TooLong = record drops { too_long = risen drops.too_long }
-dropped_more drops Malformed = record drops { malformed = risen drops.malformed }
-dropped_more drops BadVersion = record drops { bad_version = risen drops.bad_version }
-dropped_more drops BadKind = record drops { bad_kind = risen drops.bad_kind }
-dropped_more drops Memory = record drops { memory = risen drops.memory }
+dropped_more drops TooLong = record drops { too_long = one_more drops.too_long }
+dropped_more drops Malformed = record drops { malformed = one_more drops.malformed }
+dropped_more drops BadVersion = record drops { bad_version = one_more drops.bad_version }
+dropped_more drops BadKind = record drops { bad_kind = one_more drops.bad_kind }
+dropped_more drops Memory = record drops { memory = one_more drops.memory }
 
 -- the agent after a datagram: after its request, or with one more that is dropped
 abbrev pub after_reading : Agent → Result Request DropCause → Agent

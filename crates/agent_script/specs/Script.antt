@@ -1,5 +1,5 @@
 -- What the agent says to the lines of a script, and what they change.
-use Rattle.std.specs.Prelude.{ℕ, codes, decimal, if◌then◌else◌, List, [], ◌∷◌, ◌++◌, Option, Some, None}
+use Rattle.std.specs.Prelude.{ℕ, false, codes, decimal, if◌then◌else◌, List, [], ◌∷◌, ◌++◌, Option, Some, None}
 use Rattle.std.specs.List.{flat_map}
 use Rattle.std.specs.Str.{bytes_eq}
 use Rattle.community_core.specs.Communities.{PolicyTables}
@@ -30,7 +30,7 @@ counts_text drops world = codes "counts" ++ flat_map spaced (counts_of drops wor
 abbrev pub command_text : Agent → Option Command → List ℕ
 command_text agent None = codes "badline\n"
 command_text agent (Some (request datagram)) = datagram_text agent.is_auditing agent.world datagram
-command_text agent (Some (frame port octets)) = frame_text agent.bridge port octets
+command_text agent (Some (frame port octets)) = frame_text agent.bridge port false octets
 command_text agent (Some (tick seconds)) = ticks_text seconds agent.bridge
 command_text agent (Some (link port up)) = link_text port up agent.bridge
 command_text agent (Some policy) = []
@@ -41,7 +41,7 @@ command_text agent (Some counts) = counts_text agent.drops agent.world
 abbrev pub after_command : Agent → Option Command → Agent
 after_command agent None = agent
 after_command agent (Some (request datagram)) = after_datagram agent datagram
-after_command agent (Some (frame port octets)) = record agent { bridge = after_frame agent.bridge port octets }
+after_command agent (Some (frame port octets)) = record agent { bridge = after_frame agent.bridge port false octets }
 after_command agent (Some (tick seconds)) = record agent { bridge = after_ticks seconds agent.bridge }
 after_command agent (Some (link port up)) = record agent { bridge = linked_bridge port up agent.bridge }
 after_command agent (Some policy) = record agent { policy_lines = Some [] }

@@ -1,5 +1,5 @@
 //! The agent that a script drives.
-ghost use Rattle.std.specs.Prelude.{◌≡◌, ◌++◌, IsTrue, IfOk, OnOk, Some, None, [], option_map, codes};
+ghost use Rattle.std.specs.Prelude.{◌≡◌, ◌++◌, false, IsTrue, IfOk, OnOk, Some, None, [], option_map, codes};
 ghost use Rattle.agent_script.specs.State.{Agent as State, opening_agent};
 ghost use Rattle.agent_script.specs.Requests.{datagram_text, after_datagram};
 ghost use Rattle.agent_script.specs.CommandViews.{command_view};
@@ -104,7 +104,8 @@ impl Agent {
             None => out.extend_from_slice(b"badline\n")?,
             Some(Command::Request(datagram)) => return self.datagram(alloc, &datagram, out),
             Some(Command::Frame(port, octets)) => {
-                return say_frame(&mut self.bridge, port, &octets, out);
+                let no_room = say_frame(&mut self.bridge, port, &octets, out)?;
+                return Ok(!no_room);
             }
             Some(Command::Tick(seconds)) => say_ticks(&mut self.bridge, seconds, out)?,
             Some(Command::Link(port, up)) => say_link(&mut self.bridge, port, up, out)?,
@@ -174,6 +175,8 @@ impl Agent {
         requires { self.old.policy_lines ≡ None }
         ensures said { IfOk result (λ whole. IsTrue whole → out.new.items ≡ out.old.items ++ policy_text (policy_in lines.now)) }
         ensures after { IfOk result (λ whole. IsTrue whole → self.new ≡ with_policy self.old (policy_in lines.now)) }
+        ensures short { IfOk result (λ whole. whole ≡ false → out.new.items ≡ out.old.items ++ policy_text None) }
+        ensures as_before { IfOk result (λ whole. whole ≡ false → self.new ≡ self.old) }
     {
         match policy_in(alloc, lines) {
             Ok(policy) => {

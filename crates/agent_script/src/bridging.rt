@@ -1,10 +1,11 @@
 //! What is said to the events of a bridge.
-ghost use Rattle.std.specs.Prelude.{◌≡◌, ◌≤◌, ◌++◌, codes, decimal, false, IsTrue, IfOk, OnOk, Some};
+ghost use Rattle.std.specs.Prelude.{◌≡◌, ◌≤◌, ◌++◌, codes, decimal, true, IfOk, OnOk, Some};
 ghost use Rattle.std.specs.List.{flat_map};
 ghost use Rattle.frame_core.specs.declared.bpdu.Bpdu.{Bpdu};
 ghost use Rattle.bridge_core.specs.Bridge.{address_of, port_count};
 ghost use Rattle.bridge_core.specs.Events.{framed, ticked_bridge, tick_of, linked_bridge};
-ghost use Rattle.agent_script.specs.BridgeLines.{bpdu_line, bpdu_lines, fault_name, another_port, egress_text, framed_text, frame_text, after_frame, ticks_text, after_ticks, link_text};
+ghost use Rattle.agent_script.specs.BridgeLines.{bpdu_line, bpdu_lines, fault_name, another_port, egress_text, framed_text, frame_text, after_frame, ticks_text, after_ticks, link_text, MayLackRoom};
+ghost use Rattle.bridge_core.specs.Forwarding.{MayLackMemory};
 
 use bridge_core::Bridge;
 use frame_core::{Bpdu, FrameFault, FrameIn, Mac, SENT_FRAME_LEN, read_frame, write_bpdu};
@@ -121,7 +122,7 @@ fn say_bad_frame(fault: FrameFault, out: &mut Vec<u8>) -> Result<(), AllocError>
     out.extend_from_slice(b"\n")
 }
 
-// Appends where a frame goes and what is sent; answers whether memory was there for a learned row.
+// Appends where a frame goes and what is sent; answers whether the growth for a learned row was refused.
 fn say_taken(
     bridge: &mut Bridge,
     port: u16,
@@ -130,8 +131,9 @@ fn say_taken(
 ) -> Result<bool, AllocError>
     requires first { 1 ≤ port }
     requires last { port ≤ port_count bridge.old }
-    ensures said { IfOk result (λ whole. IsTrue whole → out.new.items ≡ out.old.items ++ framed_text (address_of bridge.old) (framed bridge.old port frame.now false)) }
-    ensures after { IfOk result (λ whole. IsTrue whole → bridge.new ≡ (framed bridge.old port frame.now false).bridge) }
+    ensures said { IfOk result (λ no_room. out.new.items ≡ out.old.items ++ framed_text (address_of bridge.old) (framed bridge.old port frame.now no_room)) }
+    ensures after { IfOk result (λ no_room. bridge.new ≡ (framed bridge.old port frame.now no_room).bridge) }
+    ensures note { IfOk result (λ no_room. no_room ≡ true → MayLackMemory bridge.old port frame.now) }
 {
     let address = address_of(bridge);
     let taken = bridge.frame(port, frame);
@@ -139,11 +141,11 @@ fn say_taken(
     say_egress(taken.egress.as_slice(), out)?;
     out.extend_from_slice(b"\n")?;
     say_bpdus(address, taken.bpdus.as_slice(), out)?;
-    Ok(!taken.no_room)
+    Ok(taken.no_room)
 }
 
-/// Appends what is said to a frame at a port; answers whether memory was there for a learned row.
-#[tactic(auto, unfolding(crate::specs::BridgeLines::frame_text, crate::specs::BridgeLines::after_frame))]
+/// Appends what is said to a frame at a port; answers whether the growth for a learned row was refused.
+#[tactic(auto, unfolding(crate::specs::BridgeLines::frame_text, crate::specs::BridgeLines::after_frame, crate::specs::BridgeLines::MayLackRoom))]
 pub fn say_frame(
     bridge: &mut Bridge,
     port: u16,
@@ -152,14 +154,15 @@ pub fn say_frame(
 ) -> Result<bool, AllocError>
     requires first { 1 ≤ port }
     requires last { port ≤ port_count bridge.old }
-    ensures said { IfOk result (λ whole. IsTrue whole → out.new.items ≡ out.old.items ++ frame_text bridge.old port octets.now) }
-    ensures after { IfOk result (λ whole. IsTrue whole → bridge.new ≡ after_frame bridge.old port octets.now) }
+    ensures said { IfOk result (λ no_room. out.new.items ≡ out.old.items ++ frame_text bridge.old port no_room octets.now) }
+    ensures after { IfOk result (λ no_room. bridge.new ≡ after_frame bridge.old port no_room octets.now) }
+    ensures note { IfOk result (λ no_room. no_room ≡ true → MayLackRoom bridge.old port octets.now) }
 {
     match read_frame(octets) {
         Ok(frame) => say_taken(bridge, port, &frame, out),
         Err(fault) => {
             say_bad_frame(fault, out)?;
-            Ok(true)
+            Ok(false)
         }
     }
 }

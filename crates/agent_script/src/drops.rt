@@ -1,6 +1,7 @@
 //! The counts of datagrams that gave no request.
 ghost use Rattle.std.specs.Prelude.{◌≡◌};
-ghost use Rattle.agent_script.specs.Requests.{dropped_more, risen};
+ghost use Rattle.agent_core.specs.Answers.{one_more};
+ghost use Rattle.agent_script.specs.Requests.{dropped_more};
 
 use message_core::DropCause;
 
@@ -14,8 +15,8 @@ pub struct Drops {
     pub memory: u32,
 }
 
-fn risen(count: u32) -> u32
-    ensures { result ≡ risen count }
+fn one_more(count: u32) -> u32
+    ensures { result ≡ one_more count }
 {
     count.wrapping_add(1)
 }
@@ -39,11 +40,11 @@ impl Drops {
         ensures { self.new ≡ dropped_more self.old cause }
     {
         match cause {
-            DropCause::TooLong => self.too_long = risen(self.too_long),
-            DropCause::Malformed => self.malformed = risen(self.malformed),
-            DropCause::BadVersion => self.bad_version = risen(self.bad_version),
-            DropCause::BadKind => self.bad_kind = risen(self.bad_kind),
-            DropCause::Memory => self.memory = risen(self.memory),
+            DropCause::TooLong => self.too_long = one_more(self.too_long),
+            DropCause::Malformed => self.malformed = one_more(self.malformed),
+            DropCause::BadVersion => self.bad_version = one_more(self.bad_version),
+            DropCause::BadKind => self.bad_kind = one_more(self.bad_kind),
+            DropCause::Memory => self.memory = one_more(self.memory),
         }
     }
 }

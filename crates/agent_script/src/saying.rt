@@ -1,10 +1,10 @@
 //! What is said to a datagram and to `counts`.
-ghost use Rattle.std.specs.Prelude.{◌≡◌, ◌++◌, codes, IsTrue, OnOk, IfOk};
+ghost use Rattle.std.specs.Prelude.{◌≡◌, ◌++◌, codes, false, IsTrue, OnOk, IfOk};
 ghost use Rattle.std.specs.List.{flat_map};
 ghost use Rattle.hex.specs.Hex.{encode_upper};
 ghost use Rattle.message_core.specs.Spellable.{AreSpellable};
 ghost use Rattle.agent_core.specs.Answers.{world_after};
-ghost use Rattle.agent_script.specs.Requests.{cause_name, drop_text, dropped_name, told_audit, request_text};
+ghost use Rattle.agent_script.specs.Requests.{cause_name, drop_text, dropped_name, told_audit, request_text, short_text};
 ghost use Rattle.agent_script.specs.Script.{spaced, counts_text};
 
 use crate::drops::Drops;
@@ -67,8 +67,9 @@ fn say_audit(alloc: Global, on: bool, audit: &Audit, out: &mut Vec<u8>) -> Resul
     write_audit(alloc, audit, out)
 }
 
-/// Appends what is said to a request, and counts it where it is dropped; answers whether memory was there for it.
-#[tactic(auto, unfolding(crate::specs::Requests::request_text))]
+/// Appends what is said to a request, and counts it where it is dropped; answers whether memory was there for it. Where it was not,
+/// the reply for a want of memory is said, and the world is as before.
+#[tactic(auto, unfolding(crate::specs::Requests::request_text, crate::specs::Requests::short_text))]
 pub fn say_request(
     alloc: Global,
     world: &mut PlainWorld,
@@ -80,6 +81,8 @@ pub fn say_request(
     requires { AreSpellable request.now.bindings }
     ensures said { IfOk result (λ whole. IsTrue whole → out.new.items ≡ out.old.items ++ request_text on world.old request.now) }
     ensures world { IfOk result (λ whole. IsTrue whole → world.new ≡ world_after world.old request.now) }
+    ensures short { IfOk result (λ whole. whole ≡ false → out.new.items ≡ out.old.items ++ short_text request.now) }
+    ensures as_before { IfOk result (λ whole. whole ≡ false → world.new ≡ world.old) }
 {
     match answer(alloc, world, request, buffer) {
         Ok(Answered::Reply(_, audit)) => {

@@ -17,7 +17,8 @@ use std::marker::Model;
 pub enum Run {
     /// Each line was answered in full.
     Whole,
-    /// Some line met want of memory, and was answered so: by `drop Memory`, by `policy refused`, or by the reply for a want of memory.
+    /// Some line met want of memory, and was answered so: by `drop Memory`, by `policy refused`, by the reply for a want of memory,
+    /// or by a `forward` whose source found none to be learned.
     Short,
 }
 
@@ -58,7 +59,7 @@ impl Session for AgentSession {
 ///
 /// # Errors
 /// `Input` where a read fails or the input has not ended after 4,294,967,295 reads, `Output` where a write fails, `Memory` where
-/// there is none for a line, for the lines of a policy or for what is said.
+/// there is none for a line, for the lines of a policy or for what is said. What is written before an error is not promised.
 pub fn run_script<R: Read, W: Write>(
     alloc: Global,
     world: PlainWorld,
