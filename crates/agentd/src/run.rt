@@ -133,9 +133,7 @@ fn choose_configuration<'a, R: Files + AllocGlobal>(
     if words.len() <= 1 {
         return read_configuration(rt.alloc(), BUILT_IN.as_bytes());
     }
-    let Some(file) = config_file(rt.alloc(), words) else {
-        return Err(Failure::Usage);
-    };
+    let file = config_file(rt.alloc(), words)?;
     let octets = read_file(rt, file)?;
     read_configuration(rt.alloc(), &octets)
 }
@@ -160,17 +158,21 @@ fn read_configuration<'a>(alloc: Global, octets: &[u8]) -> Result<Configuration,
     }
 }
 
-// The file that the words name, where they are `script --config FILE`.
-fn config_file(alloc: Global, words: &[String]) -> Option<&str> {
+// The file that the words name, where they are `script --config FILE`. Want of memory for the words is not their fault.
+fn config_file(alloc: Global, words: &[String]) -> Result<&str, Failure<'_>> {
     let Ok(command) = make_command(alloc) else {
-        return None;
+        return Err(Failure::Run);
     };
-    let Ok(matches) = command.try_get_matches_from(words) else {
-        return None;
+    let matches = match command.try_get_matches_from(words) {
+        Ok(matches) => matches,
+        Err(error) if error.kind() == clap::error::ErrorKind::OutOfMemory => {
+            return Err(Failure::Run);
+        }
+        Err(_) => return Err(Failure::Usage),
     };
-    match matches.get_str("word") {
-        Some("script") => matches.get_str("config"),
-        _ => None,
+    match (matches.get_str("word"), matches.get_str("config")) {
+        (Some("script"), Some(file)) => Ok(file),
+        _ => Err(Failure::Usage),
     }
 }
 

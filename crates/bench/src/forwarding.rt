@@ -1,98 +1,115 @@
-//! Frames that a bridge forwards, by 2 and 32 ports, among 10 and 1,024 learned addresses.
+//! Frames through a bridge, by 2 and 32 ports, among 10 and 1,024 learned addresses.
 use crate::print::print_turns;
 use bridge_core::Bridge;
 use frame_core::{FrameIn, Mac};
 use rstp_core::{Key, PortConfig, PortKey};
 use std::alloc::Global;
+use std::hint::black_box;
 use std::io;
 use std::io::{Error, ErrorKind};
 use std::time::Instant;
 
-/// How often a frame is forwarded.
-const FRAMES: u32 = 20_000;
+/// How many frames go through.
+const FRAMES: u32 = 200_000;
 
 /// How many ports the bridges have.
 const PORTS: [u16; 2] = [2, 32];
 
-/// How many addresses are learned, the sender's and those of the frames' destinations.
-const ADDRESSES: [u32; 2] = [10, 1_024];
+/// How many addresses they have learned.
+const ROWS: [u32; 2] = [10, 1_024];
 
-fn address_of(number: u32) -> Mac {
+const OWN: Mac = Mac([0x02, 0x00, 0x00, 0x00, 0x00, 0x0A]);
+
+const TO_ALL: Mac = Mac([0xFF; 6]);
+
+const PORT: PortConfig = PortConfig {
+    ifindex: 1,
+    speed: 1_000,
+    full: true,
+};
+
+fn station(number: u32) -> Mac {
     let [_, _, high, low] = number.to_be_bytes();
     Mac([0x02, 0x00, 0x00, 0x01, high, low])
 }
 
-fn frame_of(destination: u32, source: u32) -> FrameIn {
-    FrameIn {
-        destination: address_of(destination),
-        source: address_of(source),
-        bpdu: None,
-    }
-}
-
-// A bridge whose links are up, and whose ports forward at once, as edges do.
-pub fn bridge_of(alloc: Global, ports: u16) -> io::Result<Bridge> {
-    let mut configs = Vec::new(alloc);
-    for number in 0..ports {
-        configs.push(PortConfig {
-            ifindex: u32::from(number) + 1,
-            speed: 1_000,
-            full: true,
-        })?;
-    }
-    let own = Mac([0x02, 0x00, 0x00, 0x00, 0x00, 0x0A]);
-    let Ok(mut bridge) = Bridge::new(alloc, own, &configs) else {
-        return Err(Error::from(ErrorKind::InvalidData));
-    };
-    open_ports(&mut bridge);
-    Ok(bridge)
-}
-
-fn open_ports(bridge: &mut Bridge) {
-    let ports = bridge.ports() as u16;
-    for port in 1..=ports {
+fn set_edge(bridge: &mut Bridge, port: u16) {
+    if port >= 1 && usize::from(port) <= bridge.ports() {
         bridge.put_setting(Key::Port(port, PortKey::Edge), 1);
     }
-    bridge.settle();
+}
+
+fn link_up(bridge: &mut Bridge, port: u16) {
+    if port >= 1 && usize::from(port) <= bridge.ports() {
+        black_box(bridge.link(port, true));
+    }
+}
+
+// How many ports a frame goes out of.
+fn carry(bridge: &mut Bridge, port: u16, source: Mac, destination: Mac) -> usize {
+    let frame = FrameIn {
+        destination,
+        source,
+        bpdu: None,
+    };
+    if port >= 1 && usize::from(port) <= bridge.ports() {
+        bridge.frame(port, &frame).egress.len()
+    } else {
+        0
+    }
+}
+
+// Brings up all ports, at the edge, and learns so many stations by port 1.
+fn prepare(bridge: &mut Bridge, ports: u16, rows: u32) {
     for port in 1..=ports {
-        bridge.link(port, true);
+        set_edge(bridge, port);
+    }
+    black_box(bridge.settle());
+    for port in 1..=ports {
+        link_up(bridge, port);
+    }
+    for number in 0..rows {
+        black_box(carry(bridge, 1, station(number), TO_ALL));
     }
 }
 
-// The sender is learned at port 1, the others at port 2.
-fn learn(bridge: &mut Bridge, addresses: u32) {
-    bridge.frame(1, &frame_of(0, 0));
-    for number in 1..addresses {
-        bridge.frame(2, &frame_of(0, number));
-    }
-}
-
-// Sends frames to the learned addresses in turn, and says how many went out.
-fn forward(bridge: &mut Bridge, addresses: u32) -> u32 {
-    let mut out = 0u32;
-    for turn in 0..FRAMES {
-        let frame = frame_of(1 + turn % (addresses - 1), 0);
-        if !bridge.frame(1, &frame).egress.is_empty() {
-            out += 1;
-        }
-    }
-    out
-}
-
-fn measure(rt: &HostRuntime, ports: u16, addresses: u32) -> io::Result<()> {
-    let mut bridge = bridge_of(rt.alloc(), ports)?;
-    learn(&mut bridge, addresses);
+// Frames from port 2, where the last station has moved, to the stations at port 1 and to everybody.
+fn measure_bridge(rt: &HostRuntime, bridge: &mut Bridge, rows: u32) -> io::Result<()> {
+    let others = rows.saturating_sub(1);
     let start = Instant::now(rt)?;
-    let out = forward(&mut bridge, addresses);
-    println!(rt; "{ports} ports, {addresses} learned addresses, {out} frames out")?;
-    print_turns(rt, "frames forwarded", FRAMES, &start)
+    let mut gone = 0usize;
+    for turn in 0..FRAMES {
+        let to = station(turn % others.max(1));
+        gone = gone.wrapping_add(carry(bridge, 2, station(others), to));
+    }
+    print_turns(rt, "frames to learned stations", FRAMES, &start)?;
+    println!(rt; "{gone} went out")?;
+    let start = Instant::now(rt)?;
+    for _ in 0..FRAMES {
+        black_box(carry(bridge, 2, station(others), TO_ALL));
+    }
+    print_turns(rt, "frames to everybody", FRAMES, &start)
 }
 
-/// Forwards frames to learned addresses.
+/// A bridge of two ports.
+pub fn two_ports(alloc: Global) -> io::Result<Bridge> {
+    match Bridge::new(alloc, OWN, &[PORT; 2]) {
+        Ok(bridge) => Ok(bridge),
+        Err(_) => Err(Error::from(ErrorKind::InvalidData)),
+    }
+}
+
+/// Sends frames through bridges of 2 and 32 ports with 10 and 1,024 learned rows.
 pub fn measure_forwarding(rt: &HostRuntime) -> io::Result<()> {
+    let list = [PORT; 32];
     for ports in PORTS {
-        for addresses in ADDRESSES {
-            measure(rt, ports, addresses)?;
+        for rows in ROWS {
+            println!(rt; "{ports} ports, {rows} rows")?;
+            let taken = usize::from(ports).min(list.len());
+            if let Ok(mut bridge) = Bridge::new(rt.alloc(), OWN, &list[..taken]) {
+                prepare(&mut bridge, ports, rows);
+                measure_bridge(rt, &mut bridge, rows)?;
+            }
         }
     }
     Ok(())
