@@ -3,3 +3,4 @@ pub mod Flushes
 pub mod Walks
 pub mod Changes
 pub mod Ways
+pub mod RunLaws

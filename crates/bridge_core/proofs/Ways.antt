@@ -1,5 +1,5 @@
 -- The ways of a frame as they are found, and as they are defined; and what every way has.
-use Rattle.std.proofs.Common.{◌≡◌, ◌≢◌, ℕ, ◌<◌, ◌≤◌, Bool, true, false, ◌&&◌, not, List, [], length, filter, All, Contains, eq-eqb, refl, sym, ap, subst, ◌∙◌, arith}
+use Rattle.std.proofs.Common.{◌≡◌, ◌≢◌, ℕ, ◌<◌, ◌≤◌, Bool, true, false, ◌&&◌, ◌||◌, not, [], length, filter, All, Contains, eq-eqb, refl, sym, ap, subst, ◌∙◌, arith}
 use Rattle.std.specs.Prelude.{◌==◌, Option, Some, None}
 use Rattle.std.specs.List.{range_with_len}
 use Rattle.std.proofs.lemmas.List.Elements.{All-contains, All-filter, filter_passes}
@@ -8,21 +8,31 @@ use Rattle.std.proofs.lemmas.Bool.{true≢false}
 use Rattle.frame_core.specs.declared.mac.Mac.{Mac}
 use Rattle.frame_core.specs.declared.frame.FrameIn.{FrameIn}
 use Rattle.frame_core.specs.declared.bpdu.Bpdu.{Bpdu}
-use Rattle.fdb_core.specs.declared.row.Row.{Row}
 use Rattle.rstp_rules.specs.declared.port.State.{State}
 use Rattle.rstp_rules.specs.Vectors.{same_mac}
-use Rattle.rstp_rules.specs.Ports.{is_forwarding}
-use Rattle.rstp_core.specs.Tree.{Tree, port_at}
-use Rattle.bridge_core.specs.Bridge.{BridgeState, is_on}
-use Rattle.bridge_core.specs.Forwarding.{is_reserved, is_way, goes_by, goes_out, ports_where, egress_of}
+use Rattle.frame_core.specs.Octets.{is_group}
+use Rattle.fdb_core.specs.Rows.{port_of as learned_port}
+use Rattle.bridge_core.specs.Bridge.{BridgeState, address_of, port_of, is_on}
+use Rattle.bridge_core.specs.Forwarding.{is_reserved, forwards, may_be_behind, goes_out, ports_where, egress_of}
+use Rattle.bridge_core.specs.ForwardingInside.{is_way, goes_by}
 use Rattle.bridge_core.specs.Events.{received, learned_from, passed, heard, taken, Framed, framed, GoesBetween}
 use Rattle.bridge_core.proofs.Changes.{framed_on, framed_off}
 
--- a way that leads where another does, from equal parts
-pub same_way : (t : Tree) (p : ℕ) (way : ℕ → Bool) (rows : List Row) (own : Mac) (at : State) (d : Mac) → ((q : ℕ) → way q ≡ is_way rows own at d q) → own ≡ t.address → at ≡ (port_at t p).state → goes_by way p t ≡ goes_by (is_way rows t.address (port_at t p).state d) p t
-same_way t p way rows own at d h e g =
-    ap (λ (w : ℕ → Bool). goes_by w p t) (λ i q. h q i)
-    ∙ (ap (λ (a : Mac). goes_by (is_way rows a at d) p t) e ∙ ap (λ (x : State). goes_by (is_way rows t.address x d) p t) g)
+-- the tests of a port that a frame goes out by, in the order in which they are made
+in_order : (p q other free own way : Bool) → (q && other && (p && free && own && way)) ≡ (p && q && other && free && own && way)
+in_order true true true free own way = refl
+in_order true true false free own way = refl
+in_order true false other free own way = refl
+in_order false true true free own way = refl
+in_order false true false free own way = refl
+in_order false false other free own way = refl
+
+-- a way that leads where frames to this destination may go is by the ports by which they go out
+pub same_way : (b : BridgeState) (p : ℕ) (way : ℕ → Bool) (own : Mac) (at : State) (d : Mac) → ((q : ℕ) → way q ≡ is_way b.learned own at d q) → own ≡ address_of b → at ≡ (port_of b p).state → goes_by way p b.tree ≡ goes_out b p d
+same_way b p way own at d h e g =
+    ap (λ (w : ℕ → Bool). goes_by w p b.tree) (λ i q. h q i)
+    ∙ (ap (λ (a : Mac). goes_by (is_way b.learned a at d) p b.tree) e ∙ (ap (λ (x : State). goes_by (is_way b.learned (address_of b) x d) p b.tree) g
+    ∙ λ i q. in_order (forwards b p) (forwards b q) (not (q == p)) (not (is_reserved d)) (not (same_mac d (address_of b))) (is_group d || may_be_behind (learned_port b.learned d) q) i))
 
 both_true : (a b : Bool) → (a && b) ≡ true → (a ≡ true) × (b ≡ true)
 both_true true b e = (refl, e)
@@ -48,12 +58,12 @@ egress_goes b p d q h =
     let count = length b.tree.ports in
     let goes : goes_out b p d q ≡ true = All-contains (λ (n : ℕ). goes_out b p d n ≡ true) (filter (goes_out b p d) (range_with_len 1 count)) q (filter_passes (goes_out b p d) (range_with_len 1 count)) h in
     let within : Within count q = All-contains (Within count) (filter (goes_out b p d) (range_with_len 1 count)) q (All-filter (goes_out b p d) (Within count) (range_with_len 1 count) (all_within count)) h in
-    let parts = both_true (is_forwarding (port_at b.tree q).state && not (q == p)) (is_way b.learned b.tree.address (port_at b.tree p).state d q) goes in
-    let ends = both_true (is_forwarding (port_at b.tree q).state) (not (q == p)) parts.0 in
-    let way = both_true (is_forwarding (port_at b.tree p).state && not (is_reserved d) && not (same_mac d b.tree.address)) _ parts.1 in
-    let begins = both_true (is_forwarding (port_at b.tree p).state && not (is_reserved d)) _ way.0 in
-    let from = both_true (is_forwarding (port_at b.tree p).state) _ begins.0 in
-    record { first = within.first; last = within.last; other = differs q p ends.1; from = from.0; to = ends.0 }
+    let way = both_true (forwards b p && forwards b q && not (q == p) && not (is_reserved d) && not (same_mac d b.tree.address)) _ goes in
+    let away = both_true (forwards b p && forwards b q && not (q == p) && not (is_reserved d)) _ way.0 in
+    let free = both_true (forwards b p && forwards b q && not (q == p)) _ away.0 in
+    let other = both_true (forwards b p && forwards b q) (not (q == p)) free.0 in
+    let ends = both_true (forwards b p) (forwards b q) other.0 in
+    record { first = within.first; last = within.last; other = differs q p other.1; from = ends.0; to = ends.1 }
 
 none_goes : (b : BridgeState) (p q : ℕ) → Contains [] q → GoesBetween b p q
 none_goes b p q h = absurd (omega (arith, h.1))

@@ -14,10 +14,7 @@ use Rattle.fdb_core.specs.Learning.{answer, learned}
 use Rattle.rstp_rules.specs.declared.port.State.{State}
 use Rattle.rstp_rules.specs.Vectors.{same_mac}
 use Rattle.rstp_rules.specs.Ports.{is_discarding, is_forwarding}
-use Rattle.rstp_core.specs.Tree.{Tree, port_at}
 use Rattle.bridge_core.specs.declared.bridge.TheConstants.{MAX_LEARNED_ROWS}
-use Rattle.bridge_core.specs.declared.forwarding.Way.{Way}
-use Rattle.bridge_core.specs.declared.forwarding.Way.TheVariants.{Nowhere, Anywhere, By}
 use Rattle.bridge_core.specs.Bridge.{BridgeState, address_of, port_count, port_of, is_on}
 
 -- The addresses 01-80-C2-00-00-00 to 0F, which no bridge forwards (7.12.6).
@@ -72,25 +69,12 @@ abbrev pub may_be_behind : Option ℕ → ℕ → Bool
 may_be_behind None q = true
 may_be_behind (Some r) q = r == q
 
--- Whether a frame to this destination may go by port q, if q is another forwarding port: the port by which it came forwards, the
--- destination is neither reserved nor the bridge itself, and it is a group, or learned at q or nowhere.
-abbrev pub is_way : List Row → Mac → State → Mac → ℕ → Bool
-is_way rows own state d q =
-    is_forwarding state && not (is_reserved d) && not (same_mac d own) && (is_group d || may_be_behind (learned_port rows d) q)
-
--- The same as it is found: nowhere, anywhere, or by one port.
-abbrev pub leads : Way → ℕ → Bool
-leads Nowhere q = false
-leads Anywhere q = true
-leads (By r) q = r == q
-
--- Whether a frame that came by port p goes out by port q, where it may go by a port that passes the test.
-abbrev pub goes_by : (ℕ → Bool) → ℕ → Tree → ℕ → Bool
-goes_by way p t q = is_forwarding (port_at t q).state && not (q == p) && way q
-
--- Whether a frame to this destination that came by port p goes out by port q.
+-- Whether a frame to this destination that came by port p goes out by port q: both forward and they are two; and the destination is
+-- neither reserved nor the bridge itself, and it is a group, or learned at q or nowhere.
 abbrev pub goes_out : BridgeState → ℕ → Mac → ℕ → Bool
-goes_out b p d q = goes_by (is_way b.learned (address_of b) (port_of b p).state d) p b.tree q
+goes_out b p d q =
+    forwards b p && forwards b q && not (q == p) && not (is_reserved d) && not (same_mac d (address_of b))
+    && (is_group d || may_be_behind (learned_port b.learned d) q)
 
 -- The ports of so many that pass the test, rising.
 unfoldable pub ports_where : (ℕ → Bool) → ℕ → List ℕ

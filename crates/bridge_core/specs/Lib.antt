@@ -3,5 +3,7 @@ pub mod BridgeInside
 pub mod Counting
 pub mod Opening
 pub mod Forwarding
+pub mod ForwardingInside
 pub mod Events
 pub mod Facts
+pub mod Runs

@@ -71,6 +71,11 @@ impl Model for Bridge {
 
 impl Bridge {
     /// A bridge of 1 to 32 ports under the opening settings, with all its links down and nothing learned. It takes no memory.
+    ///
+    /// # Errors
+    ///
+    /// The first of these: `BadPorts` where there is no port or more than 32; `BadAddress` where the address is a group address;
+    /// `BadSpeed` where the speed of some port is none of 10, 100 and 1000 Mb/s.
     pub fn new(alloc: Global, address: Mac, ports: &[PortConfig]) -> Result<Self, BridgeFault>
         ensures opened { fault_of address ports.now ≡ None → result ≡ Ok (opening_bridge address ports.now) }
         ensures refused { (fault : BridgeFault) → fault_of address ports.now ≡ Some fault → result ≡ Err fault }
@@ -82,12 +87,14 @@ impl Bridge {
         }
     }
 
-    /// The number of ports, 1 to 32. Each has settings.
+    /// The number of ports, 1 to 32. Each has settings, a configuration and counters.
     pub fn ports(&self) -> usize
         ensures count { result ≡ port_count self.now }
         ensures least { 1 ≤ result }
         ensures most { result ≤ 32 }
         ensures set { length self.now.settings.ports ≡ result }
+        ensures configured { length self.now.tree.config ≡ result }
+        ensures counted { length self.now.counters.ports ≡ result }
     {
         self.tree.ports()
     }
@@ -155,7 +162,10 @@ impl Bridge {
         self.settings.get(key)
     }
 
-    /// Gives a setting that there is a value in its range, and answers the one before. It takes effect by `settle`.
+    /// Gives a setting that there is a value in its range, and answers the one before. Every event reads the settings as they are: the
+    /// next tick ages by them, and the next frame comes in where its port is enabled by them; `port_facts` shows by them whether a port
+    /// is on, its cost and whether its link is point to point. So call `settle` before any other event: until then a port that was
+    /// disabled may still be sent frames.
     pub fn put_setting(&mut self, key: Key, value: u32) -> u32
         requires key { HasKey self.old.settings key }
         requires value { IsInRange key value }
@@ -166,9 +176,13 @@ impl Bridge {
         self.settings.put(key, value)
     }
 
-    /// A frame comes by port `port`. Where the port is off nothing changes and nothing goes out. A BPDU goes to the spanning tree;
-    /// the source of any other frame is learned, and the frame goes out by the ports that lead to its destination. Only the growth
-    /// for a new learned row takes memory: where that is refused the frame is forwarded all the same, and noted in `no_room`.
+    /// A frame comes by port `port`. Where the port is off nothing changes and nothing goes out. A BPDU goes to the spanning tree
+    /// only. The source of any other frame is learned where the port is learning or forwarding, neither is the source a group address
+    /// nor the destination reserved, and there is room: it has a row, or there are fewer than 1,024 (7.8).
+    /// Then, where the port forwards, the frame goes out by the other forwarding ports (7.7): by the one at which its destination is
+    /// learned, or by all where it is a group address or not learned; but by none where it is the bridge's own address or one of
+    /// 01-80-C2-00-00-00 to 0F (7.12.6). Only the growth for a new learned row takes memory: where that is refused the frame is
+    /// forwarded all the same, and noted in `no_room`.
     pub fn frame(&mut self, port: u16, frame: &FrameIn) -> Forwarding
         requires first { 1 ≤ port }
         requires last { port ≤ port_count self.old }

@@ -20,7 +20,8 @@ pub struct Facts {
     pub times: Times,
     /// How many topology changes there were, modulo 2^32.
     pub topology_changes: u32,
-    /// The seconds since the last topology change, at most 2^64 - 1.
+    /// The seconds since no port tells a topology change any more, or since the opening where none was told; 0 while one is told.
+    /// At most 2^64 - 1.
     pub since: u64,
     /// How many sources were not learned for want of room, modulo 2^32.
     pub entry_discards: u32,

@@ -1,7 +1,8 @@
 //! By which ports a frame goes out (IEEE 802.1D-2004 7.7, 7.12).
 ghost use Rattle.std.specs.Prelude.{◌≡◌, ◌≤◌, ◌<◌, ◌+◌, ℕ, length, [], ◌∷◌, ◌++◌, if◌then◌else◌};
 ghost use Rattle.bridge_core.specs.Counting.{with_frame_out, sent_where};
-ghost use Rattle.bridge_core.specs.Forwarding.{is_reserved, is_way, leads, goes_by, ports_where};
+ghost use Rattle.bridge_core.specs.Forwarding.{is_reserved, ports_where};
+ghost use Rattle.bridge_core.specs.ForwardingInside.{is_way, leads, goes_by};
 
 use crate::counters::PortCounters;
 use arrayvec::ArrayVec;

@@ -14,8 +14,8 @@ use Rattle.rstp_rules.specs.declared.row.Row.{Row}
 use Rattle.rstp_rules.specs.declared.row.Timing.{Timing}
 use Rattle.rstp_rules.specs.Ports.{is_designated, is_root_or_designated, is_forwarding}
 use Rattle.rstp_rules.specs.Roles.{expired}
-use Rattle.rstp_rules.specs.Restarts.{restarted, switched, linked, is_renewed, renewed, edged, migrated, settled_anew}
-use Rattle.rstp_rules.specs.Arrivals.{is_taken, is_superior, marked, recorded, offered, answered, by_role, taken, received, acknowledged, told}
+use Rattle.rstp_rules.specs.Restarts.{restarted, switched, linked, is_renewed, renewed, edged, settled_anew}
+use Rattle.rstp_rules.specs.Arrivals.{is_superior, marked, recorded, offered, answered, by_role, taken, received, acknowledged, told}
 use Rattle.rstp_rules.specs.Ticks.{ticked}
 use Rattle.rstp_rules.specs.Transitions.{started, spread}
 use Rattle.rstp_core.proofs.Keeps.{IsStill}

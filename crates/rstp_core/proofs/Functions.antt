@@ -1,7 +1,7 @@
--- Each event that the relations allow is the one that its function gives.
-use Rattle.std.proofs.Common.{◌≡◌, ℕ, ◌<◌, zero, suc, Bool, true, false, ◌||◌, not, List, [], ◌∷◌, length, get_or, All, map, refl, sym, ap, ◌∙◌, arith}
+-- The events that the relations allow are those that their functions give.
+use Rattle.std.proofs.Common.{◌≡◌, ℕ, ◌<◌, zero, suc, Bool, true, false, ◌||◌, not, List, [], ◌∷◌, length, get_or, All, map, refl, sym, ap, subst, ◌∙◌, arith, ◌↔◌}
 use Rattle.std.specs.Prelude.{Option, Some}
-use Rattle.std.specs.List.{list_any, find}
+use Rattle.std.specs.List.{list_any, find, filter_map, best_of}
 use Rattle.std.specs.Option.{unwrap_or}
 use Rattle.std.proofs.lemmas.List.{get_or_default}
 use Rattle.std.proofs.lemmas.List.Folds.{list_any_none}
@@ -12,13 +12,13 @@ use Rattle.rstp_rules.specs.declared.row.Row.{Row}
 use Rattle.rstp_rules.specs.declared.row.Best.{Best}
 use Rattle.rstp_rules.specs.declared.row.Context.{Context}
 use Rattle.rstp_rules.specs.Lines.{timers_of, times_in_force, context_of}
-use Rattle.rstp_rules.specs.Roles.{beats, candidates, own_best, IsBest}
+use Rattle.rstp_rules.specs.Roles.{beats, candidate, candidates, own_best, IsBest}
 use Rattle.rstp_rules.specs.Sends.{bpdu_of, sent, flushed_ports}
 use Rattle.rstp_core.specs.Passes.{chosen, ready}
 use Rattle.rstp_core.specs.Tree.{Tree, ports_of, has_change, facts_after, Ends, Ticks, Arrives, Links, Settles}
-use Rattle.rstp_core.specs.Steps.{is_unbeaten, unbeaten, root_of, Event, event_own, fresh_rows, event_root, roled_rows, event_context, ready_rows, left_rows, tree_after, step_of, tick_event, arrival_event, link_event, settling_event, tick_step, arrival_step, link_step, settling_step, IsStep}
+use Rattle.rstp_core.specs.Steps.{is_unbeaten, unbeaten, root_of, Step, Event, event_own, fresh_rows, event_root, roled_rows, event_context, ready_rows, left_rows, tree_after, step_of, tick_event, arrival_event, link_event, settling_event, tick_step, arrival_step, link_step, settling_step, IsStep}
 use Rattle.rstp_core.specs.declared.rstp.Outcome.{Outcome}
-use Rattle.rstp_core.proofs.Bests.{IsBest-unique}
+use Rattle.rstp_core.proofs.Bests.{IsBest-unique, IsBest-best_of}
 
 find_case : {X : Type 0} (p : X → Bool) (x : X) (xs : List X) (b : X) (v : Bool) → p x ≡ v → (v ≡ true → x ≡ b) → (v ≡ false → find p xs ≡ Some b) → find p (x ∷ xs) ≡ Some b
 find_case p x xs b true q h i = rw q (ap Some (h refl))
@@ -107,6 +107,29 @@ ends_step e u out h =
       config = ap (λ (t : Tree). t.config) h.tree;
     }
 
+-- The root vector of an event under way is a least element.
+root_best : (e : Event) → IsBest (candidates (event_own e) (fresh_rows e)) (event_root e)
+root_best e =
+    let bs = candidates (event_own e) (fresh_rows e) in
+    let best = IsBest-best_of (event_own e) (fresh_rows e) in
+    subst (λ (b : Best). IsBest bs b) (sym (root_is e (best_of beats (own_best (event_own e)) (filter_map (candidate (event_own e)) (fresh_rows e))) best)) best
+
+-- What the function gives, the relation allows.
+pub step_ends : (e : Event) (u : Tree) (out : Outcome) → IsStep (step_of e) e.tree u out → Ends e.settings e.tick e.was e.rows e.tree u out
+unfolding step_of tree_after left_rows ready_rows event_context roled_rows
+step_ends e u out h = record {
+  context = event_context e;
+  left = left_rows e;
+  concludes = record {
+    root = root_best e;
+    context = refl;
+    rows = refl;
+    bpdus = sym (ap (λ (x : Step). x.bpdus) h.gives);
+    flushed = sym (ap (λ (x : Step). x.flushed) h.gives);
+  };
+  tree = sym (ap (λ (x : Step). x.tree) h.gives);
+}
+
 pub tick_steps : (s : Table) (t u : Tree) (out : Outcome) → Ticks s t u out → IsStep (tick_step s t) t u out
 unfolding tick_step
 tick_steps s t u out h = ends_step (tick_event s t) u out h
@@ -124,3 +147,46 @@ unfolding settling_step
 settling_steps s t u out h =
     let e = ends_step (settling_event s t) u out h in
     record { gives = e.gives; address = e.address; config = e.config }
+
+pub tick_exact : (s : Table) (t u : Tree) (out : Outcome) → Ticks s t u out ↔ IsStep (tick_step s t) t u out
+unfolding tick_step
+tick_exact s t u out = (tick_steps s t u out, λ h. step_ends (tick_event s t) u out h)
+
+pub arrival_exact : (s : Table) (n : ℕ) (b : Bpdu) (t u : Tree) (out : Outcome) → Arrives s n b t u out ↔ IsStep (arrival_step s n b t) t u out
+unfolding arrival_step
+arrival_exact s n b t u out = (arrival_steps s n b t u out, λ h. step_ends (arrival_event s n b t) u out h)
+
+pub link_exact : (s : Table) (n : ℕ) (up : Bool) (t u : Tree) (out : Outcome) → Links s n up t u out ↔ IsStep (link_step s n up t) t u out
+unfolding link_step
+link_exact s n up t u out = (link_steps s n up t u out, λ h. step_ends (link_event s n up t) u out h)
+
+settling_back : (s : Table) (t u : Tree) (out : Outcome) → IsStep (settling_step s t) t u out → Settles s t u out
+unfolding settling_step
+settling_back s t u out h = step_ends (settling_event s t) u out (record { gives = h.gives; address = h.address; config = h.config })
+
+pub settling_exact : (s : Table) (t u : Tree) (out : Outcome) → Settles s t u out ↔ IsStep (settling_step s t) t u out
+settling_exact s t u out = (settling_steps s t u out, settling_back s t u out)
+
+-- An outcome whose lists are those of a step is what the step gives.
+abbrev pub step_outcome : Step → Outcome
+step_outcome e = record { bpdus = record { items = e.bpdus }; flushed = record { items = e.flushed } }
+
+step_given : (e : Event) → Ends e.settings e.tick e.was e.rows e.tree (step_of e).tree (step_outcome (step_of e))
+unfolding step_of tree_after
+step_given e = step_ends e (step_of e).tree (step_outcome (step_of e)) (record { gives = refl; address = refl; config = refl })
+
+pub tick_given : (s : Table) (t : Tree) → Ticks s t (tick_step s t).tree (step_outcome (tick_step s t))
+unfolding tick_step
+tick_given s t = step_given (tick_event s t)
+
+pub arrival_given : (s : Table) (n : ℕ) (b : Bpdu) (t : Tree) → Arrives s n b t (arrival_step s n b t).tree (step_outcome (arrival_step s n b t))
+unfolding arrival_step
+arrival_given s n b t = step_given (arrival_event s n b t)
+
+pub link_given : (s : Table) (n : ℕ) (up : Bool) (t : Tree) → Links s n up t (link_step s n up t).tree (step_outcome (link_step s n up t))
+unfolding link_step
+link_given s n up t = step_given (link_event s n up t)
+
+pub settling_given : (s : Table) (t : Tree) → Settles s t (settling_step s t).tree (step_outcome (settling_step s t))
+unfolding settling_step
+settling_given s t = step_given (settling_event s t)

@@ -1,30 +1,14 @@
 -- What each step of an event keeps of one port.
-use Rattle.std.proofs.Common.{◌≡◌, ◌≢◌, ℕ, ◌+◌, Bool, true, false, cond, ◌&&◌, ◌||◌, not, ◌⊎◌, inl, inr, refl, sym, ap, subst, ◌∙◌, eqb}
-use Rattle.frame_core.specs.declared.bpdu.BridgeId.{BridgeId}
-use Rattle.frame_core.specs.declared.bpdu.PriorityVector.{PriorityVector}
-use Rattle.frame_core.specs.declared.bpdu.Times.{Times}
-use Rattle.frame_core.specs.declared.bpdu.Bpdu.{Bpdu}
-use Rattle.frame_core.specs.declared.bpdu.Bpdu.TheVariants.{Config, TopologyChange, Rapid}
-use Rattle.frame_core.specs.declared.bpdu.PortRole.{PortRole}
-use Rattle.frame_core.specs.declared.bpdu.PortRole.TheVariants as said
-use Rattle.rstp_rules.specs.declared.port.Port.{Port}
+use Rattle.std.proofs.Common.{◌≡◌, ℕ, Bool, true, false, cond, ◌&&◌, ◌||◌, not, refl, sym, ap, ◌∙◌}
 use Rattle.rstp_rules.specs.declared.port.Role.{Role}
 use Rattle.rstp_rules.specs.declared.port.Role.TheVariants.{Disabled, Designated, Root, Alternate, Backup}
-use Rattle.rstp_rules.specs.declared.port.State.{State}
-use Rattle.rstp_rules.specs.declared.port.State.TheVariants.{Discarding, Learning, Forwarding}
-use Rattle.rstp_rules.specs.declared.row.Line.{Line}
-use Rattle.rstp_rules.specs.declared.row.Before.{Before}
+use Rattle.rstp_rules.specs.declared.port.State.TheVariants.{Discarding}
 use Rattle.rstp_rules.specs.declared.row.Row.{Row}
-use Rattle.rstp_rules.specs.declared.row.Best.{Best}
 use Rattle.rstp_rules.specs.declared.row.Context.{Context}
 use Rattle.rstp_rules.specs.declared.row.Timing.{Timing}
-use Rattle.rstp_rules.specs.Ports.{is_received, is_root, is_designated, is_root_or_designated, is_alternate_or_backup, same_role, is_discarding, is_forwarding}
-use Rattle.rstp_rules.specs.Vectors.{vector_cmp, same_mac}
-use Rattle.rstp_rules.specs.Roles.{expired, with_role, designated_vector}
-use Rattle.rstp_rules.specs.Restarts.{restarted, switched, linked, is_renewed, renewed, edged, migrated, settled_anew}
-use Rattle.rstp_rules.specs.Arrivals.{is_taken, marked, recorded, offered, answered, by_role, taken, received, acknowledged, told}
-use Rattle.rstp_rules.specs.Ticks.{ticked, greeted}
-use Rattle.rstp_rules.specs.Transitions.{has_changed_role, blocked, delayed, retired, disagreed, rested, announced, turned, synced, is_quick, advanced, started, spread, counted}
+use Rattle.rstp_rules.specs.Ports.{is_root, is_designated, is_root_or_designated, is_discarding}
+use Rattle.rstp_rules.specs.Ticks.{greeted}
+use Rattle.rstp_rules.specs.Transitions.{blocked, delayed, retired, disagreed, rested, announced, turned, synced, advanced, started, spread, counted}
 use Rattle.rstp_rules.specs.Turns.{spread_but, begun}
 use Rattle.rstp_rules.specs.Sends.{sent}
 

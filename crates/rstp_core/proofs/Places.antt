@@ -1,5 +1,5 @@
 -- Rows by their place.
-use Rattle.std.proofs.Common.{◌≡◌, ◌≢◌, ℕ, zero, suc, ◌+◌, ◌-◌, ◌<◌, ◌≤◌, Bool, true, false, cond, List, [], ◌∷◌, ◌++◌, length, get_or, set, map, ◌⊎◌, inl, inr, refl, sym, ap, ◌∙◌, arith, Contains}
+use Rattle.std.proofs.Common.{◌≡◌, ℕ, zero, suc, ◌+◌, ◌<◌, Bool, true, false, cond, List, [], ◌∷◌, length, get_or, set, map, inl, inr, refl, sym, ap, ◌∙◌, arith, Contains}
 use Rattle.std.specs.List.{filter_map, filter}
 use Rattle.std.specs.Prelude.{Option, Some, None}
 use Rattle.std.proofs.lemmas.List.{get_or-set_same, get_or-set_other, get_or-map, length-map, length-set}
@@ -14,13 +14,13 @@ use Rattle.rstp_rules.specs.declared.row.Context.{Context}
 use Rattle.rstp_rules.specs.declared.row.Timing.{Timing}
 use Rattle.rstp_rules.specs.Lines.{row_of}
 use Rattle.rstp_rules.specs.Roles.{candidate}
-use Rattle.rstp_rules.specs.Transitions.{has_begun, turned, synced, synced_all, advanced, advanced_all, no_recent_root}
+use Rattle.rstp_rules.specs.Transitions.{turned, synced, synced_all, advanced, advanced_all, no_recent_root}
 use Rattle.rstp_rules.specs.Turns.{no_row, spread_but, begun, turn_at, first_turns, turns}
 use Rattle.rstp_rules.specs.Ticks.{greeted}
 use Rattle.rstp_rules.specs.Sends.{sent}
 use Rattle.rstp_core.specs.Settled.{SettledValues, settled_port}
-use Rattle.rstp_core.specs.Passes.{moved, greeted_all, ready}
-use Rattle.rstp_core.specs.Tree.{rows_from, ports_of}
+use Rattle.rstp_core.specs.Passes.{greeted_all, ready}
+use Rattle.rstp_core.specs.Tree.{rows_from}
 use Rattle.rstp_core.proofs.Keeps.{Keeps, Keeps-refl, Keeps-trans, synced-keeps, advanced-keeps, spread_but-keeps, begun-keeps, greeted-keeps, sent-keeps}
 
 abbrev pub no_config : PortConfig

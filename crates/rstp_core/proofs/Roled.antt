@@ -11,7 +11,7 @@ use Rattle.rstp_rules.specs.declared.row.Context.{Context}
 use Rattle.rstp_rules.specs.Ports.{is_received, is_root_or_designated, is_alternate_or_backup, same_role, is_forwarding}
 use Rattle.std.specs.Ordering.{is_lt}
 use Rattle.rstp_rules.specs.Vectors.{vector_cmp, same_mac}
-use Rattle.rstp_rules.specs.Roles.{expired, designated_vector, designated, with_role}
+use Rattle.rstp_rules.specs.Roles.{designated_vector, designated, with_role}
 use Rattle.rstp_rules.specs.Transitions.{has_changed_role, blocked, turned}
 use Rattle.rstp_core.proofs.Keeps.{IsStill, Keeps, turned-keeps}
 use Rattle.rstp_core.proofs.Fresh.{IsFresh}

@@ -1,12 +1,12 @@
 -- The laws over all runs.
-use Rattle.std.proofs.Common.{◌≡◌, ◌≢◌, ℕ, zero, suc, ◌+◌, ◌-◌, ◌*◌, ◌<◌, ◌≤◌, Bool, true, false, cond, ◌&&◌, not, eqb, List, [], ◌∷◌, ◌++◌, length, get_or, map, min, ◌⊎◌, inl, inr, refl, sym, ap, subst, ◌∙◌, arith, Contains, All}
-use Rattle.std.specs.Prelude.{Option, Some, None}
-use Rattle.std.specs.List.{list_any, filter_map}
+use Rattle.std.proofs.Common.{◌≡◌, ◌≢◌, ℕ, zero, suc, ◌+◌, ◌-◌, ◌*◌, ◌<◌, ◌≤◌, Bool, true, false, cond, ◌&&◌, not, eqb, List, [], ◌∷◌, length, get_or, map, min, ◌⊎◌, inl, inr, refl, sym, ap, subst, ◌∙◌, arith, Contains, All}
+use Rattle.std.specs.Prelude.{Some, None}
+use Rattle.std.specs.List.{filter_map}
 use Rattle.std.specs.Cmp.{IsTotalOrder, nat_cmp_is}
 use Rattle.std.specs.declared.cmp.Ordering.{Ordering}
 use Rattle.std.specs.declared.cmp.Ordering.TheVariants.{Less, Equal, Greater}
 use Rattle.std.specs.Ordering.{nat_cmp, ordering_then, ordering_reverse, is_lt}
-use Rattle.std.proofs.lemmas.List.{get_or-map, length-map, length-append, get_or_default}
+use Rattle.std.proofs.lemmas.List.{get_or-map, length-map, length-append}
 use Rattle.std.proofs.lemmas.List.Elements.{All-head, All-get_or, All-push, All-nil, All-from_get_or}
 use Rattle.std.proofs.lemmas.Bool.Decides.{eqb_tells}
 use Rattle.std.proofs.lemmas.Map.Views.{exact_unsigned_eq}
@@ -30,25 +30,24 @@ use Rattle.rstp_rules.specs.declared.row.Context.{Context}
 use Rattle.rstp_rules.specs.declared.settled.SettledPort.{SettledPort}
 use Rattle.rstp_rules.specs.Ports.{is_received, is_root_or_designated, is_forwarding}
 use Rattle.rstp_rules.specs.Vectors.{port_id, same_mac, bridge_cmp}
-use Rattle.rstp_rules.specs.Lines.{own_id, row_of, enabled_by, cost_in_use, settled_port_of, no_settled_port, set_times, timers_of, rstp_version, times_in_force, timing_of}
-use Rattle.rstp_rules.specs.Roles.{expired, with_role, candidate, candidates, own_best, beats, IsBest}
+use Rattle.rstp_rules.specs.Lines.{own_id, row_of, enabled_by, cost_in_use, settled_port_of, set_times, timers_of, rstp_version, times_in_force}
+use Rattle.rstp_rules.specs.Roles.{expired, with_role, candidate, candidates, own_best, beats}
 use Rattle.rstp_rules.specs.Restarts.{linked, settled_anew}
-use Rattle.rstp_rules.specs.Arrivals.{arrived, received, received_all, told, spreads}
+use Rattle.rstp_rules.specs.Arrivals.{arrived, received, received_all}
 use Rattle.rstp_rules.specs.Ticks.{ticked}
 use Rattle.rstp_rules.specs.Transitions.{turned}
 use Rattle.rstp_rules.specs.Turns.{no_row}
-use Rattle.rstp_rules.specs.Sends.{sent, flushed_ports}
+use Rattle.rstp_rules.specs.Sends.{sent}
 use Rattle.rstp_core.specs.declared.rstp.Outcome.{Outcome}
-use Rattle.rstp_core.specs.Settled.{SettledValues, settled_of, settled_port}
+use Rattle.rstp_core.specs.Settled.{settled_of, settled_port}
 use Rattle.rstp_core.specs.Passes.{chosen, ready}
-use Rattle.rstp_core.specs.Tree.{Tree, port_at, rows_of, ports_of, opening_port_of, opening_ports, opening_tree, has_other_version, Ends}
-use Rattle.rstp_core.specs.Runs.{Happening, Happens, Runs, MayForward, IsPort, IsRootPort, LeavesForwarding}
+use Rattle.rstp_core.specs.Tree.{Tree, port_at, rows_of, opening_port_of, opening_ports, opening_tree, has_other_version, Ends}
+use Rattle.rstp_core.specs.Runs.{Happening, Happens, Runs, MayForward, IsRootPort, LeavesForwarding}
 use Rattle.rstp_core.specs.Runs.Happening.{Tick, Link, Message, Settle}
 use Rattle.rstp_core.proofs.Bests.{bridge_total}
-use Rattle.rstp_core.proofs.Keeps.{IsStill, Keeps}
 use Rattle.rstp_core.proofs.Fresh.{IsFresh, Fresh-same, expired-same, ticked-same, received-same, told-same, linked-fresh, settled-fresh}
 use Rattle.rstp_core.proofs.Roled.{IsDone, Done-keeps, turned-done}
-use Rattle.rstp_core.proofs.Places.{no_config, length-rows_from, rows_from-at, AllKeep, keep-ready, keep-sent, IsFrom, candidate_from, contains_flushed}
+use Rattle.rstp_core.proofs.Places.{no_config, length-rows_from, rows_from-at, keep-ready, keep-sent, IsFrom, candidate_from, contains_flushed}
 
 -- A port between events, which is enabled or not.
 record IsCalm (enabled : Bool) (p : Port) : Type 0 where
@@ -334,6 +333,17 @@ runs_kept a cs (e ∷ past) r u h =
     let kept = runs_kept a cs past h.0 h.1 h.3 in
     let event = event_of a cs h.0 h.1 kept e r u h.2 h.4 in
     kept_after a cs h.0 h.1 event.0 r u h.2 kept event.1
+
+-- a port that forwards is on, and is a root or designated port
+pub runs_active : (a : Mac) (cs : List PortConfig) (hs : List Happening) (s : Table) (t : Tree) → Runs a cs hs s t → (n : ℕ) → 1 ≤ n → n ≤ length t.ports → is_forwarding (port_at t n).state ≡ true → ((enabled_by s n && (port_at t n).link) ≡ true) × (is_root_or_designated (port_at t n).role ≡ true)
+runs_active a cs hs s t h n first last f =
+    let kept = runs_kept a cs hs s t h in
+    let k = n - 1 in
+    let here : k < length t.ports = omega (arith, first, last) in
+    let at : 1 + k ≡ n = omega (arith, first) in
+    let p = get_or t.ports k no_row.port in
+    let calm = kept.calm k here in
+    (subst (λ (m : ℕ). (enabled_by s m && p.link) ≡ true) at (on (enabled_by s (1 + k)) p calm f), active (enabled_by s (1 + k)) p calm f)
 
 -- no port forwards while it is off, disabled, alternate or backup
 pub runs_forward : (a : Mac) (cs : List PortConfig) (hs : List Happening) (s : Table) (t : Tree) → Runs a cs hs s t → All MayForward (rows_of s t)

@@ -1,10 +1,10 @@
 -- What all ports do together, pass by pass (IEEE 802.1D-2004 17.21.25, 17.26, 17.29 to 17.31).
-use Rattle.std.specs.Prelude.{ℕ, Bool, if◌then◌else◌, List, map}
+use Rattle.std.specs.Prelude.{Bool, if◌then◌else◌, List, map}
 use Rattle.frame_core.specs.declared.bpdu.BridgeId.{BridgeId}
 use Rattle.rstp_rules.specs.declared.row.Row.{Row}
 use Rattle.rstp_rules.specs.declared.row.Best.{Best}
 use Rattle.rstp_rules.specs.declared.row.Context.{Context}
-use Rattle.rstp_rules.specs.Roles.{expired, with_role}
+use Rattle.rstp_rules.specs.Roles.{with_role}
 use Rattle.rstp_rules.specs.Transitions.{turned, synced_all, advanced_all}
 use Rattle.rstp_rules.specs.Turns.{turns}
 use Rattle.rstp_rules.specs.Ticks.{greeted}

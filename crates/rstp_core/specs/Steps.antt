@@ -42,7 +42,8 @@ unbeaten none bs = unwrap_or (find (is_unbeaten bs) bs) none
 unfoldable pub root_of : BridgeId → List Row → Best
 root_of own rows = unbeaten (own_best own) (candidates own rows)
 
--- An event under way: whether it is a tick, the times in force before it, and the rows that its own part left of a tree.
+-- An event under way: whether it is a tick, the rows that its own part left of a tree, and the times that the times in force
+-- are measured against: those in force before it under the settings; in settling, under the settled values.
 pub record Event : Type 0 where
   pub settings : Table
   pub tree : Tree

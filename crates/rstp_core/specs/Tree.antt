@@ -10,7 +10,6 @@ use Rattle.rstp_settings.specs.Table.{Table, opening}
 use Rattle.rstp_rules.specs.declared.config.PortConfig.{PortConfig}
 use Rattle.rstp_rules.specs.declared.port.Port.{Port}
 use Rattle.rstp_rules.specs.declared.row.Row.{Row}
-use Rattle.rstp_rules.specs.declared.row.Best.{Best}
 use Rattle.rstp_rules.specs.declared.row.Context.{Context}
 use Rattle.rstp_rules.specs.Vectors.{port_id}
 use Rattle.rstp_rules.specs.Ports.{opening_port}
@@ -55,8 +54,8 @@ abbrev pub has_change : List Port → Bool
 has_change ports = list_any (λ p. nat_lt 0 p.change_while) ports
 
 -- The root, the times in force, and the counts of topology changes, where one was told before the event or not,
--- and one is told after it or not. A topology change is counted where one is told and none was. The ticks since
--- the last are 0 while one is told.
+-- and one is told after it or not. A topology change is counted where one is told and none was. The seconds run from
+-- where none is told any more, or from the opening where none was; they are 0 while one is told.
 abbrev pub changes_after : ℕ → Bool → Bool → ℕ
 changes_after n had has = if has && not had then (n + 1) % 2 ^ 32 else n
 

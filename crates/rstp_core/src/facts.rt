@@ -16,7 +16,8 @@ pub struct BridgeFacts {
     pub times: Times,
     /// How many topology changes there were, modulo 2^32 (14.8.1.1).
     pub topology_changes: u32,
-    /// The ticks since the last topology change, at most 2^64 - 1.
+    /// The seconds since no port tells a topology change any more, or since the opening where none was told; 0 while one is told.
+    /// At most 2^64 - 1 (14.8.1.1).
     pub since: u64,
 }
 

@@ -1,10 +1,11 @@
 //! Laws of the spanning tree, for every list of happenings from the opening on in which each change of settings is followed by
-//! settling them; and that each event is a function of the settings and the tree. Each function does nothing: its contract is the law.
+//! settling them; and that each event is a function of the settings and the tree: what its relation allows is what the function
+//! gives, and always that. Each function does nothing: its contract is the law.
 //!
 //! Not true here, and not claimed: that the learned rows of a port go when it is blocked by synchronization (they stay); that no
 //! port forwards while it is off between a change of its enable setting and settling it, and, where its link goes down in between,
 //! until it starts anew.
-ghost use Rattle.std.specs.Prelude.{◌≡◌, ◌≢◌, ◌≤◌, ℕ, Bool, List, length, All, Contains};
+ghost use Rattle.std.specs.Prelude.{◌≡◌, ◌≢◌, ◌≤◌, ◌↔◌, ℕ, Bool, List, length, All, Contains};
 ghost use Rattle.frame_core.specs.declared.bpdu.Bpdu.{Bpdu};
 ghost use Rattle.frame_core.specs.declared.mac.Mac.{Mac};
 ghost use Rattle.rstp_settings.specs.Table.{Table};
@@ -56,25 +57,25 @@ pub fn leaving_forwarding_flushes()
         → (n : ℕ) → LeavesForwarding t u n → Contains out.flushed.items n }
 {}
 
-/// A tick leaves and gives what its function says, and nothing else.
+/// What a tick leaves and gives is what its function says, and nothing else.
 pub fn tick_is_a_step()
-    ensures { (s : Table) (t u : Tree) (out : Outcome) → Ticks s t u out → IsStep (tick_step s t) t u out }
+    ensures { (s : Table) (t u : Tree) (out : Outcome) → Ticks s t u out ↔ IsStep (tick_step s t) t u out }
 {}
 
-/// A BPDU leaves and gives what its function says, and nothing else.
+/// What a BPDU leaves and gives is what its function says, and nothing else.
 pub fn arrival_is_a_step()
     ensures { (s : Table) (n : ℕ) (b : Bpdu) (t u : Tree) (out : Outcome)
-        → Arrives s n b t u out → IsStep (arrival_step s n b t) t u out }
+        → Arrives s n b t u out ↔ IsStep (arrival_step s n b t) t u out }
 {}
 
-/// A link event leaves and gives what its function says, and nothing else.
+/// What a link event leaves and gives is what its function says, and nothing else.
 pub fn link_is_a_step()
     ensures { (s : Table) (n : ℕ) (up : Bool) (t u : Tree) (out : Outcome)
-        → Links s n up t u out → IsStep (link_step s n up t) t u out }
+        → Links s n up t u out ↔ IsStep (link_step s n up t) t u out }
 {}
 
-/// Settling leaves and gives what its function says, and nothing else.
+/// What settling leaves and gives is what its function says, and nothing else.
 pub fn settling_is_a_step()
     ensures { (s : Table) (t u : Tree) (out : Outcome)
-        → Settles s t u out → IsStep (settling_step s t) t u out }
+        → Settles s t u out ↔ IsStep (settling_step s t) t u out }
 {}

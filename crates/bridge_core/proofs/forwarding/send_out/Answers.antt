@@ -1,5 +1,5 @@
 use Rattle.std.proofs.Common.{arith, rules, ◌∙◌, sym}
-use Rattle.bridge_core.specs.Forwarding.{leads, goes_by}
+use Rattle.bridge_core.specs.ForwardingInside.{leads, goes_by}
 use Rattle.bridge_core.proofs.Counts.{count_step, sent_whole}
 use Rattle.bridge_core.proofs.Walks.{walk_step, ports_none}
 use Rattle.bridge_core.proofs.forwarding.send_out.Goals as goal

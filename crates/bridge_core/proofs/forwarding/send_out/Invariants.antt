@@ -1,6 +1,7 @@
 use Rattle.std.proofs.Common.{◌≡◌, ◌≤◌, ◌++◌, take, drop, length}
 use Rattle.bridge_core.specs.Counting.{sent_from}
-use Rattle.bridge_core.specs.Forwarding.{leads, goes_by, ports_where}
+use Rattle.bridge_core.specs.Forwarding.{ports_where}
+use Rattle.bridge_core.specs.ForwardingInside.{leads, goes_by}
 use Rattle.bridge_core.proofs.forwarding.send_out.Given as goal
 
 abbrev pub invariant-loop-i : goal.invariant-loop-i

@@ -1,4 +1,3 @@
-use Rattle.std.proofs.Common.{arith, ◌∙◌, ap}
 use Rattle.rstp_core.proofs.Steps.{begin_step}
 use Rattle.rstp_core.proofs.events.begin_all.Goals as goal
 

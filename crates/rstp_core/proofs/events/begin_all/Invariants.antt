@@ -1,4 +1,4 @@
-use Rattle.std.proofs.Common.{◌≡◌, ◌++◌, map, take, drop, length}
+use Rattle.std.proofs.Common.{◌≡◌, ◌++◌, take, drop}
 use Rattle.rstp_core.specs.Tree.{rows_from, ports_of}
 use Rattle.rstp_core.proofs.events.begin_all.Given as goal
 

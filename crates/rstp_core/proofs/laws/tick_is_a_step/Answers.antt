@@ -1,5 +1,5 @@
-use Rattle.rstp_core.proofs.Functions.{tick_steps}
+use Rattle.rstp_core.proofs.Functions.{tick_exact}
 use Rattle.rstp_core.proofs.laws.tick_is_a_step.Goals as goal
 
 pub returns : goal.returns
-returns c = tick_steps
+returns c = tick_exact

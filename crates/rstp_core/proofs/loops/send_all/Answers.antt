@@ -1,4 +1,4 @@
-use Rattle.std.proofs.Common.{arith, ap, ◌∙◌}
+use Rattle.std.proofs.Common.{arith, ◌∙◌}
 use Rattle.rstp_rules.specs.Sends.{bpdu_of, sent}
 use Rattle.rstp_core.proofs.Steps.{map_step, out_step}
 use Rattle.rstp_core.proofs.loops.send_all.Goals as goal

@@ -1,0 +1,29 @@
+-- How the ports of a frame are found: first its way, and then the ports to which that leads.
+use Rattle.std.specs.Prelude.{ℕ, Bool, true, false, ◌&&◌, ◌||◌, not, ◌==◌, List}
+use Rattle.frame_core.specs.declared.mac.Mac.{Mac}
+use Rattle.frame_core.specs.Octets.{is_group}
+use Rattle.fdb_core.specs.declared.row.Row.{Row}
+use Rattle.fdb_core.specs.Rows.{port_of as learned_port}
+use Rattle.rstp_rules.specs.declared.port.State.{State}
+use Rattle.rstp_rules.specs.Vectors.{same_mac}
+use Rattle.rstp_rules.specs.Ports.{is_forwarding}
+use Rattle.rstp_core.specs.Tree.{Tree, port_at}
+use Rattle.bridge_core.specs.declared.forwarding.Way.{Way}
+use Rattle.bridge_core.specs.declared.forwarding.Way.TheVariants.{Nowhere, Anywhere, By}
+use Rattle.bridge_core.specs.Forwarding.{is_reserved, may_be_behind}
+
+-- Whether a frame to this destination may go by port q, if q is another forwarding port, where the port by which it came is of this
+-- state.
+abbrev pub is_way : List Row → Mac → State → Mac → ℕ → Bool
+is_way rows own state d q =
+    is_forwarding state && not (is_reserved d) && not (same_mac d own) && (is_group d || may_be_behind (learned_port rows d) q)
+
+-- The same as it is found: nowhere, anywhere, or by one port.
+abbrev pub leads : Way → ℕ → Bool
+leads Nowhere q = false
+leads Anywhere q = true
+leads (By r) q = r == q
+
+-- Whether a frame that came by port p goes out by port q, where it may go by a port that passes the test.
+abbrev pub goes_by : (ℕ → Bool) → ℕ → Tree → ℕ → Bool
+goes_by way p t q = is_forwarding (port_at t q).state && not (q == p) && way q
