@@ -71,10 +71,11 @@ module _ {R : Type 0} (passes : R → Bool) (beats same_key : R → R → Bool) 
 
 -- ---- which rows tie
 
-bytes_same : (xs ys : List ℕ) → xs ≡ ys → bytes_eq xs ys ≡ true
+pub bytes_same : (xs ys : List ℕ) → xs ≡ ys → bytes_eq xs ys ≡ true
 bytes_same xs ys e = (λ k. bytes_eq (e k) ys) ∙ nat_list_eq_equiv.refl ys
 
-neither : {X : Type 0} (cmp : X → X → Ordering) → IsTotalOrder cmp → (a b : X) (o : Ordering) → cmp a b ≡ o → is_lt (cmp a b) ≡ false → is_lt (cmp b a) ≡ false → cmp a b ≡ Equal
+-- what does not come before or after another, by a total order, is equal to it
+pub neither : {X : Type 0} (cmp : X → X → Ordering) → IsTotalOrder cmp → (a b : X) (o : Ordering) → cmp a b ≡ o → is_lt (cmp a b) ≡ false → is_lt (cmp b a) ≡ false → cmp a b ≡ Equal
 neither cmp total a b Equal e f g = e
 neither cmp total a b Less e f g = absurd (true≢false (rw e at f))
 neither cmp total a b Greater e f g =
