@@ -1,5 +1,5 @@
 -- There is at most one row that passes and that no row that passes beats, since keys differ.
-use Rattle.std.proofs.Common.{◌≡◌, ℕ, ◌<◌, ◌==◌, Bool, true, false, ◌&&◌, ◌||◌, not, if◌then◌else◌, nat_eq, nat_le, List, length, take, get_or, Option, Some, None, bytes_eq, refl, sym, ap, ◌∙◌, arith, inl, inr, eq-eqb}
+use Rattle.std.proofs.Common.{◌≡◌, ℕ, ◌<◌, ◌==◌, Bool, true, false, ◌&&◌, ◌||◌, not, if◌then◌else◌, nat_eq, List, length, take, get_or, Some, bytes_eq, refl, sym, ap, ◌∙◌, arith, inl, inr, eq-eqb}
 use Rattle.std.specs.Cmp.{IsTotalOrder}
 use Rattle.std.specs.Cmp.Lexicographic.{same_text, slice_cmp}
 use Rattle.std.specs.FinMap.{nat_cmp-IsAntisymmetric}
@@ -13,15 +13,13 @@ use Rattle.std.proofs.lemmas.List.Folds.{list_any_at}
 use Rattle.std.proofs.lemmas.Option.{get_or_from_slice_get, slice_get_within}
 use Rattle.std.proofs.Math.Seq.{take-length}
 use Rattle.oid_core.proofs.OrderLaws.{cmp_equal}
-use Rattle.vacm_core.specs.declared.tables.AccessRow.{AccessRow}
-use Rattle.vacm_core.specs.declared.tables.FamilyRow.{FamilyRow}
 use Rattle.vacm_core.specs.declared.verdict.Ask.{Ask}
 use Rattle.vacm_core.specs.Levels.{level_number}
 use Rattle.vacm_core.specs.Best.{is_unbeaten, IsUnbeatenAt}
 use Rattle.vacm_core.specs.Rows.{same_access, same_family}
 use Rattle.vacm_core.specs.Tables.{KeysDiffer}
 use Rattle.vacm_core.specs.Families.{agrees_from, matches, family_cmp, family_beats}
-use Rattle.vacm_core.specs.Access.{fits_context, candidate, access_cmp, access_beats}
+use Rattle.vacm_core.specs.Access.{candidate, access_cmp, access_beats}
 use Rattle.vacm_core.proofs.Orders.{family_total, access_total}
 use Rattle.vacm_core.proofs.Sound.{and_true}
 
