@@ -3,3 +3,4 @@ pub mod RowLemmas
 pub mod Short
 pub mod SaidLemmas
 pub mod Ascii
+pub mod Indexes

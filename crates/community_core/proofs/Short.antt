@@ -1,7 +1,6 @@
 -- A community name that stands for somebody is short.
-use Rattle.std.proofs.Common.{◌≡◌, ℕ, ◌≤◌, Bool, true, false, ◌&&◌, not, nat_le, List, [], length, map, All, Some, subst, ap, get_or}
+use Rattle.std.proofs.Common.{◌≡◌, ℕ, ◌≤◌, true, ◌&&◌, not, nat_le, List, [], length, map, Some, subst, get_or}
 use Rattle.std.specs.List.{list_any}
-use Rattle.std.specs.Str.{bytes_eq}
 use Rattle.std.proofs.lemmas.List.Quantifiers.{position-Some}
 use Rattle.std.proofs.lemmas.Slice.Eq.{bytes_eq-Decides}
 use Rattle.vacm_core.specs.Best.{unbeaten, is_unbeaten}
@@ -13,7 +12,7 @@ use Rattle.vacm_core.proofs.Sound.{and_true, all_of, keys_differ}
 use Rattle.community_core.specs.declared.community.CommunityRow.{CommunityRow}
 use Rattle.community_core.specs.declared.community.TheConstants.{COMMUNITY_MAX}
 use Rattle.community_core.specs.declared.community.WrittenCommunity.{WrittenCommunity}
-use Rattle.community_core.specs.Communities.{AreSound, community_lengths, community_row, community_rules, same_index, has_name, index_before, deciding_community}
+use Rattle.community_core.specs.Communities.{AreSound, community_lengths, community_row, community_rules, has_name, index_before, deciding_community}
 
 short_by : (w : WrittenCommunity) → community_lengths w ≡ true → length w.name ≤ COMMUNITY_MAX
 short_by w h =

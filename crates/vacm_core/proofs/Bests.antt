@@ -91,7 +91,7 @@ first_at p (x ∷ xs) j (suc b) h aye nay =
     rw (nay 0 x (omega arith)) (first_at p xs (j + 1) b (omega arith) aye (λ k d lt. nay (suc k) d (omega arith)) ∙ ap (λ (n : ℕ). Some n) more)
 
 module _ {R : Type 0} (passes : R → Bool) (beats : R → R → Bool) (rows : List R) where
-  is_best : (b : ℕ) → IsBestAt passes beats rows (length rows) b → (e : R) → is_unbeaten passes beats rows (get_or rows b e) ≡ true
+  pub is_best : (b : ℕ) → IsBestAt passes beats rows (length rows) b → (e : R) → is_unbeaten passes beats rows (get_or rows b e) ≡ true
   is_best b h e =
       let none : list_any (λ other. passes other && beats other (get_or rows b e)) rows ≡ false =
       list_any_none (λ other. passes other && beats other (get_or rows b e)) rows (λ k d lt.

@@ -1,17 +1,16 @@
 -- Where nothing is wrong with the written rows, the rows that they stand for are sound.
-use Rattle.std.proofs.Common.{◌≡◌, ℕ, zero, suc, ◌+◌, ◌<◌, ◌≤◌, Bool, true, false, ◌&&◌, if◌then◌else◌, nat_le, List, [], ◌∷◌, length, map, take, get_or, All, AllPairs, Option, Some, None, refl, sym, ap, subst, ◌∙◌, arith, inl, inr}
+use Rattle.std.proofs.Common.{◌≡◌, ℕ, zero, suc, ◌+◌, ◌<◌, ◌≤◌, Bool, true, false, ◌&&◌, if◌then◌else◌, nat_le, List, [], ◌∷◌, length, map, take, get_or, All, Some, None, refl, sym, ap, subst, ◌∙◌, arith, inl, inr}
 use Rattle.std.specs.List.{list_any, slice_get}
 use Rattle.std.proofs.lemmas.Bool.{cases_Bool, both_ways, leb-true}
 use Rattle.std.proofs.lemmas.List.{get_or-take, get_or-map, length-take-le, length-map}
 use Rattle.std.proofs.lemmas.List.Folds.{list_any_at}
 use Rattle.std.proofs.lemmas.Option.{get_or_from_slice_get}
-use Rattle.vacm_core.specs.declared.fault.Wrong.{Wrong}
 use Rattle.vacm_core.specs.declared.fault.Wrong.TheVariants.{Length, Field, Duplicate}
 use Rattle.vacm_core.specs.declared.limits.TheConstants.{FAMILY_MAX, MASK_MAX, NAME_MAX}
 use Rattle.vacm_core.specs.declared.tables.FamilyRow.{FamilyRow}
 use Rattle.vacm_core.specs.declared.written.WrittenFamily.{WrittenFamily}
 use Rattle.vacm_core.specs.declared.written.VacmRows.{VacmRows}
-use Rattle.vacm_core.specs.Rules.{Rules, has_earlier, wrong_of, wrong_at, AreRight}
+use Rattle.vacm_core.specs.Rules.{Rules, has_earlier, wrong_of, AreRight}
 use Rattle.vacm_core.specs.Rows.{group_rules, access_rules, family_rules, family_row, family_lengths, group_row, access_row}
 use Rattle.vacm_core.specs.Tables.{Tables, KeysDiffer, IsSound}
 use Rattle.vacm_core.specs.Texts.{has_length}

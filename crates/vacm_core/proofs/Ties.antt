@@ -1,5 +1,5 @@
 -- There is at most one row that passes and that no row that passes beats, since keys differ.
-use Rattle.std.proofs.Common.{◌≡◌, ℕ, ◌<◌, ◌==◌, Bool, true, false, ◌&&◌, ◌||◌, not, if◌then◌else◌, nat_eq, nat_le, List, length, take, get_or, Option, Some, None, bytes_eq, refl, sym, ap, ◌∙◌, arith, inl, inr, eq-eqb}
+use Rattle.std.proofs.Common.{◌≡◌, ℕ, ◌<◌, ◌==◌, Bool, true, false, ◌&&◌, ◌||◌, not, if◌then◌else◌, nat_eq, List, length, take, get_or, Some, bytes_eq, refl, sym, ap, ◌∙◌, arith, inl, inr, eq-eqb}
 use Rattle.std.specs.Cmp.{IsTotalOrder}
 use Rattle.std.specs.Cmp.Lexicographic.{same_text, slice_cmp}
 use Rattle.std.specs.FinMap.{nat_cmp-IsAntisymmetric}
@@ -13,15 +13,13 @@ use Rattle.std.proofs.lemmas.List.Folds.{list_any_at}
 use Rattle.std.proofs.lemmas.Option.{get_or_from_slice_get, slice_get_within}
 use Rattle.std.proofs.Math.Seq.{take-length}
 use Rattle.oid_core.proofs.OrderLaws.{cmp_equal}
-use Rattle.vacm_core.specs.declared.tables.AccessRow.{AccessRow}
-use Rattle.vacm_core.specs.declared.tables.FamilyRow.{FamilyRow}
 use Rattle.vacm_core.specs.declared.verdict.Ask.{Ask}
 use Rattle.vacm_core.specs.Levels.{level_number}
 use Rattle.vacm_core.specs.Best.{is_unbeaten, IsUnbeatenAt}
 use Rattle.vacm_core.specs.Rows.{same_access, same_family}
 use Rattle.vacm_core.specs.Tables.{KeysDiffer}
 use Rattle.vacm_core.specs.Families.{agrees_from, matches, family_cmp, family_beats}
-use Rattle.vacm_core.specs.Access.{fits_context, candidate, access_cmp, access_beats}
+use Rattle.vacm_core.specs.Access.{candidate, access_cmp, access_beats}
 use Rattle.vacm_core.proofs.Orders.{family_total, access_total}
 use Rattle.vacm_core.proofs.Sound.{and_true}
 
@@ -71,10 +69,11 @@ module _ {R : Type 0} (passes : R → Bool) (beats same_key : R → R → Bool) 
 
 -- ---- which rows tie
 
-bytes_same : (xs ys : List ℕ) → xs ≡ ys → bytes_eq xs ys ≡ true
+pub bytes_same : (xs ys : List ℕ) → xs ≡ ys → bytes_eq xs ys ≡ true
 bytes_same xs ys e = (λ k. bytes_eq (e k) ys) ∙ nat_list_eq_equiv.refl ys
 
-neither : {X : Type 0} (cmp : X → X → Ordering) → IsTotalOrder cmp → (a b : X) (o : Ordering) → cmp a b ≡ o → is_lt (cmp a b) ≡ false → is_lt (cmp b a) ≡ false → cmp a b ≡ Equal
+-- what does not come before or after another, by a total order, is equal to it
+pub neither : {X : Type 0} (cmp : X → X → Ordering) → IsTotalOrder cmp → (a b : X) (o : Ordering) → cmp a b ≡ o → is_lt (cmp a b) ≡ false → is_lt (cmp b a) ≡ false → cmp a b ≡ Equal
 neither cmp total a b Equal e f g = e
 neither cmp total a b Less e f g = absurd (true≢false (rw e at f))
 neither cmp total a b Greater e f g =

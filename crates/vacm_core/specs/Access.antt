@@ -1,4 +1,4 @@
--- The decision on a request up to its names (RFC 3415, section 3.2, steps 1 to 4).
+-- The decision on a request up to its names (RFC 3415, section 3.2, steps 1 to 4, and 5 a: a view that is not configured).
 use Rattle.std.specs.Prelude.{ℕ, ◌<◌, ◌==◌, Bool, not, ◌&&◌, ◌||◌, if◌then◌else◌, List, [], length, slice_get, nat_le, nat_eq, bytes_eq, find, Option, Some, None}
 use Rattle.std.specs.List.{list_any, starts_with}
 use Rattle.std.specs.Ordering.{nat_cmp, bool_cmp, ordering_then, is_lt}

@@ -1,15 +1,9 @@
 use Rattle.std.proofs.Common.{length, sym, ◌∙◌, arith}
-use Rattle.std.specs.Cmp.{IsStrictWeakOrder}
-use Rattle.std.proofs.lemmas.Cmp.{nat_list_cmp_total}
-use Rattle.std.proofs.lemmas.List.MinMax.{ranks_by}
 use Rattle.vacm_core.proofs.Bests.{skips, takes, found, kept}
-use Rattle.community_core.specs.declared.community.CommunityRow.{CommunityRow}
 use Rattle.community_core.specs.Communities.{has_name, index_before}
+use Rattle.community_core.proofs.Indexes.{index_order}
 use Rattle.community_core.proofs.community.deciding_community.Goals as goal
 use Rattle.community_core.proofs.community.deciding_community.Goals.{then-is_better, else-is_better}
-
-index_order : IsStrictWeakOrder index_before
-index_order = ranks_by nat_list_cmp_total (λ (r : CommunityRow). r.index)
 
 pub loop-n-preserved : goal.loop-n-preserved
 loop-n-preserved c =

@@ -1,4 +1,4 @@
-use Rattle.std.proofs.Common.{◌≡◌, ℕ, ap, ◌∙◌, zero-add, sym}
+use Rattle.std.proofs.Common.{ap, ◌∙◌, zero-add, sym}
 use Rattle.vacm_core.specs.Families.{mask_bit}
 use Rattle.vacm_core.proofs.Agrees.{agrees_found, agrees_only}
 use Rattle.vacm_core.proofs.laws.families_by_bits.Goals as goal

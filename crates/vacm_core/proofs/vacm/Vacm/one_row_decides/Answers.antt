@@ -1,4 +1,4 @@
-use Rattle.std.proofs.Common.{◌≡◌, subst, ap}
+use Rattle.std.proofs.Common.{subst}
 use Rattle.vacm_core.specs.Rows.{same_access, same_family}
 use Rattle.vacm_core.specs.Tables.{Tables, KeysDiffer}
 use Rattle.vacm_core.specs.Families.{matches, family_beats}
