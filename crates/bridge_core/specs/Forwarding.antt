@@ -17,7 +17,7 @@ use Rattle.rstp_rules.specs.Ports.{is_discarding, is_forwarding}
 use Rattle.bridge_core.specs.declared.bridge.TheConstants.{MAX_LEARNED_ROWS}
 use Rattle.bridge_core.specs.Bridge.{BridgeState, address_of, port_count, port_of, is_on}
 
--- The addresses 01-80-C2-00-00-00 to 0F, which no bridge forwards (7.12.6).
+-- The addresses 0180C2000000 to 0180C200000F, which no bridge forwards (7.12.6).
 abbrev pub is_reserved : Mac → Bool
 is_reserved a = bytes_eq (take 5 a.0) (take 5 BRIDGE_GROUP.0) && nat_lt (slice_index a.0 5) 16
 

@@ -181,7 +181,7 @@ impl Bridge {
     /// nor the destination reserved, and there is room: it has a row, or there are fewer than 1,024 (7.8).
     /// Then, where the port forwards, the frame goes out by the other forwarding ports (7.7): by the one at which its destination is
     /// learned, or by all where it is a group address or not learned; but by none where it is the bridge's own address or one of
-    /// 01-80-C2-00-00-00 to 0F (7.12.6). Only the growth for a new learned row takes memory: where that is refused the frame is
+    /// 0180C2000000 to 0180C200000F (7.12.6). Only the growth for a new learned row takes memory: where that is refused the frame is
     /// forwarded all the same, and noted in `no_room`.
     pub fn frame(&mut self, port: u16, frame: &FrameIn) -> Forwarding
         requires first { 1 ≤ port }

@@ -35,7 +35,7 @@ impl Way {
     }
 }
 
-/// Whether an address is one of 01-80-C2-00-00-00 to 0F, which no bridge forwards (7.12.6).
+/// Whether an address is one of 0180C2000000 to 0180C200000F, which no bridge forwards (7.12.6).
 pub fn is_reserved(address: Mac) -> bool
     ensures { result ≡ is_reserved address }
 {
