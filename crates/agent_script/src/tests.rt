@@ -927,12 +927,20 @@ fn forgets_a_silent_root(rt: HostRuntime) -> Result<(), Fail> {
     assert_said(&rt, built_in(rt.alloc())?, &script, &want)
 }
 
+// Makes a port that there is an edge.
+fn put_edge(bridge: &mut Bridge, port: u16) {
+    if port >= 1 && usize::from(port) <= bridge.ports() {
+        bridge.put_setting(Key::Port(port, PortKey::Edge), 1);
+    }
+}
+
 // Both ports are edges, and forward as soon as their links are up.
 #[test]
 fn forwards_what_it_has_learned(rt: HostRuntime) -> Result<(), Fail> {
     let mut bridge = two_ports(rt.alloc())?;
-    bridge.put_setting(Key::Port(1, PortKey::Edge), 1);
-    bridge.put_setting(Key::Port(2, PortKey::Edge), 1);
+    for port in 1..=2 {
+        put_edge(&mut bridge, port);
+    }
     bridge.settle();
     let mut want = designated(rt.alloc(), "3C")?;
     want.push_str(
