@@ -101,20 +101,20 @@ fn words_of(alloc: Global, texts: &[&str]) -> Result<Vec<String>, Fail> {
 
 /// What a run wrote, and its status.
 #[derive(Drop)]
-struct Ran {
+struct Finished {
     status: u8,
     out: Vec<u8>,
     errors: Vec<u8>,
 }
 
 // A run of these words on one line.
-fn ran<R: Files + AllocGlobal>(rt: &R, texts: &[&str], script: &[u8]) -> Result<Ran, Fail> {
+fn ran<R: Files + AllocGlobal>(rt: &R, texts: &[&str], script: &[u8]) -> Result<Finished, Fail> {
     let words = words_of(rt.alloc(), texts)?;
     let mut out = Vec::new(rt.alloc());
     let mut errors = Vec::new(rt.alloc());
     let mut reader = script;
     let status = run_words(rt, &words, &mut reader, &mut out, &mut errors);
-    Ok(Ran {
+    Ok(Finished {
         status,
         out,
         errors,
