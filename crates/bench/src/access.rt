@@ -3,11 +3,10 @@ use crate::print::print_turns;
 use community_core::{Policy, policy_in};
 use oid_core::Oid;
 use std::alloc::Global;
-use std::hint::black_box;
 use std::io;
 use std::io::{Error, ErrorKind, Write};
 use std::time::Instant;
-use vacm_core::{Ask, Level, Name, Vacm, ViewType};
+use vacm_core::{Ask, Level, Name, Vacm, Verdict, ViewType};
 
 /// How often each is asked.
 const TURNS: u32 = 20_000;
@@ -15,7 +14,7 @@ const TURNS: u32 = 20_000;
 /// How many family rows there are.
 const FAMILIES: [u32; 3] = [10, 100, 1_000];
 
-/// The rows but for the families: `public` may read the view `bridge`.
+/// The rows but for the families: `public` may read the view `last`, whose family is the last row.
 const HEAD: &str = "contexts = []
 [[community]]
 index = \"p\"
@@ -32,7 +31,7 @@ prefix = \"\"
 model = 2
 level = 1
 exact = true
-read = \"bridge\"
+read = \"last\"
 write = \"\"
 notify = \"\"
 ";
@@ -45,18 +44,19 @@ pub fn policy_of(alloc: Global, text: &[u8]) -> io::Result<Policy> {
     }
 }
 
-/// A policy of so many families of one view: the bridge, and below it one a column.
+/// A policy of so many families: those of the view `bridge`, one a group of objects, and last the one of the view `last`, which is
+/// all of the bridge.
 pub fn policy_with(alloc: Global, families: u32) -> io::Result<Policy> {
     let mut text = Vec::from_slice(alloc, HEAD.as_bytes())?;
-    text.extend_from_slice(
-        b"[[family]]\nview = \"bridge\"\nsubtree = \"1.3.6.1.2.1.17\"\nmask = \"\"\nincluded = true\n",
-    )?;
     for number in 1..families {
         writeln!(
             text,
             "[[family]]\nview = \"bridge\"\nsubtree = \"1.3.6.1.2.1.17.{number}\"\nmask = \"\"\nincluded = true"
         )?;
     }
+    text.extend_from_slice(
+        b"[[family]]\nview = \"last\"\nsubtree = \"1.3.6.1.2.1.17\"\nmask = \"\"\nincluded = true\n",
+    )?;
     policy_of(alloc, &text)
 }
 
@@ -75,24 +75,48 @@ fn ask() -> io::Result<Ask> {
 }
 
 fn measure_decide(rt: &HostRuntime, vacm: &Vacm, families: u32) -> io::Result<()> {
-    let ask = ask()?;
+    let mut ask = ask()?;
     let start = Instant::now(rt)?;
-    for _ in 0..TURNS {
-        let _ = black_box(vacm.decide(black_box(&ask)));
+    let mut allowed = 0u32;
+    for turn in 0..TURNS {
+        ask.view = if turn % 2 == 0 {
+            ViewType::Read
+        } else {
+            ViewType::Write
+        };
+        if matches!(vacm.decide(&ask), Verdict::Allowed(..)) {
+            allowed = allowed.wrapping_add(1);
+        }
     }
-    println!(rt; "{families} family rows")?;
+    println!(rt; "{families} family rows, {allowed} allowed")?;
     print_turns(rt, "decide", TURNS, &start)
+}
+
+// Names in eight groups of objects.
+fn names(alloc: Global) -> io::Result<Vec<Oid>> {
+    let mut names = Vec::new(alloc);
+    for group in 1..9 {
+        let Ok(name) = Oid::from_slice(alloc, &[1, 3, 6, 1, 2, 1, 17, group, 2, 0]) else {
+            return Err(Error::from(ErrorKind::OutOfMemory));
+        };
+        names.push(name)?;
+    }
+    Ok(names)
 }
 
 fn measure_in_view(rt: &HostRuntime, vacm: &Vacm) -> io::Result<()> {
     let view = name_of("bridge")?;
-    let Ok(name) = Oid::from_slice(rt.alloc(), &[1, 3, 6, 1, 2, 1, 17, 2, 2, 0]) else {
-        return Err(Error::from(ErrorKind::OutOfMemory));
-    };
+    let names = names(rt.alloc())?;
     let start = Instant::now(rt)?;
-    for _ in 0..TURNS {
-        let _ = black_box(vacm.in_view(black_box(&view), black_box(&name)));
+    let mut included = 0u32;
+    for turn in 0..TURNS {
+        if let Some(name) = names.get((turn % 8) as usize) {
+            if vacm.in_view(&view, name).is_included() {
+                included = included.wrapping_add(1);
+            }
+        }
     }
+    println!(rt; "{included} in the view")?;
     print_turns(rt, "in_view", TURNS, &start)
 }
 
