@@ -71,7 +71,7 @@ reply_same world other request row other_row view other_view d f e h =
     let first : List ℕ → Bool = in_view world.policy.vacm.families view in
     let second : List ℕ → Bool = in_view other.policy.vacm.families other_view in
     let same : kind_reply world.objects first world.instances request request.kind ≡ kind_reply other.objects second other.instances request request.kind =
-        kind_same world.objects other.objects first second world.instances other.instances request request.kind e (λ g. ((h g).objects, (h g).asked)) in
+    kind_same world.objects other.objects first second world.instances other.instances request request.kind e (λ g. ((h g).objects, (h g).asked)) in
     ap (λ (decision : Decision). reply_by world request decision) d
     ∙ ap (λ (reply : Reply). Some reply) same
     ∙ sym (ap (λ (decision : Decision). reply_by other request decision) f)
