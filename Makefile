@@ -1,4 +1,4 @@
-.PHONY: run test bench
+.PHONY: run test bench wrong-bodies
 
 # Answers the worked request. It compiles and runs, and proves nothing.
 run:
@@ -7,6 +7,10 @@ run:
 # Proves every crate from nothing, tries the must-fail edits, runs the tests and the programs.
 test:
 	rt ci
+
+# Tries further wrong bodies, which the gate leaves out: of all crates, or of CRATES="NAME ..".
+wrong-bodies:
+	tools/wrong-bodies $(CRATES)
 
 # Builds the programs, proved, and measures them.
 bench:
