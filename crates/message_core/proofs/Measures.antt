@@ -7,6 +7,7 @@ use Rattle.ber_core.proofs.Lengths.{canon_1, canon_2}
 use Rattle.message_core.specs.Tags as tags
 use Rattle.message_core.specs.Canon.{canon_int, canon_bindings, canon_tail, canon_body, canon_inside, canon_message, canon_reply, answer_to}
 use Rattle.message_core.specs.Status.{code_of}
+use Rattle.message_core.specs.declared.writing.TheConstants.{MAX_REPLY}
 use Rattle.message_core.specs.declared.binding.Binding.{Binding}
 use Rattle.message_core.specs.declared.request.Request.{Request}
 use Rattle.message_core.specs.declared.status.ErrorStatus.TheVariants.{NoError}
@@ -62,7 +63,7 @@ message_size_is community tag id first second bs =
     rw (tlv_size_is tags.sequence inside, l3, l1) refl
 
 -- bindings of so many octets fit beside the rest
-pub size_fits : (outer inner n : ℕ) → outer + inner ≤ 300 → n + (outer + inner) ≤ 1460 → message_size outer inner n ≤ 1472
+pub size_fits : (outer inner n : ℕ) → outer + inner ≤ 300 → n + (outer + inner) ≤ 1460 → message_size outer inner n ≤ MAX_REPLY
 size_fits outer inner n few fits =
     let a : tlv_size n ≤ n + 4 = tlv_size_most n (omega (arith, fits)) in
     let b : tlv_size (inner + tlv_size n) ≤ inner + tlv_size n + 4 = tlv_size_most (inner + tlv_size n) (omega (arith, fits, a)) in
@@ -73,11 +74,11 @@ size_fits outer inner n few fits =
 tlv_size_ge : (n : ℕ) → n ≤ tlv_size n
 tlv_size_ge n = omega arith
 
-tlv_size_least : (n : ℕ) → 256 ≤ n → tlv_size n ≤ 1472 → n + 4 ≤ tlv_size n
+tlv_size_least : (n : ℕ) → 256 ≤ n → tlv_size n ≤ MAX_REPLY → n + 4 ≤ tlv_size n
 tlv_size_least n some fits = omega (arith, tlv_size_long n some (omega (arith, tlv_size_ge n, fits)))
 
 -- what fits has no more octets
-pub fits_size : (outer inner n : ℕ) → outer + inner ≤ 300 → message_size outer inner n ≤ 1472 → n + (outer + inner) ≤ 1460
+pub fits_size : (outer inner n : ℕ) → outer + inner ≤ 300 → message_size outer inner n ≤ MAX_REPLY → n + (outer + inner) ≤ 1460
 fits_size outer inner n few fits = elim (cases_lt 1460 (n + (outer + inner))) [
   | inr within ↦ within
   | inl past ↦
@@ -95,13 +96,13 @@ fits_size outer inner n few fits = elim (cases_lt 1460 (n + (outer + inner))) [
 pub room_tells : (request : Request) (bs : List Binding) (version community id status index room : ℕ) →
     version ≡ length (canon_int (pos 1)) → community ≡ length (canon_tlv tags.octet_string request.community) → id ≡ length (canon_int request.id) → status ≡ length (canon_int (code_of NoError)) → index ≡ length (canon_int (pos 0)) →
     version + community + id + status + index ≤ 300 → room + (version + community + id + status + index) ≡ 1460 →
-    (length (canon_bindings bs) ≤ room) ↔ (length (canon_reply (answer_to request NoError (pos 0) bs)) ≤ 1472)
+    (length (canon_bindings bs) ≤ room) ↔ (length (canon_reply (answer_to request NoError (pos 0) bs)) ≤ MAX_REPLY)
 room_tells request bs version community id status index room v c i s x few sum =
     let outer : ℕ = length (canon_int (pos 1)) + length (canon_tlv tags.octet_string request.community) in
     let inner : ℕ = length (canon_int request.id) + length (canon_int (code_of NoError)) + length (canon_int (pos 0)) in
     let n : ℕ = length (canon_bindings bs) in
     let size : length (canon_reply (answer_to request NoError (pos 0) bs)) ≡ message_size outer inner n = message_size_is request.community tags.response request.id (code_of NoError) (pos 0) bs in
     let parts : outer + inner ≡ version + community + id + status + index = omega (arith, v, c, i, s, x) in (
-      (λ h. let fits : message_size outer inner n ≤ 1472 = size_fits outer inner n (omega (arith, parts, few)) (omega (arith, parts, sum, h)) in omega (arith, size, fits)),
+      (λ h. let fits : message_size outer inner n ≤ MAX_REPLY = size_fits outer inner n (omega (arith, parts, few)) (omega (arith, parts, sum, h)) in omega (arith, size, fits)),
       (λ h. let within : n + (outer + inner) ≤ 1460 = fits_size outer inner n (omega (arith, parts, few)) (omega (arith, size, h)) in omega (arith, parts, sum, within)),
     )

@@ -6,6 +6,8 @@ use Rattle.ber_core.specs.Spelling.{IsLength, canon_length, canon_tlv, canon_int
 use Rattle.ber_core.proofs.Canon.{canon_length_spells, shortest_len}
 use Rattle.message_core.specs.Tags as tags
 use Rattle.message_core.specs.Status.{code_of}
+use Rattle.message_core.specs.declared.request.TheConstants.{MAX_COMMUNITY}
+use Rattle.message_core.specs.declared.writing.TheConstants.{MAX_REPLY}
 use Rattle.message_core.specs.declared.reply.Reply.{Reply}
 use Rattle.message_core.specs.Canon.{canon_int, canon_tail, canon_body, canon_inside, canon_message, canon_reply}
 
@@ -40,7 +42,7 @@ body_short id first second =
     let l = tlv_short tags.sequence [] (omega arith) in
     omega (arith, l, int_short id, int_short first, int_short second, length-append (canon_int id) (canon_int first ++ (canon_int second ++ list)), length-append (canon_int first) (canon_int second ++ list), length-append (canon_int second) list)
 
-message_short : (community : List ℕ) (tag : ℕ) (body : List ℕ) → length community ≤ 255 → length body ≤ 36 → length (canon_message community tag body) ≤ 1472
+message_short : (community : List ℕ) (tag : ℕ) (body : List ℕ) → length community ≤ MAX_COMMUNITY → length body ≤ 36 → length (canon_message community tag body) ≤ MAX_REPLY
 unfolding canon_message canon_inside
 message_short community tag body few short =
     let name = canon_tlv tags.octet_string community in
@@ -51,7 +53,7 @@ message_short community tag body few short =
     let l3 : length inside ≤ 313 = omega (arith, l1, l2, int_short (pos 1), length-append (canon_int (pos 1)) (name ++ pdu), length-append name pdu) in
     omega (arith, l3, tlv_short tags.sequence inside (omega (arith, l3)))
 
-pub reply_short : (r : Reply) → length r.community ≤ 255 → r.bindings ≡ [] → length (canon_reply r) ≤ 1472
+pub reply_short : (r : Reply) → length r.community ≤ MAX_COMMUNITY → r.bindings ≡ [] → length (canon_reply r) ≤ MAX_REPLY
 reply_short r few none =
     let body : length (canon_body r.id (code_of r.status) r.index r.bindings) ≤ 36 = rw none (body_short r.id (code_of r.status) r.index) in
     message_short r.community tags.response (canon_body r.id (code_of r.status) r.index r.bindings) few body

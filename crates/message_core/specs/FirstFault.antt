@@ -7,7 +7,7 @@ use Rattle.oid_core.specs.declared.fault.OidFault.{OidFault}
 use Rattle.oid_core.specs.Reading.{name_at}
 use Rattle.message_core.specs.Cause.{cause_of}
 use Rattle.message_core.specs.Tags as tags
-use Rattle.message_core.specs.Message.{longest_request}
+use Rattle.message_core.specs.declared.reading.TheConstants.{MAX_REQUEST}
 use Rattle.message_core.specs.declared.cause.DropCause.{DropCause}
 use Rattle.message_core.specs.declared.cause.DropCause.TheVariants.{TooLong, Malformed, BadVersion, BadKind, Memory}
 use Rattle.message_core.specs.declared.request.Kind.{Kind}
@@ -152,7 +152,7 @@ version_of z = if is_one z then Ok tt else Err BadVersion
 
 -- A message up to its community: the community, and what comes after it and after the message.
 unfoldable pub start_at : List ℕ → Result (List ℕ × List ℕ × List ℕ) DropCause
-start_at datagram = if nat_lt longest_request (length datagram) then Err TooLong else do
+start_at datagram = if nat_lt MAX_REQUEST (length datagram) then Err TooLong else do
   m ← content_at tags.sequence datagram
   v ← integer_at m.0
   one ← version_of v.0

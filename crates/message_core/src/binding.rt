@@ -1,4 +1,5 @@
-ghost use Rattle.std.specs.Prelude.{◌≡◌, ◌↔◌, [], ◌∷◌, ◌++◌, IsTrue, IfOk, OnOk, OnErr};
+ghost use Rattle.std.specs.Prelude.{◌≡◌, ◌↔◌, [], ◌∷◌, ◌++◌, IsTrue, IsOk, IfOk, OnOk, OnErr};
+ghost use Rattle.message_core.specs.Inline.{IsInlineBinding};
 ghost use Rattle.message_core.specs.Spellable.{IsSpellableBinding};
 
 use crate::value::Value;
@@ -16,9 +17,10 @@ pub struct Binding {
 }
 
 impl Binding {
-    /// A copy. Takes memory only for octets and names.
+    /// A copy. Takes memory only where its value's copy does, and for a name of more than `INLINE_NUMBERS` sub-identifiers.
     pub fn try_copy(&self, alloc: Global) -> Result<Binding, AllocError>
-        ensures { IfOk result (λ copy. copy ≡ self.now) }
+        ensures value { IfOk result (λ copy. copy ≡ self.now) }
+        ensures inline { IsInlineBinding self.now → IsOk result }
     {
         let name = self.name.try_copy(alloc)?;
         let value = self.value.try_copy(alloc)?;

@@ -15,7 +15,8 @@ pub fn integer_from_content(content: &[u8]) -> Result<i32, DropCause>
 
 /// The number of a Counter32's, a Gauge32's or a TimeTicks' content.
 pub fn unsigned32_from_content(content: &[u8]) -> Result<u32, DropCause>
-    ensures { Gives (λ n. n) result (unsigned_of 4 content.now) }
+    ensures exact { Gives (λ n. n) result (unsigned_of 4 content.now) }
+    ensures fault { IfErr result (λ e. e ≡ DropCause.Malformed) }
 {
     let number = read_u32(content)?;
     Ok(number)
@@ -23,7 +24,8 @@ pub fn unsigned32_from_content(content: &[u8]) -> Result<u32, DropCause>
 
 /// The number of a Counter64's content.
 pub fn unsigned64_from_content(content: &[u8]) -> Result<u64, DropCause>
-    ensures { Gives (λ n. n) result (unsigned_of 8 content.now) }
+    ensures exact { Gives (λ n. n) result (unsigned_of 8 content.now) }
+    ensures fault { IfErr result (λ e. e ≡ DropCause.Malformed) }
 {
     let number = read_u64(content)?;
     Ok(number)

@@ -6,7 +6,7 @@ ghost use Rattle.message_core.specs.Canon.{canon_int, canon_binding, canon_bindi
 ghost use Rattle.message_core.specs.declared.binding.Binding.{Binding};
 
 use crate::binding::Binding;
-use crate::request::Request;
+use crate::request::{MAX_COMMUNITY, Request};
 use crate::status::ErrorStatus;
 use crate::tag;
 use crate::writing::{MAX_REPLY, put_binding};
@@ -23,7 +23,7 @@ const INTEGER_ROOM: usize = 16;
 
 /// The octets of a binding's shortest spelling, where they are at most `most`; else there is no answer.
 ///
-/// `most` is at most 1,472. Takes no memory. A name that cannot be spelled is the caller's to keep out.
+/// `most` is at most `MAX_REPLY`. Takes no memory. A name that cannot be spelled is the caller's to keep out.
 pub fn encoded_len(binding: &Binding, most: usize) -> Option<usize>
     requires spellable { IsSpellableBinding binding.now }
     requires most { most ≤ MAX_REPLY }
@@ -50,12 +50,12 @@ fn integer_len(number: i32) -> usize
     }
 }
 
-// The octets of a community of at most 255 octets with its tag and its length.
+// The octets of a community of at most `MAX_COMMUNITY` octets with its tag and its length.
 #[tactic(auto, using(crate::proofs::Measures::short_tlv, crate::proofs::Measures::middle_tlv))]
 fn community_len(community: &[u8]) -> usize
-    requires { length community.now ≤ 255 }
+    requires { length community.now ≤ MAX_COMMUNITY }
     ensures len { result ≡ length (canon_tlv tags.octet_string community.now) }
-    ensures most { result ≤ 258 }
+    ensures most { result ≤ MAX_COMMUNITY + 3 }
 {
     if community.len() < 128 {
         community.len() + 2
@@ -64,11 +64,11 @@ fn community_len(community: &[u8]) -> usize
     }
 }
 
-/// The octets that bindings may have in a reply to a request with noError and index 0, so that it has at most 1,472.
+/// The octets that bindings may have in a reply to a request with noError and index 0, so that it has at most `MAX_REPLY`.
 ///
-/// The community has at most 255 octets. Takes no memory.
+/// The community has at most `MAX_COMMUNITY` octets. Takes no memory.
 pub fn bindings_room(request: &Request) -> usize
-    requires { length request.now.community ≤ 255 }
+    requires { length request.now.community ≤ MAX_COMMUNITY }
     ensures room { (bindings : List Binding) → (length (canon_bindings bindings) ≤ result) ↔ (length (canon_reply (answer_to request.now ErrorStatus.NoError (pos 0) bindings)) ≤ MAX_REPLY) }
     ensures most { result ≤ MAX_REPLY }
 {

@@ -1,4 +1,5 @@
-ghost use Rattle.std.specs.Prelude.{◌≡◌, ◌↔◌, IsTrue, IfOk};
+ghost use Rattle.std.specs.Prelude.{◌≡◌, ◌↔◌, IsTrue, IsOk, IfOk};
+ghost use Rattle.message_core.specs.Inline.{IsInlineValue};
 ghost use Rattle.message_core.specs.Spellable.{IsSpellableValue};
 
 use crate::octets::Octets;
@@ -37,9 +38,10 @@ pub enum Value {
 }
 
 impl Value {
-    /// A copy. Takes memory only for octets and names.
+    /// A copy. Takes memory only for more than `INLINE_OCTETS` octets and for a name of more than `INLINE_NUMBERS` sub-identifiers.
     pub fn try_copy(&self, alloc: Global) -> Result<Value, AllocError>
-        ensures { IfOk result (λ copy. copy ≡ self.now) }
+        ensures value { IfOk result (λ copy. copy ≡ self.now) }
+        ensures inline { IsInlineValue self.now → IsOk result }
     {
         Ok(match self {
             Value::Integer(number) => Value::Integer(*number),

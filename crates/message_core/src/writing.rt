@@ -17,7 +17,7 @@ use ber_core::{BerFault, Out, Tag};
 use oid_core::{Oid, put_name};
 use thiserror::Error;
 
-/// The longest reply that is written, in octets.
+/// The longest reply that is written, in octets: 1,472, which an Ethernet frame of 1,500 holds beside the heads of IP and UDP.
 pub const MAX_REPLY: usize = 1472;
 
 /// The message is longer than the buffer.
@@ -182,9 +182,9 @@ fn encode(message: &Message<'_>, buffer: &mut [u8; MAX_REPLY]) -> Result<usize, 
     Ok(len)
 }
 
-/// Writes the shortest spelling of a reply to the front of the buffer, and answers how long it is, at most 1,472 octets.
+/// Writes the shortest spelling of a reply to the front of the buffer, and answers how long it is, at most `MAX_REPLY` octets.
 ///
-/// What stands behind it stays. `TooBig` exactly where it is longer than 1,472 octets; the buffer is then as before.
+/// What stands behind it stays. `TooBig` exactly where it is longer than `MAX_REPLY` octets; the buffer is then as before.
 /// Takes no memory. A name that cannot be spelled is the caller's to keep out (`Binding::is_spellable`).
 pub fn encode_reply(reply: &Reply, buffer: &mut [u8; MAX_REPLY]) -> Result<usize, TooBig>
     requires { AreSpellable reply.now.bindings }

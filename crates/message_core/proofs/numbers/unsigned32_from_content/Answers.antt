@@ -3,10 +3,10 @@ use Rattle.message_core.proofs.Readers.{unsigned_only}
 use Rattle.message_core.proofs.Unsigned.{unsigned_none}
 use Rattle.message_core.proofs.numbers.unsigned32_from_content.Goals as goal
 
-pub returns-in_err-number : goal.returns-in_err-number
-returns-in_err-number c =
+pub returns-in_err-number-clause-exact : goal.returns-in_err-number-clause-exact
+returns-in_err-number-clause-exact c =
     let p = err_from_is_err_and c.from_residual.result c.from_residual.ensures.1 in
     rw (p.1, p.2) (λ other. unsigned_none 4 c.args.content.now c.in_err-number.ensures.only)
 
-pub returns : goal.returns
-returns c = unsigned_only 4 c.args.content.now c.in_ok-number.number c.in_ok-number.ensures.found
+pub returns-clause-exact : goal.returns-clause-exact
+returns-clause-exact c = unsigned_only 4 c.args.content.now c.in_ok-number.number c.in_ok-number.ensures.found

@@ -1,0 +1,145 @@
+-- Where reading takes memory.
+use Rattle.std.proofs.Common.{◌≡◌, ◌≢◌, ℕ, ℤ, pos, ◌<◌, eqb, cond, List, [], ◌∷◌, ◌++◌, length, Ok, Err, refl, sym, ap, subst, ◌∙◌, append_assoc, inl, inr}
+use Rattle.std.proofs.lemmas.Bool.{eqb-true}
+use Rattle.std.proofs.lemmas.List.{append-nil}
+use Rattle.ber_core.specs.Spelling.{BeginsTlv}
+use Rattle.oid_core.specs.declared.fault.OidFault.{OidFault}
+use Rattle.oid_core.specs.declared.fault.OidFault.TheVariants as names
+use Rattle.message_core.specs.Tags as tags
+use Rattle.message_core.specs.Cause.{cause_of}
+use Rattle.message_core.specs.declared.cause.DropCause.TheVariants.{Malformed, Memory}
+use Rattle.message_core.specs.declared.request.Kind.{Kind}
+use Rattle.message_core.specs.declared.binding.Binding.{Binding}
+use Rattle.message_core.specs.BeginsLong.{BeginsLong}
+use Rattle.message_core.specs.Message.{AreOctets, IsBinding, AreBindings, tag_of, IsLongValue, HasLongName, HasLongValue, HasLongBinding, HasGrowth, HasGrowingList, IsCause}
+use Rattle.message_core.specs.FirstFault.{any_at, content_at, integer_at, nametlv_at, binding_at, kind_of, head_at}
+use Rattle.message_core.proofs.Readers.{bind_ok, test_ok, ok_is, content_fits, any_found, content_reads, integer_reads, nametlv_reads, binding_reads}
+use Rattle.message_core.proofs.Requests.{Parts, kind_is, head_found}
+
+content_found : (tag : ℕ) (octets : List ℕ) (x : List ℕ × List ℕ) → content_at tag octets ≡ Ok x → BeginsTlv octets tag x.0 x.1
+unfolding content_at
+content_found tag octets x e =
+    let b = bind_ok (any_at octets) (λ t. cond (eqb t.0 tag) (Ok (t.1, t.2)) (Err Malformed)) x e in
+    let g = test_ok (eqb b.0.0 tag) Malformed (Ok (b.0.1, b.0.2)) x b.2 in
+    let f = any_found octets b.0 b.1 in
+    let found : BeginsTlv octets tag b.0.1 b.0.2 = subst (λ (t : ℕ). BeginsTlv octets t b.0.1 b.0.2) (eqb-true _ _ g.0) f in
+    subst (λ (y : List ℕ × List ℕ). BeginsTlv octets tag y.0 y.1) (ok_is (b.0.1, b.0.2) x g.1) found
+
+pub long_name : (octets content rest : List ℕ) → content_at tags.object_identifier octets ≡ Ok (content, rest) → BeginsLong content → HasLongName octets
+long_name octets content rest e long = record { content = content; rest = rest; head = content_found tags.object_identifier octets (content, rest) e; long = long }
+
+pub long_value : (octets : List ℕ) (tag : ℕ) (content rest : List ℕ) → any_at octets ≡ Ok (tag, content, rest) → IsLongValue tag content → HasLongValue octets
+long_value octets tag content rest e long = record { tag = tag; content = content; rest = rest; head = any_found octets (tag, content, rest) e; long = long }
+
+pub long_by_name : (octets content rest : List ℕ) → content_at tags.sequence octets ≡ Ok (content, rest) → HasLongName content → HasLongBinding octets
+long_by_name octets content rest e long = record { content = content; rest = rest; head = content_found tags.sequence octets (content, rest) e; long = inl long }
+
+pub long_by_value : (octets content rest name value : List ℕ) → AreOctets octets → content_at tags.sequence octets ≡ Ok (content, rest) → nametlv_at content ≡ Ok (name, value) → HasLongValue value → HasLongBinding octets
+long_by_value octets content rest name value fits e n long =
+    let f = (content_reads tags.sequence).found octets (content, rest) fits e in
+    let g = nametlv_reads.found content (name, value) (content_fits tags.sequence content f.front f.spelled f.front_fits) n in
+    record {
+      content = content;
+      rest = rest;
+      head = content_found tags.sequence octets (content, rest) e;
+      long = inr (record { octets = g.front; name = name; value = value; named = g.spelled; parts = g.joined; long = long });
+    }
+
+-- ---- bindings one after the other
+
+one_more : (front last : List ℕ) (bs : List Binding) (b : Binding) → AreBindings front bs → IsBinding last b → AreBindings (front ++ last) (bs ++ b ∷ [])
+one_more front last [] b i is = (last, [], is, ap (λ (f : List ℕ). f ++ last) i ∙ sym (append-nil last), refl)
+one_more front last (c ∷ bs) b i is = (i.0, i.1 ++ last, i.2, ap (λ (f : List ℕ). f ++ last) i.3 ∙ append_assoc i.0 i.1 last, one_more i.1 last bs b i.4 is)
+
+some_last : (bs : List Binding) (b : Binding) → bs ++ b ∷ [] ≢ []
+some_last [] b e = absurd cc
+some_last (c ∷ bs) b e = absurd cc
+
+-- the bindings that were read, and what is still read
+pub record IsReadSoFar (content : List ℕ) (bindings : List Binding) (rest : List ℕ) : Type 0 where
+  pub front : List ℕ
+  pub read : AreBindings front bindings
+  pub parts : content ≡ front ++ rest
+  pub fits : AreOctets rest
+
+pub nothing_read : (content : List ℕ) → AreOctets content → IsReadSoFar content [] content
+nothing_read content fits = record { front = []; read = refl; parts = refl; fits = fits }
+
+pub one_read : (content : List ℕ) (bs : List Binding) (rest : List ℕ) (b : Binding) (after : List ℕ) → IsReadSoFar content bs rest → binding_at rest ≡ Ok (b, after) → IsReadSoFar content (bs ++ b ∷ []) after
+one_read content bs rest b after so_far e =
+    let f = binding_reads.found rest (b, after) so_far.fits e in
+    record {
+      front = so_far.front ++ f.front;
+      read = one_more so_far.front f.front bs b so_far.read f.spelled;
+      parts = so_far.parts ∙ ap (λ (r : List ℕ). so_far.front ++ r) f.joined ∙ sym (append_assoc so_far.front f.front after);
+      fits = f.rest_fits;
+    }
+
+pub grows_in_binding : (content : List ℕ) (bs : List Binding) (rest : List ℕ) → IsReadSoFar content bs rest → HasLongBinding rest → HasGrowth content
+grows_in_binding content bs rest so_far long = record { front = so_far.front; rest = rest; bindings = bs; read = so_far.read; parts = so_far.parts; grows = inr long }
+
+pub grows_behind : (content : List ℕ) (bs : List Binding) (rest : List ℕ) (b : Binding) (after : List ℕ) → IsReadSoFar content bs rest → binding_at rest ≡ Ok (b, after) → HasGrowth content
+grows_behind content bs rest b after so_far e =
+    let next = one_read content bs rest b after so_far e in
+    record { front = next.front; rest = after; bindings = bs ++ b ∷ []; read = next.read; parts = next.parts; grows = inl (some_last bs b) }
+
+-- ---- a PDU and a datagram
+
+pub grows_in_list : (content : List ℕ) (id : ℤ) (one : List ℕ) (first : ℤ) (two : List ℕ) (second : ℤ) (three list after : List ℕ) → AreOctets content
+    → integer_at content ≡ Ok (id, one) → integer_at one ≡ Ok (first, two) → integer_at two ≡ Ok (second, three) → content_at tags.sequence three ≡ Ok (list, after) → HasGrowth list → HasGrowingList content
+grows_in_list content id one first two second three list after fits e1 e2 e3 e4 growth =
+    let f1 = integer_reads.found content (id, one) fits e1 in
+    let f2 = integer_reads.found one (first, two) f1.rest_fits e2 in
+    let f3 = integer_reads.found two (second, three) f2.rest_fits e3 in
+    record {
+      id_octets = f1.front;
+      first_octets = f2.front;
+      second_octets = f3.front;
+      tail = three;
+      id = id;
+      first = first;
+      second = second;
+      id_is = f1.spelled;
+      first_is = f2.spelled;
+      second_is = f3.spelled;
+      parts = f1.joined ∙ ap (λ (r : List ℕ). f1.front ++ r) (f2.joined ∙ ap (λ (r : List ℕ). f2.front ++ r) f3.joined);
+      list = list;
+      after = after;
+      head = content_found tags.sequence three (list, after) e4;
+      growth = growth;
+    }
+
+pub grows_in_request : (d : List ℕ) (h : Parts) (kind : Kind) → AreOctets d → head_at d ≡ Ok h → kind_of h.1 ≡ Ok kind → HasGrowingList h.2 → IsCause d Memory
+grows_in_request d h kind fits e k growing =
+    let i = head_found d h fits e in
+    let pdu : BeginsTlv (i.pdu ++ h.3) h.1 h.2 h.3 = record { front = i.pdu; spelled = i.pdu_is; joined = refl } in (
+      i.short,
+      inr (record {
+        kind = kind;
+        pdu = record {
+          message = i.content;
+          after = h.4;
+          head = record { front = i.front; spelled = i.framed; joined = i.joined };
+          version = i.version;
+          community = i.name;
+          pdu = i.pdu ++ h.3;
+          name = h.0;
+          content = h.2;
+          rest = h.3;
+          version_is = i.version_is;
+          community_is = i.community_is;
+          pdu_is = subst (λ (t : ℕ). BeginsTlv (i.pdu ++ h.3) t h.2 h.3) (kind_is h.1 kind k) pdu;
+          parts = i.parts;
+        };
+        growing = growing;
+      }),
+    )
+
+-- ---- want of memory by its cause
+
+pub wants : (f : OidFault) → cause_of f ≡ Memory → f ≡ names.Memory
+wants names.Memory e = refl
+wants names.BadText e = absurd cc
+wants names.TooLong e = absurd cc
+wants names.BadContent e = absurd cc
+wants names.NoRoom e = absurd cc
