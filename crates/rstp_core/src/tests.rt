@@ -86,7 +86,7 @@ fn opening() -> Rstp
 }
 
 fn pass(tree: &mut Rstp, settings: &Settings, seconds: u32)
-    requires { length tree.old.ports ≤ length settings.now.ports }
+    requires { length settings.now.ports ≡ length tree.old.ports }
     ensures { length tree.new.ports ≡ length tree.old.ports }
 {
     for _ in 0..seconds {
