@@ -1,5 +1,5 @@
 ghost use Rattle.std.specs.Prelude.{◌≡◌, ◌≤◌, ◌<◌, length};
-ghost use Rattle.rstp_core.specs.Tree.{port_at, ports_of, opening_port_of, opening_ports, opening_tree, Ticks, Arrives, Links, Settles};
+ghost use Rattle.rstp_core.specs.Tree.{port_at, config_at, ports_of, opening_port_of, opening_ports, opening_tree, Ticks, Arrives, Links, Settles};
 ghost use Rattle.rstp_settings.specs.Table.{spent};
 
 use crate::facts::BridgeFacts;
@@ -118,6 +118,22 @@ impl Rstp {
         ensures { result ≡ length self.now.ports }
     {
         self.rows.len()
+    }
+
+    /// The bridge address (IEEE 802.1D-2004 7.12.5).
+    pub fn address(&self) -> Mac
+        ensures { result ≡ self.now.address }
+    {
+        self.address
+    }
+
+    /// What is fixed of port `number`.
+    pub fn config(&self, number: u16) -> &PortConfig
+        requires first { 1 ≤ number }
+        requires last { number ≤ length self.now.ports }
+        ensures { result.now ≡ config_at self.now number }
+    {
+        &self.config[number as usize - 1]
     }
 
     /// What port `number` holds.
