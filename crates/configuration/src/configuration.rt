@@ -14,7 +14,7 @@ pub const WORKERS_MAX: u32 = 8;
 pub const ROUNDS_MAX: u32 = 1000000;
 
 /// A port of the bridge.
-#[derive(Clone, Copy, Debug, PartialEq, Eq)]
+#[derive(Clone, Copy, Debug, Default, PartialEq, Eq)]
 pub struct Port {
     /// Its interface number, 1 to 2147483647, its speed, 10, 100 or 1000 Mb/s, and its duplex.
     pub config: PortConfig,

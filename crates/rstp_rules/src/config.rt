@@ -1,5 +1,4 @@
 ghost use Rattle.std.specs.Prelude.{◌≡◌, ◌≤◌, ◌&&◌, if◌then◌else◌, nat_le, Some, None};
-ghost use Rattle.rstp_rules.specs.declared.config.TheConstants.{IFINDEX_MAX};
 
 use arrayvec::ArrayVec;
 use frame_core::Mac;
@@ -59,8 +58,17 @@ impl IfIndex {
     }
 }
 
+impl Default for IfIndex {
+    /// The lowest interface number, 1.
+    fn default() -> IfIndex
+        ensures { result ≡ 1 }
+    {
+        IfIndex { number: 1 }
+    }
+}
+
 /// What is fixed of a port.
-#[derive(Clone, Copy, Debug, PartialEq, Eq)]
+#[derive(Clone, Copy, Debug, Default, PartialEq, Eq)]
 pub struct PortConfig {
     /// The interface number (RFC 2863 ifIndex).
     pub ifindex: IfIndex,
