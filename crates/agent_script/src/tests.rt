@@ -5,7 +5,7 @@ use community_core::{Policy, policy_in};
 use frame_core::Mac;
 use message_core::{Binding, Octets, Value};
 use oid_core::Oid;
-use rstp_core::{Key, PortConfig, PortKey};
+use rstp_core::{IfIndex, Key, PortConfig, PortKey};
 use std::alloc::{AllocGlobal, Global};
 use std::process::Abort;
 use std::test::Fail;
@@ -70,11 +70,11 @@ fn policy_of(alloc: Global, text: &str) -> Result<Policy, Fail> {
 /// A bridge of two ports of 1000 Mb/s, full duplex.
 pub fn two_ports(alloc: Global) -> Result<Bridge, Fail> {
     let port = PortConfig {
-        ifindex: 1,
+        ifindex: IfIndex::of(1),
         speed: 1000,
         full: true,
     };
-    let ports = [port, PortConfig { ifindex: 2, ..port }];
+    let ports = [port, PortConfig { ifindex: IfIndex::of(2), ..port }];
     let bridge = Bridge::new(alloc, Mac([2, 0, 0, 0, 0, 10]), &ports);
     Ok(bridge.ok().ok_or("a bridge")?)
 }

@@ -2,7 +2,7 @@
 use crate::print::print_turns;
 use bridge_core::Bridge;
 use frame_core::{FrameIn, Mac};
-use rstp_core::{Key, PortConfig, PortKey};
+use rstp_core::{IfIndex, Key, PortConfig, PortKey};
 use std::alloc::Global;
 use std::hint::black_box;
 use std::io;
@@ -22,11 +22,13 @@ const OWN: Mac = Mac([0x02, 0x00, 0x00, 0x00, 0x00, 0x0A]);
 
 const TO_ALL: Mac = Mac([0xFF; 6]);
 
-const PORT: PortConfig = PortConfig {
-    ifindex: 1,
-    speed: 1_000,
-    full: true,
-};
+fn port() -> PortConfig {
+    PortConfig {
+        ifindex: IfIndex::of(1),
+        speed: 1_000,
+        full: true,
+    }
+}
 
 fn station(number: u32) -> Mac {
     let [_, _, high, low] = number.to_be_bytes();
@@ -93,7 +95,7 @@ fn measure_bridge(rt: &HostRuntime, bridge: &mut Bridge, rows: u32) -> io::Resul
 
 /// A bridge of two ports.
 pub fn two_ports(alloc: Global) -> io::Result<Bridge> {
-    match Bridge::new(alloc, OWN, &[PORT; 2]) {
+    match Bridge::new(alloc, OWN, &[port(); 2]) {
         Ok(bridge) => Ok(bridge),
         Err(_) => Err(Error::from(ErrorKind::InvalidData)),
     }
@@ -101,7 +103,7 @@ pub fn two_ports(alloc: Global) -> io::Result<Bridge> {
 
 /// Sends frames through bridges of 2 and 32 ports with 10 and 1,024 learned rows.
 pub fn measure_forwarding(rt: &HostRuntime) -> io::Result<()> {
-    let list = [PORT; 32];
+    let list = [port(); 32];
     for ports in PORTS {
         for rows in ROWS {
             println!(rt; "{ports} ports, {rows} rows")?;

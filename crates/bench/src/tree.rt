@@ -2,7 +2,7 @@
 use crate::print::print_turns;
 use arrayvec::ArrayVec;
 use frame_core::{Bpdu, BridgeId, Mac, PortRole, PriorityVector, Rapid, Times};
-use rstp_core::{BridgeConfig, PortConfig, Rstp};
+use rstp_core::{BridgeConfig, IfIndex, PortConfig, Rstp};
 use rstp_settings::settings::{MAX_PORTS, Settings};
 use std::hint::black_box;
 use std::io;
@@ -18,7 +18,7 @@ fn bridge_of(ports: u16) -> BridgeConfig {
     let mut list = ArrayVec::new();
     for number in 0..ports {
         let _ = list.try_push(PortConfig {
-            ifindex: u32::from(number),
+            ifindex: IfIndex::of(u32::from(number) + 1),
             speed: 1_000,
             full: true,
         });

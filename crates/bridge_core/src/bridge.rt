@@ -1,6 +1,7 @@
 //! The bridge: one event at a time.
 ghost use Rattle.std.specs.Prelude.{◌≡◌, ◌≤◌, length, true, Some, None, Ok, Err, IfOk};
 ghost use Rattle.rstp_settings.specs.Table.{get, HasKey, IsInRange};
+ghost use Rattle.rstp_rules.specs.declared.config.TheConstants.{IFINDEX_MAX};
 ghost use Rattle.bridge_core.specs.Bridge.{port_count, is_on};
 ghost use Rattle.bridge_core.specs.Opening.{fault_of, opening_bridge};
 ghost use Rattle.bridge_core.specs.Forwarding.{AsksMemory, MayLackMemory, egress_of};
@@ -121,14 +122,16 @@ impl Bridge {
     pub fn port_facts(&self, port: u16) -> PortFacts
         requires first { 1 ≤ port }
         requires last { port ≤ port_count self.now }
-        ensures { result ≡ port_facts_of self.now port }
+        ensures facts { result ≡ port_facts_of self.now port }
+        ensures ifindex_least { 1 ≤ result.ifindex }
+        ensures ifindex_most { result.ifindex ≤ IFINDEX_MAX }
     {
         let at = port as usize - 1;
         let config = self.config.ports[at];
         let counters = self.counters[at];
         let held = self.tree.facts(port);
         PortFacts {
-            ifindex: config.ifindex,
+            ifindex: config.ifindex.number(),
             on: self.is_on(port),
             state: held.state,
             role: held.role,

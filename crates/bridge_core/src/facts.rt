@@ -30,7 +30,7 @@ pub struct Facts {
 /// What a bridge shows of a port (RFC 4188 dot1dBasePortTable, dot1dStpPortTable, dot1dTpPortTable; RFC 4318).
 #[derive(Clone, Copy, Debug, PartialEq, Eq)]
 pub struct PortFacts {
-    /// The interface number.
+    /// The interface number, 1 to 2147483647 (RFC 2863, InterfaceIndex).
     pub ifindex: u32,
     /// Whether the port is enabled by its setting and its link is up.
     pub on: bool,

@@ -4,18 +4,20 @@ ghost use Rattle.bridge_core.specs.Bridge.{port_count};
 
 use crate::{Bpdus, Bridge, BridgeFault, Forwarding};
 use frame_core::{Mac, read_frame, write_bpdu};
-use rstp_core::{Key, PortConfig, PortKey, State};
+use rstp_core::{IfIndex, Key, PortConfig, PortKey, State};
 use std::alloc::Global;
 use std::process::Abort;
 use std::test::Fail;
 
 const OWN: Mac = Mac([0x02, 0x00, 0x00, 0x00, 0x00, 0x0A]);
 
-const PORT: PortConfig = PortConfig {
-    ifindex: 1,
-    speed: 1_000,
-    full: true,
-};
+fn port() -> PortConfig {
+    PortConfig {
+        ifindex: IfIndex::of(1),
+        speed: 1_000,
+        full: true,
+    }
+}
 
 // To everybody, from station 1.
 const TO_ALL: [u8; 14] = [
@@ -65,7 +67,7 @@ const AGREES: [u8; 60] = [
 fn opened(alloc: Global) -> Result<Bridge, BridgeFault>
     ensures { IfOk result (λ b. port_count b ≡ 2) }
 {
-    Bridge::new(alloc, OWN, &[PORT, PORT])
+    Bridge::new(alloc, OWN, &[port(), port()])
 }
 
 fn set_edge(bridge: &mut Bridge, port: u16)
@@ -231,13 +233,13 @@ fn ports_that_are_off_take_nothing(rt: HostRuntime) -> Result<(), Fail> {
 #[test]
 fn the_first_fault_is_named(rt: HostRuntime) {
     let group = Mac([0x01, 0x00, 0x00, 0x00, 0x00, 0x00]);
-    let slow = PortConfig { speed: 11, ..PORT };
+    let slow = PortConfig { speed: 11, ..port() };
     assert_eq!(rt;
         Bridge::new(rt.alloc(), group, &[]).err(),
         Some(BridgeFault::BadPorts)
     );
     assert_eq!(rt;
-        Bridge::new(rt.alloc(), group, &[PORT; 33]).err(),
+        Bridge::new(rt.alloc(), group, &[port(); 33]).err(),
         Some(BridgeFault::BadPorts)
     );
     assert_eq!(rt;
@@ -245,7 +247,7 @@ fn the_first_fault_is_named(rt: HostRuntime) {
         Some(BridgeFault::BadAddress)
     );
     assert_eq!(rt;
-        Bridge::new(rt.alloc(), OWN, &[PORT, slow]).err(),
+        Bridge::new(rt.alloc(), OWN, &[port(), slow]).err(),
         Some(BridgeFault::BadSpeed)
     );
 }

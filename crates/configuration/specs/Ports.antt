@@ -7,7 +7,7 @@ use Rattle.toml.specs.Data.{Data, Members, get_member, as_table}
 use Rattle.community_core.specs.Keys.{key_count, bool_at, array_at}
 use Rattle.community_core.specs.Reading.{AreRows, ◌>=>◌}
 use Rattle.configuration.specs.declared.configuration.Port.{Port}
-use Rattle.configuration.specs.declared.configuration.TheConstants.{IFINDEX_MAX}
+use Rattle.rstp_rules.specs.declared.config.TheConstants.{IFINDEX_MAX}
 use Rattle.configuration.specs.declared.fault.ConfigurationFault.{ConfigurationFault}
 use Rattle.configuration.specs.declared.fault.ConfigurationFault.TheVariants.{BadPorts, BadPort}
 use Rattle.configuration.specs.Numbers.{number_at}

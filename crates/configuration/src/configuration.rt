@@ -7,9 +7,6 @@ use rstp_rules::config::PortConfig;
 use rstp_settings::settings::MAX_PORTS;
 use std::net::SocketAddr;
 
-/// The greatest interface number (RFC 2863, InterfaceIndex).
-pub const IFINDEX_MAX: u32 = 2147483647;
-
 /// The most threads that answer requests.
 pub const WORKERS_MAX: u32 = 8;
 

@@ -13,7 +13,7 @@ mod serve;
 mod sockets;
 
 pub use configuration::{
-    BUILT_IN, Configuration, IFINDEX_MAX, Port, ROUNDS_MAX, Serve, WORKERS_MAX,
+    BUILT_IN, Configuration, Port, ROUNDS_MAX, Serve, WORKERS_MAX,
 };
 pub use fault::ConfigurationFault;
 pub use reading::{configuration_of, configuration_of_text};

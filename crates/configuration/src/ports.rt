@@ -6,13 +6,13 @@ ghost use Rattle.community_core.specs.Reading.{AreRows};
 ghost use Rattle.configuration.specs.Ports.{speed_at, port_config_of, port_keys, IsPort, IsPortRow, port_says, IsFirstNoPort, is_table, port_rows, ArePorts, IsPortsFault};
 ghost use Rattle.configuration.specs.declared.configuration.Port.{Port};
 
-use crate::configuration::{IFINDEX_MAX, Port};
+use crate::configuration::Port;
 use crate::fault::ConfigurationFault;
 use crate::numbers::number_at;
 use crate::sockets::optional_socket_at;
 use arrayvec::ArrayVec;
 use community_core::keys::{array_at, bool_at, key_count, value_at};
-use rstp_rules::config::PortConfig;
+use rstp_rules::config::{IFINDEX_MAX, IfIndex, PortConfig};
 use rstp_settings::settings::MAX_PORTS;
 use toml::{Table, Value};
 
@@ -36,7 +36,7 @@ fn port_config(table: &Table) -> Option<PortConfig>
     let speed = speed_at(table)?;
     let full = bool_at(table, "full")?;
     Some(PortConfig {
-        ifindex,
+        ifindex: IfIndex::of(ifindex),
         speed,
         full,
     })

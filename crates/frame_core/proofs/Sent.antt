@@ -52,7 +52,7 @@ number_laid : (front rest octets : List ℕ) (place n x : ℕ) → octets ≡ fr
 number_laid front rest octets place n x parts len fits =
     sym (ap (λ l. number_at l place n) parts ∙ ap (λ l. number_at l 0 n) (drop_at front (big_bytes n x ++ rest) place len) ∙ big_number-reads_back n x rest fits)
 
-bridge_id_front : (id : BridgeId) (rest : List ℕ) → FitsBridgeId id → IsBridgeId (bridge_id_octets id ++ rest) id
+pub bridge_id_front : (id : BridgeId) (rest : List ℕ) → FitsBridgeId id → IsBridgeId (bridge_id_octets id ++ rest) id
 unfolding bridge_id_octets
 bridge_id_front id rest fits = record {
   priority = sym (big_number-reads_back 2 id.priority (id.address.0 ++ rest) fits.priority);

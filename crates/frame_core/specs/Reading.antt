@@ -1,6 +1,7 @@
 -- What a frame is read as, a function of its octets: what kind of BPDU they are, and its fields by their places (IEEE 802.1D-2004, 9.2 and 9.3). Places count from 0 here, and from 1 in the standard.
 use Rattle.std.specs.Prelude.{ℕ, ◌+◌, ◌/◌, ◌%◌, ◌==◌, ◌&&◌, Bool, nat_le, nat_lt, if◌then◌else◌, List, [], ◌∷◌, length, take, drop, slice_index, Option, Some, None, Result, Ok, Err}
 use Rattle.std.specs.Str.{bytes_eq}
+use Rattle.frame_core.specs.declared.frame.TheConstants.{MIN_FRAME_LEN, MAX_FRAME_LEN}
 use Rattle.frame_core.specs.Octets.{number_at, has_bit}
 use Rattle.frame_core.specs.declared.mac.Mac.{Mac}
 use Rattle.frame_core.specs.declared.mac.TheConstants.{BRIDGE_GROUP}
@@ -98,13 +99,13 @@ bpdu_in octets =
 
 -- what the length field of a frame counts
 abbrev pub content_of : List ℕ → List ℕ
-content_of frame = take (number_at frame 12 2) (drop 14 frame)
+content_of frame = take (number_at frame 12 2) (drop MIN_FRAME_LEN frame)
 
 -- the length field counts at most 1,500 octets, all of them there, and they begin with the LLC header 42 42 03
 abbrev pub has_llc : List ℕ → Bool
 has_llc frame =
     nat_le (number_at frame 12 2) 1500
-    && (nat_le (14 + number_at frame 12 2) (length frame) && bytes_eq (take 3 (content_of frame)) (0x42 ∷ 0x42 ∷ 0x03 ∷ []))
+    && (nat_le (MIN_FRAME_LEN + number_at frame 12 2) (length frame) && bytes_eq (take 3 (content_of frame)) (0x42 ∷ 0x42 ∷ 0x03 ∷ []))
 
 -- the BPDU that a frame carries
 unfoldable pub carried_in : List ℕ → Option Bpdu
@@ -126,7 +127,7 @@ is_to_bridges frame = bytes_eq (take 6 frame) BRIDGE_GROUP.0
 -- what a bridge reads of a frame, or why not
 unfoldable pub frame_at : List ℕ → Result FrameIn FrameFault
 frame_at octets =
-    if nat_lt (length octets) 14 then Err Short
-    else if nat_lt 1518 (length octets) then Err TooLong
+    if nat_lt (length octets) MIN_FRAME_LEN then Err Short
+    else if nat_lt MAX_FRAME_LEN (length octets) then Err TooLong
     else if is_to_bridges octets then to_bridges octets (carried_in octets)
     else Ok (addressed octets None)

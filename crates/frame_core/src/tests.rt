@@ -57,6 +57,18 @@ fn worked_frame() -> FrameIn {
 }
 
 #[test]
+fn an_identifier_is_eight_octets(rt: HostRuntime) {
+    let id = BridgeId {
+        priority: 0x1234,
+        address: OWN,
+    };
+    assert_eq!(rt;
+        id.octets(),
+        [0x12, 0x34, 0x02, 0x00, 0x00, 0x00, 0x00, 0x0A]
+    );
+}
+
+#[test]
 fn writes_the_worked_frame(rt: HostRuntime) {
     let mut frame = [0xFF; 60];
     assert_eq!(rt; write_bpdu(&worked(), OWN, &mut frame), 60);

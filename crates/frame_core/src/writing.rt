@@ -2,6 +2,7 @@
 ghost use Rattle.std.specs.Prelude.{◌≡◌, ◌≤◌, ◌<◌, ◌++◌, ◌^◌, [], ◌∷◌, length, drop, Some};
 ghost use Rattle.byteorder.specs.Endian.{big_bytes};
 ghost use Rattle.frame_core.specs.Frames.{IsFrame};
+ghost use Rattle.frame_core.specs.Layout.{IsBridgeId};
 ghost use Rattle.frame_core.specs.Sending.{weight, bridge_id_octets, root_octets, sender_octets, vector_octets, times_octets, body_octets, head_octets, config_flags, rapid_flags, config_octets, rapid_octets, bpdu_len, bpdu_octets, address_octets, llc_octets, header_octets, frame_octets, FitsBridgeId, FitsVector, FitsTimes, FitsBpdu};
 
 use crate::bpdu::{Bpdu, BridgeId, Config, PriorityVector, Rapid, Times};
@@ -22,6 +23,20 @@ fn put_bridge_id(out: &mut [u8], id: &BridgeId)
 {
     BigEndian::write_u16(out, id.priority);
     out[2..8].copy_from_slice(&id.address.0);
+}
+
+impl BridgeId {
+    /// The eight octets of the identifier: the priority, its higher octet first, and then the address (9.2.5).
+    pub fn octets(&self) -> [u8; 8]
+        // Each octet,
+        ensures octets { result ≡ bridge_id_octets self.now }
+        // and so what spells the identifier.
+        ensures spells { IsBridgeId result self.now }
+    {
+        let mut octets = [0; 8];
+        put_bridge_id(&mut octets, self);
+        octets
+    }
 }
 
 #[tactic(auto, using(crate::proofs::Puts::puts_part), unfolding(crate::specs::Sending::root_octets))]

@@ -12,7 +12,7 @@ use Rattle.rstp_rules.specs.declared.row.Row.{Row}
 use Rattle.rstp_rules.specs.declared.row.Best.{Best}
 use Rattle.rstp_rules.specs.declared.row.Context.{Context}
 use Rattle.rstp_rules.specs.declared.row.Timing.{Timing}
-use Rattle.rstp_rules.specs.Lines.{row_of}
+use Rattle.rstp_rules.specs.Lines.{row_of, no_config}
 use Rattle.rstp_rules.specs.Roles.{candidate}
 use Rattle.rstp_rules.specs.Transitions.{turned, synced, synced_all, advanced, advanced_all, no_recent_root}
 use Rattle.rstp_rules.specs.Turns.{no_row, spread_but, begun, turn_at, first_turns, turns}
@@ -22,9 +22,6 @@ use Rattle.rstp_core.specs.Settled.{SettledValues, settled_port}
 use Rattle.rstp_core.specs.Passes.{greeted_all, ready}
 use Rattle.rstp_core.specs.Tree.{rows_from}
 use Rattle.rstp_core.proofs.Keeps.{Keeps, Keeps-refl, Keeps-trans, synced-keeps, advanced-keeps, spread_but-keeps, begun-keeps, greeted-keeps, sent-keeps}
-
-abbrev pub no_config : PortConfig
-no_config = record { ifindex = 0; speed = 0; full = false }
 
 -- the rows as an event begins
 pub length-rows_from : (s : Table) (w : SettledValues) (n : ℕ) (cs : List PortConfig) (ps : List Port) → length cs ≡ length ps → length (rows_from s w n cs ps) ≡ length ps

@@ -30,7 +30,7 @@ use Rattle.rstp_rules.specs.declared.row.Context.{Context}
 use Rattle.rstp_rules.specs.declared.settled.SettledPort.{SettledPort}
 use Rattle.rstp_rules.specs.Ports.{is_received, is_root_or_designated, is_forwarding}
 use Rattle.rstp_rules.specs.Vectors.{port_id, same_mac, bridge_cmp}
-use Rattle.rstp_rules.specs.Lines.{own_id, row_of, enabled_by, cost_in_use, settled_port_of, set_times, timers_of, rstp_version, times_in_force}
+use Rattle.rstp_rules.specs.Lines.{own_id, row_of, enabled_by, cost_in_use, settled_port_of, set_times, timers_of, rstp_version, times_in_force, no_config}
 use Rattle.rstp_rules.specs.Roles.{expired, with_role, candidate, candidates, own_best, beats}
 use Rattle.rstp_rules.specs.Restarts.{linked, settled_anew}
 use Rattle.rstp_rules.specs.Arrivals.{arrived, received, received_all}
@@ -47,7 +47,7 @@ use Rattle.rstp_core.specs.Runs.Happening.{Tick, Link, Message, Settle}
 use Rattle.rstp_core.proofs.Bests.{bridge_total}
 use Rattle.rstp_core.proofs.Fresh.{IsFresh, Fresh-same, expired-same, ticked-same, received-same, told-same, linked-fresh, settled-fresh}
 use Rattle.rstp_core.proofs.Roled.{IsDone, Done-keeps, turned-done}
-use Rattle.rstp_core.proofs.Places.{no_config, length-rows_from, rows_from-at, keep-ready, keep-sent, IsFrom, candidate_from, contains_flushed}
+use Rattle.rstp_core.proofs.Places.{length-rows_from, rows_from-at, keep-ready, keep-sent, IsFrom, candidate_from, contains_flushed}
 
 -- A port between events, which is enabled or not.
 record IsCalm (enabled : Bool) (p : Port) : Type 0 where

@@ -13,7 +13,7 @@ use Rattle.rstp_rules.specs.declared.row.Row.{Row}
 use Rattle.rstp_rules.specs.declared.row.Context.{Context}
 use Rattle.rstp_rules.specs.Vectors.{port_id}
 use Rattle.rstp_rules.specs.Ports.{opening_port}
-use Rattle.rstp_rules.specs.Lines.{own_id, row_of, timers_of, set_times, times_in_force, context_of}
+use Rattle.rstp_rules.specs.Lines.{own_id, row_of, timers_of, set_times, times_in_force, context_of, no_config}
 use Rattle.rstp_rules.specs.Roles.{expired, candidates, own_best, IsBest}
 use Rattle.rstp_rules.specs.Restarts.{linked, settled_anew}
 use Rattle.rstp_rules.specs.Arrivals.{arrived}
@@ -36,6 +36,10 @@ pub record Tree : Type 0 where
 -- Port n, from 1.
 abbrev pub port_at : Tree → ℕ → Port
 port_at t n = slice_index_or t.ports (n - 1) no_row.port
+
+-- What is fixed of port n.
+abbrev pub config_at : Tree → ℕ → PortConfig
+config_at t n = slice_index_or t.config (n - 1) no_config
 
 -- The rows of all ports, from port n on, as an event begins under the settings s, where w is what was settled.
 abbrev pub rows_from : Table → SettledValues → ℕ → List PortConfig → List Port → List Row

@@ -1,45 +1,48 @@
-ghost use Rattle.std.specs.Prelude.{◌≡◌, nat_lt, length, ◌≤◌, ◌<◌};
-ghost use Rattle.std.specs.List.{list_any};
+ghost use Rattle.std.specs.Prelude.{◌≡◌, length, ◌≤◌};
 ghost use Rattle.rstp_rules.specs.Lines.{IsSmall};
 ghost use Rattle.rstp_rules.specs.Arrivals.{arrived};
 ghost use Rattle.rstp_core.specs.Passes.{moved};
-ghost use Rattle.rstp_core.specs.Tree.{rows_from, ports_of, has_change, Concludes};
+ghost use Rattle.rstp_core.specs.Tree.{rows_from, has_change, Concludes};
 
 use crate::rstp::Outcome;
 use crate::settled::Settled;
 use crate::{loops, roles, turns};
+use arrayvec::ArrayVec;
 use frame_core::{Bpdu, BridgeId, Times};
 use rstp_rules::config::PortConfig;
 use rstp_rules::lines;
+use rstp_rules::port::Port;
 use rstp_rules::row::{Context, Row};
-use rstp_settings::settings::Settings;
+use rstp_settings::settings::{MAX_PORTS, Settings};
 
-/// All rows as an event begins.
-pub fn begin_all(settings: &Settings, settled: &Settled, config: &[PortConfig], rows: &mut [Row])
-    requires settled { length rows.old ≤ length settled.now.ports }
-    requires settings { length rows.old ≤ length settings.now.ports }
-    requires config { length config.now ≡ length rows.old }
-    requires few { length rows.old ≤ 32 }
-    ensures { rows.new ≡ rows_from settings.now settled.now 1 config.now (ports_of rows.old) }
+/// The rows of all ports as an event begins.
+pub fn begin_all(
+    settings: &Settings,
+    settled: &Settled,
+    config: &[PortConfig],
+    ports: &[Port],
+) -> ArrayVec<Row, MAX_PORTS>
+    requires settled { length settled.now.ports ≡ length ports.now }
+    requires settings { length settings.now.ports ≡ length ports.now }
+    requires config { length config.now ≡ length ports.now }
+    requires few { length ports.now ≤ MAX_PORTS }
+    ensures rows { result.items ≡ rows_from settings.now settled.now 1 config.now ports.now }
+    ensures count { length result.items ≡ length ports.now }
 {
-    for i in 0..rows.len() {
+    let mut rows = ArrayVec::new();
+    for i in 0..ports.len() {
         let number = i as u16 + 1;
-        let row = &mut rows[i];
-        row.begin(settings, settled.port(number), number, &config[i]);
+        let settled = settled.port(number);
+        rows.push(Row::begin(settings, settled, number, &config[i], ports[i]));
     }
-}
-
-fn has_row_changes(rows: &[Row]) -> bool
-    ensures { result ≡ list_any (λ r. nat_lt 0 r.port.change_while) rows.now }
-{
-    rows.iter().any(|row| row.port.change_while > 0)
+    rows
 }
 
 /// Whether some port tells a topology change.
-pub fn has_changes(rows: &[Row]) -> bool
-    ensures { result ≡ has_change (ports_of rows.now) }
+pub fn has_changes(ports: &[Port]) -> bool
+    ensures { result ≡ has_change ports.now }
 {
-    has_row_changes(rows)
+    ports.iter().any(|port| port.change_while > 0)
 }
 
 /// A message at port `number`: what it tells the port, and then the topology change.
@@ -70,7 +73,7 @@ pub fn conclude(
     was_times: Times,
     rows: &mut [Row],
 ) -> (Context, Outcome)
-    requires { length rows.old ≤ 32 }
+    requires { length rows.old ≤ MAX_PORTS }
     ensures event { Concludes settings.now own tick was_times rows.old result.0 rows.new result.1 }
     ensures bpdus { length result.1.bpdus.items ≡ length rows.old }
 {

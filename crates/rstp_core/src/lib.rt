@@ -13,7 +13,7 @@ mod turns;
 
 pub use facts::BridgeFacts;
 pub use rstp::{Outcome, Rstp};
-pub use rstp_rules::config::{BridgeConfig, PortConfig};
+pub use rstp_rules::config::{BridgeConfig, IFINDEX_MAX, IfIndex, PortConfig};
 pub use rstp_rules::port::{Info, Port, Role, State};
 pub use rstp_rules::row::Best;
 pub use rstp_rules::settled::{SettledPort, Timers};

@@ -8,9 +8,11 @@ ghost use Rattle.rstp_rules.specs.Ticks.{ticked};
 ghost use Rattle.rstp_rules.specs.Transitions.{turned, proposed_to_root, synced_all, no_recent_root, advanced_all};
 ghost use Rattle.rstp_rules.specs.Sends.{bpdu_of, sent, flushed_ports};
 ghost use Rattle.rstp_core.specs.Passes.{chosen, greeted_all};
+ghost use Rattle.rstp_core.specs.Tree.{ports_of};
 
 use arrayvec::ArrayVec;
 use frame_core::{Bpdu, BridgeId};
+use rstp_rules::port::Port;
 use rstp_rules::row::{Best, Context, Row, Timing};
 use rstp_settings::settings::MAX_PORTS;
 
@@ -130,7 +132,7 @@ pub fn greet_all(tick: bool, context: &Context, rows: &mut [Row])
 
 /// What each port sends, port by port.
 pub fn send_all(context: &Context, rows: &mut [Row]) -> ArrayVec<Option<Bpdu>, MAX_PORTS>
-    requires { length rows.old ≤ 32 }
+    requires { length rows.old ≤ MAX_PORTS }
     ensures bpdus { result.items ≡ map (bpdu_of context.now) rows.old }
     ensures rows { rows.new ≡ map (sent context.now) rows.old }
 {
@@ -143,7 +145,7 @@ pub fn send_all(context: &Context, rows: &mut [Row]) -> ArrayVec<Option<Bpdu>, M
 
 /// The numbers of the ports whose learned rows go.
 pub fn flushed_of(rows: &[Row]) -> ArrayVec<u16, MAX_PORTS>
-    requires { length rows.now ≤ 32 }
+    requires { length rows.now ≤ MAX_PORTS }
     ensures { result.items ≡ flushed_ports rows.now }
 {
     let mut ports = ArrayVec::new();
@@ -151,6 +153,18 @@ pub fn flushed_of(rows: &[Row]) -> ArrayVec<u16, MAX_PORTS>
         if row.flushed {
             ports.push(row.line.number);
         }
+    }
+    ports
+}
+
+/// What the rows leave of the ports.
+pub fn ports_of(rows: &[Row]) -> ArrayVec<Port, MAX_PORTS>
+    requires { length rows.now ≤ MAX_PORTS }
+    ensures { result.items ≡ ports_of rows.now }
+{
+    let mut ports = ArrayVec::new();
+    for row in rows {
+        ports.push(row.port);
     }
     ports
 }

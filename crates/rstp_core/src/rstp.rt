@@ -1,5 +1,5 @@
-ghost use Rattle.std.specs.Prelude.{◌≡◌, ◌≤◌, ◌<◌, length};
-ghost use Rattle.rstp_core.specs.Tree.{port_at, ports_of, opening_port_of, opening_ports, opening_tree, Ticks, Arrives, Links, Settles};
+ghost use Rattle.std.specs.Prelude.{◌≡◌, ◌≤◌, length};
+ghost use Rattle.rstp_core.specs.Tree.{port_at, config_at, rows_of, opening_port_of, opening_ports, opening_tree, Ends, Ticks, Arrives, Links, Settles};
 ghost use Rattle.rstp_settings.specs.Table.{spent};
 
 use crate::facts::BridgeFacts;
@@ -11,6 +11,7 @@ use rstp_rules::config::{BridgeConfig, PortConfig};
 use rstp_rules::lines;
 use rstp_rules::port::{Port, Role, State};
 use rstp_rules::row::{Best, Row};
+use rstp_settings::copies::copied;
 use rstp_settings::settings::{MAX_PORTS, Settings};
 use std::marker::Model;
 
@@ -29,13 +30,13 @@ pub struct Outcome {
 pub struct Rstp {
     address: Mac,
     config: ArrayVec<PortConfig, MAX_PORTS>,
-    rows: ArrayVec<Row, MAX_PORTS>,
+    ports: ArrayVec<Port, MAX_PORTS>,
     facts: BridgeFacts,
     settled: Settled,
 }
 
 impl Model for Rstp {
-    ghost use Rattle.rstp_core.specs.Tree.{Tree, ports_of};
+    ghost use Rattle.rstp_core.specs.Tree.{Tree};
     ghost use Rattle.rstp_core.specs.TreeInside.{IsTree};
 
     ghost Value = { Tree };
@@ -43,28 +44,17 @@ impl Model for Rstp {
     ghost view = { λ r. record {
       address = r.address;
       config = r.config.items;
-      ports = ports_of r.rows.items;
+      ports = r.ports.items;
       facts = r.facts;
       settled = r.settled;
     } };
 
-    ghost invariant = { λ r. IsTree r.config.items r.rows.items r.settled };
+    ghost invariant = { λ r. IsTree r.config.items r.ports.items r.settled };
 }
 
-fn copied_config(config: &[PortConfig]) -> ArrayVec<PortConfig, MAX_PORTS>
-    requires { length config.now ≤ 32 }
-    ensures { result.items ≡ config.now }
-{
-    let mut copies = ArrayVec::new();
-    for port in config {
-        copies.push(*port);
-    }
-    copies
-}
-
-fn opening_row(own: BridgeId, times: Times, number: u16) -> Row
-    requires { number ≤ 32 }
-    ensures { result.port ≡ opening_port_of own times number }
+fn opening_port(own: BridgeId, times: Times, number: u16) -> Port
+    requires { number ≤ MAX_PORTS }
+    ensures { result ≡ opening_port_of own times number }
 {
     let vector = PriorityVector {
         root: own,
@@ -72,21 +62,19 @@ fn opening_row(own: BridgeId, times: Times, number: u16) -> Row
         bridge: own,
         port: 256 * 128 + number,
     };
-    let mut row = Row::default();
-    row.port = Port::opening(vector, times);
-    row
+    Port::opening(vector, times)
 }
 
-fn opening_rows(own: BridgeId, times: Times, count: usize) -> ArrayVec<Row, MAX_PORTS>
-    requires { count ≤ 32 }
-    ensures ports { ports_of result.items ≡ opening_ports own times count }
+fn opening_ports(own: BridgeId, times: Times, count: usize) -> ArrayVec<Port, MAX_PORTS>
+    requires { count ≤ MAX_PORTS }
+    ensures ports { result.items ≡ opening_ports own times count }
     ensures count { length result.items ≡ count }
 {
-    let mut rows = ArrayVec::new();
+    let mut ports = ArrayVec::new();
     for i in 0..count {
-        rows.push(opening_row(own, times, i as u16 + 1));
+        ports.push(opening_port(own, times, i as u16 + 1));
     }
-    rows
+    ports
 }
 
 impl Rstp {
@@ -101,8 +89,8 @@ impl Rstp {
         let times = lines::times_set(lines::timers(&settings));
         Rstp {
             address: config.address,
-            config: copied_config(ports),
-            rows: opening_rows(own, times, ports.len()),
+            config: copied(ports),
+            ports: opening_ports(own, times, ports.len()),
             facts: BridgeFacts {
                 root: Best::own(own),
                 times,
@@ -113,11 +101,41 @@ impl Rstp {
         }
     }
 
+    /// The same spanning tree. It takes no memory.
+    pub fn copy(&self) -> Self
+        ensures { result ≡ self.now }
+    {
+        Rstp {
+            address: self.address,
+            config: copied(self.config.as_slice()),
+            ports: copied(self.ports.as_slice()),
+            facts: self.facts,
+            settled: self.settled.copy(),
+        }
+    }
+
     /// The number of ports.
     pub fn ports(&self) -> usize
-        ensures { result ≡ length self.now.ports }
+        ensures count { result ≡ length self.now.ports }
+        ensures few { result ≤ MAX_PORTS }
     {
-        self.rows.len()
+        self.ports.len()
+    }
+
+    /// The bridge address (IEEE 802.1D-2004 7.12.5).
+    pub fn address(&self) -> Mac
+        ensures { result ≡ self.now.address }
+    {
+        self.address
+    }
+
+    /// What is fixed of port `number`.
+    pub fn config(&self, number: u16) -> &PortConfig
+        requires first { 1 ≤ number }
+        requires last { number ≤ length self.now.ports }
+        ensures { result.now ≡ config_at self.now number }
+    {
+        &self.config[number as usize - 1]
     }
 
     /// What port `number` holds.
@@ -126,7 +144,7 @@ impl Rstp {
         requires last { number ≤ length self.now.ports }
         ensures { result.now ≡ port_at self.now number }
     {
-        &self.rows[number as usize - 1].port
+        &self.ports[number as usize - 1]
     }
 
     /// The role of port `number`.
@@ -161,44 +179,66 @@ impl Rstp {
         &self.settled
     }
 
+    fn begin(&self, settings: &Settings) -> ArrayVec<Row, MAX_PORTS>
+        requires { length settings.now.ports ≡ length self.now.ports }
+        ensures rows { result.items ≡ rows_of settings.now self.now }
+        ensures count { length result.items ≡ length self.now.ports }
+    {
+        let config = self.config.as_slice();
+        events::begin_all(settings, &self.settled, config, self.ports.as_slice())
+    }
+
+    // From the rows that an event's own part left; `was_times` are the times in force before it.
+    fn end(
+        &mut self,
+        settings: &Settings,
+        tick: bool,
+        was_times: Times,
+        rows: &mut [Row],
+    ) -> Outcome
+        requires { length rows.old ≡ length self.old.ports }
+        ensures event { Ends settings.now tick was_times rows.old self.old self.new result }
+        ensures ports { length self.new.ports ≡ length self.old.ports }
+        ensures bpdus { length result.bpdus.items ≡ length self.old.ports }
+    {
+        let own = lines::own_bridge_id(settings, self.address);
+        let (context, outcome) = events::conclude(settings, own, tick, was_times, rows);
+        let had = events::has_changes(self.ports.as_slice());
+        self.ports = loops::ports_of(rows);
+        let has = events::has_changes(self.ports.as_slice());
+        self.facts.renew(tick, &context, had, has);
+        outcome
+    }
+
     /// A BPDU comes by port `number`.
     pub fn on_bpdu(&mut self, number: u16, bpdu: &Bpdu, settings: &Settings) -> Outcome
         requires first { 1 ≤ number }
         requires last { number ≤ length self.old.ports }
-        requires settings { length self.old.ports ≤ length settings.now.ports }
+        requires settings { length settings.now.ports ≡ length self.old.ports }
         ensures event { Arrives settings.now number bpdu.now self.old self.new result }
         ensures ports { length self.new.ports ≡ length self.old.ports }
         ensures bpdus { length result.bpdus.items ≡ length self.old.ports }
     {
-        let own = lines::own_bridge_id(settings, self.address);
-        let rows = self.rows.as_mut_slice();
-        let had = events::has_changes(rows);
-        events::begin_all(settings, &self.settled, self.config.as_slice(), rows);
+        let mut begun = self.begin(settings);
+        let rows = begun.as_mut_slice();
         let was_times = lines::find_times(lines::timers(settings), rows);
+        let own = lines::own_bridge_id(settings, self.address);
         events::arrive_all(settings, own, number, bpdu, rows);
-        let (context, outcome) = events::conclude(settings, own, false, was_times, rows);
-        let has = events::has_changes(rows);
-        self.facts.renew(false, &context, had, has);
-        outcome
+        self.end(settings, false, was_times, rows)
     }
 
     /// One second passes.
     pub fn tick(&mut self, settings: &Settings) -> Outcome
-        requires { length self.old.ports ≤ length settings.now.ports }
+        requires { length settings.now.ports ≡ length self.old.ports }
         ensures event { Ticks settings.now self.old self.new result }
         ensures ports { length self.new.ports ≡ length self.old.ports }
         ensures bpdus { length result.bpdus.items ≡ length self.old.ports }
     {
-        let own = lines::own_bridge_id(settings, self.address);
-        let rows = self.rows.as_mut_slice();
-        let had = events::has_changes(rows);
-        events::begin_all(settings, &self.settled, self.config.as_slice(), rows);
+        let mut begun = self.begin(settings);
+        let rows = begun.as_mut_slice();
         let was_times = lines::find_times(lines::timers(settings), rows);
         loops::tick_all(rows);
-        let (context, outcome) = events::conclude(settings, own, true, was_times, rows);
-        let has = events::has_changes(rows);
-        self.facts.renew(true, &context, had, has);
-        outcome
+        self.end(settings, true, was_times, rows)
     }
 
     /// The link of port `number` is up, or down. One that repeats the link's state changes nothing by
@@ -206,44 +246,35 @@ impl Rstp {
     pub fn link(&mut self, number: u16, up: bool, settings: &Settings) -> Outcome
         requires first { 1 ≤ number }
         requires last { number ≤ length self.old.ports }
-        requires settings { length self.old.ports ≤ length settings.now.ports }
+        requires settings { length settings.now.ports ≡ length self.old.ports }
         ensures event { Links settings.now number up self.old self.new result }
         ensures ports { length self.new.ports ≡ length self.old.ports }
         ensures bpdus { length result.bpdus.items ≡ length self.old.ports }
     {
-        let own = lines::own_bridge_id(settings, self.address);
-        let rows = self.rows.as_mut_slice();
-        let had = events::has_changes(rows);
-        events::begin_all(settings, &self.settled, self.config.as_slice(), rows);
+        let mut begun = self.begin(settings);
+        let rows = begun.as_mut_slice();
         let was_times = lines::find_times(lines::timers(settings), rows);
         loops::link_all(number, up, rows);
-        let (context, outcome) = events::conclude(settings, own, false, was_times, rows);
-        let has = events::has_changes(rows);
-        self.facts.renew(false, &context, had, has);
-        outcome
+        self.end(settings, false, was_times, rows)
     }
 
     /// Settles changed settings: ports whose version or enabling changed start anew, a changed edge setting takes effect, protocol
     /// migration checks are done and spent, and what was settled is kept for the next settling.
     pub fn settle(&mut self, settings: &mut Settings) -> Outcome
-        requires { length self.old.ports ≤ length settings.old.ports }
+        requires { length settings.old.ports ≡ length self.old.ports }
         ensures event { Settles settings.old self.old self.new result }
         ensures ports { length self.new.ports ≡ length self.old.ports }
         ensures bpdus { length result.bpdus.items ≡ length self.old.ports }
         ensures settings { settings.new ≡ spent settings.old }
         ensures count { length settings.new.ports ≡ length settings.old.ports }
     {
-        let own = lines::own_bridge_id(settings, self.address);
-        let rows = self.rows.as_mut_slice();
-        let had = events::has_changes(rows);
-        events::begin_all(settings, &self.settled, self.config.as_slice(), rows);
+        let mut begun = self.begin(settings);
+        let rows = begun.as_mut_slice();
         let was_times = lines::find_times(self.settled.timers(), rows);
         let settled = Settled::of(settings);
         loops::settle_all(settled.version() != self.settled.version(), rows);
-        let (context, outcome) = events::conclude(settings, own, false, was_times, rows);
-        let has = events::has_changes(rows);
-        self.facts.renew(false, &context, had, has);
         self.settled = settled;
+        let outcome = self.end(settings, false, was_times, rows);
         settings.spend();
         outcome
     }

@@ -5,6 +5,7 @@ ghost use Rattle.rstp_core.specs.Settled.{settled_of, settled_port};
 use arrayvec::ArrayVec;
 use rstp_rules::lines;
 use rstp_rules::settled::{SettledPort, Timers};
+use rstp_settings::copies::copied;
 use rstp_settings::key::{BridgeKey, Key};
 use rstp_settings::settings::{MAX_PORTS, Settings};
 use std::marker::Model;
@@ -46,12 +47,24 @@ fn settled_ports(settings: &Settings) -> ArrayVec<SettledPort, MAX_PORTS>
 impl Settled {
     /// What is kept of these settings.
     pub fn of(settings: &Settings) -> Self
-        ensures { result ≡ settled_of settings.now }
+        ensures value { result ≡ settled_of settings.now }
+        ensures count { length result.ports ≡ length settings.now.ports }
     {
         Settled {
             version: settings.get(Key::Bridge(BridgeKey::Version)),
             timers: lines::timers(settings),
             ports: settled_ports(settings),
+        }
+    }
+
+    /// The same values. It takes no memory.
+    pub fn copy(&self) -> Self
+        ensures { result ≡ self.now }
+    {
+        Settled {
+            version: self.version,
+            timers: self.timers,
+            ports: copied(self.ports.as_slice()),
         }
     }
 

@@ -1,7 +1,7 @@
 // Rows worked by hand from IEEE 802.1D-2004 clauses 9 and 17.
 ghost use Rattle.std.specs.Prelude.{◌≡◌, ◌≤◌, length};
 
-use crate::{BridgeConfig, Outcome, PortConfig, Role, Rstp, State};
+use crate::{BridgeConfig, IfIndex, Outcome, PortConfig, Role, Rstp, State};
 use arrayvec::ArrayVec;
 use frame_core::{Bpdu, BridgeId, Config, Mac, PortRole, PriorityVector, Rapid, Times, write_bpdu};
 use rstp_settings::key::{BridgeKey, Key, PortKey};
@@ -64,12 +64,12 @@ fn two_ports() -> BridgeConfig
 {
     let mut ports = ArrayVec::new();
     ports.push(PortConfig {
-        ifindex: 1,
+        ifindex: IfIndex::of(1),
         speed: 1000,
         full: true,
     });
     ports.push(PortConfig {
-        ifindex: 2,
+        ifindex: IfIndex::of(2),
         speed: 1000,
         full: true,
     });
@@ -86,7 +86,7 @@ fn opening() -> Rstp
 }
 
 fn pass(tree: &mut Rstp, settings: &Settings, seconds: u32)
-    requires { length tree.old.ports ≤ length settings.now.ports }
+    requires { length settings.now.ports ≡ length tree.old.ports }
     ensures { length tree.new.ports ≡ length tree.old.ports }
 {
     for _ in 0..seconds {

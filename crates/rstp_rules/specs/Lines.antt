@@ -125,6 +125,9 @@ abbrev pub settled_port_of : PortValues → SettledPort
 settled_port_of p = record { enabled = p.enable == 1; edge = p.edge == 1 }
 
 -- Where there is no port.
+abbrev pub no_config : PortConfig
+no_config = record { ifindex = 0; speed = 0; full = false }
+
 abbrev pub no_settled_port : SettledPort
 no_settled_port = record { enabled = false; edge = false }
 

@@ -5,11 +5,12 @@ ghost use Rattle.rstp_rules.specs.Ports.{is_root};
 ghost use Rattle.rstp_rules.specs.Lines.{IsSmall, own_id, rstp_version, default_cost, cost_in_use, is_point_to_point, enabled_by, edge_by, line_of, row_of, seconds, in_256ths, timers_of, set_times, times_in_force, timing_of, context_of};
 
 use crate::config::PortConfig;
+use crate::port::Port;
 use crate::row::{Before, Best, Context, Line, Row, Timing};
 use crate::settled::{SettledPort, Timers};
 use frame_core::{BridgeId, Mac, Times};
 use rstp_settings::key::{BridgeKey, Key, PortKey};
-use rstp_settings::settings::Settings;
+use rstp_settings::settings::{MAX_PORTS, Settings};
 
 /// The bridge identifier under these settings (IEEE 802.1D-2004 9.2.5).
 pub fn own_bridge_id(settings: &Settings, address: Mac) -> BridgeId
@@ -80,7 +81,7 @@ impl PortConfig {
     pub fn line(&self, settings: &Settings, settled: SettledPort, number: u16, link: bool) -> Line
         requires first { 1 ≤ number }
         requires last { number ≤ length settings.now.ports }
-        requires small { number ≤ 32 }
+        requires small { number ≤ MAX_PORTS }
         ensures { result ≡ line_of settings.now settled number self.now link }
     {
         let enabled = is_enabled(settings, number);
@@ -103,27 +104,30 @@ impl PortConfig {
 }
 
 impl Row {
-    /// The row at the beginning of an event.
+    /// The row of port `number` as an event begins.
     pub fn begin(
-        &mut self,
         settings: &Settings,
         settled: SettledPort,
         number: u16,
         config: &PortConfig,
-    )
+        port: Port,
+    ) -> Self
         requires first { 1 ≤ number }
         requires last { number ≤ length settings.now.ports }
-        requires small { number ≤ 32 }
-        ensures { self.new ≡ row_of settings.now settled number config.now self.old.port }
+        requires small { number ≤ MAX_PORTS }
+        ensures { result ≡ row_of settings.now settled number config.now port }
     {
-        self.line = config.line(settings, settled, number, self.port.link);
-        self.was = Before {
-            role: self.port.role,
-            state: self.port.state,
-            vector: self.port.vector,
-        };
-        self.proposed = false;
-        self.flushed = false;
+        Row {
+            line: config.line(settings, settled, number, port.link),
+            was: Before {
+                role: port.role,
+                state: port.state,
+                vector: port.vector,
+            },
+            port,
+            proposed: false,
+            flushed: false,
+        }
     }
 }
 

@@ -1,7 +1,7 @@
 ghost use Rattle.std.specs.Prelude.{◌≡◌};
 ghost use Rattle.rstp_rules.specs.Ports.{is_received, is_root_or_designated, is_alternate_or_backup, is_root, is_designated, is_discarding, is_forwarding, next_state, opening_port};
 
-use frame_core::{PriorityVector, Times};
+use frame_core::{BridgeId, Mac, PriorityVector, Times};
 
 /// Where a port's vector comes from (IEEE 802.1D-2004 17.19.10 infoIs).
 #[derive(Clone, Copy, Debug, Default, PartialEq, Eq)]
@@ -159,5 +159,27 @@ impl Port {
             pending: false,
             forward_transitions: 0,
         }
+    }
+}
+
+impl Default for Port {
+    fn default() -> Self {
+        let nobody = BridgeId {
+            priority: 0,
+            address: Mac([0; 6]),
+        };
+        let vector = PriorityVector {
+            root: nobody,
+            cost: 0,
+            bridge: nobody,
+            port: 0,
+        };
+        let times = Times {
+            message_age: 0,
+            max_age: 0,
+            hello: 0,
+            forward_delay: 0,
+        };
+        Port::opening(vector, times)
     }
 }

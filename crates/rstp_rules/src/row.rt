@@ -1,5 +1,5 @@
 use crate::port::{Port, Role, State};
-use frame_core::{BridgeId, Mac, PriorityVector, Times};
+use frame_core::{BridgeId, PriorityVector, Times};
 
 /// What a port's settings, its link and its number come to during an event.
 #[derive(Clone, Copy, Debug, Default)]
@@ -82,33 +82,17 @@ pub struct Context {
 
 impl Default for Row {
     fn default() -> Self {
-        let nobody = BridgeId {
-            priority: 0,
-            address: Mac([0; 6]),
-        };
-        let vector = PriorityVector {
-            root: nobody,
-            cost: 0,
-            bridge: nobody,
-            port: 0,
-        };
+        let port = Port::default();
         Row {
             line: Line::default(),
             was: Before {
-                role: Role::Disabled,
-                state: State::Discarding,
-                vector,
+                role: port.role,
+                state: port.state,
+                vector: port.vector,
             },
-            port: Port::opening(vector, ZERO),
+            port,
             proposed: false,
             flushed: false,
         }
     }
 }
-
-const ZERO: Times = Times {
-    message_age: 0,
-    max_age: 0,
-    hello: 0,
-    forward_delay: 0,
-};

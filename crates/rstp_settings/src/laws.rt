@@ -3,6 +3,8 @@ ghost use Rattle.std.specs.Prelude.{◌≡◌, ◌≢◌, ℕ, if◌then◌else�
 ghost use Rattle.rstp_settings.specs.Table.{Table, get, put, HasKey, same_key};
 ghost use Rattle.rstp_settings.specs.declared.key.Key.{Key};
 
+use crate::settings::MAX_PORTS;
+
 /// A setting has the value that it was last given, and each other setting the one it had.
 pub fn get_after_put()
     ensures { (t : Table) (k l : Key) (v : ℕ) → HasKey t k → HasKey t l
@@ -24,4 +26,9 @@ pub fn puts_commute()
 pub fn equal_on_every_key()
     ensures { (t u : Table) → length t.ports ≡ length u.ports
         → ((k : Key) → HasKey t k → get t k ≡ get u k) → t ≡ u }
+{}
+
+/// A bridge has at most 32 ports.
+pub fn port_limit_is_32()
+    ensures { MAX_PORTS ≡ 32 }
 {}

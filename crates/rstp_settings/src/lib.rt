@@ -2,6 +2,7 @@
 //! 17.14), read and written by key as a finite map from keys to numbers.
 #![tactic(auto)]
 
+pub mod copies;
 pub mod key;
 pub mod laws;
 pub mod settings;

@@ -2,6 +2,7 @@ ghost use Rattle.std.specs.Prelude.{◌≡◌, ◌≤◌, ◌<◌, ◌+◌, leng
 ghost use Rattle.rstp_settings.specs.Table.{get, put, HasKey, IsInRange, opening, opening_port, spent, spent_values};
 ghost use Rattle.rstp_settings.specs.Values.{bridge_value, with_bridge_value, port_value, with_port_value};
 
+use crate::copies::copied;
 use crate::key::{BridgeKey, BridgeValues, Key, PortKey, PortValues};
 use arrayvec::ArrayVec;
 use std::marker::Model;
@@ -128,6 +129,16 @@ impl Settings {
                 aging: 300,
             },
             ports: opening_values(ports),
+        }
+    }
+
+    /// The same settings. It takes no memory.
+    pub fn copy(&self) -> Self
+        ensures { result ≡ self.now }
+    {
+        Settings {
+            bridge: self.bridge,
+            ports: copied(self.ports.as_slice()),
         }
     }
 
