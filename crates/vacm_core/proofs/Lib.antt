@@ -5,3 +5,4 @@ pub mod Right
 pub mod Orders
 pub mod Sound
 pub mod Ties
+pub mod Again

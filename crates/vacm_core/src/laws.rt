@@ -1,12 +1,15 @@
 //! What follows from the definitions alone.
-ghost use Rattle.std.specs.Prelude.{◌≡◌, ◌↔◌, ◌<◌, ◌≤◌, ℕ, List, true, false, Some, None, length, slice_index};
+ghost use Rattle.std.specs.Prelude.{◌≡◌, ◌↔◌, ◌+◌, ◌<◌, ◌≤◌, ℕ, List, true, false, Some, None, length, slice_index};
 ghost use Rattle.std.specs.List.{list_any};
+ghost use Rattle.oid_core.specs.declared.oid.TheConstants.{MOST_NUMBERS};
 ghost use Rattle.vacm_core.specs.declared.tables.AccessRow.{AccessRow};
 ghost use Rattle.vacm_core.specs.declared.tables.FamilyRow.{FamilyRow};
 ghost use Rattle.vacm_core.specs.declared.verdict.Ask.{Ask};
 ghost use Rattle.vacm_core.specs.Best.{IsUnbeatenAt};
 ghost use Rattle.vacm_core.specs.Access.{candidate, access_beats, deciding_access};
 ghost use Rattle.vacm_core.specs.Families.{mask_bit, agrees_from, matches, family_beats, deciding_family};
+
+use crate::limits::{FAMILY_MAX, MASK_MAX, MODEL_MAX, NAME_MAX};
 
 /// A subtree agrees with a name under a mask exactly where the name is at least as long and equal to
 /// the subtree wherever the mask's bit is 1 (RFC 3415, vacmViewTreeFamilyMask).
@@ -30,4 +33,16 @@ pub fn some_family_row_decides()
     ensures none { (families : List FamilyRow) (view name : List ℕ) → (deciding_family families view name ≡ None) ↔ (list_any (matches view name) families ≡ false) }
     ensures some { (families : List FamilyRow) (view name : List ℕ) (n : ℕ) → deciding_family families view name ≡ Some n
         → IsUnbeatenAt (matches view name) family_beats families n }
+{}
+
+/// The limits: SnmpAdminString (SIZE(1..32)) and vacmViewTreeFamilyMask (SIZE (0..16)) of RFC 3415, SnmpSecurityModel
+/// (0..2147483647) of RFC 3411. An instance of vacmViewTreeFamilyTable is named by a column of 12 sub-identifiers, the length of
+/// the view's name and its octets, and the length of the subtree and its sub-identifiers, which are to be 128 at most
+/// (RFC 2578, section 3.5).
+pub fn limits()
+    ensures name { NAME_MAX ≡ 32 }
+    ensures mask { MASK_MAX ≡ 16 }
+    ensures family { FAMILY_MAX ≡ 114 }
+    ensures instance { 12 + 1 + 1 + FAMILY_MAX ≡ MOST_NUMBERS }
+    ensures model { MODEL_MAX ≡ 2147483647 }
 {}

@@ -12,11 +12,14 @@ pub struct Name {
 }
 
 impl Model for Name {
+    ghost use Rattle.std.specs.Prelude.{◌≤◌, ℕ, List, length};
+    ghost use Rattle.vacm_core.specs.declared.limits.TheConstants.{NAME_MAX};
+
     ghost Value = { List ℕ };
 
     ghost view = { λ n. n.text.bytes };
 
-    ghost invariant = { λ n. length n.text.bytes ≤ 32 };
+    ghost invariant = { λ n. length n.text.bytes ≤ NAME_MAX };
 }
 
 impl Name {
@@ -95,11 +98,14 @@ pub struct Mask {
 }
 
 impl Model for Mask {
+    ghost use Rattle.std.specs.Prelude.{◌≤◌, ℕ, List, length};
+    ghost use Rattle.vacm_core.specs.declared.limits.TheConstants.{MASK_MAX};
+
     ghost Value = { List ℕ };
 
     ghost view = { λ m. m.octets.items };
 
-    ghost invariant = { λ m. length m.octets.items ≤ 16 };
+    ghost invariant = { λ m. length m.octets.items ≤ MASK_MAX };
 }
 
 impl Mask {

@@ -179,3 +179,29 @@ fn a_length_comes_before_a_later_field(rt: HostRuntime) -> Result<(), Fail> {
     assert_eq!(rt; fault, Some(PolicyFault::BadLength(PolicyTable::Groups, 0)));
     Ok(())
 }
+
+// The dotted text of 1.3 and ones, of so many sub-identifiers.
+fn long_name(alloc: Global, count: usize) -> Result<String, Fail> {
+    let mut text = String::from_str(alloc, "1.3")?;
+    for _ in 2..count {
+        text.push_str(".1")?;
+    }
+    Ok(text)
+}
+
+#[test]
+fn long_subtrees_deny(rt: HostRuntime) -> Result<(), Fail> {
+    let alloc = rt.alloc();
+    let view = Name::from_str("v").ok_or("too long")?;
+    for count in [25, 113] {
+        let text = long_name(alloc, count)?;
+        let included = family(alloc, "1.3", &[], true)?;
+        let excluded = family(alloc, text.as_str(), &[], false)?;
+        let families = Vec::from_array(alloc, [included, excluded])?;
+        let rows = tables(alloc, Vec::new(alloc), Vec::new(alloc), families)?;
+        let vacm = Vacm::new(alloc, rows)?;
+        let name = Oid::parse(alloc, text.as_str())?;
+        assert_eq!(rt; vacm.in_view(&view, &name), FamilyAnswer::Excluded(1));
+    }
+    Ok(())
+}

@@ -15,7 +15,7 @@ use std::alloc::Global;
 use std::marker::Model;
 
 /// The tables of the View-based Access Control Model (RFC 3415), seen as four lists of rows. No two
-/// rows of a table have one key, but contexts may be equal.
+/// rows of a table have one key, but contexts may be equal; each row's lengths and fields are right.
 #[derive(Drop)]
 pub struct Vacm {
     groups: Rows<GroupRow>,
@@ -37,7 +37,7 @@ impl Model for Vacm {
 impl Vacm {
     ghost use Rattle.vacm_core.specs.declared.verdict.Ask.{Ask};
     ghost use Rattle.vacm_core.specs.Best.{IsUnbeatenAt};
-    ghost use Rattle.vacm_core.specs.Tables.{tables_of};
+    ghost use Rattle.vacm_core.specs.Tables.{tables_of, rows_of};
     ghost use Rattle.vacm_core.specs.Faults.{AreAllRight, IsFault};
     ghost use Rattle.vacm_core.specs.Families.{family_answer, by_type, matches, family_beats, NamesFamilyOf};
     ghost use Rattle.vacm_core.specs.Access.{verdict_of, by_access, by_view, deciding_access, candidate, access_beats, NamesRowOf};
@@ -135,6 +135,15 @@ impl Vacm {
             → IsUnbeatenAt (candidate ask group) (access_beats ask) self.now.access m → n ≡ m }
         ensures family { (view name : List ℕ) (n m : ℕ) → IsUnbeatenAt (matches view name) family_beats self.now.families n
             → IsUnbeatenAt (matches view name) family_beats self.now.families m → n ≡ m }
+    {
+        let _ = &self.access;
+    }
+
+    /// The law that these rows, as they are written, are rows of which nothing is wrong, and stand for these tables: what
+    /// [`Vacm::new`] takes gives the same tables again.
+    pub fn rows_are_right(&self)
+        ensures right { AreAllRight (rows_of self.now) }
+        ensures same { tables_of (rows_of self.now) ≡ self.now }
     {
         let _ = &self.access;
     }
