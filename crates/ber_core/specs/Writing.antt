@@ -1,5 +1,5 @@
 -- Writing from the back of a slice that was lent.
-use Rattle.std.specs.Prelude.{◌≡◌, ℕ, ◌<◌, List, ◌++◌, length, drop, Result, Ok, Err}
+use Rattle.std.specs.Prelude.{◌≡◌, ℕ, ◌<◌, List, ◌++◌, length, take, drop, Result, Ok, Err}
 use Rattle.ber_core.specs.declared.fault.BerFault.{BerFault}
 use Rattle.ber_core.specs.declared.fault.BerFault.TheVariants.{NoRoom}
 use Rattle.ber_core.specs.declared.out.Out.{Out}
@@ -16,3 +16,7 @@ capacity out = length out.room.now
 abbrev pub Prepends : Out → Out → Result (Unit {0}) BerFault → List ℕ → Type 0
 Prepends old new (Ok _) octets = (written new ≡ octets ++ written old) × (capacity new ≡ capacity old)
 Prepends old new (Err fault) octets = (fault ≡ NoRoom) × (capacity old < length (octets ++ written old)) × (capacity new ≡ capacity old)
+
+-- The octets of the slice in front of those written are as they were.
+abbrev pub KeepsFront : Out → Out → Type 0
+KeepsFront old new = take new.start new.room.now ≡ take new.start old.room.now

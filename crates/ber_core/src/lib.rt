@@ -2,6 +2,7 @@
 #![tactic(auto)]
 
 mod fault;
+mod heads;
 pub mod laws;
 mod out;
 mod reading;

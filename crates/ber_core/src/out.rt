@@ -1,13 +1,14 @@
-ghost use Rattle.std.specs.Prelude.{◌≡◌, [], ◌∷◌, ◌++◌, ◌≤◌, ◌<◌, ◌^◌, ◌-◌, length, drop, OnErr};
+ghost use Rattle.std.specs.Prelude.{◌≡◌, [], ◌∷◌, ◌++◌, ◌≤◌, ◌<◌, ◌^◌, ◌-◌, ◌+◌, length, drop, OnOk, OnErr};
 
 use crate::fault::BerFault;
+use crate::heads::head_len;
 use crate::reading::Tag;
 use crate::shortest::shortest_of;
 
 /// A writer that fills the slice that it was lent from the back, so that a value's content is written before its length.
 ///
-/// The slice is shorter than 2^32 octets. A call that is refused leaves what is written, and the room for more, as they
-/// were.
+/// The slice is shorter than 2^32 octets. A call that is refused leaves the writer and the slice as they were. One that
+/// succeeds leaves the octets of the slice in front of what it wrote as they were.
 #[derive(Drop)]
 pub struct Out<'a> {
     pub room: &'a mut [u8],
@@ -17,7 +18,7 @@ pub struct Out<'a> {
 }
 
 impl<'a> Out<'a> {
-    ghost use Rattle.ber_core.specs.Writing.{written, capacity, Prepends};
+    ghost use Rattle.ber_core.specs.Writing.{written, capacity, Prepends, KeepsFront};
     ghost use Rattle.ber_core.specs.Spelling.{canon_length, canon_tlv, canon_integer, canon_unsigned};
 
     /// A writer that has written nothing.
@@ -45,6 +46,7 @@ impl<'a> Out<'a> {
     pub fn put_octets(&mut self, octets: &[u8]) -> Result<(), BerFault>
         ensures same_reference { self.new.room.ghost_name ≡ self.old.room.ghost_name }
         ensures puts { Prepends self.old self.new result octets.now }
+        ensures front { OnOk result (KeepsFront self.old self.new) }
         ensures err { OnErr result (self.new ≡ self.old) }
     {
         if self.start < octets.len() {
@@ -64,6 +66,7 @@ impl<'a> Out<'a> {
         requires { len < 2 ^ 32 }
         ensures same_reference { self.new.room.ghost_name ≡ self.old.room.ghost_name }
         ensures puts { Prepends self.old self.new result (tag.0 ∷ canon_length len) }
+        ensures front { OnOk result (KeepsFront self.old self.new) }
         ensures err { OnErr result (self.new ≡ self.old) }
     {
         let bytes = (len as u32).to_be_bytes();
@@ -80,12 +83,13 @@ impl<'a> Out<'a> {
         }
     }
 
-    /// Takes back what was written last, so that `len` octets stay.
+    /// Takes back what was written last, so that `len` octets stay. No octet of the slice changes.
     pub fn truncate(&mut self, len: usize)
         requires { len ≤ length (written self.old) }
         ensures same_reference { self.new.room.ghost_name ≡ self.old.room.ghost_name }
         ensures rest { written self.new ≡ drop (length (written self.old) - len) (written self.old) }
         ensures room { capacity self.new ≡ capacity self.old }
+        ensures kept { self.new.room.now ≡ self.old.room.now }
     {
         self.start = self.room.len() - len;
     }
@@ -97,16 +101,15 @@ impl<'a> Out<'a> {
     pub fn put_tlv(&mut self, tag: Tag, content: &[u8]) -> Result<(), BerFault>
         ensures same_reference { self.new.room.ghost_name ≡ self.old.room.ghost_name }
         ensures puts { Prepends self.old self.new result (canon_tlv tag.0 content.now) }
-        ensures err { OnErr result (written self.new ≡ written self.old) }
+        ensures front { OnOk result (KeepsFront self.old self.new) }
+        ensures err { OnErr result (self.new ≡ self.old) }
     {
-        let mark = self.len();
-        self.put_octets(content)?;
-        let len = self.len() - mark;
-        let put = self.put_tlv_head(tag, len);
-        if put.is_err() {
-            self.truncate(mark);
+        let len = content.len();
+        if self.start < len || self.start - len < head_len(len) {
+            return Err(BerFault::NoRoom);
         }
-        put
+        self.put_octets(content)?;
+        self.put_tlv_head(tag, len)
     }
 
     /// Writes an INTEGER, or another value that is spelled like one, under its tag (X.690, 8.3).
@@ -116,7 +119,8 @@ impl<'a> Out<'a> {
     pub fn put_i32(&mut self, tag: Tag, value: i32) -> Result<(), BerFault>
         ensures same_reference { self.new.room.ghost_name ≡ self.old.room.ghost_name }
         ensures puts { Prepends self.old self.new result (canon_tlv tag.0 (canon_integer value)) }
-        ensures err { OnErr result (written self.new ≡ written self.old) }
+        ensures front { OnOk result (KeepsFront self.old self.new) }
+        ensures err { OnErr result (self.new ≡ self.old) }
     {
         let bytes = value.to_be_bytes();
         self.put_tlv(tag, shortest_of(&bytes))
@@ -128,7 +132,8 @@ impl<'a> Out<'a> {
     pub fn put_u32(&mut self, tag: Tag, value: u32) -> Result<(), BerFault>
         ensures same_reference { self.new.room.ghost_name ≡ self.old.room.ghost_name }
         ensures puts { Prepends self.old self.new result (canon_tlv tag.0 (canon_unsigned value)) }
-        ensures err { OnErr result (written self.new ≡ written self.old) }
+        ensures front { OnOk result (KeepsFront self.old self.new) }
+        ensures err { OnErr result (self.new ≡ self.old) }
     {
         self.put_u64(tag, u64::from(value))
     }
@@ -140,7 +145,8 @@ impl<'a> Out<'a> {
     pub fn put_u64(&mut self, tag: Tag, value: u64) -> Result<(), BerFault>
         ensures same_reference { self.new.room.ghost_name ≡ self.old.room.ghost_name }
         ensures puts { Prepends self.old self.new result (canon_tlv tag.0 (canon_unsigned value)) }
-        ensures err { OnErr result (written self.new ≡ written self.old) }
+        ensures front { OnOk result (KeepsFront self.old self.new) }
+        ensures err { OnErr result (self.new ≡ self.old) }
     {
         let bytes = value.to_be_bytes();
         let content = [
