@@ -1,6 +1,6 @@
 -- Dotted text, and its parts between the dots.
 use Rattle.std.proofs.Common.{◌≡◌, ◌≢◌, ℕ, ◌<◌, ◌≤◌, ◌^◌, Bool, true, false, eqb, ◌==◌, List, [], ◌∷◌, ◌++◌, length, get_or, map, Option, Some, None, Result, Ok, Err, refl, sym, ap, subst, ◌∙◌, arith, inl, inr, lit<}
-use Rattle.std.specs.Prelude.{IfSome, IfOk, IfErr, IsOkAnd, slice_get}
+use Rattle.std.specs.Prelude.{IfSome, IfOk, IfErr, IsOk, IsOkAnd, slice_get}
 use Rattle.std.specs.Char.{is_ascii_digit, digit_value}
 use Rattle.std.specs.Fmt.{decimal}
 use Rattle.std.specs.Int.{IsInRange}
@@ -15,6 +15,7 @@ use Rattle.std.proofs.lemmas.List.Splits.{length-slice_split, join_with_byte-sli
 use Rattle.std.proofs.lemmas.Str.Parse.{IsNumeralModel, numerals_by_value, tells_digits, digit_from_value, parse_plain, digit_at}
 use Rattle.oid_core.specs.declared.fault.OidFault.{OidFault}
 use Rattle.oid_core.specs.declared.fault.OidFault.TheVariants.{Memory, BadText, TooLong, BadContent, NoRoom}
+use Rattle.oid_core.specs.declared.limits.TheConstants.{INLINE_NUMBERS}
 use Rattle.oid_core.specs.Fault.{IsListFault}
 use Rattle.oid_core.specs.Text.{dotted, IsDotted, IsTextFault, pieces}
 
@@ -151,7 +152,7 @@ pub record IsReadSoFar (text : List ℕ) (left : List (List ℕ)) (kept : List �
 pub so_far_start : (text : List ℕ) → IsReadSoFar text (pieces text) [] false
 so_far_start text = record { done = []; each = tt; parts = refl; kept_all = λ e. refl; long = λ e. absurd cc }
 
-each_more : (ns : List ℕ) (n : ℕ) → AllByRecursion (λ n. n < 2 ^ 32) ns → n < 2 ^ 32 → AllByRecursion (λ n. n < 2 ^ 32) (ns ++ n ∷ [])
+pub each_more : (ns : List ℕ) (n : ℕ) → AllByRecursion (λ n. n < 2 ^ 32) ns → n < 2 ^ 32 → AllByRecursion (λ n. n < 2 ^ 32) (ns ++ n ∷ [])
 each_more [] n each lt = (lt, tt)
 each_more (m ∷ ns) n each lt = (each.0, each_more ns n each.1 lt)
 
@@ -225,6 +226,14 @@ parse_only text (Err BadText) found fault name d few other = absurd (fault name 
 parse_only text (Err TooLong) found fault name d few other = absurd (let same = one_name text fault.0 name fault.1 d in omega (arith, ap length same, fault.2))
 parse_only text (Err BadContent) found fault name d few other = absurd fault
 parse_only text (Err NoRoom) found fault name d few other = absurd fault
+
+pub parse_inline : (text : List ℕ) (r : Result (List ℕ) OidFault) → IfErr r (λ f. IsTextFault text f) → (name : List ℕ) → IsDotted text name → length name ≤ INLINE_NUMBERS → IsOk r
+parse_inline text (Ok o) fault name d few = refl
+parse_inline text (Err Memory) fault name d few = absurd (let same = one_name text fault.0 name fault.1 d in omega (arith, ap length same, fault.2))
+parse_inline text (Err BadText) fault name d few = absurd (fault name d)
+parse_inline text (Err TooLong) fault name d few = absurd (let same = one_name text fault.0 name fault.1 d in omega (arith, ap length same, fault.2))
+parse_inline text (Err BadContent) fault name d few = absurd fault
+parse_inline text (Err NoRoom) fault name d few = absurd fault
 
 -- a list of a dotted text's numbers that is refused is a fault of the text
 pub list_fault : (text numbers : List ℕ) (r : Result (List ℕ) OidFault) → IsDotted text numbers → length numbers ≤ 128 → IfErr r (λ f. IsListFault numbers f) → IfErr r (λ f. IsTextFault text f)

@@ -4,13 +4,14 @@ use Rattle.ber_core.specs.declared.out.Out.{Out}
 use Rattle.ber_core.specs.Writing.{written, capacity}
 use Rattle.oid_core.specs.declared.fault.OidFault.{OidFault}
 use Rattle.oid_core.specs.declared.fault.OidFault.TheVariants.{Memory, BadText, TooLong, BadContent, NoRoom}
+use Rattle.oid_core.specs.declared.limits.TheConstants.{INLINE_NUMBERS, MOST_NUMBERS}
 use Rattle.oid_core.specs.Name.{HasRoot, canon_name}
 
 -- A list of sub-identifiers is no object identifier.
 abbrev pub IsListFault : List ℕ → OidFault → Type 0
-IsListFault numbers Memory = (24 < length numbers) × (length numbers ≤ 128)
+IsListFault numbers Memory = (INLINE_NUMBERS < length numbers) × (length numbers ≤ MOST_NUMBERS)
 IsListFault numbers BadText = ⊥
-IsListFault numbers TooLong = 128 < length numbers
+IsListFault numbers TooLong = MOST_NUMBERS < length numbers
 IsListFault numbers BadContent = length numbers ≡ 0
 IsListFault numbers NoRoom = ⊥
 

@@ -4,6 +4,7 @@ use Rattle.std.specs.Fmt.{decimal}
 use Rattle.std.specs.List.{AllByRecursion, join_with_byte, slice_split}
 use Rattle.oid_core.specs.declared.fault.OidFault.{OidFault}
 use Rattle.oid_core.specs.declared.fault.OidFault.TheVariants.{Memory, BadText, TooLong, BadContent, NoRoom}
+use Rattle.oid_core.specs.declared.limits.TheConstants.{INLINE_NUMBERS, MOST_NUMBERS}
 
 -- 46 is the dot
 abbrev pub dotted : List ℕ → List ℕ
@@ -17,9 +18,9 @@ pub record IsDotted (text name : List ℕ) : Type 0 where
 
 -- A text gives no name: it is no dotted text at all, or that of too many sub-identifiers, or there is no memory for so many.
 abbrev pub IsTextFault : List ℕ → OidFault → Type 0
-IsTextFault text Memory = (name : List ℕ) × IsDotted text name × (24 < length name) × (length name ≤ 128)
+IsTextFault text Memory = (name : List ℕ) × IsDotted text name × (INLINE_NUMBERS < length name) × (length name ≤ MOST_NUMBERS)
 IsTextFault text BadText = (name : List ℕ) → ¬ IsDotted text name
-IsTextFault text TooLong = (name : List ℕ) × IsDotted text name × (128 < length name)
+IsTextFault text TooLong = (name : List ℕ) × IsDotted text name × (MOST_NUMBERS < length name)
 IsTextFault text BadContent = ⊥
 IsTextFault text NoRoom = ⊥
 

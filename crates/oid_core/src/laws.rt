@@ -8,6 +8,7 @@ ghost use Rattle.oid_core.specs.Text.{IsDotted};
 ghost use Rattle.oid_core.specs.TextValue.{name_of_text};
 
 use crate::fault::OidFault;
+use crate::limits::{INLINE_NUMBERS, MOST_NUMBERS};
 
 /// The shortest content of a name is one of its contents.
 pub fn name_is_spelled()
@@ -53,4 +54,10 @@ pub fn tests_tell()
     ensures before { (a b : List ℕ) → IsTrue (name_lt a b) ↔ IsBefore a b }
     ensures same { (a b : List ℕ) → IsTrue (name_eq a b) ↔ (a ≡ b) }
     ensures prefix { (front name : List ℕ) → IsTrue (is_prefix front name) ↔ IsPrefix front name }
+{}
+
+/// The limits of names: 128 sub-identifiers at most (RFC 2578, 3.5), of which 24 take no memory.
+pub fn limits_are()
+    ensures most { MOST_NUMBERS ≡ 128 }
+    ensures inline { INLINE_NUMBERS ≡ 24 }
 {}

@@ -5,7 +5,7 @@ ghost use Rattle.std.specs.Option.{option_copied};
 ghost use Rattle.oid_core.specs.Text.{IsDotted, IsTextFault, pieces, pieces_left};
 
 use crate::fault::OidFault;
-use crate::oid::MOST_NUMBERS;
+use crate::limits::MOST_NUMBERS;
 use arrayvec::ArrayVec;
 
 /// The number that a text writes in decimal, with no sign and no leading zero.
