@@ -18,10 +18,10 @@ use Rattle.ber_core.proofs.Canon.{canon_integer_spells, shortest_same, shortest_
 
 -- ---- lengths and values
 
-tail_octets : (first : ℕ) (rest octets : List ℕ) → octets ≡ first ∷ rest → AreOctets octets → AreOctets rest
+pub tail_octets : (first : ℕ) (rest octets : List ℕ) → octets ≡ first ∷ rest → AreOctets octets → AreOctets rest
 tail_octets first rest octets e fits = λ i. subst (λ (t : List ℕ). get_or t (suc i) 0 < 256) e (fits (suc i))
 
-front_octets : (front rest : List ℕ) → AreOctets (front ++ rest) → AreOctets front
+pub front_octets : (front rest : List ℕ) → AreOctets (front ++ rest) → AreOctets front
 front_octets [] rest fits = λ i. omega arith
 front_octets (o ∷ front) rest fits =
     let others = front_octets front rest (λ i. fits (suc i)) in
@@ -84,10 +84,10 @@ high_large a rest high = omega (arith, lead a rest, mul-le-mul_right (256 ^ leng
 
 -- ---- two contents of one number
 
-low_signed : (a : ℕ) (rest : List ℕ) → a < 128 → signed (a ∷ rest) ≡ pos (number (a ∷ rest))
+pub low_signed : (a : ℕ) (rest : List ℕ) → a < 128 → signed (a ∷ rest) ≡ pos (number (a ∷ rest))
 low_signed a rest low = rw (lt-ltb _ _ low) refl
 
-high_signed : (a : ℕ) (rest : List ℕ) → 128 ≤ a → signed (a ∷ rest) ≡ pos (number (a ∷ rest)) -ℤ pos (256 ^ length (a ∷ rest))
+pub high_signed : (a : ℕ) (rest : List ℕ) → 128 ≤ a → signed (a ∷ rest) ≡ pos (number (a ∷ rest)) -ℤ pos (256 ^ length (a ∷ rest))
 high_signed a rest high = rw (le-ltb _ _ high) refl
 
 too_short : (a b d : ℕ) (rest others : List ℕ) → AreOctets (a ∷ b ∷ rest) → AreOctets (d ∷ others) → is_spare a b ≡ false → length others ≤ length rest → signed (a ∷ b ∷ rest) ≡ signed (d ∷ others) → ⊥
@@ -165,7 +165,7 @@ pub canon_integer_minimal : (z : ℤ) → IsMinimal (canon_integer z)
 unfolding canon_integer
 canon_integer_minimal z = shortest_minimal (to_be_bytes w32 (of_z w32 z))
 
-integer_fits : (content : List ℕ) (z : ℤ) → AreOctets content → IsInteger content z → FitsSigned w32 z
+pub integer_fits : (content : List ℕ) (z : ℤ) → AreOctets content → IsInteger content z → FitsSigned w32 z
 integer_fits [] z fits i = absurd (let some = i.some in omega arith)
 integer_fits (a ∷ rest) z fits i =
     let r = ranges (a ∷ rest) fits i.few i.some in
@@ -192,7 +192,7 @@ pub canon_unsigned_minimal : (n : ℕ) → IsMinimal (canon_unsigned n)
 unfolding canon_unsigned
 canon_unsigned_minimal n = shortest_minimal (0 ∷ to_be_bytes w64 n)
 
-canon_unsigned_value : (n : ℕ) → n < 2 ^ 64 → signed (canon_unsigned n) ≡ pos n
+pub canon_unsigned_value : (n : ℕ) → n < 2 ^ 64 → signed (canon_unsigned n) ≡ pos n
 unfolding canon_unsigned
 canon_unsigned_value n bound = shortest_same (0 ∷ to_be_bytes w64 n) ∙ ap (λ (k : ℕ). pos k) (eight n bound)
 

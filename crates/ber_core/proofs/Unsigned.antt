@@ -7,7 +7,7 @@ use Rattle.std.proofs.lemmas.Int.{ints}
 use Rattle.std.proofs.lemmas.Int.Digits.{number_lt}
 use Rattle.ber_core.specs.Spelling.{AreOctets, number, signed, IsUnsigned}
 
-all_below : (digits : List ℕ) → AreOctets digits → AllBelowBase 256 digits
+pub all_below : (digits : List ℕ) → AreOctets digits → AllBelowBase 256 digits
 all_below [] fits = tt
 all_below (d ∷ digits) fits = (fits 0, all_below digits (λ i. fits (suc i)))
 

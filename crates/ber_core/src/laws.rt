@@ -2,7 +2,7 @@
 ghost use Rattle.std.specs.Prelude.{◌≡◌, ◌<◌, ◌≤◌, ◌^◌, ℕ, ℤ, List, length};
 ghost use Rattle.std.specs.Prelude.{FitsSigned};
 ghost use Rattle.std.specs.Int.{w32};
-ghost use Rattle.ber_core.specs.Spelling.{AreOctets, IsMinimal, IsTlv, BeginsTlv, IsInteger, IsUnsigned, canon_tlv, canon_integer, canon_unsigned};
+ghost use Rattle.ber_core.specs.Spelling.{AreOctets, IsMinimal, IsLength, IsTlv, BeginsTlv, IsInteger, IsUnsigned, canon_length, canon_tlv, canon_integer, canon_unsigned};
 
 /// The shortest spelling of a tag and a content is one of its spellings.
 pub fn tlv_is_spelled()
@@ -12,6 +12,17 @@ pub fn tlv_is_spelled()
 /// No spelling of a tag and a content has fewer octets.
 pub fn no_tlv_is_shorter()
     ensures { (tag : ℕ) (content octets : List ℕ) → AreOctets octets → IsTlv tag content octets → length (canon_tlv tag content) ≤ length octets }
+{}
+
+/// A spelling of a length that is no longer than the shortest is the shortest.
+pub fn shortest_length_is_one()
+    ensures { (octets : List ℕ) (n : ℕ) → AreOctets octets → IsLength octets n → length octets ≤ length (canon_length n) → octets ≡ canon_length n }
+{}
+
+/// A spelling of a tag and a content that is no longer than the shortest is the shortest.
+pub fn shortest_tlv_is_one()
+    ensures { (tag : ℕ) (content octets : List ℕ) → AreOctets octets → IsTlv tag content octets
+        → length octets ≤ length (canon_tlv tag content) → octets ≡ canon_tlv tag content }
 {}
 
 /// Octets begin with one tag and one content at most.
@@ -31,6 +42,12 @@ pub fn no_integer_is_shorter()
     ensures { (content : List ℕ) (z : ℤ) → AreOctets content → IsInteger content z → length (canon_integer z) ≤ length content }
 {}
 
+/// A content of an INTEGER that is no longer than the shortest is the shortest.
+pub fn shortest_integer_is_one()
+    ensures { (content : List ℕ) (z : ℤ) → AreOctets content → IsInteger content z
+        → length content ≤ length (canon_integer z) → content ≡ canon_integer z }
+{}
+
 /// A content writes one INTEGER at most.
 pub fn integer_is_one()
     ensures { (content : List ℕ) (y z : ℤ) → IsInteger content y → IsInteger content z → y ≡ z }
@@ -46,6 +63,12 @@ pub fn unsigned_is_spelled()
 /// No content of an unsigned number has fewer octets.
 pub fn no_unsigned_is_shorter()
     ensures { (width : ℕ) (content : List ℕ) (n : ℕ) → width ≤ 8 → AreOctets content → IsUnsigned width content n → length (canon_unsigned n) ≤ length content }
+{}
+
+/// A content of an unsigned number, of 32 bits or 64, that is no longer than the shortest is the shortest.
+pub fn shortest_unsigned_is_one()
+    ensures { (width : ℕ) (content : List ℕ) (n : ℕ) → width ≤ 8 → AreOctets content → IsUnsigned width content n
+        → length content ≤ length (canon_unsigned n) → content ≡ canon_unsigned n }
 {}
 
 /// A content writes one unsigned number at most.

@@ -10,7 +10,7 @@ use Rattle.message_core.specs.Cause.{cause_of}
 use Rattle.message_core.specs.declared.cause.DropCause.TheVariants.{Malformed, Memory}
 use Rattle.message_core.specs.declared.request.Kind.{Kind}
 use Rattle.message_core.specs.declared.binding.Binding.{Binding}
-use Rattle.message_core.specs.BeginsLong.{BeginsLong}
+use Rattle.oid_core.specs.Name.{BeginsLong}
 use Rattle.message_core.specs.Message.{AreOctets, IsBinding, AreBindings, tag_of, IsLongValue, HasLongName, HasLongValue, HasLongBinding, HasGrowth, HasGrowingList, IsCause}
 use Rattle.message_core.specs.FirstFault.{any_at, content_at, integer_at, nametlv_at, binding_at, kind_of, head_at}
 use Rattle.message_core.proofs.Readers.{bind_ok, test_ok, ok_is, content_fits, any_found, content_reads, integer_reads, nametlv_reads, binding_reads}

@@ -7,7 +7,7 @@ use Rattle.ber_core.proofs.Lengths.{canon_1, canon_2}
 use Rattle.message_core.specs.Tags as tags
 use Rattle.message_core.specs.Canon.{canon_int, canon_bindings, canon_tail, canon_body, canon_inside, canon_message, canon_reply, answer_to}
 use Rattle.message_core.specs.Status.{code_of}
-use Rattle.message_core.specs.declared.writing.TheConstants.{MAX_REPLY}
+use Rattle.message_core.specs.declared.limits.TheConstants.{MAX_REPLY}
 use Rattle.message_core.specs.declared.binding.Binding.{Binding}
 use Rattle.message_core.specs.declared.request.Request.{Request}
 use Rattle.message_core.specs.declared.status.ErrorStatus.TheVariants.{NoError}

@@ -6,8 +6,7 @@ use Rattle.ber_core.specs.Spelling.{IsLength, canon_length, canon_tlv, canon_int
 use Rattle.ber_core.proofs.Canon.{canon_length_spells, shortest_len}
 use Rattle.message_core.specs.Tags as tags
 use Rattle.message_core.specs.Status.{code_of}
-use Rattle.message_core.specs.declared.request.TheConstants.{MAX_COMMUNITY}
-use Rattle.message_core.specs.declared.writing.TheConstants.{MAX_REPLY}
+use Rattle.message_core.specs.declared.limits.TheConstants.{MAX_COMMUNITY, MAX_REPLY}
 use Rattle.message_core.specs.declared.reply.Reply.{Reply}
 use Rattle.message_core.specs.Canon.{canon_int, canon_tail, canon_body, canon_inside, canon_message, canon_reply}
 

@@ -7,7 +7,7 @@ use Rattle.oid_core.specs.declared.fault.OidFault.{OidFault}
 use Rattle.oid_core.specs.Reading.{name_at}
 use Rattle.message_core.specs.Cause.{cause_of}
 use Rattle.message_core.specs.Tags as tags
-use Rattle.message_core.specs.declared.reading.TheConstants.{MAX_REQUEST}
+use Rattle.message_core.specs.declared.limits.TheConstants.{MAX_REQUEST}
 use Rattle.message_core.specs.declared.cause.DropCause.{DropCause}
 use Rattle.message_core.specs.declared.cause.DropCause.TheVariants.{TooLong, Malformed, BadVersion, BadKind, Memory}
 use Rattle.message_core.specs.declared.request.Kind.{Kind}

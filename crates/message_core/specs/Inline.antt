@@ -1,7 +1,7 @@
 -- What stands in a value, in a binding, without memory of its own.
 use Rattle.std.specs.Prelude.{◌≤◌, length}
-use Rattle.oid_core.specs.declared.oid.TheConstants.{INLINE_NUMBERS}
-use Rattle.message_core.specs.declared.octets.TheConstants.{INLINE_OCTETS}
+use Rattle.oid_core.specs.declared.limits.TheConstants.{INLINE_NUMBERS}
+use Rattle.message_core.specs.declared.limits.TheConstants.{INLINE_OCTETS}
 use Rattle.message_core.specs.declared.value.Value.{Value}
 use Rattle.message_core.specs.declared.value.Value.TheVariants.{Integer, OctetString, Null, ObjectIdentifier, IpAddress, Counter32, Gauge32, TimeTicks, Opaque, Counter64, NoSuchObject, NoSuchInstance, EndOfMibView}
 use Rattle.message_core.specs.declared.binding.Binding.{Binding}

@@ -3,6 +3,7 @@ use Rattle.std.specs.Prelude.{◌≡◌, ℕ, ◌<◌, ◌≤◌, ◌^◌, FitsS
 use Rattle.std.specs.List.{AllByRecursion}
 use Rattle.std.specs.Int.{w32}
 use Rattle.oid_core.specs.Name.{HasRoot}
+use Rattle.oid_core.specs.declared.limits.TheConstants.{MOST_NUMBERS}
 use Rattle.message_core.specs.declared.value.Value.{Value}
 use Rattle.message_core.specs.declared.value.Value.TheVariants.{Integer, OctetString, Null, ObjectIdentifier, IpAddress, Counter32, Gauge32, TimeTicks, Opaque, Counter64, NoSuchObject, NoSuchInstance, EndOfMibView}
 use Rattle.message_core.specs.declared.binding.Binding.{Binding}
@@ -33,9 +34,9 @@ pub record IsSpellableBinding (b : Binding) : Type 0 where
 abbrev pub AreSpellable : List Binding → Type 0
 AreSpellable bs = AllByRecursion IsSpellableBinding bs
 
--- A name of at most 128 sub-identifiers, each below 2 ^ 32, as every `Oid` is.
+-- A name of at most `MOST_NUMBERS` sub-identifiers, each below 2 ^ 32, as every `Oid` is.
 pub record FitsName (name : List ℕ) : Type 0 where
-  pub most : length name ≤ 128
+  pub most : length name ≤ MOST_NUMBERS
   pub each : AllByRecursion (λ n. n < 2 ^ 32) name
 
 -- A value in the range of its type, as every `Value` is.

@@ -6,10 +6,11 @@ ghost use Rattle.message_core.specs.Canon.{canon_int, canon_binding, canon_bindi
 ghost use Rattle.message_core.specs.declared.binding.Binding.{Binding};
 
 use crate::binding::Binding;
-use crate::request::{MAX_COMMUNITY, Request};
+use crate::limits::{MAX_COMMUNITY, MAX_REPLY};
+use crate::request::Request;
 use crate::status::ErrorStatus;
 use crate::tag;
-use crate::writing::{MAX_REPLY, put_binding};
+use crate::writing::put_binding;
 use ber_core::{Out, Tag};
 
 // A tag and the length of 256 to 65,535 octets (X.690, 8.1.3.5).

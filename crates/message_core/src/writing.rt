@@ -8,6 +8,7 @@ ghost use Rattle.message_core.specs.Canon.{canon_name_tlv, canon_value, canon_bi
 ghost use Rattle.ber_core.specs.Writing.{Prepends};
 
 use crate::binding::Binding;
+use crate::limits::MAX_REPLY;
 use crate::reply::Reply;
 use crate::request::Request;
 use crate::status::ErrorStatus;
@@ -16,9 +17,6 @@ use crate::value::Value;
 use ber_core::{BerFault, Out, Tag};
 use oid_core::{Oid, put_name};
 use thiserror::Error;
-
-/// The longest reply that is written, in octets: 1,472, which an Ethernet frame of 1,500 holds beside the heads of IP and UDP.
-pub const MAX_REPLY: usize = 1472;
 
 /// The message is longer than the buffer.
 #[derive(Clone, Copy, Debug, PartialEq, Eq, Error)]

@@ -1,0 +1,5 @@
+use Rattle.ber_core.proofs.One.{one_length}
+use Rattle.ber_core.proofs.laws.shortest_length_is_one.Goals as goal
+
+pub returns : goal.returns
+returns c = one_length
