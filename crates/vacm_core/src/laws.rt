@@ -1,7 +1,7 @@
 //! What follows from the definitions alone.
 ghost use Rattle.std.specs.Prelude.{◌≡◌, ◌↔◌, ◌+◌, ◌<◌, ◌≤◌, ℕ, List, true, false, Some, None, length, slice_index};
 ghost use Rattle.std.specs.List.{list_any};
-ghost use Rattle.oid_core.specs.declared.oid.TheConstants.{MOST_NUMBERS};
+ghost use Rattle.oid_core.specs.declared.limits.TheConstants.{MOST_NUMBERS};
 ghost use Rattle.vacm_core.specs.declared.tables.AccessRow.{AccessRow};
 ghost use Rattle.vacm_core.specs.declared.tables.FamilyRow.{FamilyRow};
 ghost use Rattle.vacm_core.specs.declared.verdict.Ask.{Ask};
