@@ -20,6 +20,11 @@ pub fn no_name_is_shorter()
     ensures { (content name : List ℕ) → IsName content name → length (canon_name name) ≤ length content }
 {}
 
+/// A name has one content, the shortest: no group of seven bits is to spare (X.690, 8.19.2).
+pub fn content_is_one()
+    ensures { (content name : List ℕ) → IsName content name → content ≡ canon_name name }
+{}
+
 /// A content is that of one name at most.
 pub fn name_is_one()
     ensures { (content a b : List ℕ) → IsName content a → IsName content b → a ≡ b }

@@ -52,6 +52,14 @@ fn ones(alloc: std::alloc::Global, more: usize) -> Result<String, std::alloc::Al
 }
 
 #[test]
+fn parses_25_numbers(rt: HostRuntime) -> Result<(), Fail> {
+    let text = ones(rt.alloc(), 24)?;
+    let name = Oid::parse(rt.alloc(), text.as_str())?;
+    assert_eq!(rt; name.as_slice(), [1; 25].as_slice());
+    Ok(())
+}
+
+#[test]
 fn parses_128_numbers(rt: HostRuntime) -> Result<(), Fail> {
     let text = ones(rt.alloc(), 127)?;
     let name = Oid::parse(rt.alloc(), text.as_str())?;
@@ -97,6 +105,41 @@ fn reads_contents(rt: HostRuntime) -> Result<(), Fail> {
     let great = Oid::read_ber(rt.alloc(), &[0x90, 0x80, 0x80, 0x80, 0x4f])?;
     assert_eq!(rt; great.as_slice(), [2, 4294967295].as_slice());
     Ok(())
+}
+
+// The content of 1.3 and of 1 at each of the other places, up to 128 sub-identifiers, and one octet more.
+fn content_of_ones() -> [u8; 128] {
+    let mut content = [1u8; 128];
+    content[0] = 0x2b;
+    content
+}
+
+fn name_of_ones() -> [u32; 128] {
+    let mut name = [1u32; 128];
+    name[1] = 3;
+    name
+}
+
+#[test]
+fn reads_25_numbers(rt: HostRuntime) -> Result<(), Fail> {
+    let name = Oid::read_ber(rt.alloc(), &content_of_ones()[..24])?;
+    assert_eq!(rt; name.as_slice(), &name_of_ones()[..25]);
+    Ok(())
+}
+
+#[test]
+fn reads_128_numbers(rt: HostRuntime) -> Result<(), Fail> {
+    let name = Oid::read_ber(rt.alloc(), &content_of_ones()[..127])?;
+    assert_eq!(rt; name.as_slice(), name_of_ones().as_slice());
+    Ok(())
+}
+
+#[test]
+fn refuses_129_numbers_of_a_content(rt: HostRuntime) {
+    assert_eq!(rt;
+        Oid::read_ber(rt.alloc(), &content_of_ones()).err(),
+        Some(OidFault::BadContent)
+    );
 }
 
 #[test]
