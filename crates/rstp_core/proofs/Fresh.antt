@@ -12,7 +12,11 @@ use Rattle.rstp_rules.specs.declared.port.State.{State}
 use Rattle.rstp_rules.specs.declared.row.Line.{Line}
 use Rattle.rstp_rules.specs.declared.row.Row.{Row}
 use Rattle.rstp_rules.specs.declared.row.Timing.{Timing}
-use Rattle.rstp_rules.specs.Ports.{is_designated, is_root_or_designated, is_forwarding}
+use Rattle.rstp_rules.specs.declared.settled.SettledPort.{SettledPort}
+use Rattle.rstp_rules.specs.declared.config.PortConfig.{PortConfig}
+use Rattle.rstp_settings.specs.Table.{Table}
+use Rattle.rstp_rules.specs.Lines.{line_of}
+use Rattle.rstp_rules.specs.Ports.{is_designated, is_root_or_designated, is_discarding}
 use Rattle.rstp_rules.specs.Roles.{expired}
 use Rattle.rstp_rules.specs.Restarts.{restarted, switched, linked, is_renewed, renewed, edged, settled_anew}
 use Rattle.rstp_rules.specs.Arrivals.{is_superior, marked, recorded, offered, answered, by_role, taken, received, acknowledged, told}
@@ -20,16 +24,13 @@ use Rattle.rstp_rules.specs.Ticks.{ticked}
 use Rattle.rstp_rules.specs.Transitions.{started, spread}
 use Rattle.rstp_core.proofs.Keeps.{IsStill}
 
--- Its number is n and its id is id; it was in the state st at the start of the event.
-pub record IsFresh (n tag : ℕ) (enabled : Bool) (st : State) (r : Row) : Type 0 where
-  pub number : r.line.number ≡ n
-  pub id : r.line.id ≡ tag
-  pub cost : 1 ≤ r.line.cost
-  pub on : r.line.on ≡ (enabled && r.port.link)
+-- It is port n, with configuration c and settled values w, under the settings s; it was in the state st at the start of the event.
+pub record IsFresh (s : Table) (w : SettledPort) (n : ℕ) (c : PortConfig) (st : State) (r : Row) : Type 0 where
+  pub line : r.line ≡ line_of s w n c r.port.link
   pub was : r.was.role ≡ r.port.role
   pub still : IsStill r
   pub off : r.line.on ≡ false → r.port.role ≡ Disabled
-  pub left : is_forwarding st ≡ true → (is_root_or_designated r.port.role ≡ true) ⊎ (r.flushed ≡ true)
+  pub left : is_discarding st ≡ false → (is_root_or_designated r.port.role ≡ true) ⊎ (r.flushed ≡ true)
 
 -- What a message, a tick and the ages keep.
 pub record Same (r q : Row) : Type 0 where
@@ -57,16 +58,13 @@ Same-if : (b : Bool) (r x y : Row) → Same r x → Same r y → Same r (cond b 
 Same-if true r x y h i = h
 Same-if false r x y h i = i
 
-pub Fresh-same : (n id : ℕ) (e : Bool) (st : State) (r q : Row) → IsFresh n id e st r → Same r q → IsFresh n id e st q
-Fresh-same n id e st r q h s = record {
-  number = ap (λ l. l.number) s.line ∙ h.number;
-  id = ap (λ l. l.id) s.line ∙ h.id;
-  cost = subst (λ (l : Line). 1 ≤ l.cost) (sym s.line) h.cost;
-  on = ap (λ l. l.on) s.line ∙ (h.on ∙ ap (λ k. e && k) (sym s.link));
-  was = ap (λ b. b.role) s.was ∙ (h.was ∙ sym s.role);
-  still = λ i. s.state ∙ h.still (ap is_root_or_designated (sym s.role) ∙ i);
-  off = λ i. s.role ∙ h.off (ap (λ l. l.on) (sym s.line) ∙ i);
-  left = λ i. elim (h.left i) [ inl a ↦ inl (ap is_root_or_designated s.role ∙ a) | inr f ↦ inr (s.flushed f) ];
+pub Fresh-same : (s : Table) (w : SettledPort) (n : ℕ) (c : PortConfig) (st : State) (r q : Row) → IsFresh s w n c st r → Same r q → IsFresh s w n c st q
+Fresh-same s w n c st r q h k = record {
+  line = k.line ∙ (h.line ∙ ap (line_of s w n c) (sym k.link));
+  was = ap (λ b. b.role) k.was ∙ (h.was ∙ sym k.role);
+  still = λ i. k.state ∙ h.still (ap is_root_or_designated (sym k.role) ∙ i);
+  off = λ i. k.role ∙ h.off (ap (λ l. l.on) (sym k.line) ∙ i);
+  left = λ i. elim (h.left i) [ inl a ↦ inl (ap is_root_or_designated k.role ∙ a) | inr f ↦ inr (k.flushed f) ];
 }
 
 -- the ages, and a tick
@@ -120,39 +118,37 @@ pub told-same : (t : Timing) (own : BridgeId) (n : ℕ) (b : Bpdu) (change : Boo
 told-same t own n b change r = Same-if _ r _ _ (Same-if _ r _ r (acknowledged-same b r) (same r)) (Same-if _ r _ r (spread-same t r) (same r))
 
 -- a restart
-restarted-fresh : (n id : ℕ) (e : Bool) (st : State) (r : Row) → r.line.number ≡ n → r.line.id ≡ id → 1 ≤ r.line.cost → r.line.on ≡ (e && r.port.link) → IsFresh n id e st (restarted r)
-restarted-fresh n id e st r number id' cost on = record {
-  number = number;
-  id = id';
-  cost = cost;
-  on = on;
+restarted-fresh : (s : Table) (w : SettledPort) (n : ℕ) (c : PortConfig) (st : State) (r : Row) → r.line ≡ line_of s w n c r.port.link → IsFresh s w n c st (restarted r)
+restarted-fresh s w n c st r line = record {
+  line = line;
   was = refl;
   still = λ _. refl;
   off = λ _. refl;
   left = λ _. inr refl;
 }
 
+Fresh-if : (s : Table) (w : SettledPort) (n : ℕ) (c : PortConfig) (st : State) (b : Bool) (x y : Row) → (b ≡ true → IsFresh s w n c st x) → (b ≡ false → IsFresh s w n c st y) → IsFresh s w n c st (cond b x y)
+Fresh-if s w n c st true x y h i = h refl
+Fresh-if s w n c st false x y h i = i refl
+
+-- a port is on where it is enabled and its link is up
+on_is : (s : Table) (w : SettledPort) (n : ℕ) (c : PortConfig) (r : Row) → r.line ≡ line_of s w n c r.port.link → r.line.on ≡ (r.line.enabled && r.port.link)
+on_is s w n c r line = ap (λ (l : Line). l.on) line ∙ ap (λ (b : Bool). b && r.port.link) (sym (ap (λ (l : Line). l.enabled) line))
+
 -- a link
-Fresh-if : (n id : ℕ) (e : Bool) (st : State) (b : Bool) (x y : Row) → (b ≡ true → IsFresh n id e st x) → (b ≡ false → IsFresh n id e st y) → IsFresh n id e st (cond b x y)
-Fresh-if n id e st true x y h i = h refl
-Fresh-if n id e st false x y h i = i refl
-
-pub linked-fresh : (n id : ℕ) (e : Bool) (st : State) (m : ℕ) (up : Bool) (r : Row) → r.line.enabled ≡ e → IsFresh n id e st r → IsFresh n id e st (linked m up r)
-linked-fresh n id e st m up r en h = Fresh-if n id e st _ (switched up r) r (λ _. switch) (λ _. h) where
-  moved : Row
-  moved = record r { line = record r.line { on = r.line.enabled && up }; port = record r.port { link = up } }
-
-  on : (r.line.enabled && up) ≡ (e && up)
-  on = ap (λ b. b && up) en
+pub linked-fresh : (s : Table) (w : SettledPort) (n : ℕ) (c : PortConfig) (st : State) (m : ℕ) (up : Bool) (r : Row) → IsFresh s w n c st r → IsFresh s w n c st (linked m up r)
+linked-fresh s w n c st m up r h = Fresh-if s w n c st _ (switched up r) r (λ _. switch) (λ _. h) where
+  line : record r.line { on = r.line.enabled && up } ≡ line_of s w n c up
+  line = ap (λ (l : Line). record l { on = l.enabled && up }) h.line
 
   disabled : r.line.enabled ≡ false → r.line.on ≡ false
-  disabled not_so = h.on ∙ ap (λ b. b && r.port.link) (sym en ∙ not_so)
+  disabled not_so = on_is s w n c r h.line ∙ ap (λ b. b && r.port.link) not_so
 
-  stays : r.line.enabled ≡ false → IsFresh n id e st (record r { line = record r.line { on = r.line.enabled && up }; port = record r.port { link = up } })
-  stays not_so = record { number = h.number; id = h.id; cost = h.cost; on = on; was = h.was; still = h.still; off = λ _. h.off (disabled not_so); left = h.left }
+  stays : r.line.enabled ≡ false → IsFresh s w n c st (record r { line = record r.line { on = r.line.enabled && up }; port = record r.port { link = up } })
+  stays not_so = record { line = line; was = h.was; still = h.still; off = λ _. h.off (disabled not_so); left = h.left }
 
-  switch : IsFresh n id e st (switched up r)
-  switch = Fresh-if n id e st r.line.enabled _ _ (λ _. restarted-fresh n id e st (record r { line = record r.line { on = r.line.enabled && up }; port = record r.port { link = up } }) h.number h.id h.cost on) (λ not_so. stays not_so)
+  switch : IsFresh s w n c st (switched up r)
+  switch = Fresh-if s w n c st r.line.enabled _ _ (λ _. restarted-fresh s w n c st (record r { line = record r.line { on = r.line.enabled && up }; port = record r.port { link = up } }) line) (λ not_so. stays not_so)
 
 -- settling
 kept : (v k e w : Bool) → (v || (k && cond e (not w) w)) ≡ false → (e && k) ≡ false → (w && k) ≡ false
@@ -163,18 +159,15 @@ kept true true false w h i = cc
 kept false true false true h i = cc
 kept false true false false h i = refl
 
-pub settled-fresh : (n id : ℕ) (e : Bool) (st : State) (v : Bool) (r : Row) → r.line.number ≡ n → r.line.id ≡ id → 1 ≤ r.line.cost → r.line.enabled ≡ e → r.line.on ≡ (e && r.port.link) → r.was.role ≡ r.port.role → IsStill r → ((r.line.was_enabled && r.port.link) ≡ false → r.port.role ≡ Disabled) → (is_forwarding st ≡ true → is_root_or_designated r.port.role ≡ true) → IsFresh n id e st (settled_anew v r)
-settled-fresh n id e st v r number id' cost en on was still off left =
+pub settled-fresh : (s : Table) (w : SettledPort) (n : ℕ) (c : PortConfig) (st : State) (v : Bool) (r : Row) → r.line ≡ line_of s w n c r.port.link → r.was.role ≡ r.port.role → IsStill r → ((r.line.was_enabled && r.port.link) ≡ false → r.port.role ≡ Disabled) → (is_discarding st ≡ false → is_root_or_designated r.port.role ≡ true) → IsFresh s w n c st (settled_anew v r)
+settled-fresh s w n c st v r line was still off left =
     let new = renewed v r in
-    Fresh-same n id e st new (settled_anew v r) anew (Same-trans new (edged new) _ (Same-if _ new _ new (record { line = refl; was = refl; role = refl; state = refl; link = refl; flushed = λ i. i }) (same new)) (Same-if _ (edged new) _ (edged new) (record { line = refl; was = refl; role = refl; state = refl; link = refl; flushed = λ i. i }) (same (edged new)))) where
-      anew : IsFresh n id e st (renewed v r)
-      anew = Fresh-if n id e st (is_renewed v r) (restarted r) r (λ _. restarted-fresh n id e st r number id' cost on) (λ not_so. record {
-        number = number;
-        id = id';
-        cost = cost;
-        on = on;
+    Fresh-same s w n c st new (settled_anew v r) anew (Same-trans new (edged new) _ (Same-if _ new _ new (record { line = refl; was = refl; role = refl; state = refl; link = refl; flushed = λ i. i }) (same new)) (Same-if _ (edged new) _ (edged new) (record { line = refl; was = refl; role = refl; state = refl; link = refl; flushed = λ i. i }) (same (edged new)))) where
+      anew : IsFresh s w n c st (renewed v r)
+      anew = Fresh-if s w n c st (is_renewed v r) (restarted r) r (λ _. restarted-fresh s w n c st r line) (λ not_so. record {
+        line = line;
         was = was;
         still = still;
-        off = λ i. off (kept v r.port.link r.line.enabled r.line.was_enabled not_so (ap (λ b. b && r.port.link) en ∙ (sym on ∙ i)));
+        off = λ i. off (kept v r.port.link r.line.enabled r.line.was_enabled not_so (sym (on_is s w n c r line) ∙ i));
         left = λ i. inl (left i);
       })

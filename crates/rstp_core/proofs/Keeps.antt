@@ -20,18 +20,20 @@ IsStill r = is_root_or_designated r.port.role ≡ false → r.port.state ≡ Dis
 pub record Keeps (r q : Row) : Type 0 where
   pub line : q.line ≡ r.line
   pub role : q.port.role ≡ r.port.role
+  pub info : q.port.info ≡ r.port.info
   pub vector : q.port.vector ≡ r.port.vector
   pub link : q.port.link ≡ r.port.link
   pub flushed : r.flushed ≡ true → q.flushed ≡ true
   pub still : IsStill r → IsStill q
 
 pub Keeps-refl : (r : Row) → Keeps r r
-Keeps-refl r = record { line = refl; role = refl; vector = refl; link = refl; flushed = λ e. e; still = λ h. h }
+Keeps-refl r = record { line = refl; role = refl; info = refl; vector = refl; link = refl; flushed = λ e. e; still = λ h. h }
 
 pub Keeps-trans : (r q p : Row) → Keeps r q → Keeps q p → Keeps r p
 Keeps-trans r q p h i = record {
   line = i.line ∙ h.line;
   role = i.role ∙ h.role;
+  info = i.info ∙ h.info;
   vector = i.vector ∙ h.vector;
   link = i.link ∙ h.link;
   flushed = λ e. i.flushed (h.flushed e);
@@ -43,10 +45,11 @@ Keeps-if true r x y h i = h refl
 Keeps-if false r x y h i = i
 
 -- a step that changes none of these
-Keeps-same : (r q : Row) → q.line ≡ r.line → q.port.role ≡ r.port.role → q.port.vector ≡ r.port.vector → q.port.link ≡ r.port.link → q.flushed ≡ r.flushed → q.port.state ≡ r.port.state → Keeps r q
-Keeps-same r q l o v k f s = record {
+Keeps-same : (r q : Row) → q.line ≡ r.line → q.port.role ≡ r.port.role → q.port.info ≡ r.port.info → q.port.vector ≡ r.port.vector → q.port.link ≡ r.port.link → q.flushed ≡ r.flushed → q.port.state ≡ r.port.state → Keeps r q
+Keeps-same r q l o i v k f s = record {
   line = l;
   role = o;
+  info = i;
   vector = v;
   link = k;
   flushed = λ e. f ∙ e;
@@ -54,19 +57,19 @@ Keeps-same r q l o v k f s = record {
 }
 
 pub delayed-keeps : (c : Context) (r : Row) → Keeps r (delayed c r)
-delayed-keeps c r = Keeps-if _ r _ r (λ _. Keeps-same r _ refl refl refl refl refl refl) (Keeps-refl r)
+delayed-keeps c r = Keeps-if _ r _ r (λ _. Keeps-same r _ refl refl refl refl refl refl refl) (Keeps-refl r)
 
 pub retired-keeps : (c : Context) (r : Row) → Keeps r (retired c r)
-retired-keeps c r = Keeps-if _ r _ r (λ _. Keeps-same r _ refl refl refl refl refl refl) (Keeps-refl r)
+retired-keeps c r = Keeps-if _ r _ r (λ _. Keeps-same r _ refl refl refl refl refl refl refl) (Keeps-refl r)
 
 pub disagreed-keeps : (r : Row) → Keeps r (disagreed r)
-disagreed-keeps r = Keeps-if _ r _ r (λ _. Keeps-same r _ refl refl refl refl refl refl) (Keeps-refl r)
+disagreed-keeps r = Keeps-if _ r _ r (λ _. Keeps-same r _ refl refl refl refl refl refl refl) (Keeps-refl r)
 
 pub rested-keeps : (r : Row) → Keeps r (rested r)
-rested-keeps r = Keeps-if _ r _ r (λ _. Keeps-same r _ refl refl refl refl refl refl) (Keeps-refl r)
+rested-keeps r = Keeps-if _ r _ r (λ _. Keeps-same r _ refl refl refl refl refl refl refl) (Keeps-refl r)
 
 pub announced-keeps : (c : Context) (r : Row) → Keeps r (announced c r)
-announced-keeps c r = Keeps-if _ r _ r (λ _. Keeps-same r _ refl refl refl refl refl refl) (Keeps-refl r)
+announced-keeps c r = Keeps-if _ r _ r (λ _. Keeps-same r _ refl refl refl refl refl refl refl) (Keeps-refl r)
 
 -- c after a and b
 pub turned-keeps : (c : Context) (r : Row) → Keeps (blocked r) (turned c r)
@@ -86,7 +89,7 @@ waiting c r = record r { port = record r.port { state = Discarding; forward_whil
 
 pub synced-keeps : (c : Context) (r : Row) → Keeps r (synced c r)
 synced-keeps c r =
-    Keeps-if (is_root r.port.role) r (agreeing r) (cond (is_designated r.port.role && not r.port.edge && not r.port.agreed && not (is_discarding r.port.state)) (waiting c r) r) (λ _. Keeps-same r (agreeing r) refl refl refl refl refl refl) (Keeps-if (is_designated r.port.role && not r.port.edge && not r.port.agreed && not (is_discarding r.port.state)) r (waiting c r) r (λ _. record { line = refl; role = refl; vector = refl; link = refl; flushed = λ e. e; still = λ _ _. refl }) (Keeps-refl r))
+    Keeps-if (is_root r.port.role) r (agreeing r) (cond (is_designated r.port.role && not r.port.edge && not r.port.agreed && not (is_discarding r.port.state)) (waiting c r) r) (λ _. Keeps-same r (agreeing r) refl refl refl refl refl refl refl) (Keeps-if (is_designated r.port.role && not r.port.edge && not r.port.agreed && not (is_discarding r.port.state)) r (waiting c r) r (λ _. record { line = refl; role = refl; info = refl; vector = refl; link = refl; flushed = λ e. e; still = λ _ _. refl }) (Keeps-refl r))
 
 active : (v clear e : Bool) (o : Role) → (v && (is_root o && clear || is_designated o && e)) ≡ true → is_root_or_designated o ≡ true
 active v clear e Root h = refl
@@ -103,10 +106,11 @@ first_of_both true b e = refl
 first_of_both false b e = cc
 
 -- a step that gives an active port another state
-Keeps-active : (r q : Row) → q.line ≡ r.line → q.port.role ≡ r.port.role → q.port.vector ≡ r.port.vector → q.port.link ≡ r.port.link → q.flushed ≡ r.flushed → is_root_or_designated r.port.role ≡ true → Keeps r q
-Keeps-active r q l o v k f a = record {
+Keeps-active : (r q : Row) → q.line ≡ r.line → q.port.role ≡ r.port.role → q.port.info ≡ r.port.info → q.port.vector ≡ r.port.vector → q.port.link ≡ r.port.link → q.flushed ≡ r.flushed → is_root_or_designated r.port.role ≡ true → Keeps r q
+Keeps-active r q l o i v k f a = record {
   line = l;
   role = o;
+  info = i;
   vector = v;
   link = k;
   flushed = λ e. f ∙ e;
@@ -115,13 +119,13 @@ Keeps-active r q l o v k f a = record {
 
 pub advanced-keeps : (c : Context) (clear : Bool) (r : Row) → Keeps r (advanced c clear r)
 advanced-keeps c clear r =
-    Keeps-if _ r _ _ (λ e. Keeps-active r _ refl refl refl refl refl (active c.timing.rstp_version clear (r.port.edge || r.port.agreed) r.port.role e)) (Keeps-if _ r _ r (λ e. Keeps-active r _ refl refl refl refl refl (first_of_both (is_root_or_designated r.port.role) _ e)) (Keeps-refl r))
+    Keeps-if _ r _ _ (λ e. Keeps-active r _ refl refl refl refl refl refl (active c.timing.rstp_version clear (r.port.edge || r.port.agreed) r.port.role e)) (Keeps-if _ r _ r (λ e. Keeps-active r _ refl refl refl refl refl refl (first_of_both (is_root_or_designated r.port.role) _ e)) (Keeps-refl r))
 
 pub started-keeps : (t : Timing) (r : Row) → Keeps r (started t r)
-started-keeps t r = Keeps-if _ r _ r (λ _. Keeps-same r _ refl refl refl refl refl refl) (Keeps-refl r)
+started-keeps t r = Keeps-if _ r _ r (λ _. Keeps-same r _ refl refl refl refl refl refl refl) (Keeps-refl r)
 
 Keeps-flush : (r q : Row) → Keeps r q → Keeps r (record q { flushed = true })
-Keeps-flush r q h = record { line = h.line; role = h.role; vector = h.vector; link = h.link; flushed = λ _. refl; still = h.still }
+Keeps-flush r q h = record { line = h.line; role = h.role; info = h.info; vector = h.vector; link = h.link; flushed = λ _. refl; still = h.still }
 
 pub spread-keeps : (t : Timing) (r : Row) → Keeps r (spread t r)
 spread-keeps t r = Keeps-if _ r _ r (λ _. Keeps-flush r (started t r) (started-keeps t r)) (Keeps-refl r)
@@ -131,11 +135,11 @@ spread_but-keeps t n r = Keeps-if _ r r _ (λ _. Keeps-refl r) (spread-keeps t r
 
 pub begun-keeps : (t : Timing) (r : Row) → Keeps r (begun t r)
 begun-keeps t r =
-    let one = Keeps-same r (counted r) refl refl refl refl refl refl in
+    let one = Keeps-same r (counted r) refl refl refl refl refl refl refl in
     Keeps-if _ r (counted r) _ (λ _. one) (Keeps-trans r (counted r) (started t (counted r)) one (started-keeps t (counted r)))
 
 pub greeted-keeps : (t : Timing) (r : Row) → Keeps r (greeted t r)
-greeted-keeps t r = Keeps-if _ r _ r (λ _. Keeps-same r _ refl refl refl refl refl refl) (Keeps-refl r)
+greeted-keeps t r = Keeps-if _ r _ r (λ _. Keeps-same r _ refl refl refl refl refl refl refl) (Keeps-refl r)
 
 pub sent-keeps : (c : Context) (r : Row) → Keeps r (sent c r)
-sent-keeps c r = Keeps-if _ r _ _ (λ _. Keeps-same r _ refl refl refl refl refl refl) (Keeps-if _ r r _ (λ _. Keeps-refl r) (Keeps-same r _ refl refl refl refl refl refl))
+sent-keeps c r = Keeps-if _ r _ _ (λ _. Keeps-same r _ refl refl refl refl refl refl refl) (Keeps-if _ r r _ (λ _. Keeps-refl r) (Keeps-same r _ refl refl refl refl refl refl refl))

@@ -4,5 +4,9 @@ pub mod Keeps
 pub mod Fresh
 pub mod Roled
 pub mod Places
+pub mod Happenings
+pub mod LegalTrees
+pub mod TreeLaws
 pub mod RunLaws
 pub mod Functions
+pub mod TurnsClosed

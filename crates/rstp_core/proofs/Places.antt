@@ -1,8 +1,9 @@
 -- Rows by their place.
-use Rattle.std.proofs.Common.{◌≡◌, ℕ, zero, suc, ◌+◌, ◌<◌, Bool, true, false, cond, List, [], ◌∷◌, length, get_or, set, map, inl, inr, refl, sym, ap, ◌∙◌, arith, Contains}
+use Rattle.std.proofs.Common.{◌≡◌, ℕ, zero, suc, ◌+◌, ◌<◌, Bool, true, false, cond, List, [], ◌∷◌, length, get_or, set, map, ◌⊎◌, inl, inr, refl, sym, ap, ◌∙◌, arith, Contains, All}
 use Rattle.std.specs.List.{filter_map, filter}
 use Rattle.std.specs.Prelude.{Option, Some, None}
-use Rattle.std.proofs.lemmas.List.{get_or-set_same, get_or-set_other, get_or-map, length-map, length-set}
+use Rattle.std.proofs.lemmas.List.{get_or-set_same, get_or-set_other, get_or-map, length-map, length-set, get_or_default}
+use Rattle.std.proofs.lemmas.List.Elements.{All-contains, All-cons, All-head}
 use Rattle.std.proofs.lemmas.Bool.Decides.{eqb_tells}
 use Rattle.frame_core.specs.declared.bpdu.BridgeId.{BridgeId}
 use Rattle.rstp_settings.specs.Table.{Table}
@@ -13,7 +14,7 @@ use Rattle.rstp_rules.specs.declared.row.Best.{Best}
 use Rattle.rstp_rules.specs.declared.row.Context.{Context}
 use Rattle.rstp_rules.specs.declared.row.Timing.{Timing}
 use Rattle.rstp_rules.specs.Lines.{row_of, no_config}
-use Rattle.rstp_rules.specs.Roles.{candidate}
+use Rattle.rstp_rules.specs.Roles.{candidate, candidates, own_best, beats, IsBest}
 use Rattle.rstp_rules.specs.Transitions.{turned, synced, synced_all, advanced, advanced_all, no_recent_root}
 use Rattle.rstp_rules.specs.Turns.{no_row, spread_but, begun, turn_at, first_turns, turns}
 use Rattle.rstp_rules.specs.Ticks.{greeted}
@@ -97,6 +98,9 @@ keep-ready tick c rows =
 pub keep-sent : (c : Context) (rows : List Row) → AllKeep rows (map (sent c) rows)
 keep-sent c rows = keep-map (sent c) rows (sent-keeps c)
 
+some_none : (b : Best) → Some b ≡ None → ⊥
+some_none b e = cc
+
 -- where a candidate comes from
 pub record IsFrom (own : BridgeId) (rows : List Row) (b : Best) : Type 0 where
   pub place : ℕ
@@ -123,3 +127,45 @@ pub contains_flushed : (rows : List Row) (k n : ℕ) → k < length rows → (ge
 contains_flushed [] k n h e f = absurd (omega arith)
 contains_flushed (r ∷ rows) zero n h e f = rw f (0, omega arith, e)
 contains_flushed (r ∷ rows) (suc k) n h e f = contains_rest r.flushed r (filter (λ x. x.flushed) rows) n (contains_flushed rows k n (omega arith) e f)
+
+-- and what a row offers is a candidate
+pub contains_candidate : (own : BridgeId) (rows : List Row) (b : Best) (k : ℕ) → k < length rows → candidate own (get_or rows k no_row) ≡ Some b → Contains (filter_map (candidate own) rows) b
+contains_candidate own [] b k h e = absurd (omega arith)
+contains_candidate own (r ∷ rows) b zero h e = rw e (0, omega arith, refl)
+contains_candidate own (r ∷ rows) b (suc k) h e = by (candidate own r) refl (contains_candidate own rows b k (omega arith) e) where
+  by : (o : Option Best) → candidate own r ≡ o → Contains (filter_map (candidate own) rows) b → Contains (filter_map (candidate own) (r ∷ rows)) b
+  by None n c = rw n c
+  by (Some x) n c = rw n (suc c.0, omega (arith, c.1), c.2)
+
+-- What rows offer less than others did.
+pub record OfferLess (own : BridgeId) (best : Best) (old new : List Row) : Type 0 where
+  pub same : length new ≡ length old
+  pub less : (k : ℕ) → k < length old → (candidate own (get_or new k no_row) ≡ None) ⊎ (candidate own (get_or new k no_row) ≡ candidate own (get_or old k no_row))
+  pub root : (k : ℕ) → k < length old → candidate own (get_or old k no_row) ≡ Some best → candidate own (get_or new k no_row) ≡ Some best
+
+-- The best of the candidates stays the best where the others only become fewer.
+best_one : (own : BridgeId) (best : Best) (old new : List Row) → OfferLess own best old new → (k : ℕ) → k < length (candidates own old) → get_or (candidates own old) k best ≡ best → Contains (candidates own new) best
+best_one own best old new h zero b e = (0, omega arith, e)
+best_one own best old new h (suc k) b e =
+    let from = candidate_from own old best k (omega arith) e in
+    let within : from.place < length new = omega (arith, from.within, h.same) in
+    let c = contains_candidate own new best from.place within (h.root from.place from.within from.offers) in
+    (suc c.0, omega (arith, c.1), c.2)
+
+best_least : (own : BridgeId) (best : Best) (old new : List Row) → OfferLess own best old new → All (λ c. beats c best ≡ false) (candidates own old) → All (λ c. beats c best ≡ false) (filter_map (candidate own) new)
+best_least own best old new h all = λ k d b.
+    let c = get_or (filter_map (candidate own) new) k d in
+    let from = candidate_from own new c k b (get_or_default (filter_map (candidate own) new) k c d b) in
+    let within : from.place < length old = omega (arith, from.within, h.same) in
+    elim (h.less from.place within) [
+      | inl e ↦ absurd (some_none c (sym from.offers ∙ e))
+      | inr e ↦
+          let old_one = contains_candidate own old c from.place within (sym e ∙ from.offers) in
+          All-contains (λ x. beats x best ≡ false) (candidates own old) c all (suc old_one.0, omega (arith, old_one.1), old_one.2)
+    ]
+
+pub best_stays : (own : BridgeId) (best : Best) (old new : List Row) → OfferLess own best old new → IsBest (candidates own old) best → IsBest (candidates own new) best
+best_stays own best old new h b = record {
+  one = best_one own best old new h b.one.0 b.one.1 b.one.2;
+  least = All-cons (λ c. beats c best ≡ false) (own_best own) (filter_map (candidate own) new) (All-head (λ c. beats c best ≡ false) (own_best own) (filter_map (candidate own) old) b.least) (best_least own best old new h b.least);
+}

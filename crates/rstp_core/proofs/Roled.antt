@@ -1,23 +1,152 @@
 -- A port once its role is chosen, and what that comes to.
-use Rattle.std.proofs.Common.{◌≡◌, ℕ, Bool, true, false, cond, ◌&&◌, not, ◌⊎◌, inl, inr, refl, sym, ap, ◌∙◌, eqb}
+use Rattle.std.proofs.Common.{◌≡◌, ℕ, ◌+◌, Bool, true, false, cond, ◌&&◌, not, ◌⊎◌, inl, inr, refl, sym, ap, subst, ◌∙◌, eqb, min}
+use Rattle.std.specs.Prelude.{Option, Some, None}
+use Rattle.std.specs.Ordering.{is_lt}
+use Rattle.std.proofs.lemmas.Bool.Decides.{eqb_tells}
 use Rattle.frame_core.specs.declared.bpdu.BridgeId.{BridgeId}
+use Rattle.frame_core.specs.declared.bpdu.PriorityVector.{PriorityVector}
+use Rattle.rstp_settings.specs.Table.{Table}
+use Rattle.rstp_rules.specs.declared.config.PortConfig.{PortConfig}
+use Rattle.rstp_rules.specs.declared.settled.SettledPort.{SettledPort}
+use Rattle.rstp_rules.specs.declared.port.Info.{Info}
+use Rattle.rstp_rules.specs.declared.port.Info.TheVariants.{Mine, Received}
 use Rattle.rstp_rules.specs.declared.port.Role.{Role}
 use Rattle.rstp_rules.specs.declared.port.Role.TheVariants.{Disabled, Designated, Root, Alternate, Backup}
 use Rattle.rstp_rules.specs.declared.port.State.{State}
 use Rattle.rstp_rules.specs.declared.port.State.TheVariants.{Discarding}
 use Rattle.rstp_rules.specs.declared.row.Row.{Row}
 use Rattle.rstp_rules.specs.declared.row.Best.{Best}
+use Rattle.rstp_rules.specs.declared.row.Line.{Line}
 use Rattle.rstp_rules.specs.declared.row.Context.{Context}
-use Rattle.rstp_rules.specs.Ports.{is_received, is_root_or_designated, is_alternate_or_backup, same_role, is_forwarding}
-use Rattle.std.specs.Ordering.{is_lt}
+use Rattle.rstp_rules.specs.Ports.{is_received, is_root_or_designated, is_alternate_or_backup, same_role, is_discarding}
+use Rattle.rstp_rules.specs.Lines.{line_of}
 use Rattle.rstp_rules.specs.Vectors.{vector_cmp, same_mac}
-use Rattle.rstp_rules.specs.Roles.{designated_vector, designated, with_role}
+use Rattle.rstp_rules.specs.Roles.{with_role, candidate}
 use Rattle.rstp_rules.specs.Transitions.{has_changed_role, blocked, turned}
 use Rattle.rstp_core.proofs.Keeps.{IsStill, Keeps, turned-keeps}
 use Rattle.rstp_core.proofs.Fresh.{IsFresh}
 
+-- What the choice of a role gives a port.
+pub record Choice : Type 0 where
+  pub info : Info
+  pub role : Role
+  pub vector : PriorityVector
+
+-- By the tests of the choice: the port is on; the root vector came by it; its designated vector is better; its vector is of
+-- this bridge.
+abbrev pub choice : Bool → Bool → Bool → Bool → PriorityVector → Info → PriorityVector → Choice
+choice on first better mine own i v =
+    cond (not on) (record { info = i; role = Disabled; vector = own }) (cond (not (is_received i)) (record { info = Mine; role = Designated; vector = own }) (cond first (record { info = i; role = Root; vector = v }) (cond better (record { info = Mine; role = Designated; vector = own }) (cond mine (record { info = i; role = Backup; vector = v }) (record { info = i; role = Alternate; vector = v })))))
+
+abbrev pub own_vector : BridgeId → Best → ℕ → PriorityVector
+own_vector own best id = record { root = best.vector.root; cost = best.vector.cost; bridge = own; port = id }
+
+abbrev pub choice_of : BridgeId → Best → Bool → ℕ → Info → PriorityVector → Choice
+choice_of own best on id i v =
+    let w = own_vector own best id in
+    choice on (eqb best.receiver id) (is_lt (vector_cmp w v)) (same_mac v.bridge.address own.address) w i v
+
+abbrev pub with_choice : Row → Choice → Row
+with_choice r x = record r { port = record r.port { info = x.info; role = x.role; vector = x.vector } }
+
+five : (r : Row) (b1 b2 b3 b4 b5 : Bool) (x1 x2 x3 x4 x5 x6 : Choice) → cond b1 (with_choice r x1) (cond b2 (with_choice r x2) (cond b3 (with_choice r x3) (cond b4 (with_choice r x4) (cond b5 (with_choice r x5) (with_choice r x6))))) ≡ with_choice r (cond b1 x1 (cond b2 x2 (cond b3 x3 (cond b4 x4 (cond b5 x5 x6)))))
+five r true b2 b3 b4 b5 x1 x2 x3 x4 x5 x6 = refl
+five r false true b3 b4 b5 x1 x2 x3 x4 x5 x6 = refl
+five r false false true b4 b5 x1 x2 x3 x4 x5 x6 = refl
+five r false false false true b5 x1 x2 x3 x4 x5 x6 = refl
+five r false false false false true x1 x2 x3 x4 x5 x6 = refl
+five r false false false false false x1 x2 x3 x4 x5 x6 = refl
+
+abbrev pub row_choice : BridgeId → Best → Row → Choice
+row_choice own best r = choice_of own best r.line.on r.line.id r.port.info r.port.vector
+
+-- the choice of a role writes these three
+pub with_role-is : (own : BridgeId) (best : Best) (r : Row) → with_role own best r ≡ with_choice r (row_choice own best r)
+with_role-is own best r =
+    let w = own_vector own best r.line.id in
+    let i = r.port.info in
+    let v = r.port.vector in
+    five r (not r.line.on) (not (is_received i)) (eqb best.receiver r.line.id) (is_lt (vector_cmp w v)) (same_mac v.bridge.address own.address) (record { info = i; role = Disabled; vector = w }) (record { info = Mine; role = Designated; vector = w }) (record { info = i; role = Root; vector = v }) (record { info = Mine; role = Designated; vector = w }) (record { info = i; role = Backup; vector = v }) (record { info = i; role = Alternate; vector = v })
+
+-- a choice that is made again is the same
+again : (on first : Bool) (better mine : PriorityVector → Bool) (b m : Bool) (own : PriorityVector) (i : Info) (v : PriorityVector) → better v ≡ b → mine v ≡ m → (let x = choice on first b m own i v in choice on first (better x.vector) (mine x.vector) own x.info x.vector ≡ x)
+again false first better mine b m own i v e f = refl
+again true first better mine b m own Mine v e f = refl
+again true true better mine b m own Received v e f = refl
+again true false better mine true m own Received v e f = refl
+again true false better mine false true own Received v e f =
+    ap (λ (k : Bool). choice true false k (mine v) own Received v) e ∙ ap (λ (k : Bool). choice true false false k own Received v) f
+again true false better mine false false own Received v e f =
+    ap (λ (k : Bool). choice true false k (mine v) own Received v) e ∙ ap (λ (k : Bool). choice true false false k own Received v) f
+
+choice-again : (own : BridgeId) (best : Best) (on : Bool) (id : ℕ) (i : Info) (v : PriorityVector) → (let x = choice_of own best on id i v in choice_of own best on id x.info x.vector ≡ x)
+choice-again own best on id i v =
+    let w = own_vector own best id in
+    again on (eqb best.receiver id) (λ u. is_lt (vector_cmp w u)) (λ u. same_mac u.bridge.address own.address) _ _ w i v refl refl
+
+apart : (b : Bool) → b ≡ true → b ≡ false → ⊥
+apart true e i = cc
+apart false e i = cc
+
+pub choice-off : (on first b m : Bool) (own : PriorityVector) (i : Info) (v : PriorityVector) → on ≡ false → (choice on first b m own i v).role ≡ Disabled
+choice-off true first b m own i v e = cc
+choice-off false first b m own i v e = refl
+
+choice-disabled : (on first b m : Bool) (own : PriorityVector) (i : Info) (v : PriorityVector) → (choice on first b m own i v).role ≡ Disabled → on ≡ false
+choice-disabled false first b m own i v e = refl
+choice-disabled true first b m own Mine v e = cc
+choice-disabled true true b m own Received v e = cc
+choice-disabled true false true m own Received v e = cc
+choice-disabled true false false true own Received v e = cc
+choice-disabled true false false false own Received v e = cc
+
+-- the root port is the one by which the root vector came
+pub choice-root : (on first b m : Bool) (own : PriorityVector) (i : Info) (v : PriorityVector) → (choice on first b m own i v).role ≡ Root → first ≡ true
+choice-root on true b m own i v e = refl
+choice-root false false b m own i v e = cc
+choice-root true false b m own Mine v e = cc
+choice-root true false true m own Received v e = cc
+choice-root true false false true own Received v e = cc
+choice-root true false false false own Received v e = cc
+
+pub choice-first : (on first b m : Bool) (own : PriorityVector) (i : Info) (v : PriorityVector) → on ≡ true → is_received i ≡ true → first ≡ true → (choice on first b m own i v).role ≡ Root
+choice-first false first b m own i v e f g = cc
+choice-first true first b m own Mine v e f g = cc
+choice-first true false b m own Received v e f g = cc
+choice-first true true b m own Received v e f g = refl
+
+-- What a port offers for the root vector.
+abbrev pub offer_of : BridgeId → Bool → ℕ → ℕ → Info → PriorityVector → Option Best
+offer_of own on cost id i v =
+    cond (on && is_received i && not (same_mac v.bridge.address own.address)) (Some (record { vector = record v { cost = min (v.cost + cost) 4294967295 }; receiver = id })) None
+
+abbrev pub row_offer : BridgeId → Row → Option Best
+row_offer own r = offer_of own r.line.on r.line.cost r.line.id r.port.info r.port.vector
+
+-- by its role a port offers nothing more, and nothing else
+offer-less : (own : BridgeId) (cost id : ℕ) (on first b m : Bool) (w : PriorityVector) (i : Info) (v : PriorityVector) → (let x = choice on first b m w i v in (offer_of own on cost id x.info x.vector ≡ None) ⊎ (offer_of own on cost id x.info x.vector ≡ offer_of own on cost id i v))
+offer-less own cost id false first b m w i v = inl refl
+offer-less own cost id true first b m w Mine v = inl refl
+offer-less own cost id true true b m w Received v = inr refl
+offer-less own cost id true false true m w Received v = inl refl
+offer-less own cost id true false false true w Received v = inr refl
+offer-less own cost id true false false false w Received v = inr refl
+
+pub offered_if : (t : Bool) (x b : Best) → cond t (Some x) None ≡ Some b → (t ≡ true) × (x ≡ b)
+offered_if true x b e = (refl, cc)
+offered_if false x b e = cc
+
+-- the root vector is still offered
+offer-root : (own : BridgeId) (cost id : ℕ) (best : Best) (on first b m : Bool) (w : PriorityVector) (i : Info) (v : PriorityVector) → eqb best.receiver id ≡ first → offer_of own on cost id i v ≡ Some best → (let x = choice on first b m w i v in offer_of own on cost id x.info x.vector ≡ Some best)
+offer-root own cost id best false first b m w i v f e = cc
+offer-root own cost id best true first b m w Mine v f e = cc
+offer-root own cost id best true true b m w Received v f e = e
+offer-root own cost id best true false b m w Received v f e =
+    let same : id ≡ best.receiver = ap (λ (x : Best). x.receiver) (offered_if (not (same_mac v.bridge.address own.address)) (record { vector = record v { cost = min (v.cost + cost) 4294967295 }; receiver = id }) best e).1 in
+    absurd (elim (eqb_tells best.receiver id) [ inl t ↦ apart (eqb best.receiver id) t.0 f | inr d ↦ d.1 (sym same) ])
+
 -- The choice of a role, from the row a to the row r.
-record Roles (best : Best) (a r : Row) : Type 0 where
+record Roles (own : BridgeId) (best : Best) (a r : Row) : Type 0 where
   line : r.line ≡ a.line
   link : r.port.link ≡ a.port.link
   was : r.was ≡ a.was
@@ -25,12 +154,47 @@ record Roles (best : Best) (a r : Row) : Type 0 where
   flushed : r.flushed ≡ a.flushed
   off : a.line.on ≡ false → r.port.role ≡ Disabled
   disabled : r.port.role ≡ Disabled → a.line.on ≡ false
-  root : r.port.role ≡ Root → eqb best.receiver a.line.id ≡ true
-  heard : r.port.role ≡ Root → r.port.vector ≡ a.port.vector
+  chosen : with_role own best r ≡ r
+  less : (row_offer own r ≡ None) ⊎ (row_offer own r ≡ row_offer own a)
+  root : row_offer own a ≡ Some best → row_offer own r ≡ Some best
 
-Roles-if : (root : Best) (a : Row) (b : Bool) (x y : Row) → (b ≡ true → Roles root a x) → (b ≡ false → Roles root a y) → Roles root a (cond b x y)
-Roles-if root a true x y h i = h refl
-Roles-if root a false x y h i = i refl
+with_choice-roles : (own : BridgeId) (best : Best) (a : Row) → Roles own best a (with_choice a (row_choice own best a))
+with_choice-roles own best a =
+    let w = own_vector own best a.line.id in
+    let i = a.port.info in
+    let v = a.port.vector in
+    let x = row_choice own best a in
+    record {
+      line = refl;
+      link = refl;
+      was = refl;
+      state = refl;
+      flushed = refl;
+      off = λ e. choice-off a.line.on _ _ _ w i v e;
+      disabled = λ e. choice-disabled a.line.on _ _ _ w i v e;
+      chosen = with_role-is own best (with_choice a x) ∙ ap (with_choice (with_choice a x)) (choice-again own best a.line.on a.line.id i v);
+      less = offer-less own a.line.cost a.line.id a.line.on _ _ _ w i v;
+      root = offer-root own a.line.cost a.line.id best a.line.on _ _ _ w i v refl;
+    }
+
+with_role-roles : (own : BridgeId) (best : Best) (a : Row) → Roles own best a (with_role own best a)
+with_role-roles own best a = subst (Roles own best a) (sym (with_role-is own best a)) (with_choice-roles own best a)
+
+-- a row that has the port's line, information, role and vector has its role too
+pub chosen-keeps : (own : BridgeId) (best : Best) (r q : Row) → with_role own best r ≡ r → q.line.on ≡ r.line.on → q.line.id ≡ r.line.id → q.port.info ≡ r.port.info → q.port.role ≡ r.port.role → q.port.vector ≡ r.port.vector → with_role own best q ≡ q
+chosen-keeps own best r q h on id info role vector =
+    with_role-is own best q ∙ ap (with_choice q) same where
+      here : Choice
+      here = record { info = r.port.info; role = r.port.role; vector = r.port.vector }
+
+      there : row_choice own best r ≡ (record { info = r.port.info; role = r.port.role; vector = r.port.vector })
+      there = ap (λ (y : Row). record { info = y.port.info; role = y.port.role; vector = y.port.vector }) (sym (with_role-is own best r) ∙ h)
+
+      same : row_choice own best q ≡ (record { info = q.port.info; role = q.port.role; vector = q.port.vector })
+      same = (λ k. choice_of own best (on k) (id k) (info k) (vector k)) ∙ (there ∙ (λ k. record { info = sym info k; role = sym role k; vector = sym vector k }))
+
+pub offer-keeps : (own : BridgeId) (r q : Row) → q.line.on ≡ r.line.on → q.line.cost ≡ r.line.cost → q.line.id ≡ r.line.id → q.port.info ≡ r.port.info → q.port.vector ≡ r.port.vector → row_offer own q ≡ row_offer own r
+offer-keeps own r q on cost id info vector = λ k. offer_of own (on k) (cost k) (id k) (info k) (vector k)
 
 opposite : (b c : Bool) → not b ≡ c → b ≡ not c
 opposite true true e = cc
@@ -38,71 +202,29 @@ opposite true false e = refl
 opposite false true e = refl
 opposite false false e = cc
 
-apart : (b : Bool) → b ≡ true → b ≡ false → ⊥
-apart true e i = cc
-apart false e i = cc
-
-abbrev off_row : BridgeId → Best → Row → Row
-off_row own root a = record a { port = record a.port { role = Disabled; vector = designated_vector own root a.line } }
-
-abbrev in_role : Role → Row → Row
-in_role o a = record a { port = record a.port { role = o } }
-
-off-roles : (own : BridgeId) (root : Best) (a : Row) → a.line.on ≡ false → Roles root a (off_row own root a)
-off-roles own root a e = record { line = refl; link = refl; was = refl; state = refl; flushed = refl; off = λ _. refl; disabled = λ _. e; root = λ i. cc; heard = λ i. cc }
-
-designated-roles : (own : BridgeId) (root : Best) (a : Row) → a.line.on ≡ true → Roles root a (designated own root a)
-designated-roles own root a e = record { line = refl; link = refl; was = refl; state = refl; flushed = refl; off = λ i. absurd (apart a.line.on e i); disabled = λ i. cc; root = λ i. cc; heard = λ i. cc }
-
-root-roles : (root : Best) (a : Row) → a.line.on ≡ true → eqb root.receiver a.line.id ≡ true → Roles root a (in_role Root a)
-root-roles root a e r = record { line = refl; link = refl; was = refl; state = refl; flushed = refl; off = λ i. absurd (apart a.line.on e i); disabled = λ i. cc; root = λ _. r; heard = λ _. refl }
-
-backup-roles : (root : Best) (a : Row) → a.line.on ≡ true → Roles root a (in_role Backup a)
-backup-roles root a e = record { line = refl; link = refl; was = refl; state = refl; flushed = refl; off = λ i. absurd (apart a.line.on e i); disabled = λ i. cc; root = λ i. cc; heard = λ i. cc }
-
-alternate-roles : (root : Best) (a : Row) → a.line.on ≡ true → Roles root a (in_role Alternate a)
-alternate-roles root a e = record { line = refl; link = refl; was = refl; state = refl; flushed = refl; off = λ i. absurd (apart a.line.on e i); disabled = λ i. cc; root = λ i. cc; heard = λ i. cc }
-
-with_role-roles : (own : BridgeId) (root : Best) (a : Row) → Roles root a (with_role own root a)
-with_role-roles own root a =
-    let b1 = not a.line.on in
-    let b2 = not (is_received a.port.info) in
-    let b3 = eqb root.receiver a.line.id in
-    let b4 = is_lt (vector_cmp (designated_vector own root a.line) a.port.vector) in
-    let b5 = same_mac a.port.vector.bridge.address own.address in
-    let y4 = cond b5 (in_role Backup a) (in_role Alternate a) in
-    let y3 = cond b4 (designated own root a) y4 in
-    let y2 = cond b3 (in_role Root a) y3 in
-    let y1 = cond b2 (designated own root a) y2 in
-    Roles-if root a b1 (off_row own root a) y1 (λ e. off-roles own root a (opposite a.line.on true e)) (λ e.
-    let on : a.line.on ≡ true = opposite a.line.on false e in
-    Roles-if root a b2 (designated own root a) y2 (λ _. designated-roles own root a on) (λ _.
-    Roles-if root a b3 (in_role Root a) y3 (λ r. root-roles root a on r) (λ _.
-    Roles-if root a b4 (designated own root a) y4 (λ _. designated-roles own root a on) (λ _.
-    Roles-if root a b5 (in_role Backup a) (in_role Alternate a) (λ _. backup-roles root a on) (λ _. alternate-roles root a on)))))
-
 -- A port once all is done, whose state was st at the start of the event, and which a was as the roles were chosen.
-pub record IsDone (n tag : ℕ) (enabled : Bool) (st : State) (best : Best) (a r : Row) : Type 0 where
-  pub number : r.line.number ≡ n
-  pub id : r.line.id ≡ tag
-  pub on : r.line.on ≡ (enabled && r.port.link)
+pub record IsDone (s : Table) (w : SettledPort) (n : ℕ) (c : PortConfig) (st : State) (own : BridgeId) (best : Best) (a r : Row) : Type 0 where
+  pub line : r.line ≡ line_of s w n c r.port.link
   pub still : IsStill r
-  pub off : r.line.on ≡ false → r.port.role ≡ Disabled
-  pub root : r.port.role ≡ Root → eqb best.receiver tag ≡ true
-  pub heard : r.port.role ≡ Root → r.port.vector ≡ a.port.vector
-  pub left : is_forwarding st ≡ true → is_root_or_designated r.port.role ≡ false → r.flushed ≡ true
+  pub chosen : with_role own best r ≡ r
+  pub less : (row_offer own r ≡ None) ⊎ (row_offer own r ≡ row_offer own a)
+  pub root : row_offer own a ≡ Some best → row_offer own r ≡ Some best
+  pub left : is_discarding st ≡ false → is_root_or_designated r.port.role ≡ false → r.flushed ≡ true
 
-pub Done-keeps : (n id : ℕ) (e : Bool) (st : State) (root : Best) (a r q : Row) → IsDone n id e st root a r → Keeps r q → IsDone n id e st root a q
-Done-keeps n id e st root a r q h k = record {
-  number = ap (λ l. l.number) k.line ∙ h.number;
-  id = ap (λ l. l.id) k.line ∙ h.id;
-  on = ap (λ l. l.on) k.line ∙ (h.on ∙ ap (λ b. e && b) (sym k.link));
-  still = k.still h.still;
-  off = λ i. k.role ∙ h.off (ap (λ l. l.on) (sym k.line) ∙ i);
-  root = λ i. h.root (sym k.role ∙ i);
-  heard = λ i. k.vector ∙ h.heard (sym k.role ∙ i);
-  left = λ f i. k.flushed (h.left f (ap is_root_or_designated (sym k.role) ∙ i));
-}
+pub Done-keeps : (s : Table) (w : SettledPort) (n : ℕ) (c : PortConfig) (st : State) (own : BridgeId) (best : Best) (a r q : Row) → IsDone s w n c st own best a r → Keeps r q → IsDone s w n c st own best a q
+Done-keeps s w n c st own best a r q h k =
+    let on = ap (λ (l : Line). l.on) k.line in
+    let cost = ap (λ (l : Line). l.cost) k.line in
+    let id = ap (λ (l : Line). l.id) k.line in
+    let offer : row_offer own q ≡ row_offer own r = offer-keeps own r q on cost id k.info k.vector in
+    record {
+      line = k.line ∙ (h.line ∙ ap (line_of s w n c) (sym k.link));
+      still = k.still h.still;
+      chosen = chosen-keeps own best r q h.chosen on id k.info k.role k.vector;
+      less = elim h.less [ inl e ↦ inl (offer ∙ e) | inr e ↦ inr (offer ∙ e) ];
+      root = λ e. offer ∙ h.root e;
+      left = λ f i. k.flushed (h.left f (ap is_root_or_designated (sym k.role) ∙ i));
+    }
 
 same_role-is : (x y : Role) → same_role x y ≡ true → x ≡ y
 same_role-is Disabled Disabled e = refl
@@ -120,49 +242,37 @@ kinds w Designated h e = cc
 kinds w Alternate h e = inr (same_role-is w Alternate (opposite (same_role w Alternate) false h))
 kinds w Backup h e = inr (same_role-is w Backup (opposite (same_role w Backup) false h))
 
-Done-if : (n id : ℕ) (e : Bool) (st : State) (root : Best) (a : Row) (b : Bool) (x y : Row) → (b ≡ true → IsDone n id e st root a x) → (b ≡ false → IsDone n id e st root a y) → IsDone n id e st root a (cond b x y)
-Done-if n id e st root a true x y h i = h refl
-Done-if n id e st root a false x y h i = i refl
+Done-if : (s : Table) (w : SettledPort) (n : ℕ) (c : PortConfig) (st : State) (own : BridgeId) (best : Best) (a : Row) (b : Bool) (x y : Row) → (b ≡ true → IsDone s w n c st own best a x) → (b ≡ false → IsDone s w n c st own best a y) → IsDone s w n c st own best a (cond b x y)
+Done-if s w n c st own best a true x y h i = h refl
+Done-if s w n c st own best a false x y h i = i refl
 
-blocked-done : (n id : ℕ) (e : Bool) (st : State) (root : Best) (a r : Row) → IsFresh n id e st a → Roles root a r → IsDone n id e st root a (blocked r)
-blocked-done n id e st root a r f c =
-    Done-if n id e st root a _ _ r (λ _. record { number = number; id = id'; on = on; still = λ _. refl; off = off; root = chosen; heard = c.heard; left = λ _ _. refl }) (λ not_so. record { number = number; id = id'; on = on; still = λ i. still not_so i; off = off; root = chosen; heard = c.heard; left = λ s i. left not_so s i }) where
-      number : r.line.number ≡ n
-      number = ap (λ l. l.number) c.line ∙ f.number
-
-      id' : r.line.id ≡ id
-      id' = ap (λ l. l.id) c.line ∙ f.id
-
-      on : r.line.on ≡ (e && r.port.link)
-      on = ap (λ l. l.on) c.line ∙ (f.on ∙ ap (λ b. e && b) (sym c.link))
-
-      off : r.line.on ≡ false → r.port.role ≡ Disabled
-      off i = c.off (ap (λ l. l.on) (sym c.line) ∙ i)
-
-      chosen : r.port.role ≡ Root → eqb root.receiver id ≡ true
-      chosen i = ap (λ x. eqb root.receiver x) (sym f.id) ∙ c.root i
+blocked-done : (s : Table) (w : SettledPort) (n : ℕ) (c : PortConfig) (st : State) (own : BridgeId) (best : Best) (a r : Row) → IsFresh s w n c st a → Roles own best a r → IsDone s w n c st own best a (blocked r)
+blocked-done s w n c st own best a r f h =
+    Done-if s w n c st own best a _ _ r (λ _. record { line = line; still = λ _. refl; chosen = chosen-keeps own best r _ h.chosen refl refl refl refl refl; less = h.less; root = h.root; left = λ _ _. refl }) (λ not_so. record { line = line; still = λ i. still not_so i; chosen = h.chosen; less = h.less; root = h.root; left = λ k i. left not_so k i }) where
+      line : r.line ≡ line_of s w n c r.port.link
+      line = h.line ∙ (f.line ∙ ap (line_of s w n c) (sym h.link))
 
       before : r.was.role ≡ a.port.role
-      before = ap (λ b. b.role) c.was ∙ f.was
+      before = ap (λ b. b.role) h.was ∙ f.was
 
       -- the port was neither root nor designated
       idle : (is_alternate_or_backup r.port.role && has_changed_role r) ≡ false → is_root_or_designated r.port.role ≡ false → is_root_or_designated a.port.role ≡ false
       idle not_so i = elim (kinds r.was.role r.port.role not_so i) [
-        | inl d ↦ ap is_root_or_designated (f.off (c.disabled d))
-        | inr w ↦ ap is_root_or_designated (sym before ∙ w) ∙ i
+        | inl d ↦ ap is_root_or_designated (f.off (h.disabled d))
+        | inr o ↦ ap is_root_or_designated (sym before ∙ o) ∙ i
       ]
 
       still : (is_alternate_or_backup r.port.role && has_changed_role r) ≡ false → is_root_or_designated r.port.role ≡ false → r.port.state ≡ Discarding
-      still not_so i = c.state ∙ f.still (idle not_so i)
+      still not_so i = h.state ∙ f.still (idle not_so i)
 
-      left : (is_alternate_or_backup r.port.role && has_changed_role r) ≡ false → is_forwarding st ≡ true → is_root_or_designated r.port.role ≡ false → r.flushed ≡ true
-      left not_so s i = elim (f.left s) [
+      left : (is_alternate_or_backup r.port.role && has_changed_role r) ≡ false → is_discarding st ≡ false → is_root_or_designated r.port.role ≡ false → r.flushed ≡ true
+      left not_so k i = elim (f.left k) [
         | inl active ↦ let clash : true ≡ false = sym active ∙ idle not_so i in cc
-        | inr gone ↦ c.flushed ∙ gone
+        | inr gone ↦ h.flushed ∙ gone
       ]
 
 -- from the event's own part to the states
-pub turned-done : (n id : ℕ) (e : Bool) (st : State) (own : BridgeId) (root : Best) (c : Context) (a : Row) → IsFresh n id e st a → IsDone n id e st root a (turned c (with_role own root a))
-turned-done n id e st own root c a f =
-    let r = with_role own root a in
-    Done-keeps n id e st root a (blocked r) (turned c r) (blocked-done n id e st root a r f (with_role-roles own root a)) (turned-keeps c r)
+pub turned-done : (s : Table) (w : SettledPort) (n : ℕ) (p : PortConfig) (st : State) (own : BridgeId) (best : Best) (c : Context) (a : Row) → IsFresh s w n p st a → IsDone s w n p st own best a (turned c (with_role own best a))
+turned-done s w n p st own best c a f =
+    let r = with_role own best a in
+    Done-keeps s w n p st own best a (blocked r) (turned c r) (blocked-done s w n p st own best a r f (with_role-roles own best a)) (turned-keeps c r)

@@ -4,3 +4,4 @@ pub mod Tree
 pub mod TreeInside
 pub mod Runs
 pub mod Steps
+pub mod Legal

@@ -6,8 +6,7 @@ use Rattle.frame_core.specs.declared.bpdu.Bpdu.{Bpdu}
 use Rattle.rstp_settings.specs.Table.{Table, opening, spent}
 use Rattle.rstp_rules.specs.declared.config.PortConfig.{PortConfig}
 use Rattle.rstp_rules.specs.declared.port.Role.TheVariants.{Root}
-use Rattle.rstp_rules.specs.declared.row.Row.{Row}
-use Rattle.rstp_rules.specs.Ports.{is_root_or_designated, is_forwarding}
+use Rattle.rstp_rules.specs.Ports.{is_root_or_designated, is_discarding}
 use Rattle.rstp_core.specs.declared.rstp.Outcome.{Outcome}
 use Rattle.rstp_core.specs.Tree.{Tree, port_at, opening_tree, Ticks, Arrives, Links, Settles}
 
@@ -28,14 +27,14 @@ Happens (Link n up) s t r u out = (r ≡ s) × Links s n up t u out
 Happens (Message n b) s t r u out = (r ≡ s) × Arrives s n b t u out
 Happens (Settle v) s t r u out = (r ≡ spent v) × Settles v t u out
 
--- A list of happenings, the latest first, leads from the opening to the settings s and the tree t.
-abbrev pub Runs : Mac → List PortConfig → List Happening → Table → Tree → Type 0
-Runs address configs [] s t = (s ≡ opening (length configs)) × (t ≡ opening_tree address configs)
-Runs address configs (h ∷ past) r u = (s : Table) × (t : Tree) × (out : Outcome) × Runs address configs past s t × Happens h s t r u out
+-- A list of happenings, the latest first, leads from the settings s and the tree t to the settings r and the tree u.
+abbrev pub Leads : Table → Tree → List Happening → Table → Tree → Type 0
+Leads s t [] r u = (r ≡ s) × (u ≡ t)
+Leads s t (h ∷ past) r u = (v : Table) × (w : Tree) × (out : Outcome) × Leads s t past v w × Happens h v w r u out
 
--- A port that forwards is on, and is a root or designated port.
-abbrev pub MayForward : Row → Type 0
-MayForward r = is_forwarding r.port.state ≡ true → (r.line.on ≡ true) × (is_root_or_designated r.port.role ≡ true)
+-- It leads there from the opening.
+abbrev pub Runs : Mac → List PortConfig → List Happening → Table → Tree → Type 0
+Runs address configs hs s t = Leads (opening (length configs)) (opening_tree address configs) hs s t
 
 pub record IsPort (t : Tree) (n : ℕ) : Type 0 where
   pub first : 1 ≤ n
@@ -45,8 +44,8 @@ pub record IsRootPort (t : Tree) (n : ℕ) : Type 0 where
   pub port : IsPort t n
   pub root : (port_at t n).role ≡ Root
 
--- A port that forwarded is now disabled, alternate or backup.
-pub record LeavesForwarding (t u : Tree) (n : ℕ) : Type 0 where
+-- A port that learned or forwarded is now disabled, alternate or backup.
+pub record LeavesActivity (t u : Tree) (n : ℕ) : Type 0 where
   pub port : IsPort t n
-  pub forwarded : is_forwarding (port_at t n).state ≡ true
+  pub learned : is_discarding (port_at t n).state ≡ false
   pub now : is_root_or_designated (port_at u n).role ≡ false

@@ -5,56 +5,82 @@
 //! Not true here, and not claimed: that the learned rows of a port go when it is blocked by synchronization (they stay); that no
 //! port forwards while it is off between a change of its enable setting and settling it, and, where its link goes down in between,
 //! until it starts anew.
-ghost use Rattle.std.specs.Prelude.{◌≡◌, ◌≢◌, ◌≤◌, ◌↔◌, ℕ, Bool, List, length, All, Contains};
+ghost use Rattle.std.specs.Prelude.{◌≡◌, ◌≢◌, ◌≤◌, ◌↔◌, ℕ, Bool, List, length, map, All, Contains};
 ghost use Rattle.frame_core.specs.declared.bpdu.Bpdu.{Bpdu};
 ghost use Rattle.frame_core.specs.declared.mac.Mac.{Mac};
 ghost use Rattle.rstp_settings.specs.Table.{Table};
 ghost use Rattle.rstp_rules.specs.declared.config.PortConfig.{PortConfig};
 ghost use Rattle.rstp_rules.specs.declared.row.Best.{Best};
+ghost use Rattle.rstp_rules.specs.declared.row.Row.{Row};
+ghost use Rattle.rstp_rules.specs.declared.row.Timing.{Timing};
+ghost use Rattle.rstp_rules.specs.Turns.{turns, another_starts, told_of_changes, AreDistinct};
 ghost use Rattle.rstp_rules.specs.Lines.{own_id};
 ghost use Rattle.rstp_rules.specs.Roles.{IsBest};
 ghost use Rattle.rstp_core.specs.declared.rstp.Outcome.{Outcome};
 ghost use Rattle.rstp_core.specs.Tree.{Tree, rows_of, port_at, Ticks, Arrives, Links, Settles};
 ghost use Rattle.rstp_core.specs.Steps.{tick_step, arrival_step, link_step, settling_step, IsStep};
-ghost use Rattle.rstp_core.specs.Runs.{Happening, Happens, Runs, MayForward, IsRootPort, LeavesForwarding};
+ghost use Rattle.rstp_core.specs.Runs.{Happening, Happens, Runs, IsRootPort, LeavesActivity};
+ghost use Rattle.rstp_core.specs.Legal.{MayLearn, HasRoles, IsLegal};
+
+use rstp_settings::settings::MAX_PORTS;
 
 /// There is one root vector.
 pub fn root_is_one()
     ensures { (bs : List Best) (a b : Best) → IsBest bs a → IsBest bs b → a ≡ b }
 {}
 
-/// No port forwards while it is off, disabled, alternate or backup.
-pub fn only_active_ports_forward()
+/// After every run settings and tree are legal.
+pub fn runs_are_legal()
     ensures { (a : Mac) (cs : List PortConfig) (hs : List Happening) (s : Table) (t : Tree)
-        → Runs a cs hs s t → All MayForward (rows_of s t) }
+        → Runs a cs hs s t → IsLegal s t }
+{}
+
+/// The roles are those of the whole tree: the root vector is the best of the candidates of the ports as they are, and each port
+/// has the role, and the vector, that it gives (17.21.25).
+pub fn roles_of_the_whole_tree()
+    ensures { (a : Mac) (cs : List PortConfig) (hs : List Happening) (s : Table) (t : Tree)
+        → Runs a cs hs s t → HasRoles s t }
+{}
+
+/// No port learns or forwards while it is off, disabled, alternate or backup.
+pub fn only_active_ports_learn_or_forward()
+    ensures { (a : Mac) (cs : List PortConfig) (hs : List Happening) (s : Table) (t : Tree)
+        → Runs a cs hs s t → All MayLearn (rows_of s t) }
 {}
 
 /// At most one port is the root port.
 pub fn root_port_is_one()
     ensures { (a : Mac) (cs : List PortConfig) (hs : List Happening) (s : Table) (t : Tree)
-        → length cs ≤ 32 → Runs a cs hs s t
+        → length cs ≤ MAX_PORTS → Runs a cs hs s t
         → (m n : ℕ) → IsRootPort t m → IsRootPort t n → m ≡ n }
 {}
 
 /// The address in the bridge identifier of a root port's vector is another bridge's.
 pub fn root_port_hears_another()
     ensures { (a : Mac) (cs : List PortConfig) (hs : List Happening) (s : Table) (t : Tree)
-        → length cs ≤ 32 → Runs a cs hs s t
+        → length cs ≤ MAX_PORTS → Runs a cs hs s t
         → (n : ℕ) → IsRootPort t n → (port_at t n).vector.bridge.address ≢ a }
 {}
 
-/// Where the root is this bridge by its whole identifier, priority included, there is no root port.
+/// Where the root is this bridge by its whole identifier, priority included, there is no root port, and nowhere else.
 pub fn root_bridge_has_no_root_port()
     ensures { (a : Mac) (cs : List PortConfig) (hs : List Happening) (s : Table) (t : Tree)
-        → length cs ≤ 32 → Runs a cs hs s t → t.facts.root.vector.root ≡ own_id s a
-        → (n : ℕ) → ¬ IsRootPort t n }
+        → Runs a cs hs s t → (t.facts.root.vector.root ≡ own_id s a) ↔ ((n : ℕ) → ¬ IsRootPort t n) }
 {}
 
-/// A port that forwarded and is now disabled, alternate or backup loses its learned rows in that event.
-pub fn leaving_forwarding_flushes()
+/// A port that learned or forwarded and is now disabled, alternate or backup loses its learned rows in that event.
+pub fn leaving_activity_flushes()
     ensures { (a : Mac) (cs : List PortConfig) (hs : List Happening) (s r : Table) (t u : Tree)
         (h : Happening) (out : Outcome) → Runs a cs hs s t → Happens h s t r u out
-        → (n : ℕ) → LeavesForwarding t u n → Contains out.flushed.items n }
+        → (n : ℕ) → LeavesActivity t u n → Contains out.flushed.items n }
+{}
+
+/// Where no two rows are of one port, the turns in ascending order come to one change of each port: it starts a topology change
+/// where it began to forward and is not at the edge; and it tells one, and its learned rows go, where another port starts one and
+/// it is on, root or designated, and not at the edge (17.31).
+pub fn turns_are_one_change()
+    ensures { (t : Timing) (rows : List Row) → AreDistinct rows
+        → turns t rows ≡ map (λ r. told_of_changes t (another_starts rows r) r) rows }
 {}
 
 /// What a tick leaves and gives is what its function says, and nothing else.

@@ -5,6 +5,7 @@
 mod events;
 mod facts;
 pub mod laws;
+pub mod legal;
 mod loops;
 mod roles;
 mod rstp;

@@ -10,12 +10,13 @@ use Rattle.rstp_rules.specs.declared.port.Role.{Role}
 use Rattle.rstp_rules.specs.declared.port.Role.TheVariants.{Disabled, Designated, Root, Alternate, Backup}
 use Rattle.rstp_rules.specs.declared.row.Row.{Row}
 use Rattle.rstp_rules.specs.declared.row.Context.{Context}
+use Rattle.rstp_rules.specs.declared.row.Timing.{Timing}
 use Rattle.rstp_rules.specs.Ports.{is_root, is_designated, is_discarding, is_forwarding}
 use Rattle.rstp_rules.specs.Roles.{designated_vector}
 
--- A port sends RST messages under version 2, unless its neighbour knows none.
-abbrev pub sends_rapid : Context → Row → Bool
-sends_rapid c r = c.timing.rstp_version && r.port.send_rstp
+-- 17.19.38, 17.20.11. A port sends RST messages under version 2, unless its neighbour knows none.
+abbrev pub sends_rapid : Timing → Row → Bool
+sends_rapid t r = t.rstp_version && r.port.send_rstp
 
 -- 17.21.19. A Config message.
 abbrev pub config_of : Context → Row → ConfigBody
@@ -51,8 +52,8 @@ rapid_of c r = record {
 -- while it tells a topology change; other ports nothing.
 abbrev pub due : Context → Row → Option Bpdu
 due c r =
-    if is_designated r.port.role then (if sends_rapid c r then Some (Rapid (rapid_of c r)) else Some (Config (config_of c r)))
-    else (if is_root r.port.role then (if sends_rapid c r then Some (Rapid (rapid_of c r)) else (if nat_lt 0 r.port.change_while then Some TopologyChange else None))
+    if is_designated r.port.role then (if sends_rapid c.timing r then Some (Rapid (rapid_of c r)) else Some (Config (config_of c r)))
+    else (if is_root r.port.role then (if sends_rapid c.timing r then Some (Rapid (rapid_of c r)) else (if nat_lt 0 r.port.change_while then Some TopologyChange else None))
     else None)
 
 -- A pending port sends where it has sent fewer than the hold count.
@@ -70,7 +71,7 @@ sent c r =
       port = record r.port {
         sent_count = r.port.sent_count + 1;
         pending = false;
-        acknowledge = r.port.acknowledge && not (is_designated r.port.role && not (sends_rapid c r));
+        acknowledge = r.port.acknowledge && not (is_designated r.port.role && not (sends_rapid c.timing r));
       };
     }
     else (if is_some (due c r) then r

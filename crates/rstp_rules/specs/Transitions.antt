@@ -9,6 +9,7 @@ use Rattle.rstp_rules.specs.declared.row.Timing.{Timing}
 use Rattle.rstp_rules.specs.declared.port.State.TheVariants.{Discarding, Forwarding}
 use Rattle.rstp_rules.specs.Ports.{is_root_or_designated, is_alternate_or_backup, is_root, is_designated, same_role, is_discarding, is_forwarding, next_state}
 use Rattle.rstp_rules.specs.Vectors.{same_vector, same_times}
+use Rattle.rstp_rules.specs.Sends.{sends_rapid}
 
 abbrev pub has_changed_role : Row → Bool
 has_changed_role r = not (same_role r.was.role r.port.role)
@@ -97,7 +98,7 @@ has_begun r = is_forwarding r.port.state && not (is_forwarding r.was.state)
 -- 17.21.7. For how long a topology change is told: a hello time and a second to neighbours of RST, and else the
 -- maximum age and the forward delay.
 abbrev pub change_time : Timing → Row → ℕ
-change_time t r = if t.rstp_version && r.port.send_rstp then t.hello + 1 else t.max_age + t.forward_delay
+change_time t r = if sends_rapid t r then t.hello + 1 else t.max_age + t.forward_delay
 
 -- 17.21.7. A port starts to tell a topology change, unless it does already.
 abbrev pub started : Timing → Row → Row

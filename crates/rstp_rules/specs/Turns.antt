@@ -1,5 +1,6 @@
 -- Ports that became forwarding start topology changes, each in its turn (IEEE 802.1D-2004 17.31).
-use Rattle.std.specs.Prelude.{ℕ, ◌==◌, false, if◌then◌else◌, List, [], ◌∷◌, map, length, slice_index_or, slice_set}
+use Rattle.std.specs.Prelude.{◌≡◌, ℕ, ◌<◌, Bool, ◌==◌, false, ◌&&◌, not, if◌then◌else◌, List, [], ◌∷◌, map, length, slice_index_or, slice_set}
+use Rattle.std.specs.List.{list_any}
 use Rattle.std.proofs.Common.{zero, suc}
 use Rattle.frame_core.specs.declared.bpdu.BridgeId.{BridgeId}
 use Rattle.frame_core.specs.declared.bpdu.PriorityVector.{PriorityVector}
@@ -48,3 +49,21 @@ first_turns t (suc n) rows = turn_at t (first_turns t n rows) n
 
 abbrev pub turns : Timing → List Row → List Row
 turns t rows = first_turns t (length rows) rows
+
+-- All turns at once. A port starts a topology change where it became forwarding and is not at the edge.
+abbrev pub starts_change : Row → Bool
+starts_change r = has_begun r && not r.port.edge
+
+abbrev pub another_starts : List Row → Row → Bool
+another_starts rows r = list_any (λ q. not (q.line.number == r.line.number) && starts_change q) rows
+
+-- What becomes of a port: it begins to forward; and where another port starts a change, it tells that too.
+abbrev pub told_of_changes : Timing → Bool → Row → Row
+told_of_changes t another r =
+    let own = if has_begun r then begun t r else r in
+    if another then spread t own else own
+
+-- No two rows are of one port.
+abbrev pub AreDistinct : List Row → Type 0
+AreDistinct rows =
+    (i j : ℕ) → i < length rows → j < length rows → (slice_index_or rows i no_row).line.number ≡ (slice_index_or rows j no_row).line.number → i ≡ j

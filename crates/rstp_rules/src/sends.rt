@@ -2,7 +2,7 @@ ghost use Rattle.std.specs.Prelude.{◌≡◌};
 ghost use Rattle.rstp_rules.specs.Sends.{said, sends_rapid, config_of, rapid_of, due, sends, bpdu_of, sent};
 
 use crate::port::Role;
-use crate::row::{Context, Row};
+use crate::row::{Context, Row, Timing};
 use frame_core::{Bpdu, Config, PortRole, Rapid};
 
 impl Role {
@@ -20,10 +20,11 @@ impl Role {
 }
 
 impl Row {
-    fn sends_rapid(&self, context: &Context) -> bool
-        ensures { result ≡ sends_rapid context.now self.now }
+    /// Whether the port sends RST messages (17.19.38, 17.20.11).
+    pub fn sends_rapid(&self, timing: &Timing) -> bool
+        ensures { result ≡ sends_rapid timing.now self.now }
     {
-        context.timing.rstp_version && self.port.send_rstp
+        timing.rstp_version && self.port.send_rstp
     }
 
     fn config(&self, context: &Context) -> Config
@@ -58,7 +59,7 @@ impl Row {
     fn due(&self, context: &Context) -> Option<Bpdu>
         ensures { result ≡ due context.now self.now }
     {
-        let rapid = self.sends_rapid(context);
+        let rapid = self.sends_rapid(&context.timing);
         if self.port.role.is_designated() {
             if rapid {
                 Some(Bpdu::Rapid(self.rapid(context)))
@@ -93,7 +94,7 @@ impl Row {
         }
         self.port.sent_count += 1;
         self.port.pending = false;
-        if self.port.role.is_designated() && !self.sends_rapid(context) {
+        if self.port.role.is_designated() && !self.sends_rapid(&context.timing) {
             self.port.acknowledge = false;
         }
         due

@@ -142,7 +142,7 @@ impl Row {
         requires { IsSmall timing.now }
         ensures { result ≡ change_time timing.now self.now }
     {
-        if timing.rstp_version && self.port.send_rstp {
+        if self.sends_rapid(timing) {
             timing.hello + 1
         } else {
             timing.max_age + timing.forward_delay

@@ -1,0 +1,73 @@
+//! Laws of legal settings and trees: of what holds between events, where each change of settings has been settled. The opening is
+//! legal and each event keeps it, so that these hold after every run, also after one that begins later. Each function does nothing:
+//! its contract is the law.
+ghost use Rattle.std.specs.Prelude.{◌≡◌, ◌≢◌, ◌≤◌, ◌↔◌, ℕ, List, length, Contains};
+ghost use Rattle.frame_core.specs.declared.mac.Mac.{Mac};
+ghost use Rattle.rstp_settings.specs.Table.{Table, opening};
+ghost use Rattle.rstp_rules.specs.declared.config.PortConfig.{PortConfig};
+ghost use Rattle.rstp_rules.specs.Vectors.{port_number};
+ghost use Rattle.rstp_rules.specs.Lines.{own_id};
+ghost use Rattle.rstp_core.specs.declared.rstp.Outcome.{Outcome};
+ghost use Rattle.rstp_core.specs.Tree.{Tree, port_at, opening_tree};
+ghost use Rattle.rstp_core.specs.Runs.{Happening, Happens, Leads, IsRootPort, LeavesActivity};
+ghost use Rattle.rstp_core.specs.Legal.{IsLegal, IsRootBridge, IsSameBridge};
+
+use rstp_settings::settings::MAX_PORTS;
+
+/// The opening is legal.
+pub fn opening_is_legal()
+    ensures { (a : Mac) (cs : List PortConfig) → IsLegal (opening (length cs)) (opening_tree a cs) }
+{}
+
+/// Each event leaves what was legal legal.
+pub fn events_keep_legal()
+    ensures { (h : Happening) (s r : Table) (t u : Tree) (out : Outcome)
+        → IsLegal s t → Happens h s t r u out → IsLegal r u }
+{}
+
+/// A run that begins with legal settings and a legal tree leaves them legal.
+pub fn runs_keep_legal()
+    ensures { (s : Table) (t : Tree) (hs : List Happening) (r : Table) (u : Tree)
+        → IsLegal s t → Leads s t hs r u → IsLegal r u }
+{}
+
+/// The bridge address and the configurations of the ports stay.
+pub fn runs_keep_the_bridge()
+    ensures { (s : Table) (t : Tree) (hs : List Happening) (r : Table) (u : Tree)
+        → IsLegal s t → Leads s t hs r u → IsSameBridge t u }
+{}
+
+/// At most one port is the root port.
+pub fn root_port_is_one()
+    ensures { (s : Table) (t : Tree) → IsLegal s t → length t.ports ≤ MAX_PORTS
+        → (m n : ℕ) → IsRootPort t m → IsRootPort t n → m ≡ n }
+{}
+
+/// The address in the bridge identifier of a root port's vector is another bridge's.
+pub fn root_port_hears_another()
+    ensures { (s : Table) (t : Tree) → IsLegal s t → length t.ports ≤ MAX_PORTS
+        → (n : ℕ) → IsRootPort t n → (port_at t n).vector.bridge.address ≢ t.address }
+{}
+
+/// There is no root port exactly where the root vector is this bridge's own.
+pub fn no_root_port_at_the_root()
+    ensures { (s : Table) (t : Tree) → IsLegal s t → ((n : ℕ) → ¬ IsRootPort t n) ↔ IsRootBridge s t }
+{}
+
+/// The root vector is this bridge's own exactly where the root is this bridge's whole identifier, priority and address.
+pub fn root_is_this_bridge()
+    ensures { (s : Table) (t : Tree) → IsLegal s t
+        → (t.facts.root.vector.root ≡ own_id s t.address) ↔ IsRootBridge s t }
+{}
+
+/// The number of the root port is 0 exactly there.
+pub fn root_port_is_0_at_the_root()
+    ensures { (s : Table) (t : Tree) → IsLegal s t → length t.ports ≤ MAX_PORTS
+        → (port_number t.facts.root.receiver ≡ 0) ↔ IsRootBridge s t }
+{}
+
+/// A port that learned or forwarded and is now disabled, alternate or backup loses its learned rows in that event.
+pub fn leaving_activity_flushes()
+    ensures { (h : Happening) (s r : Table) (t u : Tree) (out : Outcome) → IsLegal s t → Happens h s t r u out
+        → (n : ℕ) → LeavesActivity t u n → Contains out.flushed.items n }
+{}
