@@ -182,3 +182,31 @@ fn adds_a_line_in_memory(rt: HostRuntime) -> Result<(), Fail> {
     );
     Ok(())
 }
+
+#[test]
+fn names_a_long_subtree(rt: HostRuntime) -> Result<(), Fail> {
+    for count in [25, 113] {
+        let mut subtree = String::from_str(rt.alloc(), "1.3")?;
+        for _ in 2..count {
+            subtree.push_str(".1")?;
+        }
+        let family = family_of(rt.alloc(), "v", subtree.as_str())?;
+        let row = row_of("readers")?;
+        let view = named("v")?;
+        let decision = Decision::Allowed { row, view };
+        let mut audit = audit_of(rt.alloc(), Kind::Get, ErrorStatus::NoError, 0, decision);
+        audit.denied.push(Denied {
+            index: 1,
+            family: Some(family),
+        })?;
+        let mut said = Vec::from_slice(
+            rt.alloc(),
+            b"get 0 0 ok access(readers,,2,1) view v denied 1 family(v,",
+        )?;
+        said.extend_from_slice(subtree.as_bytes())?;
+        said.extend_from_slice(b")\n")?;
+        let line = line_of(rt.alloc(), &audit)?;
+        assert_eq!(rt; line.as_slice(), said.as_slice());
+    }
+    Ok(())
+}

@@ -2,5 +2,5 @@ pub mod KeyLemmas
 pub mod RowLemmas
 pub mod Short
 pub mod SaidLemmas
-pub mod Ascii
+pub mod Utf8
 pub mod Indexes

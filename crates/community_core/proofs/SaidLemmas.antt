@@ -6,6 +6,7 @@ use Rattle.std.proofs.lemmas.Bool.{cases_Bool, cases_lt, le-leb, lt-leb, leb-tru
 use Rattle.std.proofs.lemmas.List.Folds.{list_all_at}
 use Rattle.std.proofs.lemmas.List.FromFn.{length-range_with_len, get_or-range_with_len}
 use Rattle.std.proofs.lemmas.Option.{slice_get_within}
+use Rattle.oid_core.specs.declared.oid.TheConstants.{MOST_NUMBERS}
 use Rattle.oid_core.specs.TextValue.{name_of_text, all_of}
 use Rattle.oid_core.proofs.TextValues.{dotted_read, read_dotted, none_dotted}
 use Rattle.toml.specs.Data.{Data, Members, as_table, as_str}
@@ -83,20 +84,20 @@ by_function f = record { row = λ d r e. sym e; none = λ d e. sym e; said = λ 
 -- ---- families
 
 subtree_told : (text name : List ℕ) → subtree_says text (Some name) → subtree_of text ≡ Some name
-subtree_told text name h = rw (dotted_read text name h.0, le-leb (length name) 128 h.1)
+subtree_told text name h = rw (dotted_read text name h.0, le-leb (length name) MOST_NUMBERS h.1)
 
 subtree_none : (text : List ℕ) → subtree_says text None → subtree_of text ≡ None
 subtree_none text (inl none) = rw (none_dotted text none (name_of_text text) refl)
-subtree_none text (inr long) = rw (dotted_read text long.0 long.1, lt-leb (length long.0) 128 long.2)
+subtree_none text (inr long) = rw (dotted_read text long.0 long.1, lt-leb (length long.0) MOST_NUMBERS long.2)
 
 subtree_said : (text name : List ℕ) → subtree_of text ≡ Some name → subtree_says text (Some name)
 subtree_said text name e =
     let b = bound _ (name_of_text text) name e in
-    elim (cases_Bool (leb (length b.0) 128)) [
+    elim (cases_Bool (leb (length b.0) MOST_NUMBERS)) [
       | inl few ↦
           let h = rw few at b.2 in
           let same : b.0 ≡ name = cc in
-          rw (← same) (read_dotted text b.0 b.1, leb-true (length b.0) 128 few)
+          rw (← same) (read_dotted text b.0 b.1, leb-true (length b.0) MOST_NUMBERS few)
       | inr many ↦ absurd (let h = rw many at b.2 in cc)
     ]
 

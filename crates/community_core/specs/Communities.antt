@@ -1,11 +1,11 @@
 -- Communities (RFC 3584, section 5): the rules of their rows, and whom a community name stands for.
-use Rattle.std.specs.Prelude.{ℕ, ◌≤◌, Bool, ◌&&◌, All, List, length, slice_get, bytes_eq, Option, Some, None}
+use Rattle.std.specs.Prelude.{ℕ, Bool, ◌&&◌, List, slice_get, bytes_eq, Option, Some, None}
 use Rattle.std.specs.Cmp.Lexicographic.{slice_cmp}
 use Rattle.std.specs.Ordering.{nat_cmp, is_lt}
 use Rattle.vacm_core.specs.declared.limits.TheConstants.{NAME_MAX}
 use Rattle.vacm_core.specs.Best.{unbeaten}
 use Rattle.vacm_core.specs.Rules.{Rules, rules_of}
-use Rattle.vacm_core.specs.Tables.{Tables, KeysDiffer}
+use Rattle.vacm_core.specs.Tables.{Tables, KeysDiffer, AreWellFormed}
 use Rattle.vacm_core.specs.Texts.{has_length, is_plain}
 use Rattle.community_core.specs.declared.community.Caller.{Caller}
 use Rattle.community_core.specs.declared.community.CommunityRow.{CommunityRow}
@@ -29,10 +29,14 @@ same_index a b = bytes_eq a.index b.index
 abbrev pub community_rules : Rules WrittenCommunity CommunityRow
 community_rules = rules_of community_lengths community_fields community_row same_index
 
--- what holds of the communities that are kept
+-- a kept row as it is written
+abbrev pub written_community : CommunityRow → WrittenCommunity
+written_community row = record { index = row.index; name = row.name; security = row.security; context = row.context }
+
+-- what holds of the communities that are kept: no two have one index, and each row is well formed
 pub record AreSound (rows : List CommunityRow) : Type 0 where
   pub indexes : KeysDiffer same_index rows
-  pub short : All (λ row. length row.name ≤ COMMUNITY_MAX) rows
+  pub well_formed : AreWellFormed community_rules written_community rows
 
 -- a policy as it is kept: the communities and the tables of access control
 pub record PolicyTables : Type 0 where

@@ -1,6 +1,7 @@
 -- The policy that a TOML table says, as a function: each value read as its row, and nothing wrong with any row.
 use Rattle.std.specs.Prelude.{ℕ, ◌&&◌, Bool, nat_le, is_none, length, if◌then◌else◌, List, Option, Some, None}
 use Rattle.std.specs.List.{list_all, range_with_len}
+use Rattle.oid_core.specs.declared.oid.TheConstants.{MOST_NUMBERS}
 use Rattle.oid_core.specs.TextValue.{name_of_text, all_of}
 use Rattle.toml.specs.Data.{Data, Members, as_table, as_str}
 use Rattle.vacm_core.specs.declared.written.WrittenFamily.{WrittenFamily}
@@ -12,9 +13,9 @@ use Rattle.community_core.specs.Communities.{PolicyTables, community_rules}
 use Rattle.community_core.specs.Reading.{◌>=>◌, group_of, access_of, community_of, family_members, mask_of}
 use Rattle.community_core.specs.Policies.{Arrays, arrays_of, policy_tables}
 
--- the name of at most 128 sub-identifiers that a dotted text is
+-- the name of at most MOST_NUMBERS sub-identifiers that a dotted text is
 abbrev pub subtree_of : List ℕ → Option (List ℕ)
-subtree_of text = name_of_text text >=> (λ name. if nat_le (length name) 128 then Some name else None)
+subtree_of text = name_of_text text >=> (λ name. if nat_le (length name) MOST_NUMBERS then Some name else None)
 
 abbrev pub family_with : FamilyTexts → List ℕ → Option WrittenFamily
 family_with t mask =

@@ -1,15 +1,20 @@
--- The policy that a text is.
-use Rattle.std.specs.Prelude.{ℕ, Bool, nat_lt, if◌then◌else◌, List, Option, None}
-use Rattle.std.specs.List.{list_all}
+-- The policy that octets are.
+use Rattle.std.specs.Prelude.{ℕ, if◌then◌else◌, List, Option, Some, None}
+use Rattle.std.specs.Str.{is_utf8}
+use Rattle.toml.specs.Data.{Members}
 use Rattle.toml.specs.Parse.{parse_document}
 use Rattle.community_core.specs.Communities.{PolicyTables}
 use Rattle.community_core.specs.Reading.{◌>=>◌}
 use Rattle.community_core.specs.Said.{policy_said}
 
--- each octet is one of ASCII
-abbrev pub is_ascii_text : List ℕ → Bool
-is_ascii_text text = list_all (λ b. nat_lt b 128) text
+-- the text that octets are: themselves, where they are UTF-8 (RFC 3629, section 3)
+abbrev pub text_of : List ℕ → Option (List ℕ)
+text_of octets = if is_utf8 octets then Some octets else None
 
--- A TOML document of ASCII alone, which says a policy.
+-- the TOML document that octets are
+abbrev pub document_in : List ℕ → Option Members
+document_in octets = text_of octets >=> parse_document
+
+-- UTF-8 and a TOML document, which says a policy
 unfoldable pub policy_in : List ℕ → Option PolicyTables
-policy_in text = if is_ascii_text text then parse_document text >=> policy_said else None
+policy_in octets = document_in octets >=> policy_said

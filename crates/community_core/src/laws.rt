@@ -9,6 +9,8 @@ ghost use Rattle.community_core.specs.Communities.{PolicyTables, same_index, has
 ghost use Rattle.community_core.specs.Policies.{IsPolicy};
 ghost use Rattle.community_core.specs.Said.{policy_said};
 
+use crate::community::COMMUNITY_MAX;
+
 /// The policy of a table is a function of it: `policy_said` gives the policy exactly of the tables that say one of
 /// which nothing is wrong.
 pub fn policy_is_said()
@@ -24,4 +26,9 @@ pub fn some_community_decides()
         → IsUnbeatenAt (has_name name) index_before rows n }
     ensures one { (rows : List CommunityRow) (name : List ℕ) (n m : ℕ) → KeysDiffer same_index rows
         → IsUnbeatenAt (has_name name) index_before rows n → IsUnbeatenAt (has_name name) index_before rows m → n ≡ m }
+{}
+
+/// The limit of a community's name. RFC 3584, section 5, gives snmpCommunityName none; 255 octets is what a request may bear here.
+pub fn limits()
+    ensures { COMMUNITY_MAX ≡ 255 }
 {}

@@ -12,8 +12,8 @@ mod text;
 
 pub use community::{COMMUNITY_MAX, Caller, CommunityRow, WrittenCommunity};
 pub use policy::Policy;
-pub use policy_text::{PolicyRows, policy_of, policy_rows};
-pub use text::policy_in;
+pub use policy_text::{PolicyRows, has_policy_keys, policy_of, policy_rows};
+pub use text::{policy_in, text_of};
 
 #[cfg(test)]
 mod tests;

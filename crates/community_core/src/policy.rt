@@ -6,7 +6,8 @@ use std::alloc::Global;
 use std::marker::Model;
 use vacm_core::{PolicyFault, PolicyTable, Rows, Vacm, checked_rows};
 
-/// Who may read and write what, seen as five lists of rows. No two communities have one index.
+/// Who may read and write what, seen as five lists of rows. No two communities have one index, and each
+/// community's lengths and fields are right.
 #[derive(Drop)]
 pub struct Policy {
     communities: Rows<CommunityRow>,
@@ -25,7 +26,7 @@ impl Model for Policy {
 
 impl Policy {
     ghost use Rattle.vacm_core.specs.Rules.{AreRight, IsFirstFault};
-    ghost use Rattle.community_core.specs.Communities.{community_row, community_rules, caller_of, caller_of_row};
+    ghost use Rattle.community_core.specs.Communities.{community_row, written_community, community_rules, caller_of, caller_of_row};
 
     /// The policy of these communities, as they are written, and these tables.
     ///
@@ -55,7 +56,7 @@ impl Policy {
     }
 
     /// Whom a community name stands for: the row of that name whose index comes first. A name that
-    /// stands for somebody has at most 255 octets.
+    /// stands for somebody has at most [`COMMUNITY_MAX`] octets.
     pub fn caller(&self, name: &[u8]) -> Option<Caller>
         ensures caller { result ≡ caller_of self.now.communities name.now }
         ensures short { IfSome result (λ _. length name.now ≤ COMMUNITY_MAX) }
@@ -64,6 +65,15 @@ impl Policy {
             Some(n) => Some(self.caller_at(n)),
             None => None,
         }
+    }
+
+    /// The law that these communities, as they are written, are rows of which nothing is wrong, and stand for these
+    /// communities: what [`Policy::new`] takes gives the same policy again.
+    pub fn communities_are_right(&self)
+        ensures right { AreRight community_rules (map written_community self.now.communities) }
+        ensures same { map community_row (map written_community self.now.communities) ≡ self.now.communities }
+    {
+        let _ = &self.vacm;
     }
 
     // Whom the row of this number stands for.

@@ -1,7 +1,7 @@
 //! Reads a policy from a TOML table.
-ghost use Rattle.std.specs.Prelude.{◌≡◌, ◌≢◌, ◌⊎◌, IfOk, IfErr, OnOk, map, Some, None};
+ghost use Rattle.std.specs.Prelude.{◌≡◌, ◌≢◌, ◌⊎◌, IfOk, IfErr, OnOk, map, is_some, Some, None};
 ghost use Rattle.toml.specs.View.{table_view, view};
-ghost use Rattle.community_core.specs.Policies.{arrays, AreRowsOf, IsUnreadOf, SaysRows, IsUnread, IsPolicyFault, policy_tables, ArePolicyRowsRight, IsPolicy, IsWrongPolicy};
+ghost use Rattle.community_core.specs.Policies.{arrays, arrays_of, AreRowsOf, IsUnreadOf, SaysRows, IsUnread, IsPolicyFault, policy_tables, ArePolicyRowsRight, IsPolicy, IsWrongPolicy};
 ghost use Rattle.community_core.specs.Said.{policy_said};
 
 use crate::community::WrittenCommunity;
@@ -49,6 +49,32 @@ fn read_arrays(
             contexts,
         },
     })
+}
+
+/// Whether a table has exactly the keys of a policy, `contexts`, `community`, `group`, `access` and `family`, each an array.
+pub fn has_policy_keys(table: &Table) -> bool
+    ensures { result ≡ is_some (arrays_of (table_view table.now)) }
+{
+    let keys = key_count(table);
+    if keys != 5 {
+        return false;
+    }
+    let Some(_groups) = array_at(table, "group") else {
+        return false;
+    };
+    let Some(_access) = array_at(table, "access") else {
+        return false;
+    };
+    let Some(_families) = array_at(table, "family") else {
+        return false;
+    };
+    let Some(_contexts) = array_at(table, "contexts") else {
+        return false;
+    };
+    let Some(_communities) = array_at(table, "community") else {
+        return false;
+    };
+    true
 }
 
 /// The rows that a table says, of any lengths and fields.

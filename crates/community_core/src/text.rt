@@ -1,9 +1,9 @@
-//! Reads a policy from a text.
-ghost use Rattle.std.specs.Prelude.{◌≡◌, true, IfOk, option_map};
+//! Reads a policy from octets.
+ghost use Rattle.std.specs.Prelude.{◌≡◌, IfOk, option_map};
 ghost use Rattle.toml.specs.Parse.{parse_document};
 ghost use Rattle.toml.specs.View.{table_view};
 ghost use Rattle.community_core.specs.Said.{policy_said};
-ghost use Rattle.community_core.specs.Texts.{is_ascii_text, policy_in};
+ghost use Rattle.community_core.specs.Texts.{text_of, policy_in};
 
 use crate::policy::Policy;
 use crate::policy_text::policy_of;
@@ -11,18 +11,21 @@ use std::alloc::{AllocError, Global};
 use toml::Table;
 use vacm_core::PolicyFault;
 
-fn is_ascii_text(text: &[u8]) -> bool
-    ensures { result ≡ is_ascii_text text.now }
+/// The text that octets are: themselves, where they are UTF-8 (RFC 3629, section 3).
+pub fn text_of(octets: &[u8]) -> Option<&str>
+    ensures { option_map (λ text. text.now) result ≡ text_of octets.now }
 {
-    text.iter().all(|octet| *octet < 128)
+    match std::str::from_utf8(octets) {
+        Ok(text) => Some(text),
+        Err(_) => None,
+    }
 }
 
-// The table that a text of ASCII is.
-fn table_of(alloc: Global, text: &[u8]) -> Result<Option<Table>, AllocError>
-    requires { is_ascii_text text.now ≡ true }
+// The table that a text is.
+fn table_of(alloc: Global, text: &str) -> Result<Option<Table>, AllocError>
     ensures { IfOk result (λ table. option_map table_view table ≡ parse_document text.now) }
 {
-    match toml::table_from_slice(alloc, text) {
+    match toml::table_from_str(alloc, text) {
         Ok(table) => Ok(Some(table)),
         Err(error) => {
             if error.is_memory() {
@@ -45,15 +48,15 @@ fn policy_said(alloc: Global, table: &Table) -> Result<Option<Policy>, AllocErro
     }
 }
 
-/// The policy that a text is: a TOML document of ASCII alone, which says a policy as [`policy_of`] reads it. `None` for any other
-/// text. Only memory can fail.
+/// The policy that octets are: UTF-8, and a TOML document, which says a policy as [`policy_of`] reads it. `None` for any other
+/// octets. Only memory can fail.
 #[tactic(auto, unfolding(crate::specs::Texts::policy_in))]
-pub fn policy_in(alloc: Global, text: &[u8]) -> Result<Option<Policy>, AllocError>
-    ensures { IfOk result (λ policy. policy ≡ policy_in text.now) }
+pub fn policy_in(alloc: Global, octets: &[u8]) -> Result<Option<Policy>, AllocError>
+    ensures { IfOk result (λ policy. policy ≡ policy_in octets.now) }
 {
-    if !is_ascii_text(text) {
+    let Some(text) = text_of(octets) else {
         return Ok(None);
-    }
+    };
     match table_of(alloc, text)? {
         Some(table) => policy_said(alloc, &table),
         None => Ok(None),

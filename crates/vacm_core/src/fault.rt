@@ -1,9 +1,11 @@
 //! Why the tables of a policy are refused.
-ghost use Rattle.std.specs.Prelude.{◌≡◌};
+ghost use Rattle.std.specs.Prelude.{◌≡◌, Some};
 ghost use Rattle.vacm_core.specs.declared.fault.PolicyFault.TheVariants.{Memory};
 ghost use Rattle.vacm_core.specs.Rules.{fault_of};
+ghost use Rattle.vacm_core.specs.Names.{table_text};
 
 use std::alloc::{AllocError, AllocFailed};
+use std::fmt;
 use thiserror::Error;
 
 /// The tables of a policy, in the order in which their rows are looked at.
@@ -19,6 +21,21 @@ pub enum PolicyTable {
     Contexts,
     /// The communities (snmpCommunityTable of RFC 3584).
     Communities,
+}
+
+/// The table by its rows, as `groups`.
+impl fmt::Display for PolicyTable {
+    ghost output = { λ table. Some (table_text table) };
+
+    fn fmt<W: fmt::Write>(&self, f: &mut fmt::Formatter<W>) -> fmt::Result {
+        match self {
+            PolicyTable::Groups => write!(f, "groups"),
+            PolicyTable::Access => write!(f, "access"),
+            PolicyTable::Families => write!(f, "families"),
+            PolicyTable::Contexts => write!(f, "contexts"),
+            PolicyTable::Communities => write!(f, "communities"),
+        }
+    }
 }
 
 /// What may be wrong with a row, in the order in which it is looked for.
@@ -39,16 +56,16 @@ pub enum PolicyFault {
     #[error("no memory for the policy")]
     Memory,
     /// The row has the key of an earlier row.
-    #[error("a row has the key of an earlier row")]
+    #[error("row {1} of {0}, counted from 0, has the key of an earlier row")]
     Duplicate(PolicyTable, usize),
     /// A text, a mask or a name of the row is too short or too long.
-    #[error("a length that a row may not have")]
+    #[error("row {1} of {0}, counted from 0, has a length that it may not have")]
     BadLength(PolicyTable, usize),
     /// A field of the row may not have its value. Where a policy is read from a text, this stands as
     /// well for a row with a missing, an unknown or an ill-typed key, or with a subtree or a mask that
     /// cannot be read, and, as (contexts, 0), for such keys at the top of the text, where there need
     /// be no such row.
-    #[error("a value that a field may not have")]
+    #[error("row {1} of {0}, counted from 0, has a value that a field may not have")]
     BadField(PolicyTable, usize),
 }
 
