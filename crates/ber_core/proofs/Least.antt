@@ -9,7 +9,8 @@ use Rattle.std.proofs.lemmas.Int.{ints}
 use Rattle.std.proofs.lemmas.Int.Digits.{length-digits_of-le}
 use Rattle.std.proofs.lemmas.List.{length-append}
 use Rattle.std.proofs.lemmas.Nat.{from_be_bytes-to_be_bytes_8}
-use Rattle.ber_core.specs.Spelling.{AreOctets, IsMinimal, number, signed, IsLength, IsTlv, BeginsTlv, IsInteger, IsUnsigned, canon_length, canon_tlv, is_spare, shortest, canon_integer, canon_unsigned}
+use Rattle.ber_core.specs.Spelling.{IsMinimal, number, signed, IsLength, IsTlv, BeginsTlv, IsInteger, IsUnsigned, canon_length, canon_tlv, is_spare, shortest, canon_integer, canon_unsigned}
+use Rattle.ber_core.proofs.Octets.{EachIsOctet}
 use Rattle.ber_core.proofs.Unsigned.{number_below, number_shift, power_le}
 use Rattle.ber_core.proofs.Signed.{ranges}
 use Rattle.ber_core.proofs.Tlv.{tlv_only}
@@ -18,16 +19,16 @@ use Rattle.ber_core.proofs.Canon.{canon_integer_spells, shortest_same, shortest_
 
 -- ---- lengths and values
 
-pub tail_octets : (first : ℕ) (rest octets : List ℕ) → octets ≡ first ∷ rest → AreOctets octets → AreOctets rest
+pub tail_octets : (first : ℕ) (rest octets : List ℕ) → octets ≡ first ∷ rest → EachIsOctet octets → EachIsOctet rest
 tail_octets first rest octets e fits = λ i. subst (λ (t : List ℕ). get_or t (suc i) 0 < 256) e (fits (suc i))
 
-pub front_octets : (front rest : List ℕ) → AreOctets (front ++ rest) → AreOctets front
+pub front_octets : (front rest : List ℕ) → EachIsOctet (front ++ rest) → EachIsOctet front
 front_octets [] rest fits = λ i. omega arith
 front_octets (o ∷ front) rest fits =
     let others = front_octets front rest (λ i. fits (suc i)) in
     λ i. elim i as (λ i. get_or (o ∷ front) i 0 < 256) [ zero ↦ fits 0 | suc j ↦ others j ]
 
-pub no_shorter_length : (head : List ℕ) (n : ℕ) → AreOctets head → IsLength head n → length (canon_length n) ≤ length head
+pub no_shorter_length : (head : List ℕ) (n : ℕ) → EachIsOctet head → IsLength head n → length (canon_length n) ≤ length head
 no_shorter_length head n fits (inl s) = rw (lt-ltb _ _ s.1) (omega (arith, ap length s.0))
 no_shorter_length head n fits (inr s) =
     let digits = s.digits in
@@ -38,10 +39,10 @@ no_shorter_length head n fits (inr s) =
       | inr le ↦ rw (le-ltb _ _ le) (omega (arith, ap length s.parts, length-digits_of-le 256 (length digits) n (omega arith) bound))
     ]
 
-pub no_shorter_tlv : (tag : ℕ) (content octets : List ℕ) → AreOctets octets → IsTlv tag content octets → length (canon_tlv tag content) ≤ length octets
+pub no_shorter_tlv : (tag : ℕ) (content octets : List ℕ) → EachIsOctet octets → IsTlv tag content octets → length (canon_tlv tag content) ≤ length octets
 unfolding canon_tlv
 no_shorter_tlv tag content octets fits t =
-    let rest : AreOctets (t.head ++ content) = tail_octets tag (t.head ++ content) octets t.parts fits in
+    let rest : EachIsOctet (t.head ++ content) = tail_octets tag (t.head ++ content) octets t.parts fits in
     let least = no_shorter_length t.head (length content) (front_octets t.head content rest) t.counts in
     omega (arith, ap length t.parts, length-append t.head content, length-append (canon_length (length content)) content, least)
 
@@ -65,7 +66,7 @@ high_lead a b e high fits also = grind (arith, nat_tests)
 low_large : (a b : ℕ) (rest : List ℕ) → is_spare a b ≡ false → a < 128 → 128 * 256 ^ length rest ≤ number (a ∷ b ∷ rest)
 low_large a b rest e low = omega (arith, lead_two a b rest, mul-le-mul_right (256 ^ length rest) (low_lead a b e low))
 
-high_small : (a b : ℕ) (rest : List ℕ) → AreOctets (a ∷ b ∷ rest) → is_spare a b ≡ false → 128 ≤ a → number (a ∷ b ∷ rest) + 128 * 256 ^ length rest < 256 ^ length (a ∷ b ∷ rest)
+high_small : (a b : ℕ) (rest : List ℕ) → EachIsOctet (a ∷ b ∷ rest) → is_spare a b ≡ false → 128 ≤ a → number (a ∷ b ∷ rest) + 128 * 256 ^ length rest < 256 ^ length (a ∷ b ∷ rest)
 high_small a b rest fits e high =
     let p = 256 ^ length rest in
     let bound = mul-le-mul_right p (high_lead a b e high (fits 0) (fits 1)) in
@@ -74,7 +75,7 @@ high_small a b rest fits e high =
     let two = power_more (suc (length rest)) in
     omega (arith, lead_two a b rest, bound, below, one, two)
 
-low_small : (a : ℕ) (rest : List ℕ) → AreOctets (a ∷ rest) → a < 128 → number (a ∷ rest) < 128 * 256 ^ length rest
+low_small : (a : ℕ) (rest : List ℕ) → EachIsOctet (a ∷ rest) → a < 128 → number (a ∷ rest) < 128 * 256 ^ length rest
 low_small a rest fits low =
     let next : a + 1 ≤ 128 = omega arith in
     omega (arith, lead a rest, mul-le-mul_right (256 ^ length rest) next, number_below rest (λ i. fits (suc i)))
@@ -90,7 +91,7 @@ low_signed a rest low = rw (lt-ltb _ _ low) refl
 pub high_signed : (a : ℕ) (rest : List ℕ) → 128 ≤ a → signed (a ∷ rest) ≡ pos (number (a ∷ rest)) -ℤ pos (256 ^ length (a ∷ rest))
 high_signed a rest high = rw (le-ltb _ _ high) refl
 
-too_short : (a b d : ℕ) (rest others : List ℕ) → AreOctets (a ∷ b ∷ rest) → AreOctets (d ∷ others) → is_spare a b ≡ false → length others ≤ length rest → signed (a ∷ b ∷ rest) ≡ signed (d ∷ others) → ⊥
+too_short : (a b d : ℕ) (rest others : List ℕ) → EachIsOctet (a ∷ b ∷ rest) → EachIsOctet (d ∷ others) → is_spare a b ≡ false → length others ≤ length rest → signed (a ∷ b ∷ rest) ≡ signed (d ∷ others) → ⊥
 too_short a b d rest others fits also e few same =
     let power : 128 * 256 ^ length others ≤ 128 * 256 ^ length rest = mul-le-mul_left 128 (power_le (length others) (length rest) few) in
     let step = power_more (length others) in
@@ -111,7 +112,7 @@ too_short a b d rest others fits also e few same =
           ]
     ]
 
-pub no_shorter : (content other : List ℕ) → AreOctets content → AreOctets other → IsMinimal content → 1 ≤ length other → signed content ≡ signed other → length content ≤ length other
+pub no_shorter : (content other : List ℕ) → EachIsOctet content → EachIsOctet other → IsMinimal content → 1 ≤ length other → signed content ≡ signed other → length content ≤ length other
 no_shorter content [] fits also least some same = absurd (omega arith)
 no_shorter [] (d ∷ others) fits also least some same = omega arith
 no_shorter (a ∷ []) (d ∷ others) fits also least some same = omega arith
@@ -133,16 +134,16 @@ shortest_minimal (a ∷ b ∷ rest) =
     ] in
     split (is_spare a b) refl
 
-pub shortest_octets : (xs : List ℕ) → AreOctets xs → AreOctets (shortest xs)
+pub shortest_octets : (xs : List ℕ) → EachIsOctet xs → EachIsOctet (shortest xs)
 shortest_octets [] fits = fits
 shortest_octets (a ∷ []) fits = fits
 shortest_octets (a ∷ b ∷ rest) fits =
-    elim (is_spare a b) as (λ t. AreOctets (cond t (shortest (b ∷ rest)) (a ∷ b ∷ rest))) [
+    elim (is_spare a b) as (λ t. EachIsOctet (cond t (shortest (b ∷ rest)) (a ∷ b ∷ rest))) [
       | true ↦ shortest_octets (b ∷ rest) (λ i. fits (suc i))
       | false ↦ fits
     ]
 
-all_octets : (octets : List ℕ) → AllBelowBase 256 octets → AreOctets octets
+all_octets : (octets : List ℕ) → AllBelowBase 256 octets → EachIsOctet octets
 all_octets [] all = λ i. omega arith
 all_octets (o ∷ octets) all =
     let others = all_octets octets all.1 in
@@ -157,7 +158,7 @@ bytes_4 n = (byte _, (byte _, (byte _, (byte _, tt))))
 bytes_8 : (n : ℕ) → AllBelowBase 256 (to_be_bytes w64 n)
 bytes_8 n = (byte _, (byte _, (byte _, (byte _, (byte _, (byte _, (byte _, (byte _, tt))))))))
 
-pub canon_integer_octets : (z : ℤ) → AreOctets (canon_integer z)
+pub canon_integer_octets : (z : ℤ) → EachIsOctet (canon_integer z)
 unfolding canon_integer
 canon_integer_octets z = shortest_octets (to_be_bytes w32 (of_z w32 z)) (all_octets (to_be_bytes w32 (of_z w32 z)) (bytes_4 (of_z w32 z)))
 
@@ -165,7 +166,7 @@ pub canon_integer_minimal : (z : ℤ) → IsMinimal (canon_integer z)
 unfolding canon_integer
 canon_integer_minimal z = shortest_minimal (to_be_bytes w32 (of_z w32 z))
 
-pub integer_fits : (content : List ℕ) (z : ℤ) → AreOctets content → IsInteger content z → FitsSigned w32 z
+pub integer_fits : (content : List ℕ) (z : ℤ) → EachIsOctet content → IsInteger content z → FitsSigned w32 z
 integer_fits [] z fits i = absurd (let some = i.some in omega arith)
 integer_fits (a ∷ rest) z fits i =
     let r = ranges (a ∷ rest) fits i.few i.some in
@@ -174,7 +175,7 @@ integer_fits (a ∷ rest) z fits i =
       | inr le ↦ let e = high_signed a rest le in let high = r.high le in let below = r.below in let value = i.value in omega (arith, ints, e, high, below, value)
     ]
 
-pub no_shorter_integer : (content : List ℕ) (z : ℤ) → AreOctets content → IsInteger content z → length (canon_integer z) ≤ length content
+pub no_shorter_integer : (content : List ℕ) (z : ℤ) → EachIsOctet content → IsInteger content z → length (canon_integer z) ≤ length content
 no_shorter_integer content z fits i =
     let c = canon_integer_spells z (integer_fits content z fits i) in
     no_shorter (canon_integer z) content (canon_integer_octets z) fits (canon_integer_minimal z) i.some (c.value ∙ sym i.value)
@@ -184,7 +185,7 @@ no_shorter_integer content z fits i =
 eight : (n : ℕ) → n < 2 ^ 64 → number (to_be_bytes w64 n) ≡ n
 eight n bound = let e = from_be_bytes-to_be_bytes_8 n bound in omega (arith, e)
 
-pub canon_unsigned_octets : (n : ℕ) → AreOctets (canon_unsigned n)
+pub canon_unsigned_octets : (n : ℕ) → EachIsOctet (canon_unsigned n)
 unfolding canon_unsigned
 canon_unsigned_octets n = shortest_octets (0 ∷ to_be_bytes w64 n) (all_octets (0 ∷ to_be_bytes w64 n) (omega arith, bytes_8 n))
 
@@ -196,7 +197,7 @@ pub canon_unsigned_value : (n : ℕ) → n < 2 ^ 64 → signed (canon_unsigned n
 unfolding canon_unsigned
 canon_unsigned_value n bound = shortest_same (0 ∷ to_be_bytes w64 n) ∙ ap (λ (k : ℕ). pos k) (eight n bound)
 
-pub no_shorter_unsigned : (width : ℕ) (content : List ℕ) (n : ℕ) → width ≤ 8 → AreOctets content → IsUnsigned width content n → length (canon_unsigned n) ≤ length content
+pub no_shorter_unsigned : (width : ℕ) (content : List ℕ) (n : ℕ) → width ≤ 8 → EachIsOctet content → IsUnsigned width content n → length (canon_unsigned n) ≤ length content
 no_shorter_unsigned width content n narrow fits u =
     let power = power_le width 8 narrow in
     let bound : n < 2 ^ 64 = omega (arith, u.fits, power) in

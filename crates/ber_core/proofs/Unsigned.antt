@@ -5,23 +5,24 @@ use Rattle.std.proofs.Math.Nat.{pow-suc, pow-le-pow_right, mul-le-mul_right}
 use Rattle.std.proofs.lemmas.Bool.{lt-ltb, le-ltb}
 use Rattle.std.proofs.lemmas.Int.{ints}
 use Rattle.std.proofs.lemmas.Int.Digits.{number_lt}
-use Rattle.ber_core.specs.Spelling.{AreOctets, number, signed, IsUnsigned}
+use Rattle.ber_core.specs.Spelling.{number, signed, IsUnsigned}
+use Rattle.ber_core.proofs.Octets.{EachIsOctet}
 
-pub all_below : (digits : List ℕ) → AreOctets digits → AllBelowBase 256 digits
+pub all_below : (digits : List ℕ) → EachIsOctet digits → AllBelowBase 256 digits
 all_below [] fits = tt
 all_below (d ∷ digits) fits = (fits 0, all_below digits (λ i. fits (suc i)))
 
-pub number_below : (digits : List ℕ) → AreOctets digits → number digits < 256 ^ length digits
+pub number_below : (digits : List ℕ) → EachIsOctet digits → number digits < 256 ^ length digits
 number_below digits fits = number_lt 256 digits (all_below digits fits)
 
 pub power_le : (i j : ℕ) → i ≤ j → 256 ^ i ≤ 256 ^ j
 power_le i j le = let some : 0 < 256 = omega arith in pow-le-pow_right some le
 
-pub whole_below : (width : ℕ) (content : List ℕ) → AreOctets content → length content ≤ width → number content < 256 ^ width
+pub whole_below : (width : ℕ) (content : List ℕ) → EachIsOctet content → length content ≤ width → number content < 256 ^ width
 whole_below width content fits few = omega (arith, number_below content fits, power_le (length content) width few)
 
 -- a first octet from 128 on makes the number negative
-pub negative : (content : List ℕ) (n : ℕ) → AreOctets content → 128 ≤ get_or content 0 0 → signed content ≡ pos n → ⊥
+pub negative : (content : List ℕ) (n : ℕ) → EachIsOctet content → 128 ≤ get_or content 0 0 → signed content ≡ pos n → ⊥
 negative content n fits high value =
     let e = rw (le-ltb _ _ high) at value in
     omega (arith, ints, number_below content fits, e)
@@ -29,7 +30,7 @@ negative content n fits high value =
 low_value : (content : List ℕ) → get_or content 0 0 < 128 → signed content ≡ pos (number content)
 low_value content low = rw (lt-ltb _ _ low) refl
 
-pub whole_is : (width n : ℕ) (content : List ℕ) → AreOctets content → 1 ≤ length content → get_or content 0 0 < 128 → length content ≤ width → n ≡ number content → IsUnsigned width content n
+pub whole_is : (width n : ℕ) (content : List ℕ) → EachIsOctet content → 1 ≤ length content → get_or content 0 0 < 128 → length content ≤ width → n ≡ number content → IsUnsigned width content n
 whole_is width n content fits some low few is = record {
   some = some;
   few = omega arith;

@@ -1,16 +1,17 @@
 -- What stands at the front of a content, number by number.
 use Rattle.std.proofs.Common.{◌≡◌, ℕ, suc, ◌+◌, ◌-◌, ◌^◌, ◌≤◌, ◌<◌, List, [], ◌∷◌, ◌++◌, length, refl, sym, ap, subst, ◌∙◌, append_assoc, arith}
 use Rattle.std.proofs.lemmas.List.{length-append, append-nil}
+use Rattle.ber_core.proofs.Octets.{EachIsOctet}
 use Rattle.oid_core.specs.declared.limits.TheConstants.{INLINE_NUMBERS, MOST_NUMBERS}
 use Rattle.oid_core.specs.Name.{IsCoded, AreCoded, HasRoot, packed, IsName, BeginsName, BeginsLong}
 use Rattle.oid_core.specs.Reading.{◌>>=◌, coded_at, all_coded_at, root_of, name_at}
 use Rattle.oid_core.proofs.Loop.{with_front}
-use Rattle.oid_core.proofs.Names.{AreOctets, Begins, coded_found, root_found}
+use Rattle.oid_core.proofs.Names.{Begins, coded_found, root_found}
 use Rattle.oid_core.proofs.Written.{packed_more, root_len}
 use Rattle.oid_core.proofs.Texts.{each_more}
 use Rattle.std.specs.Prelude.{Ok}
 
-rest_octets : (front rest : List ℕ) → AreOctets (front ++ rest) → AreOctets rest
+rest_octets : (front rest : List ℕ) → EachIsOctet (front ++ rest) → EachIsOctet rest
 rest_octets [] rest fits = fits
 rest_octets (o ∷ front) rest fits = rest_octets front rest (λ i. fits (suc i))
 
@@ -33,10 +34,10 @@ name_more front items octets n i c small room =
     }
 
 -- one more number is read
-pub begun_more : (content items rest : List ℕ) (n : ℕ) (after : List ℕ) → AreOctets content → BeginsName content items rest → coded_at (2 ^ 32) rest ≡ Ok (n, after) → length items < MOST_NUMBERS
+pub begun_more : (content items rest : List ℕ) (n : ℕ) (after : List ℕ) → EachIsOctet content → BeginsName content items rest → coded_at (2 ^ 32) rest ≡ Ok (n, after) → length items < MOST_NUMBERS
     → BeginsName content (items ++ n ∷ []) after
 begun_more content items rest n after fits b h room =
-    let c = coded_found (2 ^ 32) rest (n, after) (rest_octets b.front rest (subst (λ (t : List ℕ). AreOctets t) b.joined fits)) h in
+    let c = coded_found (2 ^ 32) rest (n, after) (rest_octets b.front rest (subst (λ (t : List ℕ). EachIsOctet t) b.joined fits)) h in
     record {
       front = b.front ++ c.0.front;
       spelled = name_more b.front items c.0.front n b.spelled c.0.spelled c.1 room;
@@ -44,7 +45,7 @@ begun_more content items rest n after fits b h room =
     }
 
 -- the first two are read
-pub begun_root : (content : List ℕ) (n : ℕ) (rest : List ℕ) → AreOctets content → coded_at (2 ^ 32 + 80) content ≡ Ok (n, rest) → BeginsName content (root_of n) rest
+pub begun_root : (content : List ℕ) (n : ℕ) (rest : List ℕ) → EachIsOctet content → coded_at (2 ^ 32 + 80) content ≡ Ok (n, rest) → BeginsName content (root_of n) rest
 begun_root content n rest fits h =
     let c = coded_found (2 ^ 32 + 80) content (n, rest) fits h in
     let root = root_found n [] c.1 (omega arith) tt in
@@ -57,7 +58,7 @@ unfolding name_at
 same_root content items n rest h root len = rw (len, root, h) refl
 
 -- what was begun is long
-pub long_more : (content items rest : List ℕ) (n : ℕ) (after : List ℕ) → AreOctets content → BeginsName content items rest → coded_at (2 ^ 32) rest ≡ Ok (n, after) → length items < MOST_NUMBERS
+pub long_more : (content items rest : List ℕ) (n : ℕ) (after : List ℕ) → EachIsOctet content → BeginsName content items rest → coded_at (2 ^ 32) rest ≡ Ok (n, after) → length items < MOST_NUMBERS
     → INLINE_NUMBERS ≤ length items → BeginsLong content
 long_more content items rest n after fits b h room long = record {
   name = items ++ n ∷ [];

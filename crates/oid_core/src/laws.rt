@@ -1,7 +1,8 @@
 //! Laws of names. Each holds of all octets and numbers, and its function does nothing.
 ghost use Rattle.std.specs.Prelude.{◌≡◌, ◌≤◌, ◌↔◌, ◌⊎◌, ℕ, List, length, IsTrue, Ok, Err, Some, None};
 ghost use Rattle.oid_core.specs.declared.fault.OidFault.{OidFault};
-ghost use Rattle.oid_core.specs.Name.{AreOctets, IsName, IsSpellable, canon_name};
+ghost use Rattle.ber_core.specs.Spelling.{AreOctets};
+ghost use Rattle.oid_core.specs.Name.{IsName, IsSpellable, canon_name};
 ghost use Rattle.oid_core.specs.Reading.{name_at};
 ghost use Rattle.oid_core.specs.Order.{IsBefore, IsPrefix, name_lt, name_eq, is_prefix};
 ghost use Rattle.oid_core.specs.Text.{IsDotted};
