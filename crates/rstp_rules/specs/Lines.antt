@@ -8,6 +8,7 @@ use Rattle.frame_core.specs.declared.bpdu.PriorityVector.{PriorityVector}
 use Rattle.frame_core.specs.declared.bpdu.Times.{Times}
 use Rattle.rstp_settings.specs.Table.{Table, get}
 use Rattle.rstp_settings.specs.declared.key.PortValues.{PortValues}
+use Rattle.rstp_settings.specs.declared.key.TheConstants.{VERSION_RSTP, PORT_ENABLED, EDGE_TRUE, MIGRATION_CHECK, POINT_TO_POINT_TRUE, POINT_TO_POINT_AUTO}
 use Rattle.rstp_settings.specs.declared.key.Key.TheVariants as key
 use Rattle.rstp_settings.specs.declared.key.BridgeKey.TheVariants as bridge
 use Rattle.rstp_settings.specs.declared.key.PortKey.TheVariants as port
@@ -27,9 +28,9 @@ use Rattle.rstp_rules.specs.Ports.{is_root}
 abbrev pub own_id : Table → Mac → BridgeId
 own_id s address = record { priority = get s (key.Bridge bridge.Priority); address = address }
 
--- 17.20.11. Whether the version is 2.
+-- 17.20.11. Whether the version is RSTP.
 abbrev pub rstp_version : Table → Bool
-rstp_version s = get s (key.Bridge bridge.Version) == 2
+rstp_version s = get s (key.Bridge bridge.Version) == VERSION_RSTP
 
 -- The default cost of a speed in Mb/s (17.14).
 abbrev pub default_cost : ℕ → ℕ
@@ -41,15 +42,15 @@ cost_in_use setting speed = if setting == 0 then default_cost speed else setting
 
 -- 6.4.3. Forced true, forced false, or by full duplex.
 abbrev pub is_point_to_point : ℕ → Bool → Bool
-is_point_to_point setting full = setting == 0 || (setting == 2 && full)
+is_point_to_point setting full = setting == POINT_TO_POINT_TRUE || (setting == POINT_TO_POINT_AUTO && full)
 
 -- Whether a port is enabled by its setting.
 abbrev pub enabled_by : Table → ℕ → Bool
-enabled_by s n = get s (key.Port n port.Enable) == 1
+enabled_by s n = get s (key.Port n port.Enable) == PORT_ENABLED
 
 -- Whether a port is set to be at the edge.
 abbrev pub edge_by : Table → ℕ → Bool
-edge_by s n = get s (key.Port n port.Edge) == 1
+edge_by s n = get s (key.Port n port.Edge) == EDGE_TRUE
 
 -- Port n under the settings s, where w are its settled values. It is on where it is enabled and its link is up.
 abbrev pub line_of : Table → SettledPort → ℕ → PortConfig → Bool → Line
@@ -61,7 +62,7 @@ line_of s w n c link = record {
   on = enabled_by s n && link;
   point_to_point = is_point_to_point (get s (key.Port n port.PointToPoint)) c.full;
   edge = edge_by s n;
-  migrate = get s (key.Port n port.Migrate) == 1;
+  migrate = get s (key.Port n port.Migrate) == MIGRATION_CHECK;
   was_enabled = w.enabled;
   was_edge = w.edge;
 }
@@ -122,7 +123,7 @@ context_of s own root was times = record {
 -- The values that settling the settings keeps: the version, the three times, and whether each port is enabled
 -- and at the edge.
 abbrev pub settled_port_of : PortValues → SettledPort
-settled_port_of p = record { enabled = p.enable == 1; edge = p.edge == 1 }
+settled_port_of p = record { enabled = p.enable == PORT_ENABLED; edge = p.edge == EDGE_TRUE }
 
 -- Where there is no port.
 abbrev pub no_config : PortConfig

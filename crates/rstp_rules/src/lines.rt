@@ -9,7 +9,10 @@ use crate::port::Port;
 use crate::row::{Before, Best, Context, Line, Row, Timing};
 use crate::settled::{SettledPort, Timers};
 use frame_core::{BridgeId, Mac, Times};
-use rstp_settings::key::{BridgeKey, Key, PortKey};
+use rstp_settings::key::{
+    BridgeKey, EDGE_TRUE, Key, MIGRATION_CHECK, POINT_TO_POINT_AUTO, POINT_TO_POINT_TRUE,
+    PORT_ENABLED, PortKey, VERSION_RSTP,
+};
 use rstp_settings::settings::{MAX_PORTS, Settings};
 
 /// The bridge identifier under these settings (IEEE 802.1D-2004 9.2.5).
@@ -22,11 +25,11 @@ pub fn own_bridge_id(settings: &Settings, address: Mac) -> BridgeId
     }
 }
 
-/// Whether the version is 2 (17.20.11).
+/// Whether the version is RSTP (17.20.11).
 pub fn has_rstp_version(settings: &Settings) -> bool
     ensures { result ≡ rstp_version settings.now }
 {
-    settings.get(Key::Bridge(BridgeKey::Version)) == 2
+    settings.get(Key::Bridge(BridgeKey::Version)) == VERSION_RSTP
 }
 
 /// Whether a port is enabled by its setting.
@@ -35,7 +38,7 @@ pub fn is_enabled(settings: &Settings, number: u16) -> bool
     requires last { number ≤ length settings.now.ports }
     ensures { result ≡ enabled_by settings.now number }
 {
-    settings.get(Key::Port(number, PortKey::Enable)) == 1
+    settings.get(Key::Port(number, PortKey::Enable)) == PORT_ENABLED
 }
 
 /// Whether a port is set to be at the edge.
@@ -44,7 +47,7 @@ pub fn is_set_edge(settings: &Settings, number: u16) -> bool
     requires last { number ≤ length settings.now.ports }
     ensures { result ≡ edge_by settings.now number }
 {
-    settings.get(Key::Port(number, PortKey::Edge)) == 1
+    settings.get(Key::Port(number, PortKey::Edge)) == EDGE_TRUE
 }
 
 impl PortConfig {
@@ -74,7 +77,7 @@ impl PortConfig {
     pub fn is_point_to_point(&self, setting: u32) -> bool
         ensures { result ≡ is_point_to_point setting self.now.full }
     {
-        setting == 0 || setting == 2 && self.full
+        setting == POINT_TO_POINT_TRUE || setting == POINT_TO_POINT_AUTO && self.full
     }
 
     /// What the settings of port `number` and its link come to.
@@ -96,7 +99,7 @@ impl PortConfig {
                 PortKey::PointToPoint,
             ))),
             edge: is_set_edge(settings, number),
-            migrate: settings.get(Key::Port(number, PortKey::Migrate)) == 1,
+            migrate: settings.get(Key::Port(number, PortKey::Migrate)) == MIGRATION_CHECK,
             was_enabled: settled.enabled,
             was_edge: settled.edge,
         }

@@ -63,3 +63,33 @@ pub struct PortValues {
     pub edge: u32,
     pub point_to_point: u32,
 }
+
+/// Force protocol version (IEEE 802.1D-2004 17.13.4): STP compatible.
+pub const VERSION_STP: u32 = 0;
+
+/// Force protocol version: RSTP.
+pub const VERSION_RSTP: u32 = 2;
+
+/// Administrative state of a port (RFC 4188 dot1dStpPortEnable): enabled.
+pub const PORT_ENABLED: u32 = 1;
+
+/// Administrative state of a port: disabled.
+pub const PORT_DISABLED: u32 = 2;
+
+/// A protocol migration check is asked for (17.19.13).
+pub const MIGRATION_CHECK: u32 = 1;
+
+/// Admin edge port (17.13.1): true.
+pub const EDGE_TRUE: u32 = 1;
+
+/// Admin edge port: false.
+pub const EDGE_FALSE: u32 = 2;
+
+/// Admin point to point MAC (6.4.3): forced true.
+pub const POINT_TO_POINT_TRUE: u32 = 0;
+
+/// Admin point to point MAC: forced false.
+pub const POINT_TO_POINT_FALSE: u32 = 1;
+
+/// Admin point to point MAC: automatic, by full duplex.
+pub const POINT_TO_POINT_AUTO: u32 = 2;
