@@ -7,6 +7,7 @@ use Rattle.rstp_settings.proofs.Puts.{refill_same}
 use Rattle.frame_core.specs.declared.mac.Mac.{Mac}
 use Rattle.frame_core.specs.declared.frame.FrameIn.{FrameIn}
 use Rattle.fdb_core.specs.declared.row.Row.{Row}
+use Rattle.fdb_core.specs.Rows.{other_rows}
 use Rattle.fdb_core.specs.declared.learnt.Learnt.{Learnt}
 use Rattle.rstp_settings.specs.Table.{Table}
 use Rattle.rstp_rules.specs.declared.port.State.{State}
@@ -18,7 +19,7 @@ use Rattle.bridge_core.specs.declared.bridge.TheConstants.{MAX_LEARNED_ROWS}
 use Rattle.bridge_core.specs.Bridge.{BridgeState, no_counters, is_on}
 use Rattle.bridge_core.specs.Counting.{with_frame_in, with_discard, sent_where, has_bpdu, discards_after}
 use Rattle.bridge_core.specs.Forwarding.{learnt_with, rows_after, is_refused, goes_out, ports_where, egress_of}
-use Rattle.bridge_core.specs.Events.{without, stepped, received, learned_from, forwarded, taken, Framed, framed, no_bpdus}
+use Rattle.bridge_core.specs.Events.{stepped, received, learned_from, forwarded, taken, Framed, framed, no_bpdus}
 
 -- a bridge of these parts
 abbrev pub state : Table → Tree → List Row → ℕ → List PortCounters → BridgeState
@@ -40,7 +41,7 @@ received_at cs ds i x e g =
 pub step_bpdus : (e : Step) (t u : Tree) (out : Outcome) → IsStep e t u out → out.bpdus.items ≡ e.bpdus
 step_bpdus e t u out h = sym (ap (λ (x : Step). x.bpdus) h.gives)
 
-pub after_step : (s z : Table) (t u : Tree) (rows left : List Row) (n : ℕ) (cs ds : List PortCounters) (out : Outcome) (e : Step) → IsStep e t u out → z ≡ s → left ≡ without out.flushed.items rows → ds ≡ sent_where (has_bpdu out.bpdus.items) cs → state z u left n ds ≡ stepped e (state s t rows n cs)
+pub after_step : (s z : Table) (t u : Tree) (rows left : List Row) (n : ℕ) (cs ds : List PortCounters) (out : Outcome) (e : Step) → IsStep e t u out → z ≡ s → left ≡ other_rows out.flushed.items rows → ds ≡ sent_where (has_bpdu out.bpdus.items) cs → state z u left n ds ≡ stepped e (state s t rows n cs)
 unfolding stepped
 after_step s z t u rows left n cs ds out e h j f g = rw (h.gives, j, f, g)
 

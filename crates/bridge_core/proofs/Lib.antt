@@ -1,6 +1,8 @@
 pub mod Counts
-pub mod Flushes
 pub mod Walks
 pub mod Changes
 pub mod Ways
+pub mod Relayed
+pub mod Tallied
+pub mod Reserved
 pub mod RunLaws

@@ -1,18 +1,26 @@
 -- Every run of a bridge is a run of its spanning tree.
-use Rattle.std.proofs.Common.{◌≡◌, ℕ, ◌≤◌, Bool, true, false, List, [], ◌∷◌, Contains, refl, sym, subst}
-use Rattle.std.specs.Prelude.{Option, Some, None}
+use Rattle.std.proofs.Common.{◌≡◌, ℕ, ◌≤◌, Bool, true, false, List, [], ◌∷◌, length, Contains, refl, sym, ap, subst, ◌∙◌}
+use Rattle.std.specs.Prelude.{◌↔◌, Option, Some, None}
 use Rattle.frame_core.specs.declared.mac.Mac.{Mac}
 use Rattle.frame_core.specs.declared.bpdu.Bpdu.{Bpdu}
 use Rattle.frame_core.specs.declared.frame.FrameIn.{FrameIn}
+use Rattle.rstp_settings.specs.declared.settings.TheConstants.{MAX_PORTS}
 use Rattle.rstp_rules.specs.declared.config.PortConfig.{PortConfig}
+use Rattle.rstp_rules.specs.declared.port.State.{State}
+use Rattle.rstp_rules.specs.declared.port.State.TheVariants.{Discarding, Learning, Forwarding}
+use Rattle.rstp_rules.specs.Ports.{is_discarding, is_forwarding}
+use Rattle.rstp_rules.specs.Lines.{own_id}
 use Rattle.rstp_core.specs.Tree.{Tree}
 use Rattle.rstp_core.specs.Steps.{tick_step, link_step, arrival_step, settling_step}
-use Rattle.rstp_core.specs.Runs.{Happening, Runs}
+use Rattle.rstp_core.specs.Runs.{Happening, Runs, IsRootPort}
+use Rattle.rstp_core.specs.Legal.{IsLegal}
 use Rattle.rstp_core.specs.Runs.Happening.{Tick as TreeTick, Link as TreeLink, Message as TreeMessage, Settle as TreeSettle}
 use Rattle.rstp_core.proofs.Functions.{step_outcome, tick_given, link_given, arrival_given, settling_given}
-use Rattle.rstp_core.proofs.RunLaws.{runs_active}
-use Rattle.bridge_core.specs.Bridge.{BridgeState, port_count, is_on}
-use Rattle.bridge_core.specs.Forwarding.{forwards}
+use Rattle.rstp_core.proofs.LegalTrees.{opening_legal, happening_legal}
+use Rattle.rstp_core.proofs.RunLaws.{runs_same, runs_few, legal_active}
+use Rattle.rstp_core.proofs.TreeLaws.{root_port_zero, own_root, no_root_port}
+use Rattle.bridge_core.specs.Bridge.{BridgeState, address_of, port_count, port_of, is_on}
+use Rattle.bridge_core.specs.Facts.{facts_of}
 use Rattle.bridge_core.specs.Opening.{opening_bridge}
 use Rattle.bridge_core.specs.Events.{stepped, tick_of, ticked_bridge, link_of, linked_bridge, settling_of, settled_bridge, set_bridge, received, learned_from, forwarded, passed, arrival_of, heard, taken, Framed, framed}
 use Rattle.bridge_core.specs.Runs.{Put, Event, with_puts, after, run, IsActive}
@@ -80,16 +88,88 @@ run_led : (a : Mac) (cs : List PortConfig) (events : List Event) → Led a cs (r
 run_led a cs [] = opening_led a cs
 run_led a cs (e ∷ past) = after_led a cs e (run a cs past) (run_led a cs past)
 
--- a port that forwards is on
-pub run_active : (a : Mac) (cs : List PortConfig) (events : List Event) (n : ℕ) → 1 ≤ n → n ≤ port_count (run a cs events) → forwards (run a cs events) n ≡ true → IsActive (run a cs events) n
-run_active a cs events n first last f =
-    let b = run a cs events in
-    let led = run_led a cs events in
-    let active = runs_active a cs led.past b.settings b.tree led.runs n first last f in
+-- each event keeps settings and spanning tree legal
+pub opening_is_legal : (a : Mac) (cs : List PortConfig) → IsLegal (opening_bridge a cs).settings (opening_bridge a cs).tree
+unfolding opening_bridge
+opening_is_legal a cs = opening_legal a cs
+
+taken_legal : (p : ℕ) (f : FrameIn) (m : Option Bpdu) (no_room : Bool) (b : BridgeState) → IsLegal b.settings b.tree → IsLegal (taken p f m no_room (received p b)).bridge.settings (taken p f m no_room (received p b)).bridge.tree
+unfolding passed forwarded learned_from received heard stepped arrival_of
+taken_legal p f None no_room b h = h
+taken_legal p f (Some m) no_room b h =
+    happening_legal (TreeMessage p m) b.settings b.settings b.tree _ (step_outcome (arrival_step b.settings p m b.tree)) h (refl, arrival_given b.settings p m b.tree)
+
+framed_legal : (p : ℕ) (f : FrameIn) (no_room : Bool) (b : BridgeState) (v : Bool) → is_on b p ≡ v → IsLegal b.settings b.tree → IsLegal (framed b p f no_room).bridge.settings (framed b p f no_room).bridge.tree
+framed_legal p f no_room b true e h =
+    subst (λ (g : Framed). IsLegal g.bridge.settings g.bridge.tree) (sym (framed_on b p f no_room e)) (taken_legal p f f.bpdu no_room b h)
+framed_legal p f no_room b false e h =
+    subst (λ (g : Framed). IsLegal g.bridge.settings g.bridge.tree) (sym (framed_off b p f no_room e)) h
+
+settled_legal : (b set : BridgeState) → set.tree ≡ b.tree → IsLegal b.settings b.tree → IsLegal (settled_bridge set).settings (settled_bridge set).tree
+unfolding settled_bridge stepped settling_of
+settled_legal b set e h =
+    happening_legal (TreeSettle set.settings) b.settings _ set.tree _ (step_outcome (settling_step set.settings set.tree)) (subst (λ (t : Tree). IsLegal b.settings t) (sym e) h) (refl, settling_given set.settings set.tree)
+
+pub after_legal : (e : Event) (b : BridgeState) → IsLegal b.settings b.tree → IsLegal (after e b).settings (after e b).tree
+unfolding ticked_bridge linked_bridge stepped tick_of link_of
+after_legal Tick b h = happening_legal TreeTick b.settings b.settings b.tree _ (step_outcome (tick_step b.settings b.tree)) h (refl, tick_given b.settings b.tree)
+after_legal (Link n up) b h = happening_legal (TreeLink n up) b.settings b.settings b.tree _ (step_outcome (link_step b.settings n up b.tree)) h (refl, link_given b.settings n up b.tree)
+after_legal (Frame n f no_room) b h = framed_legal n f no_room b (is_on b n) refl h
+after_legal (Settle puts) b h = settled_legal b (with_puts puts b) (with_puts-tree puts b) h
+
+pub run_legal : (a : Mac) (cs : List PortConfig) (events : List Event) → IsLegal (run a cs events).settings (run a cs events).tree
+run_legal a cs [] = opening_is_legal a cs
+run_legal a cs (e ∷ past) = after_legal e (run a cs past) (run_legal a cs past)
+
+-- a port that learns or forwards is on
+pub bridge_active : (b : BridgeState) → IsLegal b.settings b.tree → (n : ℕ) → 1 ≤ n → n ≤ port_count b → is_discarding (port_of b n).state ≡ false → IsActive b n
+bridge_active b h n first last f =
+    let active = legal_active b.settings b.tree h n first last f in
     record { on = active.0; role = active.1 }
+
+pub run_active : (a : Mac) (cs : List PortConfig) (events : List Event) (n : ℕ) → 1 ≤ n → n ≤ port_count (run a cs events) → is_discarding (port_of (run a cs events) n).state ≡ false → IsActive (run a cs events) n
+run_active a cs events n first last f = bridge_active (run a cs events) (run_legal a cs events) n first last f
+
+not_discarding : (state : State) → is_forwarding state ≡ true → is_discarding state ≡ false
+not_discarding Discarding e = cc
+not_discarding Learning e = cc
+not_discarding Forwarding e = refl
 
 -- and so is each port by which a frame goes out
 pub run_goes : (a : Mac) (cs : List PortConfig) (events : List Event) (p : ℕ) (f : FrameIn) (no_room : Bool) (q : ℕ) → Contains (framed (run a cs events) p f no_room).egress q → IsActive (run a cs events) q
 run_goes a cs events p f no_room q h =
     let goes = framed_goes (run a cs events) p f no_room q h in
-    run_active a cs events q goes.first goes.last goes.to
+    run_active a cs events q goes.first goes.last (not_discarding (port_of (run a cs events) q).state goes.to)
+
+-- no root port is shown exactly where the root is this bridge
+pub bridge_root : (b : BridgeState) → IsLegal b.settings b.tree → port_count b ≤ MAX_PORTS → ((facts_of b).root_port ≡ 0) ↔ ((facts_of b).root ≡ own_id b.settings (address_of b))
+unfolding facts_of
+bridge_root b h few =
+    let zero = root_port_zero b.settings b.tree h few in
+    let own = own_root b.settings b.tree h in
+    (λ e. own.1 (zero.0 e), λ e. zero.1 (own.0 e))
+
+pub bridge_no_root : (b : BridgeState) → IsLegal b.settings b.tree → port_count b ≤ MAX_PORTS → ((facts_of b).root_port ≡ 0) ↔ ((n : ℕ) → ¬ IsRootPort b.tree n)
+unfolding facts_of
+bridge_no_root b h few =
+    let zero = root_port_zero b.settings b.tree h few in
+    let none = no_root_port b.settings b.tree h in
+    (λ e. none.1 (zero.0 e), λ e. zero.1 (none.0 e))
+
+run_few : (a : Mac) (cs : List PortConfig) (events : List Event) → length cs ≤ MAX_PORTS → port_count (run a cs events) ≤ MAX_PORTS
+run_few a cs events small =
+    let led = run_led a cs events in
+    runs_few a cs led.past (run a cs events).settings (run a cs events).tree small led.runs
+
+pub run_root : (a : Mac) (cs : List PortConfig) (events : List Event) → length cs ≤ MAX_PORTS
+    → ((facts_of (run a cs events)).root_port ≡ 0) ↔ ((facts_of (run a cs events)).root ≡ own_id (run a cs events).settings a)
+run_root a cs events small =
+    let b = run a cs events in
+    let led = run_led a cs events in
+    let here = bridge_root b (run_legal a cs events) (run_few a cs events small) in
+    let address : own_id b.settings b.tree.address ≡ own_id b.settings a = ap (own_id b.settings) (runs_same a cs led.past b.settings b.tree led.runs).address in
+    (λ e. here.0 e ∙ address, λ e. here.1 (e ∙ sym address))
+
+pub run_no_root : (a : Mac) (cs : List PortConfig) (events : List Event) → length cs ≤ MAX_PORTS
+    → ((facts_of (run a cs events)).root_port ≡ 0) ↔ ((n : ℕ) → ¬ IsRootPort (run a cs events).tree n)
+run_no_root a cs events small = bridge_no_root (run a cs events) (run_legal a cs events) (run_few a cs events small)

@@ -1,12 +1,12 @@
 -- What a bridge is: its settings, its spanning tree, the addresses that it has learned, and its counters.
-use Rattle.std.specs.Prelude.{ℕ, ◌-◌, Bool, false, ◌&&◌, List, length, slice_index_or}
+use Rattle.std.specs.Prelude.{ℕ, ◌-◌, Bool, ◌&&◌, List, length, slice_index_or}
 use Rattle.frame_core.specs.declared.mac.Mac.{Mac}
 use Rattle.fdb_core.specs.declared.row.Row.{Row}
 use Rattle.rstp_settings.specs.Table.{Table}
 use Rattle.rstp_rules.specs.declared.config.PortConfig.{PortConfig}
 use Rattle.rstp_rules.specs.declared.port.Port.{Port}
 use Rattle.rstp_rules.specs.Lines.{enabled_by}
-use Rattle.rstp_core.specs.Tree.{Tree, port_at}
+use Rattle.rstp_core.specs.Tree.{Tree, port_at, config_at}
 use Rattle.bridge_core.specs.declared.counters.PortCounters.{PortCounters}
 
 -- The frames whose source was not learned for want of room, and the counters of port 1, port 2, ..
@@ -30,14 +30,11 @@ abbrev pub port_count : BridgeState → ℕ
 port_count b = length b.tree.ports
 
 -- What is fixed of port n, from 1; what its spanning tree holds; and its counters.
-abbrev pub no_config : PortConfig
-no_config = record { ifindex = 0; speed = 0; full = false }
-
 abbrev pub no_counters : PortCounters
 no_counters = record { frames_in = 0; frames_out = 0; discards_in = 0 }
 
 abbrev pub config_of : BridgeState → ℕ → PortConfig
-config_of b n = slice_index_or b.tree.config (n - 1) no_config
+config_of b n = config_at b.tree n
 
 abbrev pub port_of : BridgeState → ℕ → Port
 port_of b n = port_at b.tree n

@@ -1,11 +1,9 @@
 -- What each event makes of a bridge, and what it gives.
-use Rattle.std.specs.Prelude.{◌≡◌, ◌≢◌, ℕ, ◌≤◌, Bool, true, not, ◌==◌, if◌then◌else◌, List, [], length, map, filter, replicate, Option, Some, None}
-use Rattle.std.specs.List.{list_any}
+use Rattle.std.specs.Prelude.{◌≡◌, ◌≢◌, ℕ, ◌≤◌, Bool, true, ◌==◌, if◌then◌else◌, List, [], length, map, replicate, Option, Some, None}
 use Rattle.frame_core.specs.declared.mac.Mac.{Mac}
 use Rattle.frame_core.specs.declared.bpdu.Bpdu.{Bpdu}
 use Rattle.frame_core.specs.declared.frame.FrameIn.{FrameIn}
-use Rattle.fdb_core.specs.declared.row.Row.{Row}
-use Rattle.fdb_core.specs.Rows.{aged, young_rows}
+use Rattle.fdb_core.specs.Rows.{aged, young_rows, other_rows}
 use Rattle.rstp_settings.specs.Table.{get, put, spent}
 use Rattle.rstp_settings.specs.declared.key.Key.{Key}
 use Rattle.rstp_settings.specs.declared.key.Key.TheVariants as key
@@ -15,15 +13,11 @@ use Rattle.bridge_core.specs.Bridge.{BridgeState, port_count, is_on}
 use Rattle.bridge_core.specs.Counting.{with_frame_in, with_discard, at_port, sent_where, has_bpdu, discards_after}
 use Rattle.bridge_core.specs.Forwarding.{learnt_of, rows_after, forwards, goes_out, egress_of}
 
--- The rows of ports that are not among these.
-abbrev pub without : List ℕ → List Row → List Row
-without ports rows = filter (λ r. not (list_any (λ n. r.port == n) ports)) rows
-
 -- A step of the spanning tree: the learned rows of the flushed ports go, and each BPDU is a frame out of its port.
 unfoldable pub stepped : Step → BridgeState → BridgeState
 stepped e b = record b {
   tree = e.tree;
-  learned = without e.flushed b.learned;
+  learned = other_rows e.flushed b.learned;
   counters = record b.counters { ports = sent_where (has_bpdu e.bpdus) b.counters.ports };
 }
 

@@ -7,3 +7,4 @@ pub mod ForwardingInside
 pub mod Events
 pub mod Facts
 pub mod Runs
+pub mod Relay

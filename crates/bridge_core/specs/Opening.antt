@@ -4,6 +4,7 @@ use Rattle.std.specs.List.{list_all}
 use Rattle.frame_core.specs.declared.mac.Mac.{Mac}
 use Rattle.frame_core.specs.Octets.{is_group}
 use Rattle.rstp_settings.specs.Table.{opening}
+use Rattle.rstp_settings.specs.declared.settings.TheConstants.{MAX_PORTS}
 use Rattle.rstp_rules.specs.declared.config.PortConfig.{PortConfig}
 use Rattle.rstp_core.specs.Tree.{opening_tree}
 use Rattle.bridge_core.specs.declared.fault.BridgeFault.{BridgeFault}
@@ -14,10 +15,10 @@ use Rattle.bridge_core.specs.Bridge.{BridgeState, no_counters}
 abbrev pub is_speed : ℕ → Bool
 is_speed s = s == 10 || s == 100 || s == 1000
 
--- The first fault of a configuration: no port or more than 32; a group address; a speed that no port may have.
+-- The first fault of a configuration: no port or too many; a group address; a speed that no port may have.
 abbrev pub fault_of : Mac → List PortConfig → Option BridgeFault
 fault_of address ports =
-    if length ports == 0 || nat_lt 32 (length ports) then Some BadPorts
+    if length ports == 0 || nat_lt MAX_PORTS (length ports) then Some BadPorts
     else (if is_group address then Some BadAddress
     else (if not (list_all (λ p. is_speed p.speed) ports) then Some BadSpeed
     else None))

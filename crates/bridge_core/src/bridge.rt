@@ -1,25 +1,25 @@
 //! The bridge: one event at a time.
 ghost use Rattle.std.specs.Prelude.{◌≡◌, ◌≤◌, length, true, Some, None, Ok, Err, IfOk};
 ghost use Rattle.rstp_settings.specs.Table.{get, HasKey, IsInRange};
-ghost use Rattle.rstp_rules.specs.declared.config.TheConstants.{IFINDEX_MAX};
 ghost use Rattle.bridge_core.specs.Bridge.{port_count, is_on};
 ghost use Rattle.bridge_core.specs.Opening.{fault_of, opening_bridge};
 ghost use Rattle.bridge_core.specs.Forwarding.{AsksMemory, MayLackMemory, egress_of};
 ghost use Rattle.bridge_core.specs.Counting.{sent_where, has_bpdu};
-ghost use Rattle.bridge_core.specs.Events.{without, framed, taken, passed, received, learned_from, forwarded, stepped, arrival_of, tick_of, ticked_bridge, link_of, linked_bridge, settling_of, settled_bridge, set_bridge};
+ghost use Rattle.fdb_core.specs.Rows.{other_rows};
+ghost use Rattle.bridge_core.specs.Events.{framed, taken, passed, received, learned_from, forwarded, stepped, arrival_of, tick_of, ticked_bridge, link_of, linked_bridge, settling_of, settled_bridge, set_bridge};
 ghost use Rattle.bridge_core.specs.Facts.{facts_of, port_facts_of};
 
 use crate::counters::{PortCounters, count_bpdus, count_discards};
 use crate::facts::{Facts, PortFacts};
 use crate::fault::{BridgeFault, find_fault};
 use crate::forwarding::{find_way, send_out};
-use crate::learning::{flush_ports, lacks_memory, learn_from};
+use crate::learning::{lacks_memory, learn_from};
 use crate::opening;
 use arrayvec::ArrayVec;
 use fdb_core::Fdb;
 use frame_core::{Bpdu, FrameIn, Mac};
 use rstp_core::{
-    BridgeConfig, BridgeKey, Key, MAX_PORTS, Outcome, PortConfig, PortKey, Rstp, Settings,
+    BridgeConfig, BridgeKey, IFINDEX_MAX, Key, MAX_PORTS, Outcome, PortConfig, PortKey, Rstp, Settings,
 };
 use rstp_rules::lines::is_enabled;
 use std::alloc::Global;
@@ -46,7 +46,6 @@ pub struct Forwarding {
 /// its counters. Ports are numbered from 1. A change of settings is followed by `settle`.
 #[derive(Drop)]
 pub struct Bridge {
-    config: BridgeConfig,
     settings: Settings,
     tree: Rstp,
     fdb: Fdb,
@@ -67,7 +66,7 @@ impl Model for Bridge {
       counters = record { entry_discards = b.entry_discards; ports = b.counters.items };
     } };
 
-    ghost invariant = { λ b. IsBridge b.config.address b.config.ports.items b.settings b.tree b.fdb b.counters.items };
+    ghost invariant = { λ b. IsBridge b.settings b.tree b.fdb b.counters.items };
 }
 
 impl Bridge {
@@ -92,7 +91,7 @@ impl Bridge {
     pub fn ports(&self) -> usize
         ensures count { result ≡ port_count self.now }
         ensures least { 1 ≤ result }
-        ensures most { result ≤ 32 }
+        ensures most { result ≤ MAX_PORTS }
         ensures set { length self.now.settings.ports ≡ result }
         ensures configured { length self.now.tree.config ≡ result }
         ensures counted { length self.now.counters.ports ≡ result }
@@ -106,7 +105,7 @@ impl Bridge {
     {
         let tree = self.tree.bridge_facts();
         Facts {
-            address: self.config.address,
+            address: self.tree.address(),
             ports: self.tree.ports(),
             root: tree.root.vector.root,
             root_cost: tree.root.vector.cost,
@@ -127,7 +126,7 @@ impl Bridge {
         ensures ifindex_most { result.ifindex ≤ IFINDEX_MAX }
     {
         let at = port as usize - 1;
-        let config = self.config.ports[at];
+        let config = self.tree.config(port);
         let counters = self.counters[at];
         let held = self.tree.facts(port);
         PortFacts {
@@ -181,7 +180,7 @@ impl Bridge {
 
     /// A frame comes by port `port`. Where the port is off nothing changes and nothing goes out. A BPDU goes to the spanning tree
     /// only. The source of any other frame is learned where the port is learning or forwarding, neither is the source a group address
-    /// nor the destination reserved, and there is room: it has a row, or there are fewer than 1,024 (7.8).
+    /// nor the destination reserved, and there is room: it has a row, or there are fewer than [`MAX_LEARNED_ROWS`] (7.8).
     /// Then, where the port forwards, the frame goes out by the other forwarding ports (7.7): by the one at which its destination is
     /// learned, or by all where it is a group address or not learned; but by none where it is the bridge's own address or one of
     /// 0180C2000000 to 0180C200000F (7.12.6). Only the growth for a new learned row takes memory: where that is refused the frame is
@@ -276,7 +275,7 @@ impl Bridge {
         ensures ports { port_count self.new ≡ port_count self.old }
     {
         let state = self.tree.state(port);
-        let way = find_way(&self.fdb, self.config.address, state, destination);
+        let way = find_way(&self.fdb, self.tree.address(), state, destination);
         let counters = self.counters.as_mut_slice();
         let egress = send_out(way, port, &self.tree, counters);
         counters[port as usize - 1].discard(egress.is_empty());
@@ -299,7 +298,7 @@ impl Bridge {
 
 fn open(alloc: Global, address: Mac, ports: &[PortConfig]) -> Bridge
     requires least { 1 ≤ length ports.now }
-    requires most { length ports.now ≤ 32 }
+    requires most { length ports.now ≤ MAX_PORTS }
     ensures opened { result ≡ opening_bridge address ports.now }
     ensures ports { port_count result ≡ length ports.now }
 {
@@ -309,7 +308,6 @@ fn open(alloc: Global, address: Mac, ports: &[PortConfig]) -> Bridge
     };
     let tree = Rstp::new(&config);
     Bridge {
-        config,
         settings: Settings::new(ports.len()),
         tree,
         fdb: Fdb::new(alloc, MAX_LEARNED_ROWS),
@@ -321,12 +319,12 @@ fn open(alloc: Global, address: Mac, ports: &[PortConfig]) -> Bridge
 // What follows a step of the spanning tree: the learned rows of the flushed ports go, and each BPDU is a frame out of its port.
 fn follow(fdb: &mut Fdb, counters: &mut [PortCounters], outcome: Outcome) -> Bpdus
     requires { length outcome.bpdus.items ≡ length counters.old }
-    ensures fdb { fdb.new ≡ record fdb.old { rows = without outcome.flushed.items fdb.old.rows } }
+    ensures fdb { fdb.new ≡ record fdb.old { rows = other_rows outcome.flushed.items fdb.old.rows } }
     ensures counters { counters.new ≡ sent_where (has_bpdu outcome.bpdus.items) counters.old }
     ensures bpdus { result.items ≡ outcome.bpdus.items }
 {
     let Outcome { bpdus, flushed } = outcome;
-    flush_ports(fdb, flushed.as_slice());
+    fdb.flush_ports(flushed.as_slice());
     count_bpdus(bpdus.as_slice(), counters);
     bpdus
 }

@@ -69,7 +69,7 @@ fn send_one(
     counters: &mut PortCounters,
     egress: &mut ArrayVec<u16, MAX_PORTS>,
 )
-    requires { length egress.old.items < 32 }
+    requires { length egress.old.items < MAX_PORTS }
     ensures counters { counters.new ≡ with_frame_out goes counters.old }
     ensures egress { egress.new.items ≡ (if goes then egress.old.items ++ port ∷ [] else egress.old.items) }
     ensures most { length egress.new.items ≤ length egress.old.items + 1 }
@@ -89,7 +89,7 @@ pub fn send_out(
     counters: &mut [PortCounters],
 ) -> ArrayVec<u16, MAX_PORTS>
     requires ports { length counters.old ≡ length tree.now.ports }
-    requires few { length tree.now.ports ≤ 32 }
+    requires few { length tree.now.ports ≤ MAX_PORTS }
     ensures egress { result.items ≡ ports_where (goes_by (leads way) from tree.now) (length tree.now.ports) }
     ensures counters { counters.new ≡ sent_where (goes_by (leads way) from tree.now) counters.old }
 {

@@ -1,6 +1,5 @@
-//! The learned addresses, as frames come in and as the spanning tree takes its steps (IEEE 802.1D-2004 7.8, 7.9).
+//! The learned addresses, as frames come in (IEEE 802.1D-2004 7.8).
 ghost use Rattle.std.specs.Prelude.{◌≡◌, true};
-ghost use Rattle.bridge_core.specs.Events.{without};
 ghost use Rattle.bridge_core.specs.Forwarding.{learns, learnt_with, rows_after, is_refused, NeedsMemory};
 
 use crate::forwarding::is_reserved;
@@ -34,11 +33,3 @@ pub fn lacks_memory(learnt: Option<Learnt>) -> bool
     matches!(learnt, Some(Learnt::Memory))
 }
 
-/// Removes the rows of these ports.
-pub fn flush_ports(fdb: &mut Fdb, ports: &[u16])
-    ensures { fdb.new ≡ record fdb.old { rows = without ports.now fdb.old.rows } }
-{
-    for port in ports {
-        fdb.flush_port(*port);
-    }
-}

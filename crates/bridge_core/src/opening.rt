@@ -9,7 +9,7 @@ use rstp_core::{MAX_PORTS, PortConfig};
 
 /// The same list of configurations.
 pub fn copied(ports: &[PortConfig]) -> ArrayVec<PortConfig, MAX_PORTS>
-    requires { length ports.now ≤ 32 }
+    requires { length ports.now ≤ MAX_PORTS }
     ensures { result.items ≡ ports.now }
 {
     let mut copies = ArrayVec::new();
@@ -21,7 +21,7 @@ pub fn copied(ports: &[PortConfig]) -> ArrayVec<PortConfig, MAX_PORTS>
 
 /// Counters at 0.
 pub fn zero_counters(count: usize) -> ArrayVec<PortCounters, MAX_PORTS>
-    requires { count ≤ 32 }
+    requires { count ≤ MAX_PORTS }
     ensures { result.items ≡ replicate count no_counters }
 {
     let mut counters = ArrayVec::new();
@@ -37,7 +37,7 @@ pub fn zero_counters(count: usize) -> ArrayVec<PortCounters, MAX_PORTS>
 
 /// No BPDU on any port.
 pub fn no_bpdus(count: usize) -> ArrayVec<Option<Bpdu>, MAX_PORTS>
-    requires { count ≤ 32 }
+    requires { count ≤ MAX_PORTS }
     ensures { result.items ≡ replicate count None }
 {
     let mut bpdus = ArrayVec::new();

@@ -3,7 +3,7 @@ ghost use Rattle.std.specs.Prelude.{◌≡◌, ◌≤◌, length, IfOk};
 ghost use Rattle.bridge_core.specs.Bridge.{port_count};
 
 use crate::{Bpdus, Bridge, BridgeFault, Forwarding};
-use frame_core::{Mac, read_frame, write_bpdu};
+use frame_core::{FrameIn, Mac, read_frame, write_bpdu};
 use rstp_core::{IfIndex, Key, PortConfig, PortKey, State};
 use std::alloc::Global;
 use std::process::Abort;
@@ -187,6 +187,41 @@ fn a_full_table_forwards_all_the_same(rt: HostRuntime) -> Result<(), Fail> {
     assert_goes(&rt, &come(&mut bridge, 1, &from_station(1_024))?, &[2]);
     assert_eq!(rt; bridge.fdb().len(), 1_024);
     assert_eq!(rt; bridge.facts().entry_discards, 1);
+    Ok(())
+}
+
+// Sources of many kinds: all zeros, the bridge's own address, and such as begin otherwise.
+const SOURCES: [Mac; 6] = [
+    Mac([0x00; 6]),
+    OWN,
+    Mac([0x00, 0x1B, 0x21, 0x3C, 0x9D, 0xF8]),
+    Mac([0x3C, 0x52, 0x82, 0x00, 0x00, 0x01]),
+    Mac([0xAC, 0xDE, 0x48, 0x00, 0x11, 0x22]),
+    Mac([0xFE, 0xFF, 0xFF, 0xFF, 0xFF, 0xFF]),
+];
+
+// Frames to everybody from these sources come by port 1, and each is found there.
+fn learn_sources(rt: &impl Abort, bridge: &mut Bridge)
+    requires { port_count bridge.old ≡ 2 }
+    ensures { port_count bridge.new ≡ 2 }
+{
+    for source in SOURCES {
+        let frame = FrameIn {
+            destination: Mac([0xFF; 6]),
+            source,
+            bpdu: None,
+        };
+        assert_goes(rt, &bridge.frame(1, &frame), &[2]);
+        assert_eq!(rt; bridge.fdb().find(source), Some(1));
+    }
+}
+
+#[test]
+fn a_source_of_any_octets_is_learned(rt: HostRuntime) -> Result<(), Fail> {
+    let mut bridge = running(rt.alloc())?;
+    learn_sources(&rt, &mut bridge);
+    assert_eq!(rt; bridge.facts().entry_discards, 0);
+    assert_eq!(rt; bridge.fdb().len(), 6);
     Ok(())
 }
 

@@ -1,6 +1,6 @@
 -- The rows of learned addresses (IEEE 802.1D-2004, 7.9.2), by rising address.
 use Rattle.std.specs.Prelude.{ℕ, ◌+◌, ◌<◌, not, ◌==◌, nat_lt, List, filter, find, slice_get, Option, Some, None}
-use Rattle.std.specs.List.{AllByRecursion}
+use Rattle.std.specs.List.{AllByRecursion, list_any}
 use Rattle.std.specs.List.Sorted.{IsStrictlySortedBy}
 use Rattle.std.specs.Option.{option_map}
 use Rattle.std.specs.Ordering.{nat_cmp, is_lt, is_eq, is_gt}
@@ -50,6 +50,6 @@ aged r = record r { age = r.age + 1 }
 abbrev pub young_rows : ℕ → List Row → List Row
 young_rows limit rows = filter (λ r. nat_lt r.age limit) rows
 
--- the rows of other ports
-abbrev pub other_rows : ℕ → List Row → List Row
-other_rows port rows = filter (λ r. not (r.port == port)) rows
+-- the rows of other ports than these
+abbrev pub other_rows : List ℕ → List Row → List Row
+other_rows ports rows = filter (λ r. not (list_any (λ n. n == r.port) ports)) rows

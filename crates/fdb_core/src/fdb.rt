@@ -41,14 +41,6 @@ impl Fdb {
         }
     }
 
-    /// The rows, by rising address.
-    pub fn rows(&self) -> &[Row]
-        ensures rows { result.now ≡ self.now.rows }
-        ensures table { IsTable self.now }
-    {
-        &self.rows
-    }
-
     /// How many rows there are.
     pub fn len(&self) -> usize
         ensures { result ≡ length self.now.rows }
@@ -88,16 +80,19 @@ impl Fdb {
         rows::age_in(&mut self.rows, limit);
     }
 
-    /// Removes the rows of a port.
-    pub fn flush_port(&mut self, port: u16)
-        ensures { self.new ≡ record self.old { rows = other_rows port self.old.rows } }
+    /// Removes the rows of these ports, in one pass over the rows (7.9.2).
+    pub fn flush_ports(&mut self, ports: &[u16])
+        ensures { self.new ≡ record self.old { rows = other_rows ports.now self.old.rows } }
     {
-        rows::flush_in(&mut self.rows, port);
+        rows::flush_in(&mut self.rows, ports);
     }
 
-    /// The row of the lowest address above this one, or of the lowest address of all.
+    /// The row of the lowest address above this one, or of the lowest address of all. So the rows are walked from none on, each time
+    /// from the address of the row before.
     pub fn next_after(&self, after: Option<Mac>) -> Option<Row>
-        ensures { result ≡ next_after self.now.rows after }
+        ensures row { result ≡ next_after self.now.rows after }
+        // The rows are by rising address, each is younger than the longest aging time, and they are no more than the limit.
+        ensures table { IsTable self.now }
     {
         rows::row_after(&self.rows, after)
     }

@@ -2,6 +2,7 @@
 #![tactic(auto)]
 
 mod fdb;
+pub mod laws;
 mod learnt;
 mod row;
 mod rows;

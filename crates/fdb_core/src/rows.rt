@@ -107,9 +107,9 @@ pub fn age_in(rows: &mut Vec<Row>, limit: u32)
     rows.retain(|row| row.age < limit);
 }
 
-pub fn flush_in(rows: &mut Vec<Row>, port: u16)
-    ensures rows { rows.new.items ≡ other_rows port rows.old.items }
+pub fn flush_in(rows: &mut Vec<Row>, ports: &[u16])
+    ensures rows { rows.new.items ≡ other_rows ports.now rows.old.items }
     ensures few { length rows.new.items ≤ length rows.old.items }
 {
-    rows.retain(|row| row.port != port);
+    rows.retain(|row| !ports.contains(&row.port));
 }

@@ -1,4 +1,4 @@
-//! A full table, ageing, flushing and a walk.
+//! Addresses of every kind, a full table, ageing, flushing and a walk.
 use crate::*;
 use frame_core::Mac;
 use std::process::Abort;
@@ -45,10 +45,12 @@ fn a_walk_gives_all_rows_in_order(rt: HostRuntime) {
         after = Some(row.address);
     }
     assert_eq!(rt; fdb.next_after(after), None);
-    assert_eq!(rt;
-        fdb.next_after(Some(Mac([0x02, 0x00, 0x00, 0x00, 0x00, 0x00]))),
-        fdb.rows().get(1).copied()
-    );
+    let second = Row {
+        address: numbered(1),
+        port: 2,
+        age: 0,
+    };
+    assert_eq!(rt; fdb.next_after(Some(numbered(0))), Some(second));
 }
 
 #[test]
@@ -67,15 +69,41 @@ fn a_row_seen_again_is_young(rt: HostRuntime) {
         port: 1,
         age: 1,
     };
-    assert_eq!(rt; fdb.rows(), [row].as_slice());
+    assert_eq!(rt; fdb.len(), 1);
+    assert_eq!(rt; fdb.next_after(None), Some(row));
 }
 
 #[test]
-fn a_flush_removes_the_rows_of_one_port(rt: HostRuntime) {
-    let mut fdb = Fdb::new(rt.alloc(), usize::from(ROWS));
+fn a_flush_removes_the_rows_of_its_ports(rt: HostRuntime) {
+    let mut fdb = Fdb::new(rt.alloc(), usize::from(ROWS) + 1);
     learn_all(&rt, &mut fdb);
-    fdb.flush_port(1);
+    assert_eq!(rt; fdb.learn(numbered(5_000), 3), Learnt::New);
+    fdb.flush_ports(&[3, 1]);
     assert_eq!(rt; fdb.len(), 512);
     assert_eq!(rt; fdb.find(numbered(2)), None);
     assert_eq!(rt; fdb.find(numbered(3)), Some(2));
+    assert_eq!(rt; fdb.find(numbered(5_000)), None);
+}
+
+// Learns each address that has this octet at one place and zeros elsewhere.
+fn learn_octet(rt: &impl Abort, fdb: &mut Fdb, octet: u8) {
+    for place in 0..6 {
+        let mut octets = [0x00; 6];
+        octets[place] = octet;
+        assert_eq!(rt; fdb.learn(Mac(octets), 1), Learnt::New);
+        assert_eq!(rt; fdb.find(Mac(octets)), Some(1));
+    }
+}
+
+#[test]
+fn an_address_of_any_octets_is_learned(rt: HostRuntime) {
+    let mut fdb = Fdb::new(rt.alloc(), 2_000);
+    for octet in 1..=255 {
+        learn_octet(&rt, &mut fdb, octet);
+    }
+    for address in [Mac([0x00; 6]), Mac([0xFF; 6])] {
+        assert_eq!(rt; fdb.learn(address, 2), Learnt::New);
+        assert_eq!(rt; fdb.find(address), Some(2));
+    }
+    assert_eq!(rt; fdb.len(), 6 * 255 + 2);
 }

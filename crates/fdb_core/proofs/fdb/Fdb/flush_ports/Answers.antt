@@ -1,7 +1,7 @@
 use Rattle.std.proofs.Common.{sym, subst, arith}
 use Rattle.fdb_core.specs.Rows.{IsRising, IsYoung}
 use Rattle.fdb_core.proofs.Kept.{rising_kept, kept_by}
-use Rattle.fdb_core.proofs.fdb.Fdb.flush_port.Goals as goal
+use Rattle.fdb_core.proofs.fdb.Fdb.flush_ports.Goals as goal
 
 pub invariant_of-self : goal.invariant_of-self
 invariant_of-self c =
