@@ -1,0 +1,98 @@
+//! Who is let in to what.
+ghost use Rattle.std.specs.Prelude.{◌≡◌, ◌≢◌, ◌≤◌, ◌<◌, length};
+ghost use Rattle.decision.specs.Deciding.{view_type, asked, access_key_at, judged, unless_empty, decided};
+ghost use Rattle.vacm_core.specs.Access.{NamesRowOf};
+
+use crate::choice::{Cause, Decision, Refusal};
+use crate::keys::AccessKey;
+use community_core::{COMMUNITY_MAX, Caller, Policy};
+use message_core::{Kind, Request};
+use vacm_core::{Ask, Level, Vacm, Verdict, ViewType};
+
+/// The security model of SNMPv2c (RFC 3411, SnmpSecurityModel).
+const COMMUNITY_MODEL: u32 = 2;
+
+// The view that a kind of request asks for.
+fn view_type(kind: Kind) -> ViewType
+    ensures { result ≡ view_type kind }
+{
+    match kind {
+        Kind::Get | Kind::GetNext | Kind::GetBulk => ViewType::Read,
+        Kind::Set => ViewType::Write,
+    }
+}
+
+// What a caller's request asks of the tables.
+fn asked(caller: Caller, kind: Kind) -> Ask
+    ensures { result ≡ asked caller kind }
+{
+    Ask {
+        model: COMMUNITY_MODEL,
+        security: caller.security,
+        context: caller.context,
+        level: Level::NoAuthNoPriv,
+        view: view_type(kind),
+    }
+}
+
+// The key of the access row of this number.
+fn access_key_at(vacm: &Vacm, n: usize) -> AccessKey
+    requires { n < length vacm.now.access }
+    ensures { result ≡ access_key_at vacm.now.access n }
+{
+    AccessKey::of(vacm.access_row(n))
+}
+
+// A verdict of the tables, with the keys of its rows.
+fn judged(vacm: &Vacm, verdict: Verdict) -> Decision
+    requires { NamesRowOf vacm.now.access verdict }
+    ensures { result ≡ judged vacm.now.access verdict }
+{
+    match verdict {
+        Verdict::NoSuchContext(name) => Decision::Drop(Cause::NoSuchContext(name)),
+        Verdict::NoGroupName(model, name) => {
+            Decision::Refused(Refusal::NoGroupName { model, name })
+        }
+        Verdict::NoAccessEntry(group, prefix, model, level) => {
+            Decision::Refused(Refusal::NoAccessEntry(AccessKey {
+                group,
+                prefix,
+                model,
+                level,
+            }))
+        }
+        Verdict::NoSuchView(n, view) => {
+            let row = access_key_at(vacm, n);
+            Decision::Refused(Refusal::NoSuchView { row, view })
+        }
+        Verdict::Allowed(n, view) => {
+            let row = access_key_at(vacm, n);
+            Decision::Allowed { row, view }
+        }
+    }
+}
+
+// A decision, or that nothing is asked for by a request that is not dropped.
+fn unless_empty(empty: bool, decision: Decision) -> Decision
+    ensures { result ≡ unless_empty empty decision }
+{
+    match decision {
+        Decision::Drop(cause) => Decision::Drop(cause),
+        other => { if empty { Decision::Empty } else { other } }
+    }
+}
+
+/// The decision on a request up to its names: its community (RFC 3584, section 5.2.1), its context, and what the tables of access
+/// control say (RFC 3415, section 3.2). It takes no memory.
+#[tactic(auto, unfolding(crate::specs::Deciding::decided))]
+pub fn decide(policy: &Policy, request: &Request) -> Decision
+    ensures decision { result ≡ decided policy.now request.now }
+    ensures short { result ≢ Decision.Drop Cause.UnknownCommunity → length request.now.community ≤ COMMUNITY_MAX }
+{
+    let Some(caller) = policy.caller(request.community.as_slice()) else {
+        return Decision::Drop(Cause::UnknownCommunity);
+    };
+    let empty = request.bindings.as_slice().is_empty();
+    let verdict = policy.vacm().decide(&asked(caller, request.kind));
+    unless_empty(empty, judged(policy.vacm(), verdict))
+}
