@@ -6,7 +6,8 @@ use Rattle.std.proofs.lemmas.List.Elements.{All-weaker}
 use Rattle.std.proofs.lemmas.List.Folds.{list_any_none}
 use Rattle.std.proofs.lemmas.List.Kept.{AllPairs-filter}
 use Rattle.oid_core.specs.Order.{name_lt, name_eq, is_prefix}
-use Rattle.agent_core.specs.Reading.{IsRising, next_of, value_of, visible}
+use Rattle.message_core.specs.Instances.{IsRising, next_of, value_of}
+use Rattle.agent_core.specs.Reading.{visible}
 use Rattle.message_core.specs.declared.binding.Binding.{Binding}
 use Rattle.message_core.specs.declared.value.Value.{Value}
 use Rattle.agent_core.proofs.Rising.{rising_head, rising_tail, tells}

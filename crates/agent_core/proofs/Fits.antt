@@ -10,7 +10,8 @@ use Rattle.oid_core.specs.Name.{HasRoot}
 use Rattle.message_core.specs.Canon.{canon_binding}
 use Rattle.message_core.specs.Spellable.{AreSpellable}
 use Rattle.message_core.specs.declared.binding.Binding.{Binding}
-use Rattle.agent_core.specs.Reading.{next_answer, next_answers, names_of}
+use Rattle.message_core.specs.Instances.{names_of}
+use Rattle.agent_core.specs.Reading.{next_answer, next_answers}
 use Rattle.agent_core.specs.Bulk.{all_end, repetitions, bulk_list}
 use Rattle.agent_core.specs.Fitting.{total, fit_into, IsFilled}
 
@@ -79,6 +80,11 @@ once_cut rows names i name room old now new more h at so same full =
           let is : next ≡ b = cc in
           ap (λ z. fit_into room (z ++ next ∷ [])) same ∙ ap (λ z. fit_into room (now ++ z ∷ [])) is ∙ full;
     }
+
+-- a step for each binding, and one more of each
+pub pushed_work : (start now later : ℕ) (old sent new : List Binding) (b : Binding) → now + length old ≡ start + length sent → later ≡ now + 1 → new ≡ sent ++ b ∷ [] →
+    later + length old ≡ start + length new
+pushed_work start now later old sent new b so step push = omega (arith, so, step, ap length push, length-append sent (b ∷ []))
 
 -- the next binding is sent
 pub once_more : (rows : List Binding) (names : List (List ℕ)) (i : ℕ) (name : List ℕ) (old now new : List Binding) → i < length names → name ≡ get_or names i name →

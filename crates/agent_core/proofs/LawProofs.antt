@@ -11,17 +11,19 @@ use Rattle.message_core.specs.declared.request.Kind.TheVariants.{Get, GetNext, S
 use Rattle.message_core.specs.declared.request.Request.{Request}
 use Rattle.message_core.specs.declared.status.ErrorStatus.TheVariants.{NoError}
 use Rattle.message_core.proofs.Smallest.{binding_some, reply_some}
-use Rattle.agent_core.specs.Reading.{IsRising, IsLeastAfter, visible, after, next_of, end_under, get_answer, get_answers, names_of, next_answers}
+use Rattle.message_core.specs.Instances.{IsRising, IsLeastAfter, after, next_of, names_of}
+use Rattle.agent_core.specs.Reading.{visible, end_under, get_answer, get_answers, next_answers}
 use Rattle.agent_core.specs.Fitting.{total, fitting, reply_size}
 use Rattle.agent_core.specs.Bulk.{asked_list}
 use Rattle.vacm_core.specs.Families.{in_view}
 use Rattle.message_core.specs.declared.reply.Reply.{Reply}
-use Rattle.audit_core.specs.declared.keys.AccessKey.{AccessKey}
-use Rattle.audit_core.specs.declared.decision.Decision.{Decision}
-use Rattle.audit_core.specs.declared.decision.Decision.TheVariants.{Allowed}
-use Rattle.agent_core.specs.Deciding.{decided}
-use Rattle.agent_core.specs.World.{World}
-use Rattle.agent_core.specs.Replies.{sized, kind_reply, reply_by, reply_of, AgreesOnAsked, walk, last_name}
+use Rattle.decision.specs.declared.keys.AccessKey.{AccessKey}
+use Rattle.decision.specs.declared.choice.Decision.{Decision}
+use Rattle.decision.specs.declared.choice.Decision.TheVariants.{Allowed}
+use Rattle.decision.specs.Deciding.{decided}
+use Rattle.agent_core.specs.World.{Shown}
+use Rattle.agent_core.specs.Replies.{sized, kind_reply, AgreesOnAsked, walk, last_name}
+use Rattle.agent_core.specs.Answers.{outcome_of, outcome_by, reply_of}
 use Rattle.agent_core.proofs.Rising.{rising_tail, rising_head, name_lt-irrefl, name_lt-asym}
 use Rattle.agent_core.proofs.Rest.{find_is, after-first}
 use Rattle.agent_core.proofs.Fits.{total-append}
@@ -61,20 +63,20 @@ kind_same objects others_objects first second rows others request GetNext e h = 
 kind_same objects others_objects first second rows others request Set e h = refl
 kind_same objects others_objects first second rows others request GetBulk e h = ap (λ vs. answer_to request NoError (pos 0) (fitting request (asked_list vs request))) e
 
-pub reply_same : (world other : World) (request : Request) (row other_row : AccessKey) (view other_view : List ℕ) →
-    decided world.policy request ≡ Allowed row view → decided other.policy request ≡ Allowed other_row other_view →
-    visible (in_view world.policy.vacm.families view) world.instances ≡ visible (in_view other.policy.vacm.families other_view) other.instances →
-    (request.kind ≡ Get → AgreesOnAsked world other view other_view request) →
-    reply_of world request ≡ reply_of other request
-unfolding reply_of
-reply_same world other request row other_row view other_view d f e h =
-    let first : List ℕ → Bool = in_view world.policy.vacm.families view in
+pub reply_same : (shown other : Shown) (request : Request) (row other_row : AccessKey) (view other_view : List ℕ) →
+    decided shown.policy request ≡ Allowed row view → decided other.policy request ≡ Allowed other_row other_view →
+    visible (in_view shown.policy.vacm.families view) shown.instances ≡ visible (in_view other.policy.vacm.families other_view) other.instances →
+    (request.kind ≡ Get → AgreesOnAsked shown other view other_view request) →
+    reply_of shown request ≡ reply_of other request
+unfolding outcome_of
+reply_same shown other request row other_row view other_view d f e h =
+    let first : List ℕ → Bool = in_view shown.policy.vacm.families view in
     let second : List ℕ → Bool = in_view other.policy.vacm.families other_view in
-    let same : kind_reply world.objects first world.instances request request.kind ≡ kind_reply other.objects second other.instances request request.kind =
-    kind_same world.objects other.objects first second world.instances other.instances request request.kind e (λ g. ((h g).objects, (h g).asked)) in
-    ap (λ (decision : Decision). reply_by world request decision) d
+    let same : kind_reply shown.objects first shown.instances request request.kind ≡ kind_reply other.objects second other.instances request request.kind =
+    kind_same shown.objects other.objects first second shown.instances other.instances request request.kind e (λ g. ((h g).objects, (h g).asked)) in
+    ap (λ (decision : Decision). (outcome_by shown request decision).reply) d
     ∙ ap (λ (reply : Reply). Some reply) same
-    ∙ sym (ap (λ (decision : Decision). reply_by other request decision) f)
+    ∙ sym (ap (λ (decision : Decision). (outcome_by other request decision).reply) f)
 
 first_contained : (x : Binding) (xs : List Binding) → Contains (x ∷ xs) x
 first_contained x xs = (0, omega arith, refl)
@@ -108,7 +110,7 @@ pub first_least : (rows : List Binding) (name : List ℕ) → IsRising rows → 
 first_least [] name h = refl
 first_least (x ∷ xs) name h = first_least_at (name_lt name x.name) x xs name refl h (first_least xs name (rising_tail x xs h))
 
-total_some : (bs : List Binding) → 6 * length bs ≤ total bs
+pub total_some : (bs : List Binding) → 6 * length bs ≤ total bs
 total_some [] = omega arith
 total_some (b ∷ bs) =
     let more : 6 * length bs ≤ total bs = total_some bs in
@@ -121,3 +123,9 @@ few_law request all community =
     let sent : List Binding = fitting request all in
     let fits : reply_size request sent ≤ 1472 = (longest_law request all community).fits in
     omega (arith, fits, reply_some (answer_to request NoError (pos 0) sent), total_some sent)
+
+-- a step for each binding that is sent, and one more
+pub work_within : (start now room : ℕ) (bs : List Binding) → total bs ≤ room → room ≤ 1472 → now ≤ start + length bs + 1 → now ≤ start + 246
+work_within start now room bs within most work =
+    let six : 6 * length bs ≤ total bs = total_some bs in
+    omega (arith, six, within, most, work)

@@ -4,6 +4,8 @@ pub mod Below
 pub mod Sizes
 pub mod Spellings
 pub mod Fits
+pub mod Repeats
 pub mod Longest
 pub mod LawProofs
 pub mod Denials
+pub mod Outcomes

@@ -2,7 +2,8 @@
 use Rattle.std.proofs.Common.{◌≡◌, ℕ, suc, ◌<◌, ◌∙◌, sym, ap, refl, Bool, true, false, cond, List, [], ◌∷◌, length, arith, All, filter, find, Option, Some, None}
 use Rattle.std.proofs.lemmas.List.Elements.{All-head, All-filter, All-weaker}
 use Rattle.oid_core.specs.Order.{name_lt}
-use Rattle.agent_core.specs.Reading.{IsRising, after, next_of, visible}
+use Rattle.message_core.specs.Instances.{IsRising, after, next_of}
+use Rattle.agent_core.specs.Reading.{visible}
 use Rattle.message_core.specs.declared.binding.Binding.{Binding}
 use Rattle.agent_core.proofs.Rising.{name_lt-irrefl, name_lt-trans, name_lt-asym, rising_head, rising_tail, all_kept}
 

@@ -4,7 +4,7 @@ use Rattle.std.proofs.lemmas.Bool.Decides.{eqb_tells, leb_tells, nat_tests}
 use Rattle.std.proofs.lemmas.List.Elements.{All-head, All-tail}
 use Rattle.std.proofs.lemmas.List.Kept.{AllPairs-cons}
 use Rattle.oid_core.specs.Order.{name_lt}
-use Rattle.agent_core.specs.Reading.{IsRising}
+use Rattle.message_core.specs.Instances.{IsRising}
 use Rattle.message_core.specs.declared.binding.Binding.{Binding}
 
 pub tells : (x y : ℕ) (xs ys : List ℕ) → name_lt (x ∷ xs) (y ∷ ys) ≡ true → (x < y) ⊎ ((x ≡ y) × (name_lt xs ys ≡ true))

@@ -6,7 +6,8 @@ use Rattle.oid_core.specs.Name.{HasRoot}
 use Rattle.message_core.specs.Spellable.{IsSpellableValue, IsSpellableBinding, AreSpellable}
 use Rattle.message_core.specs.declared.binding.Binding.{Binding}
 use Rattle.message_core.specs.declared.value.Value.{Value}
-use Rattle.agent_core.specs.Reading.{visible, value_of, next_of, or_end, or_missing, has_object, get_answers, next_answer, next_answers, names_of}
+use Rattle.message_core.specs.Instances.{value_of, next_of, names_of}
+use Rattle.agent_core.specs.Reading.{visible, or_end, or_missing, is_known, object_of, get_answers, next_answer, next_answers}
 
 -- what a view shows of instances that can be spelled
 visible_spellable : (shows : List ℕ → Bool) (rows : List Binding) → AreSpellable rows → AreSpellable (visible shows rows)
@@ -35,7 +36,7 @@ answers_spellable objects shows rows [] h k = tt
 answers_spellable objects shows rows (b ∷ bs) h k = (
   record {
     name = k.0.name;
-    value = missing_spellable (value_of (visible shows rows) b.name) (has_object objects (shows b.name) (visible shows rows) b.name)
+    value = missing_spellable (value_of (visible shows rows) b.name) (is_known (shows b.name) (visible shows rows) (object_of objects b.name))
         (λ v e. value_spellable (visible shows rows) b.name v (visible_spellable shows rows h) e);
   },
   answers_spellable objects shows rows bs h k.1,

@@ -1,58 +1,92 @@
--- What a call that answers leaves: the reply, the audit, and the counts of what was dropped.
-use Rattle.std.specs.Prelude.{◌≡◌, ℕ, ℤ, pos, ◌+◌, ◌%◌, ◌^◌, [], length, Option, Some, None}
-use Rattle.message_core.specs.Canon.{canon_reply}
+-- One step of a request: what it is answered, its audit, and the world after it.
+use Rattle.std.specs.Prelude.{◌≡◌, ℕ, ◌≤◌, pos, ◌+◌, ◌%◌, ◌^◌, [], List, length, Option, Some, None, IsSome, Result, Ok, Err}
+use Rattle.std.specs.declared.alloc.AllocError.{AllocError}
+use Rattle.message_core.specs.Canon.{canon_reply, answer_to}
 use Rattle.message_core.specs.declared.reply.Reply.{Reply}
 use Rattle.message_core.specs.declared.request.Request.{Request}
-use Rattle.message_core.specs.declared.status.ErrorStatus.{ErrorStatus}
 use Rattle.message_core.specs.declared.status.ErrorStatus.TheVariants.{NoError}
+use Rattle.vacm_core.specs.Families.{in_view}
+use Rattle.decision.specs.Deciding.{decided}
+use Rattle.decision.specs.declared.choice.Cause.{Cause}
+use Rattle.decision.specs.declared.choice.Cause.TheVariants.{UnknownCommunity, NoSuchContext}
+use Rattle.decision.specs.declared.choice.Decision.{Decision}
+use Rattle.decision.specs.declared.choice.Decision.TheVariants.{Drop, Empty, Refused, Allowed}
 use Rattle.audit_core.specs.declared.audit.Audit.{Audit}
-use Rattle.audit_core.specs.declared.decision.Decision.{Decision}
-use Rattle.audit_core.specs.declared.decision.Decision.TheVariants.{UnknownCommunity, NoSuchContext, Empty, NoGroupName, NoAccessEntry, NoSuchView, Allowed}
+use Rattle.audit_core.specs.declared.denied.Denied.{Denied}
 use Rattle.agent_core.specs.Buffered.{Buffered}
-use Rattle.agent_core.specs.World.{World}
-use Rattle.agent_core.specs.Deciding.{decided}
-use Rattle.agent_core.specs.Denying.{denied_of}
-use Rattle.agent_core.specs.Replies.{reply_of}
+use Rattle.agent_core.specs.World.{Shown, World, shown_of}
+use Rattle.agent_core.specs.Denying.{denied_in}
+use Rattle.agent_core.specs.Replies.{sized, halted, kind_reply}
 use Rattle.agent_core.specs.declared.answered.Answered.{Answered}
 use Rattle.agent_core.specs.declared.answered.Answered.TheVariants as answered
 use Rattle.agent_core.specs.declared.sent_reply.SentReply.{SentReply}
 
--- the status and the index of the reply as it is sent; noError and 0 where there is none
-abbrev pub status_of : Option Reply → ErrorStatus
-status_of (Some reply) = reply.status
-status_of None = NoError
+-- what a request is answered: the reply, or none where it is dropped, and the audit
+pub record Outcome : Type 0 where
+  pub reply : Option Reply
+  pub audit : Audit
 
-abbrev pub index_of : Option Reply → ℤ
-index_of (Some reply) = reply.index
-index_of None = pos 0
-
--- The audit of a request: its kind, the reply's status and index, the decision with the keys of its rows, and the denied bindings.
-unfoldable pub audit_of : World → Request → Audit
-audit_of world request = record {
-  kind = request.kind;
-  status = status_of (reply_of world request);
-  index = index_of (reply_of world request);
-  decision = decided world.policy request;
-  denied = denied_of world.policy.vacm.families request (decided world.policy request);
+-- A request that is dropped is audited by its kind and the cause; its status and index mean nothing.
+abbrev pub dropped : Request → Cause → Outcome
+dropped request cause = record {
+  reply = None;
+  audit = record { kind = request.kind; status = NoError; index = pos 0; decision = Drop cause; denied = [] };
 }
+
+-- A request that has a reply is audited by its kind, the status and the index as they are sent, the decision, and the denied bindings.
+abbrev pub replied : Request → Decision → List Denied → Reply → Outcome
+replied request decision denied reply = record {
+  reply = Some reply;
+  audit = record { kind = request.kind; status = reply.status; index = reply.index; decision = decision; denied = denied };
+}
+
+-- The outcome by the decision. A request with no bindings is answered noError with none, whatever its kind; the standard says
+-- nothing of it.
+abbrev pub outcome_by : Shown → Request → Decision → Outcome
+outcome_by shown request (Drop cause) = dropped request cause
+outcome_by shown request Empty = replied request Empty [] (sized (answer_to request NoError (pos 0) []))
+outcome_by shown request (Refused why) = replied request (Refused why) [] (halted request)
+outcome_by shown request (Allowed row view) =
+    replied request (Allowed row view) (denied_in shown.policy.vacm.families view request request.kind)
+    (kind_reply shown.objects (in_view shown.policy.vacm.families view) shown.instances request request.kind)
+
+unfoldable pub outcome_of : Shown → Request → Outcome
+outcome_of shown request = outcome_by shown request (decided shown.policy request)
+
+-- the reply to a request, or none where it is dropped
+abbrev pub reply_of : Shown → Request → Option Reply
+reply_of shown request = (outcome_of shown request).reply
+
+-- the audit of a request
+abbrev pub audit_of : Shown → Request → Audit
+audit_of shown request = (outcome_of shown request).audit
 
 -- a count, and one more
 abbrev pub one_more : ℕ → ℕ
 one_more count = (count + 1) % 2 ^ 32
 
--- the world after a decision: a drop is counted, and nothing else changes
-abbrev pub counted : World → Decision → World
+-- one more request that this cause drops
+abbrev pub counted : World → Cause → World
 counted world UnknownCommunity = record world { bad_communities = one_more world.bad_communities }
 counted world (NoSuchContext name) = record world { unknown_contexts = one_more world.unknown_contexts }
-counted world Empty = world
-counted world (NoGroupName model name) = world
-counted world (NoAccessEntry asked) = world
-counted world (NoSuchView row view) = world
-counted world (Allowed row view) = world
 
--- the world after a request
+-- A request that is dropped is counted, and nothing else changes.
+abbrev pub world_by : World → Decision → World
+world_by world (Drop cause) = counted world cause
+world_by world Empty = world
+world_by world (Refused why) = world
+world_by world (Allowed row view) = world
+
 unfoldable pub world_after : World → Request → World
-world_after world request = counted world (decided world.policy request)
+world_after world request = world_by world (decided world.policy request)
+
+-- One step of a request: its outcome, and the world after it. It sends no BPDU, since nothing can be written.
+pub record Step : Type 0 where
+  pub outcome : Outcome
+  pub world : World
+
+abbrev pub step_of : World → Request → Step
+step_of world request = record { outcome = outcome_of (shown_of world) request; world = world_after world request }
 
 -- a reply stands in the buffer in its minimal spelling, and this is told of it
 pub record IsSent (reply : Reply) (sent : SentReply) (buffer : Buffered) : Type 0 where
@@ -61,11 +95,6 @@ pub record IsSent (reply : Reply) (sent : SentReply) (buffer : Buffered) : Type 
   pub status : sent.status ≡ reply.status
   pub index : sent.index ≡ reply.index
 
--- the same, where there is a reply at all
-abbrev pub IsSentFor : Option Reply → SentReply → Buffered → Type 0
-IsSentFor (Some reply) sent buffer = IsSent reply sent buffer
-IsSentFor None sent buffer = ⊥
-
 -- A reply stands in the buffer in its minimal spelling, or there is none and the buffer is empty; and the audit is told.
 abbrev pub IsAnswered : Option Reply → Audit → Answered → Buffered → Type 0
 IsAnswered (Some reply) audit (answered.Reply len told) buffer =
@@ -73,3 +102,20 @@ IsAnswered (Some reply) audit (answered.Reply len told) buffer =
 IsAnswered (Some reply) audit (answered.NoReply told) buffer = ⊥
 IsAnswered None audit (answered.Reply len told) buffer = ⊥
 IsAnswered None audit (answered.NoReply told) buffer = (buffer.reply ≡ []) × (told ≡ audit)
+
+-- the step is done: the outcome is told, and the world is as it makes it
+pub record IsDone (step : Step) (told : Answered) (buffer : Buffered) (later : World) : Type 0 where
+  pub answer : IsAnswered step.outcome.reply step.outcome.audit told buffer
+  pub world : later ≡ step.world
+
+-- There was no memory for the step: nothing is changed and nothing told, and the request is one that has a reply.
+pub record IsShort (before : World) (request : Request) (buffer : Buffered) (later : World) : Type 0 where
+  pub empty : buffer.reply ≡ []
+  pub unchanged : later ≡ before
+  pub kept : IsSome (reply_of (shown_of before) request)
+  pub community : length request.community ≤ 255
+
+-- a step, as far as there is memory for it
+abbrev pub IsStep : World → Request → Result Answered AllocError → Buffered → World → Type 0
+IsStep before request (Ok told) buffer later = IsDone (step_of before request) told buffer later
+IsStep before request (Err e) buffer later = IsShort before request buffer later

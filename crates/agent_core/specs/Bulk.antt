@@ -1,11 +1,12 @@
 -- The whole list that a GetBulk asks for (RFC 3416, 4.2.3).
-use Rattle.std.specs.Prelude.{ℕ, zero, suc, ℤ, pos, negsuc, Bool, true, false, if◌then◌else◌, List, [], ◌++◌, length, min, take, drop}
+use Rattle.std.specs.Prelude.{◌≡◌, ℕ, zero, suc, ◌+◌, ◌*◌, ◌<◌, ◌≤◌, ℤ, pos, negsuc, Bool, true, false, if◌then◌else◌, List, [], ◌++◌, length, map, min, take, drop, slice_get, Some}
 use Rattle.std.specs.List.{list_all}
 use Rattle.message_core.specs.declared.binding.Binding.{Binding}
 use Rattle.message_core.specs.declared.request.Request.{Request}
 use Rattle.message_core.specs.declared.value.Value.{Value}
 use Rattle.message_core.specs.declared.value.Value.TheVariants.{EndOfMibView}
-use Rattle.agent_core.specs.Reading.{next_answers, names_of}
+use Rattle.message_core.specs.Instances.{names_of}
+use Rattle.agent_core.specs.Reading.{next_answer, next_answers}
 
 abbrev pub is_end : Value → Bool
 is_end EndOfMibView = true
@@ -36,3 +37,23 @@ count_of (negsuc n) = 0
 abbrev pub asked_list : List Binding → Request → List Binding
 asked_list rows request =
     bulk_list rows (min (count_of request.first) (length request.bindings)) (count_of request.second) (names_of request.bindings)
+
+-- The successors of a name: what GetNext answers to it, then to the name that was answered, and so on; the first is number 0.
+abbrev pub successor : List Binding → ℕ → List ℕ → Binding
+successor rows zero name = next_answer rows name
+successor rows (suc r) name = successor rows r (next_answer rows name).name
+
+-- The r-th repetition: the r-th successor of each name.
+abbrev pub repetition : List Binding → ℕ → List (List ℕ) → List Binding
+repetition rows r names = map (λ name. successor rows r name) names
+
+-- `list` is `count` repetitions of the names, one behind the other (RFC 3416, 4.2.3).
+pub record IsRepeated (rows : List Binding) (names : List (List ℕ)) (most count : ℕ) (list : List Binding) : Type 0 where
+  pub within : count ≤ most
+  pub size : length list ≡ count * length names
+  -- the binding of repetition r and column c is the r-th successor of that column's name
+  pub each : (r c : ℕ) (name : List ℕ) → r < count → slice_get names c ≡ Some name → slice_get list (r * length names + c) ≡ Some (successor rows r name)
+  -- no repetition but the last is all endOfMibView
+  pub going : (r : ℕ) → suc r < count → all_end (repetition rows r names) ≡ false
+  -- there are fewer than asked for only where the last is
+  pub ended : count < most → (last : ℕ) × (count ≡ suc last) × (all_end (repetition rows last names) ≡ true)

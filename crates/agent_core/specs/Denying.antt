@@ -10,8 +10,6 @@ use Rattle.vacm_core.specs.declared.verdict.FamilyAnswer.TheVariants.{Included, 
 use Rattle.vacm_core.specs.Families.{family_answer}
 use Rattle.audit_core.specs.Keys.{family_key}
 use Rattle.audit_core.specs.declared.denied.Denied.{Denied}
-use Rattle.audit_core.specs.declared.decision.Decision.{Decision}
-use Rattle.audit_core.specs.declared.decision.Decision.TheVariants.{UnknownCommunity, NoSuchContext, Empty, NoGroupName, NoAccessEntry, NoSuchView, Allowed}
 
 -- read where there is no row
 abbrev pub no_family_row : FamilyRow
@@ -34,12 +32,3 @@ denied_in families view request Get = denials families view 1 request.bindings
 denied_in families view request GetNext = []
 denied_in families view request GetBulk = []
 denied_in families view request Set = []
-
-abbrev pub denied_of : List FamilyRow → Request → Decision → List Denied
-denied_of families request (Allowed row view) = denied_in families view request request.kind
-denied_of families request UnknownCommunity = []
-denied_of families request (NoSuchContext name) = []
-denied_of families request Empty = []
-denied_of families request (NoGroupName model name) = []
-denied_of families request (NoAccessEntry asked) = []
-denied_of families request (NoSuchView row view) = []

@@ -1,6 +1,5 @@
 pub mod Reading
 pub mod World
-pub mod Deciding
 pub mod Denying
 pub mod Buffered
 pub mod Bulk

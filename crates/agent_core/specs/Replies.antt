@@ -1,5 +1,5 @@
 -- Whole replies (RFC 3416, 4.2), and walks.
-use Rattle.std.specs.Prelude.{◌≡◌, All, ℕ, zero, suc, pos, Bool, if◌then◌else◌, nat_lt, List, [], ◌∷◌, length, Option, Some, None}
+use Rattle.std.specs.Prelude.{◌≡◌, All, ℕ, zero, suc, pos, Bool, if◌then◌else◌, nat_lt, List, [], ◌∷◌, length}
 use Rattle.message_core.specs.Canon.{canon_reply, answer_to}
 use Rattle.message_core.specs.declared.binding.Binding.{Binding}
 use Rattle.message_core.specs.declared.request.Kind.{Kind}
@@ -8,13 +8,11 @@ use Rattle.message_core.specs.declared.request.Request.{Request}
 use Rattle.message_core.specs.declared.reply.Reply.{Reply}
 use Rattle.message_core.specs.declared.status.ErrorStatus.TheVariants.{NoError, TooBig, GenErr, AuthorizationError}
 use Rattle.vacm_core.specs.Families.{in_view}
-use Rattle.audit_core.specs.declared.decision.Decision.{Decision}
-use Rattle.audit_core.specs.declared.decision.Decision.TheVariants.{UnknownCommunity, NoSuchContext, Empty, NoGroupName, NoAccessEntry, NoSuchView, Allowed}
-use Rattle.agent_core.specs.World.{World}
-use Rattle.agent_core.specs.Reading.{visible, names_of, get_answers, next_answer, next_answers}
+use Rattle.agent_core.specs.World.{Shown}
+use Rattle.message_core.specs.Instances.{names_of}
+use Rattle.agent_core.specs.Reading.{visible, get_answers, next_answer, next_answers}
 use Rattle.agent_core.specs.Bulk.{asked_list}
 use Rattle.agent_core.specs.Fitting.{reply_limit, fitting}
-use Rattle.agent_core.specs.Deciding.{decided}
 
 -- A reply that is too long is sent as tooBig, with index 0 and no bindings (RFC 3416, 4.2.1).
 unfoldable pub sized : Reply → Reply
@@ -50,26 +48,10 @@ kind_reply objects shows rows request GetBulk = bulk_reply shows rows request
 abbrev pub halted : Request → Reply
 halted request = sized (answer_to request AuthorizationError (pos 0) request.bindings)
 
--- The reply by the decision, or none where the request is dropped. A request with no bindings is answered noError with none, whatever
--- its kind; the standard says nothing of it.
-abbrev pub reply_by : World → Request → Decision → Option Reply
-reply_by world request UnknownCommunity = None
-reply_by world request (NoSuchContext name) = None
-reply_by world request Empty = Some (sized (answer_to request NoError (pos 0) []))
-reply_by world request (NoGroupName model name) = Some (halted request)
-reply_by world request (NoAccessEntry asked) = Some (halted request)
-reply_by world request (NoSuchView row view) = Some (halted request)
-reply_by world request (Allowed row view) =
-    Some (kind_reply world.objects (in_view world.policy.vacm.families view) world.instances request request.kind)
-
--- The reply to a request, or none where it is dropped.
-unfoldable pub reply_of : World → Request → Option Reply
-reply_of world request = reply_by world request (decided world.policy request)
-
--- two worlds have the same objects, and their views agree on whether each asked name is in them
-pub record AgreesOnAsked (world other : World) (view other_view : List ℕ) (request : Request) : Type 0 where
-  pub objects : world.objects ≡ other.objects
-  pub asked : All (λ b. in_view world.policy.vacm.families view b.name ≡ in_view other.policy.vacm.families other_view b.name) request.bindings
+-- the same objects are shown, and two views agree on whether each asked name is in them
+pub record AgreesOnAsked (shown other : Shown) (view other_view : List ℕ) (request : Request) : Type 0 where
+  pub objects : shown.objects ≡ other.objects
+  pub asked : All (λ b. in_view shown.policy.vacm.families view b.name ≡ in_view other.policy.vacm.families other_view b.name) request.bindings
 
 -- the answers to so many GetNext, each of the name that the one before answered
 abbrev pub walk : List Binding → ℕ → List ℕ → List Binding

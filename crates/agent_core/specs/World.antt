@@ -1,10 +1,21 @@
--- What a plain world holds: its instances by rising name, the names of its objects, the policy, and what was dropped.
+-- What requests are answered from, and what a plain world holds.
 use Rattle.std.specs.Prelude.{ℕ, List}
-use Rattle.agent_core.specs.Reading.{IsRising}
-use Rattle.message_core.specs.Spellable.{AreSpellable}
+use Rattle.std.specs.List.{AllByRecursion}
+use Rattle.message_core.specs.Instances.{IsInstanceValue}
 use Rattle.message_core.specs.declared.binding.Binding.{Binding}
 use Rattle.community_core.specs.Communities.{PolicyTables}
 
+-- no value is an exception
+abbrev pub AreValued : List Binding → Type 0
+AreValued rows = AllByRecursion (λ row. IsInstanceValue row.value) rows
+
+-- what is shown: the names of the objects, the instances by rising name, and who may see which of them
+pub record Shown : Type 0 where
+  pub objects : List (List ℕ)
+  pub instances : List Binding
+  pub policy : PolicyTables
+
+-- its instances by rising name, the names of its objects, the policy, and what was dropped
 pub record World : Type 0 where
   pub instances : List Binding
   pub objects : List (List ℕ)
@@ -14,7 +25,6 @@ pub record World : Type 0 where
   -- requests dropped since their context is not known, modulo 2^32 (RFC 3413, snmpUnknownContexts)
   pub unknown_contexts : ℕ
 
--- instances that can be served: their names rise, and each can be spelled in a message
-pub record IsServable (rows : List Binding) : Type 0 where
-  pub rising : IsRising rows
-  pub spellable : AreSpellable rows
+-- what a world shows
+abbrev pub shown_of : World → Shown
+shown_of world = record { objects = world.objects; instances = world.instances; policy = world.policy }

@@ -1,16 +1,13 @@
-ghost use Rattle.std.specs.Prelude.{◌≡◌, ◌≤◌, [], length, pos, false, IfOk, IsOk, OnErr, OnOk, None};
+ghost use Rattle.std.specs.Prelude.{◌≡◌, ◌≤◌, ◌<◌, length, IfOk, OnErr};
 ghost use Rattle.message_core.specs.Canon.{canon_reply};
 ghost use Rattle.message_core.specs.Spellable.{AreSpellable};
 ghost use Rattle.vacm_core.specs.Families.{in_view};
-ghost use Rattle.audit_core.specs.Text.{is_drop};
-ghost use Rattle.agent_core.specs.Deciding.{decided};
-ghost use Rattle.agent_core.specs.Replies.{reply_of, reply_by, kind_reply, failed, get_reply, next_reply, bulk_reply};
-ghost use Rattle.agent_core.specs.Answers.{IsAnswered, IsSent, IsSentFor, audit_of, world_after};
+ghost use Rattle.agent_core.specs.Replies.{kind_reply, failed, get_reply, next_reply, bulk_reply};
+ghost use Rattle.agent_core.specs.Answers.{IsSent, IsStep, dropped};
 
 use crate::answered::Answered;
 use crate::buffer::Buffer;
 use crate::bulk::get_bulk;
-use crate::deciding::decide;
 use crate::denying::denied_bindings;
 use crate::getting::get_all;
 use crate::nexts::get_next_all;
@@ -18,10 +15,13 @@ use crate::sent_reply::SentReply;
 use crate::source::{Source, View};
 use crate::views::PolicyView;
 use crate::world::PlainWorld;
-use audit_core::{Audit, Decision, DeniedBindings};
+use audit_core::{Audit, DeniedBindings};
+use decision::{Cause, Decision, decide};
 use message_core::{ErrorStatus, Kind, Request};
-use oid_core::Oid;
 use std::alloc::{AllocError, Global};
+use std::marker::Brand;
+use std::sync::ledger::{Blank, Ledger};
+use steps::Steps;
 use vacm_core::Name;
 
 /// Answers a request over a plain world by RFC 3416, 4.2, as the policy lets its caller see it (RFC 3415, 3.2). The buffer holds the
@@ -33,7 +33,7 @@ use vacm_core::Name;
 /// # Errors
 /// Only memory can fail: then the buffer is empty, the world is as before, and the request is one that has a reply. A request that is
 /// dropped, since its community or its context is not known, takes none.
-#[tactic(auto, unfolding(crate::specs::Replies::reply_of, crate::specs::Answers::audit_of, crate::specs::Answers::world_after))]
+#[tactic(auto, unfolding(crate::specs::Answers::outcome_of, crate::specs::Answers::world_after))]
 pub fn answer(
     alloc: Global,
     world: &mut PlainWorld,
@@ -41,54 +41,59 @@ pub fn answer(
     buffer: &mut Buffer,
 ) -> Result<Answered, AllocError>
     requires { AreSpellable request.now.bindings }
-    ensures answer { IfOk result (λ answered. IsAnswered (reply_of world.old request.now) (audit_of world.old request.now) answered buffer.new) }
-    ensures world { OnOk result (world.new ≡ world_after world.old request.now) }
-    ensures dropped { reply_of world.old request.now ≡ None → IsOk result }
-    ensures err { OnErr result (buffer.new.reply ≡ []) }
-    ensures err_world { OnErr result (world.new ≡ world.old) }
-    ensures err_short { OnErr result (length request.now.community ≤ 255) }
+    ensures { IsStep world.old request.now result buffer.new world.new }
 {
     buffer.clear();
-    let decision = decide(world.policy(), request);
-    if decision.is_drop() {
-        world.count(&decision);
-        return Ok(Answered::NoReply(dropped(alloc, request, decision)));
+    match decide(world.policy(), request) {
+        Decision::Drop(cause) => {
+            world.count(&cause);
+            Ok(drop_request(alloc, request, cause))
+        }
+        Decision::Empty => {
+            let none = DeniedBindings::new(alloc);
+            let sent = buffer.put(request, ErrorStatus::NoError, &[]);
+            Ok(reply_with(request, Decision::Empty, none, sent))
+        }
+        Decision::Refused(why) => {
+            let none = DeniedBindings::new(alloc);
+            let sent = buffer.put(
+                request,
+                ErrorStatus::AuthorizationError,
+                request.bindings.as_slice(),
+            );
+            Ok(reply_with(request, Decision::Refused(why), none, sent))
+        }
+        Decision::Allowed { row, view } => {
+            let denied = denied_bindings(alloc, world.policy().vacm(), &view, request)?;
+            let sent = send_allowed(alloc, world, &view, request, buffer)?;
+            Ok(reply_with(request, Decision::Allowed { row, view }, denied, sent))
+        }
     }
-    answer_kept(alloc, world, request, decision, buffer)
 }
 
-// The audit of a request that is dropped. Takes no memory.
-fn dropped(alloc: Global, request: &Request, decision: Decision) -> Audit
-    ensures { result ≡ record { kind = request.now.kind; status = ErrorStatus.NoError; index = pos 0; decision = decision; denied = [] } }
+// What a request is answered that is dropped. Takes no memory.
+fn drop_request(alloc: Global, request: &Request, cause: Cause) -> Answered
+    ensures { result ≡ Answered.NoReply (dropped request.now cause).audit }
 {
-    Audit {
+    Answered::NoReply(Audit {
         kind: request.kind,
         status: ErrorStatus::NoError,
         index: 0,
-        decision,
+        decision: Decision::Drop(cause),
         denied: DeniedBindings::new(alloc),
-    }
+    })
 }
 
-// Answers a request that is not dropped.
-#[tactic(auto, unfolding(crate::specs::Replies::reply_of, crate::specs::Answers::audit_of))]
-fn answer_kept(
-    alloc: Global,
-    world: &PlainWorld,
+// What a request is answered whose reply stands in the buffer.
+fn reply_with(
     request: &Request,
     decision: Decision,
-    buffer: &mut Buffer,
-) -> Result<Answered, AllocError>
-    requires community { length request.now.community ≤ 255 }
-    requires spellable { AreSpellable request.now.bindings }
-    requires decision { decision ≡ decided world.now.policy request.now }
-    requires kept { is_drop decision ≡ false }
-    ensures answer { IfOk result (λ answered. IsAnswered (reply_of world.now request.now) (audit_of world.now request.now) answered buffer.new) }
-    ensures err { OnErr result (buffer.new ≡ buffer.old) }
+    denied: DeniedBindings,
+    sent: SentReply,
+) -> Answered
+    ensures { result ≡ Answered.Reply sent.length (record { kind = request.now.kind; status = sent.status; index = sent.index; decision = decision; denied = denied }) }
 {
-    let denied = denied_bindings(alloc, world.policy().vacm(), request, &decision)?;
-    let sent = send(alloc, world, request, &decision, buffer)?;
-    Ok(Answered::Reply(
+    Answered::Reply(
         sent.length,
         Audit {
             kind: request.kind,
@@ -97,35 +102,7 @@ fn answer_kept(
             decision,
             denied,
         },
-    ))
-}
-
-// Puts the reply by a decision into the buffer.
-fn send(
-    alloc: Global,
-    world: &PlainWorld,
-    request: &Request,
-    decision: &Decision,
-    buffer: &mut Buffer,
-) -> Result<SentReply, AllocError>
-    requires community { length request.now.community ≤ 255 }
-    requires spellable { AreSpellable request.now.bindings }
-    requires kept { is_drop decision.now ≡ false }
-    ensures sent { IfOk result (λ sent. IsSentFor (reply_by world.now request.now decision.now) sent buffer.new) }
-    ensures err { OnErr result (buffer.new ≡ buffer.old) }
-{
-    match decision {
-        Decision::Empty => Ok(buffer.put(request, ErrorStatus::NoError, &[])),
-        Decision::Allowed { view, .. } => {
-            let sent = send_allowed(alloc, world, view, request, buffer)?;
-            Ok(sent)
-        }
-        _ => Ok(buffer.put(
-            request,
-            ErrorStatus::AuthorizationError,
-            request.bindings.as_slice(),
-        )),
-    }
+    )
 }
 
 /// Writes the reply to a request that found no memory: genErr, index 0, its own bindings, or tooBig where that is too long.
@@ -157,7 +134,7 @@ fn send_allowed(
 {
     let vacm = world.policy().vacm();
     let view = PolicyView { vacm, view };
-    let sent = send_kind(alloc, world, &view, world.objects(), request, buffer)?;
+    let sent = send_kind(alloc, world, &view, request, buffer)?;
     Ok(sent)
 }
 
@@ -166,19 +143,22 @@ fn send_kind<S: Source, V: View>(
     alloc: Global,
     source: &S,
     view: &V,
-    objects: &[Oid],
     request: &Request,
     buffer: &mut Buffer,
 ) -> Result<SentReply, AllocError>
     requires community { length request.now.community ≤ 255 }
     requires spellable { AreSpellable request.now.bindings }
-    ensures sent { IfOk result (λ sent. IsSent (kind_reply objects.now (V.shows view.now) (S.instances source.now) request.now request.now.kind) sent buffer.new) }
+    ensures sent { IfOk result (λ sent. IsSent (kind_reply (S.objects source.now) (V.shows view.now) (S.instances source.now) request.now request.now.kind) sent buffer.new) }
     ensures err { OnErr result (buffer.new ≡ buffer.old) }
 {
     match request.kind {
-        Kind::Get => send_get(alloc, source, view, objects, request, buffer),
-        Kind::GetNext => send_get_next(alloc, source, view, request, buffer),
-        Kind::GetBulk => send_get_bulk(alloc, source, view, request, buffer),
+        Kind::Get => send_get(alloc, source, view, request, buffer),
+        Kind::GetNext => {
+            send_get_next::<S, V, Brand>(alloc, source, view, request, buffer, Blank::new(1))
+        }
+        Kind::GetBulk => {
+            send_get_bulk::<S, V, Brand>(alloc, source, view, request, buffer, Blank::new(1))
+        }
         Kind::Set => Ok(buffer.put(request, ErrorStatus::GenErr, request.bindings.as_slice())),
     }
 }
@@ -188,51 +168,60 @@ fn send_get<S: Source, V: View>(
     alloc: Global,
     source: &S,
     view: &V,
-    objects: &[Oid],
     request: &Request,
     buffer: &mut Buffer,
 ) -> Result<SentReply, AllocError>
     requires community { length request.now.community ≤ 255 }
     requires spellable { AreSpellable request.now.bindings }
-    ensures sent { IfOk result (λ sent. IsSent (get_reply objects.now (V.shows view.now) (S.instances source.now) request.now) sent buffer.new) }
+    ensures sent { IfOk result (λ sent. IsSent (get_reply (S.objects source.now) (V.shows view.now) (S.instances source.now) request.now) sent buffer.new) }
     ensures err { OnErr result (buffer.new ≡ buffer.old) }
 {
     source.known();
-    let answers = get_all(alloc, source, view, objects, request.bindings.as_slice())?;
+    let answers = get_all(alloc, source, view, request.bindings.as_slice())?;
     Ok(buffer.put(request, ErrorStatus::NoError, answers.as_slice()))
 }
 
-// Answers a GetNext.
-fn send_get_next<S: Source, V: View>(
+// Answers a GetNext, and counts nothing: the ledger is a new one.
+fn send_get_next<S: Source, V: View, L: Ledger>(
     alloc: Global,
     source: &S,
     view: &V,
     request: &Request,
     buffer: &mut Buffer,
+    blank: Blank,
 ) -> Result<SentReply, AllocError>
     requires community { length request.now.community ≤ 255 }
     requires spellable { AreSpellable request.now.bindings }
+    requires name { blank.name ≡ L.name }
+    requires parts { blank.parts ≡ L.parts }
+    requires some { 0 < blank.parts }
     ensures sent { IfOk result (λ sent. IsSent (next_reply (V.shows view.now) (S.instances source.now) request.now) sent buffer.new) }
     ensures err { OnErr result (buffer.new ≡ buffer.old) }
 {
+    let mut steps: Steps<L> = Steps::new(blank);
     source.known();
-    let answers = get_next_all(alloc, source, view, request.bindings.as_slice())?;
+    let answers = get_next_all(alloc, source, view, request.bindings.as_slice(), &mut steps)?;
     Ok(buffer.put(request, ErrorStatus::NoError, answers.as_slice()))
 }
 
-// Answers a GetBulk, whose list fits.
-fn send_get_bulk<S: Source, V: View>(
+// Answers a GetBulk, whose list fits, and counts nothing: the ledger is a new one.
+fn send_get_bulk<S: Source, V: View, L: Ledger>(
     alloc: Global,
     source: &S,
     view: &V,
     request: &Request,
     buffer: &mut Buffer,
+    blank: Blank,
 ) -> Result<SentReply, AllocError>
     requires community { length request.now.community ≤ 255 }
     requires spellable { AreSpellable request.now.bindings }
+    requires name { blank.name ≡ L.name }
+    requires parts { blank.parts ≡ L.parts }
+    requires some { 0 < blank.parts }
     ensures sent { IfOk result (λ sent. IsSent (bulk_reply (V.shows view.now) (S.instances source.now) request.now) sent buffer.new) }
     ensures err { OnErr result (buffer.new ≡ buffer.old) }
 {
-    let sent = get_bulk(alloc, source, view, request)?;
+    let mut steps: Steps<L> = Steps::new(blank);
+    let sent = get_bulk(alloc, source, view, request, &mut steps)?;
     Ok(buffer.put(request, ErrorStatus::NoError, sent.as_slice()))
 }

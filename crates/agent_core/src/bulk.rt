@@ -1,8 +1,9 @@
-ghost use Rattle.std.specs.Prelude.{◌≡◌, ◌≤◌, ◌++◌, [], ◌∷◌, List, false, length, min, IfOk, OnOk, IsTrue, take, drop};
+ghost use Rattle.std.specs.Prelude.{◌≡◌, ◌≤◌, ◌+◌, ◌*◌, ◌++◌, [], ◌∷◌, List, false, length, min, IfOk, OnOk, OnErr, IsTrue, take, drop};
 ghost use Rattle.std.specs.List.{AllByRecursion};
 ghost use Rattle.oid_core.specs.Name.{HasRoot};
 ghost use Rattle.message_core.specs.Spellable.{AreSpellable};
-ghost use Rattle.agent_core.specs.Reading.{visible, next_answer, next_answers, names_of};
+ghost use Rattle.message_core.specs.Instances.{names_of};
+ghost use Rattle.agent_core.specs.Reading.{visible, next_answer, next_answers};
 ghost use Rattle.agent_core.specs.Bulk.{all_end, repetitions, bulk_list, count_of, asked_list};
 ghost use Rattle.agent_core.specs.Fitting.{fitting, fit_into, IsFilled};
 ghost use Rattle.message_core.specs.declared.binding.Binding.{Binding};
@@ -13,32 +14,38 @@ use crate::source::{Source, View};
 use message_core::{Binding, Bindings, Request, Value, bindings_room};
 use oid_core::Oid;
 use std::alloc::{AllocError, Global};
+use std::sync::ledger::Ledger;
+use steps::Steps;
 
 // Sends what GetNext answers under a name where there is room for it, and says whether there was.
-fn send_next<S: Source, V: View>(
+fn send_next<S: Source, V: View, L: Ledger>(
     alloc: Global,
     source: &S,
     view: &V,
     name: &Oid,
     sent: &mut Sent,
+    steps: &mut Steps<L>,
 ) -> Result<bool, AllocError>
     requires { HasRoot name.now }
     ensures taken { IfOk result (λ taken. IsTrue taken → sent.new.bindings ≡ sent.old.bindings ++ next_answer (visible (V.shows view.now) (S.instances source.now)) name.now ∷ []) }
     ensures full { IfOk result (λ taken. taken ≡ false → sent.new.bindings ≡ sent.old.bindings) }
     ensures fits { IfOk result (λ taken. taken ≡ fit_into sent.old.room (sent.old.bindings ++ next_answer (visible (V.shows view.now) (S.instances source.now)) name.now ∷ [])) }
     ensures room { sent.new.room ≡ sent.old.room }
+    ensures err { OnErr result (sent.new.bindings ≡ sent.old.bindings) }
+    ensures work { steps.new ≡ steps.old + 1 }
 {
-    let row = get_next(alloc, source, view, name)?;
+    let row = get_next(alloc, source, view, name, steps)?;
     sent.offer(row)
 }
 
 // Sends one repetition, GetNext of each name, as far as there is room, and says whether there was room for all of it.
-fn repeat_once<S: Source, V: View>(
+fn repeat_once<S: Source, V: View, L: Ledger>(
     alloc: Global,
     source: &S,
     view: &V,
     names: &[Oid],
     sent: &mut Sent,
+    steps: &mut Steps<L>,
 ) -> Result<bool, AllocError>
     requires { AllByRecursion HasRoot names.now }
     ensures whole { IfOk result (λ whole. IsTrue whole →
@@ -46,9 +53,11 @@ fn repeat_once<S: Source, V: View>(
     ensures cut { IfOk result (λ whole. whole ≡ false → (more : List Binding) →
         IsFilled sent.new.room (sent.old.bindings ++ (next_answers (visible (V.shows view.now) (S.instances source.now)) names.now ++ more)) sent.new.bindings) }
     ensures room { sent.new.room ≡ sent.old.room }
+    ensures work { steps.new + length sent.old.bindings ≤ steps.old + length sent.new.bindings + 1 }
+    ensures whole_work { IfOk result (λ whole. IsTrue whole → steps.new + length sent.old.bindings ≡ steps.old + length sent.new.bindings) }
 {
     for name in names {
-        if !send_next(alloc, source, view, name, sent)? {
+        if !send_next(alloc, source, view, name, sent, steps)? {
             return Ok(false);
         }
     }
@@ -80,21 +89,23 @@ fn has_ended(row: &[Binding]) -> bool
 //
 // Each but the last sends a binding for each name and so takes room: there are no more repetitions than bindings that fit, and
 // one, whatever `most` is.
-fn repeat<S: Source, V: View>(
+fn repeat<S: Source, V: View, L: Ledger>(
     alloc: Global,
     source: &S,
     view: &V,
     columns: Vec<Oid>,
     most: u32,
     sent: &mut Sent,
+    steps: &mut Steps<L>,
 ) -> Result<(), AllocError>
     requires { AllByRecursion HasRoot columns.items }
     ensures filled { OnOk result (IsFilled sent.old.room (sent.old.bindings ++ repetitions (visible (V.shows view.now) (S.instances source.now)) most columns.items) sent.new.bindings) }
     ensures room { sent.new.room ≡ sent.old.room }
+    ensures work { steps.new + length sent.old.bindings ≤ steps.old + length sent.new.bindings + 1 }
 {
     let mut names = columns;
     for i in 0..most {
-        if !repeat_once(alloc, source, view, names.as_slice(), sent)? {
+        if !repeat_once(alloc, source, view, names.as_slice(), sent, steps)? {
             return Ok(());
         }
         let row = sent.last(names.len());
@@ -107,7 +118,7 @@ fn repeat<S: Source, V: View>(
 }
 
 // Sends the first `once` names once, and the others up to `most` times, as far as there is room.
-fn send_list<S: Source, V: View>(
+fn send_list<S: Source, V: View, L: Ledger>(
     alloc: Global,
     source: &S,
     view: &V,
@@ -115,18 +126,20 @@ fn send_list<S: Source, V: View>(
     most: u32,
     asked: &[Binding],
     sent: &mut Sent,
+    steps: &mut Steps<L>,
 ) -> Result<(), AllocError>
     requires once { once ≤ length asked.now }
     requires spellable { AreSpellable asked.now }
     ensures filled { OnOk result (IsFilled sent.old.room (sent.old.bindings ++ bulk_list (visible (V.shows view.now) (S.instances source.now)) once most (names_of asked.now)) sent.new.bindings) }
     ensures room { sent.new.room ≡ sent.old.room }
+    ensures work { steps.new + length sent.old.bindings ≤ steps.old + length sent.new.bindings + 1 }
 {
     let first = copied_names(alloc, &asked[..once])?;
-    if !repeat_once(alloc, source, view, first.as_slice(), sent)? {
+    if !repeat_once(alloc, source, view, first.as_slice(), sent, steps)? {
         return Ok(());
     }
     let columns = copied_names(alloc, &asked[once..])?;
-    repeat(alloc, source, view, columns, most, sent)?;
+    repeat(alloc, source, view, columns, most, sent, steps)?;
     Ok(())
 }
 
@@ -154,23 +167,29 @@ fn max_repetitions(request: &Request) -> u32
 
 /// What GetBulk answers (RFC 3416, 4.2.3): the longest front of the list that it asks for whose reply has at most 1,472 octets.
 ///
-/// It looks for one successor in the view a binding that is sent, and for one more, whatever max-repetitions says: a binding has 6
-/// octets or more, so those are at most 246. Instances outside the view that are passed over do not count. Only memory can fail.
-pub fn get_bulk<S: Source, V: View>(
+/// It takes a step for each successor in the view that it looks for: one for each binding that is sent, and one more, whatever
+/// max-repetitions says. A binding has 6 octets or more, so those are at most 246, also where memory fails. Instances outside the
+/// view that are passed over do not count. Only memory can fail.
+pub fn get_bulk<S: Source, V: View, L: Ledger>(
     alloc: Global,
     source: &S,
     view: &V,
     request: &Request,
+    steps: &mut Steps<L>,
 ) -> Result<Bindings, AllocError>
     requires community { length request.now.community ≤ 255 }
     requires spellable { AreSpellable request.now.bindings }
     ensures answer { IfOk result (λ sent. sent ≡ fitting request.now (asked_list (visible (V.shows view.now) (S.instances source.now)) request.now)) }
     ensures spellable { IfOk result (λ sent. AreSpellable sent) }
+    ensures work { IfOk result (λ sent. steps.new ≤ steps.old + length sent + 1) }
+    ensures most_work { steps.new ≤ steps.old + 246 }
 {
     let asked = request.bindings.as_slice();
     let once = non_repeaters(request);
     let most = max_repetitions(request);
     let mut sent = Sent::new(alloc, bindings_room(request));
-    send_list(alloc, source, view, once, most, asked, &mut sent)?;
-    Ok(sent.into_bindings())
+    let filled = send_list(alloc, source, view, once, most, asked, &mut sent, steps);
+    let bindings = sent.into_bindings();
+    filled?;
+    Ok(bindings)
 }

@@ -1,9 +1,9 @@
 //! The bindings whose names are not in the view.
 ghost use Rattle.std.specs.Prelude.{◌≡◌, ◌<◌, ◌++◌, OnOk, IfOk, length};
 ghost use Rattle.vacm_core.specs.Families.{family_answer, NamesFamilyOf};
-ghost use Rattle.agent_core.specs.Denying.{denial, denials, denied_in, denied_of};
+ghost use Rattle.agent_core.specs.Denying.{denial, denials, denied_in};
 
-use audit_core::{Decision, Denied, DeniedBindings, FamilyKey};
+use audit_core::{Denied, DeniedBindings, FamilyKey};
 use message_core::{Binding, Kind, Request};
 use std::alloc::{AllocError, Global};
 use vacm_core::{FamilyAnswer, Name, Vacm};
@@ -57,8 +57,9 @@ fn denials(
     Ok(denied)
 }
 
-// The denied bindings of a request that is allowed in a view.
-fn denied_in(
+/// The denied bindings of a request that is allowed in a view: those of a Get that are not in the view, each with the family that
+/// excludes its name, if one does. Only memory can fail.
+pub fn denied_bindings(
     alloc: Global,
     vacm: &Vacm,
     view: &Name,
@@ -69,21 +70,5 @@ fn denied_in(
     match request.kind {
         Kind::Get => denials(alloc, vacm, view, request.bindings.as_slice()),
         Kind::GetNext | Kind::GetBulk | Kind::Set => Ok(DeniedBindings::new(alloc)),
-    }
-}
-
-/// The denied bindings of a request by its decision: those of a Get that are not in the view, each with the family that excludes
-/// its name, if one does. Only memory can fail.
-pub fn denied_bindings(
-    alloc: Global,
-    vacm: &Vacm,
-    request: &Request,
-    decision: &Decision,
-) -> Result<DeniedBindings, AllocError>
-    ensures { IfOk result (λ denied. denied ≡ denied_of vacm.now.families request.now decision.now) }
-{
-    match decision {
-        Decision::Allowed { view, .. } => denied_in(alloc, vacm, view, request),
-        _ => Ok(DeniedBindings::new(alloc)),
     }
 }

@@ -3,7 +3,8 @@ ghost use Rattle.std.specs.List.{list_any};
 ghost use Rattle.oid_core.specs.Order.{is_prefix};
 ghost use Rattle.oid_core.specs.Name.{HasRoot};
 ghost use Rattle.message_core.specs.Spellable.{AreSpellable, IsSpellableBinding};
-ghost use Rattle.agent_core.specs.Reading.{visible, get_answer, get_answers, has_object, value_of, or_missing};
+ghost use Rattle.message_core.specs.Instances.{value_of};
+ghost use Rattle.agent_core.specs.Reading.{visible, get_answer, get_answers, is_known, object_of, or_missing};
 
 use crate::reading::next_shown;
 use crate::source::{Source, View};
@@ -51,18 +52,18 @@ fn knows_object<S: Source, V: View>(
     alloc: Global,
     source: &S,
     view: &V,
-    objects: &[Oid],
     shown: bool,
     name: &Oid,
 ) -> Result<bool, AllocError>
-    ensures { IfOk result (λ b. b ≡ has_object objects.now shown (visible (V.shows view.now) (S.instances source.now)) name.now) }
+    ensures { IfOk result (λ b. b ≡ is_known shown (visible (V.shows view.now) (S.instances source.now)) (object_of (S.objects source.now) name.now)) }
 {
-    for object in objects {
-        if object.is_prefix(name) && (shown || shows_below(alloc, source, view, object)?) {
-            return Ok(true);
-        }
+    let Some(object) = source.object(name) else {
+        return Ok(false);
+    };
+    if shown {
+        return Ok(true);
     }
-    Ok(false)
+    shows_below(alloc, source, view, object)
 }
 
 // What stands under a name that has no value.
@@ -81,10 +82,9 @@ pub fn get<S: Source, V: View>(
     alloc: Global,
     source: &S,
     view: &V,
-    objects: &[Oid],
     name: &Oid,
 ) -> Result<Binding, AllocError>
-    ensures { IfOk result (λ b. b ≡ get_answer objects.now (V.shows view.now name.now) (visible (V.shows view.now) (S.instances source.now)) name.now) }
+    ensures { IfOk result (λ b. b ≡ get_answer (S.objects source.now) (V.shows view.now name.now) (visible (V.shows view.now) (S.instances source.now)) name.now) }
 {
     let Ok(asked) = name.try_copy(alloc) else {
         return Err(AllocError);
@@ -93,7 +93,7 @@ pub fn get<S: Source, V: View>(
         return Ok(Binding { name: asked, value });
     }
     let shown = view.has_name(name);
-    let known = knows_object(alloc, source, view, objects, shown, name)?;
+    let known = knows_object(alloc, source, view, shown, name)?;
     Ok(Binding {
         name: asked,
         value: missing(known),
@@ -105,14 +105,13 @@ pub fn get_all<S: Source, V: View>(
     alloc: Global,
     source: &S,
     view: &V,
-    objects: &[Oid],
     asked: &[Binding],
 ) -> Result<Bindings, AllocError>
-    ensures { IfOk result (λ answers. answers ≡ get_answers objects.now (V.shows view.now) (S.instances source.now) asked.now) }
+    ensures { IfOk result (λ answers. answers ≡ get_answers (S.objects source.now) (V.shows view.now) (S.instances source.now) asked.now) }
 {
     let mut answers = Bindings::new(alloc);
     for binding in asked {
-        answers.push(get(alloc, source, view, objects, &binding.name)?)?;
+        answers.push(get(alloc, source, view, &binding.name)?)?;
     }
     Ok(answers)
 }

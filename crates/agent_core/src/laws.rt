@@ -4,13 +4,16 @@ ghost use Rattle.message_core.specs.declared.binding.Binding.{Binding};
 ghost use Rattle.message_core.specs.declared.request.Request.{Request};
 ghost use Rattle.message_core.specs.declared.request.Kind.TheVariants.{Get};
 ghost use Rattle.vacm_core.specs.Families.{in_view};
-ghost use Rattle.audit_core.specs.declared.keys.AccessKey.{AccessKey};
-ghost use Rattle.audit_core.specs.declared.decision.Decision.TheVariants.{Allowed};
-ghost use Rattle.agent_core.specs.Deciding.{decided};
-ghost use Rattle.agent_core.specs.World.{World};
-ghost use Rattle.agent_core.specs.Reading.{IsRising, IsLeastAfter, visible, after, next_of, end_under};
+ghost use Rattle.decision.specs.declared.keys.AccessKey.{AccessKey};
+ghost use Rattle.decision.specs.declared.choice.Decision.TheVariants.{Allowed};
+ghost use Rattle.decision.specs.Deciding.{decided};
+ghost use Rattle.agent_core.specs.World.{Shown};
+ghost use Rattle.message_core.specs.Instances.{IsRising, IsLeastAfter, after, next_of};
+ghost use Rattle.agent_core.specs.Reading.{visible, end_under};
+ghost use Rattle.agent_core.specs.Bulk.{repetitions, IsRepeated};
 ghost use Rattle.agent_core.specs.Fitting.{fitting, IsLongestFitting};
-ghost use Rattle.agent_core.specs.Replies.{AgreesOnAsked, get_reply, next_reply, bulk_reply, reply_of, walk, last_name};
+ghost use Rattle.agent_core.specs.Replies.{AgreesOnAsked, get_reply, next_reply, bulk_reply, walk, last_name};
+ghost use Rattle.agent_core.specs.Answers.{reply_of};
 
 /// Only what is visible matters: where two worlds let the caller in and show it the same instances, the replies to GetNext and to
 /// GetBulk are equal, and so is the reply to Get where they have the same objects and the views also agree on whether each asked name
@@ -25,11 +28,11 @@ pub fn same_visible()
         visible first rows ≡ visible second others → next_reply first rows request ≡ next_reply second others request }
     ensures bulk { (first second : List ℕ → Bool) (rows others : List Binding) (request : Request) →
         visible first rows ≡ visible second others → bulk_reply first rows request ≡ bulk_reply second others request }
-    ensures reply { (world other : World) (request : Request) (row other_row : AccessKey) (view other_view : List ℕ) →
-        decided world.policy request ≡ Allowed row view → decided other.policy request ≡ Allowed other_row other_view →
-        visible (in_view world.policy.vacm.families view) world.instances ≡ visible (in_view other.policy.vacm.families other_view) other.instances →
-        (request.kind ≡ Get → AgreesOnAsked world other view other_view request) →
-        reply_of world request ≡ reply_of other request }
+    ensures reply { (shown other : Shown) (request : Request) (row other_row : AccessKey) (view other_view : List ℕ) →
+        decided shown.policy request ≡ Allowed row view → decided other.policy request ≡ Allowed other_row other_view →
+        visible (in_view shown.policy.vacm.families view) shown.instances ≡ visible (in_view other.policy.vacm.families other_view) other.instances →
+        (request.kind ≡ Get → AgreesOnAsked shown other view other_view request) →
+        reply_of shown request ≡ reply_of other request }
 {}
 
 /// A walk lists all: from any name, GetNext over and over lists the rest of what the view shows, in order and each once, and then
@@ -49,6 +52,13 @@ pub fn first_is_least()
 /// What GetBulk sends is the longest front of its list that fits into 1,472 octets; a community has at most 255 octets.
 pub fn fitting_is_longest()
     ensures { (request : Request) (all : List Binding) → length request.community ≤ 255 → IsLongestFitting request all (fitting request all) }
+{}
+
+/// A GetBulk repeats (RFC 3416, 4.2.3): the binding of repetition r and column c is the r-th successor of that column's name, each
+/// counted from 0. There are as many repetitions as are asked for, or fewer where the last is all endOfMibView and none before it is.
+pub fn repetitions_are_successors()
+    ensures { (rows : List Binding) (names : List (List ℕ)) (most : ℕ) →
+        (count : ℕ) × IsRepeated rows names most count (repetitions rows most names) }
 {}
 
 /// Few bindings fit: each has 6 octets or more.

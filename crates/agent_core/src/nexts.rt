@@ -1,13 +1,16 @@
-ghost use Rattle.std.specs.Prelude.{◌≡◌, IfOk};
+ghost use Rattle.std.specs.Prelude.{◌≡◌, ◌+◌, ◌≤◌, IfOk, length};
 ghost use Rattle.oid_core.specs.Name.{HasRoot};
 ghost use Rattle.message_core.specs.Spellable.{IsSpellableBinding};
-ghost use Rattle.agent_core.specs.Reading.{visible, next_answer, next_answers, names_of, end_under};
+ghost use Rattle.message_core.specs.Instances.{names_of};
+ghost use Rattle.agent_core.specs.Reading.{visible, next_answer, next_answers, end_under};
 
 use crate::reading::next_shown;
 use crate::source::{Source, View};
 use message_core::{Binding, Bindings, Value};
 use oid_core::Oid;
 use std::alloc::{AllocError, Global};
+use std::sync::ledger::Ledger;
+use steps::Steps;
 
 // endOfMibView under a name.
 fn end_under(alloc: Global, name: &Oid) -> Result<Binding, AllocError>
@@ -23,15 +26,20 @@ fn end_under(alloc: Global, name: &Oid) -> Result<Binding, AllocError>
 }
 
 /// What GetNext answers under a name (RFC 3416, 4.2.2), over the instances that the view shows. Only memory can fail.
-pub fn get_next<S: Source, V: View>(
+///
+/// It is one step: one successor is looked for in the view.
+pub fn get_next<S: Source, V: View, L: Ledger>(
     alloc: Global,
     source: &S,
     view: &V,
     name: &Oid,
+    steps: &mut Steps<L>,
 ) -> Result<Binding, AllocError>
     ensures answer { IfOk result (λ b. b ≡ next_answer (visible (V.shows view.now) (S.instances source.now)) name.now) }
     ensures spellable { IfOk result (λ b. HasRoot name.now → IsSpellableBinding b) }
+    ensures work { steps.new ≡ steps.old + 1 }
 {
+    steps.tick();
     source.known();
     match next_shown(alloc, source, view, name)? {
         Some(row) => Ok(row),
@@ -39,18 +47,20 @@ pub fn get_next<S: Source, V: View>(
     }
 }
 
-/// What GetNext answers under each asked name, in order. Only memory can fail.
-pub fn get_next_all<S: Source, V: View>(
+/// What GetNext answers under each asked name, in order, by one step for each. Only memory can fail.
+pub fn get_next_all<S: Source, V: View, L: Ledger>(
     alloc: Global,
     source: &S,
     view: &V,
     asked: &[Binding],
+    steps: &mut Steps<L>,
 ) -> Result<Bindings, AllocError>
-    ensures { IfOk result (λ answers. answers ≡ next_answers (visible (V.shows view.now) (S.instances source.now)) (names_of asked.now)) }
+    ensures answers { IfOk result (λ answers. answers ≡ next_answers (visible (V.shows view.now) (S.instances source.now)) (names_of asked.now)) }
+    ensures work { steps.new ≤ steps.old + length asked.now }
 {
     let mut answers = Bindings::new(alloc);
     for binding in asked {
-        answers.push(get_next(alloc, source, view, &binding.name)?)?;
+        answers.push(get_next(alloc, source, view, &binding.name, steps)?)?;
     }
     Ok(answers)
 }

@@ -1,5 +1,6 @@
 ghost use Rattle.std.specs.Prelude.{◌≡◌, IfOk};
-ghost use Rattle.agent_core.specs.Reading.{visible, next_of};
+ghost use Rattle.message_core.specs.Instances.{next_of};
+ghost use Rattle.agent_core.specs.Reading.{visible};
 
 use crate::source::{Source, View};
 use message_core::Binding;

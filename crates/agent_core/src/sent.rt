@@ -44,6 +44,7 @@ impl Sent {
         ensures full { IfOk result (λ taken. taken ≡ false → self.new.bindings ≡ self.old.bindings) }
         ensures fits { IfOk result (λ taken. taken ≡ fit_into self.old.room (self.old.bindings ++ binding ∷ [])) }
         ensures room { self.new.room ≡ self.old.room }
+        ensures err { OnErr result (self.new.bindings ≡ self.old.bindings) }
     {
         let Some(len) = encoded_len(&binding, self.room - self.used) else {
             return Ok(false);

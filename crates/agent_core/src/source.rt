@@ -1,4 +1,5 @@
 ghost use Rattle.std.specs.Prelude.{◌≡◌, IfOk};
+ghost use Rattle.std.specs.Option.{option_copied};
 
 use message_core::{Binding, Value};
 use oid_core::Oid;
@@ -16,19 +17,27 @@ pub trait View {
         ensures { result ≡ shows self.now name.now };
 }
 
-/// Instances in the order of their names, each of which can be spelled in a message.
+/// Instances in the order of their names, each of which can be served, and the objects that they belong to.
 pub trait Source {
-    ghost use Rattle.std.specs.Prelude.{List};
-    ghost use Rattle.agent_core.specs.World.{IsServable};
-    ghost use Rattle.agent_core.specs.Reading.{next_of, value_of};
+    ghost use Rattle.std.specs.Prelude.{List, ℕ};
+    ghost use Rattle.agent_core.specs.Reading.{object_of};
+    ghost use Rattle.message_core.specs.Instances.{IsServable};
+    ghost use Rattle.message_core.specs.Instances.{next_of, value_of};
     ghost use Rattle.message_core.specs.declared.binding.Binding.{Binding};
 
     // All instances.
     ghost instances: { Self → List Binding };
 
-    /// Hands on that the names rise and that each instance can be spelled; it does nothing.
+    // The names of the objects.
+    ghost objects: { Self → List (List ℕ) };
+
+    /// Hands on that the names rise and that each instance can be served; it does nothing.
     fn known(&self)
         ensures { IsServable (instances self.now) };
+
+    /// The object whose name begins a name, where there is one; it has its name. Takes no memory.
+    fn object(&self, name: &Oid) -> Option<&Oid>
+        ensures { option_copied result ≡ object_of (objects self.now) name.now };
 
     /// A copy of the value under a name, where an instance has that name. Only memory can fail.
     fn get(&self, alloc: Global, name: &Oid) -> Result<Option<Value>, AllocError>

@@ -1,9 +1,14 @@
+ghost use Rattle.std.specs.Prelude.{◌≡◌, ◌<◌};
+
 use super::*;
 use community_core::Policy;
-use message_core::{Binding, Value};
+use message_core::{Binding, Request, Value, decode};
 use oid_core::Oid;
 use std::alloc::Global;
+use std::marker::Brand;
+use std::sync::ledger::{Blank, Ledger};
 use std::test::Fail;
+use steps::Steps;
 use vacm_core::{Rows, Vacm, VacmRows};
 
 // A policy of no rows.
@@ -86,7 +91,7 @@ fn tells_a_hidden_name_by_what_is_seen_beside_it(rt: HostRuntime) -> Result<(), 
         ("1.3.6.1.2.1.17.2.15.1.4.1", 3),
     ] {
         let asked = named(rt.alloc(), text)?;
-        let answer = get(rt.alloc(), &world, &Only(&seen), world.objects(), &asked)?;
+        let answer = get(rt.alloc(), &world, &Only(&seen), &asked)?;
         let found = match answer.value {
             Value::Integer(1) => 1u8,
             Value::NoSuchInstance => 2,
@@ -107,6 +112,22 @@ fn refuses_a_world_that_is_not_sorted(rt: HostRuntime) -> Result<(), Fail> {
         matches!(
             PlainWorld::new(instances, Vec::new(rt.alloc()), no_policy(rt.alloc())?),
             Err(WorldFault::Unsorted)
+        )
+    );
+    Ok(())
+}
+
+#[test]
+fn refuses_a_world_of_an_exception(rt: HostRuntime) -> Result<(), Fail> {
+    let mut instances = Vec::new(rt.alloc());
+    instances.push(Binding {
+        name: named(rt.alloc(), "1.3.6")?,
+        value: Value::EndOfMibView,
+    })?;
+    assert!(rt;
+        matches!(
+            PlainWorld::new(instances, Vec::new(rt.alloc()), no_policy(rt.alloc())?),
+            Err(WorldFault::Exceptional)
         )
     );
     Ok(())
@@ -167,6 +188,32 @@ fn port_table(alloc: Global) -> Result<PlainWorld, Fail> {
     )
 }
 
+// What GetNext answers under a name.
+fn next_of(
+    alloc: Global,
+    world: &PlainWorld,
+    view: &Families,
+    name: &Oid,
+) -> Result<Binding, Fail> {
+    next_counted::<Brand>(alloc, world, view, name, Blank::new(1))
+}
+
+// The same, with the steps in a new ledger.
+fn next_counted<L: Ledger>(
+    alloc: Global,
+    world: &PlainWorld,
+    view: &Families,
+    name: &Oid,
+    blank: Blank,
+) -> Result<Binding, Fail>
+    requires name { blank.name ≡ L.name }
+    requires parts { blank.parts ≡ L.parts }
+    requires some { 0 < blank.parts }
+{
+    let mut steps: Steps<L> = Steps::new(blank);
+    Ok(get_next(alloc, world, view, name, &mut steps)?)
+}
+
 // Port 2 is in the view in the columns 3 and 4, but column 3 is excluded for all ports.
 #[test]
 fn passes_over_what_is_hidden(rt: HostRuntime) -> Result<(), Fail> {
@@ -180,7 +227,7 @@ fn passes_over_what_is_hidden(rt: HostRuntime) -> Result<(), Fail> {
         excluded: &excluded,
     };
     let asked = named(rt.alloc(), "1.3.6.1.2.1.17.2.15.1.2.2")?;
-    let next = get_next(rt.alloc(), &world, &view, &asked)?;
+    let next = next_of(rt.alloc(), &world, &view, &asked)?;
     assert!(rt; next.name == named(rt.alloc(), "1.3.6.1.2.1.17.2.15.1.4.2")?);
     assert!(rt; matches!(next.value, Value::Integer(1)));
     Ok(())
@@ -198,8 +245,54 @@ fn ends_where_nothing_more_is_seen(rt: HostRuntime) -> Result<(), Fail> {
         excluded: &excluded,
     };
     let asked = named(rt.alloc(), "1.3.6.1.2.1.17.2.15.1.4.2")?;
-    let next = get_next(rt.alloc(), &world, &view, &asked)?;
+    let next = next_of(rt.alloc(), &world, &view, &asked)?;
     assert!(rt; next.name == asked);
     assert!(rt; matches!(next.value, Value::EndOfMibView));
+    Ok(())
+}
+
+/// A Get of 1.3.6.1.2.1.17.1.2.0 for the community `public`.
+const WORKED: &[u8] =
+    b"\x30\x27\x02\x01\x01\x04\x06public\xA0\x1A\x02\x01\x01\x02\x01\x00\x02\x01\x00\x30\x0F\x30\x0D\x06\x09\x2B\x06\x01\x02\x01\x11\x01\x02\x00\x05\x00";
+
+/// The same up to its bindings, with room for 100 of them: 1,532 octets in all.
+const LONG_HEAD: &[u8] =
+    b"\x30\x82\x05\xF8\x02\x01\x01\x04\x06public\xA0\x82\x05\xE9\x02\x01\x01\x02\x01\x00\x02\x01\x00\x30\x82\x05\xDC";
+
+/// One of its bindings.
+const BINDING: &[u8] = b"\x30\x0D\x06\x09\x2B\x06\x01\x02\x01\x11\x01\x02\x00\x05\x00";
+
+// The octets of the reply for want of memory to what a datagram asks for.
+fn short_reply_to(alloc: Global, datagram: &[u8]) -> Result<Buffer, Fail> {
+    let request: Request = decode(alloc, datagram).ok().ok_or("a request")?;
+    if request.community.as_slice().len() > 255 {
+        return Err(Fail::from("a community"));
+    }
+    let mut buffer = Buffer::new();
+    short_reply(&request, &mut buffer);
+    Ok(buffer)
+}
+
+#[test]
+fn replies_without_memory(rt: HostRuntime) -> Result<(), Fail> {
+    let buffer = short_reply_to(rt.alloc(), WORKED)?;
+    assert_eq!(rt;
+        buffer.reply(),
+        b"\x30\x27\x02\x01\x01\x04\x06public\xA2\x1A\x02\x01\x01\x02\x01\x05\x02\x01\x00\x30\x0F\x30\x0D\x06\x09\x2B\x06\x01\x02\x01\x11\x01\x02\x00\x05\x00".as_slice()
+    );
+    Ok(())
+}
+
+#[test]
+fn replies_without_memory_that_it_is_too_big(rt: HostRuntime) -> Result<(), Fail> {
+    let mut datagram = Vec::from_slice(rt.alloc(), LONG_HEAD)?;
+    for _ in 0..100 {
+        datagram.extend_from_slice(BINDING)?;
+    }
+    let buffer = short_reply_to(rt.alloc(), datagram.as_slice())?;
+    assert_eq!(rt;
+        buffer.reply(),
+        b"\x30\x18\x02\x01\x01\x04\x06public\xA2\x0B\x02\x01\x01\x02\x01\x01\x02\x01\x00\x30\x00".as_slice()
+    );
     Ok(())
 }

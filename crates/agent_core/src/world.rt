@@ -1,12 +1,16 @@
 ghost use Rattle.std.specs.Prelude.{◌≡◌, ◌↔◌, IfOk, IsOk, IsErrOf, IsTrue, All, ℕ};
 ghost use Rattle.oid_core.specs.Order.{name_lt};
+ghost use Rattle.std.specs.Option.{option_copied};
 ghost use Rattle.message_core.specs.Spellable.{AreSpellable};
-ghost use Rattle.agent_core.specs.Reading.{IsRising, next_of, value_of};
+ghost use Rattle.message_core.specs.Instances.{IsInstanceValue};
+ghost use Rattle.agent_core.specs.World.{AreValued};
+ghost use Rattle.agent_core.specs.Reading.{object_of};
+ghost use Rattle.message_core.specs.Instances.{IsRising, next_of, value_of};
 ghost use Rattle.agent_core.specs.Answers.{counted};
 
 use crate::source::Source;
-use audit_core::Decision;
 use community_core::Policy;
+use decision::Cause;
 use message_core::{Binding, Value};
 use oid_core::{Oid, precedes, same_name};
 use std::alloc::{AllocError, Global};
@@ -19,6 +23,8 @@ pub enum WorldFault {
     Unsorted,
     /// A name or an OBJECT IDENTIFIER value has no spelling (X.690, 8.19.4).
     Unspellable,
+    /// A value is an exception, which stands for the want of one (RFC 3416, section 3).
+    Exceptional,
 }
 
 /// A list of instances by rising name, the names of the objects that they belong to, the policy that says who may see which of them,
@@ -33,7 +39,8 @@ pub struct PlainWorld {
 }
 
 impl Model for PlainWorld {
-    ghost use Rattle.agent_core.specs.World.{World, IsServable};
+    ghost use Rattle.message_core.specs.Instances.{IsServable};
+    ghost use Rattle.agent_core.specs.World.{World};
 
     ghost Value = { World };
 
@@ -52,7 +59,8 @@ impl PlainWorld {
     /// The world of these instances and objects under this policy, of which nothing was dropped yet. It takes no memory.
     ///
     /// # Errors
-    /// `Unsorted` where the names do not rise; else `Unspellable` where one has no spelling.
+    /// `Unsorted` where the names do not rise; else `Unspellable` where one has no spelling; else `Exceptional` where a value is an
+    /// exception.
     pub fn new(
         instances: Vec<Binding>,
         objects: Vec<Oid>,
@@ -67,12 +75,16 @@ impl PlainWorld {
         }) }
         ensures unsorted { IsErrOf result WorldFault.Unsorted ↔ ¬ IsRising instances.items }
         ensures unspellable { IsErrOf result WorldFault.Unspellable ↔ (IsRising instances.items × ¬ AreSpellable instances.items) }
+        ensures exceptional { IsErrOf result WorldFault.Exceptional ↔ (IsRising instances.items × AreSpellable instances.items × ¬ AreValued instances.items) }
     {
         if !rises(instances.as_slice()) {
             return Err(WorldFault::Unsorted);
         }
         if !are_spellable(instances.as_slice()) {
             return Err(WorldFault::Unspellable);
+        }
+        if !are_valued(instances.as_slice()) {
+            return Err(WorldFault::Exceptional);
         }
         Ok(PlainWorld {
             instances,
@@ -118,18 +130,17 @@ impl PlainWorld {
         self.unknown_contexts
     }
 
-    // Counts a request that is dropped.
-    pub(crate) fn count(&mut self, decision: &Decision)
-        ensures { self.new ≡ counted self.old decision.now }
+    // Counts a request that this cause drops.
+    pub(crate) fn count(&mut self, cause: &Cause)
+        ensures { self.new ≡ counted self.old cause.now }
     {
-        match decision {
-            Decision::UnknownCommunity => {
+        match cause {
+            Cause::UnknownCommunity => {
                 self.bad_communities = self.bad_communities.wrapping_add(1);
             }
-            Decision::NoSuchContext(_) => {
+            Cause::NoSuchContext(_) => {
                 self.unknown_contexts = self.unknown_contexts.wrapping_add(1);
             }
-            _ => {}
         }
     }
 }
@@ -161,6 +172,33 @@ fn are_spellable(rows: &[Binding]) -> bool
     row.is_spellable() && are_spellable(others)
 }
 
+// Whether no value is an exception.
+fn are_valued(rows: &[Binding]) -> bool
+    ensures { IsTrue result ↔ AreValued rows.now }
+{
+    let Some((row, others)) = rows.split_first() else {
+        return true;
+    };
+    is_instance_value(&row.value) && are_valued(others)
+}
+
+// Whether an instance can have the value.
+fn is_instance_value(value: &Value) -> bool
+    ensures { IsTrue result ↔ IsInstanceValue value.now }
+{
+    !matches!(
+        value,
+        Value::NoSuchObject | Value::NoSuchInstance | Value::EndOfMibView
+    )
+}
+
+// The object whose name begins a name.
+fn object_in<'a>(objects: &'a [Oid], name: &Oid) -> Option<&'a Oid>
+    ensures { option_copied result ≡ object_of objects.now name.now }
+{
+    objects.iter().find(|object| object.is_prefix(name))
+}
+
 // A copy of the value of the instance of that name.
 fn value_in(alloc: Global, rows: &[Binding], name: &Oid) -> Result<Option<Value>, AllocError>
     ensures { IfOk result (λ found. found ≡ value_of rows.now name.now) }
@@ -190,8 +228,14 @@ fn next_in(alloc: Global, rows: &[Binding], name: &Oid) -> Result<Option<Binding
 impl Source for PlainWorld {
     ghost instances = { λ w. w.instances };
 
+    ghost objects = { λ w. w.objects };
+
     fn known(&self) {
         let _rows = self.instances.as_slice();
+    }
+
+    fn object(&self, name: &Oid) -> Option<&Oid> {
+        object_in(self.objects.as_slice(), name)
     }
 
     fn get(&self, alloc: Global, name: &Oid) -> Result<Option<Value>, AllocError> {

@@ -1,7 +1,7 @@
 -- The text of an audit: the kind of the request, then 'drop' and why it is dropped (RFC 3418, snmpInBadCommunityNames;
 -- RFC 3413, snmpUnknownContexts), or the reply's status and index (RFC 3416, section 3), the decision (RFC 3415,
 -- section 3.2) with the key of its row, and the denied bindings.
-use Rattle.std.specs.Prelude.{ℕ, codes, decimal, Bool, true, false, if◌then◌else◌, List, [], ◌∷◌, ◌++◌, Option, Some, None}
+use Rattle.std.specs.Prelude.{ℕ, codes, decimal, List, [], ◌∷◌, ◌++◌, Option, Some, None}
 use Rattle.std.specs.Fmt.{signed_decimal}
 use Rattle.std.specs.List.{flat_map}
 use Rattle.oid_core.specs.Text.{dotted}
@@ -9,11 +9,15 @@ use Rattle.message_core.specs.declared.request.Kind.{Kind}
 use Rattle.message_core.specs.declared.request.Kind.TheVariants.{Get, GetNext, GetBulk, Set}
 use Rattle.message_core.specs.Status.{code_of}
 use Rattle.vacm_core.specs.Levels.{level_number}
-use Rattle.audit_core.specs.declared.keys.AccessKey.{AccessKey}
+use Rattle.decision.specs.declared.choice.Cause.{Cause}
+use Rattle.decision.specs.declared.choice.Cause.TheVariants.{UnknownCommunity, NoSuchContext}
+use Rattle.decision.specs.declared.choice.Refusal.{Refusal}
+use Rattle.decision.specs.declared.choice.Refusal.TheVariants.{NoGroupName, NoAccessEntry, NoSuchView}
+use Rattle.decision.specs.declared.choice.Decision.{Decision}
+use Rattle.decision.specs.declared.choice.Decision.TheVariants.{Drop, Empty, Refused, Allowed}
+use Rattle.decision.specs.declared.keys.AccessKey.{AccessKey}
 use Rattle.audit_core.specs.declared.keys.FamilyKey.{FamilyKey}
 use Rattle.audit_core.specs.declared.denied.Denied.{Denied}
-use Rattle.audit_core.specs.declared.decision.Decision.{Decision}
-use Rattle.audit_core.specs.declared.decision.Decision.TheVariants.{UnknownCommunity, NoSuchContext, Empty, NoGroupName, NoAccessEntry, NoSuchView, Allowed}
 use Rattle.audit_core.specs.declared.audit.Audit.{Audit}
 
 abbrev pub kind_text : Kind → List ℕ
@@ -44,32 +48,33 @@ abbrev pub named_view_text : List ℕ → List ℕ
 named_view_text [] = codes "empty"
 named_view_text (octet ∷ octets) = codes "view " ++ octet ∷ octets
 
-abbrev pub decision_text : Decision → List ℕ
-decision_text UnknownCommunity = codes "unknownCommunity"
-decision_text (NoSuchContext name) = codes "noSuchContext " ++ name
-decision_text Empty = codes "empty"
-decision_text (NoGroupName model name) = codes "noGroupName group(" ++ decimal model ++ codes "," ++ name ++ codes ")"
-decision_text (NoAccessEntry asked) = codes "noAccessEntry " ++ access_text asked
-decision_text (NoSuchView row view) = codes "noSuchView " ++ access_text row ++ codes " " ++ named_view_text view
-decision_text (Allowed row view) = codes "ok " ++ access_text row ++ codes " view " ++ view
+-- why a request is dropped
+abbrev pub cause_text : Cause → List ℕ
+cause_text UnknownCommunity = codes "unknownCommunity"
+cause_text (NoSuchContext name) = codes "noSuchContext " ++ name
 
--- there is no reply
-abbrev pub is_drop : Decision → Bool
-is_drop UnknownCommunity = true
-is_drop (NoSuchContext name) = true
-is_drop Empty = false
-is_drop (NoGroupName model name) = false
-is_drop (NoAccessEntry asked) = false
-is_drop (NoSuchView row view) = false
-is_drop (Allowed row view) = false
+-- why a request is refused
+abbrev pub refusal_text : Refusal → List ℕ
+refusal_text (NoGroupName model name) = codes "noGroupName group(" ++ decimal model ++ codes "," ++ name ++ codes ")"
+refusal_text (NoAccessEntry asked) = codes "noAccessEntry " ++ access_text asked
+refusal_text (NoSuchView row view) = codes "noSuchView " ++ access_text row ++ codes " " ++ named_view_text view
 
--- what stands behind the kind where there is a reply
-abbrev pub reply_text : Audit → List ℕ
-reply_text audit =
+-- by which row a request is let in, and to which view
+unfoldable pub leave_text : AccessKey → List ℕ → List ℕ
+leave_text row view = codes "ok " ++ access_text row ++ codes " view " ++ view
+
+-- what stands behind the kind where there is a reply: its status and index, the decision, and the denied bindings
+abbrev pub reply_text : Audit → List ℕ → List ℕ
+reply_text audit decision =
     signed_decimal (code_of audit.status) ++ codes " " ++ signed_decimal audit.index ++ codes " "
-    ++ decision_text audit.decision ++ flat_map denied_text audit.denied
+    ++ decision ++ flat_map denied_text audit.denied
+
+-- what stands behind the kind
+abbrev pub said_text : Audit → Decision → List ℕ
+said_text audit (Drop cause) = codes "drop " ++ cause_text cause
+said_text audit Empty = reply_text audit (codes "empty")
+said_text audit (Refused why) = reply_text audit (refusal_text why)
+said_text audit (Allowed row view) = reply_text audit (leave_text row view)
 
 abbrev pub audit_text : Audit → List ℕ
-audit_text audit =
-    kind_text audit.kind ++ codes " "
-    ++ (if is_drop audit.decision then codes "drop " ++ decision_text audit.decision else reply_text audit)
+audit_text audit = kind_text audit.kind ++ codes " " ++ said_text audit audit.decision

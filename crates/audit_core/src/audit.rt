@@ -2,8 +2,9 @@
 ghost use Rattle.std.specs.Prelude.{◌≡◌, Some};
 ghost use Rattle.audit_core.specs.Text.{audit_text, kind_text};
 
-use crate::decision::Decision;
 use crate::denied::DeniedBindings;
+use crate::written::{WrittenCause, WrittenLeave, WrittenRefusal};
+use decision::Decision;
 use message_core::{ErrorStatus, Kind};
 use std::fmt;
 
@@ -49,10 +50,20 @@ impl fmt::Display for Audit {
         } = self;
         let kind = kind_word(*kind);
         let status = status.code();
-        if decision.is_drop() {
-            write!(f, "{kind} drop {decision}")
-        } else {
-            write!(f, "{kind} {status} {index} {decision}{denied}")
+        match decision {
+            Decision::Drop(cause) => {
+                let cause = WrittenCause(cause);
+                write!(f, "{kind} drop {cause}")
+            }
+            Decision::Empty => write!(f, "{kind} {status} {index} empty{denied}"),
+            Decision::Refused(why) => {
+                let why = WrittenRefusal(why);
+                write!(f, "{kind} {status} {index} {why}{denied}")
+            }
+            Decision::Allowed { row, view } => {
+                let leave = WrittenLeave { row, view };
+                write!(f, "{kind} {status} {index} {leave}{denied}")
+            }
         }
     }
 }

@@ -1,52 +1,12 @@
-//! The keys of the rows that decide.
+//! The keys of the families that decide.
 ghost use Rattle.std.specs.Prelude.{◌≡◌, ◌<◌, Some, IfOk, OnErr, length};
-ghost use Rattle.audit_core.specs.Keys.{access_key, family_key};
-ghost use Rattle.audit_core.specs.Text.{access_text, family_text};
+ghost use Rattle.audit_core.specs.Keys.{family_key};
+ghost use Rattle.audit_core.specs.Text.{family_text};
 
 use oid_core::Oid;
 use std::alloc::{AllocError, Global};
 use std::fmt;
-use vacm_core::{AccessRow, FamilyRow, Level, Name};
-
-/// The key of a row of vacmAccessTable, or what is asked of that table (RFC 3415, section 4).
-#[derive(Drop)]
-pub struct AccessKey {
-    /// The name of the group.
-    pub group: Name,
-    /// The context name or how it begins, of a row; the context name, of what is asked.
-    pub prefix: Name,
-    /// The security model; 0 in a row for any.
-    pub model: u32,
-    /// The security level.
-    pub level: Level,
-}
-
-impl AccessKey {
-    /// The key of a row. Takes no memory.
-    pub fn of(row: &AccessRow) -> AccessKey
-        ensures { result ≡ access_key row.now }
-    {
-        AccessKey {
-            group: row.group.copy(),
-            prefix: row.prefix.copy(),
-            model: row.model,
-            level: row.level,
-        }
-    }
-}
-
-/// As `access(readers,,2,1)`: the group, the prefix, the model and the level's number.
-impl fmt::Display for AccessKey {
-    ghost output = { λ key. Some (access_text key) };
-
-    fn fmt<W: fmt::Write>(&self, f: &mut fmt::Formatter<W>) -> fmt::Result {
-        let group = self.group.as_str();
-        let prefix = self.prefix.as_str();
-        let model = self.model;
-        let level = self.level.number();
-        write!(f, "access({group},{prefix},{model},{level})")
-    }
-}
+use vacm_core::{FamilyRow, Name};
 
 /// The key of a row of vacmViewTreeFamilyTable (RFC 3415, section 4).
 #[derive(Drop)]

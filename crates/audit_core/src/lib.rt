@@ -3,15 +3,14 @@
 #![tactic(auto)]
 
 mod audit;
-mod decision;
 mod denied;
 mod keys;
 mod line;
+mod written;
 
 pub use audit::Audit;
-pub use decision::Decision;
 pub use denied::{Denied, DeniedBindings};
-pub use keys::{AccessKey, FamilyKey};
+pub use keys::FamilyKey;
 pub use line::{audit_line, write_audit};
 
 #[cfg(test)]

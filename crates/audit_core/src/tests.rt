@@ -1,5 +1,6 @@
 //! Worked lines, and that a line can be written.
 use super::*;
+use decision::{AccessKey, Cause, Decision, Refusal};
 use message_core::{ErrorStatus, Kind};
 use oid_core::Oid;
 use std::alloc::Global;
@@ -66,10 +67,10 @@ fn line_of(alloc: Global, audit: &Audit) -> Result<Vec<u8>, Fail> {
 #[test]
 fn names_the_row_without_a_view(rt: HostRuntime) -> Result<(), Fail> {
     let row = row_of("readers")?;
-    let decision = Decision::NoSuchView {
+    let decision = Decision::Refused(Refusal::NoSuchView {
         row,
         view: Name::empty(),
-    };
+    });
     let status = ErrorStatus::AuthorizationError;
     let audit = audit_of(rt.alloc(), Kind::Set, status, 0, decision);
     let line = line_of(rt.alloc(), &audit)?;
@@ -83,7 +84,7 @@ fn names_the_row_without_a_view(rt: HostRuntime) -> Result<(), Fail> {
 #[test]
 fn names_who_has_no_group(rt: HostRuntime) -> Result<(), Fail> {
     let name = named("lost")?;
-    let decision = Decision::NoGroupName { model: 2, name };
+    let decision = Decision::Refused(Refusal::NoGroupName { model: 2, name });
     let status = ErrorStatus::AuthorizationError;
     let audit = audit_of(rt.alloc(), Kind::Get, status, 0, decision);
     let line = line_of(rt.alloc(), &audit)?;
@@ -124,7 +125,7 @@ fn names_the_family_that_excludes(rt: HostRuntime) -> Result<(), Fail> {
 
 #[test]
 fn names_the_unknown_context(rt: HostRuntime) -> Result<(), Fail> {
-    let decision = Decision::NoSuchContext(named("x")?);
+    let decision = Decision::Drop(Cause::NoSuchContext(named("x")?));
     let audit = audit_of(rt.alloc(), Kind::Get, ErrorStatus::NoError, 0, decision);
     let line = line_of(rt.alloc(), &audit)?;
     assert_eq!(rt; line.as_slice(), b"get drop noSuchContext x\n".as_slice());
@@ -172,7 +173,7 @@ fn adds_a_line_in_memory(rt: HostRuntime) -> Result<(), Fail> {
         Kind::GetBulk,
         status,
         0,
-        Decision::UnknownCommunity,
+        Decision::Drop(Cause::UnknownCommunity),
     );
     let mut out = Vec::from_slice(rt.alloc(), b"reply\n")?;
     write_audit(rt.alloc(), &audit, &mut out)?;

@@ -11,5 +11,4 @@ returns-clause-sent c =
     let world = c.args.world.now in
     let tables : c.vacm-vacm.result.now ≡ world.policy.vacm = c.vacm-vacm.ensures ∙ ap (λ (p : PolicyTables). p.vacm) c.policy.ensures in
     subst (λ (t : Tables). IsSent (kind_reply world.objects (in_view t.families c.args.view.now) world.instances c.args.request.now c.args.request.now.kind) c.in_ok-sent.sent c.send_kind.new.buffer) tables
-    (subst (λ (objects : List (List ℕ)). IsSent (kind_reply objects (in_view c.vacm-vacm.result.now.families c.args.view.now) world.instances c.args.request.now c.args.request.now.kind) c.in_ok-sent.sent c.send_kind.new.buffer) c.objects.ensures
-    c.in_ok-sent.ensures.sent)
+    c.in_ok-sent.ensures.sent

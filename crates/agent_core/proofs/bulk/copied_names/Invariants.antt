@@ -1,5 +1,5 @@
 use Rattle.std.proofs.Common.{◌≡◌, take}
-use Rattle.agent_core.specs.Reading.{names_of}
+use Rattle.message_core.specs.Instances.{names_of}
 use Rattle.agent_core.proofs.bulk.copied_names.Given as goal
 
 abbrev pub invariant-loop-binding : goal.invariant-loop-binding

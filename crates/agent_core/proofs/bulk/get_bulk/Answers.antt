@@ -1,10 +1,12 @@
-use Rattle.std.proofs.Common.{◌≡◌, ◌∙◌, ◌++◌, ◌≤◌, refl, ap, sym, subst, List, length, min}
+use Rattle.std.proofs.Common.{◌≡◌, ◌∙◌, ◌++◌, ◌≤◌, [], refl, ap, sym, subst, List, length, min, rules, arith}
 use Rattle.message_core.specs.declared.binding.Binding.{Binding}
-use Rattle.agent_core.specs.Reading.{visible, names_of}
+use Rattle.message_core.specs.Instances.{names_of}
+use Rattle.agent_core.specs.Reading.{visible}
 use Rattle.agent_core.specs.Bulk.{bulk_list, asked_list, count_of}
 use Rattle.agent_core.specs.Fitting.{total, IsFilled}
 use Rattle.agent_core.proofs.Fits.{filled_at}
 use Rattle.agent_core.proofs.Longest.{filled_fits}
+use Rattle.agent_core.proofs.LawProofs.{work_within}
 use Rattle.agent_core.proofs.bulk.get_bulk.Goals as goal
 
 pub returns-clause-answer : goal.returns-clause-answer
@@ -20,6 +22,27 @@ returns-clause-answer g c =
     ∙ ap (λ n. bulk_list rows n c.max_repetitions-most.result (names_of c.as_slice-asked.result.now)) once
     ∙ ap (λ n. bulk_list rows (min (count_of request.first) (length request.bindings)) n (names_of c.as_slice-asked.result.now)) most
     ∙ ap (λ bs. bulk_list rows (min (count_of request.first) (length request.bindings)) (count_of request.second) (names_of bs)) asked in
-    let filled : IsFilled c.bindings_room.result (asked_list rows request) c.send_list.new.sent.bindings = filled_at _ _ _ _ c.send_list.new.sent.bindings room list c.in_ok-send_list.ensures.filled in
-    let within : total c.send_list.new.sent.bindings ≤ c.bindings_room.result = subst (λ r. total c.send_list.new.sent.bindings ≤ r) (c.in_ok-send_list.ensures.room ∙ room) c.into_bindings.ensures.within in
-    c.into_bindings.ensures.value ∙ filled_fits request c.bindings_room.result (asked_list rows request) c.send_list.new.sent.bindings c.bindings_room.ensures.room within filled
+    let filled : IsFilled c.bindings_room.result (asked_list rows request) c.send_list-filled.new.sent.bindings = filled_at _ _ _ _ c.send_list-filled.new.sent.bindings room list (search rules) in
+    let within : total c.send_list-filled.new.sent.bindings ≤ c.bindings_room.result = subst (λ r. total c.send_list-filled.new.sent.bindings ≤ r) (c.send_list-filled.ensures.room ∙ room) c.into_bindings-bindings.ensures.within in
+    c.into_bindings-bindings.ensures.value ∙ filled_fits request c.bindings_room.result (asked_list rows request) c.send_list-filled.new.sent.bindings c.bindings_room.ensures.room within filled
+
+-- what is sent fits, and a step was taken for each of it, and one more
+pub returns-clause-work : goal.returns-clause-work
+returns-clause-work g c =
+    let none : c.new-sent.result.bindings ≡ [] = ap (λ s. s.bindings) c.new-sent.ensures in
+    omega (arith, c.send_list-filled.ensures.work, ap length none, ap length c.into_bindings-bindings.ensures.value)
+
+pub returns-clause-most_work : goal.returns-clause-most_work
+returns-clause-most_work g c =
+    let room : c.new-sent.result.room ≡ c.bindings_room.result = ap (λ s. s.room) c.new-sent.ensures in
+    let none : c.new-sent.result.bindings ≡ [] = ap (λ s. s.bindings) c.new-sent.ensures in
+    let within : total c.send_list-filled.new.sent.bindings ≤ c.bindings_room.result = subst (λ r. total c.send_list-filled.new.sent.bindings ≤ r) (c.send_list-filled.ensures.room ∙ room) c.into_bindings-bindings.ensures.within in
+    work_within c.args.steps.now c.send_list-filled.new.steps c.bindings_room.result c.send_list-filled.new.sent.bindings within c.bindings_room.ensures.most (omega (arith, c.send_list-filled.ensures.work, ap length none))
+
+-- the same where memory fails
+pub returns-in_err-filled-clause-most_work : goal.returns-in_err-filled-clause-most_work
+returns-in_err-filled-clause-most_work g c =
+    let room : c.new-sent.result.room ≡ c.bindings_room.result = ap (λ s. s.room) c.new-sent.ensures in
+    let none : c.new-sent.result.bindings ≡ [] = ap (λ s. s.bindings) c.new-sent.ensures in
+    let within : total c.send_list-filled.new.sent.bindings ≤ c.bindings_room.result = subst (λ r. total c.send_list-filled.new.sent.bindings ≤ r) (c.send_list-filled.ensures.room ∙ room) c.into_bindings-bindings.ensures.within in
+    work_within c.args.steps.now c.send_list-filled.new.steps c.bindings_room.result c.send_list-filled.new.sent.bindings within c.bindings_room.ensures.most (omega (arith, c.send_list-filled.ensures.work, ap length none))

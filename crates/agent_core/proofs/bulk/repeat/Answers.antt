@@ -2,7 +2,8 @@ use Rattle.std.proofs.Common.{◌≡◌, ◌∙◌, ◌++◌, ◌-◌, ap, sym, 
 use Rattle.std.specs.List.{AllByRecursion}
 use Rattle.oid_core.specs.Name.{HasRoot}
 use Rattle.message_core.specs.declared.binding.Binding.{Binding}
-use Rattle.agent_core.specs.Reading.{visible, next_answers, names_of}
+use Rattle.message_core.specs.Instances.{names_of}
+use Rattle.agent_core.specs.Reading.{visible, next_answers}
 use Rattle.agent_core.specs.Bulk.{repetitions, all_end}
 use Rattle.agent_core.proofs.Fits.{repeat_cut, repeat_ended, repeat_more, repeat_done, last_is, last_count, rooted}
 use Rattle.agent_core.proofs.bulk.repeat.Goals as goal
@@ -48,6 +49,7 @@ loop-i-preserved g c =
           (ap all_end (sym row) ∙ sym c.has_ended.ensures ∙ c.if-has_ended.false) is
           (c.in_ok-names.ensures ∙ ap names_of row);
       room = search rules;
+      work = omega (arith, c.loop-i.invariant.work, c.in_ok-repeat_once.ensures.whole_work whole);
       rooted = subst (AllByRecursion HasRoot) (sym c.in_ok-names.ensures) (rooted c.last-row.result.now c.last-row.ensures.spellable);
     }
 

@@ -1,4 +1,4 @@
-use Rattle.std.proofs.Common.{◌≡◌, ◌++◌, ◌-◌}
+use Rattle.std.proofs.Common.{◌≡◌, ◌+◌, ◌++◌, ◌-◌, length}
 use Rattle.std.specs.List.{AllByRecursion}
 use Rattle.oid_core.specs.Name.{HasRoot}
 use Rattle.agent_core.specs.Reading.{visible}
@@ -11,5 +11,6 @@ invariant-loop-i g l =
     record {
       all : l.fn.sent.bindings ++ repetitions rows l.most l.fn.columns.items ≡ l.sent.bindings ++ repetitions rows (l.most - l.i) l.names.items;
       room : l.sent.room ≡ l.fn.sent.room;
+      work : l.steps + length l.fn.sent.bindings ≡ l.fn.steps + length l.sent.bindings;
       rooted : AllByRecursion HasRoot l.names.items;
     }

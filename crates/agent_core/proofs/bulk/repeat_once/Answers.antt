@@ -3,7 +3,7 @@ use Rattle.oid_core.specs.Name.{HasRoot}
 use Rattle.message_core.specs.declared.binding.Binding.{Binding}
 use Rattle.agent_core.specs.Reading.{visible, next_answer}
 use Rattle.agent_core.specs.Fitting.{fit_into}
-use Rattle.agent_core.proofs.Fits.{all_at, once_cut, once_more}
+use Rattle.agent_core.proofs.Fits.{all_at, once_cut, once_more, pushed_work}
 use Rattle.agent_core.proofs.bulk.repeat_once.Goals as goal
 
 pub send_next-requires : goal.send_next-requires
@@ -20,4 +20,5 @@ loop-name-preserved g c = record {
       once_more (visible (g.V.View.shows c.args.view.now) (g.S.Source.instances c.args.source.now)) c.args.names.now c.loop-name.name-index c.name-item.result c.args.sent.now.bindings c.loop-name.sent.bindings c.send_next.new.sent.bindings
       c.loop-name-test.true c.name-item.is c.loop-name.invariant.whole (search rules);
   room = search rules;
+  work = pushed_work _ _ _ c.args.sent.now.bindings c.loop-name.sent.bindings c.send_next.new.sent.bindings (next_answer (visible (g.V.View.shows c.args.view.now) (g.S.Source.instances c.args.source.now)) c.name-item.result) c.loop-name.invariant.work (search rules) (search rules);
 }

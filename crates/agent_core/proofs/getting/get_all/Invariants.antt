@@ -3,4 +3,4 @@ use Rattle.agent_core.specs.Reading.{get_answers}
 use Rattle.agent_core.proofs.getting.get_all.Given as goal
 
 abbrev pub invariant-loop-binding : goal.invariant-loop-binding
-invariant-loop-binding g l = l.answers ≡ get_answers l.objects (g.V.View.shows l.view) (g.S.Source.instances l.source) (take l.binding-index l.asked)
+invariant-loop-binding g l = l.answers ≡ get_answers (g.S.Source.objects l.source) (g.V.View.shows l.view) (g.S.Source.instances l.source) (take l.binding-index l.asked)

@@ -1,5 +1,6 @@
 use Rattle.std.proofs.Common.{◌≡◌, ◌∙◌, ap, sym, Some, None, List}
-use Rattle.agent_core.specs.Reading.{visible, value_of, next_of}
+use Rattle.message_core.specs.Instances.{value_of, next_of}
+use Rattle.agent_core.specs.Reading.{visible}
 use Rattle.message_core.specs.declared.binding.Binding.{Binding}
 use Rattle.agent_core.proofs.Below.{below-itself, below-first, first_below, visible-rising}
 use Rattle.agent_core.proofs.getting.shows_below.Goals as goal

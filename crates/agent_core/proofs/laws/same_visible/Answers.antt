@@ -1,7 +1,8 @@
 use Rattle.std.proofs.Common.{ap, pos}
 use Rattle.message_core.specs.Canon.{answer_to}
 use Rattle.message_core.specs.declared.status.ErrorStatus.TheVariants.{NoError}
-use Rattle.agent_core.specs.Reading.{names_of, next_answers}
+use Rattle.message_core.specs.Instances.{names_of}
+use Rattle.agent_core.specs.Reading.{next_answers}
 use Rattle.agent_core.specs.Bulk.{asked_list}
 use Rattle.agent_core.specs.Fitting.{fitting}
 use Rattle.agent_core.specs.Replies.{sized}

@@ -1,5 +1,6 @@
 use Rattle.std.proofs.Common.{◌≡◌, length, find}
-use Rattle.agent_core.specs.Reading.{visible, next_of}
+use Rattle.message_core.specs.Instances.{next_of}
+use Rattle.agent_core.specs.Reading.{visible}
 use Rattle.agent_core.proofs.Rest.{from}
 use Rattle.agent_core.proofs.reading.next_shown.Given as goal
 

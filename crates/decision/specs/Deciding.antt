@@ -1,5 +1,5 @@
 -- Who is let in to what: the decision on a request up to its names, with the keys of its rows (RFC 3584, section 5.2.1; RFC 3415, section 3.2).
-use Rattle.std.specs.Prelude.{ℕ, Bool, true, ◌==◌, if◌then◌else◌, List, [], length, slice_index_or, Option, Some, None}
+use Rattle.std.specs.Prelude.{ℕ, Bool, true, false, ◌==◌, if◌then◌else◌, List, [], length, slice_index_or, Option, Some, None}
 use Rattle.message_core.specs.declared.request.Kind.{Kind}
 use Rattle.message_core.specs.declared.request.Kind.TheVariants.{Get, GetNext, Set, GetBulk}
 use Rattle.message_core.specs.declared.request.Request.{Request}
@@ -14,10 +14,14 @@ use Rattle.vacm_core.specs.Access.{verdict_of}
 use Rattle.vacm_core.specs.Tables.{Tables}
 use Rattle.community_core.specs.Communities.{PolicyTables, caller_of}
 use Rattle.community_core.specs.declared.community.Caller.{Caller}
-use Rattle.audit_core.specs.Keys.{access_key}
-use Rattle.audit_core.specs.declared.keys.AccessKey.{AccessKey}
-use Rattle.audit_core.specs.declared.decision.Decision.{Decision}
-use Rattle.audit_core.specs.declared.decision.Decision.TheVariants.{UnknownCommunity, NoSuchContext, Empty, NoGroupName, NoAccessEntry, NoSuchView, Allowed}
+use Rattle.decision.specs.Keys.{access_key}
+use Rattle.decision.specs.declared.choice.Cause.{Cause}
+use Rattle.decision.specs.declared.choice.Cause.TheVariants.{UnknownCommunity, NoSuchContext}
+use Rattle.decision.specs.declared.choice.Refusal.{Refusal}
+use Rattle.decision.specs.declared.choice.Refusal.TheVariants.{NoGroupName, NoAccessEntry, NoSuchView}
+use Rattle.decision.specs.declared.choice.Decision.{Decision}
+use Rattle.decision.specs.declared.choice.Decision.TheVariants.{Drop, Empty, Refused, Allowed}
+use Rattle.decision.specs.declared.keys.AccessKey.{AccessKey}
 
 -- a Set asks for the view to write by, the others for the view to read by
 abbrev pub view_type : Kind → ViewType
@@ -44,23 +48,29 @@ no_access_row = record { group = []; prefix = []; model = 0; level = NoAuthNoPri
 abbrev pub access_key_at : List AccessRow → ℕ → AccessKey
 access_key_at rows n = access_key (slice_index_or rows n no_access_row)
 
--- where nothing is asked for, nothing further is decided
-abbrev pub unless_empty : Bool → Decision → Decision
-unless_empty empty decision = if empty then Empty else decision
+-- a verdict of the tables, with the keys of its rows
+abbrev pub judged : List AccessRow → Verdict → Decision
+judged rows (verdict.NoSuchContext name) = Drop (NoSuchContext name)
+judged rows (verdict.NoGroupName model name) = Refused (NoGroupName model name)
+judged rows (verdict.NoAccessEntry group context model level) =
+    Refused (NoAccessEntry (record { group = group; prefix = context; model = model; level = level }))
+judged rows (verdict.NoSuchView n view) = Refused (NoSuchView (access_key_at rows n) view)
+judged rows (verdict.Allowed n view) = Allowed (access_key_at rows n) view
 
--- the decision that a verdict is: an unknown context comes first, then that nothing is asked for, then the rest
-abbrev pub decision_of : Tables → Bool → Verdict → Decision
-decision_of t empty (verdict.NoSuchContext name) = NoSuchContext name
-decision_of t empty (verdict.NoGroupName model name) = unless_empty empty (NoGroupName model name)
-decision_of t empty (verdict.NoAccessEntry group context model level) =
-    unless_empty empty (NoAccessEntry (record { group = group; prefix = context; model = model; level = level }))
-decision_of t empty (verdict.NoSuchView n view) = unless_empty empty (NoSuchView (access_key_at t.access n) view)
-decision_of t empty (verdict.Allowed n view) = unless_empty empty (Allowed (access_key_at t.access n) view)
+-- a request that is not dropped and asks for nothing is neither refused nor allowed
+abbrev pub of_nothing : Decision → Decision
+of_nothing (Drop cause) = Drop cause
+of_nothing Empty = Empty
+of_nothing (Refused why) = Empty
+of_nothing (Allowed row view) = Empty
+
+abbrev pub unless_empty : Bool → Decision → Decision
+unless_empty empty decision = if empty then of_nothing decision else decision
 
 abbrev pub decided_for : Tables → Request → Option Caller → Decision
-decided_for t request (Some caller) = decision_of t (length request.bindings == 0) (verdict_of t (asked caller request.kind))
-decided_for t request None = UnknownCommunity
+decided_for t request (Some caller) = unless_empty (length request.bindings == 0) (judged t.access (verdict_of t (asked caller request.kind)))
+decided_for t request None = Drop UnknownCommunity
 
--- The decision on a request: its community, the context, whether it has bindings, the group, the access row and its view, in this order.
+-- The decision on a request: its community, its context, whether it has bindings, and what the tables say, in this order.
 unfoldable pub decided : PolicyTables → Request → Decision
 decided policy request = decided_for policy.vacm request (caller_of policy.communities request.community)

@@ -1,9 +1,10 @@
 //! Who is let in to what.
 ghost use Rattle.std.specs.Prelude.{◌≡◌, ◌≢◌, ◌≤◌, ◌<◌, length};
-ghost use Rattle.agent_core.specs.Deciding.{view_type, asked, access_key_at, unless_empty, decision_of, decided};
+ghost use Rattle.decision.specs.Deciding.{view_type, asked, access_key_at, judged, unless_empty, decided};
 ghost use Rattle.vacm_core.specs.Access.{NamesRowOf};
 
-use audit_core::{AccessKey, Decision};
+use crate::choice::{Cause, Decision, Refusal};
+use crate::keys::AccessKey;
 use community_core::{COMMUNITY_MAX, Caller, Policy};
 use message_core::{Kind, Request};
 use vacm_core::{Ask, Level, Vacm, Verdict, ViewType};
@@ -42,40 +43,42 @@ fn access_key_at(vacm: &Vacm, n: usize) -> AccessKey
     AccessKey::of(vacm.access_row(n))
 }
 
-// A decision, or that nothing is asked for.
-fn unless_empty(empty: bool, decision: Decision) -> Decision
-    ensures { result ≡ unless_empty empty decision }
-{
-    if empty { Decision::Empty } else { decision }
-}
-
-// The decision that a verdict is.
-fn decision_of(vacm: &Vacm, empty: bool, verdict: Verdict) -> Decision
+// A verdict of the tables, with the keys of its rows.
+fn judged(vacm: &Vacm, verdict: Verdict) -> Decision
     requires { NamesRowOf vacm.now.access verdict }
-    ensures { result ≡ decision_of vacm.now empty verdict }
+    ensures { result ≡ judged vacm.now.access verdict }
 {
     match verdict {
-        Verdict::NoSuchContext(name) => Decision::NoSuchContext(name),
+        Verdict::NoSuchContext(name) => Decision::Drop(Cause::NoSuchContext(name)),
         Verdict::NoGroupName(model, name) => {
-            unless_empty(empty, Decision::NoGroupName { model, name })
+            Decision::Refused(Refusal::NoGroupName { model, name })
         }
-        Verdict::NoAccessEntry(group, prefix, model, level) => unless_empty(
-            empty,
-            Decision::NoAccessEntry(AccessKey {
+        Verdict::NoAccessEntry(group, prefix, model, level) => {
+            Decision::Refused(Refusal::NoAccessEntry(AccessKey {
                 group,
                 prefix,
                 model,
                 level,
-            }),
-        ),
+            }))
+        }
         Verdict::NoSuchView(n, view) => {
             let row = access_key_at(vacm, n);
-            unless_empty(empty, Decision::NoSuchView { row, view })
+            Decision::Refused(Refusal::NoSuchView { row, view })
         }
         Verdict::Allowed(n, view) => {
             let row = access_key_at(vacm, n);
-            unless_empty(empty, Decision::Allowed { row, view })
+            Decision::Allowed { row, view }
         }
+    }
+}
+
+// A decision, or that nothing is asked for by a request that is not dropped.
+fn unless_empty(empty: bool, decision: Decision) -> Decision
+    ensures { result ≡ unless_empty empty decision }
+{
+    match decision {
+        Decision::Drop(cause) => Decision::Drop(cause),
+        other => { if empty { Decision::Empty } else { other } }
     }
 }
 
@@ -84,12 +87,12 @@ fn decision_of(vacm: &Vacm, empty: bool, verdict: Verdict) -> Decision
 #[tactic(auto, unfolding(crate::specs::Deciding::decided))]
 pub fn decide(policy: &Policy, request: &Request) -> Decision
     ensures decision { result ≡ decided policy.now request.now }
-    ensures short { result ≢ Decision.UnknownCommunity → length request.now.community ≤ COMMUNITY_MAX }
+    ensures short { result ≢ Decision.Drop Cause.UnknownCommunity → length request.now.community ≤ COMMUNITY_MAX }
 {
     let Some(caller) = policy.caller(request.community.as_slice()) else {
-        return Decision::UnknownCommunity;
+        return Decision::Drop(Cause::UnknownCommunity);
     };
-    let empty = request.bindings.as_slice().len() == 0;
+    let empty = request.bindings.as_slice().is_empty();
     let verdict = policy.vacm().decide(&asked(caller, request.kind));
-    decision_of(policy.vacm(), empty, verdict)
+    unless_empty(empty, judged(policy.vacm(), verdict))
 }
