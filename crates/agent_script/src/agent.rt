@@ -175,12 +175,7 @@ impl Agent {
     }
 
     // Answers a frame's octets at a port.
-    fn frame(
-        &mut self,
-        port: u16,
-        octets: &[u8],
-        out: &mut Vec<u8>,
-    ) -> Result<Note, AllocError>
+    fn frame(&mut self, port: u16, octets: &[u8], out: &mut Vec<u8>) -> Result<Note, AllocError>
         requires first { 1 ≤ port }
         requires last { port ≤ port_count self.old.system.bridge }
         ensures met { IfOk result (λ note. MayMeetFrame self.old.system.bridge port (frame_at octets.now) note) }

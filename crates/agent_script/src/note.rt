@@ -40,9 +40,7 @@ pub fn note_of(cause: DropCause) -> Note
 {
     match cause {
         DropCause::Memory => Note::RequestNotRead,
-        DropCause::TooLong
-        | DropCause::Malformed
-        | DropCause::BadVersion
-        | DropCause::BadKind => Note::Nothing,
+        DropCause::TooLong | DropCause::Malformed | DropCause::BadVersion | DropCause::BadKind =>
+            Note::Nothing,
     }
 }

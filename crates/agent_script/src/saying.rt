@@ -55,7 +55,12 @@ pub fn say_reply(octets: &[u8], out: &mut Vec<u8>) -> Result<(), AllocError>
 }
 
 /// Appends an audit, where it is told.
-pub fn say_audit(alloc: Global, on: bool, audit: &Audit, out: &mut Vec<u8>) -> Result<(), AllocError>
+pub fn say_audit(
+    alloc: Global,
+    on: bool,
+    audit: &Audit,
+    out: &mut Vec<u8>,
+) -> Result<(), AllocError>
     ensures { OnOk result (out.new.items ≡ out.old.items ++ told_audit on audit.now) }
 {
     if !on {
