@@ -1,7 +1,10 @@
 pub mod BuiltIn
 pub mod Commands
 pub mod CommandViews
+pub mod Events
+pub mod Outputs
 pub mod State
-pub mod BridgeLines
-pub mod Requests
+pub mod Notes
+pub mod Actions
 pub mod Script
+pub mod Sessions

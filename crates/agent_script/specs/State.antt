@@ -2,11 +2,11 @@
 use Rattle.std.specs.Prelude.{ℕ, Bool, false, List, Option, None}
 use Rattle.agent_core.specs.World.{World}
 use Rattle.bridge_core.specs.Bridge.{BridgeState}
+use Rattle.agent_script.specs.Events.{System}
 use Rattle.agent_script.specs.declared.drops.Drops.{Drops}
 
 pub record Agent : Type 0 where
-  pub world : World
-  pub bridge : BridgeState
+  pub system : System
   -- each request's audit is told
   pub is_auditing : Bool
   -- the datagrams that gave no request
@@ -17,14 +17,8 @@ pub record Agent : Type 0 where
 -- the agent at the start of a script
 abbrev pub opening_agent : World → BridgeState → Agent
 opening_agent world bridge = record {
-  world = world;
-  bridge = bridge;
+  system = record { world = world; bridge = bridge };
   is_auditing = false;
   drops = record { too_long = 0; malformed = 0; bad_version = 0; bad_kind = 0; memory = 0 };
   policy_lines = None;
 }
-
--- an agent, and whether no line so far met want of memory
-pub record Session : Type 0 where
-  pub agent : Agent
-  pub is_whole : Bool

@@ -1,21 +1,26 @@
 //! The agent that a script drives.
-ghost use Rattle.std.specs.Prelude.{◌≡◌, ◌++◌, false, IsTrue, IfOk, OnOk, Some, None, [], option_map, codes};
-ghost use Rattle.agent_script.specs.State.{Agent as State, opening_agent};
-ghost use Rattle.agent_script.specs.Requests.{datagram_text, after_datagram};
+ghost use Rattle.std.specs.Prelude.{◌≡◌, ◌≤◌, ◌++◌, false, IfOk, OnOk, Some, None, [], option_map, codes};
+ghost use Rattle.message_core.specs.Spellable.{AreSpellable};
+ghost use Rattle.bridge_core.specs.Bridge.{port_count};
+ghost use Rattle.community_core.specs.Texts.{policy_in};
+ghost use Rattle.frame_core.specs.Reading.{frame_at};
 ghost use Rattle.agent_script.specs.CommandViews.{command_view};
 ghost use Rattle.agent_script.specs.Commands.{NamesPortOf};
-ghost use Rattle.bridge_core.specs.Bridge.{port_count};
-ghost use Rattle.agent_script.specs.Script.{command_text, after_command, policy_text, with_policy, policy_line_text, after_policy_line, line_text, after_line, end_text};
-ghost use Rattle.community_core.specs.Texts.{policy_in};
+ghost use Rattle.agent_script.specs.State.{Agent as State, opening_agent};
+ghost use Rattle.agent_script.specs.Notes.{is_unread, MayMeetRequest, MayMeetDatagram, MayMeetFrame, MayMeetCommand, MayMeetEnd, MayMeetPolicyLine, MayMeet};
+ghost use Rattle.agent_script.specs.Actions.{request_action, datagram_action, frame_action, command_action, end_action, policy_action, action_text, after_action};
+ghost use Rattle.agent_script.specs.Script.{line_text, after_line, end_text, after_end};
 
-use crate::bridging::{say_frame, say_link, say_ticks};
+use crate::bridging::{say_bad_frame, say_frame, say_link, say_ticks};
 use crate::commands::{Command, read_command};
 use crate::drops::Drops;
-use crate::saying::{cause_name, say_counts, say_drop, say_request};
-use agent_core::{Buffer, PlainWorld};
+use crate::note::{Note, note_of};
+use crate::saying::{cause_name, dropped_name, say_audit, say_counts, say_drop, say_reply};
+use agent_core::{Answered, Buffer, PlainWorld, answer, short_reply};
 use bridge_core::Bridge;
-use community_core::{Policy, policy_in};
-use message_core::{DropCause, decode};
+use community_core::policy_in;
+use frame_core::read_frame;
+use message_core::{Request, decode};
 use std::alloc::{AllocError, Global};
 use std::marker::Model;
 
@@ -34,8 +39,7 @@ impl Model for Agent {
     ghost Value = { State };
 
     ghost view = { λ a. record {
-      world = a.world;
-      bridge = a.bridge;
+      system = record { world = a.world; bridge = a.bridge };
       is_auditing = a.is_auditing;
       drops = a.drops;
       policy_lines = option_map (λ v. v.items) a.policy_lines;
@@ -57,16 +61,17 @@ impl Agent {
         }
     }
 
-    /// Answers a line; answers whether memory was there for it.
-    #[tactic(auto, unfolding(crate::specs::Script::line_text, crate::specs::Script::after_line))]
+    /// Answers a line, and tells what want of memory it met.
+    #[tactic(auto, unfolding(crate::specs::Actions::action_of, crate::specs::Notes::MayMeet))]
     pub fn line(
         &mut self,
         alloc: Global,
         line: &[u8],
         out: &mut Vec<u8>,
-    ) -> Result<bool, AllocError>
-        ensures said { IfOk result (λ whole. IsTrue whole → out.new.items ≡ out.old.items ++ line_text self.old line.now) }
-        ensures after { IfOk result (λ whole. IsTrue whole → self.new ≡ after_line self.old line.now) }
+    ) -> Result<Note, AllocError>
+        ensures met { IfOk result (λ note. MayMeet self.old line.now note) }
+        ensures said { IfOk result (λ note. out.new.items ≡ out.old.items ++ line_text self.old line.now note) }
+        ensures after { IfOk result (λ note. self.new ≡ after_line self.old line.now note) }
     {
         match self.policy_lines.take() {
             Some(lines) => self.policy_line(alloc, lines, line, out),
@@ -79,8 +84,8 @@ impl Agent {
 
     /// Answers the end of the script: a policy that has not ended is refused.
     pub fn end(&mut self, out: &mut Vec<u8>) -> Result<(), AllocError>
-        ensures said { OnOk result (out.new.items ≡ out.old.items ++ end_text self.old.policy_lines) }
-        ensures after { OnOk result (self.new ≡ record self.old { policy_lines = None }) }
+        ensures said { OnOk result (out.new.items ≡ out.old.items ++ end_text self.old) }
+        ensures after { OnOk result (self.new ≡ after_end self.old) }
     {
         match self.policy_lines.take() {
             Some(_lines) => out.extend_from_slice(b"policy refused\n"),
@@ -94,52 +99,100 @@ impl Agent {
         alloc: Global,
         command: Option<Command>,
         out: &mut Vec<u8>,
-    ) -> Result<bool, AllocError>
+    ) -> Result<Note, AllocError>
         requires outside { self.old.policy_lines ≡ None }
-        requires ports { NamesPortOf (port_count self.old.bridge) (option_map command_view command) }
-        ensures said { IfOk result (λ whole. IsTrue whole → out.new.items ≡ out.old.items ++ command_text self.old (option_map command_view command)) }
-        ensures after { IfOk result (λ whole. IsTrue whole → self.new ≡ after_command self.old (option_map command_view command)) }
+        requires ports { NamesPortOf (port_count self.old.system.bridge) (option_map command_view command) }
+        ensures met { IfOk result (λ note. MayMeetCommand self.old.system (option_map command_view command) note) }
+        ensures said { IfOk result (λ note. out.new.items ≡ out.old.items ++ action_text self.old (command_action (option_map command_view command) note)) }
+        ensures after { IfOk result (λ note. self.new ≡ after_action self.old (command_action (option_map command_view command) note)) }
     {
         match command {
             None => out.extend_from_slice(b"badline\n")?,
             Some(Command::Request(datagram)) => return self.datagram(alloc, &datagram, out),
-            Some(Command::Frame(port, octets)) => {
-                let no_room = say_frame(&mut self.bridge, port, &octets, out)?;
-                return Ok(!no_room);
-            }
+            Some(Command::Frame(port, octets)) => return self.frame(port, &octets, out),
             Some(Command::Tick(seconds)) => say_ticks(&mut self.bridge, seconds, out)?,
             Some(Command::Link(port, up)) => say_link(&mut self.bridge, port, up, out)?,
             Some(Command::Policy) => self.policy_lines = Some(Vec::new(alloc)),
             Some(Command::Audit(on)) => self.is_auditing = on,
             Some(Command::Counts) => say_counts(&self.drops, &self.world, out)?,
         }
-        Ok(true)
+        Ok(Note::Nothing)
     }
 
     // Answers a datagram.
-    #[tactic(auto, unfolding(crate::specs::Requests::datagram_text, crate::specs::Requests::after_datagram))]
     fn datagram(
         &mut self,
         alloc: Global,
         datagram: &[u8],
         out: &mut Vec<u8>,
-    ) -> Result<bool, AllocError>
-        ensures said { IfOk result (λ whole. IsTrue whole → out.new.items ≡ out.old.items ++ datagram_text self.old.is_auditing self.old.world datagram.now) }
-        ensures after { IfOk result (λ whole. IsTrue whole → self.new ≡ after_datagram self.old datagram.now) }
+    ) -> Result<Note, AllocError>
+        ensures met { IfOk result (λ note. MayMeetDatagram self.old.system.world datagram.now note) }
+        ensures said { IfOk result (λ note. out.new.items ≡ out.old.items ++ action_text self.old (datagram_action datagram.now note)) }
+        ensures after { IfOk result (λ note. self.new ≡ after_action self.old (datagram_action datagram.now note)) }
     {
         match decode(alloc, datagram) {
-            Ok(request) => say_request(
-                alloc,
-                &mut self.world,
-                &mut self.buffer,
-                self.is_auditing,
-                &request,
-                out,
-            ),
+            Ok(request) => self.request(alloc, &request, out),
             Err(cause) => {
                 self.drops.count(cause);
                 say_drop(cause_name(cause), out)?;
-                Ok(cause != DropCause::Memory)
+                Ok(note_of(cause))
+            }
+        }
+    }
+
+    // Answers a request, and counts it where it is dropped. Where there was no memory for its reply, genErr is replied, and the world is
+    // as before.
+    #[tactic(auto, unfolding(crate::specs::Outputs::sent_text, crate::specs::Notes::HasReply))]
+    fn request(
+        &mut self,
+        alloc: Global,
+        request: &Request,
+        out: &mut Vec<u8>,
+    ) -> Result<Note, AllocError>
+        requires { AreSpellable request.now.bindings }
+        ensures met { IfOk result (λ note. MayMeetRequest self.old.system.world request.now note) }
+        ensures read { IfOk result (λ note. is_unread note ≡ false) }
+        ensures said { IfOk result (λ note. out.new.items ≡ out.old.items ++ action_text self.old (request_action request.now note)) }
+        ensures after { IfOk result (λ note. self.new ≡ after_action self.old (request_action request.now note)) }
+    {
+        match answer(alloc, &mut self.world, request, &mut self.buffer) {
+            Ok(Answered::Reply(_, audit)) => {
+                say_reply(self.buffer.reply(), out)?;
+                say_audit(alloc, self.is_auditing, &audit, out)?;
+                Ok(Note::Nothing)
+            }
+            Ok(Answered::NoReply(audit)) => {
+                say_drop(dropped_name(&audit.decision), out)?;
+                say_audit(alloc, self.is_auditing, &audit, out)?;
+                Ok(Note::Nothing)
+            }
+            Err(_) => {
+                short_reply(request, &mut self.buffer);
+                say_reply(self.buffer.reply(), out)?;
+                Ok(Note::RequestNotAnswered)
+            }
+        }
+    }
+
+    // Answers a frame's octets at a port.
+    fn frame(&mut self, port: u16, octets: &[u8], out: &mut Vec<u8>) -> Result<Note, AllocError>
+        requires first { 1 ≤ port }
+        requires last { port ≤ port_count self.old.system.bridge }
+        ensures met { IfOk result (λ note. MayMeetFrame self.old.system.bridge port (frame_at octets.now) note) }
+        ensures said { IfOk result (λ note. out.new.items ≡ out.old.items ++ action_text self.old (frame_action port (frame_at octets.now) note)) }
+        ensures after { IfOk result (λ note. self.new ≡ after_action self.old (frame_action port (frame_at octets.now) note)) }
+    {
+        match read_frame(octets) {
+            Ok(fields) => {
+                if say_frame(&mut self.bridge, port, &fields, out)? {
+                    Ok(Note::SourceNotLearned)
+                } else {
+                    Ok(Note::Nothing)
+                }
+            }
+            Err(fault) => {
+                say_bad_frame(fault, out)?;
+                Ok(Note::Nothing)
             }
         }
     }
@@ -151,10 +204,11 @@ impl Agent {
         mut lines: Vec<u8>,
         line: &[u8],
         out: &mut Vec<u8>,
-    ) -> Result<bool, AllocError>
+    ) -> Result<Note, AllocError>
         requires { self.old.policy_lines ≡ None }
-        ensures said { IfOk result (λ whole. IsTrue whole → out.new.items ≡ out.old.items ++ policy_line_text lines.items line.now) }
-        ensures after { IfOk result (λ whole. IsTrue whole → self.new ≡ after_policy_line self.old lines.items line.now) }
+        ensures met { IfOk result (λ note. MayMeetPolicyLine line.now note) }
+        ensures said { IfOk result (λ note. out.new.items ≡ out.old.items ++ action_text self.old (policy_action lines.items line.now note)) }
+        ensures after { IfOk result (λ note. self.new ≡ after_action self.old (policy_action lines.items line.now note)) }
     {
         if line == b"end".as_slice() {
             return self.end_policy(alloc, &lines, out);
@@ -162,7 +216,7 @@ impl Agent {
         lines.extend_from_slice(line)?;
         lines.push(b'\n')?;
         self.policy_lines = Some(lines);
-        Ok(true)
+        Ok(Note::Nothing)
     }
 
     // Takes the end of a policy.
@@ -171,41 +225,26 @@ impl Agent {
         alloc: Global,
         lines: &[u8],
         out: &mut Vec<u8>,
-    ) -> Result<bool, AllocError>
+    ) -> Result<Note, AllocError>
         requires { self.old.policy_lines ≡ None }
-        ensures said { IfOk result (λ whole. IsTrue whole → out.new.items ≡ out.old.items ++ policy_text (policy_in lines.now)) }
-        ensures after { IfOk result (λ whole. IsTrue whole → self.new ≡ with_policy self.old (policy_in lines.now)) }
-        ensures short { IfOk result (λ whole. whole ≡ false → out.new.items ≡ out.old.items ++ policy_text None) }
-        ensures as_before { IfOk result (λ whole. whole ≡ false → self.new ≡ self.old) }
+        ensures met { IfOk result (λ note. MayMeetEnd note) }
+        ensures said { IfOk result (λ note. out.new.items ≡ out.old.items ++ action_text self.old (end_action lines.now note)) }
+        ensures after { IfOk result (λ note. self.new ≡ after_action self.old (end_action lines.now note)) }
     {
         match policy_in(alloc, lines) {
-            Ok(policy) => {
-                self.replace_policy(policy, out)?;
-                Ok(true)
+            Ok(Some(policy)) => {
+                self.world.replace_policy(policy);
+                out.extend_from_slice(b"policy ok\n")?;
+                Ok(Note::Nothing)
+            }
+            Ok(None) => {
+                out.extend_from_slice(b"policy refused\n")?;
+                Ok(Note::Nothing)
             }
             Err(_) => {
                 out.extend_from_slice(b"policy refused\n")?;
-                Ok(false)
+                Ok(Note::PolicyNotRead)
             }
-        }
-    }
-
-    // Puts a policy that is right in place of the one that is there.
-    fn replace_policy(
-        &mut self,
-        policy: Option<Policy>,
-        out: &mut Vec<u8>,
-    ) -> Result<(), AllocError>
-        requires { self.old.policy_lines ≡ None }
-        ensures said { OnOk result (out.new.items ≡ out.old.items ++ policy_text policy) }
-        ensures after { OnOk result (self.new ≡ with_policy self.old policy) }
-    {
-        match policy {
-            Some(policy) => {
-                self.world.replace_policy(policy);
-                out.extend_from_slice(b"policy ok\n")
-            }
-            None => out.extend_from_slice(b"policy refused\n"),
         }
     }
 }

@@ -1,14 +1,17 @@
 //! What is said to the events of a bridge.
-ghost use Rattle.std.specs.Prelude.{◌≡◌, ◌≤◌, ◌++◌, codes, decimal, true, IfOk, OnOk, Some};
+ghost use Rattle.std.specs.Prelude.{◌≡◌, ◌≤◌, ◌++◌, codes, decimal, Bool, true, IfOk, OnOk, Some};
 ghost use Rattle.std.specs.List.{flat_map};
 ghost use Rattle.frame_core.specs.declared.bpdu.Bpdu.{Bpdu};
 ghost use Rattle.bridge_core.specs.Bridge.{address_of, port_count};
-ghost use Rattle.bridge_core.specs.Events.{framed, ticked_bridge, tick_of, linked_bridge};
-ghost use Rattle.agent_script.specs.BridgeLines.{bpdu_line, bpdu_lines, fault_name, another_port, egress_text, framed_text, frame_text, after_frame, ticks_text, after_ticks, link_text, MayLackRoom};
+ghost use Rattle.bridge_core.specs.Events.{framed, ticked_bridge, tick_of, link_of, linked_bridge};
 ghost use Rattle.bridge_core.specs.Forwarding.{MayLackMemory};
+ghost use Rattle.agent_core.specs.World.{World};
+ghost use Rattle.agent_script.specs.Events.{beside};
+ghost use Rattle.agent_script.specs.Outputs.{bpdu_line, bpdu_lines, another_port, egress_text, forwarded_text, seconds_text, after_seconds};
+ghost use Rattle.agent_script.specs.Actions.{fault_name};
 
 use bridge_core::Bridge;
-use frame_core::{Bpdu, FrameFault, FrameIn, Mac, SENT_FRAME_LEN, read_frame, write_bpdu};
+use frame_core::{Bpdu, FrameFault, FrameIn, Mac, SENT_FRAME_LEN, write_bpdu};
 use script_core::words::write_hex;
 use std::alloc::AllocError;
 use std::io::Write;
@@ -113,8 +116,8 @@ fn say_egress(ports: &[u16], out: &mut Vec<u8>) -> Result<(), AllocError>
     }
 }
 
-// Appends why a frame is refused.
-fn say_bad_frame(fault: FrameFault, out: &mut Vec<u8>) -> Result<(), AllocError>
+/// Appends why octets are no frame.
+pub fn say_bad_frame(fault: FrameFault, out: &mut Vec<u8>) -> Result<(), AllocError>
     ensures { OnOk result (out.new.items ≡ out.old.items ++ (codes "badframe " ++ fault_name fault ++ codes "\n")) }
 {
     out.extend_from_slice(b"badframe ")?;
@@ -122,8 +125,8 @@ fn say_bad_frame(fault: FrameFault, out: &mut Vec<u8>) -> Result<(), AllocError>
     out.extend_from_slice(b"\n")
 }
 
-// Appends where a frame goes and what is sent; answers whether the growth for a learned row was refused.
-fn say_taken(
+/// Appends where a frame at a port goes and what is sent; answers whether the growth for a learned row was refused.
+pub fn say_frame(
     bridge: &mut Bridge,
     port: u16,
     frame: &FrameIn,
@@ -131,7 +134,8 @@ fn say_taken(
 ) -> Result<bool, AllocError>
     requires first { 1 ≤ port }
     requires last { port ≤ port_count bridge.old }
-    ensures said { IfOk result (λ no_room. out.new.items ≡ out.old.items ++ framed_text (address_of bridge.old) (framed bridge.old port frame.now no_room)) }
+    ensures said { IfOk result (λ no_room. out.new.items ≡ out.old.items ++ forwarded_text (address_of bridge.old)
+        (framed bridge.old port frame.now no_room).egress (framed bridge.old port frame.now no_room).bpdus) }
     ensures after { IfOk result (λ no_room. bridge.new ≡ (framed bridge.old port frame.now no_room).bridge) }
     ensures note { IfOk result (λ no_room. no_room ≡ true → MayLackMemory bridge.old port frame.now) }
 {
@@ -142,29 +146,6 @@ fn say_taken(
     out.extend_from_slice(b"\n")?;
     say_bpdus(address, taken.bpdus.as_slice(), out)?;
     Ok(taken.no_room)
-}
-
-/// Appends what is said to a frame at a port; answers whether the growth for a learned row was refused.
-#[tactic(auto, unfolding(crate::specs::BridgeLines::frame_text, crate::specs::BridgeLines::after_frame, crate::specs::BridgeLines::MayLackRoom))]
-pub fn say_frame(
-    bridge: &mut Bridge,
-    port: u16,
-    octets: &[u8],
-    out: &mut Vec<u8>,
-) -> Result<bool, AllocError>
-    requires first { 1 ≤ port }
-    requires last { port ≤ port_count bridge.old }
-    ensures said { IfOk result (λ no_room. out.new.items ≡ out.old.items ++ frame_text bridge.old port no_room octets.now) }
-    ensures after { IfOk result (λ no_room. bridge.new ≡ after_frame bridge.old port no_room octets.now) }
-    ensures note { IfOk result (λ no_room. no_room ≡ true → MayLackRoom bridge.old port octets.now) }
-{
-    match read_frame(octets) {
-        Ok(frame) => say_taken(bridge, port, &frame, out),
-        Err(fault) => {
-            say_bad_frame(fault, out)?;
-            Ok(false)
-        }
-    }
 }
 
 // Appends what is sent as one second passes.
@@ -179,8 +160,10 @@ fn say_tick(bridge: &mut Bridge, out: &mut Vec<u8>) -> Result<(), AllocError>
 
 /// Appends what is sent as so many seconds pass.
 pub fn say_ticks(bridge: &mut Bridge, seconds: u32, out: &mut Vec<u8>) -> Result<(), AllocError>
-    ensures said { OnOk result (out.new.items ≡ out.old.items ++ ticks_text seconds bridge.old) }
-    ensures after { OnOk result (bridge.new ≡ after_ticks seconds bridge.old) }
+    ensures said { OnOk result ((on : Bool) (world : World) →
+        out.new.items ≡ out.old.items ++ seconds_text on seconds (beside world bridge.old)) }
+    ensures after { OnOk result ((world : World) →
+        beside world bridge.new ≡ after_seconds seconds (beside world bridge.old)) }
 {
     for i in 0..seconds {
         say_tick(bridge, out)?;
@@ -197,7 +180,7 @@ pub fn say_link(
 ) -> Result<(), AllocError>
     requires first { 1 ≤ port }
     requires last { port ≤ port_count bridge.old }
-    ensures said { OnOk result (out.new.items ≡ out.old.items ++ link_text port up bridge.old) }
+    ensures said { OnOk result (out.new.items ≡ out.old.items ++ bpdu_lines (address_of bridge.old) 1 (link_of port up bridge.old).bpdus) }
     ensures after { bridge.new ≡ linked_bridge port up bridge.old }
 {
     let address = address_of(bridge);

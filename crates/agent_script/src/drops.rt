@@ -1,7 +1,7 @@
 //! The counts of datagrams that gave no request.
 ghost use Rattle.std.specs.Prelude.{◌≡◌};
 ghost use Rattle.agent_core.specs.Answers.{one_more};
-ghost use Rattle.agent_script.specs.Requests.{dropped_more};
+ghost use Rattle.agent_script.specs.Actions.{dropped_more};
 
 use message_core::DropCause;
 

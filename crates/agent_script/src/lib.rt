@@ -6,6 +6,7 @@ mod bridging;
 mod built_in;
 mod commands;
 mod drops;
+mod note;
 mod saying;
 mod session;
 

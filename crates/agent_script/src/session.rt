@@ -1,8 +1,10 @@
-ghost use Rattle.std.specs.Prelude.{◌≡◌, true, IfOk, IfSome};
-ghost use Rattle.std.specs.Io.KnownBytes.{Appends};
+//! Runs a script over a world and beside a bridge.
+ghost use Rattle.std.specs.Prelude.{◌≡◌, ◌≢◌, IfOk, IfErr, IfSome, if◌then◌else◌};
 ghost use Rattle.script_core.specs.Lines.{lines_of};
-ghost use Rattle.agent_script.specs.State.{Session as State, opening_agent};
-ghost use Rattle.agent_script.specs.Script.{script_text, after_script};
+ghost use Rattle.script_core.specs.Runs.{Reads, Writes};
+ghost use Rattle.agent_script.specs.State.{opening_agent};
+ghost use Rattle.agent_script.specs.Script.{IsSaid, IsSaidFirst, IsSaidBefore};
+ghost use Rattle.agent_script.specs.Sessions.{Session as State, SaysToLine, SaysAtEnd};
 
 use crate::agent::Agent;
 use agent_core::PlainWorld;
@@ -37,15 +39,13 @@ impl Model for AgentSession {
 }
 
 impl Session for AgentSession {
-    ghost text = { λ s lines. script_text s.agent lines };
+    ghost line_says = { SaysToLine };
 
-    ghost last = { λ s lines. record { agent = after_script s.agent lines; is_whole = true } };
-
-    ghost is_whole = { λ s. s.is_whole };
+    ghost end_says = { SaysAtEnd };
 
     fn line(&mut self, line: &[u8], out: &mut Vec<u8>) -> Result<(), LineFault> {
-        let whole = self.agent.line(self.alloc, line, out)?;
-        self.is_whole = self.is_whole && whole;
+        let note = self.agent.line(self.alloc, line, out)?;
+        self.is_whole = self.is_whole && note.is_nothing();
         Ok(())
     }
 
@@ -58,8 +58,9 @@ impl Session for AgentSession {
 /// Reads a script to its end, and writes what the agent says to each line over this world and beside this bridge.
 ///
 /// # Errors
-/// `Input` where a read fails or the input has not ended after 4,294,967,295 reads, `Output` where a write fails, `Memory` where
-/// there is none for a line, for the lines of a policy or for what is said. What is written before an error is not promised.
+/// `Input` where a read fails or the input has not ended after 4,294,967,295 reads: each line that had ended is answered. `Memory` where
+/// there is none for a line, for the lines of a policy or for what is said: the lines before it are answered. `Output` where a write
+/// fails; then nothing is promised of what is written.
 pub fn run_script<R: Read, W: Write>(
     alloc: Global,
     world: PlainWorld,
@@ -67,9 +68,19 @@ pub fn run_script<R: Read, W: Write>(
     reader: &mut R,
     writer: &mut W,
 ) -> Result<Run, RunFault>
-    // Where no line met want of memory, what is written is what is said to the lines that were read.
-    ensures { IfOk result (λ run. run ≡ Run.Whole → IfSome (R.remaining reader.old) (λ input.
-        Appends (W.contents writer.old) (W.contents writer.new) (script_text (opening_agent world bridge) (lines_of input)))) }
+    // What is written is the script's text by notes that its lines may have, and the run is whole exactly where all of them are none.
+    ensures written { IfOk result (λ run. IfSome (R.remaining reader.old) (λ input.
+        Writes (W.contents writer.old) (W.contents writer.new) (λ text.
+        IsSaid (opening_agent world bridge) (lines_of input) text run))) }
+    // Where the input failed, each line that had ended was answered.
+    ensures input { IfErr result (λ e. e ≡ RunFault.Input →
+        Reads (R.remaining reader.old) (R.remaining reader.new) (λ input rest.
+        Writes (W.contents writer.old) (W.contents writer.new) (λ text.
+        IsSaidBefore (opening_agent world bridge) input rest text))) }
+    // Whatever stopped the run, but for a write, what is written is what was said to the first lines of the input.
+    ensures first { IfErr result (λ e. e ≢ RunFault.Output → IfSome (R.remaining reader.old) (λ input.
+        Writes (W.contents writer.old) (W.contents writer.new) (λ text.
+        IsSaidFirst (opening_agent world bridge) (lines_of input) text))) }
 {
     let mut session = AgentSession {
         alloc,
@@ -81,9 +92,9 @@ pub fn run_script<R: Read, W: Write>(
 }
 
 impl AgentSession {
-    // How the run went so far.
+    // How the run went.
     fn run(&self) -> Run
-        ensures { result ≡ Run.Whole → self.now.is_whole ≡ true }
+        ensures { result ≡ (if self.now.is_whole then Run.Whole else Run.Short) }
     {
         if self.is_whole {
             Run::Whole

@@ -21,6 +21,14 @@ pub lines_of-last : (line : List ℕ) → HasNoEnd line → 0 < length line → 
 lines_of-last [] h some = absurd (omega arith)
 lines_of-last (b ∷ bs) h some = lines_of-more b bs h
 
+-- lines that have ended are the first lines
+pub lines_of-behind : (ended : List (List ℕ)) (left : List ℕ) → All HasNoEnd ended → lines_of (flat_map with_end ended ++ left) ≡ ended ++ lines_of left
+lines_of-behind [] left h = refl
+lines_of-behind (l ∷ ls) left h =
+    let rest = lines_of-behind ls left (All-tail HasNoEnd l ls h) in
+    let here = lines_of-ended l (flat_map with_end ls ++ left) (All-head HasNoEnd l ls h) in
+    rw (append_assoc, append_assoc) (here ∙ ap (λ x. l ∷ x) rest)
+
 -- ---- the only lines
 
 -- lines that are written with their ends are read back

@@ -1,10 +1,14 @@
--- How what is owed is said and paid in parts, and how a reader's octets are followed.
-use Rattle.std.proofs.Common.{◌≡◌, ℕ, List, [], ◌++◌, Option, None, Some, IfSome, ap, ◌∙◌, append_assoc, append-nil, sym}
-use Rattle.std.proofs.KnownBytes.{Appends-trans}
+-- How what is said adds up, and how a reader's octets are followed.
+use Rattle.std.proofs.Common.{◌≡◌, ◌≢◌, ℕ, List, [], ◌∷◌, ◌++◌, All, Option, None, Some, IfSome, refl, ap, ◌∙◌, append_assoc, append-nil, sym}
+use Rattle.std.proofs.KnownBytes.{Appends-nil, Appends-trans}
+use Rattle.std.proofs.lemmas.List.Elements.{All-append, All-cons, All-nil}
+use Rattle.std.proofs.lemmas.List.Concat.{flat_map-append}
 use Rattle.std.specs.Io.KnownBytes.{Appends, Consumes, IsAtEnd, Keeps}
-use Rattle.std.specs.Prelude.{Result, Ok, Err, IfErr, OnErr, IsErrAnd}
-use Rattle.script_core.specs.Runs.{Answers, IsFront, Pays, WritesFront, Reads, Stands, StopsBetween}
-use Rattle.script_core.specs.Lines.{lines_of, HasNoEnd}
+use Rattle.std.specs.List.{flat_map}
+use Rattle.std.specs.Prelude.{Result, Ok, Err, IfErr, OnErr, OnOk, IsErrAnd}
+use Rattle.script_core.specs.Runs.{Adds, Writes, Reads, Answered, Says, SaysAll, SaysFirst, Feeds, FeedsFirst, StopsBetween}
+use Rattle.script_core.specs.Lines.{lines_of, with_end, HasNoEnd}
+use Rattle.script_core.proofs.LinesLemmas.{lines_of-behind}
 
 -- what holds in any case holds of an error
 pub on_err : {T E : Type 0} {P : Type 0} (r : Result T E) → P → OnErr r P
@@ -15,47 +19,190 @@ pub if_err : {T E : Type 0} (r : Result T E) (P : E → Type 0) → ((e : E) →
 if_err (Ok x) P f = tt
 if_err (Err e) P f = f e
 
+pub on_ok_weaker : {T E : Type 0} {P Q : Type 0} (r : Result T E) → OnOk r P → (P → Q) → OnOk r Q
+on_ok_weaker (Ok x) p f = f p
+on_ok_weaker (Err e) p f = tt
+
+pub if_some_weaker : {T : Type 0} (o : Option T) (P Q : T → Type 0) → IfSome o P → ((x : T) → P x → Q x) → IfSome o Q
+if_some_weaker None P Q p f = tt
+if_some_weaker (Some x) P Q p f = f x p
+
 -- what follows from what is known of an error
 pub if_err_known : {T E : Type 0} (r : Result T E) (K P : E → Type 0) → IsErrAnd r K → ((e : E) → K e → P e) → IfErr r P
 if_err_known (Ok x) K P known f = tt
 if_err_known (Err e) K P known f = f e known
 
--- what was said before is the front of the text that was owed
-pub Answers-front : {X : Type 0} (text : X → List (List ℕ) → List ℕ) (last : X → List (List ℕ) → X)
-    (x y : X) (ls ms : List (List ℕ)) (a b out : List ℕ)
-    → Answers text last x ls a y ms b → out ≡ b → IsFront out (a ++ text x ls)
-Answers-front text last x y ls ms a b out p e = record { left = text y ms; split = rw e p.says }
+-- ---- what is added
 
--- a front that is written
-pub IsFront-written : (a b : Option (List ℕ)) (front text none : List ℕ) → none ≡ [] → Appends a b front → IsFront front (none ++ text) → WritesFront a b text
-IsFront-written a b front text none e took h =
-    record { left = h.left; pays = record { paid = front; took = took; split = rw e at h.split } }
+pub Adds-same : {old new : List ℕ} (P : List ℕ → Type 0) → new ≡ old → P [] → Adds old new P
+Adds-same {old} {new} P e p = record { said = []; added = e ∙ sym (append-nil old); holds = p }
 
-pub Pays-trans : {a b c : Option (List ℕ)} {x y z : List ℕ} → Pays a b x y → Pays b c y z → Pays a c x z
-Pays-trans {a} {b} {c} {x} {y} {z} p q = record {
-  paid = p.paid ++ q.paid;
-  took = Appends-trans a b c p.paid q.paid p.took q.took;
-  split = p.split ∙ ap (λ l. p.paid ++ l) q.split ∙ sym (append_assoc p.paid q.paid z);
+pub Adds-more : {a b c : List ℕ} {P Q : List ℕ → Type 0} (R : List ℕ → Type 0) → Adds a b P → Adds b c Q
+    → ((s t : List ℕ) → P s → Q t → R (s ++ t)) → Adds a c R
+Adds-more {a} {b} {c} R p q f = record {
+  said = p.said ++ q.said;
+  added = q.added ∙ ap (λ l. l ++ q.said) p.added ∙ append_assoc a p.said q.said;
+  holds = f p.said q.said p.holds q.holds;
 }
 
--- a front of what is left
-pub Pays-front : {a b c : Option (List ℕ)} {x y : List ℕ} → Pays a b x y → WritesFront b c y → WritesFront a c x
-Pays-front p q = record { left = q.left; pays = Pays-trans p q.pays }
+pub Adds-weaker : {a b : List ℕ} {P : List ℕ → Type 0} (R : List ℕ → Type 0) → Adds a b P → ((s : List ℕ) → P s → R s) → Adds a b R
+Adds-weaker R p f = record { said = p.said; added = p.added; holds = f p.said p.holds }
 
--- where all was read, and the last line is answered
-pub Stands-last : {X : Type 0} {text : X → List (List ℕ) → List ℕ} {last : X → List (List ℕ) → X} {before now : X}
-    {old new end : Option (List ℕ)} {part input : List ℕ}
-    → Stands text last before now old new part input [] → WritesFront new end (text now (lines_of part)) → WritesFront old end (text before (lines_of input))
-Stands-last stands q = Pays-front (rw append-nil at stands.pays) q
+pub Writes-none : {old : Option (List ℕ)} (P : List ℕ → Type 0) → P [] → Writes old old P
+Writes-none {old} P p = record { text = []; took = Appends-nil old; holds = p }
 
--- where the input ends between two reads
-module _ {X : Type 0} {text : X → List (List ℕ) → List ℕ} {last : X → List (List ℕ) → X} {before now : X}
-    {old new : Option (List ℕ)} {part input rest : List ℕ} where
-  pub Stands-front : Stands text last before now old new part input rest → WritesFront old new (text before (lines_of input))
-  Stands-front stands = record { left = text now (lines_of (part ++ rest)); pays = stands.pays }
+pub Writes-more : {a b c : Option (List ℕ)} {P Q : List ℕ → Type 0} (R : List ℕ → Type 0) → Writes a b P → Writes b c Q
+    → ((s t : List ℕ) → P s → Q t → R (s ++ t)) → Writes a c R
+Writes-more {a} {b} {c} R p q f = record {
+  text = p.text ++ q.text;
+  took = Appends-trans a b c p.text q.text p.took q.took;
+  holds = f p.text q.text p.holds q.holds;
+}
 
-  pub Stands-stop : HasNoEnd part → Stands text last before now old new part input rest → StopsBetween text last before now old new input rest
-  Stands-stop no_end stands = record { part = part; no_end = no_end; stands = stands }
+pub Writes-weaker : {a b : Option (List ℕ)} {P : List ℕ → Type 0} (R : List ℕ → Type 0) → Writes a b P → ((s : List ℕ) → P s → R s) → Writes a b R
+Writes-weaker R p f = record { text = p.text; took = p.took; holds = f p.text p.holds }
+
+-- what was added to nothing is written
+pub Adds-written : {a b : Option (List ℕ)} {none out : List ℕ} {P : List ℕ → Type 0} → none ≡ [] → Appends a b out → Adds none out P → Writes a b P
+Adds-written {a} {b} {none} {out} e took p =
+    record { text = p.said; took = rw (p.added ∙ ap (λ l. l ++ p.said) e) at took; holds = p.holds }
+
+-- ---- what is said
+
+module _ {X : Type 0} (line_says : X → List ℕ → List ℕ → X → Type 0) where
+  pub Says-none : (s : X) → Says line_says s [] [] s
+  unfolding Says
+  Says-none s = (refl, refl)
+
+  pub Says-one : {s t : X} {line said : List ℕ} → line_says s line said t → Says line_says s (line ∷ []) said t
+  unfolding Says
+  Says-one {s} {t} {line} {said} p =
+      record { said = said; between = t; rest = []; answered = p; split = sym (append-nil said); goes_on = (refl, refl) }
+
+  pub Says-append : (ls ms : List (List ℕ)) (a b c : X) (s t : List ℕ) → Says line_says a ls s b → Says line_says b ms t c
+      → Says line_says a (ls ++ ms) (s ++ t) c
+  unfolding Says
+  Says-append [] ms a b c s t p q = rw (p.0, p.1) q
+  Says-append (l ∷ ls) ms a b c s t p q = record {
+    said = p.said;
+    between = p.between;
+    rest = p.rest ++ t;
+    answered = p.answered;
+    split = ap (λ x. x ++ t) p.split ∙ append_assoc p.said p.rest t;
+    goes_on = Says-append ls ms p.between b c p.rest t p.goes_on q;
+  }
+
+  -- ---- how far a run has come
+
+  -- nothing has ended
+  pub Feeds-none : {s : X} {octets : List ℕ} → Feeds line_says s octets s octets []
+  Feeds-none {s} {octets} = record { ended = []; no_end = All-nil HasNoEnd; split = refl; says = Says-none s }
+
+  -- one line has ended
+  pub Feeds-line : {s t : X} {line said rest : List ℕ} → HasNoEnd line → line_says s line said t → Feeds line_says s (line ++ (10 ∷ rest)) t rest said
+  Feeds-line {s} {t} {line} {said} {rest} no_end p = record {
+    ended = line ∷ [];
+    no_end = All-cons HasNoEnd line [] no_end (All-nil HasNoEnd);
+    split = simp append_assoc;
+    says = Says-one p;
+  }
+
+  pub Feeds-more : {a b c : X} {octets left last s t : List ℕ} → Feeds line_says a octets b left s → Feeds line_says b left c last t
+      → Feeds line_says a octets c last (s ++ t)
+  Feeds-more {a} {b} {c} {octets} {left} {last} {s} {t} p q = record {
+    ended = p.ended ++ q.ended;
+    no_end = All-append HasNoEnd p.ended q.ended p.no_end q.no_end;
+    split = p.split ∙ ap (λ l. flat_map with_end p.ended ++ l) q.split
+        ∙ sym (append_assoc (flat_map with_end p.ended) (flat_map with_end q.ended) last)
+        ∙ ap (λ l. l ++ last) (sym (flat_map-append with_end p.ended q.ended));
+    says = Says-append p.ended q.ended a b c s t p.says q.says;
+  }
+
+  pub Feeds-then : {a b c : X} {octets left same last s t : List ℕ} → Feeds line_says a octets b left s → left ≡ same
+      → Feeds line_says b same c last t → Feeds line_says a octets c last (s ++ t)
+  Feeds-then {a} {b} {c} {octets} {left} {same} {last} {s} {t} p e q = Feeds-more p (rw e q)
+
+  pub Feeds-first : {a b : X} {octets left s : List ℕ} → Feeds line_says a octets b left s → FeedsFirst line_says a octets s
+  Feeds-first {a} {b} {octets} {left} {s} p = record { between = b; left = left; feeds = p }
+
+  pub FeedsFirst-more : {a b : X} {octets left s t : List ℕ} → Feeds line_says a octets b left s → FeedsFirst line_says b left t
+      → FeedsFirst line_says a octets (s ++ t)
+  FeedsFirst-more p q = record { between = q.between; left = q.left; feeds = Feeds-more p q.feeds }
+
+  -- the lines that have ended are the first of the text
+  pub Feeds-lines : {a b : X} {octets left s : List ℕ} (p : Feeds line_says a octets b left s) → lines_of octets ≡ p.ended ++ lines_of left
+  Feeds-lines {a} {b} {octets} {left} {s} p = ap lines_of p.split ∙ lines_of-behind p.ended left p.no_end
+
+  pub FeedsFirst-says : {a : X} {octets s : List ℕ} → FeedsFirst line_says a octets s → SaysFirst line_says a (lines_of octets) s
+  FeedsFirst-says p =
+      record { first = p.feeds.ended; left = lines_of p.left; between = p.between; split = Feeds-lines p.feeds; says = p.feeds.says }
+
+  -- where the first of the lines that are left were answered
+  pub Feeds-says-first : {a b : X} {octets left s t : List ℕ} → Feeds line_says a octets b left s → SaysFirst line_says b (lines_of left) t
+      → SaysFirst line_says a (lines_of octets) (s ++ t)
+  Feeds-says-first {a} {b} {octets} {left} {s} {t} p q = record {
+    first = p.ended ++ q.first;
+    left = q.left;
+    between = q.between;
+    split = Feeds-lines p ∙ ap (λ l. p.ended ++ l) q.split ∙ sym (append_assoc p.ended q.first q.left);
+    says = Says-append p.ended q.first a b q.between s t p.says q.says;
+  }
+
+  -- where all lines that are left were answered, and the end
+  pub Feeds-says-all : (end_says : X → List ℕ → X → Type 0) {a b c : X} {octets left s t : List ℕ} → Feeds line_says a octets b left s
+      → SaysAll line_says end_says b (lines_of left) t c → SaysAll line_says end_says a (lines_of octets) (s ++ t) c
+  Feeds-says-all end_says {a} {b} {c} {octets} {left} {s} {t} p q = record {
+    said = s ++ q.said;
+    between = q.between;
+    last = q.last;
+    says = rw (Feeds-lines p) (Says-append p.ended (lines_of left) a b q.between s q.said p.says q.says);
+    ends = q.ends;
+    split = ap (λ l. s ++ l) q.split ∙ sym (append_assoc s q.said q.last);
+  }
+
+  -- none of the lines was answered
+  pub SaysFirst-none : {a : X} {lines : List (List ℕ)} → SaysFirst line_says a lines []
+  SaysFirst-none {a} {lines} = record { first = []; left = lines; between = a; split = refl; says = Says-none a }
+
+  -- all of the lines were answered, and the end was not
+  pub SaysFirst-all : (a b : X) (lines : List (List ℕ)) (s : List ℕ) → Says line_says a lines s b → SaysFirst line_says a lines s
+  SaysFirst-all a b lines s p = record { first = lines; left = []; between = b; split = sym (append-nil lines); says = p }
+
+  -- where there are no lines, and where there is one
+  pub Says-nothing : (s : X) (lines : List (List ℕ)) → lines ≡ [] → Says line_says s lines [] s
+  Says-nothing s lines e = rw e (Says-none s)
+
+  pub Says-last : (s t : X) (lines : List (List ℕ)) (line said : List ℕ) → lines ≡ line ∷ [] → line_says s line said t → Says line_says s lines said t
+  Says-last s t lines line said e p = rw e (Says-one p)
+
+  -- a run that stops within a line
+  pub Feeds-stop : {a b : X} {input rest s : List ℕ} (part : List ℕ) → HasNoEnd part → Feeds line_says a input b (part ++ rest) s
+      → StopsBetween line_says a b input rest s
+  Feeds-stop {a} {b} {input} {rest} {s} part no_end p = record { part = part; no_end = no_end; feeds = p }
+
+  -- where all was read, and the rest is answered
+  pub Writes-all : (end_says : X → List ℕ → X → Type 0) {old now new : Option (List ℕ)} {a b c : X} {input : List ℕ} (part : List ℕ)
+      → Writes old now (λ text. Feeds line_says a input b (part ++ []) text)
+      → Writes now new (λ text. SaysAll line_says end_says b (lines_of part) text c)
+      → Writes old new (λ text. SaysAll line_says end_says a (lines_of input) text c)
+  Writes-all end_says part p q = Writes-more _ p q (λ s t f g. Feeds-says-all end_says (rw append-nil at f) g)
+
+  pub Writes-first : {old now new : Option (List ℕ)} {a b : X} {input : List ℕ} (part : List ℕ)
+      → Writes old now (λ text. Feeds line_says a input b (part ++ []) text)
+      → Writes now new (λ text. SaysFirst line_says b (lines_of part) text)
+      → Writes old new (λ text. SaysFirst line_says a (lines_of input) text)
+  Writes-first part p q = Writes-more _ p q (λ s t f g. Feeds-says-first (rw append-nil at f) g)
+
+-- ---- the reader's octets
+
+pub Reads-same : (a : Option (List ℕ)) (P : List ℕ → List ℕ → Type 0) → ((xs : List ℕ) → P xs xs) → Reads a a P
+Reads-same None P f = tt
+Reads-same (Some xs) P f = f xs
+
+pub Reads-weaker : (a b : Option (List ℕ)) (P Q : List ℕ → List ℕ → Type 0) → Reads a b P → ((xs ys : List ℕ) → P xs ys → Q xs ys) → Reads a b Q
+Reads-weaker None b P Q p f = tt
+Reads-weaker (Some xs) None P Q p f = absurd p
+Reads-weaker (Some xs) (Some ys) P Q p f = f xs ys p
 
 pub Reads-more : (a b c : Option (List ℕ)) (bs : List ℕ) (P Q : List ℕ → List ℕ → Type 0)
     → Reads a b P → Consumes b c bs → ((xs ys : List ℕ) → P xs (bs ++ ys) → Q xs ys) → Reads a c Q

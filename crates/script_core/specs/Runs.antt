@@ -1,29 +1,20 @@
--- What a session says to lines, what a run has written, and what it still owes.
-use Rattle.std.specs.Prelude.{◌≡◌, ℕ, List, ◌++◌, Option, None, Some}
+-- What a session says to lines, what was added to octets, and how far a run has come.
+use Rattle.std.specs.Prelude.{◌≡◌, ℕ, List, [], ◌∷◌, ◌++◌, All, Option, None, Some}
+use Rattle.std.specs.List.{flat_map}
 use Rattle.std.specs.Io.KnownBytes.{Appends}
-use Rattle.script_core.specs.Lines.{lines_of, HasNoEnd}
+use Rattle.script_core.specs.Lines.{with_end, HasNoEnd}
 
--- between two moments of a run: with the session `now` and the lines `left`, what is said so far and what will be said make the same text as before, and the end is the same
-pub record Answers {X : Type 0} (text : X → List (List ℕ) → List ℕ) (last : X → List (List ℕ) → X)
-    (before : X) (lines : List (List ℕ)) (said_before : List ℕ) (now : X) (left : List (List ℕ)) (said : List ℕ) : Type 0 where
-  pub says : said_before ++ text before lines ≡ said ++ text now left
-  pub ends : last before lines ≡ last now left
+-- octets were added, and this holds of them
+pub record Adds (old new : List ℕ) (P : List ℕ → Type 0) : Type 0 where
+  pub said : List ℕ
+  pub added : new ≡ old ++ said
+  pub holds : P said
 
--- the first octets of a text
-pub record IsFront (front text : List ℕ) : Type 0 where
-  pub left : List ℕ
-  pub split : text ≡ front ++ left
-
--- the writer took the front of what was owed, and the rest is owed now
-pub record Pays (old new : Option (List ℕ)) (owed left : List ℕ) : Type 0 where
-  pub paid : List ℕ
-  pub took : Appends old new paid
-  pub split : owed ≡ paid ++ left
-
--- the writer took the front of a text
-pub record WritesFront (old new : Option (List ℕ)) (text : List ℕ) : Type 0 where
-  pub left : List ℕ
-  pub pays : Pays old new text left
+-- a writer took octets, and this holds of them
+pub record Writes (old new : Option (List ℕ)) (P : List ℕ → Type 0) : Type 0 where
+  pub text : List ℕ
+  pub took : Appends old new text
+  pub holds : P text
 
 -- what a reader had at first and has now, where it tells its octets
 abbrev pub Reads : Option (List ℕ) → Option (List ℕ) → (List ℕ → List ℕ → Type 0) → Type 0
@@ -31,15 +22,55 @@ Reads None new P = Unit {0}
 Reads (Some input) None P = ⊥
 Reads (Some input) (Some rest) P = P input rest
 
--- of the input, `rest` was not read, and `part` is what was read of a line that has not ended: each line before it was answered, and what it says was written
-pub record Stands {X : Type 0} (text : X → List (List ℕ) → List ℕ) (last : X → List (List ℕ) → X)
-    (before now : X) (old new : Option (List ℕ)) (part input rest : List ℕ) : Type 0 where
-  pub pays : Pays old new (text before (lines_of input)) (text now (lines_of (part ++ rest)))
-  pub ends : last before (lines_of input) ≡ last now (lines_of (part ++ rest))
+-- A session is asked line by line. `line_says before line said now` tells that the session `before` may say this to the line, and be
+-- `now` after it; `end_says before said now` tells the same of the end of the script.
+module _ {X : Type 0} (line_says : X → List ℕ → List ℕ → X → Type 0) where
+  -- a line was answered, and what follows holds of the session after it and of the rest of the text
+  pub record Answered (follows : X → List ℕ → Type 0) (before : X) (line text : List ℕ) : Type 0 where
+    pub said : List ℕ
+    pub between : X
+    pub rest : List ℕ
+    pub answered : line_says before line said between
+    pub split : text ≡ said ++ rest
+    pub goes_on : follows between rest
 
--- the same, with some part of a line
-pub record StopsBetween {X : Type 0} (text : X → List (List ℕ) → List ℕ) (last : X → List (List ℕ) → X)
-    (before now : X) (old new : Option (List ℕ)) (input rest : List ℕ) : Type 0 where
-  pub part : List ℕ
-  pub no_end : HasNoEnd part
-  pub stands : Stands text last before now old new part input rest
+  -- lines were answered in their order: `text` was said to them
+  unfoldable pub Says : X → List (List ℕ) → List ℕ → X → Type 0
+  Says before [] text now = (text ≡ []) × (before ≡ now)
+  Says before (line ∷ lines) text now = Answered (λ between rest. Says between lines rest now) before line text
+
+  -- all lines of a script were answered, and its end
+  pub record SaysAll (end_says : X → List ℕ → X → Type 0) (before : X) (lines : List (List ℕ)) (text : List ℕ) (now : X) : Type 0 where
+    pub said : List ℕ
+    pub between : X
+    pub last : List ℕ
+    pub says : Says before lines said between
+    pub ends : end_says between last now
+    pub split : text ≡ said ++ last
+
+  -- the first of these lines were answered, and no others: `text` was said to them
+  pub record SaysFirst (before : X) (lines : List (List ℕ)) (text : List ℕ) : Type 0 where
+    pub first : List (List ℕ)
+    pub left : List (List ℕ)
+    pub between : X
+    pub split : lines ≡ first ++ left
+    pub says : Says before first text between
+
+  -- of some octets, `left` were not yet answered: they stand behind lines that have ended, and `text` was said to those
+  pub record Feeds (before : X) (octets : List ℕ) (now : X) (left text : List ℕ) : Type 0 where
+    pub ended : List (List ℕ)
+    pub no_end : All HasNoEnd ended
+    pub split : octets ≡ flat_map with_end ended ++ left
+    pub says : Says before ended text now
+
+  -- the same, with some session and some octets left
+  pub record FeedsFirst (before : X) (octets text : List ℕ) : Type 0 where
+    pub between : X
+    pub left : List ℕ
+    pub feeds : Feeds before octets between left text
+
+  -- Of an input, `rest` was not read: each line that had ended was answered, and no more than a part of one line was read behind them.
+  pub record StopsBetween (before now : X) (input rest text : List ℕ) : Type 0 where
+    pub part : List ℕ
+    pub no_end : HasNoEnd part
+    pub feeds : Feeds before input now (part ++ rest) text

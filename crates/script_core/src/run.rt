@@ -1,8 +1,8 @@
 //! Runs a script, a read at a time.
-ghost use Rattle.std.specs.Prelude.{◌≡◌, ◌≢◌, ℕ, true, List, [], ◌∷◌, ◌++◌, All, IfSome, IfErr, OnOk, OnErr};
+ghost use Rattle.std.specs.Prelude.{◌≡◌, ◌≢◌, ℕ, List, [], ◌∷◌, ◌++◌, All, IfSome, IfErr, OnOk, OnErr};
 ghost use Rattle.std.specs.Io.KnownBytes.{Appends};
-ghost use Rattle.script_core.specs.Lines.{lines_of};
-ghost use Rattle.script_core.specs.Runs.{Answers, IsFront, Pays, WritesFront, Reads, StopsBetween};
+ghost use Rattle.script_core.specs.Lines.{lines_of, HasNoEnd};
+ghost use Rattle.script_core.specs.Runs.{Adds, Writes, Reads, Says, SaysAll, SaysFirst, Feeds, FeedsFirst, StopsBetween};
 
 use crate::fault::{LineFault, RunFault};
 use crate::session::Session;
@@ -28,10 +28,8 @@ struct Buffers {
 
 // Hands a line to the session, keeps what it says, and empties the line.
 fn finish_line<S: Session>(session: &mut S, buffers: &mut Buffers) -> Result<(), LineFault>
-    ensures before { S.is_whole session.new ≡ true → S.is_whole session.old ≡ true }
-    ensures answers { OnOk result (S.is_whole session.new ≡ true → (more : List (List ℕ)) →
-        Answers S.text S.last session.old (buffers.old.line.items ∷ more) buffers.old.out.items
-        session.new more buffers.new.out.items) }
+    ensures said { OnOk result (Adds buffers.old.out.items buffers.new.out.items (λ said.
+        S.line_says session.old buffers.old.line.items said session.new)) }
     ensures empty { OnOk result (buffers.new.line.items ≡ []) }
     ensures same { OnErr result (buffers.new.out.items ≡ buffers.old.out.items) }
 {
@@ -48,12 +46,10 @@ fn feed_octet<S: Session>(
     buffers: &mut Buffers,
     octet: u8,
 ) -> Result<(), LineFault>
-    requires { All (λ b. b ≢ 10) buffers.old.line.items }
-    ensures before { S.is_whole session.new ≡ true → S.is_whole session.old ≡ true }
-    ensures answers { OnOk result (S.is_whole session.new ≡ true → (rest : List ℕ) →
-        Answers S.text S.last session.old (lines_of (buffers.old.line.items ++ (octet ∷ rest))) buffers.old.out.items
-        session.new (lines_of (buffers.new.line.items ++ rest)) buffers.new.out.items) }
-    ensures part { OnOk result (All (λ b. b ≢ 10) buffers.new.line.items) }
+    requires { HasNoEnd buffers.old.line.items }
+    ensures feeds { OnOk result ((rest : List ℕ) → Adds buffers.old.out.items buffers.new.out.items (λ said.
+        Feeds S.line_says session.old (buffers.old.line.items ++ (octet ∷ rest)) session.new (buffers.new.line.items ++ rest) said)) }
+    ensures part { OnOk result (HasNoEnd buffers.new.line.items) }
     ensures same { OnErr result (buffers.new.out.items ≡ buffers.old.out.items) }
 {
     if octet == LINE_END {
@@ -66,14 +62,12 @@ fn feed_octet<S: Session>(
 
 // Takes what one read gave.
 fn feed<S: Session>(session: &mut S, buffers: &mut Buffers, chunk: &[u8]) -> Result<(), LineFault>
-    requires { All (λ b. b ≢ 10) buffers.old.line.items }
-    ensures before { S.is_whole session.new ≡ true → S.is_whole session.old ≡ true }
-    ensures answers { OnOk result (S.is_whole session.new ≡ true → (rest : List ℕ) →
-        Answers S.text S.last session.old (lines_of (buffers.old.line.items ++ (chunk.now ++ rest))) buffers.old.out.items
-        session.new (lines_of (buffers.new.line.items ++ rest)) buffers.new.out.items) }
-    ensures part { OnOk result (All (λ b. b ≢ 10) buffers.new.line.items) }
-    ensures front { OnErr result (S.is_whole session.new ≡ true → (rest : List ℕ) → IsFront buffers.new.out.items
-        (buffers.old.out.items ++ S.text session.old (lines_of (buffers.old.line.items ++ (chunk.now ++ rest))))) }
+    requires { HasNoEnd buffers.old.line.items }
+    ensures feeds { OnOk result ((rest : List ℕ) → Adds buffers.old.out.items buffers.new.out.items (λ said.
+        Feeds S.line_says session.old (buffers.old.line.items ++ (chunk.now ++ rest)) session.new (buffers.new.line.items ++ rest) said)) }
+    ensures part { OnOk result (HasNoEnd buffers.new.line.items) }
+    ensures first { OnErr result ((rest : List ℕ) → Adds buffers.old.out.items buffers.new.out.items (λ said.
+        FeedsFirst S.line_says session.old (buffers.old.line.items ++ (chunk.now ++ rest)) said)) }
 {
     for octet in chunk {
         feed_octet(session, buffers, *octet)?;
@@ -83,10 +77,7 @@ fn feed<S: Session>(session: &mut S, buffers: &mut Buffers, chunk: &[u8]) -> Res
 
 // Ends the session, and keeps what it says.
 fn end_session<S: Session>(session: &mut S, buffers: &mut Buffers) -> Result<(), LineFault>
-    ensures before { S.is_whole session.new ≡ true → S.is_whole session.old ≡ true }
-    ensures said { OnOk result (S.is_whole session.new ≡ true →
-        buffers.new.out.items ≡ buffers.old.out.items ++ S.text session.old []) }
-    ensures last { OnOk result (S.is_whole session.new ≡ true → session.new ≡ S.last session.old []) }
+    ensures said { OnOk result (Adds buffers.old.out.items buffers.new.out.items (λ said. S.end_says session.old said session.new)) }
     ensures same { OnErr result (buffers.new.out.items ≡ buffers.old.out.items) }
 {
     buffers.said.clear();
@@ -97,11 +88,9 @@ fn end_session<S: Session>(session: &mut S, buffers: &mut Buffers) -> Result<(),
 
 // Hands on a last line that has no end, if there is one.
 fn finish_last_line<S: Session>(session: &mut S, buffers: &mut Buffers) -> Result<(), LineFault>
-    requires { All (λ b. b ≢ 10) buffers.old.line.items }
-    ensures before { S.is_whole session.new ≡ true → S.is_whole session.old ≡ true }
-    ensures answers { OnOk result (S.is_whole session.new ≡ true →
-        Answers S.text S.last session.old (lines_of buffers.old.line.items) buffers.old.out.items
-        session.new [] buffers.new.out.items) }
+    requires { HasNoEnd buffers.old.line.items }
+    ensures said { OnOk result (Adds buffers.old.out.items buffers.new.out.items (λ said.
+        Says S.line_says session.old (lines_of buffers.old.line.items) said session.new)) }
     ensures same { OnErr result (buffers.new.out.items ≡ buffers.old.out.items) }
 {
     if buffers.line.is_empty() {
@@ -113,14 +102,11 @@ fn finish_last_line<S: Session>(session: &mut S, buffers: &mut Buffers) -> Resul
 
 // Answers the last line, and ends the session.
 fn finish<S: Session>(session: &mut S, buffers: &mut Buffers) -> Result<(), LineFault>
-    requires { All (λ b. b ≢ 10) buffers.old.line.items }
-    ensures before { S.is_whole session.new ≡ true → S.is_whole session.old ≡ true }
-    ensures said { OnOk result (S.is_whole session.new ≡ true →
-        buffers.new.out.items ≡ buffers.old.out.items ++ S.text session.old (lines_of buffers.old.line.items)) }
-    ensures last { OnOk result (S.is_whole session.new ≡ true →
-        session.new ≡ S.last session.old (lines_of buffers.old.line.items)) }
-    ensures front { OnErr result (S.is_whole session.new ≡ true → IsFront buffers.new.out.items
-        (buffers.old.out.items ++ S.text session.old (lines_of buffers.old.line.items))) }
+    requires { HasNoEnd buffers.old.line.items }
+    ensures said { OnOk result (Adds buffers.old.out.items buffers.new.out.items (λ said.
+        SaysAll S.line_says S.end_says session.old (lines_of buffers.old.line.items) said session.new)) }
+    ensures first { OnErr result (Adds buffers.old.out.items buffers.new.out.items (λ said.
+        SaysFirst S.line_says session.old (lines_of buffers.old.line.items) said)) }
 {
     finish_last_line(session, buffers)?;
     end_session(session, buffers)?;
@@ -151,21 +137,15 @@ fn serve<S: Session, W: Write>(
     chunk: &[u8],
     writer: &mut W,
 ) -> Result<(), RunFault>
-    requires part { All (λ b. b ≢ 10) buffers.old.line.items }
+    requires part { HasNoEnd buffers.old.line.items }
     requires empty { buffers.old.out.items ≡ [] }
-    ensures before { S.is_whole session.new ≡ true → S.is_whole session.old ≡ true }
-    ensures pays { OnOk result (S.is_whole session.new ≡ true → (rest : List ℕ) →
-        Pays (W.contents writer.old) (W.contents writer.new)
-        (S.text session.old (lines_of (buffers.old.line.items ++ (chunk.now ++ rest))))
-        (S.text session.new (lines_of (buffers.new.line.items ++ rest)))) }
-    ensures ends { OnOk result (S.is_whole session.new ≡ true → (rest : List ℕ) →
-        S.last session.old (lines_of (buffers.old.line.items ++ (chunk.now ++ rest)))
-        ≡ S.last session.new (lines_of (buffers.new.line.items ++ rest))) }
-    ensures part { OnOk result (All (λ b. b ≢ 10) buffers.new.line.items) }
+    ensures feeds { OnOk result ((rest : List ℕ) → Writes (W.contents writer.old) (W.contents writer.new) (λ text.
+        Feeds S.line_says session.old (buffers.old.line.items ++ (chunk.now ++ rest)) session.new (buffers.new.line.items ++ rest) text)) }
+    ensures part { OnOk result (HasNoEnd buffers.new.line.items) }
     ensures empty { OnOk result (buffers.new.out.items ≡ []) }
-    ensures front { IfErr result (λ e. e ≢ RunFault.Output → S.is_whole session.new ≡ true → (rest : List ℕ) →
-        WritesFront (W.contents writer.old) (W.contents writer.new)
-        (S.text session.old (lines_of (buffers.old.line.items ++ (chunk.now ++ rest))))) }
+    ensures first { IfErr result (λ e. e ≢ RunFault.Output → (rest : List ℕ) →
+        Writes (W.contents writer.old) (W.contents writer.new) (λ text.
+        FeedsFirst S.line_says session.old (buffers.old.line.items ++ (chunk.now ++ rest)) text)) }
     ensures kind { IfErr result (λ e. e ≢ RunFault.Input) }
 {
     let fed = feed(session, buffers, chunk);
@@ -180,15 +160,12 @@ fn close<S: Session, W: Write>(
     buffers: &mut Buffers,
     writer: &mut W,
 ) -> Result<(), RunFault>
-    requires part { All (λ b. b ≢ 10) buffers.old.line.items }
+    requires part { HasNoEnd buffers.old.line.items }
     requires empty { buffers.old.out.items ≡ [] }
-    ensures before { S.is_whole session.new ≡ true → S.is_whole session.old ≡ true }
-    ensures written { OnOk result (S.is_whole session.new ≡ true →
-        Appends (W.contents writer.old) (W.contents writer.new) (S.text session.old (lines_of buffers.old.line.items))) }
-    ensures last { OnOk result (S.is_whole session.new ≡ true →
-        session.new ≡ S.last session.old (lines_of buffers.old.line.items)) }
-    ensures front { IfErr result (λ e. e ≢ RunFault.Output → S.is_whole session.new ≡ true →
-        WritesFront (W.contents writer.old) (W.contents writer.new) (S.text session.old (lines_of buffers.old.line.items))) }
+    ensures written { OnOk result (Writes (W.contents writer.old) (W.contents writer.new) (λ text.
+        SaysAll S.line_says S.end_says session.old (lines_of buffers.old.line.items) text session.new)) }
+    ensures first { IfErr result (λ e. e ≢ RunFault.Output → Writes (W.contents writer.old) (W.contents writer.new) (λ text.
+        SaysFirst S.line_says session.old (lines_of buffers.old.line.items) text)) }
     ensures kind { IfErr result (λ e. e ≢ RunFault.Input) }
 {
     let finished = finish(session, buffers);
@@ -200,7 +177,7 @@ fn close<S: Session, W: Write>(
 /// Runs a script to the end of its input.
 ///
 /// Each line ends at octet 0A or at the end of the input. What the lines of one read say is written
-/// by one `write_all`, before the next read. No more than 4,294,967,295 reads are made, and what
+/// by one `write_all`, and flushed, before the next read. No more than 4,294,967,295 reads are made, and what
 /// the run holds does not grow with the number of lines.
 ///
 /// # Errors
@@ -214,20 +191,41 @@ pub fn run_script<S: Session, R: Read, W: Write>(
     reader: &mut R,
     writer: &mut W,
 ) -> Result<(), RunFault>
-    ensures before { S.is_whole session.new ≡ true → S.is_whole session.old ≡ true }
-    // All that the session says to the lines of the input, and to its end, is written.
-    ensures written { OnOk result (S.is_whole session.new ≡ true → IfSome (R.remaining reader.old) (λ input.
-        Appends (W.contents writer.old) (W.contents writer.new) (S.text session.old (lines_of input)))) }
-    ensures last { OnOk result (S.is_whole session.new ≡ true → IfSome (R.remaining reader.old) (λ input.
-        session.new ≡ S.last session.old (lines_of input))) }
+    // What is written is what the session said to the lines of the input, and to its end.
+    ensures written { OnOk result (IfSome (R.remaining reader.old) (λ input.
+        Writes (W.contents writer.old) (W.contents writer.new) (λ text.
+        SaysAll S.line_says S.end_says session.old (lines_of input) text session.new))) }
     // Where the input failed, each line that had ended was answered.
-    ensures input { IfErr result (λ e. e ≡ RunFault.Input → S.is_whole session.new ≡ true →
+    ensures input { IfErr result (λ e. e ≡ RunFault.Input →
         Reads (R.remaining reader.old) (R.remaining reader.new) (λ input rest.
-        StopsBetween S.text S.last session.old session.new (W.contents writer.old) (W.contents writer.new) input rest)) }
-    // Whatever stopped the run, but for a write, the front of the script's text is written.
-    ensures front { IfErr result (λ e. e ≢ RunFault.Output → S.is_whole session.new ≡ true →
-        IfSome (R.remaining reader.old) (λ input.
-        WritesFront (W.contents writer.old) (W.contents writer.new) (S.text session.old (lines_of input)))) }
+        Writes (W.contents writer.old) (W.contents writer.new) (λ text.
+        StopsBetween S.line_says session.old session.new input rest text))) }
+    // Whatever stopped the run, but for a write, what is written is what was said to the first lines of the input.
+    ensures first { IfErr result (λ e. e ≢ RunFault.Output → IfSome (R.remaining reader.old) (λ input.
+        Writes (W.contents writer.old) (W.contents writer.new) (λ text.
+        SaysFirst S.line_says session.old (lines_of input) text))) }
+{
+    run_within(alloc, u32::MAX, session, reader, writer)
+}
+
+// Runs a script with no more than so many reads.
+pub(crate) fn run_within<S: Session, R: Read, W: Write>(
+    alloc: Global,
+    most_reads: u32,
+    session: &mut S,
+    reader: &mut R,
+    writer: &mut W,
+) -> Result<(), RunFault>
+    ensures written { OnOk result (IfSome (R.remaining reader.old) (λ input.
+        Writes (W.contents writer.old) (W.contents writer.new) (λ text.
+        SaysAll S.line_says S.end_says session.old (lines_of input) text session.new))) }
+    ensures input { IfErr result (λ e. e ≡ RunFault.Input →
+        Reads (R.remaining reader.old) (R.remaining reader.new) (λ input rest.
+        Writes (W.contents writer.old) (W.contents writer.new) (λ text.
+        StopsBetween S.line_says session.old session.new input rest text))) }
+    ensures first { IfErr result (λ e. e ≢ RunFault.Output → IfSome (R.remaining reader.old) (λ input.
+        Writes (W.contents writer.old) (W.contents writer.new) (λ text.
+        SaysFirst S.line_says session.old (lines_of input) text))) }
 {
     let mut buffers = Buffers {
         line: Vec::new(alloc),
@@ -235,7 +233,7 @@ pub fn run_script<S: Session, R: Read, W: Write>(
         out: Vec::new(alloc),
     };
     let mut chunk = [0u8; READ_SIZE];
-    for _ in 0..u32::MAX {
+    for _ in 0..most_reads {
         match reader.read(&mut chunk) {
             Ok(0) => return close(session, &mut buffers, writer),
             Ok(n) => serve(session, &mut buffers, &chunk[..n], writer)?,

@@ -1,36 +1,26 @@
 //! What answers the lines of a script.
-ghost use Rattle.std.specs.Prelude.{◌≡◌, ℕ, Bool, true, List, [], ◌∷◌, ◌++◌, OnOk};
+ghost use Rattle.std.specs.Prelude.{ℕ, List, OnOk};
+ghost use Rattle.script_core.specs.Runs.{Adds};
 
 use crate::fault::LineFault;
 
 /// What answers the lines of a script.
 ///
-/// What a session will write, and become, are functions of the lines that are left, so that a run
-/// over any session is proved once. A session that could not answer a line in full for want of
-/// memory, and went on, says so by its flag: from then on the clauses say nothing.
+/// What a session may say to a line, and be after it, is a relation: where a line can be answered in more than one way, as with memory or
+/// without, the relation says which ways there are. So a run over any session is proved once, and without a premise.
 pub trait Session {
-    // What is written for the lines that are left, and at the end of the script.
-    ghost text: { Self → List (List ℕ) → List ℕ };
+    // From a session, to a line, this may be said, and the session is this after it.
+    ghost line_says: { Self → List ℕ → List ℕ → Self → Type 0 };
 
-    // What the session is after the lines that are left, and the end of the script.
-    ghost last: { Self → List (List ℕ) → Self };
-
-    // Whether each line so far was answered in full.
-    ghost is_whole: { Self → Bool };
+    // From a session, at the end of the script, this may be said, and the session is this after it.
+    ghost end_says: { Self → List ℕ → Self → Type 0 };
 
     /// Appends to `out` what is said to one line, which is given without its end. After an error
     /// the run stops, and what `out` then holds is dropped.
     fn line(&mut self, line: &[u8], out: &mut Vec<u8>) -> Result<(), LineFault>
-        ensures said { OnOk result (is_whole self.new ≡ true → (more : List (List ℕ)) →
-            out.old.items ++ text self.old (line.now ∷ more) ≡ out.new.items ++ text self.new more) }
-        ensures last { OnOk result (is_whole self.new ≡ true → (more : List (List ℕ)) →
-            last self.old (line.now ∷ more) ≡ last self.new more) }
-        ensures before { is_whole self.new ≡ true → is_whole self.old ≡ true };
+        ensures said { OnOk result (Adds out.old.items out.new.items (λ said. line_says self.old line.now said self.new)) };
 
     /// Appends to `out` what is said at the end of the script.
     fn end(&mut self, out: &mut Vec<u8>) -> Result<(), LineFault>
-        ensures said { OnOk result (is_whole self.new ≡ true →
-            out.new.items ≡ out.old.items ++ text self.old []) }
-        ensures last { OnOk result (is_whole self.new ≡ true → self.new ≡ last self.old []) }
-        ensures before { is_whole self.new ≡ true → is_whole self.old ≡ true };
+        ensures said { OnOk result (Adds out.old.items out.new.items (λ said. end_says self.old said self.new)) };
 }

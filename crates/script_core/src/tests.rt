@@ -1,7 +1,7 @@
 //! Scripts over octets in memory.
-ghost use Rattle.std.specs.Prelude.{◌≡◌, ◌++◌, codes, true};
-ghost use Rattle.std.specs.List.{flat_map};
+ghost use Rattle.std.specs.Prelude.{◌≡◌, ◌++◌, codes};
 
+use crate::run::run_within;
 use crate::words::{read_hex, read_number, split_word, write_hex};
 use crate::{LineFault, RunFault, Session, run_script};
 use std::alloc::Global;
@@ -14,11 +14,9 @@ use std::test::Fail;
 struct Shouter;
 
 impl Session for Shouter {
-    ghost text = { λ s lines. flat_map (λ line. line ++ codes "!\n") lines ++ codes "end\n" };
+    ghost line_says = { λ before line said now. said ≡ line ++ codes "!\n" };
 
-    ghost last = { λ s lines. s };
-
-    ghost is_whole = { λ s. true };
+    ghost end_says = { λ before said now. said ≡ codes "end\n" };
 
     fn line(&mut self, line: &[u8], out: &mut Vec<u8>) -> Result<(), LineFault> {
         if line == b"stop".as_slice() {
@@ -35,15 +33,17 @@ impl Session for Shouter {
     }
 }
 
-/// Gives three octets a read, and then fails if it is told to.
+/// Gives three octets a read, and then fails if it is told to. Counts its reads.
 #[derive(Drop)]
 struct Slow<'a> {
     octets: &'a [u8],
     fails: bool,
+    reads: usize,
 }
 
 impl Read for Slow<'_> {
     fn read(&mut self, buf: &mut [u8]) -> io::Result<usize> {
+        self.reads = self.reads.wrapping_add(1);
         let size = self.octets.len().min(buf.len()).min(3);
         if size == 0 && self.fails {
             return Err(Error::from(ErrorKind::Other));
@@ -55,10 +55,11 @@ impl Read for Slow<'_> {
     }
 }
 
-/// Counts its writes, and takes no more than it is told.
+/// Counts its writes and flushes, and takes no more than it is told.
 #[derive(Drop)]
 struct Counted {
     writes: usize,
+    flushes: usize,
     most: usize,
     octets: Vec<u8>,
 }
@@ -72,7 +73,12 @@ impl Write for Counted {
         Ok(buf.len())
     }
 
+    // A flush before anything was written fails.
     fn flush(&mut self) -> io::Result<()> {
+        if self.flushes >= self.writes {
+            return Err(Error::from(ErrorKind::Other));
+        }
+        self.flushes += 1;
         Ok(())
     }
 }
@@ -105,42 +111,75 @@ fn stops_where_the_session_does(rt: HostRuntime) {
     assert_eq!(rt; out.as_slice(), b"a!\n".as_slice());
 }
 
-// Runs over four reads, the last of them the end or a failure, and gives back the writer.
-fn run_slowly(alloc: Global, fails: bool, most: usize) -> (Result<(), RunFault>, Counted) {
-    let mut reader = Slow {
-        octets: b"a\nb\ncd\ne",
+// A reader of nine octets, three a read: three reads, and one that is the end or a failure.
+fn slow_reader<'a>(fails: bool) -> Slow<'a> {
+    Slow {
+        octets: b"a\nb\ncd\ne\n",
         fails,
-    };
-    let mut writer = Counted {
+        reads: 0,
+    }
+}
+
+// A writer that takes so many writes.
+fn counted_writer(alloc: Global, most: usize) -> Counted {
+    Counted {
         writes: 0,
+        flushes: 0,
         most,
         octets: Vec::new(alloc),
-    };
-    let result = run_script(alloc, &mut Shouter, &mut reader, &mut writer);
-    (result, writer)
+    }
 }
 
 #[test]
-fn writes_once_a_read(rt: HostRuntime) {
-    let (result, writer) = run_slowly(rt.alloc(), false, 9);
+fn writes_and_flushes_once_a_read(rt: HostRuntime) {
+    let mut writer = counted_writer(rt.alloc(), 9);
+    let result = run_script(
+        rt.alloc(),
+        &mut Shouter,
+        &mut slow_reader(false),
+        &mut writer,
+    );
     assert_eq!(rt; result, Ok(()));
     assert_eq!(rt;
         writer.octets.as_slice(),
         b"a!\nb!\ncd!\ne!\nend\n".as_slice()
     );
     assert_eq!(rt; writer.writes, 4);
+    assert_eq!(rt; writer.flushes, 4);
+}
+
+#[test]
+fn reads_no_more_often_than_it_may(rt: HostRuntime) {
+    let mut reader = slow_reader(false);
+    let mut writer = counted_writer(rt.alloc(), 9);
+    let result = run_within(rt.alloc(), 3, &mut Shouter, &mut reader, &mut writer);
+    assert_eq!(rt; result, Err(RunFault::Input));
+    assert_eq!(rt; reader.reads, 3);
+    assert_eq!(rt; writer.octets.as_slice(), b"a!\nb!\ncd!\ne!\n".as_slice());
 }
 
 #[test]
 fn fails_with_its_input(rt: HostRuntime) {
-    let (result, writer) = run_slowly(rt.alloc(), true, 9);
+    let mut writer = counted_writer(rt.alloc(), 9);
+    let result = run_script(
+        rt.alloc(),
+        &mut Shouter,
+        &mut slow_reader(true),
+        &mut writer,
+    );
     assert_eq!(rt; result, Err(RunFault::Input));
-    assert_eq!(rt; writer.octets.as_slice(), b"a!\nb!\ncd!\n".as_slice());
+    assert_eq!(rt; writer.octets.as_slice(), b"a!\nb!\ncd!\ne!\n".as_slice());
 }
 
 #[test]
 fn fails_with_its_output(rt: HostRuntime) {
-    let (result, writer) = run_slowly(rt.alloc(), false, 1);
+    let mut writer = counted_writer(rt.alloc(), 1);
+    let result = run_script(
+        rt.alloc(),
+        &mut Shouter,
+        &mut slow_reader(false),
+        &mut writer,
+    );
     assert_eq!(rt; result, Err(RunFault::Output));
     assert_eq!(rt; writer.octets.as_slice(), b"a!\n".as_slice());
 }

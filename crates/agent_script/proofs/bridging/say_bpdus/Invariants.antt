@@ -1,5 +1,5 @@
 use Rattle.std.proofs.Common.{◌≡◌, ◌+◌, ◌++◌, drop}
-use Rattle.agent_script.specs.BridgeLines.{bpdu_lines}
+use Rattle.agent_script.specs.Outputs.{bpdu_lines}
 use Rattle.agent_script.proofs.bridging.say_bpdus.Given as goal
 
 -- what is said so far, and what the ports that are left send, is all

@@ -1,6 +1,6 @@
 use Rattle.std.proofs.Common.{◌≡◌, ◌++◌, take}
 use Rattle.std.specs.List.{flat_map}
-use Rattle.agent_script.specs.BridgeLines.{another_port}
+use Rattle.agent_script.specs.Outputs.{another_port}
 use Rattle.agent_script.proofs.bridging.say_others.Given as goal
 
 -- what was there, and the ports so far

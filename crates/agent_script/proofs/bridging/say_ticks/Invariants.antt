@@ -1,9 +1,13 @@
-use Rattle.std.proofs.Common.{◌≡◌, ◌++◌, ◌-◌}
-use Rattle.agent_script.specs.BridgeLines.{ticks_text, after_ticks}
+use Rattle.std.proofs.Common.{◌≡◌, ◌++◌, ◌-◌, Bool}
+use Rattle.agent_core.specs.World.{World}
+use Rattle.agent_script.specs.Events.{beside}
+use Rattle.agent_script.specs.Outputs.{seconds_text, after_seconds}
 use Rattle.agent_script.proofs.bridging.say_ticks.Given as goal
 
 -- what is said so far, and what the seconds that are left say, is all; and they lead to the same bridge
 abbrev pub invariant-loop-i : goal.invariant-loop-i
-invariant-loop-i l =
-    (l.out.items ++ ticks_text (l.seconds - l.i) l.bridge ≡ l.initial.out.items ++ ticks_text l.seconds l.initial.bridge)
-    × (after_ticks (l.seconds - l.i) l.bridge ≡ after_ticks l.seconds l.initial.bridge)
+invariant-loop-i l = record {
+  said : (on : Bool) (world : World) → l.out.items ++ seconds_text on (l.seconds - l.i) (beside world l.bridge)
+      ≡ l.initial.out.items ++ seconds_text on l.seconds (beside world l.initial.bridge);
+  after : (world : World) → after_seconds (l.seconds - l.i) (beside world l.bridge) ≡ after_seconds l.seconds (beside world l.initial.bridge);
+}

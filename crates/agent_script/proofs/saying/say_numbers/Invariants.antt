@@ -1,6 +1,6 @@
 use Rattle.std.proofs.Common.{◌≡◌, ◌++◌, take}
 use Rattle.std.specs.List.{flat_map}
-use Rattle.agent_script.specs.Script.{spaced}
+use Rattle.agent_script.specs.Actions.{spaced}
 use Rattle.agent_script.proofs.saying.say_numbers.Given as goal
 
 -- what was there, and the numbers so far

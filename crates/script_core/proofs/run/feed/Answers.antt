@@ -1,9 +1,28 @@
-use Rattle.std.proofs.Common.{ℕ, List}
-use Rattle.script_core.proofs.RunsLemmas.{on_err, Answers-front}
+use Rattle.std.proofs.Common.{◌≡◌, ℕ, List, [], ◌++◌, ◌+◌, refl, drop, arith, rules}
+use Rattle.std.proofs.lemmas.Grind.{common_steps}
+use Rattle.script_core.proofs.RunsLemmas.{on_err, Adds-same, Adds-more, Adds-weaker, Feeds-none, Feeds-first, Feeds-then}
 use Rattle.script_core.proofs.run.feed.Goals as goal
 
-pub returns-in_err-feed_octet-clause-front : goal.returns-in_err-feed_octet-clause-front
-returns-in_err-feed_octet-clause-front g c =
+pub loop-octet-init : goal.loop-octet-init
+loop-octet-init g c = record { part = c.requires; feeds = λ (rest : List ℕ). Adds-same _ refl (Feeds-none _) }
+
+pub returns-in_err-feed_octet-clause-first : goal.returns-in_err-feed_octet-clause-first
+returns-in_err-feed_octet-clause-first g c =
     on_err c.from_residual.result
-    (λ whole (rest : List ℕ). Answers-front _ _ _ _ _ _ _ _ _
-    (c.loop-octet.invariant.answers (c.in_err-feed_octet.ensures.before whole) rest) c.in_err-feed_octet.ensures.same)
+    (λ (rest : List ℕ).
+    let same : c.feed_octet.new.buffers.out.items ≡ c.loop-octet.buffers.out.items = c.in_err-feed_octet.ensures.same in
+    rw same (Adds-weaker _ (c.loop-octet.invariant.feeds rest) (λ s p. Feeds-first _ p)))
+
+pub loop-octet-preserved : goal.loop-octet-preserved
+loop-octet-preserved g c = record {
+  part = c.in_ok-feed_octet.ensures.part;
+  feeds = λ (rest : List ℕ).
+      Adds-more _ (c.loop-octet.invariant.feeds rest) (c.in_ok-feed_octet.ensures.feeds (drop (c.loop-octet.octet-index + 1) c.args.chunk.now ++ rest))
+      (λ s t p q. Feeds-then _ p (grind (arith, common_steps)) q);
+}
+
+pub returns-clause-feeds : goal.returns-clause-feeds
+returns-clause-feeds g c =
+    λ (rest : List ℕ).
+    let all : drop c.loop-octet.octet-index c.args.chunk.now ≡ [] = grind (arith, common_steps) in
+    rw all at (c.loop-octet.invariant.feeds rest)

@@ -1,11 +1,16 @@
-use Rattle.std.proofs.Common.{◌≡◌, ℕ, List, []}
-use Rattle.script_core.specs.Lines.{lines_of}
-use Rattle.script_core.proofs.LinesLemmas.{lines_of-ended}
+use Rattle.std.proofs.Common.{◌≡◌, ℕ, List, [], ◌∷◌, ◌++◌, refl, append_assoc, rules}
+use Rattle.script_core.proofs.RunsLemmas.{Adds-same, Adds-weaker, Feeds-none, Feeds-line}
 use Rattle.script_core.proofs.run.feed_octet.Goals as goal
 
-pub returns-in_ok-finish_line-clause-answers : goal.returns-in_ok-finish_line-clause-answers
-returns-in_ok-finish_line-clause-answers g c =
-    λ whole.
+pub returns-in_ok-finish_line-clause-feeds : goal.returns-in_ok-finish_line-clause-feeds
+returns-in_ok-finish_line-clause-feeds g c =
+    λ (rest : List ℕ).
     let ended : c.args.octet ≡ 10 = c.if-octet-eq-LINE_END.true in
     let empty : c.finish_line.new.buffers.line.items ≡ [] = c.in_ok-finish_line.ensures.empty in
-    λ (rest : List ℕ). rw (ended, empty, lines_of-ended c.args.buffers.now.line.items rest c.requires) (c.in_ok-finish_line.ensures.answers whole (lines_of rest))
+    rw (ended, empty) (Adds-weaker _ c.in_ok-finish_line.ensures.said (λ s p. Feeds-line _ c.requires p))
+
+pub returns-else-is_err-clause-feeds : goal.returns-else-is_err-clause-feeds
+returns-else-is_err-clause-feeds g c =
+    λ (rest : List ℕ).
+    let pushed : c.push.new.self.items ≡ c.args.buffers.now.line.items ++ (c.args.octet ∷ []) = search rules in
+    rw (pushed, append_assoc) (Adds-same _ refl (Feeds-none _))

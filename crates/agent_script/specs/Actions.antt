@@ -1,0 +1,164 @@
+-- What a line makes the agent do, what is said to that, and what it changes.
+use Rattle.std.specs.Prelude.{ℕ, Bool, codes, decimal, if◌then◌else◌, List, [], ◌∷◌, ◌++◌, Option, Some, None, Result, Ok, Err}
+use Rattle.std.specs.List.{flat_map}
+use Rattle.std.specs.Str.{bytes_eq}
+use Rattle.message_core.specs.FirstFault.{request_at}
+use Rattle.message_core.specs.declared.cause.DropCause.{DropCause}
+use Rattle.message_core.specs.declared.cause.DropCause.TheVariants.{TooLong, Malformed, BadVersion, BadKind, Memory}
+use Rattle.message_core.specs.declared.request.Request.{Request}
+use Rattle.frame_core.specs.declared.frame.FrameIn.{FrameIn}
+use Rattle.frame_core.specs.declared.fault.FrameFault.{FrameFault}
+use Rattle.frame_core.specs.declared.fault.FrameFault.TheVariants.{Short, TooLong as FrameTooLong, BadBpdu}
+use Rattle.frame_core.specs.Reading.{frame_at}
+use Rattle.bridge_core.specs.Bridge.{port_count}
+use Rattle.community_core.specs.Communities.{PolicyTables}
+use Rattle.community_core.specs.Texts.{policy_in}
+use Rattle.agent_core.specs.World.{World}
+use Rattle.agent_core.specs.Replies.{failed}
+use Rattle.agent_core.specs.Answers.{one_more}
+use Rattle.agent_script.specs.Commands.{Command, request, frame, tick, link, policy, audit, counts, command_of}
+use Rattle.agent_script.specs.Events as event
+use Rattle.agent_script.specs.Events.{System, Event, after_event}
+use Rattle.agent_script.specs.Outputs.{drop_text, sent_text, event_text, seconds_text, after_seconds}
+use Rattle.agent_script.specs.State.{Agent}
+use Rattle.agent_script.specs.declared.drops.Drops.{Drops}
+use Rattle.agent_script.specs.Notes.{is_unread, is_unanswered, is_unlearned, is_lost}
+use Rattle.agent_script.specs.declared.note.Note.{Note}
+
+pub data Action : Type 0 where
+  -- none: the line is no command
+  bad_line : Action
+  -- an event happens
+  happen : (event : Event) → Action
+  -- so many seconds pass
+  pass : (seconds : ℕ) → Action
+  -- a datagram gives no request
+  drop : (cause : DropCause) → Action
+  -- a request is told that there is no memory for its answer, and is no event
+  fail : (request : Request) → Action
+  -- octets are no frame, and no event
+  refuse_frame : (fault : FrameFault) → Action
+  -- a policy has these lines so far
+  keep : (lines : List ℕ) → Action
+  -- a policy has ended: it comes into force, or is refused
+  accept : (tables : PolicyTables) → Action
+  refuse : Action
+  -- each request's audit is told from here on, or not
+  switch : (on : Bool) → Action
+  -- it is told what was dropped
+  tell : Action
+
+-- ---- which action
+
+-- a request
+abbrev pub request_action : Request → Note → Action
+request_action r note = if is_unanswered note then fail r else happen (event.request r)
+
+abbrev pub reading_action : Result Request DropCause → Note → Action
+reading_action (Ok r) note = request_action r note
+reading_action (Err cause) note = drop cause
+
+-- a datagram
+abbrev pub datagram_action : List ℕ → Note → Action
+datagram_action datagram note = if is_unread note then drop Memory else reading_action (request_at datagram) note
+
+-- a frame, or octets that are none, at a port
+abbrev pub frame_action : ℕ → Result FrameIn FrameFault → Note → Action
+frame_action port (Ok fields) note = happen (event.frame port fields (is_unlearned note))
+frame_action port (Err fault) note = refuse_frame fault
+
+-- a command, or a line that is none
+abbrev pub command_action : Option Command → Note → Action
+command_action None note = bad_line
+command_action (Some (request datagram)) note = datagram_action datagram note
+command_action (Some (frame port octets)) note = frame_action port (frame_at octets) note
+command_action (Some (tick seconds)) note = pass seconds
+command_action (Some (link port up)) note = happen (event.link port up)
+command_action (Some policy) note = keep []
+command_action (Some (audit on)) note = switch on
+command_action (Some counts) note = tell
+
+abbrev pub ending : Option PolicyTables → Action
+ending (Some tables) = accept tables
+ending None = refuse
+
+-- the end of a policy of these lines
+abbrev pub end_action : List ℕ → Note → Action
+end_action lines note = if is_lost note then refuse else ending (policy_in lines)
+
+-- a line of a policy behind these lines, or its end
+abbrev pub policy_action : List ℕ → List ℕ → Note → Action
+policy_action lines line note = if bytes_eq line (codes "end") then end_action lines note else keep (lines ++ line ++ codes "\n")
+
+abbrev pub action_in : Agent → Option (List ℕ) → List ℕ → Note → Action
+action_in agent (Some lines) line note = policy_action lines line note
+action_in agent None line note = command_action (command_of (port_count agent.system.bridge) line) note
+
+-- A line, inside a policy or outside, where it met this want of memory.
+unfoldable pub action_of : Agent → List ℕ → Note → Action
+action_of agent line note = action_in agent agent.policy_lines line note
+
+-- ---- what is said
+
+-- the name of a cause
+abbrev pub cause_name : DropCause → List ℕ
+cause_name TooLong = codes "TooLong"
+cause_name Malformed = codes "Malformed"
+cause_name BadVersion = codes "BadVersion"
+cause_name BadKind = codes "BadKind"
+cause_name Memory = codes "Memory"
+
+-- the name of a fault
+abbrev pub fault_name : FrameFault → List ℕ
+fault_name Short = codes "Short"
+fault_name FrameTooLong = codes "TooLong"
+fault_name BadBpdu = codes "BadBpdu"
+
+-- a space and a number
+abbrev pub spaced : ℕ → List ℕ
+spaced n = codes " " ++ decimal n
+
+-- the datagrams that each cause dropped, and the requests that an unknown community or context dropped
+abbrev pub counts_of : Drops → World → List ℕ
+counts_of drops world =
+    drops.too_long ∷ drops.malformed ∷ drops.bad_version ∷ drops.bad_kind ∷ drops.memory
+    ∷ world.bad_communities ∷ world.unknown_contexts ∷ []
+
+abbrev pub counts_text : Drops → World → List ℕ
+counts_text drops world = codes "counts" ++ flat_map spaced (counts_of drops world) ++ codes "\n"
+
+abbrev pub action_text : Agent → Action → List ℕ
+action_text agent bad_line = codes "badline\n"
+action_text agent (happen event) = event_text agent.is_auditing agent.system event
+action_text agent (pass seconds) = seconds_text agent.is_auditing seconds agent.system
+action_text agent (drop cause) = drop_text (cause_name cause)
+action_text agent (fail r) = sent_text (failed r)
+action_text agent (refuse_frame fault) = codes "badframe " ++ fault_name fault ++ codes "\n"
+action_text agent (keep lines) = []
+action_text agent (accept tables) = event_text agent.is_auditing agent.system (event.policy tables)
+action_text agent refuse = codes "policy refused\n"
+action_text agent (switch on) = []
+action_text agent tell = counts_text agent.drops agent.system.world
+
+-- ---- what it changes
+
+-- one more datagram that this cause drops
+abbrev pub dropped_more : Drops → DropCause → Drops
+dropped_more drops TooLong = record drops { too_long = one_more drops.too_long }
+dropped_more drops Malformed = record drops { malformed = one_more drops.malformed }
+dropped_more drops BadVersion = record drops { bad_version = one_more drops.bad_version }
+dropped_more drops BadKind = record drops { bad_kind = one_more drops.bad_kind }
+dropped_more drops Memory = record drops { memory = one_more drops.memory }
+
+abbrev pub after_action : Agent → Action → Agent
+after_action agent bad_line = agent
+after_action agent (happen event) = record agent { system = after_event agent.system event }
+after_action agent (pass seconds) = record agent { system = after_seconds seconds agent.system }
+after_action agent (drop cause) = record agent { drops = dropped_more agent.drops cause }
+after_action agent (fail r) = agent
+after_action agent (refuse_frame fault) = agent
+after_action agent (keep lines) = record agent { policy_lines = Some lines }
+after_action agent (accept tables) = record agent { system = after_event agent.system (event.policy tables); policy_lines = None }
+after_action agent refuse = record agent { policy_lines = None }
+after_action agent (switch on) = record agent { is_auditing = on }
+after_action agent tell = agent

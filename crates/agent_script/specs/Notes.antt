@@ -1,0 +1,132 @@
+-- Which want of memory each line may meet.
+use Rattle.std.specs.Prelude.{◌≡◌, ◌≢◌, ℕ, Bool, true, false, codes, List, Option, Some, None, Result, Ok, Err}
+use Rattle.std.specs.Str.{bytes_eq}
+use Rattle.message_core.specs.Message.{IsCause}
+use Rattle.message_core.specs.FirstFault.{request_at}
+use Rattle.message_core.specs.declared.cause.DropCause.{DropCause}
+use Rattle.message_core.specs.declared.cause.DropCause.TheVariants.{TooLong, Malformed, BadVersion, BadKind, Memory}
+use Rattle.message_core.specs.declared.request.Request.{Request}
+use Rattle.frame_core.specs.declared.frame.FrameIn.{FrameIn}
+use Rattle.frame_core.specs.declared.fault.FrameFault.{FrameFault}
+use Rattle.frame_core.specs.Reading.{frame_at}
+use Rattle.bridge_core.specs.Bridge.{BridgeState, port_count}
+use Rattle.bridge_core.specs.Forwarding.{MayLackMemory}
+use Rattle.agent_core.specs.World.{World}
+use Rattle.agent_core.specs.Replies.{reply_of}
+use Rattle.agent_script.specs.Commands.{Command, request, frame, tick, link, policy, audit, counts, command_of}
+use Rattle.agent_script.specs.Events.{System}
+use Rattle.agent_script.specs.State.{Agent}
+use Rattle.agent_script.specs.declared.note.Note.{Note}
+use Rattle.agent_script.specs.declared.note.Note.TheVariants.{Nothing, RequestNotRead, RequestNotAnswered, SourceNotLearned, PolicyNotRead}
+
+abbrev pub is_nothing : Note → Bool
+is_nothing Nothing = true
+is_nothing RequestNotRead = false
+is_nothing RequestNotAnswered = false
+is_nothing SourceNotLearned = false
+is_nothing PolicyNotRead = false
+
+-- there was no memory for a datagram's request, for the reply to a request, for the row of a frame's source, for a policy
+abbrev pub is_unread : Note → Bool
+is_unread Nothing = false
+is_unread RequestNotRead = true
+is_unread RequestNotAnswered = false
+is_unread SourceNotLearned = false
+is_unread PolicyNotRead = false
+
+abbrev pub is_unanswered : Note → Bool
+is_unanswered Nothing = false
+is_unanswered RequestNotRead = false
+is_unanswered RequestNotAnswered = true
+is_unanswered SourceNotLearned = false
+is_unanswered PolicyNotRead = false
+
+abbrev pub is_unlearned : Note → Bool
+is_unlearned Nothing = false
+is_unlearned RequestNotRead = false
+is_unlearned RequestNotAnswered = false
+is_unlearned SourceNotLearned = true
+is_unlearned PolicyNotRead = false
+
+abbrev pub is_lost : Note → Bool
+is_lost Nothing = false
+is_lost RequestNotRead = false
+is_lost RequestNotAnswered = false
+is_lost SourceNotLearned = false
+is_lost PolicyNotRead = true
+
+-- what is noted of a datagram that this cause drops
+abbrev pub note_of : DropCause → Note
+note_of TooLong = Nothing
+note_of Malformed = Nothing
+note_of BadVersion = Nothing
+note_of BadKind = Nothing
+note_of Memory = RequestNotRead
+
+-- the first where a test holds, and the second where it does not
+abbrev pub Case : Bool → Type 0 → Type 0 → Type 0
+Case true A B = A
+Case false A B = B
+
+-- the request is one that has a reply
+unfoldable pub HasReply : World → Request → Type 0
+HasReply world r = reply_of world r ≢ None
+
+-- A request: its reply may find no memory, where it has one.
+abbrev pub MayMeetRequest : World → Request → Note → Type 0
+MayMeetRequest world r Nothing = Unit {0}
+MayMeetRequest world r RequestNotRead = ⊥
+MayMeetRequest world r RequestNotAnswered = HasReply world r
+MayMeetRequest world r SourceNotLearned = ⊥
+MayMeetRequest world r PolicyNotRead = ⊥
+
+abbrev pub MayMeetReading : World → Result Request DropCause → Note → Type 0
+MayMeetReading world (Ok r) note = MayMeetRequest world r note
+MayMeetReading world (Err cause) note = note ≡ Nothing
+
+-- A datagram: its request may find no memory, where reading it takes some.
+abbrev pub MayMeetDatagram : World → List ℕ → Note → Type 0
+MayMeetDatagram world datagram note = Case (is_unread note) (IsCause datagram Memory) (MayMeetReading world (request_at datagram) note)
+
+-- A frame at a port: its source may find no memory, where it is to be learned in a row of its own.
+abbrev pub MayMeetFields : BridgeState → ℕ → FrameIn → Note → Type 0
+MayMeetFields b port fields Nothing = Unit {0}
+MayMeetFields b port fields RequestNotRead = ⊥
+MayMeetFields b port fields RequestNotAnswered = ⊥
+MayMeetFields b port fields SourceNotLearned = MayLackMemory b port fields
+MayMeetFields b port fields PolicyNotRead = ⊥
+
+abbrev pub MayMeetFrame : BridgeState → ℕ → Result FrameIn FrameFault → Note → Type 0
+MayMeetFrame b port (Ok fields) note = MayMeetFields b port fields note
+MayMeetFrame b port (Err fault) note = note ≡ Nothing
+
+-- A command, or a line that is none: the others meet none.
+abbrev pub MayMeetCommand : System → Option Command → Note → Type 0
+MayMeetCommand s None note = note ≡ Nothing
+MayMeetCommand s (Some (request datagram)) note = MayMeetDatagram s.world datagram note
+MayMeetCommand s (Some (frame port octets)) note = MayMeetFrame s.bridge port (frame_at octets) note
+MayMeetCommand s (Some (tick seconds)) note = note ≡ Nothing
+MayMeetCommand s (Some (link port up)) note = note ≡ Nothing
+MayMeetCommand s (Some policy) note = note ≡ Nothing
+MayMeetCommand s (Some (audit on)) note = note ≡ Nothing
+MayMeetCommand s (Some counts) note = note ≡ Nothing
+
+-- The end of a policy: the policy may find none.
+abbrev pub MayMeetEnd : Note → Type 0
+MayMeetEnd Nothing = Unit {0}
+MayMeetEnd RequestNotRead = ⊥
+MayMeetEnd RequestNotAnswered = ⊥
+MayMeetEnd SourceNotLearned = ⊥
+MayMeetEnd PolicyNotRead = Unit {0}
+
+-- A line of a policy: its end alone.
+abbrev pub MayMeetPolicyLine : List ℕ → Note → Type 0
+MayMeetPolicyLine line note = Case (bytes_eq line (codes "end")) (MayMeetEnd note) (note ≡ Nothing)
+
+abbrev pub MayMeetIn : Agent → Option (List ℕ) → List ℕ → Note → Type 0
+MayMeetIn agent (Some lines) line note = MayMeetPolicyLine line note
+MayMeetIn agent None line note = MayMeetCommand agent.system (command_of (port_count agent.system.bridge) line) note
+
+-- A line may meet this want of memory.
+unfoldable pub MayMeet : Agent → List ℕ → Note → Type 0
+MayMeet agent line note = MayMeetIn agent agent.policy_lines line note

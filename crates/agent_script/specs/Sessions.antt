@@ -1,0 +1,25 @@
+-- The agent as it answers lines.
+use Rattle.std.specs.Prelude.{◌≡◌, ℕ, Bool, ◌&&◌, List}
+use Rattle.agent_script.specs.Notes.{MayMeet, is_nothing}
+use Rattle.agent_script.specs.Script.{line_text, after_line, end_text, after_end}
+use Rattle.agent_script.specs.State.{Agent}
+use Rattle.agent_script.specs.declared.note.Note.{Note}
+
+-- an agent, and whether no line so far met want of memory
+pub record Session : Type 0 where
+  pub agent : Agent
+  pub is_whole : Bool
+
+-- to a line: there is a note that it may meet, and what is said, and the agent after it, are those of that note
+pub record SaysToLine (before : Session) (line said : List ℕ) (now : Session) : Type 0 where
+  pub note : Note
+  pub met : MayMeet before.agent line note
+  pub text : said ≡ line_text before.agent line note
+  pub agent : now.agent ≡ after_line before.agent line note
+  pub whole : now.is_whole ≡ (before.is_whole && is_nothing note)
+
+-- at the end
+pub record SaysAtEnd (before : Session) (said : List ℕ) (now : Session) : Type 0 where
+  pub text : said ≡ end_text before.agent
+  pub agent : now.agent ≡ after_end before.agent
+  pub whole : now.is_whole ≡ before.is_whole
