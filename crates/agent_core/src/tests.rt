@@ -192,7 +192,7 @@ fn port_table(alloc: Global) -> Result<PlainWorld, Fail> {
 fn next_of(
     alloc: Global,
     world: &PlainWorld,
-    view: &Families,
+    view: &Families<'_>,
     name: &Oid,
 ) -> Result<Binding, Fail> {
     next_counted::<Brand>(alloc, world, view, name, Blank::new(1))
@@ -202,7 +202,7 @@ fn next_of(
 fn next_counted<L: Ledger>(
     alloc: Global,
     world: &PlainWorld,
-    view: &Families,
+    view: &Families<'_>,
     name: &Oid,
     blank: Blank,
 ) -> Result<Binding, Fail>
