@@ -107,37 +107,34 @@ fn reads_contents(rt: HostRuntime) -> Result<(), Fail> {
     Ok(())
 }
 
-// The content of 1.3 and of 1 at each of the other places, up to 128 sub-identifiers, and one octet more.
-fn content_of_ones() -> [u8; 128] {
-    let mut content = [1u8; 128];
-    content[0] = 0x2b;
-    content
-}
-
-fn name_of_ones() -> [u32; 128] {
-    let mut name = [1u32; 128];
-    name[1] = 3;
-    name
-}
-
 #[test]
 fn reads_25_numbers(rt: HostRuntime) -> Result<(), Fail> {
-    let name = Oid::read_ber(rt.alloc(), &content_of_ones()[..24])?;
-    assert_eq!(rt; name.as_slice(), &name_of_ones()[..25]);
+    let mut content = [1u8; 24];
+    content[0] = 0x2b;
+    let mut numbers = [1u32; 25];
+    numbers[1] = 3;
+    let name = Oid::read_ber(rt.alloc(), &content)?;
+    assert_eq!(rt; name.as_slice(), numbers.as_slice());
     Ok(())
 }
 
 #[test]
 fn reads_128_numbers(rt: HostRuntime) -> Result<(), Fail> {
-    let name = Oid::read_ber(rt.alloc(), &content_of_ones()[..127])?;
-    assert_eq!(rt; name.as_slice(), name_of_ones().as_slice());
+    let mut content = [1u8; 127];
+    content[0] = 0x2b;
+    let mut numbers = [1u32; 128];
+    numbers[1] = 3;
+    let name = Oid::read_ber(rt.alloc(), &content)?;
+    assert_eq!(rt; name.as_slice(), numbers.as_slice());
     Ok(())
 }
 
 #[test]
 fn refuses_129_numbers_of_a_content(rt: HostRuntime) {
+    let mut content = [1u8; 128];
+    content[0] = 0x2b;
     assert_eq!(rt;
-        Oid::read_ber(rt.alloc(), &content_of_ones()).err(),
+        Oid::read_ber(rt.alloc(), &content).err(),
         Some(OidFault::BadContent)
     );
 }
