@@ -10,7 +10,7 @@ use Rattle.community_core.proofs.SaidLemmas.{policy_told, refused_told}
 use Rattle.configuration.specs.declared.configuration.Configuration.{Configuration}
 use Rattle.configuration.specs.declared.configuration.Port.{Port}
 use Rattle.configuration.specs.declared.fault.ConfigurationFault.{ConfigurationFault}
-use Rattle.configuration.specs.declared.fault.ConfigurationFault.TheVariants.{Memory, BadText, BadAddress, BadPorts, BadPort, BadServe, Policy}
+use Rattle.configuration.specs.declared.fault.ConfigurationFault.TheVariants.{Memory, BadText, BadAddress, BadPorts, BadPort, BadServe, BadKeys, Policy}
 use Rattle.configuration.specs.Ports.{ArePorts, IsBadPort, port_says}
 use Rattle.configuration.specs.Configurations.{IsConfiguration, IsFault}
 
@@ -46,4 +46,5 @@ no_fault ms c BadAddress is h = some_is_some _ c.address is.address h
 no_fault ms c BadPorts is h = some_is_some _ is.ports.rows is.ports.are h.1
 no_fault ms c (BadPort n) is h = no_bad_port ms c.ports.items n is.ports h.1
 no_fault ms c BadServe is h = h.2 c.serve is.serve
-no_fault ms c (Policy e) is h = no_policy_fault _ c.policy e is.policy h.3
+no_fault ms c BadKeys is h = some_is_some _ is.policy.said.arrays is.policy.said.are h.3
+no_fault ms c (Policy e) is h = no_policy_fault _ c.policy e is.policy h.3.1

@@ -3,12 +3,13 @@ use Rattle.std.specs.Prelude.{◌≡◌, ◌⊎◌, ℕ, codes, if◌then◌else
 use Rattle.toml.specs.Data.{Members, no_members, member, same_key}
 use Rattle.toml.specs.Parse.{parse_document}
 use Rattle.frame_core.specs.declared.mac.Mac.{Mac}
-use Rattle.community_core.specs.Policies.{IsPolicy, IsUnread, IsWrongPolicy}
+use Rattle.community_core.specs.Policies.{Arrays, arrays_of, IsPolicy, IsUnread, IsWrongPolicy}
+use Rattle.community_core.specs.Texts.{text_of}
 use Rattle.configuration.specs.declared.configuration.Port.{Port}
 use Rattle.configuration.specs.declared.configuration.Serve.{Serve}
 use Rattle.configuration.specs.declared.configuration.Configuration.{Configuration}
 use Rattle.configuration.specs.declared.fault.ConfigurationFault.{ConfigurationFault}
-use Rattle.configuration.specs.declared.fault.ConfigurationFault.TheVariants.{Memory, BadText, BadAddress, BadPorts, BadPort, BadServe, Policy}
+use Rattle.configuration.specs.declared.fault.ConfigurationFault.TheVariants.{Memory, BadText, BadAddress, BadPorts, BadPort, BadServe, BadKeys, Policy}
 use Rattle.configuration.specs.Address.{address_of}
 use Rattle.configuration.specs.Ports.{ArePorts, IsBadPort, port_rows}
 use Rattle.configuration.specs.Serving.{IsServing}
@@ -38,6 +39,21 @@ HasPorts ms = (ports : List Port) × ArePorts ms ports
 abbrev pub HasServing : Members → Type 0
 HasServing ms = (serve : Option Serve) × IsServing ms serve
 
+-- the table has exactly the keys of a policy, each an array
+abbrev pub HasKeys : Members → Type 0
+HasKeys ms = (a : Arrays) × (arrays_of ms ≡ Some a)
+
+-- this is the first fault of what is left for the policy: of its keys, then of their values
+abbrev pub IsRestFault : Members → ConfigurationFault → Type 0
+IsRestFault ms Memory = ⊥
+IsRestFault ms BadText = ⊥
+IsRestFault ms BadAddress = ⊥
+IsRestFault ms BadPorts = ⊥
+IsRestFault ms (BadPort n) = ⊥
+IsRestFault ms BadServe = ⊥
+IsRestFault ms BadKeys = arrays_of ms ≡ None
+IsRestFault ms (Policy e) = HasKeys ms × (IsUnread ms e ⊎ IsWrongPolicy ms e)
+
 -- this is the first fault of the table: of its address, its ports, its way to serve, then of its policy
 abbrev pub IsFault : Members → ConfigurationFault → Type 0
 IsFault ms Memory = ⊥
@@ -46,9 +62,8 @@ IsFault ms BadAddress = address_of ms ≡ None
 IsFault ms BadPorts = HasAddress ms × (port_rows ms ≡ None)
 IsFault ms (BadPort n) = HasAddress ms × IsBadPort ms n
 IsFault ms BadServe = HasAddress ms × HasPorts ms × ((serve : Option Serve) → ¬ IsServing ms serve)
-IsFault ms (Policy e) =
-    HasAddress ms × HasPorts ms × HasServing ms
-    × (IsUnread (policy_members ms) e ⊎ IsWrongPolicy (policy_members ms) e)
+IsFault ms BadKeys = HasAddress ms × HasPorts ms × HasServing ms × IsRestFault (policy_members ms) BadKeys
+IsFault ms (Policy e) = HasAddress ms × HasPorts ms × HasServing ms × IsRestFault (policy_members ms) (Policy e)
 
 -- the text is a TOML document that says this configuration
 abbrev pub IsConfigurationText : List ℕ → Configuration → Type 0
@@ -58,3 +73,12 @@ IsConfigurationText text c = (ms : Members) × (parse_document text ≡ Some ms)
 abbrev pub IsTextFault : List ℕ → ConfigurationFault → Type 0
 IsTextFault text e =
     ((parse_document text ≡ None) × (e ≡ BadText)) ⊎ ((ms : Members) × (parse_document text ≡ Some ms) × IsFault ms e)
+
+-- the octets are a text that says this configuration
+abbrev pub IsConfigurationIn : List ℕ → Configuration → Type 0
+IsConfigurationIn octets c = (text : List ℕ) × (text_of octets ≡ Some text) × IsConfigurationText text c
+
+-- the octets are no text, or one with this first fault
+abbrev pub IsFaultIn : List ℕ → ConfigurationFault → Type 0
+IsFaultIn octets e =
+    ((text_of octets ≡ None) × (e ≡ BadText)) ⊎ ((text : List ℕ) × (text_of octets ≡ Some text) × IsTextFault text e)

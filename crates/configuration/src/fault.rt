@@ -26,7 +26,10 @@ pub enum ConfigurationFault {
     /// `serve` is there and is no table of `snmp`, `workers` and `rounds`.
     #[error("`serve` does not say how to serve")]
     BadServe,
-    /// The rest is no policy, and this is its first fault.
+    /// The rest has not exactly the keys `contexts`, `community`, `group`, `access` and `family`, each an array.
+    #[error("the rest of the keys are not those of a policy")]
+    BadKeys,
+    /// The rest has the keys of a policy and is none, and this is its first fault.
     #[error("{0}")]
     Policy(PolicyFault),
 }

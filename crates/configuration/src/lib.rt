@@ -16,7 +16,7 @@ pub use configuration::{
     BUILT_IN, Configuration, Port, ROUNDS_MAX, Serve, WORKERS_MAX,
 };
 pub use fault::ConfigurationFault;
-pub use reading::{configuration_of, configuration_of_text};
+pub use reading::{configuration_in, configuration_of, configuration_of_text};
 
 #[cfg(test)]
 mod tests;

@@ -2,14 +2,15 @@
 ghost use Rattle.std.specs.Prelude.{◌≡◌, ◌≢◌, ◌⊎◌, ◌↔◌, IfOk, IfErr};
 ghost use Rattle.toml.specs.Errors.{IsMemory};
 ghost use Rattle.toml.specs.View.{table_view};
-ghost use Rattle.configuration.specs.Configurations.{without, policy_members, IsConfiguration, IsFault, IsConfigurationText, IsTextFault};
+ghost use Rattle.community_core.specs.Policies.{IsPolicy};
+ghost use Rattle.configuration.specs.Configurations.{without, policy_members, IsRestFault, IsConfiguration, IsFault, IsConfigurationText, IsTextFault, IsConfigurationIn, IsFaultIn};
 
 use crate::address::address_of;
 use crate::configuration::Configuration;
 use crate::fault::ConfigurationFault;
 use crate::ports::ports_of;
 use crate::serve::serve_of;
-use community_core::policy_of;
+use community_core::{Policy, has_policy_keys, policy_of, text_of};
 use std::alloc::Global;
 use toml::Table;
 
@@ -28,12 +29,23 @@ fn policy_table(table: Table) -> Table
     without(without(without(table, "address"), "port"), "serve")
 }
 
+// The policy that the rest of a table says.
+fn rest_policy(alloc: Global, table: &Table) -> Result<Policy, ConfigurationFault>
+    ensures policy { IfOk result (λ p. IsPolicy (table_view table.now) p) }
+    ensures fault { IfErr result (λ e. e ≢ ConfigurationFault.Memory → IsRestFault (table_view table.now) e) }
+{
+    if !has_policy_keys(table) {
+        return Err(ConfigurationFault::BadKeys);
+    }
+    Ok(policy_of(alloc, table)?)
+}
+
 /// The configuration that a table says.
 ///
 /// # Errors
 ///
-/// The first fault, of `address`, then of `port`, then of `serve`, then of the rest, which is the
-/// policy's table; `Memory` where a growth was refused.
+/// The first fault, of `address`, then of `port`, then of `serve`, then of the keys of the rest, which is the
+/// policy's table, then of their values; `Memory` where a growth was refused.
 pub fn configuration_of(alloc: Global, table: Table) -> Result<Configuration, ConfigurationFault>
     ensures configuration { IfOk result (λ c. IsConfiguration (table_view table) c) }
     ensures fault { IfErr result (λ e. e ≢ ConfigurationFault.Memory → IsFault (table_view table) e) }
@@ -41,7 +53,7 @@ pub fn configuration_of(alloc: Global, table: Table) -> Result<Configuration, Co
     let address = address_of(&table).ok_or(ConfigurationFault::BadAddress)?;
     let ports = ports_of(&table)?;
     let serve = serve_of(&table)?;
-    let policy = policy_of(alloc, &policy_table(table))?;
+    let policy = rest_policy(alloc, &policy_table(table))?;
     Ok(Configuration {
         address,
         ports,
@@ -74,5 +86,20 @@ pub fn configuration_of_text(alloc: Global, text: &str) -> Result<Configuration,
     match toml::table_from_str(alloc, text) {
         Ok(table) => configuration_of(alloc, table),
         Err(error) => Err(text_fault(&error)),
+    }
+}
+
+/// The configuration that the octets of a file say.
+///
+/// # Errors
+///
+/// `BadText` where the octets are no UTF-8 (RFC 3629), else as [`configuration_of_text`] has it.
+pub fn configuration_in(alloc: Global, octets: &[u8]) -> Result<Configuration, ConfigurationFault>
+    ensures configuration { IfOk result (λ c. IsConfigurationIn octets.now c) }
+    ensures fault { IfErr result (λ e. e ≢ ConfigurationFault.Memory → IsFaultIn octets.now e) }
+{
+    match text_of(octets) {
+        Some(text) => configuration_of_text(alloc, text),
+        None => Err(ConfigurationFault::BadText),
     }
 }

@@ -172,12 +172,25 @@ fn ways_to_serve_are_refused(rt: HostRuntime) -> Result<(), Fail> {
 #[test]
 fn policies_are_refused(rt: HostRuntime) -> Result<(), Fail> {
     let fault = fault_of(rt.alloc(), [ADDRESS, "name = 1\n", POLICY, PORT])?;
-    let unknown_key = PolicyFault::BadField(PolicyTable::Contexts, 0);
-    assert_eq!(rt; fault, Some(ConfigurationFault::Policy(unknown_key)));
+    assert_eq!(rt; fault, Some(ConfigurationFault::BadKeys));
+    let tables = "contexts = [1]\ncommunity = []\ngroup = []\naccess = []\nfamily = []\n";
+    let fault = fault_of(rt.alloc(), [ADDRESS, tables, "", PORT])?;
+    let no_string = PolicyFault::BadField(PolicyTable::Contexts, 0);
+    assert_eq!(rt; fault, Some(ConfigurationFault::Policy(no_string)));
     let contexts = "contexts = [\"\", \"a-name-of-33-octets-for-a-context\"]\n";
     let tables = "community = []\ngroup = []\naccess = []\nfamily = []\n";
     let fault = fault_of(rt.alloc(), [ADDRESS, contexts, tables, PORT])?;
     let too_long = PolicyFault::BadLength(PolicyTable::Contexts, 1);
     assert_eq!(rt; fault, Some(ConfigurationFault::Policy(too_long)));
+    Ok(())
+}
+
+#[test]
+fn other_octets_are_refused(rt: HostRuntime) -> Result<(), Fail> {
+    let mut octets = Vec::from_slice(rt.alloc(), BUILT_IN.as_bytes())?;
+    assert!(rt; configuration_in(rt.alloc(), octets.as_slice()).is_ok());
+    octets.extend_from_slice(b"# \xFF\n")?;
+    let fault = configuration_in(rt.alloc(), octets.as_slice()).err();
+    assert_eq!(rt; fault, Some(ConfigurationFault::BadText));
     Ok(())
 }
