@@ -19,7 +19,8 @@ use arrayvec::ArrayVec;
 use fdb_core::Fdb;
 use frame_core::{Bpdu, FrameIn, Mac};
 use rstp_core::{
-    BridgeConfig, BridgeKey, IFINDEX_MAX, Key, MAX_PORTS, Outcome, PortConfig, PortKey, Rstp, Settings,
+    BridgeConfig, BridgeKey, IFINDEX_MAX, Key, MAX_PORTS, Outcome, PortConfig, PortKey, Rstp,
+    Settings,
 };
 use rstp_rules::lines::is_enabled;
 use std::alloc::Global;

@@ -98,9 +98,9 @@ pub fn frames_are_counted()
     ensures lost { (b : BridgeState) (p : ℕ) (f : FrameIn) (no_room : Bool) → IsReceived b p f → p ≤ length b.counters.ports
         → (framed b p f no_room).egress ≡ []
         → counters_of (framed b p f no_room).bridge p ≡ record (counters_of b p) {
-            frames_in = risen (counters_of b p).frames_in;
-            discards_in = risen (counters_of b p).discards_in;
-          } }
+          frames_in = risen (counters_of b p).frames_in;
+          discards_in = risen (counters_of b p).discards_in;
+        } }
     ensures passed { (b : BridgeState) (p : ℕ) (f : FrameIn) (no_room : Bool) → IsReceived b p f → p ≤ length b.counters.ports
         → (framed b p f no_room).egress ≢ []
         → counters_of (framed b p f no_room).bridge p ≡ record (counters_of b p) { frames_in = risen (counters_of b p).frames_in } }

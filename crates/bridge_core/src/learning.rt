@@ -32,4 +32,3 @@ pub fn lacks_memory(learnt: Option<Learnt>) -> bool
 {
     matches!(learnt, Some(Learnt::Memory))
 }
-

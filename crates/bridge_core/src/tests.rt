@@ -268,7 +268,10 @@ fn ports_that_are_off_take_nothing(rt: HostRuntime) -> Result<(), Fail> {
 #[test]
 fn the_first_fault_is_named(rt: HostRuntime) {
     let group = Mac([0x01, 0x00, 0x00, 0x00, 0x00, 0x00]);
-    let slow = PortConfig { speed: 11, ..port() };
+    let slow = PortConfig {
+        speed: 11,
+        ..port()
+    };
     assert_eq!(rt;
         Bridge::new(rt.alloc(), group, &[]).err(),
         Some(BridgeFault::BadPorts)

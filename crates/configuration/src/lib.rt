@@ -12,9 +12,7 @@ mod reading;
 mod serve;
 mod sockets;
 
-pub use configuration::{
-    BUILT_IN, Configuration, Port, ROUNDS_MAX, Serve, WORKERS_MAX,
-};
+pub use configuration::{BUILT_IN, Configuration, Port, ROUNDS_MAX, Serve, WORKERS_MAX};
 pub use fault::ConfigurationFault;
 pub use reading::{configuration_in, configuration_of, configuration_of_text};
 
