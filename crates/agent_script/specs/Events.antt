@@ -8,9 +8,8 @@ use Rattle.frame_core.specs.declared.bpdu.Bpdu.{Bpdu}
 use Rattle.frame_core.specs.declared.frame.FrameIn.{FrameIn}
 use Rattle.bridge_core.specs.Bridge.{BridgeState}
 use Rattle.bridge_core.specs.Events.{framed, tick_of, ticked_bridge, link_of, linked_bridge}
-use Rattle.agent_core.specs.World.{World}
-use Rattle.agent_core.specs.Replies.{reply_of}
-use Rattle.agent_core.specs.Answers.{audit_of, world_after}
+use Rattle.agent_core.specs.World.{World, shown_of}
+use Rattle.agent_core.specs.Answers.{reply_of, audit_of, world_after}
 
 -- what events happen to
 pub record System : Type 0 where
@@ -52,7 +51,7 @@ pub data Output : Type 0 where
 
 -- What comes out.
 abbrev pub output_of : System → Event → Output
-output_of s (request r) = answered (reply_of s.world r) (audit_of s.world r)
+output_of s (request r) = answered (reply_of (shown_of s.world) r) (audit_of (shown_of s.world) r)
 output_of s (frame port fields no_room) =
     forwarded (framed s.bridge port fields no_room).egress (framed s.bridge port fields no_room).bpdus
 output_of s tick = sent (tick_of s.bridge).bpdus

@@ -1,5 +1,5 @@
 -- Which want of memory each line may meet.
-use Rattle.std.specs.Prelude.{◌≡◌, ◌≢◌, ℕ, Bool, true, false, codes, List, Option, Some, None, Result, Ok, Err}
+use Rattle.std.specs.Prelude.{◌≡◌, ℕ, IsSome, Bool, true, false, codes, List, Option, Some, None, Result, Ok, Err}
 use Rattle.std.specs.Str.{bytes_eq}
 use Rattle.message_core.specs.Message.{IsCause}
 use Rattle.message_core.specs.FirstFault.{request_at}
@@ -11,8 +11,8 @@ use Rattle.frame_core.specs.declared.fault.FrameFault.{FrameFault}
 use Rattle.frame_core.specs.Reading.{frame_at}
 use Rattle.bridge_core.specs.Bridge.{BridgeState, port_count}
 use Rattle.bridge_core.specs.Forwarding.{MayLackMemory}
-use Rattle.agent_core.specs.World.{World}
-use Rattle.agent_core.specs.Replies.{reply_of}
+use Rattle.agent_core.specs.World.{World, shown_of}
+use Rattle.agent_core.specs.Answers.{reply_of}
 use Rattle.agent_script.specs.Commands.{Command, request, frame, tick, link, policy, audit, counts, command_of}
 use Rattle.agent_script.specs.Events.{System}
 use Rattle.agent_script.specs.State.{Agent}
@@ -70,7 +70,7 @@ Case false A B = B
 
 -- the request is one that has a reply
 unfoldable pub HasReply : World → Request → Type 0
-HasReply world r = reply_of world r ≢ None
+HasReply world r = IsSome (reply_of (shown_of world) r)
 
 -- A request: its reply may find no memory, where it has one.
 abbrev pub MayMeetRequest : World → Request → Note → Type 0

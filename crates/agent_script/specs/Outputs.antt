@@ -6,8 +6,10 @@ use Rattle.message_core.specs.Canon.{canon_reply}
 use Rattle.message_core.specs.declared.reply.Reply.{Reply}
 use Rattle.audit_core.specs.Text.{audit_text}
 use Rattle.audit_core.specs.declared.audit.Audit.{Audit}
-use Rattle.audit_core.specs.declared.decision.Decision.{Decision}
-use Rattle.audit_core.specs.declared.decision.Decision.TheVariants.{UnknownCommunity, NoSuchContext, Empty, NoGroupName, NoAccessEntry, NoSuchView, Allowed}
+use Rattle.decision.specs.declared.choice.Cause.{Cause}
+use Rattle.decision.specs.declared.choice.Cause.TheVariants.{UnknownCommunity, NoSuchContext}
+use Rattle.decision.specs.declared.choice.Decision.{Decision}
+use Rattle.decision.specs.declared.choice.Decision.TheVariants.{Drop, Empty, Refused, Allowed}
 use Rattle.frame_core.specs.declared.mac.Mac.{Mac}
 use Rattle.frame_core.specs.declared.bpdu.Bpdu.{Bpdu}
 use Rattle.frame_core.specs.Sending.{frame_octets}
@@ -18,15 +20,17 @@ use Rattle.agent_script.specs.Events.{System, Event, tick, after_event, Output, 
 abbrev pub drop_text : List ℕ → List ℕ
 drop_text name = codes "drop " ++ name ++ codes "\n"
 
--- the name of what drops a request: its context, or its community; the other decisions drop none
-abbrev pub dropped_name : Decision → List ℕ
+-- the name of what drops a request: its community, or its context
+abbrev pub dropped_name : Cause → List ℕ
 dropped_name UnknownCommunity = codes "UnknownCommunity"
 dropped_name (NoSuchContext name) = codes "NoSuchContext"
-dropped_name Empty = codes "UnknownCommunity"
-dropped_name (NoGroupName model name) = codes "UnknownCommunity"
-dropped_name (NoAccessEntry asked) = codes "UnknownCommunity"
-dropped_name (NoSuchView row view) = codes "UnknownCommunity"
-dropped_name (Allowed row view) = codes "UnknownCommunity"
+
+-- what is said of a decision to drop; the others drop nothing, and nothing is said of them
+abbrev pub decision_text : Decision → List ℕ
+decision_text (Drop cause) = drop_text (dropped_name cause)
+decision_text Empty = []
+decision_text (Refused why) = []
+decision_text (Allowed row view) = []
 
 -- `reply` and the octets of a reply in its minimal spelling
 unfoldable pub sent_text : Reply → List ℕ
@@ -35,7 +39,7 @@ sent_text reply = codes "reply " ++ encode_upper (canon_reply reply) ++ codes "\
 -- a reply, or what drops the request
 abbrev pub reply_text : Option Reply → Decision → List ℕ
 reply_text (Some reply) decision = sent_text reply
-reply_text None decision = drop_text (dropped_name decision)
+reply_text None decision = decision_text decision
 
 -- the audit, where it is told
 abbrev pub told_audit : Bool → Audit → List ℕ

@@ -15,7 +15,7 @@ use crate::bridging::{say_bad_frame, say_frame, say_link, say_ticks};
 use crate::commands::{Command, read_command};
 use crate::drops::Drops;
 use crate::note::{Note, note_of};
-use crate::saying::{cause_name, dropped_name, say_audit, say_counts, say_drop, say_reply};
+use crate::saying::{cause_name, say_audit, say_counts, say_decision, say_drop, say_reply};
 use agent_core::{Answered, Buffer, PlainWorld, answer, short_reply};
 use bridge_core::Bridge;
 use community_core::policy_in;
@@ -162,7 +162,7 @@ impl Agent {
                 Ok(Note::Nothing)
             }
             Ok(Answered::NoReply(audit)) => {
-                say_drop(dropped_name(&audit.decision), out)?;
+                say_decision(&audit.decision, out)?;
                 say_audit(alloc, self.is_auditing, &audit, out)?;
                 Ok(Note::Nothing)
             }

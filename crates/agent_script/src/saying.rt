@@ -2,12 +2,13 @@
 ghost use Rattle.std.specs.Prelude.{◌≡◌, ◌++◌, codes, OnOk};
 ghost use Rattle.std.specs.List.{flat_map};
 ghost use Rattle.hex.specs.Hex.{encode_upper};
-ghost use Rattle.agent_script.specs.Outputs.{drop_text, dropped_name, told_audit};
+ghost use Rattle.agent_script.specs.Outputs.{drop_text, dropped_name, decision_text, told_audit};
 ghost use Rattle.agent_script.specs.Actions.{cause_name, spaced, counts_text};
 
 use crate::drops::Drops;
 use agent_core::PlainWorld;
-use audit_core::{Audit, Decision, write_audit};
+use audit_core::{Audit, write_audit};
+use decision::{Cause, Decision};
 use message_core::DropCause;
 use script_core::words::write_hex;
 use std::alloc::{AllocError, Global};
@@ -35,13 +36,23 @@ pub fn cause_name(cause: DropCause) -> &'static [u8]
     }
 }
 
-/// The name of what drops a request.
-pub fn dropped_name(decision: &Decision) -> &'static [u8]
-    ensures { result.now ≡ dropped_name decision.now }
+// The name of what drops a request.
+fn dropped_name(cause: &Cause) -> &'static [u8]
+    ensures { result.now ≡ dropped_name cause.now }
+{
+    match cause {
+        Cause::UnknownCommunity => b"UnknownCommunity",
+        Cause::NoSuchContext(_) => b"NoSuchContext",
+    }
+}
+
+/// Appends what drops a request, where its decision is to drop it.
+pub fn say_decision(decision: &Decision, out: &mut Vec<u8>) -> Result<(), AllocError>
+    ensures { OnOk result (out.new.items ≡ out.old.items ++ decision_text decision.now) }
 {
     match decision {
-        Decision::NoSuchContext(_) => b"NoSuchContext",
-        _ => b"UnknownCommunity",
+        Decision::Drop(cause) => say_drop(dropped_name(cause), out),
+        Decision::Empty | Decision::Refused(_) | Decision::Allowed { .. } => Ok(()),
     }
 }
 
