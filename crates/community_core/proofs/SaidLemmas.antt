@@ -6,7 +6,7 @@ use Rattle.std.proofs.lemmas.Bool.{cases_Bool, cases_lt, le-leb, lt-leb, leb-tru
 use Rattle.std.proofs.lemmas.List.Folds.{list_all_at}
 use Rattle.std.proofs.lemmas.List.FromFn.{length-range_with_len, get_or-range_with_len}
 use Rattle.std.proofs.lemmas.Option.{slice_get_within}
-use Rattle.oid_core.specs.declared.oid.TheConstants.{MOST_NUMBERS}
+use Rattle.oid_core.specs.declared.limits.TheConstants.{MOST_NUMBERS}
 use Rattle.oid_core.specs.TextValue.{name_of_text, all_of}
 use Rattle.oid_core.proofs.TextValues.{dotted_read, read_dotted, none_dotted}
 use Rattle.toml.specs.Data.{Data, Members, as_table, as_str}

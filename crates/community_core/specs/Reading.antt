@@ -3,7 +3,7 @@ use Rattle.std.specs.Prelude.{◌≡◌, ◌⊎◌, ℕ, ◌≤◌, ◌==◌, if
 use Rattle.std.specs.Result.{result_ok}
 use Rattle.std.specs.List.{AllZip}
 use Rattle.hex.specs.Hex.{decode_of}
-use Rattle.oid_core.specs.declared.oid.TheConstants.{MOST_NUMBERS}
+use Rattle.oid_core.specs.declared.limits.TheConstants.{MOST_NUMBERS}
 use Rattle.oid_core.specs.Text.{IsDotted, IsTextFault}
 use Rattle.oid_core.specs.declared.fault.OidFault.TheVariants.{BadText, TooLong}
 use Rattle.toml.specs.Data.{Data, Members, as_table, as_str}

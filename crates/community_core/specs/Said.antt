@@ -1,7 +1,7 @@
 -- The policy that a TOML table says, as a function: each value read as its row, and nothing wrong with any row.
 use Rattle.std.specs.Prelude.{ℕ, ◌&&◌, Bool, nat_le, is_none, length, if◌then◌else◌, List, Option, Some, None}
 use Rattle.std.specs.List.{list_all, range_with_len}
-use Rattle.oid_core.specs.declared.oid.TheConstants.{MOST_NUMBERS}
+use Rattle.oid_core.specs.declared.limits.TheConstants.{MOST_NUMBERS}
 use Rattle.oid_core.specs.TextValue.{name_of_text, all_of}
 use Rattle.toml.specs.Data.{Data, Members, as_table, as_str}
 use Rattle.vacm_core.specs.declared.written.WrittenFamily.{WrittenFamily}
