@@ -5,8 +5,9 @@ ghost use Rattle.configuration.specs.declared.configuration.Configuration.{Confi
 ghost use Rattle.configuration.specs.declared.fault.ConfigurationFault.{ConfigurationFault};
 ghost use Rattle.configuration.specs.Configurations.{IsConfiguration, IsFault};
 
-use crate::configuration::{Configuration, IFINDEX_MAX, ROUNDS_MAX, WORKERS_MAX};
+use crate::configuration::{Configuration, ROUNDS_MAX, WORKERS_MAX};
 use crate::fault::ConfigurationFault;
+use rstp_rules::config::IFINDEX_MAX;
 
 /// A table that says a configuration has no fault, so none that says one is refused but for want of memory.
 pub fn no_fault_in_a_configuration()
