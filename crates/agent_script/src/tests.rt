@@ -74,7 +74,13 @@ pub fn two_ports(alloc: Global) -> Result<Bridge, Fail> {
         speed: 1000,
         full: true,
     };
-    let ports = [port, PortConfig { ifindex: IfIndex::of(2), ..port }];
+    let ports = [
+        port,
+        PortConfig {
+            ifindex: IfIndex::of(2),
+            ..port
+        },
+    ];
     let bridge = Bridge::new(alloc, Mac([2, 0, 0, 0, 0, 10]), &ports);
     Ok(bridge.ok().ok_or("a bridge")?)
 }
