@@ -44,7 +44,7 @@ kind_reply objects shows rows request GetNext = next_reply shows rows request
 kind_reply objects shows rows request Set = failed request
 kind_reply objects shows rows request GetBulk = bulk_reply shows rows request
 
--- a request that the tables of access control halt: authorizationError, index 0, the request's bindings (RFC 3416, section 3)
+-- a request that the tables of access control halt: authorizationError, index 0, the request's bindings (RFC 3413, section 3.2)
 abbrev pub halted : Request → Reply
 halted request = sized (answer_to request AuthorizationError (pos 0) request.bindings)
 

@@ -1,4 +1,19 @@
 //! The script of the agent: what it says to each line.
+//!
+//! # Entry points
+//! [`run_script`] reads a script to its end over a world and beside a bridge; [`built_in_world`] is the world under a
+//! policy.
+//!
+//! # Definitions
+//! `specs/Commands.antt`: which command a line is; `specs/Events.antt`: what an event makes of world and bridge, and
+//! what comes out; `specs/Outputs.antt`: how that is written; `specs/Actions.antt`: what a line does;
+//! `specs/Notes.antt`: which want of memory a line may meet; `specs/Script.antt`: the text of a script.
+//!
+//! # Laws
+//! None.
+//!
+//! # Not claimed
+//! That a want of memory came only where memory was refused; what is written where a write failed.
 #![tactic(auto)]
 
 mod agent;

@@ -1,4 +1,16 @@
 //! The agent, driven by a script from standard input.
+//!
+//! # Entry points
+//! `run_words` over words, streams and the file system gives the exit status: 0, 1 or 2.
+//!
+//! # Definitions
+//! None of its own yet.
+//!
+//! # Laws
+//! None.
+//!
+//! # Not claimed
+//! What a file holds and a terminal shows; the texts of help and usage.
 #![tactic(auto)]
 
 mod run;

@@ -1,5 +1,17 @@
-//! The record of a decision on a request: who was let in or turned away, by which rows of the access
-//! tables (RFC 3415), and the line of text that says so.
+//! The audit of a request, and the line of text that says it.
+//!
+//! # Entry points
+//! [`Audit`] is a plain record: kind, status and index as sent, the decision with the keys of its rows, and the denied
+//! bindings. [`audit_line`] and [`write_audit`] write its line.
+//!
+//! # Definitions
+//! `specs/Text.antt`: the line, to the octet.
+//!
+//! # Laws
+//! None.
+//!
+//! # Not claimed
+//! That a writer takes the line.
 #![tactic(auto)]
 
 mod audit;

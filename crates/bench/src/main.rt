@@ -1,4 +1,5 @@
-//! Measurements in one process. Without words it prints their names, one a line; with a name it measures and prints figures.
+//! Measurements in one process. Without words it prints their names, one a line; with a name it measures and prints
+//! figures. It has no contracts of its own: it is safe and ends.
 #![tactic(auto)]
 
 mod access;

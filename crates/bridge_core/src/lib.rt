@@ -1,6 +1,20 @@
 //! A learning bridge that runs the Rapid Spanning Tree Protocol (IEEE 802.1D-2004 7.5 to 7.9 and 17): its settings, its
-//! spanning tree, the addresses that it has learned and its counters, changed by one event at a time. Only `frame` may
-//! take memory, for a learned address.
+//! spanning tree, the addresses that it has learned and its counters, changed by one event at a time.
+//!
+//! # Entry points
+//! [`Bridge`]: `new`, `frame`, `tick`, `link`, `settle`; `facts`, `port_facts`, `get_setting`, `put_setting`. Only
+//! `frame` may take memory, for a learned address.
+//!
+//! # Definitions
+//! `specs/Bridge.antt`: what a bridge is; `specs/Events.antt`: one event; `specs/Forwarding.antt`: egress and learning;
+//! `specs/Counting.antt`, `specs/Facts.antt`: counters and what is shown; `specs/Runs.antt`: lists of events.
+//!
+//! # Laws
+//! In [`laws`]: where a frame goes in the standard's words, which ports forward after any list of events, and when
+//! there is no root port.
+//!
+//! # Not claimed
+//! That no port forwards while it is disabled between `put_setting` and `settle`.
 #![tactic(auto)]
 
 mod bridge;

@@ -1,5 +1,20 @@
-//! Communities (RFC 3584, section 5) over the tables of access control, and the policy that both make,
-//! as it is written in TOML.
+//! Communities (RFC 3584, section 5) over the tables of access control, and the policy that both make, as it is written
+//! in TOML.
+//!
+//! # Entry points
+//! `Policy::caller` says whom a community stands for; `Policy::new` takes written communities or names the first fault;
+//! [`policy_of`] reads a table of TOML, [`policy_in`] octets, which are UTF-8 or no policy.
+//!
+//! # Definitions
+//! `specs/Communities.antt`: rules of the rows and the caller; `specs/Policies.antt`, `specs/Reading.antt`: what a text
+//! says and its first fault; `specs/Said.antt`, `specs/Texts.antt`: the same as functions.
+//!
+//! # Laws
+//! In [`laws`]: a community row decides wherever one has the name; what a text says is what the functions give; the
+//! limit of a name is 255.
+//!
+//! # Not claimed
+//! TOML itself, whose reader is the kit's.
 #![tactic(auto)]
 
 mod community;

@@ -1,5 +1,18 @@
-//! The configuration of an agent: the bridge's address and ports, where it is served, and its policy,
-//! as they are written in TOML.
+//! The configuration of an agent: the bridge's address and ports, where it is served, and its policy, as they are
+//! written in TOML.
+//!
+//! # Entry points
+//! [`configuration_of_text`] reads a text, [`configuration_of`] a table of TOML; each gives the configuration or its
+//! first fault.
+//!
+//! # Definitions
+//! `specs/Configurations.antt`: what a configuration says, and its first fault; a file for each part.
+//!
+//! # Laws
+//! In [`laws`]: a table that says a configuration has no fault; the limits are what they are.
+//!
+//! # Not claimed
+//! TOML and the texts of socket addresses, whose readers are the kit's.
 #![tactic(auto)]
 
 mod address;

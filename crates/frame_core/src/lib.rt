@@ -1,5 +1,19 @@
-//! Ethernet frames and spanning tree BPDUs as octets: addresses, what a bridge reads of a frame, and the frames in which
-//! it sends its BPDUs (IEEE 802.1D-2004, clause 9; IEEE 802.3, 3.2). Nothing here takes memory.
+//! Ethernet frames and spanning tree BPDUs as octets: addresses, what a bridge reads of a frame, and the frames in
+//! which it sends its BPDUs (IEEE 802.1D-2004, clause 9; IEEE 802.3, 3.2). Nothing here takes memory.
+//!
+//! # Entry points
+//! [`read_frame`] reads a frame or says why not; [`write_bpdu`] writes the [`SENT_FRAME_LEN`] octets of one.
+//!
+//! # Definitions
+//! `specs/Layout.antt`: where each field of a BPDU stands; `specs/Frames.antt`: frames and their faults;
+//! `specs/Reading.antt`: the same as a function; `specs/Sending.antt`: the octets that are sent.
+//!
+//! # Laws
+//! In [`laws`]: a frame is one thing or one fault; what is written is read back; the lengths and the group address are
+//! what they are.
+//!
+//! # Not claimed
+//! Check sequences, which hardware adds and takes away; VLAN tags.
 #![tactic(auto)]
 
 mod bpdu;

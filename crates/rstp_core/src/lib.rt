@@ -1,5 +1,20 @@
-//! The Rapid Spanning Tree Protocol of a bridge (IEEE 802.1D-2004 clause 17): what each event does to
-//! all its ports, what they send, and whose learned addresses go. Nothing here takes memory.
+//! The Rapid Spanning Tree Protocol of a bridge (IEEE 802.1D-2004 clause 17, in the profile of docs/PROFILE.md): what
+//! each event does to all its ports, what they send, and whose learned addresses go. Nothing here takes memory.
+//!
+//! # Entry points
+//! [`Rstp`] with `on_bpdu`, `tick`, `link` and `settle`, each with its [`Outcome`]; `role`, `state`, `facts`,
+//! `bridge_facts`, `copy`.
+//!
+//! # Definitions
+//! `specs/Tree.antt`: the tree and the four events as relations; `specs/Steps.antt`: the same as functions;
+//! `specs/Runs.antt`: lists of events; `specs/Legal.antt`: what every event keeps.
+//!
+//! # Laws
+//! In [`laws`]: roles of the whole tree, one root port, which ports forward or learn, whose rows go, over every list of
+//! events.
+//!
+//! # Not claimed
+//! Convergence of several bridges.
 #![tactic(auto)]
 
 mod events;

@@ -1,4 +1,4 @@
--- A BPDU that arrives (IEEE 802.1D-2004 17.21.1, 17.21.8 to 17.21.18, 17.21.22, 17.23, 17.27).
+-- A BPDU that arrives (IEEE 802.1D-2004 17.21.1, 17.21.8, 17.21.9, 17.21.11 to 17.21.13, 17.21.17, 17.21.18, 17.21.22, 17.23, 17.27).
 use Rattle.std.specs.Prelude.{ℕ, Bool, true, false, ◌&&◌, ◌||◌, not, if◌then◌else◌, ◌==◌, List, map}
 use Rattle.std.specs.List.{list_any}
 use Rattle.std.specs.Ordering.{is_lt}
@@ -29,7 +29,7 @@ is_taken own TopologyChange r = r.line.on
 is_taken own (Config m) r = r.line.on && not (is_own own r m.vector)
 is_taken own (Rapid m) r = r.line.on && not (is_own own r m.vector)
 
--- 17.21.22, 17.25. Each message that is taken: the port is at no edge, and Config and TCN make it send no RST, RST make it send them.
+-- 17.21.22, 17.23. Each message that is taken: the port is at no edge, and Config and TCN make it send no RST, RST make it send them.
 abbrev pub marked : Bool → Row → Row
 marked rapid r = record r { port = record r.port { edge = false; send_rstp = rapid } }
 

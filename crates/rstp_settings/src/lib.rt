@@ -1,5 +1,17 @@
-//! The settings of a bridge that runs the Rapid Spanning Tree Protocol (IEEE 802.1D-2004 17.13 and
-//! 17.14), read and written by key as a finite map from keys to numbers.
+//! The settings of a bridge that runs the Rapid Spanning Tree Protocol (IEEE 802.1D-2004 17.13 and 17.14), read and
+//! written by key as a finite map from keys to numbers.
+//!
+//! # Entry points
+//! [`settings::Settings`] with `get` and `put` by [`key::Key`], and `copy`. Nothing here takes memory.
+//!
+//! # Definitions
+//! `specs/Table.antt`: the map; `specs/Values.antt`: ranges and steps.
+//!
+//! # Laws
+//! In [`laws`]: get after put, put back restores, puts of two keys commute, settings that agree on every key are equal.
+//!
+//! # Not claimed
+//! That the three timers fit together: that is looked at where a Set assigns them.
 #![tactic(auto)]
 
 pub mod copies;

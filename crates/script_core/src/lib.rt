@@ -1,5 +1,17 @@
-//! Runs a script: cuts its input into lines, hands each to a session, and writes what the session
-//! says. The words, numbers and hexadecimal of a line are read and written in [`words`].
+//! Runs a script: cuts its input into lines, hands each to a session, and writes what the session says.
+//!
+//! # Entry points
+//! [`run_script`] over any [`Session`], reader and writer; the words, numbers and hexadecimal of a line in [`words`].
+//!
+//! # Definitions
+//! `specs/Lines.antt`: the lines of a text; `specs/Runs.antt`: what a session may say to lines, in their order, and how
+//! far a run has come; `specs/Words.antt`: words, numbers and hexadecimal.
+//!
+//! # Laws
+//! In [`laws`]: each text has its lines; hexadecimal is read back.
+//!
+//! # Not claimed
+//! When a read or a write fails; how many octets one read gives.
 #![tactic(auto)]
 
 mod fault;

@@ -1,5 +1,21 @@
-//! Access to objects under the View-based Access Control Model (RFC 3415): the tables of groups,
-//! access rights and view families, the decision on a request, and the decision on a name.
+//! Access to objects under the View-based Access Control Model (RFC 3415): groups, access rights and view families, the
+//! decision on a request, and the decision on a name.
+//!
+//! # Entry points
+//! `Vacm::new` takes the written rows or names the first fault; `Vacm::decide` is the verdict on a request up to its
+//! names, `Vacm::in_view` the answer on a name. Each names its row. None but `new` takes memory.
+//!
+//! # Definitions
+//! `specs/Access.antt`: which access rows may decide and which beats which; `specs/Families.antt`: which families have
+//! a name; `specs/Best.antt`: the row that no row beats; `specs/Faults.antt`, `specs/Rules.antt`: lengths, fields and
+//! keys of rows, and the first fault.
+//!
+//! # Laws
+//! In [`laws`] and `Vacm::one_row_decides`: a row decides wherever one fits, and only one; kept rows break no rule; the
+//! limits are what they are.
+//!
+//! # Not claimed
+//! How long a decision takes: it looks at each row.
 #![tactic(auto)]
 
 mod checking;
