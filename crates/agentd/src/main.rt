@@ -10,7 +10,8 @@
 //! None.
 //!
 //! # Not claimed
-//! What a file holds and a terminal shows; the texts of help and usage.
+//! Which of the three statuses comes, what is written, and that the file named is the configuration that runs: tests
+//! hold these. What a file holds and a terminal shows.
 #![tactic(auto)]
 
 mod run;

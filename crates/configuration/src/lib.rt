@@ -2,7 +2,7 @@
 //! written in TOML.
 //!
 //! # Entry points
-//! [`configuration_of_text`] reads a text, [`configuration_of`] a table of TOML; each gives the configuration or its
+//! [`configuration_in`] reads octets, [`configuration_of_text`] a text, [`configuration_of`] a table of TOML; each gives the configuration or its
 //! first fault.
 //!
 //! # Definitions
@@ -12,7 +12,7 @@
 //! In [`laws`]: a table that says a configuration has no fault; the limits are what they are.
 //!
 //! # Not claimed
-//! TOML and the texts of socket addresses, whose readers are the kit's.
+//! That memory is there; TOML and the texts of socket addresses, whose readers are the kit's.
 #![tactic(auto)]
 
 mod address;
