@@ -2,11 +2,12 @@
 //! spanning tree, the addresses that it has learned and its counters, changed by one event at a time.
 //!
 //! # Entry points
-//! [`Bridge`]: `new`, `frame`, `tick`, `link`, `settle`; `facts`, `port_facts`, `get_setting`, `put_setting`. Only
-//! `frame` may take memory, for a learned address.
+//! [`Bridge`]: `new`, `frame`, `tick`, `link`, `settle`; `ports`, `facts`, `port_facts`, `fdb`, `get_setting`,
+//! `put_setting`. Only `frame` may take memory, for a learned address.
 //!
 //! # Definitions
-//! `specs/Bridge.antt`: what a bridge is; `specs/Events.antt`: one event; `specs/Forwarding.antt`: egress and learning;
+//! `specs/Bridge.antt`, `specs/Opening.antt`: what a bridge is, and is at first; `specs/Events.antt`: one event;
+//! `specs/Forwarding.antt`: egress and learning, and `specs/Relay.antt` the same in the standard's words;
 //! `specs/Counting.antt`, `specs/Facts.antt`: counters and what is shown; `specs/Runs.antt`: lists of events.
 //!
 //! # Laws

@@ -10,7 +10,7 @@
 //! says and its first fault; `specs/Said.antt`, `specs/Texts.antt`: the same as functions.
 //!
 //! # Laws
-//! In [`laws`]: a community row decides wherever one has the name; what a text says is what the functions give; the
+//! In [`laws`]: a community row decides wherever one has the name; what a table of TOML says is what the functions give; the
 //! limit of a name is 255.
 //!
 //! # Not claimed

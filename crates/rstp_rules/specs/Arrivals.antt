@@ -33,11 +33,11 @@ is_taken own (Rapid m) r = r.line.on && not (is_own own r m.vector)
 abbrev pub marked : Bool → Row → Row
 marked rapid r = record r { port = record r.port { edge = false; send_rstp = rapid } }
 
--- 17.21.1, 17.21.8. A vector is taken where it is better, or where the port that sent the recorded one sends again.
+-- 17.6, 17.21.8. A vector is taken where it is better, or where the port that sent the recorded one sends again.
 abbrev pub is_superior : PriorityVector → Row → Bool
 is_superior v r = is_lt (vector_cmp v r.port.vector) || (is_received r.port.info && same_sender v r.port.vector)
 
--- 17.21.11 to 17.21.13, 17.21.23. It is recorded with its times and its age; what differs is not agreed; a
+-- 17.21.1, 17.21.11 to 17.21.13, 17.21.23. It is recorded with its times and its age; what differs is not agreed; a
 -- proposal is noted.
 abbrev pub recorded : PriorityVector → Times → Bool → Row → Row
 recorded v t proposal r =

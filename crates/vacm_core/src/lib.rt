@@ -3,7 +3,7 @@
 //!
 //! # Entry points
 //! `Vacm::new` takes the written rows or names the first fault; `Vacm::decide` is the verdict on a request up to its
-//! names, `Vacm::in_view` the answer on a name. Each names its row. None but `new` takes memory.
+//! names, `Vacm::in_view` the answer on a name. Each names its row. None of these but `new` takes memory.
 //!
 //! # Definitions
 //! `specs/Access.antt`: which access rows may decide and which beats which; `specs/Families.antt`: which families have
