@@ -835,7 +835,7 @@ fn refuses_what_is_no_policy(rt: HostRuntime) -> Result<(), Fail> {
         ("policy\nend\nend", "policy refused\nbadline\n"),
         (
             "policy\n# \u{E9}\ncontexts = []\ncommunity = []\ngroup = []\naccess = []\nfamily = []\nend",
-            "policy refused\n",
+            "policy ok\n",
         ),
         ("policy\r\nend", "badline\nbadline\n"),
         (
@@ -845,6 +845,17 @@ fn refuses_what_is_no_policy(rt: HostRuntime) -> Result<(), Fail> {
     ] {
         assert_said(&rt, built_in(rt.alloc())?, script, said)?;
     }
+    Ok(())
+}
+
+#[test]
+fn refuses_octets_that_are_no_text(rt: HostRuntime) -> Result<(), Fail> {
+    let script =
+        b"policy\n# \xE9\ncontexts = []\ncommunity = []\ngroup = []\naccess = []\nfamily = []\nend\n";
+    assert_eq!(rt;
+        said_to(rt.alloc(), script)?.as_slice(),
+        b"policy refused\n".as_slice()
+    );
     Ok(())
 }
 
@@ -965,5 +976,72 @@ fn forwards_what_it_has_learned(rt: HostRuntime) -> Result<(), Fail> {
           frame 1 0180C20000030200000003030800\n",
     )?;
     assert_eq!(rt; out.as_slice(), want.as_bytes());
+    Ok(())
+}
+
+// The tables of a policy whose readers see the view `v`: what is below 1.3.6.1.2.1.17, and what the families behind it leave out.
+const READERS_OF_V: &str = r#"policy
+contexts = []
+[[community]]
+index = "p"
+name = "public"
+security = "public"
+context = ""
+[[group]]
+model = 2
+name = "public"
+group = "readers"
+[[access]]
+group = "readers"
+prefix = ""
+model = 2
+level = 1
+exact = true
+read = "v"
+write = ""
+notify = ""
+[[family]]
+view = "v"
+subtree = "1.3.6.1.2.1.17"
+mask = ""
+included = true
+[[family]]
+view = "v"
+mask = ""
+included = false
+"#;
+
+// A Get of the name one number below 1.3.6.1.2.1.17 and so many ones, and its reply: noSuchInstance.
+const GET_BELOW_25: &str =
+    "303702010104067075626C6963A02A020101020100020100301F301D06192B0601020111010101010101010101010101010101010101010500";
+
+const NOTHING_BELOW_25: &str =
+    "303702010104067075626C6963A22A020101020100020100301F301D06192B0601020111010101010101010101010101010101010101018100";
+
+const GET_BELOW_113: &str =
+    "30819002010104067075626C6963A081820201010201000201003077307506712B060102011101010101010101010101010101010101010101010101010101010101010101010101010101010101010101010101010101010101010101010101010101010101010101010101010101010101010101010101010101010101010101010101010101010101010101010101010500";
+
+const NOTHING_BELOW_113: &str =
+    "30819002010104067075626C6963A281820201010201000201003077307506712B060102011101010101010101010101010101010101010101010101010101010101010101010101010101010101010101010101010101010101010101010101010101010101010101010101010101010101010101010101010101010101010101010101010101010101010101010101018100";
+
+#[test]
+fn audits_long_subtrees(rt: HostRuntime) -> Result<(), Fail> {
+    for (count, get, reply) in [
+        (25, GET_BELOW_25, NOTHING_BELOW_25),
+        (113, GET_BELOW_113, NOTHING_BELOW_113),
+    ] {
+        let mut subtree = String::from_str(rt.alloc(), "1.3.6.1.2.1.17")?;
+        for _ in 7..count {
+            subtree.push_str(".1")?;
+        }
+        let script = format!(in rt.alloc();
+            "{READERS_OF_V}subtree = \"{subtree}\"\nend\naudit on\nrequest {get}\n"
+        )?;
+        let said = format!(in rt.alloc();
+            "policy ok\nreply {reply}\naudit get 0 0 ok access(readers,,2,1) view v denied 1 family(v,{subtree})\n"
+        )?;
+        let out = said_to(rt.alloc(), script.as_bytes())?;
+        assert_eq!(rt; out.as_slice(), said.as_bytes());
+    }
     Ok(())
 }
