@@ -29,8 +29,8 @@ fn the_built_in_text_reads(rt: HostRuntime) -> Result<(), Fail> {
     let configuration = configuration_of_text(rt.alloc(), BUILT_IN)?;
     assert_eq!(rt; configuration.address.0, [2, 0, 0, 0, 0, 10]);
     assert_eq!(rt; configuration.ports.len(), 2);
-    assert_eq!(rt; configuration.ports[0].config.ifindex, 1);
-    assert_eq!(rt; configuration.ports[1].config.ifindex, 2);
+    assert_eq!(rt; configuration.ports[0].config.ifindex.number(), 1);
+    assert_eq!(rt; configuration.ports[1].config.ifindex.number(), 2);
     assert_eq!(rt; configuration.ports[1].config.speed, 1000);
     assert!(rt; configuration.ports[1].config.full);
     assert!(rt; configuration.serve.is_none());
@@ -50,7 +50,7 @@ fn digits_are_of_either_case(rt: HostRuntime) -> Result<(), Fail> {
         [0x02, 0xAB, 0xCD, 0xEF, 0x00, 0xFF]
     );
     let port = configuration.ports.first().ok_or("port")?;
-    assert_eq!(rt; port.config.ifindex, 2147483647);
+    assert_eq!(rt; port.config.ifindex.number(), 2147483647);
     Ok(())
 }
 
