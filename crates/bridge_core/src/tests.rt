@@ -265,13 +265,16 @@ fn ports_that_are_off_take_nothing(rt: HostRuntime) -> Result<(), Fail> {
     Ok(())
 }
 
+// A port of a speed that there is not.
+fn slow() -> PortConfig {
+    let mut config = port();
+    config.speed = 11;
+    config
+}
+
 #[test]
 fn the_first_fault_is_named(rt: HostRuntime) {
     let group = Mac([0x01, 0x00, 0x00, 0x00, 0x00, 0x00]);
-    let slow = PortConfig {
-        speed: 11,
-        ..port()
-    };
     assert_eq!(rt;
         Bridge::new(rt.alloc(), group, &[]).err(),
         Some(BridgeFault::BadPorts)
@@ -281,11 +284,11 @@ fn the_first_fault_is_named(rt: HostRuntime) {
         Some(BridgeFault::BadPorts)
     );
     assert_eq!(rt;
-        Bridge::new(rt.alloc(), group, &[slow]).err(),
+        Bridge::new(rt.alloc(), group, &[slow()]).err(),
         Some(BridgeFault::BadAddress)
     );
     assert_eq!(rt;
-        Bridge::new(rt.alloc(), OWN, &[port(), slow]).err(),
+        Bridge::new(rt.alloc(), OWN, &[port(), slow()]).err(),
         Some(BridgeFault::BadSpeed)
     );
 }
