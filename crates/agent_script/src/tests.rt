@@ -67,20 +67,18 @@ fn policy_of(alloc: Global, text: &str) -> Result<Policy, Fail> {
     Ok(policy.ok_or("a policy")?)
 }
 
-/// A bridge of two ports of 1000 Mb/s, full duplex.
-pub fn two_ports(alloc: Global) -> Result<Bridge, Fail> {
-    let port = PortConfig {
-        ifindex: IfIndex::of(1),
+// A port of 1000 Mb/s, full duplex.
+fn port(ifindex: IfIndex) -> PortConfig {
+    PortConfig {
+        ifindex,
         speed: 1000,
         full: true,
-    };
-    let ports = [
-        port,
-        PortConfig {
-            ifindex: IfIndex::of(2),
-            ..port
-        },
-    ];
+    }
+}
+
+/// A bridge of two ports of 1000 Mb/s, full duplex.
+pub fn two_ports(alloc: Global) -> Result<Bridge, Fail> {
+    let ports = [port(IfIndex::of(1)), port(IfIndex::of(2))];
     let bridge = Bridge::new(alloc, Mac([2, 0, 0, 0, 0, 10]), &ports);
     Ok(bridge.ok().ok_or("a bridge")?)
 }
