@@ -12,7 +12,7 @@ use Rattle.frame_core.specs.declared.fault.FrameFault.TheVariants.{Short, TooLon
 use Rattle.frame_core.specs.Reading.{frame_at}
 use Rattle.bridge_core.specs.Bridge.{port_count}
 use Rattle.community_core.specs.Communities.{PolicyTables}
-use Rattle.community_core.specs.Texts.{policy_in}
+use Rattle.policy_text.specs.Texts.{policy_in}
 use Rattle.agent_core.specs.World.{World}
 use Rattle.agent_core.specs.Replies.{failed}
 use Rattle.agent_core.specs.Answers.{one_more}

@@ -2,7 +2,7 @@
 ghost use Rattle.std.specs.Prelude.{◌≡◌, ◌≤◌, ◌++◌, false, IfOk, OnOk, Some, None, [], option_map, codes};
 ghost use Rattle.message_core.specs.Spellable.{AreSpellable};
 ghost use Rattle.bridge_core.specs.Bridge.{port_count};
-ghost use Rattle.community_core.specs.Texts.{policy_in};
+ghost use Rattle.policy_text.specs.Texts.{policy_in};
 ghost use Rattle.frame_core.specs.Reading.{frame_at};
 ghost use Rattle.agent_script.specs.CommandViews.{command_view};
 ghost use Rattle.agent_script.specs.Commands.{NamesPortOf};
@@ -18,7 +18,7 @@ use crate::note::{Note, note_of};
 use crate::saying::{cause_name, say_audit, say_counts, say_decision, say_drop, say_reply};
 use agent_core::{Answered, Buffer, PlainWorld, answer, short_reply};
 use bridge_core::Bridge;
-use community_core::policy_in;
+use policy_text::policy_in;
 use frame_core::read_frame;
 use message_core::{Request, decode};
 use std::alloc::{AllocError, Global};

@@ -1,6 +1,2 @@
-pub mod KeyLemmas
-pub mod RowLemmas
 pub mod Short
-pub mod SaidLemmas
-pub mod Utf8
 pub mod Indexes

@@ -1,6 +1,1 @@
 pub mod Communities
-pub mod Keys
-pub mod Reading
-pub mod Policies
-pub mod Said
-pub mod Texts

@@ -1,21 +1,12 @@
 //! Laws of policies. Each holds of all tables, and its function does nothing.
 ghost use Rattle.std.specs.Prelude.{◌≡◌, ◌↔◌, ℕ, List, false, Some, None};
 ghost use Rattle.std.specs.List.{list_any};
-ghost use Rattle.toml.specs.Data.{Members};
 ghost use Rattle.vacm_core.specs.Best.{IsUnbeatenAt};
 ghost use Rattle.vacm_core.specs.Tables.{KeysDiffer};
 ghost use Rattle.community_core.specs.declared.community.CommunityRow.{CommunityRow};
 ghost use Rattle.community_core.specs.Communities.{PolicyTables, same_index, has_name, index_before, deciding_community};
-ghost use Rattle.community_core.specs.Policies.{IsPolicy};
-ghost use Rattle.community_core.specs.Said.{policy_said};
 
 use crate::community::COMMUNITY_MAX;
-
-/// The policy of a table is a function of it: `policy_said` gives the policy exactly of the tables that say one of
-/// which nothing is wrong.
-pub fn policy_is_said()
-    ensures { (ms : Members) (policy : PolicyTables) → (policy_said ms ≡ Some policy) ↔ IsPolicy ms policy }
-{}
 
 /// A community row decides on a name wherever one has it (RFC 3584, section 5, snmpCommunityTable): none
 /// decides exactly where no row has the name, and the one that decides has the name, and no row that

@@ -1,34 +1,21 @@
-//! Communities (RFC 3584, section 5) over the tables of access control, and the policy that both make, as it is written
-//! in TOML.
+//! Communities (RFC 3584, section 5) over the tables of access control, and the policy that both make.
 //!
 //! # Entry points
-//! `Policy::caller` says whom a community stands for; `Policy::new` takes written communities or names the first fault;
-//! [`policy_of`] reads a table of TOML, [`policy_in`] octets, which are UTF-8 or no policy.
+//! `Policy::caller` says whom a community stands for; `Policy::new` takes written communities or names the first fault.
 //!
 //! # Definitions
-//! `specs/Communities.antt`: rules of the rows and the caller; `specs/Policies.antt`, `specs/Reading.antt`: what a text
-//! says and its first fault; `specs/Said.antt`, `specs/Texts.antt`: the same as functions.
+//! `specs/Communities.antt`: rules of the rows and the caller.
 //!
 //! # Laws
-//! In [`laws`]: a community row decides wherever one has the name; what a table of TOML says is what the functions give; the
-//! limit of a name is 255.
+//! In [`laws`]: a community row decides wherever one has the name; the limit of a name is 255.
 //!
 //! # Not claimed
-//! TOML itself, whose reader is the kit's.
+//! How long a caller takes to be found: each row is looked at.
 #![tactic(auto)]
 
 mod community;
-pub mod keys;
 pub mod laws;
 mod policy;
-mod policy_text;
-mod rows;
-mod text;
 
 pub use community::{COMMUNITY_MAX, Caller, CommunityRow, WrittenCommunity};
 pub use policy::Policy;
-pub use policy_text::{PolicyRows, has_policy_keys, policy_of, policy_rows};
-pub use text::{policy_in, text_of};
-
-#[cfg(test)]
-mod tests;

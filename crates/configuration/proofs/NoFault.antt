@@ -4,9 +4,9 @@ use Rattle.std.specs.List.{slice_get}
 use Rattle.toml.specs.Data.{Data, Members}
 use Rattle.vacm_core.specs.declared.fault.PolicyFault.{PolicyFault}
 use Rattle.community_core.specs.Communities.{PolicyTables}
-use Rattle.community_core.specs.Policies.{IsPolicy, IsUnread, IsWrongPolicy}
-use Rattle.community_core.specs.Reading.{AreRows}
-use Rattle.community_core.proofs.SaidLemmas.{policy_told, refused_told}
+use Rattle.policy_text.specs.Policies.{IsPolicy, IsUnread, IsWrongPolicy}
+use Rattle.policy_text.specs.Reading.{AreRows}
+use Rattle.policy_text.proofs.SaidLemmas.{policy_told, refused_told}
 use Rattle.configuration.specs.declared.configuration.Configuration.{Configuration}
 use Rattle.configuration.specs.declared.configuration.Port.{Port}
 use Rattle.configuration.specs.declared.fault.ConfigurationFault.{ConfigurationFault}

@@ -3,7 +3,7 @@ use Rattle.std.proofs.Common.{◌≡◌, ◌≢◌, ◌⊎◌, true, false, Opti
 use Rattle.toml.specs.Data.{Members}
 use Rattle.vacm_core.specs.declared.fault.PolicyFault.{PolicyFault}
 use Rattle.vacm_core.specs.declared.fault.PolicyFault.TheVariants.{Memory as NoMemory, Duplicate, BadLength, BadField}
-use Rattle.community_core.specs.Policies.{IsUnread, IsWrongPolicy}
+use Rattle.policy_text.specs.Policies.{IsUnread, IsWrongPolicy}
 use Rattle.configuration.specs.declared.fault.ConfigurationFault.{ConfigurationFault}
 use Rattle.configuration.specs.declared.fault.ConfigurationFault.TheVariants.{Memory, BadText, BadAddress, BadPorts, BadPort, BadServe, BadKeys, Policy}
 use Rattle.configuration.specs.Configurations.{policy_members, HasAddress, HasPorts, HasServing, HasKeys, IsRestFault, IsFault}

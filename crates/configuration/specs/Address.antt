@@ -5,8 +5,8 @@ use Rattle.hex.specs.Hex.{decode_sized}
 use Rattle.toml.specs.Data.{Members}
 use Rattle.frame_core.specs.declared.mac.Mac.{Mac}
 use Rattle.frame_core.specs.Octets.{is_group}
-use Rattle.community_core.specs.Keys.{string_at}
-use Rattle.community_core.specs.Reading.{◌>=>◌}
+use Rattle.policy_text.specs.Keys.{string_at}
+use Rattle.policy_text.specs.Reading.{◌>=>◌}
 
 -- these octets as an address, unless it is that of a group (IEEE 802.3, 3.2.3)
 abbrev pub station : List ℕ → Option Mac

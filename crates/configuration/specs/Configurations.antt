@@ -3,8 +3,8 @@ use Rattle.std.specs.Prelude.{◌≡◌, ◌⊎◌, ℕ, codes, if◌then◌else
 use Rattle.toml.specs.Data.{Members, no_members, member, same_key}
 use Rattle.toml.specs.Parse.{parse_document}
 use Rattle.frame_core.specs.declared.mac.Mac.{Mac}
-use Rattle.community_core.specs.Policies.{Arrays, arrays_of, IsPolicy, IsUnread, IsWrongPolicy}
-use Rattle.community_core.specs.Texts.{text_of}
+use Rattle.policy_text.specs.Policies.{Arrays, arrays_of, IsPolicy, IsUnread, IsWrongPolicy}
+use Rattle.policy_text.specs.Texts.{text_of}
 use Rattle.configuration.specs.declared.configuration.Port.{Port}
 use Rattle.configuration.specs.declared.configuration.Serve.{Serve}
 use Rattle.configuration.specs.declared.configuration.Configuration.{Configuration}

@@ -1,8 +1,8 @@
 -- Numbers in a configuration.
 use Rattle.std.specs.Prelude.{ℕ, ℤ, pos, negsuc, ◌&&◌, nat_le, if◌then◌else◌, List, Option, Some, None}
 use Rattle.toml.specs.Data.{Members}
-use Rattle.community_core.specs.Keys.{integer_at}
-use Rattle.community_core.specs.Reading.{◌>=>◌}
+use Rattle.policy_text.specs.Keys.{integer_at}
+use Rattle.policy_text.specs.Reading.{◌>=>◌}
 
 -- the number, if it is at least and at most these
 abbrev pub number_between : ℕ → ℕ → ℤ → Option ℕ

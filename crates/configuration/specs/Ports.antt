@@ -4,8 +4,8 @@ use Rattle.std.specs.List.{list_all}
 use Rattle.rstp_rules.specs.declared.config.PortConfig.{PortConfig}
 use Rattle.rstp_settings.specs.declared.settings.TheConstants.{MAX_PORTS}
 use Rattle.toml.specs.Data.{Data, Members, get_member, as_table}
-use Rattle.community_core.specs.Keys.{key_count, bool_at, array_at}
-use Rattle.community_core.specs.Reading.{AreRows, ◌>=>◌}
+use Rattle.policy_text.specs.Keys.{key_count, bool_at, array_at}
+use Rattle.policy_text.specs.Reading.{AreRows, ◌>=>◌}
 use Rattle.configuration.specs.declared.configuration.Port.{Port}
 use Rattle.rstp_rules.specs.declared.config.TheConstants.{IFINDEX_MAX}
 use Rattle.configuration.specs.declared.fault.ConfigurationFault.{ConfigurationFault}

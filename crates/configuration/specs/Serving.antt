@@ -1,7 +1,7 @@
 -- How a configuration says to serve.
 use Rattle.std.specs.Prelude.{◌≡◌, codes, Option, Some, None}
 use Rattle.toml.specs.Data.{Data, Members, get_member, as_table}
-use Rattle.community_core.specs.Keys.{key_count}
+use Rattle.policy_text.specs.Keys.{key_count}
 use Rattle.configuration.specs.declared.configuration.Serve.{Serve}
 use Rattle.configuration.specs.declared.configuration.TheConstants.{WORKERS_MAX, ROUNDS_MAX}
 use Rattle.configuration.specs.Numbers.{number_at}

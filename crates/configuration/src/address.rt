@@ -3,7 +3,7 @@ ghost use Rattle.std.specs.Prelude.{◌≡◌};
 ghost use Rattle.toml.specs.View.{table_view};
 ghost use Rattle.configuration.specs.Address.{address_of, mac_of};
 
-use community_core::keys::string_at;
+use policy_text::keys::string_at;
 use frame_core::Mac;
 use hex::FromHex;
 use toml::Table;

@@ -3,7 +3,7 @@ ghost use Rattle.std.specs.Prelude.{◌≡◌, ◌≤◌, IfSome};
 ghost use Rattle.toml.specs.View.{table_view};
 ghost use Rattle.configuration.specs.Numbers.{number_between, number_at};
 
-use community_core::keys::integer_at;
+use policy_text::keys::integer_at;
 use toml::Table;
 
 // The number, if it is at least and at most these.

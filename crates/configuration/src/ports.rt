@@ -2,7 +2,7 @@
 ghost use Rattle.std.specs.Prelude.{◌≡◌, ◌+◌, ◌≤◌, ℕ, Option, IfSome, IfNone, IfOk, IfErr, map, option_map, vec_len};
 ghost use Rattle.std.specs.List.{list_all};
 ghost use Rattle.toml.specs.View.{table_view, view};
-ghost use Rattle.community_core.specs.Reading.{AreRows};
+ghost use Rattle.policy_text.specs.Reading.{AreRows};
 ghost use Rattle.configuration.specs.Ports.{speed_at, port_config_of, port_keys, IsPort, IsPortRow, port_says, IsFirstNoPort, is_table, port_rows, ArePorts, IsPortsFault};
 ghost use Rattle.configuration.specs.declared.configuration.Port.{Port};
 
@@ -11,7 +11,7 @@ use crate::fault::ConfigurationFault;
 use crate::numbers::number_at;
 use crate::sockets::optional_socket_at;
 use arrayvec::ArrayVec;
-use community_core::keys::{array_at, bool_at, key_count, value_at};
+use policy_text::keys::{array_at, bool_at, key_count, value_at};
 use rstp_rules::config::{IFINDEX_MAX, IfIndex, PortConfig};
 use rstp_settings::settings::MAX_PORTS;
 use toml::{Table, Value};

@@ -2,7 +2,7 @@
 ghost use Rattle.std.specs.Prelude.{◌≡◌, ◌≢◌, ◌⊎◌, ◌↔◌, IfOk, IfErr};
 ghost use Rattle.toml.specs.Errors.{IsMemory};
 ghost use Rattle.toml.specs.View.{table_view};
-ghost use Rattle.community_core.specs.Policies.{IsPolicy};
+ghost use Rattle.policy_text.specs.Policies.{IsPolicy};
 ghost use Rattle.configuration.specs.Configurations.{without, policy_members, IsRestFault, IsConfiguration, IsFault, IsConfigurationText, IsTextFault, IsConfigurationIn, IsFaultIn};
 
 use crate::address::address_of;
@@ -10,7 +10,8 @@ use crate::configuration::Configuration;
 use crate::fault::ConfigurationFault;
 use crate::ports::ports_of;
 use crate::serve::serve_of;
-use community_core::{Policy, has_policy_keys, policy_of, text_of};
+use community_core::Policy;
+use policy_text::{has_policy_keys, policy_of, text_of};
 use std::alloc::Global;
 use toml::Table;
 

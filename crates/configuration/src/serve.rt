@@ -8,7 +8,7 @@ use crate::configuration::{ROUNDS_MAX, Serve, WORKERS_MAX};
 use crate::fault::ConfigurationFault;
 use crate::numbers::number_at;
 use crate::sockets::socket_at;
-use community_core::keys::{key_count, value_at};
+use policy_text::keys::{key_count, value_at};
 use toml::{Table, Value};
 
 // How a table says to serve, if it says so.

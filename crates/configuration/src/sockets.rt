@@ -5,7 +5,7 @@ ghost use Rattle.toml.specs.Data.{get_member};
 ghost use Rattle.toml.specs.View.{table_view, view};
 ghost use Rattle.configuration.specs.Sockets.{IsSocket, IsRequired, IsOptional};
 
-use community_core::keys::value_at;
+use policy_text::keys::value_at;
 use std::net::SocketAddr;
 use toml::{Table, Value};
 

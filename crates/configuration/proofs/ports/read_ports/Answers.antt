@@ -1,6 +1,6 @@
 use Rattle.std.proofs.Common.{refl, arith}
 use Rattle.toml.specs.View.{view}
-use Rattle.community_core.proofs.RowLemmas.{rows_step}
+use Rattle.policy_text.proofs.RowLemmas.{rows_step}
 use Rattle.configuration.specs.Ports.{port_says}
 use Rattle.configuration.proofs.PortLemmas.{value_here}
 use Rattle.configuration.proofs.ports.read_ports.Goals as goal

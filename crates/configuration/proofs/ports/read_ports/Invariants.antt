@@ -1,6 +1,6 @@
 use Rattle.std.proofs.Common.{◌≡◌, length, map, take}
 use Rattle.toml.specs.View.{view}
-use Rattle.community_core.specs.Reading.{AreRows}
+use Rattle.policy_text.specs.Reading.{AreRows}
 use Rattle.configuration.specs.Ports.{port_says}
 use Rattle.configuration.proofs.ports.read_ports.Given as goal
 

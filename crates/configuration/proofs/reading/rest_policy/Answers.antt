@@ -1,7 +1,7 @@
 use Rattle.std.proofs.Common.{sym, ◌∙◌}
 use Rattle.std.proofs.lemmas.Result.{err_from_is_err_and}
 use Rattle.toml.specs.View.{table_view}
-use Rattle.community_core.specs.Policies.{arrays_of}
+use Rattle.policy_text.specs.Policies.{arrays_of}
 use Rattle.configuration.specs.Configurations.{HasKeys}
 use Rattle.configuration.proofs.PolicyFaults.{there, values_fault}
 use Rattle.configuration.proofs.reading.rest_policy.Goals as goal

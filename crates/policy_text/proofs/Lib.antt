@@ -1,0 +1,4 @@
+pub mod KeyLemmas
+pub mod RowLemmas
+pub mod SaidLemmas
+pub mod Utf8

@@ -1,0 +1,8 @@
+use Rattle.std.proofs.Common.{map, take}
+use Rattle.toml.specs.View.{view}
+use Rattle.policy_text.specs.Reading.{AreRows}
+use Rattle.policy_text.proofs.rows.read_rows.Given as goal
+
+-- the rows that the values so far say
+abbrev pub invariant-loop-n : goal.invariant-loop-n
+invariant-loop-n g l = AreRows g.T.Read.says (take l.n (map view l.values.items)) l.rows.items

@@ -1,0 +1,5 @@
+pub mod Keys
+pub mod Reading
+pub mod Policies
+pub mod Said
+pub mod Texts

@@ -1,0 +1,20 @@
+-- The policy that octets are.
+use Rattle.std.specs.Prelude.{ℕ, if◌then◌else◌, List, Option, Some, None}
+use Rattle.std.specs.Str.{is_utf8}
+use Rattle.toml.specs.Data.{Members}
+use Rattle.toml.specs.Parse.{parse_document}
+use Rattle.community_core.specs.Communities.{PolicyTables}
+use Rattle.policy_text.specs.Reading.{◌>=>◌}
+use Rattle.policy_text.specs.Said.{policy_said}
+
+-- the text that octets are: themselves, where they are UTF-8 (RFC 3629, section 3)
+abbrev pub text_of : List ℕ → Option (List ℕ)
+text_of octets = if is_utf8 octets then Some octets else None
+
+-- the TOML document that octets are
+abbrev pub document_in : List ℕ → Option Members
+document_in octets = text_of octets >=> parse_document
+
+-- UTF-8 and a TOML document, which says a policy
+unfoldable pub policy_in : List ℕ → Option PolicyTables
+policy_in octets = document_in octets >=> policy_said

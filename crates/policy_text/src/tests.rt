@@ -1,0 +1,158 @@
+use super::*;
+use community_core::Policy;
+use oid_core::Oid;
+use std::alloc::Global;
+use std::test::Fail;
+use vacm_core::{FamilyAnswer, Name, PolicyFault, PolicyTable};
+
+const BUILT_IN: &str = "
+contexts = []
+[[community]]
+index = \"a\"
+name = \"admin\"
+security = \"admin\"
+context = \"\"
+[[community]]
+index = \"p\"
+name = \"public\"
+security = \"public\"
+context = \"\"
+[[group]]
+model = 2
+name = \"public\"
+group = \"readers\"
+[[access]]
+group = \"readers\"
+prefix = \"\"
+model = 2
+level = 1
+exact = true
+read = \"bridge\"
+write = \"\"
+notify = \"\"
+[[family]]
+view = \"bridge\"
+subtree = \"1.3.6.1.2.1.17\"
+mask = \"\"
+included = true
+";
+
+fn policy_from(alloc: Global, text: &str) -> Result<Policy, Fail> {
+    let table = toml::table_from_str(alloc, text)?;
+    Ok(policy_of(alloc, &table)?)
+}
+
+fn fault_of(alloc: Global, text: &str) -> Result<Option<PolicyFault>, Fail> {
+    let table = toml::table_from_str(alloc, text)?;
+    Ok(policy_of(alloc, &table).err())
+}
+
+#[test]
+fn the_policy_knows_its_communities(rt: HostRuntime) -> Result<(), Fail> {
+    let policy = policy_from(rt.alloc(), BUILT_IN)?;
+    let caller = policy.caller(b"public").ok_or("public")?;
+    assert_eq!(rt; caller.security.as_str(), "public");
+    assert!(rt; policy.caller(b"publik").is_none());
+    Ok(())
+}
+
+#[test]
+fn unknown_keys_are_refused(rt: HostRuntime) -> Result<(), Fail> {
+    let text = "contexts = []\ncommunity = []\ngroup = []\naccess = []\nfamily = []\nserve = 1\n";
+    let fault = fault_of(rt.alloc(), text)?;
+    assert_eq!(rt;
+        fault,
+        Some(PolicyFault::BadField(PolicyTable::Contexts, 0))
+    );
+    Ok(())
+}
+
+#[test]
+fn rows_are_looked_at_in_order(rt: HostRuntime) -> Result<(), Fail> {
+    let text = "contexts = []\ncommunity = []\naccess = []\nfamily = []\n
+[[group]]\nmodel = 2\nname = \"a b\"\ngroup = \"g\"\n
+[[group]]\nmodel = 2\nname = \"name-of-33-octets-and-not-of-32-.\"\ngroup = \"g\"\n";
+    let fault = fault_of(rt.alloc(), text)?;
+    assert_eq!(rt; fault, Some(PolicyFault::BadField(PolicyTable::Groups, 0)));
+    Ok(())
+}
+
+#[test]
+fn values_are_looked_at_before_rows(rt: HostRuntime) -> Result<(), Fail> {
+    let text = "contexts = []\naccess = []\nfamily = []\ncommunity = [1]\n
+[[group]]\nmodel = 2\nname = \"name-of-33-octets-and-not-of-32-.\"\ngroup = \"g\"\n";
+    let fault = fault_of(rt.alloc(), text)?;
+    assert_eq!(rt;
+        fault,
+        Some(PolicyFault::BadField(PolicyTable::Communities, 0))
+    );
+    Ok(())
+}
+
+#[test]
+fn the_first_index_decides(rt: HostRuntime) -> Result<(), Fail> {
+    let text = "contexts = []\naccess = []\nfamily = []\ngroup = []\n
+[[community]]\nindex = \"ab\"\nname = \"c\"\nsecurity = \"two\"\ncontext = \"\"\n
+[[community]]\nindex = \"a\"\nname = \"c\"\nsecurity = \"one\"\ncontext = \"\"\n";
+    let policy = policy_from(rt.alloc(), text)?;
+    let caller = policy.caller(b"c").ok_or("c")?;
+    assert_eq!(rt; caller.security.as_str(), "one");
+    Ok(())
+}
+
+// A policy whose view `v` has what is below 1.3 but not below a subtree of so many sub-identifiers, and that subtree.
+fn policy_without(alloc: Global, count: usize) -> Result<(Policy, Oid), Fail> {
+    let mut subtree = String::from_str(alloc, "1.3")?;
+    for _ in 2..count {
+        subtree.push_str(".1")?;
+    }
+    let text = format!(in alloc;
+        "contexts = []\ncommunity = []\ngroup = []\naccess = []\n
+[[family]]\nview = \"v\"\nsubtree = \"1.3\"\nmask = \"\"\nincluded = true\n
+[[family]]\nview = \"v\"\nsubtree = \"{subtree}\"\nmask = \"\"\nincluded = false\n"
+    )?;
+    Ok((
+        policy_from(alloc, text.as_str())?,
+        Oid::parse(alloc, subtree.as_str())?,
+    ))
+}
+
+#[test]
+fn long_subtrees_are_read(rt: HostRuntime) -> Result<(), Fail> {
+    let view = Name::from_str("v").ok_or("a view")?;
+    for count in [25, 113] {
+        let (policy, subtree) = policy_without(rt.alloc(), count)?;
+        assert_eq!(rt;
+            policy.vacm().in_view(&view, &subtree),
+            FamilyAnswer::Excluded(1)
+        );
+    }
+    Ok(())
+}
+
+#[test]
+fn a_community_name_is_any_text(rt: HostRuntime) -> Result<(), Fail> {
+    let text = "contexts = []\naccess = []\nfamily = []\ngroup = []\n
+[[community]]\nindex = \"a\"\nname = \"é €\"\nsecurity = \"one\"\ncontext = \"\"\n";
+    let policy = policy_in(rt.alloc(), text.as_bytes())?.ok_or("a policy")?;
+    let caller = policy.caller(b"\xC3\xA9 \xE2\x82\xAC").ok_or("a caller")?;
+    assert_eq!(rt; caller.security.as_str(), "one");
+    Ok(())
+}
+
+#[test]
+fn octets_that_are_no_text_are_no_policy(rt: HostRuntime) -> Result<(), Fail> {
+    let tables = "contexts = []\ncommunity = []\ngroup = []\naccess = []\nfamily = []\n# ";
+    for end in [
+        b"\xC3".as_slice(),
+        b"\xC0\x80",
+        b"\xED\xA0\x80",
+        b"\xF4\x90\x80\x80",
+    ] {
+        let mut octets = Vec::from_slice(rt.alloc(), tables.as_bytes())?;
+        assert!(rt; policy_in(rt.alloc(), octets.as_slice())?.is_some());
+        octets.extend_from_slice(end)?;
+        assert!(rt; policy_in(rt.alloc(), octets.as_slice())?.is_none());
+    }
+    Ok(())
+}
