@@ -4,10 +4,9 @@ ghost use Rattle.toml.specs.View.{table_view, view};
 ghost use Rattle.policy_text.specs.Policies.{arrays, arrays_of, AreRowsOf, IsUnreadOf, SaysRows, IsUnread, IsPolicyFault, policy_tables, ArePolicyRowsRight, IsPolicy, IsWrongPolicy};
 ghost use Rattle.policy_text.specs.Said.{policy_said};
 
-use community_core::WrittenCommunity;
 use crate::keys::{array_at, key_count};
-use community_core::Policy;
 use crate::rows::read_rows;
+use community_core::{Policy, WrittenCommunity};
 use std::alloc::Global;
 use toml::{Table, Value};
 use vacm_core::{PolicyFault, PolicyTable, Rows, Vacm, VacmRows};

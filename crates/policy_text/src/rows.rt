@@ -5,8 +5,8 @@ ghost use Rattle.toml.specs.Data.{Data};
 ghost use Rattle.toml.specs.View.{view, table_view};
 ghost use Rattle.policy_text.specs.Reading.{IsFirstUnread, AreRows, context_says, group_says, group_of, group_members, access_says, access_of, access_members, family_says, family_members, parts_say, texts_say, mask_of, subtree_says, community_says, community_of, community_members};
 
-use community_core::WrittenCommunity;
 use crate::keys::{bool_at, integer_at, key_count, string_at};
+use community_core::WrittenCommunity;
 use hex::FromHexError;
 use oid_core::{Oid, OidFault};
 use std::alloc::{AllocError, Global};
