@@ -3,7 +3,7 @@ ghost use Rattle.std.specs.Prelude.{◌≡◌, ◌<◌, Some, IfOk, OnErr, lengt
 ghost use Rattle.audit_core.specs.Keys.{family_key};
 ghost use Rattle.audit_core.specs.Text.{family_text};
 
-use oid_core::Oid;
+use oid_core::{INLINE_NUMBERS, Oid};
 use std::alloc::{AllocError, Global};
 use std::fmt;
 use vacm_core::{FamilyRow, Name};
@@ -18,11 +18,11 @@ pub struct FamilyKey {
 }
 
 impl FamilyKey {
-    /// The key of a row. There can be no memory for it only where the subtree has more than 24
-    /// sub-identifiers.
+    /// The key of a row. There can be no memory for it only where the subtree has more than
+    /// [`INLINE_NUMBERS`] sub-identifiers.
     pub fn of(alloc: Global, row: &FamilyRow) -> Result<FamilyKey, AllocError>
         ensures key { IfOk result (λ key. key ≡ family_key row.now) }
-        ensures inline { OnErr result (24 < length row.now.subtree) }
+        ensures inline { OnErr result (INLINE_NUMBERS < length row.now.subtree) }
     {
         let subtree = row.subtree.try_copy(alloc)?;
         let view = row.view.copy();

@@ -11,7 +11,7 @@
 //! None.
 //!
 //! # Not claimed
-//! That a writer takes the line.
+//! That a writer takes the line, and what one holds to which [`audit_line`] could not write all of it.
 #![tactic(auto)]
 
 mod audit;

@@ -9,7 +9,7 @@
 //! `specs/Keys.antt`: the key of an access row.
 //!
 //! # Laws
-//! None.
+//! In [`laws`]: the longest name of a community in a policy is the longest community of a request that is answered.
 //!
 //! # Not claimed
 //! What is visible: the names are looked at one by one, by `agent_core`.
@@ -18,6 +18,7 @@
 mod choice;
 mod deciding;
 mod keys;
+pub mod laws;
 
 pub use choice::{Cause, Decision, Refusal};
 pub use deciding::decide;

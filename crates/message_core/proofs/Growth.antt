@@ -2,7 +2,7 @@
 use Rattle.std.proofs.Common.{◌≡◌, ◌≢◌, ℕ, ℤ, eqb, cond, List, [], ◌∷◌, ◌++◌, Ok, Err, refl, sym, ap, subst, ◌∙◌, append_assoc, inl, inr}
 use Rattle.std.proofs.lemmas.Bool.{eqb-true}
 use Rattle.std.proofs.lemmas.List.{append-nil}
-use Rattle.ber_core.specs.Spelling.{BeginsTlv}
+use Rattle.ber_core.specs.Spelling.{AreOctets, BeginsTlv}
 use Rattle.oid_core.specs.declared.fault.OidFault.{OidFault}
 use Rattle.oid_core.specs.declared.fault.OidFault.TheVariants as names
 use Rattle.message_core.specs.Tags as tags
@@ -11,7 +11,7 @@ use Rattle.message_core.specs.declared.cause.DropCause.TheVariants.{Malformed, M
 use Rattle.message_core.specs.declared.request.Kind.{Kind}
 use Rattle.message_core.specs.declared.binding.Binding.{Binding}
 use Rattle.oid_core.specs.Name.{BeginsLong}
-use Rattle.message_core.specs.Message.{AreOctets, IsBinding, AreBindings, IsLongValue, HasLongName, HasLongValue, HasLongBinding, HasGrowth, HasGrowingList, IsCause}
+use Rattle.message_core.specs.Message.{IsBinding, AreBindings, IsLongValue, HasLongName, HasLongValue, HasLongBinding, HasGrowth, HasGrowingList, IsCause}
 use Rattle.message_core.specs.FirstFault.{any_at, content_at, integer_at, nametlv_at, binding_at, kind_of, head_at}
 use Rattle.message_core.proofs.Readers.{bind_ok, test_ok, ok_is, content_fits, any_found, content_reads, integer_reads, nametlv_reads, binding_reads}
 use Rattle.message_core.proofs.Requests.{Parts, kind_is, head_found}

@@ -50,8 +50,12 @@ IsInstanceValue NoSuchObject = ⊥
 IsInstanceValue NoSuchInstance = ⊥
 IsInstanceValue EndOfMibView = ⊥
 
+-- no value is an exception
+abbrev pub AreValued : List Binding → Type 0
+AreValued rows = AllByRecursion (λ row. IsInstanceValue row.value) rows
+
 -- instances that can be served: their names rise, each can be spelled in a message, and none has an exception for its value
 pub record IsServable (rows : List Binding) : Type 0 where
   pub rising : IsRising rows
   pub spellable : AreSpellable rows
-  pub valued : AllByRecursion (λ row. IsInstanceValue row.value) rows
+  pub valued : AreValued rows

@@ -89,12 +89,27 @@ fn refuses_slices(rt: HostRuntime) {
     );
 }
 
+/// Whether the name of these numbers, and its copy, have these numbers.
+fn is_made_and_copied(alloc: std::alloc::Global, numbers: &[u32]) -> Result<bool, Fail> {
+    let name = Oid::from_slice(alloc, numbers)?;
+    let copy = name.try_copy(alloc)?;
+    Ok(name.as_slice() == numbers && copy.as_slice() == numbers)
+}
+
 #[test]
-fn copies_a_long_name(rt: HostRuntime) -> Result<(), Fail> {
-    let name = Oid::from_slice(rt.alloc(), &[7; 40])?;
-    let copy = name.try_copy(rt.alloc())?;
-    assert!(rt; copy == name);
-    assert_eq!(rt; copy.as_slice(), [7; 40].as_slice());
+fn makes_and_copies_25_numbers(rt: HostRuntime) -> Result<(), Fail> {
+    let mut numbers = [1; 25];
+    numbers[24] = 4294967295;
+    assert!(rt; is_made_and_copied(rt.alloc(), &numbers)?);
+    Ok(())
+}
+
+#[test]
+fn makes_and_copies_128_numbers(rt: HostRuntime) -> Result<(), Fail> {
+    let mut numbers = [1; 128];
+    numbers[24] = 7;
+    numbers[127] = 4294967295;
+    assert!(rt; is_made_and_copied(rt.alloc(), &numbers)?);
     Ok(())
 }
 

@@ -1,7 +1,8 @@
-use Rattle.std.proofs.Common.{◌++◌, ◌∙◌, ◌+◌, ◌%◌, ◌/◌, sym, append_assoc, map, List, ℕ, [], ◌∷◌, ap, arith, rules}
+use Rattle.std.proofs.Common.{◌++◌, ◌∙◌, ◌+◌, ◌%◌, ◌/◌, sym, append_assoc, map, List, ℕ, [], ◌∷◌, ap, arith, rules, Ok}
 use Rattle.std.proofs.lemmas.Result.{err_from_is_err_and}
 use Rattle.std.specs.Int.Digits.{digits_of}
 use Rattle.ber_core.specs.Writing.{written, capacity}
+use Rattle.ber_core.proofs.Puts.{front_then}
 use Rattle.oid_core.specs.Name.{canon_coded}
 use Rattle.oid_core.proofs.Written.{digit_written, digit_full, extends_more, extends_same}
 use Rattle.oid_core.proofs.writing.put_coded.Goals as goal
@@ -19,6 +20,7 @@ loop-left-preserved c =
     record {
       all = digit_written (canon_coded c.args.number ++ written c.args.out.now) (written c.loop-left.out) (written c.put_octets-in-loop-left.new.self) c.loop-left.left (omega arith) c.loop-left.invariant.all h.0;
       room = h.1 ∙ c.loop-left.invariant.room;
+      front = front_then c.args.out.now c.loop-left.out c.put_octets-in-loop-left.new.self (Ok _) ((128 + c.loop-left.left % 128) ∷ []) h c.loop-left.invariant.front c.in_ok-put_octets-2.ensures.front;
       behind = extends_more (written c.args.out.now) (written c.loop-left.out) (written c.put_octets-in-loop-left.new.self) ((128 + c.loop-left.left % 128) ∷ []) c.loop-left.invariant.behind h.0;
       same = c.in_ok-put_octets-2.ensures.same_reference ∙ c.loop-left.invariant.same;
     }
@@ -34,6 +36,7 @@ loop-left-init c =
     record {
       all = append_assoc high (c.args.number % 128 ∷ []) (written c.args.out.now) ∙ ap (λ (t : List ℕ). high ++ t) (sym c.in_ok-put_octets.ensures.puts.0);
       room = search rules;
+      front = c.in_ok-put_octets.ensures.front;
       behind = record { more = c.args.number % 128 ∷ []; parts = c.in_ok-put_octets.ensures.puts.0 };
       same = search rules;
     }

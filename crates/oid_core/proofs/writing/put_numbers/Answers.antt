@@ -1,8 +1,9 @@
-use Rattle.std.proofs.Common.{◌≡◌, List, ℕ, ◌-◌, ◌++◌, ◌∙◌, sym, append_assoc, refl, ap, [], take, length, get_or, arith}
+use Rattle.std.proofs.Common.{◌≡◌, List, ℕ, ◌-◌, ◌++◌, ◌∙◌, sym, append_assoc, refl, ap, [], take, length, get_or, arith, Ok}
 use Rattle.std.specs.List.{flat_map}
 use Rattle.std.proofs.lemmas.Result.{err_from_is_err_and}
 use Rattle.std.proofs.lemmas.List.{take_all}
 use Rattle.ber_core.specs.Writing.{written, capacity}
+use Rattle.ber_core.proofs.Puts.{front_then}
 use Rattle.oid_core.specs.Name.{packed, canon_coded, canon_name}
 use Rattle.oid_core.proofs.Written.{root_len, last_number, no_room, extends_then}
 use Rattle.oid_core.proofs.writing.put_numbers.Goals as goal
@@ -12,6 +13,7 @@ unfolding canon_name
 loop-i-init c = record {
   all = rw (take_all (length c.args.name.now) c.args.name.now (omega arith)) refl;
   room = refl;
+  front = refl;
   behind = record { more = []; parts = refl };
   same = refl;
   low = root_len c.args.name.now c.requires;
@@ -29,6 +31,10 @@ returns-in_err-put_coded-clause-puts c =
 pub returns-in_err-put_coded-clause-behind : goal.returns-in_err-put_coded-clause-behind
 returns-in_err-put_coded-clause-behind c = extends_then _ _ _ c.loop-i.invariant.behind c.in_err-put_coded.ensures.behind
 
+pub returns-clause-front : goal.returns-clause-front
+returns-clause-front c =
+    front_then c.args.out.now c.loop-i.out c.put_coded-2.new.out c.put_coded-2.result _ c.put_coded-2.ensures.puts c.loop-i.invariant.front c.put_coded-2.ensures.front
+
 pub returns-clause-behind : goal.returns-clause-behind
 returns-clause-behind c = extends_then _ _ _ c.loop-i.invariant.behind c.put_coded-2.ensures.behind
 
@@ -44,6 +50,7 @@ loop-i-preserved c =
       all = c.loop-i.invariant.all ∙ ap (λ (t : List ℕ). t ++ written c.loop-i.out) (last_number name i (omega arith) c.loop-i.invariant.high)
           ∙ append_assoc before number (written c.loop-i.out) ∙ ap (λ (t : List ℕ). before ++ t) (sym put);
       room = h.1 ∙ c.loop-i.invariant.room;
+      front = front_then c.args.out.now c.loop-i.out c.put_coded.new.out (Ok _) (canon_coded c.from.result) h c.loop-i.invariant.front c.in_ok-put_coded.ensures.front;
       behind = extends_then _ _ _ c.loop-i.invariant.behind c.in_ok-put_coded.ensures.behind;
       same = c.in_ok-put_coded.ensures.same_reference ∙ c.loop-i.invariant.same;
       low = omega arith;
