@@ -2,6 +2,7 @@
 use Rattle.std.specs.Prelude.{◌≡◌, ◌≢◌, ℕ, ◌≤◌, pos, ◌+◌, ◌%◌, ◌^◌, [], List, length, Option, Some, None, Result, Ok, Err}
 use Rattle.std.specs.declared.alloc.AllocError.{AllocError}
 use Rattle.message_core.specs.Canon.{canon_reply, answer_to}
+use Rattle.message_core.specs.declared.limits.TheConstants.{MAX_COMMUNITY}
 use Rattle.message_core.specs.declared.reply.Reply.{Reply}
 use Rattle.message_core.specs.declared.request.Kind.TheVariants.{Set}
 use Rattle.message_core.specs.declared.request.Request.{Request}
@@ -134,7 +135,7 @@ pub record IsShort (before : World) (request : Request) (buffer : Buffered) (lat
   pub empty : buffer.reply ≡ []
   pub unchanged : later ≡ before
   pub kept : TakesMemory (shown_of before) request
-  pub community : length request.community ≤ 255
+  pub community : length request.community ≤ MAX_COMMUNITY
 
 -- a step, as far as there is memory for it
 abbrev pub IsStep : World → Request → Result Answered AllocError → Buffered → World → Type 0

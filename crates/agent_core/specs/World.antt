@@ -1,13 +1,7 @@
 -- What requests are answered from, and what a plain world holds.
 use Rattle.std.specs.Prelude.{ℕ, List}
-use Rattle.std.specs.List.{AllByRecursion}
-use Rattle.message_core.specs.Instances.{IsInstanceValue}
 use Rattle.message_core.specs.declared.binding.Binding.{Binding}
 use Rattle.community_core.specs.Communities.{PolicyTables}
-
--- no value is an exception
-abbrev pub AreValued : List Binding → Type 0
-AreValued rows = AllByRecursion (λ row. IsInstanceValue row.value) rows
 
 -- what is shown: the names of the objects, the instances by rising name, and who may see which of them
 pub record Shown : Type 0 where

@@ -1,6 +1,7 @@
 ghost use Rattle.std.specs.Prelude.{◌≡◌, ◌≢◌, ◌≤◌, ◌<◌, length, IfOk, OnErr};
 ghost use Rattle.message_core.specs.Canon.{canon_reply};
 ghost use Rattle.message_core.specs.Spellable.{AreSpellable};
+ghost use Rattle.message_core.specs.declared.limits.TheConstants.{MAX_COMMUNITY};
 ghost use Rattle.vacm_core.specs.Families.{in_view};
 ghost use Rattle.agent_core.specs.Replies.{kind_reply, failed, get_reply, next_reply, bulk_reply};
 ghost use Rattle.agent_core.specs.Answers.{IsSent, IsStep, drop_audit};
@@ -106,10 +107,10 @@ fn reply_with(
 }
 
 /// Writes the reply to a request that found no memory: genErr, index 0, its own bindings, or tooBig where that is too long.
-/// It takes no memory, and answers how many octets the reply has. The community has at most 255 octets, and the names and OBJECT
-/// IDENTIFIER values have a spelling: `answer` fails for no other request.
+/// It takes no memory, and answers how many octets the reply has. The community has at most `MAX_COMMUNITY`, 255,
+/// octets, and the names and OBJECT IDENTIFIER values have a spelling: `answer` fails for no other request.
 pub fn short_reply(request: &Request, buffer: &mut Buffer) -> usize
-    requires community { length request.now.community ≤ 255 }
+    requires community { length request.now.community ≤ MAX_COMMUNITY }
     requires spellable { AreSpellable request.now.bindings }
     ensures reply { buffer.new.reply ≡ canon_reply (failed request.now) }
     ensures len { result ≡ length buffer.new.reply }
@@ -127,7 +128,7 @@ fn send_allowed(
     request: &Request,
     buffer: &mut Buffer,
 ) -> Result<SentReply, AllocError>
-    requires community { length request.now.community ≤ 255 }
+    requires community { length request.now.community ≤ MAX_COMMUNITY }
     requires spellable { AreSpellable request.now.bindings }
     ensures sent { IfOk result (λ sent. IsSent (kind_reply world.now.objects (in_view world.now.policy.vacm.families view.now) world.now.instances request.now request.now.kind) sent buffer.new) }
     ensures err { OnErr result (buffer.new ≡ buffer.old) }
@@ -147,7 +148,7 @@ fn send_kind<S: Source, V: View>(
     request: &Request,
     buffer: &mut Buffer,
 ) -> Result<SentReply, AllocError>
-    requires community { length request.now.community ≤ 255 }
+    requires community { length request.now.community ≤ MAX_COMMUNITY }
     requires spellable { AreSpellable request.now.bindings }
     ensures sent { IfOk result (λ sent. IsSent (kind_reply (S.objects source.now) (V.shows view.now) (S.instances source.now) request.now request.now.kind) sent buffer.new) }
     ensures err { OnErr result (buffer.new ≡ buffer.old) }
@@ -173,7 +174,7 @@ fn send_get<S: Source, V: View>(
     request: &Request,
     buffer: &mut Buffer,
 ) -> Result<SentReply, AllocError>
-    requires community { length request.now.community ≤ 255 }
+    requires community { length request.now.community ≤ MAX_COMMUNITY }
     requires spellable { AreSpellable request.now.bindings }
     ensures sent { IfOk result (λ sent. IsSent (get_reply (S.objects source.now) (V.shows view.now) (S.instances source.now) request.now) sent buffer.new) }
     ensures err { OnErr result (buffer.new ≡ buffer.old) }
@@ -192,7 +193,7 @@ fn send_get_next<S: Source, V: View, L: Ledger>(
     buffer: &mut Buffer,
     blank: Blank,
 ) -> Result<SentReply, AllocError>
-    requires community { length request.now.community ≤ 255 }
+    requires community { length request.now.community ≤ MAX_COMMUNITY }
     requires spellable { AreSpellable request.now.bindings }
     requires name { blank.name ≡ L.name }
     requires parts { blank.parts ≡ L.parts }
@@ -215,7 +216,7 @@ fn send_get_bulk<S: Source, V: View, L: Ledger>(
     buffer: &mut Buffer,
     blank: Blank,
 ) -> Result<SentReply, AllocError>
-    requires community { length request.now.community ≤ 255 }
+    requires community { length request.now.community ≤ MAX_COMMUNITY }
     requires spellable { AreSpellable request.now.bindings }
     requires name { blank.name ≡ L.name }
     requires parts { blank.parts ≡ L.parts }

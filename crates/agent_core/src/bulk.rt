@@ -2,10 +2,11 @@ ghost use Rattle.std.specs.Prelude.{◌≡◌, ◌≤◌, ◌+◌, ◌*◌, ◌+
 ghost use Rattle.std.specs.List.{AllByRecursion};
 ghost use Rattle.oid_core.specs.Name.{HasRoot};
 ghost use Rattle.message_core.specs.Spellable.{AreSpellable};
+ghost use Rattle.message_core.specs.declared.limits.TheConstants.{MAX_COMMUNITY};
 ghost use Rattle.message_core.specs.Instances.{names_of};
 ghost use Rattle.agent_core.specs.Reading.{visible, next_answer, next_answers};
 ghost use Rattle.agent_core.specs.Bulk.{all_end, repetitions, bulk_list, count_of, asked_list};
-ghost use Rattle.agent_core.specs.Fitting.{fitting, fit_into, IsFilled};
+ghost use Rattle.agent_core.specs.Fitting.{fitting, fit_into, most_successors, IsFilled};
 ghost use Rattle.message_core.specs.declared.binding.Binding.{Binding};
 
 use crate::nexts::get_next;
@@ -165,10 +166,10 @@ fn max_repetitions(request: &Request) -> u32
     count_of(request.second)
 }
 
-/// What GetBulk answers (RFC 3416, 4.2.3): the longest front of the list that it asks for whose reply has at most 1,472 octets.
+/// What GetBulk answers (RFC 3416, 4.2.3): the longest front of the list that it asks for whose reply has at most `MAX_REPLY`, 1,472, octets.
 ///
 /// It takes a step for each successor in the view that it looks for: one for each binding that is sent, and one more, whatever
-/// max-repetitions says. A binding has 6 octets or more, so those are at most 246, also where memory fails. Instances outside the
+/// max-repetitions says. Those are at most `most_successors`, 246, also where memory fails. Instances outside the
 /// view that are passed over do not count. Only memory can fail.
 pub fn get_bulk<S: Source, V: View, L: Ledger>(
     alloc: Global,
@@ -177,12 +178,12 @@ pub fn get_bulk<S: Source, V: View, L: Ledger>(
     request: &Request,
     steps: &mut Steps<L>,
 ) -> Result<Bindings, AllocError>
-    requires community { length request.now.community ≤ 255 }
+    requires community { length request.now.community ≤ MAX_COMMUNITY }
     requires spellable { AreSpellable request.now.bindings }
     ensures answer { IfOk result (λ sent. sent ≡ fitting request.now (asked_list (visible (V.shows view.now) (S.instances source.now)) request.now)) }
     ensures spellable { IfOk result (λ sent. AreSpellable sent) }
     ensures work { IfOk result (λ sent. steps.new ≤ steps.old + length sent + 1) }
-    ensures most_work { steps.new ≤ steps.old + 246 }
+    ensures most_work { steps.new ≤ steps.old + most_successors }
 {
     let asked = request.bindings.as_slice();
     let once = non_repeaters(request);

@@ -3,7 +3,7 @@ ghost use Rattle.oid_core.specs.Order.{name_lt};
 ghost use Rattle.std.specs.Option.{option_copied};
 ghost use Rattle.message_core.specs.Spellable.{AreSpellable};
 ghost use Rattle.message_core.specs.Instances.{IsInstanceValue};
-ghost use Rattle.agent_core.specs.World.{AreValued};
+ghost use Rattle.std.specs.List.{AllByRecursion};
 ghost use Rattle.agent_core.specs.Reading.{object_of};
 ghost use Rattle.message_core.specs.Instances.{IsRising, next_of, value_of};
 ghost use Rattle.agent_core.specs.Answers.{counted};
@@ -75,7 +75,7 @@ impl PlainWorld {
         }) }
         ensures unsorted { IsErrOf result WorldFault.Unsorted ↔ ¬ IsRising instances.items }
         ensures unspellable { IsErrOf result WorldFault.Unspellable ↔ (IsRising instances.items × ¬ AreSpellable instances.items) }
-        ensures exceptional { IsErrOf result WorldFault.Exceptional ↔ (IsRising instances.items × AreSpellable instances.items × ¬ AreValued instances.items) }
+        ensures exceptional { IsErrOf result WorldFault.Exceptional ↔ (IsRising instances.items × AreSpellable instances.items × ¬ AllByRecursion (λ row. IsInstanceValue row.value) instances.items) }
     {
         if !rises(instances.as_slice()) {
             return Err(WorldFault::Unsorted);
@@ -174,7 +174,7 @@ fn are_spellable(rows: &[Binding]) -> bool
 
 // Whether no value is an exception.
 fn are_valued(rows: &[Binding]) -> bool
-    ensures { IsTrue result ↔ AreValued rows.now }
+    ensures { IsTrue result ↔ AllByRecursion (λ row. IsInstanceValue row.value) rows.now }
 {
     let Some((row, others)) = rows.split_first() else {
         return true;
