@@ -1,5 +1,6 @@
 -- The laws of replies.
 use Rattle.std.proofs.Common.{◌≡◌, ℕ, ℤ, pos, suc, ◌+◌, ◌*◌, ◌<◌, ◌≤◌, ◌∙◌, ap, sym, refl, Bool, true, false, cond, List, [], ◌∷◌, ◌++◌, length, append-nil, arith, IsTrue, All, Contains, Option, Some, None, MatchOption, length-append}
+use Rattle.std.proofs.Math.Nat.{mul-le-mul_right}
 use Rattle.std.proofs.lemmas.List.Concat.{flat_map-cons}
 use Rattle.std.proofs.lemmas.List.Elements.{All-head, All-tail}
 use Rattle.std.proofs.lemmas.List.Kept.{AllPairs-filter}
@@ -92,8 +93,10 @@ few_law request all community =
     let fits : reply_size request sent ≤ MAX_REPLY = (longest_law request all community).fits in
     omega (arith, fits, reply_some (answer_to request NoError (pos 0) sent), total_some sent)
 
--- a step for each binding that is sent, and one more
-pub work_within : (start now room : ℕ) (bs : List Binding) → total bs ≤ room → room ≤ MAX_REPLY → now ≤ start + length bs + 1 → now ≤ start + most_successors
-work_within start now room bs within most work =
+-- a successor for each binding that is sent, and one more, and so many looks for each
+pub work_within : (start now room u : ℕ) (bs : List Binding) → total bs ≤ room → room ≤ MAX_REPLY → now ≤ start + (length bs + 1) * u → now ≤ start + most_successors * u
+work_within start now room u bs within most work =
     let six : 6 * length bs ≤ total bs = total_some bs in
-    omega (arith, six, within, most, work)
+    let few : length bs + 1 ≤ most_successors = omega (arith, six, within, most) in
+    let looks : (length bs + 1) * u ≤ most_successors * u = mul-le-mul_right u few in
+    omega (arith, looks, work)

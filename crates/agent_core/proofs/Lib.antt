@@ -1,5 +1,6 @@
 pub mod Rising
 pub mod Rest
+pub mod Looks
 pub mod Below
 pub mod Sizes
 pub mod Spellings

@@ -155,7 +155,9 @@ fn send_kind<S: Source, V: View>(
     ensures takes { OnErr result (request.now.kind ≢ Kind.Set) }
 {
     match request.kind {
-        Kind::Get => send_get(alloc, source, view, request, buffer),
+        Kind::Get => {
+            send_get::<S, V, Brand>(alloc, source, view, request, buffer, Blank::new(1))
+        }
         Kind::GetNext => {
             send_get_next::<S, V, Brand>(alloc, source, view, request, buffer, Blank::new(1))
         }
@@ -166,21 +168,26 @@ fn send_kind<S: Source, V: View>(
     }
 }
 
-// Answers a Get.
-fn send_get<S: Source, V: View>(
+// Answers a Get, and counts nothing: the ledger is a new one.
+fn send_get<S: Source, V: View, L: Ledger>(
     alloc: Global,
     source: &S,
     view: &V,
     request: &Request,
     buffer: &mut Buffer,
+    blank: Blank,
 ) -> Result<SentReply, AllocError>
     requires community { length request.now.community ≤ MAX_COMMUNITY }
     requires spellable { AreSpellable request.now.bindings }
+    requires name { blank.name ≡ L.name }
+    requires parts { blank.parts ≡ L.parts }
+    requires some { 0 < blank.parts }
     ensures sent { IfOk result (λ sent. IsSent (get_reply (S.objects source.now) (V.shows view.now) (S.instances source.now) request.now) sent buffer.new) }
     ensures err { OnErr result (buffer.new ≡ buffer.old) }
 {
+    let mut steps: Steps<L> = Steps::new(blank);
     source.known();
-    let answers = get_all(alloc, source, view, request.bindings.as_slice())?;
+    let answers = get_all(alloc, source, view, request.bindings.as_slice(), &mut steps)?;
     Ok(buffer.put(request, ErrorStatus::NoError, answers.as_slice()))
 }
 

@@ -1,9 +1,11 @@
-ghost use Rattle.std.specs.Prelude.{◌≡◌, IfOk};
+ghost use Rattle.std.specs.Prelude.{◌≡◌, ◌+◌, IfOk};
 ghost use Rattle.std.specs.Option.{option_copied};
 
 use message_core::{Binding, Value};
 use oid_core::Oid;
 use std::alloc::{AllocError, Global};
+use std::sync::ledger::Ledger;
+use steps::Steps;
 
 /// A view of names (RFC 3415, 2.4): which of them may be read.
 pub trait View {
@@ -43,7 +45,13 @@ pub trait Source {
     fn get(&self, alloc: Global, name: &Oid) -> Result<Option<Value>, AllocError>
         ensures { IfOk result (λ found. found ≡ value_of (instances self.now) name.now) };
 
-    /// A copy of the first instance after a name, where there is one. Only memory can fail.
-    fn next(&self, alloc: Global, name: &Oid) -> Result<Option<Binding>, AllocError>
-        ensures { IfOk result (λ found. found ≡ next_of (instances self.now) name.now) };
+    /// A copy of the first instance after a name, where there is one. It is one step. Only memory can fail.
+    fn next<L: Ledger>(
+        &self,
+        alloc: Global,
+        name: &Oid,
+        steps: &mut Steps<L>,
+    ) -> Result<Option<Binding>, AllocError>
+        ensures found { IfOk result (λ found. found ≡ next_of (instances self.now) name.now) }
+        ensures work { steps.new ≡ steps.old + 1 };
 }

@@ -15,6 +15,8 @@ use message_core::{Binding, Value};
 use oid_core::{Oid, precedes, same_name};
 use std::alloc::{AllocError, Global};
 use std::marker::Model;
+use std::sync::ledger::Ledger;
+use steps::Steps;
 
 /// Why there is no plain world of some instances.
 #[derive(Clone, Copy, Debug, PartialEq, Eq)]
@@ -242,7 +244,13 @@ impl Source for PlainWorld {
         value_in(alloc, self.instances.as_slice(), name)
     }
 
-    fn next(&self, alloc: Global, name: &Oid) -> Result<Option<Binding>, AllocError> {
+    fn next<L: Ledger>(
+        &self,
+        alloc: Global,
+        name: &Oid,
+        steps: &mut Steps<L>,
+    ) -> Result<Option<Binding>, AllocError> {
+        steps.tick();
         next_in(alloc, self.instances.as_slice(), name)
     }
 }
