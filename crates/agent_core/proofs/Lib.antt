@@ -1,4 +1,5 @@
 pub mod Rising
+pub mod Apart
 pub mod Rest
 pub mod Looks
 pub mod Below

@@ -136,8 +136,7 @@ fn send_allowed(
 {
     let vacm = world.policy().vacm();
     let view = PolicyView { vacm, view };
-    let sent = send_kind(alloc, world, &view, request, buffer)?;
-    Ok(sent)
+    send_kind(alloc, world, &view, request, buffer)
 }
 
 // Answers a request by its kind.

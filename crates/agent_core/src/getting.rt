@@ -27,8 +27,7 @@ fn shown_value<S: Source, V: View>(
     if !view.has_name(name) {
         return Ok(None);
     }
-    let found = source.get(alloc, name)?;
-    Ok(found)
+    source.get(alloc, name)
 }
 
 // Whether the view shows an instance whose name begins so.

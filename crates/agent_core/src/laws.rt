@@ -1,5 +1,5 @@
 //! Laws of what a manager can see, over the definitions alone. Each stands on a function that does nothing.
-ghost use Rattle.std.specs.Prelude.{◌≡◌, ◌*◌, ◌≤◌, ℕ, suc, Bool, List, [], ◌∷◌, ◌++◌, length, All};
+ghost use Rattle.std.specs.Prelude.{◌≡◌, ◌*◌, ◌≤◌, ℕ, suc, Bool, List, [], ◌∷◌, ◌++◌, length, All, IsTrue, Some};
 ghost use Rattle.message_core.specs.declared.binding.Binding.{Binding};
 ghost use Rattle.message_core.specs.declared.request.Request.{Request};
 ghost use Rattle.message_core.specs.declared.request.Kind.TheVariants.{Get};
@@ -7,10 +7,11 @@ ghost use Rattle.vacm_core.specs.Families.{in_view};
 ghost use Rattle.decision.specs.declared.keys.AccessKey.{AccessKey};
 ghost use Rattle.decision.specs.declared.choice.Decision.TheVariants.{Allowed};
 ghost use Rattle.decision.specs.Deciding.{decided};
-ghost use Rattle.agent_core.specs.World.{Shown};
+ghost use Rattle.agent_core.specs.World.{Shown, AreApart};
+ghost use Rattle.oid_core.specs.Order.{is_prefix};
 ghost use Rattle.message_core.specs.Instances.{IsRising, after};
 ghost use Rattle.message_core.specs.declared.limits.TheConstants.{MAX_COMMUNITY, MAX_REPLY};
-ghost use Rattle.agent_core.specs.Reading.{visible, end_under};
+ghost use Rattle.agent_core.specs.Reading.{visible, object_of, end_under};
 ghost use Rattle.agent_core.specs.Bulk.{repetitions, IsRepeated};
 ghost use Rattle.agent_core.specs.Fitting.{fitting, least_binding, IsLongestFitting};
 ghost use Rattle.agent_core.specs.Replies.{AgreesOnAsked, get_reply, next_reply, bulk_reply, walk, last_name};
@@ -42,6 +43,12 @@ pub fn walk_lists_all()
     ensures { (shows : List ℕ → Bool) (rows : List Binding) (name : List ℕ) → IsRising rows →
         let rest = after name (visible shows rows) in
         walk (visible shows rows) (suc (length rest)) name ≡ rest ++ end_under (last_name name rest) ∷ [] }
+{}
+
+/// Where no object's name begins another's, the object of a name is the one that begins it: there is no other.
+pub fn one_object()
+    ensures { (objects : List (List ℕ)) (name : List ℕ) → AreApart objects →
+        All (λ object. IsTrue (is_prefix object name) → object_of objects name ≡ Some object) objects }
 {}
 
 /// What GetBulk sends is the longest front of its list that fits into a reply; a community has at most `MAX_COMMUNITY` octets.

@@ -11,8 +11,8 @@
 //! `specs/Fitting.antt`: GetBulk; `specs/Denying.antt`: denied bindings; `specs/World.antt`: the plain world.
 //!
 //! # Laws
-//! In [`laws`]: replies hang on nothing but what is visible; repeated GetNext lists all of it; repetitions are
-//! successors; the longest front that fits.
+//! In [`laws`]: replies hang on nothing but what is visible; repeated GetNext lists all of it; a name has one object;
+//! repetitions are successors; the longest front that fits.
 //!
 //! # Not claimed
 //! That memory was refused where want of it is answered; Set, which is genErr today.

@@ -43,6 +43,5 @@ fn next_row<S: Source, L: Ledger>(
     ensures found { IfOk result (λ found. found ≡ next_of (S.instances source.now) row.name) }
     ensures work { steps.new ≡ steps.old + 1 }
 {
-    let found = source.next(alloc, &row.name, steps)?;
-    Ok(found)
+    source.next(alloc, &row.name, steps)
 }

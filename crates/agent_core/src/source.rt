@@ -19,11 +19,12 @@ pub trait View {
         ensures { result ≡ shows self.now name.now };
 }
 
-/// Instances in the order of their names, each of which can be served, and the objects that they belong to.
+/// Instances in the order of their names, each of which can be served, and the objects that they belong to, none of which begins
+/// another.
 pub trait Source {
     ghost use Rattle.std.specs.Prelude.{List, ℕ};
     ghost use Rattle.agent_core.specs.Reading.{object_of};
-    ghost use Rattle.message_core.specs.Instances.{IsServable};
+    ghost use Rattle.agent_core.specs.World.{IsSource};
     ghost use Rattle.message_core.specs.Instances.{next_of, value_of};
     ghost use Rattle.message_core.specs.declared.binding.Binding.{Binding};
 
@@ -33,9 +34,9 @@ pub trait Source {
     // The names of the objects.
     ghost objects: { Self → List (List ℕ) };
 
-    /// Hands on that the names rise and that each instance can be served; it does nothing.
+    /// Hands on that the names rise, that each instance can be served, and that no object's name begins another's; it does nothing.
     fn known(&self)
-        ensures { IsServable (instances self.now) };
+        ensures { IsSource (instances self.now) (objects self.now) };
 
     /// The object whose name begins a name, where there is one; it has its name. Takes no memory.
     fn object(&self, name: &Oid) -> Option<&Oid>

@@ -167,6 +167,21 @@ fn refuses_a_world_that_cannot_be_spelled(rt: HostRuntime) -> Result<(), Fail> {
     Ok(())
 }
 
+#[test]
+fn refuses_a_world_of_nested_objects(rt: HostRuntime) -> Result<(), Fail> {
+    let mut objects = Vec::new(rt.alloc());
+    objects.push(named(rt.alloc(), "1.3.6.1")?)?;
+    objects.push(named(rt.alloc(), "1.3.7")?)?;
+    objects.push(named(rt.alloc(), "1.3.6")?)?;
+    assert!(rt;
+        matches!(
+            PlainWorld::new(Vec::new(rt.alloc()), objects, no_policy(rt.alloc())?),
+            Err(WorldFault::Nested)
+        )
+    );
+    Ok(())
+}
+
 // A view of the names that begin with one of two names, and not with a third.
 #[derive(Drop)]
 struct Families<'a> {
