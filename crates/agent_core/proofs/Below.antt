@@ -1,7 +1,6 @@
 -- Names that a prefix begins.
-use Rattle.std.proofs.Common.{◌≡◌, ℕ, ◌∙◌, sym, ap, refl, Bool, true, false, cond, nat_eq, nat_lt, List, [], ◌∷◌, arith, ◌⊎◌, inl, inr, IsTrue, Option, Some, None, ◌||◌}
+use Rattle.std.proofs.Common.{◌≡◌, ℕ, ◌∙◌, sym, ap, refl, Bool, true, false, cond, List, [], ◌∷◌, inl, inr, IsTrue, Option, Some, None, ◌||◌}
 use Rattle.std.specs.List.{list_any}
-use Rattle.std.proofs.lemmas.Bool.Decides.{eqb_tells, nat_tests}
 use Rattle.std.proofs.lemmas.List.Elements.{All-weaker}
 use Rattle.std.proofs.lemmas.List.Folds.{list_any_none}
 use Rattle.std.proofs.lemmas.List.Kept.{AllPairs-filter}
@@ -10,20 +9,9 @@ use Rattle.message_core.specs.Instances.{IsRising, next_of, value_of}
 use Rattle.agent_core.specs.Reading.{visible}
 use Rattle.message_core.specs.declared.binding.Binding.{Binding}
 use Rattle.message_core.specs.declared.value.Value.{Value}
-use Rattle.agent_core.proofs.Rising.{rising_head, rising_tail, tells}
-
-pub name_eq-true : (xs ys : List ℕ) → name_eq xs ys ≡ true → xs ≡ ys
-name_eq-true [] [] h = refl
-name_eq-true [] (y ∷ ys) h = absurd (cc)
-name_eq-true (x ∷ xs) [] h = absurd (cc)
-name_eq-true (x ∷ xs) (y ∷ ys) h = elim (eqb_tells x y) [
-  | inl e ↦ let k : name_eq xs ys ≡ true = rw e.0 at h in let t : xs ≡ ys = name_eq-true xs ys k in let s : x ≡ y = e.1 in cc
-  | inr e ↦ let k : false ≡ true = rw e.0 at h in absurd (cc)
-]
-
-pub is_prefix-self : (xs : List ℕ) → is_prefix xs xs ≡ true
-is_prefix-self [] = refl
-is_prefix-self (x ∷ xs) = let same : nat_eq x x ≡ true = grind (arith, nat_tests) in rw same (is_prefix-self xs)
+use Rattle.message_core.proofs.Rising.{rising_head, rising_tail}
+use Rattle.oid_core.proofs.OrderLaws.{eq_same}
+use Rattle.oid_core.proofs.Prefixes.{prefix_itself, prefix_cases, prefix_between}
 
 -- the value under a name in a view
 pub value-visible : (shows : List ℕ → Bool) (rows : List Binding) (name : List ℕ) → value_of (visible shows rows) name ≡ cond (shows name) (value_of rows name) None
@@ -33,52 +21,11 @@ value-visible shows (x ∷ xs) name = both (shows x.name) (name_eq x.name name) 
     both : (a b s : Bool) → shows x.name ≡ a → name_eq x.name name ≡ b → shows name ≡ s → value_of (visible shows xs) name ≡ cond s (value_of xs name) None →
         value_of (cond a (x ∷ visible shows xs) (visible shows xs)) name ≡ cond s (cond b (Some x.value) (value_of xs name)) None
     both true true true h k t more = rw k refl
-    both true true false h k t more = let e : shows x.name ≡ shows name = ap shows (name_eq-true x.name name k) in absurd (cc)
+    both true true false h k t more = let e : shows x.name ≡ shows name = ap shows (eq_same x.name name k) in absurd (cc)
     both true false s h k t more = rw k more
-    both false true true h k t more = let e : shows x.name ≡ shows name = ap shows (name_eq-true x.name name k) in absurd (cc)
+    both false true true h k t more = let e : shows x.name ≡ shows name = ap shows (eq_same x.name name k) in absurd (cc)
     both false true false h k t more = more
     both false false s h k t more = more
-
--- what a prefix begins is the prefix or stands after it
-prefix-cases : (p x : List ℕ) → is_prefix p x ≡ true → (name_eq x p ≡ true) ⊎ (name_lt p x ≡ true)
-prefix-cases [] [] h = inl refl
-prefix-cases [] (y ∷ ys) h = inr refl
-prefix-cases (a ∷ p) [] h = absurd (cc)
-prefix-cases (a ∷ p) (y ∷ ys) h = elim (eqb_tells a y) [
-  | inl e ↦
-      let k : is_prefix p ys ≡ true = rw e.0 at h in
-      let s : a ≡ y = e.1 in
-      let back : nat_eq y a ≡ true = grind (arith, nat_tests, s) in
-      let low : nat_lt a y ≡ false = grind (arith, nat_tests, s) in
-      let to : nat_eq a y ≡ true = e.0 in
-      elim (prefix-cases p ys k) [ inl c ↦ inl (rw back c) | inr c ↦ inr (rw (low, to) c) ]
-  | inr e ↦ let k : false ≡ true = rw e.0 at h in absurd (cc)
-]
-
--- what stands between a prefix and a name that it begins, it begins
-prefix-between : (p y x : List ℕ) → is_prefix p x ≡ true → name_lt p y ≡ true → name_lt y x ≡ true → is_prefix p y ≡ true
-prefix-between [] y x h k l = refl
-prefix-between (a ∷ p) y [] h k l = absurd (cc)
-prefix-between (a ∷ p) [] (z ∷ zs) h k l = absurd (cc)
-prefix-between (a ∷ p) (y ∷ ys) (z ∷ zs) h k l = elim (eqb_tells a z) [
-  | inr e ↦ let f : false ≡ true = rw e.0 at h in absurd (cc)
-  | inl e ↦
-      let under : is_prefix p zs ≡ true = rw e.0 at h in
-      let s : a ≡ z = e.1 in
-      elim (tells a y p ys k) [
-        | inl c ↦ elim (tells y z ys zs l) [
-          | inl d ↦ absurd (omega (arith, c, d, s))
-          | inr d ↦ let d0 : y ≡ z = d.0 in absurd (omega (arith, c, d0, s))
-        ]
-        | inr c ↦
-            let c0 : a ≡ y = c.0 in
-            let same : nat_eq a y ≡ true = grind (arith, nat_tests, c0) in
-            elim (tells y z ys zs l) [
-              | inl d ↦ absurd (omega (arith, c0, d, s))
-              | inr d ↦ rw same (prefix-between p ys zs under c.1 d.1)
-            ]
-      ]
-]
 
 -- whether the first row after a prefix has it
 abbrev pub first_below : List ℕ → Option Binding → Bool
@@ -89,7 +36,7 @@ no_more : (p : List ℕ) (x : Binding) (xs : List Binding) → IsRising (x ∷ x
 no_more p x xs h k l = list_any_none (λ row. is_prefix p row.name) xs (All-weaker (λ (y : Binding). name_lt x.name y.name ≡ true) (λ (y : Binding). is_prefix p y.name ≡ false) (λ y m. never y m (is_prefix p y.name) refl) xs (rising_head x xs h))
   where
     never : (y : Binding) → name_lt x.name y.name ≡ true → (b : Bool) → is_prefix p y.name ≡ b → is_prefix p y.name ≡ false
-    never y m true e = let f : is_prefix p x.name ≡ true = prefix-between p x.name y.name e k m in absurd (cc)
+    never y m true e = let f : is_prefix p x.name ≡ true = prefix_between p x.name y.name e k m in absurd (cc)
     never y m false e = e
 
 pub below-first : (p : List ℕ) (rows : List Binding) → IsRising rows → value_of rows p ≡ None → list_any (λ row. is_prefix p row.name) rows ≡ first_below p (next_of rows p)
@@ -102,7 +49,7 @@ below-first p (x ∷ xs) h none = both (name_eq x.name p) (name_lt p x.name) (is
     both true b d e f i n more = absurd (cc)
     both false true true e f i n more = rw i refl
     both false true false e f i n more = let z : list_any (λ row. is_prefix p row.name) xs ≡ false = no_more p x xs h f i in rw (i, z) refl
-    both false false true e f i n more = elim (prefix-cases p x.name i) [ inl c ↦ absurd (cc) | inr c ↦ absurd (cc) ]
+    both false false true e f i n more = elim (prefix_cases p x.name i) [ inl c ↦ absurd (cc) | inr c ↦ absurd (cc) ]
     both false false false e f i n more = rw i (more n)
 
 pub below-itself : (p : List ℕ) (rows : List Binding) (v : Value) → value_of rows p ≡ Some v → list_any (λ row. is_prefix p row.name) rows ≡ true
@@ -111,7 +58,7 @@ below-itself p (x ∷ xs) v some = both (name_eq x.name p) refl some (λ k. belo
   where
     both : (a : Bool) → name_eq x.name p ≡ a → cond a (Some x.value) (value_of xs p) ≡ Some v → (value_of xs p ≡ Some v → list_any (λ row. is_prefix p row.name) xs ≡ true) →
         (is_prefix p x.name || list_any (λ row. is_prefix p row.name) xs) ≡ true
-    both true e s more = let f : is_prefix p x.name ≡ true = ap (is_prefix p) (name_eq-true x.name p e) ∙ is_prefix-self p in rw f refl
+    both true e s more = let f : is_prefix p x.name ≡ true = ap (is_prefix p) (eq_same x.name p e) ∙ prefix_itself p in rw f refl
     both false e s more = elim (is_prefix p x.name) as (λ b. (b || list_any (λ row. is_prefix p row.name) xs) ≡ true) [ true ↦ refl | false ↦ more s ]
 
 pub visible-rising : (shows : List ℕ → Bool) (rows : List Binding) → IsRising rows → IsRising (visible shows rows)

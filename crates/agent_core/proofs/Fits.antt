@@ -81,11 +81,6 @@ once_cut rows names i name room old now new more h at so same full =
           ap (λ z. fit_into room (z ++ next ∷ [])) same ∙ ap (λ z. fit_into room (now ++ z ∷ [])) is ∙ full;
     }
 
--- a step for each binding, and one more of each
-pub pushed_work : (start now later : ℕ) (old sent new : List Binding) (b : Binding) → now + length old ≡ start + length sent → later ≡ now + 1 → new ≡ sent ++ b ∷ [] →
-    later + length old ≡ start + length new
-pushed_work start now later old sent new b so step push = omega (arith, so, step, ap length push, length-append sent (b ∷ []))
-
 -- the next binding is sent
 pub once_more : (rows : List Binding) (names : List (List ℕ)) (i : ℕ) (name : List ℕ) (old now new : List Binding) → i < length names → name ≡ get_or names i name →
     now ≡ old ++ next_answers rows (take i names) → new ≡ now ++ next_answer rows name ∷ [] → new ≡ old ++ next_answers rows (take (i + 1) names)

@@ -1,19 +1,21 @@
 -- The laws of replies.
 use Rattle.std.proofs.Common.{◌≡◌, ℕ, ℤ, pos, suc, ◌+◌, ◌*◌, ◌<◌, ◌≤◌, ◌∙◌, ap, sym, refl, Bool, true, false, cond, List, [], ◌∷◌, ◌++◌, length, append-nil, arith, IsTrue, All, Contains, Option, Some, None, MatchOption, length-append}
+use Rattle.std.proofs.Math.Nat.{mul-le-mul_right}
 use Rattle.std.proofs.lemmas.List.Concat.{flat_map-cons}
-use Rattle.std.proofs.lemmas.List.Elements.{All-head, All-tail, All-cons, All-weaker}
+use Rattle.std.proofs.lemmas.List.Elements.{All-head, All-tail}
 use Rattle.std.proofs.lemmas.List.Kept.{AllPairs-filter}
 use Rattle.oid_core.specs.Order.{name_lt}
 use Rattle.message_core.specs.Canon.{answer_to, canon_binding}
+use Rattle.message_core.specs.declared.limits.TheConstants.{MAX_COMMUNITY, MAX_REPLY}
 use Rattle.message_core.specs.declared.binding.Binding.{Binding}
 use Rattle.message_core.specs.declared.request.Kind.{Kind}
 use Rattle.message_core.specs.declared.request.Kind.TheVariants.{Get, GetNext, Set, GetBulk}
 use Rattle.message_core.specs.declared.request.Request.{Request}
 use Rattle.message_core.specs.declared.status.ErrorStatus.TheVariants.{NoError}
 use Rattle.message_core.proofs.Smallest.{binding_some, reply_some}
-use Rattle.message_core.specs.Instances.{IsRising, IsLeastAfter, after, next_of, names_of}
+use Rattle.message_core.specs.Instances.{IsRising, after, names_of}
 use Rattle.agent_core.specs.Reading.{visible, end_under, get_answer, get_answers, next_answers}
-use Rattle.agent_core.specs.Fitting.{total, fitting, reply_size}
+use Rattle.agent_core.specs.Fitting.{total, fitting, reply_size, least_binding, most_successors}
 use Rattle.agent_core.specs.Bulk.{asked_list}
 use Rattle.vacm_core.specs.Families.{in_view}
 use Rattle.message_core.specs.declared.reply.Reply.{Reply}
@@ -23,9 +25,8 @@ use Rattle.decision.specs.declared.choice.Decision.TheVariants.{Allowed}
 use Rattle.decision.specs.Deciding.{decided}
 use Rattle.agent_core.specs.World.{Shown}
 use Rattle.agent_core.specs.Replies.{sized, kind_reply, AgreesOnAsked, walk, last_name}
-use Rattle.agent_core.specs.Answers.{outcome_of, outcome_by, reply_of}
-use Rattle.agent_core.proofs.Rising.{rising_tail, rising_head, name_lt-irrefl, name_lt-asym}
-use Rattle.agent_core.proofs.Rest.{find_is, after-first}
+use Rattle.agent_core.specs.Answers.{outcome_of, outcome_by, reply_in, reply_of}
+use Rattle.message_core.proofs.Rising.{find_is, after-first}
 use Rattle.agent_core.proofs.Fits.{total-append}
 use Rattle.agent_core.proofs.Longest.{longest_law}
 
@@ -74,41 +75,9 @@ reply_same shown other request row other_row view other_view d f e h =
     let second : List ℕ → Bool = in_view other.policy.vacm.families other_view in
     let same : kind_reply shown.objects first shown.instances request request.kind ≡ kind_reply other.objects second other.instances request request.kind =
     kind_same shown.objects other.objects first second shown.instances other.instances request request.kind e (λ g. ((h g).objects, (h g).asked)) in
-    ap (λ (decision : Decision). (outcome_by shown request decision).reply) d
+    ap (λ (decision : Decision). reply_in (outcome_by shown request decision)) d
     ∙ ap (λ (reply : Reply). Some reply) same
-    ∙ sym (ap (λ (decision : Decision). (outcome_by other request decision).reply) f)
-
-first_contained : (x : Binding) (xs : List Binding) → Contains (x ∷ xs) x
-first_contained x xs = (0, omega arith, refl)
-
-later_contained : (x : Binding) (xs : List Binding) (row : Binding) → Contains xs row → Contains (x ∷ xs) row
-later_contained x xs row c = (suc c.0, (let h : c.0 < length xs = c.1 in omega (arith, h)), c.2)
-
--- the first is the least
-first_least_at : (b : Bool) (x : Binding) (xs : List Binding) (name : List ℕ) → name_lt name x.name ≡ b → IsRising (x ∷ xs) →
-    MatchOption (next_of xs name) (after name xs ≡ []) (λ row. IsLeastAfter xs name row) →
-    MatchOption (cond b (Some x) (next_of xs name)) (cond b (x ∷ after name xs) (after name xs) ≡ []) (λ row. IsLeastAfter (x ∷ xs) name row)
-first_least_at true x xs name e h more = record {
-  contained = first_contained x xs;
-  greater = e;
-  least = All-cons (λ (other : Binding). name_lt name other.name ≡ true → name_lt other.name x.name ≡ false) x xs
-      (λ _. name_lt-irrefl x.name)
-      (All-weaker (λ (y : Binding). name_lt x.name y.name ≡ true) (λ (other : Binding). name_lt name other.name ≡ true → name_lt other.name x.name ≡ false)
-      (λ y k _. name_lt-asym x.name y.name (name_lt y.name x.name) k refl) xs (rising_head x xs h));
-}
-first_least_at false x xs name e h more = lift (next_of xs name) more
-  where
-    lift : (o : Option Binding) → MatchOption o (after name xs ≡ []) (λ row. IsLeastAfter xs name row) → MatchOption o (after name xs ≡ []) (λ row. IsLeastAfter (x ∷ xs) name row)
-    lift None k = k
-    lift (Some row) k = record {
-      contained = later_contained x xs row k.contained;
-      greater = k.greater;
-      least = All-cons (λ (other : Binding). name_lt name other.name ≡ true → name_lt other.name row.name ≡ false) x xs (λ f. absurd (cc)) k.least;
-    }
-
-pub first_least : (rows : List Binding) (name : List ℕ) → IsRising rows → MatchOption (next_of rows name) (after name rows ≡ []) (λ row. IsLeastAfter rows name row)
-first_least [] name h = refl
-first_least (x ∷ xs) name h = first_least_at (name_lt name x.name) x xs name refl h (first_least xs name (rising_tail x xs h))
+    ∙ sym (ap (λ (decision : Decision). reply_in (outcome_by other request decision)) f)
 
 pub total_some : (bs : List Binding) → 6 * length bs ≤ total bs
 total_some [] = omega arith
@@ -118,14 +87,16 @@ total_some (b ∷ bs) =
     let sum : total (b ∷ bs) ≡ total (b ∷ []) + total bs = total-append (b ∷ []) bs in
     omega (arith, more, binding_some b, one, sum)
 
-pub few_law : (request : Request) (all : List Binding) → length request.community ≤ 255 → 6 * length (fitting request all) ≤ 1472
+pub few_law : (request : Request) (all : List Binding) → length request.community ≤ MAX_COMMUNITY → least_binding * length (fitting request all) ≤ MAX_REPLY
 few_law request all community =
     let sent : List Binding = fitting request all in
-    let fits : reply_size request sent ≤ 1472 = (longest_law request all community).fits in
+    let fits : reply_size request sent ≤ MAX_REPLY = (longest_law request all community).fits in
     omega (arith, fits, reply_some (answer_to request NoError (pos 0) sent), total_some sent)
 
--- a step for each binding that is sent, and one more
-pub work_within : (start now room : ℕ) (bs : List Binding) → total bs ≤ room → room ≤ 1472 → now ≤ start + length bs + 1 → now ≤ start + 246
-work_within start now room bs within most work =
+-- a successor for each binding that is sent, and one more, and so many looks for each
+pub work_within : (start now room u : ℕ) (bs : List Binding) → total bs ≤ room → room ≤ MAX_REPLY → now ≤ start + (length bs + 1) * u → now ≤ start + most_successors * u
+work_within start now room u bs within most work =
     let six : 6 * length bs ≤ total bs = total_some bs in
-    omega (arith, six, within, most, work)
+    let few : length bs + 1 ≤ most_successors = omega (arith, six, within, most) in
+    let looks : (length bs + 1) * u ≤ most_successors * u = mul-le-mul_right u few in
+    omega (arith, looks, work)

@@ -1,5 +1,7 @@
 pub mod Rising
+pub mod Apart
 pub mod Rest
+pub mod Looks
 pub mod Below
 pub mod Sizes
 pub mod Spellings
@@ -8,4 +10,3 @@ pub mod Repeats
 pub mod Longest
 pub mod LawProofs
 pub mod Denials
-pub mod Outcomes

@@ -5,6 +5,7 @@ use Rattle.std.proofs.lemmas.Bool.Decides.{nat_tests}
 use Rattle.std.proofs.lemmas.List.{take-append-drop, length-take}
 use Rattle.std.proofs.Math.Seq.{take-append-add}
 use Rattle.message_core.specs.Canon.{answer_to}
+use Rattle.message_core.specs.declared.limits.TheConstants.{MAX_COMMUNITY, MAX_REPLY}
 use Rattle.message_core.specs.declared.binding.Binding.{Binding}
 use Rattle.message_core.specs.declared.request.Request.{Request}
 use Rattle.message_core.specs.declared.status.ErrorStatus.TheVariants.{NoError}
@@ -77,19 +78,19 @@ total_grows : (sent : List Binding) (b : Binding) (behind : List Binding) → to
 total_grows sent b behind =
     omega (arith, total-append sent (b ∷ []), total-append sent (b ∷ behind), total-append (b ∷ []) behind)
 
-too_long : (request : Request) (room : ℕ) (bs : List Binding) → ((bindings : List Binding) → (total bindings ≤ room) ↔ (reply_size request bindings ≤ 1472)) → room < total bs →
-    (w : Bool) → nat_le (reply_size request bs) 1472 ≡ w → w ≡ false
+too_long : (request : Request) (room : ℕ) (bs : List Binding) → ((bindings : List Binding) → (total bindings ≤ room) ↔ (reply_size request bindings ≤ MAX_REPLY)) → room < total bs →
+    (w : Bool) → nat_le (reply_size request bs) MAX_REPLY ≡ w → w ≡ false
 too_long request room bs tells past false e = refl
-too_long request room bs tells past true e = let within : total bs ≤ room = (tells bs).1 (true_le (reply_size request bs) 1472 e) in absurd (omega (arith, within, past))
+too_long request room bs tells past true e = let within : total bs ≤ room = (tells bs).1 (true_le (reply_size request bs) MAX_REPLY e) in absurd (omega (arith, within, past))
 
 -- what is sent as far as there is room is the longest front that fits
-pub filled_fits : (request : Request) (room : ℕ) (all sent : List Binding) → ((bindings : List Binding) → (total bindings ≤ room) ↔ (reply_size request bindings ≤ 1472)) →
+pub filled_fits : (request : Request) (room : ℕ) (all sent : List Binding) → ((bindings : List Binding) → (total bindings ≤ room) ↔ (reply_size request bindings ≤ MAX_REPLY)) →
     total sent ≤ room → IsFilled room all sent → sent ≡ fitting request all
 unfolding fitting
 filled_fits request room all sent tells within filled =
     let len : length sent ≤ length all = omega (arith, ap length filled.front, length-append sent filled.rest) in
-    sym (longest_is (λ front. nat_le (reply_size request front) 1472) all sent filled.rest filled.front
-    (le_true (reply_size request sent) 1472 ((tells sent).0 within))
+    sym (longest_is (λ front. nat_le (reply_size request front) MAX_REPLY) all sent filled.rest filled.front
+    (le_true (reply_size request sent) MAX_REPLY ((tells sent).0 within))
     (λ b more behind is.
     let past : room < total (sent ++ b ∷ []) = false_lt (total (sent ++ b ∷ [])) room (filled.full b more is) in
     let grows : total (sent ++ b ∷ []) ≤ total (sent ++ b ∷ behind) = total_grows sent b behind in
@@ -127,14 +128,14 @@ front_longest passes all other rest e fits (suc k) h = split (passes (take (suc 
           absurd (cc)
     ]
 
-pub longest_law : (request : Request) (all : List Binding) → length request.community ≤ 255 → IsLongestFitting request all (fitting request all)
+pub longest_law : (request : Request) (all : List Binding) → length request.community ≤ MAX_COMMUNITY → IsLongestFitting request all (fitting request all)
 unfolding fitting
 longest_law request all community = record {
-  front = front_is (λ front. nat_le (reply_size request front) 1472) (length all) all;
-  fits = true_le (reply_size request (longest_front (λ front. nat_le (reply_size request front) 1472) (length all) all)) 1472
-      (front_passes (λ front. nat_le (reply_size request front) 1472) (length all) all
-      (le_true (reply_size request []) 1472 (reply_short (answer_to request NoError _ []) community refl)));
+  front = front_is (λ front. nat_le (reply_size request front) MAX_REPLY) (length all) all;
+  fits = true_le (reply_size request (longest_front (λ front. nat_le (reply_size request front) MAX_REPLY) (length all) all)) MAX_REPLY
+      (front_passes (λ front. nat_le (reply_size request front) MAX_REPLY) (length all) all
+      (le_true (reply_size request []) MAX_REPLY (reply_short (answer_to request NoError _ []) community refl)));
   longest = λ other front fits.
-      front_longest (λ f. nat_le (reply_size request f) 1472) all other front.0 front.1 (le_true (reply_size request other) 1472 fits) (length all)
+      front_longest (λ f. nat_le (reply_size request f) MAX_REPLY) all other front.0 front.1 (le_true (reply_size request other) MAX_REPLY fits) (length all)
       (omega (arith, ap length front.1, length-append other front.0));
 }

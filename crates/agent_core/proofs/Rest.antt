@@ -1,47 +1,15 @@
 -- What is left of a rising list after a name.
-use Rattle.std.proofs.Common.{◌≡◌, ℕ, suc, ◌<◌, ◌∙◌, sym, ap, refl, Bool, true, false, cond, List, [], ◌∷◌, length, arith, All, filter, find, Option, Some, None}
-use Rattle.std.proofs.lemmas.List.Elements.{All-head, All-filter, All-weaker}
+use Rattle.std.proofs.Common.{◌≡◌, ℕ, suc, ◌<◌, ◌∙◌, sym, ap, refl, Bool, true, false, cond, List, [], ◌∷◌, length, arith, filter, find, Option, Some, None}
 use Rattle.oid_core.specs.Order.{name_lt}
 use Rattle.message_core.specs.Instances.{IsRising, after, next_of}
 use Rattle.agent_core.specs.Reading.{visible}
 use Rattle.message_core.specs.declared.binding.Binding.{Binding}
-use Rattle.agent_core.proofs.Rising.{name_lt-irrefl, name_lt-trans, name_lt-asym, rising_head, rising_tail, all_kept}
+use Rattle.message_core.proofs.Rising.{after-first, find_is}
 
 -- an instance and those after it
 abbrev pub from : List Binding → Option Binding → List Binding
 from rows None = []
 from rows (Some row) = row ∷ after row.name rows
-
-after_step : (b : Bool) (name : List ℕ) (x row : Binding) (xs others : List Binding) → name_lt name x.name ≡ b → IsRising (x ∷ xs) →
-    ((ys : List Binding) → after name xs ≡ row ∷ ys → after row.name xs ≡ ys) →
-    cond b (x ∷ after name xs) (after name xs) ≡ row ∷ others → after row.name (x ∷ xs) ≡ others
-after_step true name x row xs others e h more is =
-    let x_is : x ≡ row = cc in
-    let rest_is : after name xs ≡ others = cc in
-    let above : All (λ (y : Binding). name_lt x.name y.name ≡ true) xs = rising_head x xs h in
-    let all_after : after name xs ≡ xs = all_kept (λ y. name_lt name y.name) xs (All-weaker (λ (y : Binding). name_lt x.name y.name ≡ true) (λ (y : Binding). name_lt name y.name ≡ true) (λ y k. name_lt-trans name x.name y.name e k) xs above) in
-    let same : after x.name (x ∷ xs) ≡ xs = rw (name_lt-irrefl x.name) (all_kept (λ y. name_lt x.name y.name) xs above) in
-    ap (λ (z : Binding). after z.name (x ∷ xs)) (sym x_is) ∙ same ∙ sym all_after ∙ rest_is
-after_step false name x row xs others e h more is =
-    let above : All (λ (y : Binding). name_lt x.name y.name ≡ true) (after name xs) = All-filter (λ (y : Binding). name_lt name y.name) (λ (y : Binding). name_lt x.name y.name ≡ true) xs (rising_head x xs h) in
-    let here : All (λ (y : Binding). name_lt x.name y.name ≡ true) (row ∷ others) = rw is at above in
-    let low : name_lt row.name x.name ≡ false = name_lt-asym x.name row.name (name_lt row.name x.name) (All-head (λ (y : Binding). name_lt x.name y.name ≡ true) row others here) refl in
-    rw low (more others is)
-
--- after the first instance after a name stand the others after the name
-pub after-first : (rows : List Binding) (name : List ℕ) (row : Binding) (others : List Binding) → IsRising rows → after name rows ≡ row ∷ others → after row.name rows ≡ others
-after-first [] name row others h e = absurd (cc)
-after-first (x ∷ xs) name row others h e =
-    after_step (name_lt name x.name) name x row xs others refl h (λ ys k. after-first xs name row ys (rising_tail x xs h) k) e
-
--- the first of those that pass
-pub find_is : (p : Binding → Bool) (xs ys : List Binding) → filter p xs ≡ ys → find p xs ≡ find (λ _. true) ys
-find_is p [] ys e = ap (find (λ _. true)) e
-find_is p (x ∷ xs) ys e = pass (p x) e (λ f. find_is p xs ys f)
-  where
-    pass : (b : Bool) → cond b (x ∷ filter p xs) (filter p xs) ≡ ys → (filter p xs ≡ ys → find p xs ≡ find (λ _. true) ys) → cond b (Some x) (find p xs) ≡ find (λ _. true) ys
-    pass true f more = ap (find (λ _. true)) f
-    pass false f more = more f
 
 pub from-next : (rows : List Binding) (name : List ℕ) (ys : List Binding) → IsRising rows → after name rows ≡ ys → from rows (next_of rows name) ≡ ys
 from-next rows name [] h e = rw (find_is (λ row. name_lt name row.name) rows [] e) refl

@@ -3,18 +3,19 @@ use Rattle.std.proofs.Common.{◌≡◌, ℕ, pos, ◌<◌, ◌≤◌, List, [],
 use Rattle.std.proofs.lemmas.Bool.{lt-ltb, le-ltb}
 use Rattle.std.proofs.Math.Seq.{take-append_seam}
 use Rattle.message_core.specs.Canon.{canon_reply}
+use Rattle.message_core.specs.declared.limits.TheConstants.{MAX_REPLY}
 use Rattle.message_core.specs.declared.reply.Reply.{Reply}
 use Rattle.message_core.specs.declared.status.ErrorStatus.TheVariants.{TooBig}
 use Rattle.agent_core.specs.Replies.{sized}
 use Rattle.agent_core.specs.Answers.{IsSent}
 
 -- a reply that fits is sent
-pub sized-fits : (r : Reply) → length (canon_reply r) ≤ 1472 → sized r ≡ r
+pub sized-fits : (r : Reply) → length (canon_reply r) ≤ MAX_REPLY → sized r ≡ r
 unfolding sized
 sized-fits r fits = rw (le-ltb _ _ fits) refl
 
 -- a reply that does not fit is sent as tooBig
-pub sized-long : (r : Reply) → 1472 < length (canon_reply r) → sized r ≡ record r { status = TooBig; index = pos 0; bindings = [] }
+pub sized-long : (r : Reply) → MAX_REPLY < length (canon_reply r) → sized r ≡ record r { status = TooBig; index = pos 0; bindings = [] }
 unfolding sized
 sized-long r long = rw (lt-ltb _ _ long) refl
 
@@ -23,14 +24,14 @@ pub front : (n : ℕ) (octets rest buffer : List ℕ) → n ≡ length octets �
 front n octets rest buffer e b = ap (λ (m : ℕ). take m buffer) e ∙ ap (take (length octets)) b ∙ take-append_seam octets rest
 
 -- what is put of a reply that fits
-pub sent_fits : (r : Reply) (len : ℕ) (octets : List ℕ) → length (canon_reply r) ≤ 1472 → octets ≡ canon_reply r → len ≡ length (canon_reply r) →
+pub sent_fits : (r : Reply) (len : ℕ) (octets : List ℕ) → length (canon_reply r) ≤ MAX_REPLY → octets ≡ canon_reply r → len ≡ length (canon_reply r) →
     IsSent (sized r) (record { length = len; status = r.status; index = r.index }) (record { reply = octets })
 sent_fits r len octets fits o l =
     subst (λ (reply : Reply). IsSent reply (record { length = len; status = r.status; index = r.index }) (record { reply = octets })) (sym (sized-fits r fits))
     (record { octets = o; len = l; status = refl; index = refl })
 
 -- what is put in place of one that does not
-pub sent_long : (r : Reply) (len : ℕ) (octets : List ℕ) → 1472 < length (canon_reply r) →
+pub sent_long : (r : Reply) (len : ℕ) (octets : List ℕ) → MAX_REPLY < length (canon_reply r) →
     octets ≡ canon_reply (record r { status = TooBig; index = pos 0; bindings = [] }) → len ≡ length (canon_reply (record r { status = TooBig; index = pos 0; bindings = [] })) →
     IsSent (sized r) (record { length = len; status = TooBig; index = pos 0 }) (record { reply = octets })
 sent_long r len octets long o l =

@@ -1,13 +1,10 @@
--- As much of a list as fits into one reply (RFC 3416, 4.2.3; the limit of 1,472 octets is the agent's).
-use Rattle.std.specs.Prelude.{◌≡◌, ℕ, zero, suc, ◌≤◌, pos, Bool, false, if◌then◌else◌, nat_le, List, [], ◌∷◌, ◌++◌, length, take}
+-- As much of a list as fits into one reply (RFC 3416, 4.2.3; the limit is the agent's).
+use Rattle.std.specs.Prelude.{◌≡◌, ℕ, zero, suc, ◌+◌, ◌/◌, ◌≤◌, pos, Bool, false, if◌then◌else◌, nat_le, List, [], ◌∷◌, ◌++◌, length, take}
 use Rattle.message_core.specs.Canon.{canon_reply, canon_bindings, answer_to}
 use Rattle.message_core.specs.declared.binding.Binding.{Binding}
+use Rattle.message_core.specs.declared.limits.TheConstants.{MAX_REPLY}
 use Rattle.message_core.specs.declared.request.Request.{Request}
 use Rattle.message_core.specs.declared.status.ErrorStatus.TheVariants.{NoError}
-
--- the longest reply that is sent, in octets
-abbrev pub reply_limit : ℕ
-reply_limit = 1472
 
 -- the octets of the reply to a request with these bindings and no error, in its minimal spelling
 abbrev pub reply_size : Request → List Binding → ℕ
@@ -20,7 +17,7 @@ longest_front passes (suc most) all = if passes (take (suc most) all) then take 
 
 -- The longest front of the whole list whose reply is not too long.
 unfoldable pub fitting : Request → List Binding → List Binding
-fitting request all = longest_front (λ front. nat_le (reply_size request front) reply_limit) (length all) all
+fitting request all = longest_front (λ front. nat_le (reply_size request front) MAX_REPLY) (length all) all
 
 -- a front of a list
 abbrev pub IsFront : List Binding → List Binding → Type 0
@@ -29,8 +26,16 @@ IsFront front all = (rest : List Binding) × (front ++ rest ≡ all)
 -- `sent` is the longest front of the list whose reply is not too long
 pub record IsLongestFitting (request : Request) (all sent : List Binding) : Type 0 where
   pub front : IsFront sent all
-  pub fits : reply_size request sent ≤ reply_limit
-  pub longest : (other : List Binding) → IsFront other all → reply_size request other ≤ reply_limit → length other ≤ length sent
+  pub fits : reply_size request sent ≤ MAX_REPLY
+  pub longest : (other : List Binding) → IsFront other all → reply_size request other ≤ MAX_REPLY → length other ≤ length sent
+
+-- A binding has so many octets or more: its head, a name and a value.
+abbrev pub least_binding : ℕ
+least_binding = 6
+
+-- For a list that is sent as far as it fits, no more successors need to be found: one for each binding, and one that does not fit.
+abbrev pub most_successors : ℕ
+most_successors = MAX_REPLY / least_binding + 1
 
 -- the octets of bindings
 abbrev pub total : List Binding → ℕ

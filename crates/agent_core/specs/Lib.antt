@@ -1,4 +1,5 @@
 pub mod Reading
+pub mod Looking
 pub mod World
 pub mod Denying
 pub mod Buffered

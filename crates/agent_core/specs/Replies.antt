@@ -2,6 +2,7 @@
 use Rattle.std.specs.Prelude.{◌≡◌, All, ℕ, zero, suc, pos, Bool, if◌then◌else◌, nat_lt, List, [], ◌∷◌, length}
 use Rattle.message_core.specs.Canon.{canon_reply, answer_to}
 use Rattle.message_core.specs.declared.binding.Binding.{Binding}
+use Rattle.message_core.specs.declared.limits.TheConstants.{MAX_REPLY}
 use Rattle.message_core.specs.declared.request.Kind.{Kind}
 use Rattle.message_core.specs.declared.request.Kind.TheVariants.{Get, GetNext, Set, GetBulk}
 use Rattle.message_core.specs.declared.request.Request.{Request}
@@ -12,12 +13,12 @@ use Rattle.agent_core.specs.World.{Shown}
 use Rattle.message_core.specs.Instances.{names_of}
 use Rattle.agent_core.specs.Reading.{visible, get_answers, next_answer, next_answers}
 use Rattle.agent_core.specs.Bulk.{asked_list}
-use Rattle.agent_core.specs.Fitting.{reply_limit, fitting}
+use Rattle.agent_core.specs.Fitting.{fitting}
 
 -- A reply that is too long is sent as tooBig, with index 0 and no bindings (RFC 3416, 4.2.1).
 unfoldable pub sized : Reply → Reply
 sized reply =
-    if nat_lt reply_limit (length (canon_reply reply))
+    if nat_lt MAX_REPLY (length (canon_reply reply))
     then record reply { status = TooBig; index = pos 0; bindings = [] }
     else reply
 

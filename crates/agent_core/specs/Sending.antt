@@ -2,6 +2,7 @@
 use Rattle.std.specs.Prelude.{◌≡◌, ℕ, ◌≤◌, List}
 use Rattle.message_core.specs.Spellable.{AreSpellable}
 use Rattle.message_core.specs.declared.binding.Binding.{Binding}
+use Rattle.message_core.specs.declared.limits.TheConstants.{MAX_REPLY}
 use Rattle.agent_core.specs.Fitting.{total}
 
 pub record Sending : Type 0 where
@@ -13,5 +14,5 @@ pub record Sending : Type 0 where
 pub record IsSending (sending : Sending) (used : ℕ) : Type 0 where
   pub used_is : used ≡ total sending.bindings
   pub within : used ≤ sending.room
-  pub most : sending.room ≤ 1472
+  pub most : sending.room ≤ MAX_REPLY
   pub spellable : AreSpellable sending.bindings

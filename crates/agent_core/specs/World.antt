@@ -1,13 +1,22 @@
 -- What requests are answered from, and what a plain world holds.
-use Rattle.std.specs.Prelude.{ℕ, List}
-use Rattle.std.specs.List.{AllByRecursion}
-use Rattle.message_core.specs.Instances.{IsInstanceValue}
+use Rattle.std.specs.Prelude.{ℕ, Bool, not, ◌&&◌, IsTrue, List, AllPairs}
+use Rattle.oid_core.specs.Order.{is_prefix}
+use Rattle.message_core.specs.Instances.{IsServable}
 use Rattle.message_core.specs.declared.binding.Binding.{Binding}
 use Rattle.community_core.specs.Communities.{PolicyTables}
 
--- no value is an exception
-abbrev pub AreValued : List Binding → Type 0
-AreValued rows = AllByRecursion (λ row. IsInstanceValue row.value) rows
+-- neither name begins the other
+abbrev pub is_apart : List ℕ → List ℕ → Bool
+is_apart a b = not (is_prefix a b) && not (is_prefix b a)
+
+-- no object's name begins another's
+abbrev pub AreApart : List (List ℕ) → Type 0
+AreApart objects = AllPairs (λ a b. IsTrue (is_apart a b)) objects
+
+-- what a source promises of its instances and objects
+pub record IsSource (instances : List Binding) (objects : List (List ℕ)) : Type 0 where
+  pub servable : IsServable instances
+  pub apart : AreApart objects
 
 -- what is shown: the names of the objects, the instances by rising name, and who may see which of them
 pub record Shown : Type 0 where
@@ -15,7 +24,7 @@ pub record Shown : Type 0 where
   pub instances : List Binding
   pub policy : PolicyTables
 
--- its instances by rising name, the names of its objects, the policy, and what was dropped
+-- its instances by rising name, the names of its objects, none of which begins another, the policy, and what was dropped
 pub record World : Type 0 where
   pub instances : List Binding
   pub objects : List (List ℕ)

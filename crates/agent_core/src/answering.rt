@@ -1,9 +1,10 @@
-ghost use Rattle.std.specs.Prelude.{◌≡◌, ◌≤◌, ◌<◌, length, IfOk, OnErr};
+ghost use Rattle.std.specs.Prelude.{◌≡◌, ◌≢◌, ◌≤◌, ◌<◌, length, IfOk, OnErr};
 ghost use Rattle.message_core.specs.Canon.{canon_reply};
 ghost use Rattle.message_core.specs.Spellable.{AreSpellable};
+ghost use Rattle.message_core.specs.declared.limits.TheConstants.{MAX_COMMUNITY};
 ghost use Rattle.vacm_core.specs.Families.{in_view};
 ghost use Rattle.agent_core.specs.Replies.{kind_reply, failed, get_reply, next_reply, bulk_reply};
-ghost use Rattle.agent_core.specs.Answers.{IsSent, IsStep, dropped};
+ghost use Rattle.agent_core.specs.Answers.{IsSent, IsStep, drop_audit};
 
 use crate::answered::Answered;
 use crate::buffer::Buffer;
@@ -31,8 +32,8 @@ use vacm_core::Name;
 /// The caller hands in a request whose names and OBJECT IDENTIFIER values have a spelling, as `decode` gives it.
 ///
 /// # Errors
-/// Only memory can fail: then the buffer is empty, the world is as before, and the request is one that has a reply. A request that is
-/// dropped, since its community or its context is not known, takes none.
+/// Only memory can fail: then the buffer is empty, the world is as before, and the request is one that is let in to a view and reads.
+/// A request that is dropped or refused, one without bindings and a Set take none.
 #[tactic(auto, unfolding(crate::specs::Answers::outcome_of, crate::specs::Answers::world_after))]
 pub fn answer(
     alloc: Global,
@@ -73,7 +74,7 @@ pub fn answer(
 
 // What a request is answered that is dropped. Takes no memory.
 fn drop_request(alloc: Global, request: &Request, cause: Cause) -> Answered
-    ensures { result ≡ Answered.NoReply (dropped request.now cause).audit }
+    ensures { result ≡ Answered.NoReply (drop_audit request.now cause) }
 {
     Answered::NoReply(Audit {
         kind: request.kind,
@@ -106,10 +107,10 @@ fn reply_with(
 }
 
 /// Writes the reply to a request that found no memory: genErr, index 0, its own bindings, or tooBig where that is too long.
-/// It takes no memory, and answers how many octets the reply has. The community has at most 255 octets, and the names and OBJECT
-/// IDENTIFIER values have a spelling: `answer` fails for no other request.
+/// It takes no memory, and answers how many octets the reply has. The community has at most `MAX_COMMUNITY`, 255,
+/// octets, and the names and OBJECT IDENTIFIER values have a spelling: `answer` fails for no other request.
 pub fn short_reply(request: &Request, buffer: &mut Buffer) -> usize
-    requires community { length request.now.community ≤ 255 }
+    requires community { length request.now.community ≤ MAX_COMMUNITY }
     requires spellable { AreSpellable request.now.bindings }
     ensures reply { buffer.new.reply ≡ canon_reply (failed request.now) }
     ensures len { result ≡ length buffer.new.reply }
@@ -127,15 +128,15 @@ fn send_allowed(
     request: &Request,
     buffer: &mut Buffer,
 ) -> Result<SentReply, AllocError>
-    requires community { length request.now.community ≤ 255 }
+    requires community { length request.now.community ≤ MAX_COMMUNITY }
     requires spellable { AreSpellable request.now.bindings }
     ensures sent { IfOk result (λ sent. IsSent (kind_reply world.now.objects (in_view world.now.policy.vacm.families view.now) world.now.instances request.now request.now.kind) sent buffer.new) }
     ensures err { OnErr result (buffer.new ≡ buffer.old) }
+    ensures takes { OnErr result (request.now.kind ≢ Kind.Set) }
 {
     let vacm = world.policy().vacm();
     let view = PolicyView { vacm, view };
-    let sent = send_kind(alloc, world, &view, request, buffer)?;
-    Ok(sent)
+    send_kind(alloc, world, &view, request, buffer)
 }
 
 // Answers a request by its kind.
@@ -146,13 +147,16 @@ fn send_kind<S: Source, V: View>(
     request: &Request,
     buffer: &mut Buffer,
 ) -> Result<SentReply, AllocError>
-    requires community { length request.now.community ≤ 255 }
+    requires community { length request.now.community ≤ MAX_COMMUNITY }
     requires spellable { AreSpellable request.now.bindings }
     ensures sent { IfOk result (λ sent. IsSent (kind_reply (S.objects source.now) (V.shows view.now) (S.instances source.now) request.now request.now.kind) sent buffer.new) }
     ensures err { OnErr result (buffer.new ≡ buffer.old) }
+    ensures takes { OnErr result (request.now.kind ≢ Kind.Set) }
 {
     match request.kind {
-        Kind::Get => send_get(alloc, source, view, request, buffer),
+        Kind::Get => {
+            send_get::<S, V, Brand>(alloc, source, view, request, buffer, Blank::new(1))
+        }
         Kind::GetNext => {
             send_get_next::<S, V, Brand>(alloc, source, view, request, buffer, Blank::new(1))
         }
@@ -163,21 +167,26 @@ fn send_kind<S: Source, V: View>(
     }
 }
 
-// Answers a Get.
-fn send_get<S: Source, V: View>(
+// Answers a Get, and counts nothing: the ledger is a new one.
+fn send_get<S: Source, V: View, L: Ledger>(
     alloc: Global,
     source: &S,
     view: &V,
     request: &Request,
     buffer: &mut Buffer,
+    blank: Blank,
 ) -> Result<SentReply, AllocError>
-    requires community { length request.now.community ≤ 255 }
+    requires community { length request.now.community ≤ MAX_COMMUNITY }
     requires spellable { AreSpellable request.now.bindings }
+    requires name { blank.name ≡ L.name }
+    requires parts { blank.parts ≡ L.parts }
+    requires some { 0 < blank.parts }
     ensures sent { IfOk result (λ sent. IsSent (get_reply (S.objects source.now) (V.shows view.now) (S.instances source.now) request.now) sent buffer.new) }
     ensures err { OnErr result (buffer.new ≡ buffer.old) }
 {
+    let mut steps: Steps<L> = Steps::new(blank);
     source.known();
-    let answers = get_all(alloc, source, view, request.bindings.as_slice())?;
+    let answers = get_all(alloc, source, view, request.bindings.as_slice(), &mut steps)?;
     Ok(buffer.put(request, ErrorStatus::NoError, answers.as_slice()))
 }
 
@@ -190,7 +199,7 @@ fn send_get_next<S: Source, V: View, L: Ledger>(
     buffer: &mut Buffer,
     blank: Blank,
 ) -> Result<SentReply, AllocError>
-    requires community { length request.now.community ≤ 255 }
+    requires community { length request.now.community ≤ MAX_COMMUNITY }
     requires spellable { AreSpellable request.now.bindings }
     requires name { blank.name ≡ L.name }
     requires parts { blank.parts ≡ L.parts }
@@ -213,7 +222,7 @@ fn send_get_bulk<S: Source, V: View, L: Ledger>(
     buffer: &mut Buffer,
     blank: Blank,
 ) -> Result<SentReply, AllocError>
-    requires community { length request.now.community ≤ 255 }
+    requires community { length request.now.community ≤ MAX_COMMUNITY }
     requires spellable { AreSpellable request.now.bindings }
     requires name { blank.name ≡ L.name }
     requires parts { blank.parts ≡ L.parts }

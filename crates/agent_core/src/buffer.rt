@@ -1,6 +1,7 @@
 ghost use Rattle.std.specs.Prelude.{◌≡◌, ◌≤◌, [], length, pos, take};
 ghost use Rattle.message_core.specs.Canon.{canon_reply, answer_to};
 ghost use Rattle.message_core.specs.Spellable.{AreSpellable};
+ghost use Rattle.message_core.specs.declared.limits.TheConstants.{MAX_COMMUNITY};
 ghost use Rattle.agent_core.specs.Replies.{sized};
 ghost use Rattle.agent_core.specs.Answers.{IsSent};
 
@@ -9,7 +10,7 @@ use message_core::laws::short_reply_fits;
 use message_core::{Binding, ErrorStatus, MAX_REPLY, Request, TooBig, encode_answer};
 use std::marker::Model;
 
-/// Room for what one event gives to send: one reply of at most 1,472 octets. It takes no memory.
+/// Room for what one event gives to send: one reply of at most `MAX_REPLY`, 1,472, octets. It takes no memory.
 #[derive(Drop)]
 pub struct Buffer {
     octets: [u8; MAX_REPLY],
@@ -18,13 +19,14 @@ pub struct Buffer {
 
 impl Model for Buffer {
     ghost use Rattle.std.specs.Prelude.{◌≤◌, take};
+    ghost use Rattle.message_core.specs.declared.limits.TheConstants.{MAX_REPLY};
     ghost use Rattle.agent_core.specs.Buffered.{Buffered};
 
     ghost Value = { Buffered };
 
     ghost view = { λ b. record { reply = take b.length b.octets } };
 
-    ghost invariant = { λ b. b.length ≤ 1472 };
+    ghost invariant = { λ b. b.length ≤ MAX_REPLY };
 }
 
 impl Buffer {
@@ -59,7 +61,7 @@ impl Buffer {
         status: ErrorStatus,
         bindings: &[Binding],
     ) -> SentReply
-        requires community { length request.now.community ≤ 255 }
+        requires community { length request.now.community ≤ MAX_COMMUNITY }
         requires spellable { AreSpellable bindings.now }
         ensures { IsSent (sized (answer_to request.now status (pos 0) bindings.now)) result self.new }
     {
@@ -76,10 +78,10 @@ fn put_sized(
     bindings: &[Binding],
     octets: &mut [u8; MAX_REPLY],
 ) -> SentReply
-    requires community { length request.now.community ≤ 255 }
+    requires community { length request.now.community ≤ MAX_COMMUNITY }
     requires spellable { AreSpellable bindings.now }
     ensures sent { IsSent (sized (answer_to request.now status (pos 0) bindings.now)) result (record { reply = take result.length octets.new }) }
-    ensures most { result.length ≤ 1472 }
+    ensures most { result.length ≤ MAX_REPLY }
 {
     match encode_answer(request, status, 0, bindings, octets) {
         Ok(length) => SentReply {
@@ -95,12 +97,12 @@ fn put_sized(
     }
 }
 
-// Writes tooBig without bindings, which fits beside a community of at most 255 octets.
+// Writes tooBig without bindings, which fits beside a community of at most `MAX_COMMUNITY` octets.
 fn put_too_big(request: &Request, octets: &mut [u8; MAX_REPLY]) -> usize
-    requires { length request.now.community ≤ 255 }
+    requires { length request.now.community ≤ MAX_COMMUNITY }
     ensures reply { take result octets.new ≡ canon_reply (answer_to request.now ErrorStatus.TooBig (pos 0) []) }
     ensures len { result ≡ length (canon_reply (answer_to request.now ErrorStatus.TooBig (pos 0) [])) }
-    ensures most { result ≤ 1472 }
+    ensures most { result ≤ MAX_REPLY }
 {
     short_reply_fits();
     match encode_answer(request, ErrorStatus::TooBig, 0, &[], octets) {

@@ -2,10 +2,12 @@ ghost use Rattle.std.specs.Prelude.{◌≡◌, ◌≤◌, ◌+◌, ◌*◌, ◌+
 ghost use Rattle.std.specs.List.{AllByRecursion};
 ghost use Rattle.oid_core.specs.Name.{HasRoot};
 ghost use Rattle.message_core.specs.Spellable.{AreSpellable};
+ghost use Rattle.message_core.specs.declared.limits.TheConstants.{MAX_COMMUNITY};
 ghost use Rattle.message_core.specs.Instances.{names_of};
 ghost use Rattle.agent_core.specs.Reading.{visible, next_answer, next_answers};
+ghost use Rattle.agent_core.specs.Looking.{most_looks};
 ghost use Rattle.agent_core.specs.Bulk.{all_end, repetitions, bulk_list, count_of, asked_list};
-ghost use Rattle.agent_core.specs.Fitting.{fitting, fit_into, IsFilled};
+ghost use Rattle.agent_core.specs.Fitting.{fitting, fit_into, most_successors, IsFilled};
 ghost use Rattle.message_core.specs.declared.binding.Binding.{Binding};
 
 use crate::nexts::get_next;
@@ -32,7 +34,7 @@ fn send_next<S: Source, V: View, L: Ledger>(
     ensures fits { IfOk result (λ taken. taken ≡ fit_into sent.old.room (sent.old.bindings ++ next_answer (visible (V.shows view.now) (S.instances source.now)) name.now ∷ [])) }
     ensures room { sent.new.room ≡ sent.old.room }
     ensures err { OnErr result (sent.new.bindings ≡ sent.old.bindings) }
-    ensures work { steps.new ≡ steps.old + 1 }
+    ensures work { steps.new ≤ steps.old + most_looks (V.shows view.now) (S.instances source.now) }
 {
     let row = get_next(alloc, source, view, name, steps)?;
     sent.offer(row)
@@ -53,8 +55,10 @@ fn repeat_once<S: Source, V: View, L: Ledger>(
     ensures cut { IfOk result (λ whole. whole ≡ false → (more : List Binding) →
         IsFilled sent.new.room (sent.old.bindings ++ (next_answers (visible (V.shows view.now) (S.instances source.now)) names.now ++ more)) sent.new.bindings) }
     ensures room { sent.new.room ≡ sent.old.room }
-    ensures work { steps.new + length sent.old.bindings ≤ steps.old + length sent.new.bindings + 1 }
-    ensures whole_work { IfOk result (λ whole. IsTrue whole → steps.new + length sent.old.bindings ≡ steps.old + length sent.new.bindings) }
+    ensures work { let most = most_looks (V.shows view.now) (S.instances source.now) in
+        steps.new + length sent.old.bindings * most ≤ steps.old + (length sent.new.bindings + 1) * most }
+    ensures whole_work { let most = most_looks (V.shows view.now) (S.instances source.now) in
+        IfOk result (λ whole. IsTrue whole → steps.new + length sent.old.bindings * most ≤ steps.old + length sent.new.bindings * most) }
 {
     for name in names {
         if !send_next(alloc, source, view, name, sent, steps)? {
@@ -101,7 +105,8 @@ fn repeat<S: Source, V: View, L: Ledger>(
     requires { AllByRecursion HasRoot columns.items }
     ensures filled { OnOk result (IsFilled sent.old.room (sent.old.bindings ++ repetitions (visible (V.shows view.now) (S.instances source.now)) most columns.items) sent.new.bindings) }
     ensures room { sent.new.room ≡ sent.old.room }
-    ensures work { steps.new + length sent.old.bindings ≤ steps.old + length sent.new.bindings + 1 }
+    ensures work { let most = most_looks (V.shows view.now) (S.instances source.now) in
+        steps.new + length sent.old.bindings * most ≤ steps.old + (length sent.new.bindings + 1) * most }
 {
     let mut names = columns;
     for i in 0..most {
@@ -132,7 +137,8 @@ fn send_list<S: Source, V: View, L: Ledger>(
     requires spellable { AreSpellable asked.now }
     ensures filled { OnOk result (IsFilled sent.old.room (sent.old.bindings ++ bulk_list (visible (V.shows view.now) (S.instances source.now)) once most (names_of asked.now)) sent.new.bindings) }
     ensures room { sent.new.room ≡ sent.old.room }
-    ensures work { steps.new + length sent.old.bindings ≤ steps.old + length sent.new.bindings + 1 }
+    ensures work { let most = most_looks (V.shows view.now) (S.instances source.now) in
+        steps.new + length sent.old.bindings * most ≤ steps.old + (length sent.new.bindings + 1) * most }
 {
     let first = copied_names(alloc, &asked[..once])?;
     if !repeat_once(alloc, source, view, first.as_slice(), sent, steps)? {
@@ -165,11 +171,11 @@ fn max_repetitions(request: &Request) -> u32
     count_of(request.second)
 }
 
-/// What GetBulk answers (RFC 3416, 4.2.3): the longest front of the list that it asks for whose reply has at most 1,472 octets.
+/// What GetBulk answers (RFC 3416, 4.2.3): the longest front of the list that it asks for whose reply has at most `MAX_REPLY`, 1,472, octets.
 ///
-/// It takes a step for each successor in the view that it looks for: one for each binding that is sent, and one more, whatever
-/// max-repetitions says. A binding has 6 octets or more, so those are at most 246, also where memory fails. Instances outside the
-/// view that are passed over do not count. Only memory can fail.
+/// It looks for a successor in the view for each binding that is sent, and for one more, whatever max-repetitions says: at most
+/// `most_successors`, 246, also where memory fails. Each look at the source is a step, and a successor takes one for each hidden
+/// instance that is passed over, and one more: at most `most_looks`. Only memory can fail.
 pub fn get_bulk<S: Source, V: View, L: Ledger>(
     alloc: Global,
     source: &S,
@@ -177,12 +183,12 @@ pub fn get_bulk<S: Source, V: View, L: Ledger>(
     request: &Request,
     steps: &mut Steps<L>,
 ) -> Result<Bindings, AllocError>
-    requires community { length request.now.community ≤ 255 }
+    requires community { length request.now.community ≤ MAX_COMMUNITY }
     requires spellable { AreSpellable request.now.bindings }
     ensures answer { IfOk result (λ sent. sent ≡ fitting request.now (asked_list (visible (V.shows view.now) (S.instances source.now)) request.now)) }
     ensures spellable { IfOk result (λ sent. AreSpellable sent) }
-    ensures work { IfOk result (λ sent. steps.new ≤ steps.old + length sent + 1) }
-    ensures most_work { steps.new ≤ steps.old + 246 }
+    ensures work { IfOk result (λ sent. steps.new ≤ steps.old + (length sent + 1) * most_looks (V.shows view.now) (S.instances source.now)) }
+    ensures most_work { steps.new ≤ steps.old + most_successors * most_looks (V.shows view.now) (S.instances source.now) }
 {
     let asked = request.bindings.as_slice();
     let once = non_repeaters(request);

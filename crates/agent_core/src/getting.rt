@@ -1,16 +1,19 @@
-ghost use Rattle.std.specs.Prelude.{◌≡◌, IfOk, None};
+ghost use Rattle.std.specs.Prelude.{◌≡◌, ◌+◌, ◌*◌, ◌≤◌, IfOk, None, length};
 ghost use Rattle.std.specs.List.{list_any};
 ghost use Rattle.oid_core.specs.Order.{is_prefix};
 ghost use Rattle.oid_core.specs.Name.{HasRoot};
 ghost use Rattle.message_core.specs.Spellable.{AreSpellable, IsSpellableBinding};
 ghost use Rattle.message_core.specs.Instances.{value_of};
 ghost use Rattle.agent_core.specs.Reading.{visible, get_answer, get_answers, is_known, object_of, or_missing};
+ghost use Rattle.agent_core.specs.Looking.{most_looks};
 
 use crate::reading::next_shown;
 use crate::source::{Source, View};
 use message_core::{Binding, Bindings, Value};
 use oid_core::Oid;
 use std::alloc::{AllocError, Global};
+use std::sync::ledger::Ledger;
+use steps::Steps;
 
 // The value under a name, where the view shows it.
 fn shown_value<S: Source, V: View>(
@@ -24,38 +27,41 @@ fn shown_value<S: Source, V: View>(
     if !view.has_name(name) {
         return Ok(None);
     }
-    let found = source.get(alloc, name)?;
-    Ok(found)
+    source.get(alloc, name)
 }
 
 // Whether the view shows an instance whose name begins so.
-fn shows_below<S: Source, V: View>(
+fn shows_below<S: Source, V: View, L: Ledger>(
     alloc: Global,
     source: &S,
     view: &V,
     object: &Oid,
+    steps: &mut Steps<L>,
 ) -> Result<bool, AllocError>
-    ensures { IfOk result (λ b. b ≡ list_any (λ row. is_prefix object.now row.name) (visible (V.shows view.now) (S.instances source.now))) }
+    ensures answer { IfOk result (λ b. b ≡ list_any (λ row. is_prefix object.now row.name) (visible (V.shows view.now) (S.instances source.now))) }
+    ensures work { steps.new ≤ steps.old + most_looks (V.shows view.now) (S.instances source.now) }
 {
     source.known();
     if let Some(_itself) = shown_value(alloc, source, view, object)? {
         return Ok(true);
     }
-    match next_shown(alloc, source, view, object)? {
+    match next_shown(alloc, source, view, object, steps)? {
         Some(row) => Ok(object.is_prefix(&row.name)),
         None => Ok(false),
     }
 }
 
 // Whether an object begins the name, and the name is in the view or the view shows an instance of that object.
-fn knows_object<S: Source, V: View>(
+fn knows_object<S: Source, V: View, L: Ledger>(
     alloc: Global,
     source: &S,
     view: &V,
     shown: bool,
     name: &Oid,
+    steps: &mut Steps<L>,
 ) -> Result<bool, AllocError>
-    ensures { IfOk result (λ b. b ≡ is_known shown (visible (V.shows view.now) (S.instances source.now)) (object_of (S.objects source.now) name.now)) }
+    ensures answer { IfOk result (λ b. b ≡ is_known shown (visible (V.shows view.now) (S.instances source.now)) (object_of (S.objects source.now) name.now)) }
+    ensures work { steps.new ≤ steps.old + most_looks (V.shows view.now) (S.instances source.now) }
 {
     let Some(object) = source.object(name) else {
         return Ok(false);
@@ -63,7 +69,7 @@ fn knows_object<S: Source, V: View>(
     if shown {
         return Ok(true);
     }
-    shows_below(alloc, source, view, object)
+    shows_below(alloc, source, view, object, steps)
 }
 
 // What stands under a name that has no value.
@@ -78,13 +84,17 @@ fn missing(known: bool) -> Value
 }
 
 /// What Get answers under a name (RFC 3416, 4.2.1), over the instances that the view shows. Only memory can fail.
-pub fn get<S: Source, V: View>(
+///
+/// It looks for one successor at most, to see whether an object has an instance in the view.
+pub fn get<S: Source, V: View, L: Ledger>(
     alloc: Global,
     source: &S,
     view: &V,
     name: &Oid,
+    steps: &mut Steps<L>,
 ) -> Result<Binding, AllocError>
-    ensures { IfOk result (λ b. b ≡ get_answer (S.objects source.now) (V.shows view.now name.now) (visible (V.shows view.now) (S.instances source.now)) name.now) }
+    ensures answer { IfOk result (λ b. b ≡ get_answer (S.objects source.now) (V.shows view.now name.now) (visible (V.shows view.now) (S.instances source.now)) name.now) }
+    ensures work { steps.new ≤ steps.old + most_looks (V.shows view.now) (S.instances source.now) }
 {
     let Ok(asked) = name.try_copy(alloc) else {
         return Err(AllocError);
@@ -93,7 +103,7 @@ pub fn get<S: Source, V: View>(
         return Ok(Binding { name: asked, value });
     }
     let shown = view.has_name(name);
-    let known = knows_object(alloc, source, view, shown, name)?;
+    let known = knows_object(alloc, source, view, shown, name, steps)?;
     Ok(Binding {
         name: asked,
         value: missing(known),
@@ -101,17 +111,19 @@ pub fn get<S: Source, V: View>(
 }
 
 /// What Get answers to each asked name, in order. Only memory can fail.
-pub fn get_all<S: Source, V: View>(
+pub fn get_all<S: Source, V: View, L: Ledger>(
     alloc: Global,
     source: &S,
     view: &V,
     asked: &[Binding],
+    steps: &mut Steps<L>,
 ) -> Result<Bindings, AllocError>
-    ensures { IfOk result (λ answers. answers ≡ get_answers (S.objects source.now) (V.shows view.now) (S.instances source.now) asked.now) }
+    ensures answers { IfOk result (λ answers. answers ≡ get_answers (S.objects source.now) (V.shows view.now) (S.instances source.now) asked.now) }
+    ensures work { steps.new ≤ steps.old + length asked.now * most_looks (V.shows view.now) (S.instances source.now) }
 {
     let mut answers = Bindings::new(alloc);
     for binding in asked {
-        answers.push(get(alloc, source, view, &binding.name)?)?;
+        answers.push(get(alloc, source, view, &binding.name, steps)?)?;
     }
     Ok(answers)
 }

@@ -1,5 +1,5 @@
 //! Laws of what a manager can see, over the definitions alone. Each stands on a function that does nothing.
-ghost use Rattle.std.specs.Prelude.{◌≡◌, ◌*◌, ◌≤◌, ℕ, suc, Bool, List, [], ◌∷◌, ◌++◌, length, All, MatchOption};
+ghost use Rattle.std.specs.Prelude.{◌≡◌, ◌*◌, ◌≤◌, ℕ, suc, Bool, List, [], ◌∷◌, ◌++◌, length, All, IsTrue, Some};
 ghost use Rattle.message_core.specs.declared.binding.Binding.{Binding};
 ghost use Rattle.message_core.specs.declared.request.Request.{Request};
 ghost use Rattle.message_core.specs.declared.request.Kind.TheVariants.{Get};
@@ -7,11 +7,13 @@ ghost use Rattle.vacm_core.specs.Families.{in_view};
 ghost use Rattle.decision.specs.declared.keys.AccessKey.{AccessKey};
 ghost use Rattle.decision.specs.declared.choice.Decision.TheVariants.{Allowed};
 ghost use Rattle.decision.specs.Deciding.{decided};
-ghost use Rattle.agent_core.specs.World.{Shown};
-ghost use Rattle.message_core.specs.Instances.{IsRising, IsLeastAfter, after, next_of};
-ghost use Rattle.agent_core.specs.Reading.{visible, end_under};
+ghost use Rattle.agent_core.specs.World.{Shown, AreApart};
+ghost use Rattle.oid_core.specs.Order.{is_prefix};
+ghost use Rattle.message_core.specs.Instances.{IsRising, after};
+ghost use Rattle.message_core.specs.declared.limits.TheConstants.{MAX_COMMUNITY, MAX_REPLY};
+ghost use Rattle.agent_core.specs.Reading.{visible, object_of, end_under};
 ghost use Rattle.agent_core.specs.Bulk.{repetitions, IsRepeated};
-ghost use Rattle.agent_core.specs.Fitting.{fitting, IsLongestFitting};
+ghost use Rattle.agent_core.specs.Fitting.{fitting, least_binding, IsLongestFitting};
 ghost use Rattle.agent_core.specs.Replies.{AgreesOnAsked, get_reply, next_reply, bulk_reply, walk, last_name};
 ghost use Rattle.agent_core.specs.Answers.{reply_of};
 
@@ -43,15 +45,15 @@ pub fn walk_lists_all()
         walk (visible shows rows) (suc (length rest)) name ≡ rest ++ end_under (last_name name rest) ∷ [] }
 {}
 
-/// What is first after a name is the least of the greater ones, and where there is none, no name is greater.
-pub fn first_is_least()
-    ensures { (rows : List Binding) (name : List ℕ) → IsRising rows →
-        MatchOption (next_of rows name) (after name rows ≡ []) (λ row. IsLeastAfter rows name row) }
+/// Where no object's name begins another's, the object of a name is the one that begins it: there is no other.
+pub fn one_object()
+    ensures { (objects : List (List ℕ)) (name : List ℕ) → AreApart objects →
+        All (λ object. IsTrue (is_prefix object name) → object_of objects name ≡ Some object) objects }
 {}
 
-/// What GetBulk sends is the longest front of its list that fits into 1,472 octets; a community has at most 255 octets.
+/// What GetBulk sends is the longest front of its list that fits into a reply; a community has at most `MAX_COMMUNITY` octets.
 pub fn fitting_is_longest()
-    ensures { (request : Request) (all : List Binding) → length request.community ≤ 255 → IsLongestFitting request all (fitting request all) }
+    ensures { (request : Request) (all : List Binding) → length request.community ≤ MAX_COMMUNITY → IsLongestFitting request all (fitting request all) }
 {}
 
 /// A GetBulk repeats (RFC 3416, 4.2.3): the binding of repetition r and column c is the r-th successor of that column's name, each
@@ -61,7 +63,7 @@ pub fn repetitions_are_successors()
         (count : ℕ) × IsRepeated rows names most count (repetitions rows most names) }
 {}
 
-/// Few bindings fit: each has 6 octets or more.
+/// Few bindings fit: each has `least_binding`, 6, octets or more.
 pub fn few_fit()
-    ensures { (request : Request) (all : List Binding) → length request.community ≤ 255 → 6 * length (fitting request all) ≤ 1472 }
+    ensures { (request : Request) (all : List Binding) → length request.community ≤ MAX_COMMUNITY → least_binding * length (fitting request all) ≤ MAX_REPLY }
 {}

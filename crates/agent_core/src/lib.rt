@@ -3,16 +3,16 @@
 //! # Entry points
 //! [`answer`] is one step of a request over a [`PlainWorld`]: its reply stands in a [`Buffer`], its audit is given, a
 //! drop is counted; [`short_reply`] writes the reply for a want of memory, and takes none. [`get`], [`get_next`] and
-//! [`get_bulk`] answer from any [`Source`] under any [`View`].
+//! [`get_bulk`] answer from any [`Source`] under any [`View`], and each look for a successor is a step.
 //!
 //! # Definitions
 //! `specs/Answers.antt`: the step; `specs/Replies.antt`: replies by kind, and the size rule; `specs/Reading.antt`: what
-//! is visible, Get and GetNext; `specs/Bulk.antt`, `specs/Fitting.antt`: GetBulk; `specs/Denying.antt`: denied
-//! bindings; `specs/World.antt`: the plain world.
+//! is visible, Get and GetNext; `specs/Looking.antt`: the looks that a successor takes; `specs/Bulk.antt`,
+//! `specs/Fitting.antt`: GetBulk; `specs/Denying.antt`: denied bindings; `specs/World.antt`: the plain world.
 //!
 //! # Laws
-//! In [`laws`]: replies hang on nothing but what is visible; repeated GetNext lists all of it; repetitions are
-//! successors; the longest front that fits.
+//! In [`laws`]: replies hang on nothing but what is visible; repeated GetNext lists all of it; a name has one object;
+//! repetitions are successors; the longest front that fits.
 //!
 //! # Not claimed
 //! That memory was refused where want of it is answered; Set, which is genErr today.

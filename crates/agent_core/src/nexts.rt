@@ -1,8 +1,9 @@
-ghost use Rattle.std.specs.Prelude.{◌≡◌, ◌+◌, ◌≤◌, IfOk, length};
+ghost use Rattle.std.specs.Prelude.{◌≡◌, ◌+◌, ◌*◌, ◌≤◌, IfOk, length};
 ghost use Rattle.oid_core.specs.Name.{HasRoot};
 ghost use Rattle.message_core.specs.Spellable.{IsSpellableBinding};
 ghost use Rattle.message_core.specs.Instances.{names_of};
 ghost use Rattle.agent_core.specs.Reading.{visible, next_answer, next_answers, end_under};
+ghost use Rattle.agent_core.specs.Looking.{most_looks};
 
 use crate::reading::next_shown;
 use crate::source::{Source, View};
@@ -27,7 +28,7 @@ fn end_under(alloc: Global, name: &Oid) -> Result<Binding, AllocError>
 
 /// What GetNext answers under a name (RFC 3416, 4.2.2), over the instances that the view shows. Only memory can fail.
 ///
-/// It is one step: one successor is looked for in the view.
+/// It looks at the source once for each hidden instance that it passes over, and once more.
 pub fn get_next<S: Source, V: View, L: Ledger>(
     alloc: Global,
     source: &S,
@@ -37,17 +38,16 @@ pub fn get_next<S: Source, V: View, L: Ledger>(
 ) -> Result<Binding, AllocError>
     ensures answer { IfOk result (λ b. b ≡ next_answer (visible (V.shows view.now) (S.instances source.now)) name.now) }
     ensures spellable { IfOk result (λ b. HasRoot name.now → IsSpellableBinding b) }
-    ensures work { steps.new ≡ steps.old + 1 }
+    ensures work { steps.new ≤ steps.old + most_looks (V.shows view.now) (S.instances source.now) }
 {
-    steps.tick();
     source.known();
-    match next_shown(alloc, source, view, name)? {
+    match next_shown(alloc, source, view, name, steps)? {
         Some(row) => Ok(row),
         None => end_under(alloc, name),
     }
 }
 
-/// What GetNext answers under each asked name, in order, by one step for each. Only memory can fail.
+/// What GetNext answers under each asked name, in order, by the looks of one successor for each. Only memory can fail.
 pub fn get_next_all<S: Source, V: View, L: Ledger>(
     alloc: Global,
     source: &S,
@@ -56,7 +56,7 @@ pub fn get_next_all<S: Source, V: View, L: Ledger>(
     steps: &mut Steps<L>,
 ) -> Result<Bindings, AllocError>
     ensures answers { IfOk result (λ answers. answers ≡ next_answers (visible (V.shows view.now) (S.instances source.now)) (names_of asked.now)) }
-    ensures work { steps.new ≤ steps.old + length asked.now }
+    ensures work { steps.new ≤ steps.old + length asked.now * most_looks (V.shows view.now) (S.instances source.now) }
 {
     let mut answers = Bindings::new(alloc);
     for binding in asked {

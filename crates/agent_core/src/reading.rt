@@ -1,40 +1,47 @@
-ghost use Rattle.std.specs.Prelude.{◌≡◌, IfOk};
+ghost use Rattle.std.specs.Prelude.{◌≡◌, ◌≤◌, ◌+◌, IfOk};
 ghost use Rattle.message_core.specs.Instances.{next_of};
 ghost use Rattle.agent_core.specs.Reading.{visible};
+ghost use Rattle.agent_core.specs.Looking.{most_looks};
 
 use crate::source::{Source, View};
 use message_core::Binding;
 use oid_core::Oid;
 use std::alloc::{AllocError, Global};
+use std::sync::ledger::Ledger;
+use steps::Steps;
 
-// The first instance after a name that the view shows.
-pub fn next_shown<S: Source, V: View>(
+// The first instance after a name that the view shows. Each look at the source is a step: one for each hidden instance that is passed
+// over, and one more.
+pub fn next_shown<S: Source, V: View, L: Ledger>(
     alloc: Global,
     source: &S,
     view: &V,
     name: &Oid,
+    steps: &mut Steps<L>,
 ) -> Result<Option<Binding>, AllocError>
-    ensures { IfOk result (λ found. found ≡ next_of (visible (V.shows view.now) (S.instances source.now)) name.now) }
+    ensures found { IfOk result (λ found. found ≡ next_of (visible (V.shows view.now) (S.instances source.now)) name.now) }
+    ensures work { steps.new ≤ steps.old + most_looks (V.shows view.now) (S.instances source.now) }
 {
     source.known();
-    let mut found = source.next(alloc, name)?;
+    let mut found = source.next(alloc, name, steps)?;
     while let Some(row) = found {
         if view.has_name(&row.name) {
             return Ok(Some(row));
         }
-        found = next_row(alloc, source, row)?;
+        found = next_row(alloc, source, row, steps)?;
     }
     Ok(None)
 }
 
 // The first instance after another one, which is let go.
-fn next_row<S: Source>(
+fn next_row<S: Source, L: Ledger>(
     alloc: Global,
     source: &S,
     row: Binding,
+    steps: &mut Steps<L>,
 ) -> Result<Option<Binding>, AllocError>
-    ensures { IfOk result (λ found. found ≡ next_of (S.instances source.now) row.name) }
+    ensures found { IfOk result (λ found. found ≡ next_of (S.instances source.now) row.name) }
+    ensures work { steps.new ≡ steps.old + 1 }
 {
-    let found = source.next(alloc, &row.name)?;
-    Ok(found)
+    source.next(alloc, &row.name, steps)
 }

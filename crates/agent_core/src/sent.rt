@@ -1,5 +1,6 @@
 ghost use Rattle.std.specs.Prelude.{◌≡◌, ◌≤◌, ◌-◌, ◌++◌, [], ◌∷◌, IfOk, OnErr, IsTrue, true, false, length, drop};
 ghost use Rattle.message_core.specs.Spellable.{IsSpellableBinding, AreSpellable};
+ghost use Rattle.message_core.specs.declared.limits.TheConstants.{MAX_REPLY};
 ghost use Rattle.agent_core.specs.Fitting.{total, fit_into};
 
 use message_core::{Binding, Bindings, encoded_len};
@@ -27,7 +28,7 @@ impl Model for Sent {
 impl Sent {
     // No bindings, and room for so many octets.
     pub fn new(alloc: Global, room: usize) -> Sent
-        requires { room ≤ 1472 }
+        requires { room ≤ MAX_REPLY }
         ensures { result ≡ record { room = room; bindings = [] } }
     {
         Sent {

@@ -1,9 +1,11 @@
-ghost use Rattle.std.specs.Prelude.{◌≡◌, IfOk};
+ghost use Rattle.std.specs.Prelude.{◌≡◌, ◌+◌, IfOk};
 ghost use Rattle.std.specs.Option.{option_copied};
 
 use message_core::{Binding, Value};
 use oid_core::Oid;
 use std::alloc::{AllocError, Global};
+use std::sync::ledger::Ledger;
+use steps::Steps;
 
 /// A view of names (RFC 3415, 2.4): which of them may be read.
 pub trait View {
@@ -17,11 +19,12 @@ pub trait View {
         ensures { result ≡ shows self.now name.now };
 }
 
-/// Instances in the order of their names, each of which can be served, and the objects that they belong to.
+/// Instances in the order of their names, each of which can be served, and the objects that they belong to, none of which begins
+/// another.
 pub trait Source {
     ghost use Rattle.std.specs.Prelude.{List, ℕ};
     ghost use Rattle.agent_core.specs.Reading.{object_of};
-    ghost use Rattle.message_core.specs.Instances.{IsServable};
+    ghost use Rattle.agent_core.specs.World.{IsSource};
     ghost use Rattle.message_core.specs.Instances.{next_of, value_of};
     ghost use Rattle.message_core.specs.declared.binding.Binding.{Binding};
 
@@ -31,9 +34,9 @@ pub trait Source {
     // The names of the objects.
     ghost objects: { Self → List (List ℕ) };
 
-    /// Hands on that the names rise and that each instance can be served; it does nothing.
+    /// Hands on that the names rise, that each instance can be served, and that no object's name begins another's; it does nothing.
     fn known(&self)
-        ensures { IsServable (instances self.now) };
+        ensures { IsSource (instances self.now) (objects self.now) };
 
     /// The object whose name begins a name, where there is one; it has its name. Takes no memory.
     fn object(&self, name: &Oid) -> Option<&Oid>
@@ -43,7 +46,13 @@ pub trait Source {
     fn get(&self, alloc: Global, name: &Oid) -> Result<Option<Value>, AllocError>
         ensures { IfOk result (λ found. found ≡ value_of (instances self.now) name.now) };
 
-    /// A copy of the first instance after a name, where there is one. Only memory can fail.
-    fn next(&self, alloc: Global, name: &Oid) -> Result<Option<Binding>, AllocError>
-        ensures { IfOk result (λ found. found ≡ next_of (instances self.now) name.now) };
+    /// A copy of the first instance after a name, where there is one. It is one step. Only memory can fail.
+    fn next<L: Ledger>(
+        &self,
+        alloc: Global,
+        name: &Oid,
+        steps: &mut Steps<L>,
+    ) -> Result<Option<Binding>, AllocError>
+        ensures found { IfOk result (λ found. found ≡ next_of (instances self.now) name.now) }
+        ensures work { steps.new ≡ steps.old + 1 };
 }

@@ -79,6 +79,27 @@ impl View for Only<'_> {
     }
 }
 
+// What Get answers under a name.
+fn get_of(alloc: Global, world: &PlainWorld, view: &Only<'_>, name: &Oid) -> Result<Binding, Fail> {
+    get_counted::<Brand>(alloc, world, view, name, Blank::new(1))
+}
+
+// The same, with the steps in a new ledger.
+fn get_counted<L: Ledger>(
+    alloc: Global,
+    world: &PlainWorld,
+    view: &Only<'_>,
+    name: &Oid,
+    blank: Blank,
+) -> Result<Binding, Fail>
+    requires name { blank.name ≡ L.name }
+    requires parts { blank.parts ≡ L.parts }
+    requires some { 0 < blank.parts }
+{
+    let mut steps: Steps<L> = Steps::new(blank);
+    Ok(get(alloc, world, view, name, &mut steps)?)
+}
+
 #[test]
 fn tells_a_hidden_name_by_what_is_seen_beside_it(rt: HostRuntime) -> Result<(), Fail> {
     let world = ports(rt.alloc())?;
@@ -91,7 +112,7 @@ fn tells_a_hidden_name_by_what_is_seen_beside_it(rt: HostRuntime) -> Result<(), 
         ("1.3.6.1.2.1.17.2.15.1.4.1", 3),
     ] {
         let asked = named(rt.alloc(), text)?;
-        let answer = get(rt.alloc(), &world, &Only(&seen), &asked)?;
+        let answer = get_of(rt.alloc(), &world, &Only(&seen), &asked)?;
         let found = match answer.value {
             Value::Integer(1) => 1u8,
             Value::NoSuchInstance => 2,
@@ -141,6 +162,21 @@ fn refuses_a_world_that_cannot_be_spelled(rt: HostRuntime) -> Result<(), Fail> {
         matches!(
             PlainWorld::new(instances, Vec::new(rt.alloc()), no_policy(rt.alloc())?),
             Err(WorldFault::Unspellable)
+        )
+    );
+    Ok(())
+}
+
+#[test]
+fn refuses_a_world_of_nested_objects(rt: HostRuntime) -> Result<(), Fail> {
+    let mut objects = Vec::new(rt.alloc());
+    objects.push(named(rt.alloc(), "1.3.6.1")?)?;
+    objects.push(named(rt.alloc(), "1.3.7")?)?;
+    objects.push(named(rt.alloc(), "1.3.6")?)?;
+    assert!(rt;
+        matches!(
+            PlainWorld::new(Vec::new(rt.alloc()), objects, no_policy(rt.alloc())?),
+            Err(WorldFault::Nested)
         )
     );
     Ok(())

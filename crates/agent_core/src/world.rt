@@ -3,7 +3,8 @@ ghost use Rattle.oid_core.specs.Order.{name_lt};
 ghost use Rattle.std.specs.Option.{option_copied};
 ghost use Rattle.message_core.specs.Spellable.{AreSpellable};
 ghost use Rattle.message_core.specs.Instances.{IsInstanceValue};
-ghost use Rattle.agent_core.specs.World.{AreValued};
+ghost use Rattle.std.specs.List.{AllByRecursion};
+ghost use Rattle.agent_core.specs.World.{AreApart, is_apart};
 ghost use Rattle.agent_core.specs.Reading.{object_of};
 ghost use Rattle.message_core.specs.Instances.{IsRising, next_of, value_of};
 ghost use Rattle.agent_core.specs.Answers.{counted};
@@ -15,6 +16,8 @@ use message_core::{Binding, Value};
 use oid_core::{Oid, precedes, same_name};
 use std::alloc::{AllocError, Global};
 use std::marker::Model;
+use std::sync::ledger::Ledger;
+use steps::Steps;
 
 /// Why there is no plain world of some instances.
 #[derive(Clone, Copy, Debug, PartialEq, Eq)]
@@ -25,6 +28,8 @@ pub enum WorldFault {
     Unspellable,
     /// A value is an exception, which stands for the want of one (RFC 3416, section 3).
     Exceptional,
+    /// An object's name begins another's.
+    Nested,
 }
 
 /// A list of instances by rising name, the names of the objects that they belong to, the policy that says who may see which of them,
@@ -39,8 +44,7 @@ pub struct PlainWorld {
 }
 
 impl Model for PlainWorld {
-    ghost use Rattle.message_core.specs.Instances.{IsServable};
-    ghost use Rattle.agent_core.specs.World.{World};
+    ghost use Rattle.agent_core.specs.World.{World, IsSource};
 
     ghost Value = { World };
 
@@ -52,7 +56,7 @@ impl Model for PlainWorld {
       unknown_contexts = w.unknown_contexts;
     } };
 
-    ghost invariant = { λ w. IsServable w.instances.items };
+    ghost invariant = { λ w. IsSource w.instances.items w.objects.items };
 }
 
 impl PlainWorld {
@@ -60,7 +64,7 @@ impl PlainWorld {
     ///
     /// # Errors
     /// `Unsorted` where the names do not rise; else `Unspellable` where one has no spelling; else `Exceptional` where a value is an
-    /// exception.
+    /// exception; else `Nested` where an object's name begins another's.
     pub fn new(
         instances: Vec<Binding>,
         objects: Vec<Oid>,
@@ -75,7 +79,9 @@ impl PlainWorld {
         }) }
         ensures unsorted { IsErrOf result WorldFault.Unsorted ↔ ¬ IsRising instances.items }
         ensures unspellable { IsErrOf result WorldFault.Unspellable ↔ (IsRising instances.items × ¬ AreSpellable instances.items) }
-        ensures exceptional { IsErrOf result WorldFault.Exceptional ↔ (IsRising instances.items × AreSpellable instances.items × ¬ AreValued instances.items) }
+        ensures exceptional { IsErrOf result WorldFault.Exceptional ↔ (IsRising instances.items × AreSpellable instances.items × ¬ AllByRecursion (λ row. IsInstanceValue row.value) instances.items) }
+        ensures nested { IsErrOf result WorldFault.Nested ↔ (IsRising instances.items × AreSpellable instances.items ×
+            AllByRecursion (λ row. IsInstanceValue row.value) instances.items × ¬ AreApart objects.items) }
     {
         if !rises(instances.as_slice()) {
             return Err(WorldFault::Unsorted);
@@ -85,6 +91,9 @@ impl PlainWorld {
         }
         if !are_valued(instances.as_slice()) {
             return Err(WorldFault::Exceptional);
+        }
+        if !are_apart(objects.as_slice()) {
+            return Err(WorldFault::Nested);
         }
         Ok(PlainWorld {
             instances,
@@ -174,7 +183,7 @@ fn are_spellable(rows: &[Binding]) -> bool
 
 // Whether no value is an exception.
 fn are_valued(rows: &[Binding]) -> bool
-    ensures { IsTrue result ↔ AreValued rows.now }
+    ensures { IsTrue result ↔ AllByRecursion (λ row. IsInstanceValue row.value) rows.now }
 {
     let Some((row, others)) = rows.split_first() else {
         return true;
@@ -190,6 +199,25 @@ fn is_instance_value(value: &Value) -> bool
         value,
         Value::NoSuchObject | Value::NoSuchInstance | Value::EndOfMibView
     )
+}
+
+// Whether no name begins another.
+fn are_apart(names: &[Oid]) -> bool
+    ensures { IsTrue result ↔ AreApart names.now }
+{
+    let Some((name, others)) = names.split_first() else {
+        return true;
+    };
+    is_apart(name, others) && are_apart(others)
+}
+
+// Whether a name begins none of the others, and none of them begins it.
+fn is_apart(name: &Oid, others: &[Oid]) -> bool
+    ensures { IsTrue result ↔ All (λ other. IsTrue (is_apart name.now other)) others.now }
+{
+    others
+        .iter()
+        .all(|other| !name.is_prefix(other) && !other.is_prefix(name))
 }
 
 // The object whose name begins a name.
@@ -242,7 +270,13 @@ impl Source for PlainWorld {
         value_in(alloc, self.instances.as_slice(), name)
     }
 
-    fn next(&self, alloc: Global, name: &Oid) -> Result<Option<Binding>, AllocError> {
+    fn next<L: Ledger>(
+        &self,
+        alloc: Global,
+        name: &Oid,
+        steps: &mut Steps<L>,
+    ) -> Result<Option<Binding>, AllocError> {
+        steps.tick();
         next_in(alloc, self.instances.as_slice(), name)
     }
 }

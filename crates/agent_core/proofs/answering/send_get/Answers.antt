@@ -10,11 +10,11 @@ use Rattle.agent_core.proofs.answering.send_get.Goals as goal
 
 pub put-requires-clause-spellable : goal.put-requires-clause-spellable
 put-requires-clause-spellable g c =
-    let all : AreSpellable c.in_ok-answers.answers = rw (c.in_ok-answers.ensures, c.as_slice.ensures)
-    (answers_spellable (g.S.Source.objects c.args.source.now) (g.V.View.shows c.args.view.now) (g.S.Source.instances c.args.source.now) c.args.request.now.bindings c.known.ensures.spellable c.requires.spellable) in
+    let all : AreSpellable c.in_ok-answers.answers = rw (c.in_ok-answers.ensures.answers, c.as_slice.ensures)
+    (answers_spellable (g.S.Source.objects c.args.source.now) (g.V.View.shows c.args.view.now) (g.S.Source.instances c.args.source.now) c.args.request.now.bindings c.known.ensures.servable.spellable c.requires.spellable) in
     rw c.as_slice-2.ensures all
 
 pub returns-clause-sent : goal.returns-clause-sent
 returns-clause-sent g c =
     subst (λ (bs : List Binding). IsSent (sized (answer_to c.args.request.now NoError (pos 0) bs)) c.put.result c.put.new.self)
-    (c.as_slice-2.ensures ∙ rw (c.in_ok-answers.ensures, c.as_slice.ensures) refl) c.put.ensures
+    (c.as_slice-2.ensures ∙ rw (c.in_ok-answers.ensures.answers, c.as_slice.ensures) refl) c.put.ensures

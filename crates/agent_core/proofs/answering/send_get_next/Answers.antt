@@ -11,7 +11,7 @@ use Rattle.agent_core.proofs.answering.send_get_next.Goals as goal
 pub put-requires-clause-spellable : goal.put-requires-clause-spellable
 put-requires-clause-spellable g c =
     let all : AreSpellable c.in_ok-answers.answers = rw (c.in_ok-answers.ensures.answers, c.as_slice.ensures)
-    (nexts_spellable (g.V.View.shows c.args.view.now) (g.S.Source.instances c.args.source.now) c.args.request.now.bindings c.known.ensures.spellable c.requires.spellable) in
+    (nexts_spellable (g.V.View.shows c.args.view.now) (g.S.Source.instances c.args.source.now) c.args.request.now.bindings c.known.ensures.servable.spellable c.requires.spellable) in
     rw c.as_slice-2.ensures all
 
 pub returns-clause-sent : goal.returns-clause-sent

@@ -1,4 +1,4 @@
-use Rattle.std.proofs.Common.{◌≡◌, ◌∙◌, ◌++◌, ◌≤◌, [], refl, ap, sym, subst, List, length, min, rules, arith}
+use Rattle.std.proofs.Common.{◌≡◌, ◌∙◌, ◌++◌, ◌+◌, ◌*◌, ◌≤◌, ℕ, refl, ap, sym, subst, List, length, min, rules, arith}
 use Rattle.message_core.specs.declared.binding.Binding.{Binding}
 use Rattle.message_core.specs.Instances.{names_of}
 use Rattle.agent_core.specs.Reading.{visible}
@@ -7,6 +7,7 @@ use Rattle.agent_core.specs.Fitting.{total, IsFilled}
 use Rattle.agent_core.proofs.Fits.{filled_at}
 use Rattle.agent_core.proofs.Longest.{filled_fits}
 use Rattle.agent_core.proofs.LawProofs.{work_within}
+use Rattle.agent_core.specs.Looking.{most_looks}
 use Rattle.agent_core.proofs.bulk.get_bulk.Goals as goal
 
 pub returns-clause-answer : goal.returns-clause-answer
@@ -26,23 +27,29 @@ returns-clause-answer g c =
     let within : total c.send_list-filled.new.sent.bindings ≤ c.bindings_room.result = subst (λ r. total c.send_list-filled.new.sent.bindings ≤ r) (c.send_list-filled.ensures.room ∙ room) c.into_bindings-bindings.ensures.within in
     c.into_bindings-bindings.ensures.value ∙ filled_fits request c.bindings_room.result (asked_list rows request) c.send_list-filled.new.sent.bindings c.bindings_room.ensures.room within filled
 
--- what is sent fits, and a step was taken for each of it, and one more
+-- a successor is looked for for each binding that is sent, and one more
 pub returns-clause-work : goal.returns-clause-work
 returns-clause-work g c =
-    let none : c.new-sent.result.bindings ≡ [] = ap (λ s. s.bindings) c.new-sent.ensures in
-    omega (arith, c.send_list-filled.ensures.work, ap length none, ap length c.into_bindings-bindings.ensures.value)
+    let most : ℕ = most_looks (g.V.View.shows c.args.view.now) (g.S.Source.instances c.args.source.now) in
+    let sent : List Binding = c.send_list-filled.new.sent.bindings in
+    let looks : c.send_list-filled.new.steps ≤ c.args.steps.now + (length sent + 1) * most = omega (arith, c.send_list-filled.ensures.work) in
+    subst (λ (bs : List Binding). c.send_list-filled.new.steps ≤ c.args.steps.now + (length bs + 1) * most) (sym c.into_bindings-bindings.ensures.value) looks
 
 pub returns-clause-most_work : goal.returns-clause-most_work
 returns-clause-most_work g c =
+    let most : ℕ = most_looks (g.V.View.shows c.args.view.now) (g.S.Source.instances c.args.source.now) in
+    let sent : List Binding = c.send_list-filled.new.sent.bindings in
     let room : c.new-sent.result.room ≡ c.bindings_room.result = ap (λ s. s.room) c.new-sent.ensures in
-    let none : c.new-sent.result.bindings ≡ [] = ap (λ s. s.bindings) c.new-sent.ensures in
-    let within : total c.send_list-filled.new.sent.bindings ≤ c.bindings_room.result = subst (λ r. total c.send_list-filled.new.sent.bindings ≤ r) (c.send_list-filled.ensures.room ∙ room) c.into_bindings-bindings.ensures.within in
-    work_within c.args.steps.now c.send_list-filled.new.steps c.bindings_room.result c.send_list-filled.new.sent.bindings within c.bindings_room.ensures.most (omega (arith, c.send_list-filled.ensures.work, ap length none))
+    let within : total sent ≤ c.bindings_room.result = subst (λ r. total sent ≤ r) (c.send_list-filled.ensures.room ∙ room) c.into_bindings-bindings.ensures.within in
+    let looks : c.send_list-filled.new.steps ≤ c.args.steps.now + (length sent + 1) * most = omega (arith, c.send_list-filled.ensures.work) in
+    work_within c.args.steps.now c.send_list-filled.new.steps c.bindings_room.result most sent within c.bindings_room.ensures.most looks
 
 -- the same where memory fails
 pub returns-in_err-filled-clause-most_work : goal.returns-in_err-filled-clause-most_work
 returns-in_err-filled-clause-most_work g c =
+    let most : ℕ = most_looks (g.V.View.shows c.args.view.now) (g.S.Source.instances c.args.source.now) in
+    let sent : List Binding = c.send_list-filled.new.sent.bindings in
     let room : c.new-sent.result.room ≡ c.bindings_room.result = ap (λ s. s.room) c.new-sent.ensures in
-    let none : c.new-sent.result.bindings ≡ [] = ap (λ s. s.bindings) c.new-sent.ensures in
-    let within : total c.send_list-filled.new.sent.bindings ≤ c.bindings_room.result = subst (λ r. total c.send_list-filled.new.sent.bindings ≤ r) (c.send_list-filled.ensures.room ∙ room) c.into_bindings-bindings.ensures.within in
-    work_within c.args.steps.now c.send_list-filled.new.steps c.bindings_room.result c.send_list-filled.new.sent.bindings within c.bindings_room.ensures.most (omega (arith, c.send_list-filled.ensures.work, ap length none))
+    let within : total sent ≤ c.bindings_room.result = subst (λ r. total sent ≤ r) (c.send_list-filled.ensures.room ∙ room) c.into_bindings-bindings.ensures.within in
+    let looks : c.send_list-filled.new.steps ≤ c.args.steps.now + (length sent + 1) * most = omega (arith, c.send_list-filled.ensures.work) in
+    work_within c.args.steps.now c.send_list-filled.new.steps c.bindings_room.result most sent within c.bindings_room.ensures.most looks

@@ -6,6 +6,8 @@ use Rattle.message_core.specs.Instances.{names_of}
 use Rattle.agent_core.specs.Reading.{visible, next_answers}
 use Rattle.agent_core.specs.Bulk.{repetitions, all_end}
 use Rattle.agent_core.proofs.Fits.{repeat_cut, repeat_ended, repeat_more, repeat_done, last_is, last_count, rooted}
+use Rattle.agent_core.specs.Looking.{most_looks}
+use Rattle.agent_core.proofs.Looks.{beside_within}
 use Rattle.agent_core.proofs.bulk.repeat.Goals as goal
 
 pub returns-then-not-branch-clause-filled : goal.returns-then-not-branch-clause-filled
@@ -56,3 +58,7 @@ loop-i-preserved g c =
 pub returns-clause-filled : goal.returns-clause-filled
 returns-clause-filled g c =
     repeat_done (visible (g.V.View.shows c.args.view.now) (g.S.Source.instances c.args.source.now)) c.args.most c.loop-i.i c.args.sent.now.room c.loop-i.names.items _ c.loop-i.sent.bindings (omega arith) c.loop-i.invariant.all
+
+pub returns-clause-work : goal.returns-clause-work
+returns-clause-work g c =
+    beside_within c.args.steps.now c.loop-i.steps (length c.args.sent.now.bindings) (length c.loop-i.sent.bindings) (most_looks (g.V.View.shows c.args.view.now) (g.S.Source.instances c.args.source.now)) c.loop-i.invariant.work

@@ -1,10 +1,13 @@
-use Rattle.std.proofs.Common.{◌≡◌, ◌+◌, ◌++◌, length, take}
+use Rattle.std.proofs.Common.{◌≡◌, ◌≤◌, ◌+◌, ◌*◌, ◌++◌, length, take}
 use Rattle.agent_core.specs.Reading.{visible, next_answers}
+use Rattle.agent_core.specs.Looking.{most_looks}
 use Rattle.agent_core.proofs.bulk.repeat_once.Given as goal
 
 abbrev pub invariant-loop-name : goal.invariant-loop-name
 invariant-loop-name g l = record {
   whole : l.sent.bindings ≡ l.fn.sent.bindings ++ next_answers (visible (g.V.View.shows l.view) (g.S.Source.instances l.source)) (take l.name-index l.names);
   room : l.sent.room ≡ l.fn.sent.room;
-  work : l.steps + length l.fn.sent.bindings ≡ l.fn.steps + length l.sent.bindings;
+  work :
+      let most = most_looks (g.V.View.shows l.view) (g.S.Source.instances l.source) in
+      l.steps + length l.fn.sent.bindings * most ≤ l.fn.steps + length l.sent.bindings * most;
 }

@@ -5,4 +5,4 @@ use Rattle.agent_core.proofs.nexts.get_next.Goals as goal
 
 pub returns-in-Some-clause-spellable : goal.returns-in-Some-clause-spellable
 returns-in-Some-clause-spellable g c = λ root.
-    subst IsSpellableBinding (sym (search rules)) (next_answer_spellable (g.V.View.shows c.args.view.now) (g.S.Source.instances c.args.source.now) c.args.name.now c.known.ensures.spellable root)
+    subst IsSpellableBinding (sym (search rules)) (next_answer_spellable (g.V.View.shows c.args.view.now) (g.S.Source.instances c.args.source.now) c.args.name.now c.known.ensures.servable.spellable root)
