@@ -23,7 +23,7 @@ use Rattle.decision.specs.declared.choice.Decision.TheVariants.{Allowed}
 use Rattle.decision.specs.Deciding.{decided}
 use Rattle.agent_core.specs.World.{Shown}
 use Rattle.agent_core.specs.Replies.{sized, kind_reply, AgreesOnAsked, walk, last_name}
-use Rattle.agent_core.specs.Answers.{outcome_of, outcome_by, reply_of}
+use Rattle.agent_core.specs.Answers.{outcome_of, outcome_by, reply_in, reply_of}
 use Rattle.agent_core.proofs.Rising.{rising_tail, rising_head, name_lt-irrefl, name_lt-asym}
 use Rattle.agent_core.proofs.Rest.{find_is, after-first}
 use Rattle.agent_core.proofs.Fits.{total-append}
@@ -74,9 +74,9 @@ reply_same shown other request row other_row view other_view d f e h =
     let second : List ℕ → Bool = in_view other.policy.vacm.families other_view in
     let same : kind_reply shown.objects first shown.instances request request.kind ≡ kind_reply other.objects second other.instances request request.kind =
     kind_same shown.objects other.objects first second shown.instances other.instances request request.kind e (λ g. ((h g).objects, (h g).asked)) in
-    ap (λ (decision : Decision). (outcome_by shown request decision).reply) d
+    ap (λ (decision : Decision). reply_in (outcome_by shown request decision)) d
     ∙ ap (λ (reply : Reply). Some reply) same
-    ∙ sym (ap (λ (decision : Decision). (outcome_by other request decision).reply) f)
+    ∙ sym (ap (λ (decision : Decision). reply_in (outcome_by other request decision)) f)
 
 first_contained : (x : Binding) (xs : List Binding) → Contains (x ∷ xs) x
 first_contained x xs = (0, omega arith, refl)

@@ -8,4 +8,3 @@ pub mod Repeats
 pub mod Longest
 pub mod LawProofs
 pub mod Denials
-pub mod Outcomes

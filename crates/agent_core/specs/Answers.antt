@@ -1,8 +1,9 @@
 -- One step of a request: what it is answered, its audit, and the world after it.
-use Rattle.std.specs.Prelude.{◌≡◌, ℕ, ◌≤◌, pos, ◌+◌, ◌%◌, ◌^◌, [], List, length, Option, Some, None, IsSome, Result, Ok, Err}
+use Rattle.std.specs.Prelude.{◌≡◌, ◌≢◌, ℕ, ◌≤◌, pos, ◌+◌, ◌%◌, ◌^◌, [], List, length, Option, Some, None, Result, Ok, Err}
 use Rattle.std.specs.declared.alloc.AllocError.{AllocError}
 use Rattle.message_core.specs.Canon.{canon_reply, answer_to}
 use Rattle.message_core.specs.declared.reply.Reply.{Reply}
+use Rattle.message_core.specs.declared.request.Kind.TheVariants.{Set}
 use Rattle.message_core.specs.declared.request.Request.{Request}
 use Rattle.message_core.specs.declared.status.ErrorStatus.TheVariants.{NoError}
 use Rattle.vacm_core.specs.Families.{in_view}
@@ -11,6 +12,7 @@ use Rattle.decision.specs.declared.choice.Cause.{Cause}
 use Rattle.decision.specs.declared.choice.Cause.TheVariants.{UnknownCommunity, NoSuchContext}
 use Rattle.decision.specs.declared.choice.Decision.{Decision}
 use Rattle.decision.specs.declared.choice.Decision.TheVariants.{Drop, Empty, Refused, Allowed}
+use Rattle.decision.specs.declared.keys.AccessKey.{AccessKey}
 use Rattle.audit_core.specs.declared.audit.Audit.{Audit}
 use Rattle.audit_core.specs.declared.denied.Denied.{Denied}
 use Rattle.agent_core.specs.Buffered.{Buffered}
@@ -21,45 +23,64 @@ use Rattle.agent_core.specs.declared.answered.Answered.{Answered}
 use Rattle.agent_core.specs.declared.answered.Answered.TheVariants as answered
 use Rattle.agent_core.specs.declared.sent_reply.SentReply.{SentReply}
 
--- what a request is answered: the reply, or none where it is dropped, and the audit
-pub record Outcome : Type 0 where
-  pub reply : Option Reply
-  pub audit : Audit
+-- what a request comes to
+pub data Outcome : Type 0 where
+  -- a request is dropped for this cause, and audited
+  dropped : (cause : Cause) (audit : Audit) → Outcome
+  -- a request has this reply, and is audited
+  replied : (reply : Reply) (audit : Audit) → Outcome
 
 -- A request that is dropped is audited by its kind and the cause; its status and index mean nothing.
-abbrev pub dropped : Request → Cause → Outcome
-dropped request cause = record {
-  reply = None;
-  audit = record { kind = request.kind; status = NoError; index = pos 0; decision = Drop cause; denied = [] };
-}
+abbrev pub drop_audit : Request → Cause → Audit
+drop_audit request cause = record { kind = request.kind; status = NoError; index = pos 0; decision = Drop cause; denied = [] }
+
+abbrev pub drop_outcome : Request → Cause → Outcome
+drop_outcome request cause = dropped cause (drop_audit request cause)
 
 -- A request that has a reply is audited by its kind, the status and the index as they are sent, the decision, and the denied bindings.
-abbrev pub replied : Request → Decision → List Denied → Reply → Outcome
-replied request decision denied reply = record {
-  reply = Some reply;
-  audit = record { kind = request.kind; status = reply.status; index = reply.index; decision = decision; denied = denied };
-}
+abbrev pub reply_audit : Request → Decision → List Denied → Reply → Audit
+reply_audit request decision denied reply =
+    record { kind = request.kind; status = reply.status; index = reply.index; decision = decision; denied = denied }
+
+abbrev pub reply_outcome : Request → Decision → List Denied → Reply → Outcome
+reply_outcome request decision denied reply = replied reply (reply_audit request decision denied reply)
 
 -- The outcome by the decision. A request with no bindings is answered noError with none, whatever its kind; the standard says
 -- nothing of it.
 abbrev pub outcome_by : Shown → Request → Decision → Outcome
-outcome_by shown request (Drop cause) = dropped request cause
-outcome_by shown request Empty = replied request Empty [] (sized (answer_to request NoError (pos 0) []))
-outcome_by shown request (Refused why) = replied request (Refused why) [] (halted request)
+outcome_by shown request (Drop cause) = drop_outcome request cause
+outcome_by shown request Empty = reply_outcome request Empty [] (sized (answer_to request NoError (pos 0) []))
+outcome_by shown request (Refused why) = reply_outcome request (Refused why) [] (halted request)
 outcome_by shown request (Allowed row view) =
-    replied request (Allowed row view) (denied_in shown.policy.vacm.families view request request.kind)
+    reply_outcome request (Allowed row view) (denied_in shown.policy.vacm.families view request request.kind)
     (kind_reply shown.objects (in_view shown.policy.vacm.families view) shown.instances request request.kind)
 
 unfoldable pub outcome_of : Shown → Request → Outcome
 outcome_of shown request = outcome_by shown request (decided shown.policy request)
 
+-- the reply of an outcome, or none where the request is dropped
+abbrev pub reply_in : Outcome → Option Reply
+reply_in (dropped cause audit) = None
+reply_in (replied reply audit) = Some reply
+
+abbrev pub audit_in : Outcome → Audit
+audit_in (dropped cause audit) = audit
+audit_in (replied reply audit) = audit
+
 -- the reply to a request, or none where it is dropped
 abbrev pub reply_of : Shown → Request → Option Reply
-reply_of shown request = (outcome_of shown request).reply
+reply_of shown request = reply_in (outcome_of shown request)
 
 -- the audit of a request
 abbrev pub audit_of : Shown → Request → Audit
-audit_of shown request = (outcome_of shown request).audit
+audit_of shown request = audit_in (outcome_of shown request)
+
+-- Answering a request may take memory: it is let in to a view, and reads.
+pub record TakesMemory (shown : Shown) (request : Request) : Type 0 where
+  pub row : AccessKey
+  pub view : List ℕ
+  pub allowed : decided shown.policy request ≡ Allowed row view
+  pub reads : request.kind ≢ Set
 
 -- a count, and one more
 abbrev pub one_more : ℕ → ℕ
@@ -95,24 +116,24 @@ pub record IsSent (reply : Reply) (sent : SentReply) (buffer : Buffered) : Type 
   pub status : sent.status ≡ reply.status
   pub index : sent.index ≡ reply.index
 
--- A reply stands in the buffer in its minimal spelling, or there is none and the buffer is empty; and the audit is told.
-abbrev pub IsAnswered : Option Reply → Audit → Answered → Buffered → Type 0
-IsAnswered (Some reply) audit (answered.Reply len told) buffer =
+-- A reply stands in the buffer in its minimal spelling, or the request is dropped and the buffer is empty; and the audit is told.
+abbrev pub IsAnswered : Outcome → Answered → Buffered → Type 0
+IsAnswered (replied reply audit) (answered.Reply len told) buffer =
     (buffer.reply ≡ canon_reply reply) × (len ≡ length (canon_reply reply)) × (told ≡ audit)
-IsAnswered (Some reply) audit (answered.NoReply told) buffer = ⊥
-IsAnswered None audit (answered.Reply len told) buffer = ⊥
-IsAnswered None audit (answered.NoReply told) buffer = (buffer.reply ≡ []) × (told ≡ audit)
+IsAnswered (replied reply audit) (answered.NoReply told) buffer = ⊥
+IsAnswered (dropped cause audit) (answered.Reply len told) buffer = ⊥
+IsAnswered (dropped cause audit) (answered.NoReply told) buffer = (buffer.reply ≡ []) × (told ≡ audit)
 
 -- the step is done: the outcome is told, and the world is as it makes it
 pub record IsDone (step : Step) (told : Answered) (buffer : Buffered) (later : World) : Type 0 where
-  pub answer : IsAnswered step.outcome.reply step.outcome.audit told buffer
+  pub answer : IsAnswered step.outcome told buffer
   pub world : later ≡ step.world
 
--- There was no memory for the step: nothing is changed and nothing told, and the request is one that has a reply.
+-- There was no memory for the step: nothing is changed and nothing told, and the request is one whose answer may take some.
 pub record IsShort (before : World) (request : Request) (buffer : Buffered) (later : World) : Type 0 where
   pub empty : buffer.reply ≡ []
   pub unchanged : later ≡ before
-  pub kept : IsSome (reply_of (shown_of before) request)
+  pub kept : TakesMemory (shown_of before) request
   pub community : length request.community ≤ 255
 
 -- a step, as far as there is memory for it

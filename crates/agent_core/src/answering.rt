@@ -1,9 +1,9 @@
-ghost use Rattle.std.specs.Prelude.{◌≡◌, ◌≤◌, ◌<◌, length, IfOk, OnErr};
+ghost use Rattle.std.specs.Prelude.{◌≡◌, ◌≢◌, ◌≤◌, ◌<◌, length, IfOk, OnErr};
 ghost use Rattle.message_core.specs.Canon.{canon_reply};
 ghost use Rattle.message_core.specs.Spellable.{AreSpellable};
 ghost use Rattle.vacm_core.specs.Families.{in_view};
 ghost use Rattle.agent_core.specs.Replies.{kind_reply, failed, get_reply, next_reply, bulk_reply};
-ghost use Rattle.agent_core.specs.Answers.{IsSent, IsStep, dropped};
+ghost use Rattle.agent_core.specs.Answers.{IsSent, IsStep, drop_audit};
 
 use crate::answered::Answered;
 use crate::buffer::Buffer;
@@ -31,8 +31,8 @@ use vacm_core::Name;
 /// The caller hands in a request whose names and OBJECT IDENTIFIER values have a spelling, as `decode` gives it.
 ///
 /// # Errors
-/// Only memory can fail: then the buffer is empty, the world is as before, and the request is one that has a reply. A request that is
-/// dropped, since its community or its context is not known, takes none.
+/// Only memory can fail: then the buffer is empty, the world is as before, and the request is one that is let in to a view and reads.
+/// A request that is dropped or refused, one without bindings and a Set take none.
 #[tactic(auto, unfolding(crate::specs::Answers::outcome_of, crate::specs::Answers::world_after))]
 pub fn answer(
     alloc: Global,
@@ -73,7 +73,7 @@ pub fn answer(
 
 // What a request is answered that is dropped. Takes no memory.
 fn drop_request(alloc: Global, request: &Request, cause: Cause) -> Answered
-    ensures { result ≡ Answered.NoReply (dropped request.now cause).audit }
+    ensures { result ≡ Answered.NoReply (drop_audit request.now cause) }
 {
     Answered::NoReply(Audit {
         kind: request.kind,
@@ -131,6 +131,7 @@ fn send_allowed(
     requires spellable { AreSpellable request.now.bindings }
     ensures sent { IfOk result (λ sent. IsSent (kind_reply world.now.objects (in_view world.now.policy.vacm.families view.now) world.now.instances request.now request.now.kind) sent buffer.new) }
     ensures err { OnErr result (buffer.new ≡ buffer.old) }
+    ensures takes { OnErr result (request.now.kind ≢ Kind.Set) }
 {
     let vacm = world.policy().vacm();
     let view = PolicyView { vacm, view };
@@ -150,6 +151,7 @@ fn send_kind<S: Source, V: View>(
     requires spellable { AreSpellable request.now.bindings }
     ensures sent { IfOk result (λ sent. IsSent (kind_reply (S.objects source.now) (V.shows view.now) (S.instances source.now) request.now request.now.kind) sent buffer.new) }
     ensures err { OnErr result (buffer.new ≡ buffer.old) }
+    ensures takes { OnErr result (request.now.kind ≢ Kind.Set) }
 {
     match request.kind {
         Kind::Get => send_get(alloc, source, view, request, buffer),

@@ -1,5 +1,5 @@
 //! The bindings whose names are not in the view.
-ghost use Rattle.std.specs.Prelude.{◌≡◌, ◌<◌, ◌++◌, OnOk, IfOk, length};
+ghost use Rattle.std.specs.Prelude.{◌≡◌, ◌<◌, ◌++◌, OnOk, OnErr, IfOk, length};
 ghost use Rattle.vacm_core.specs.Families.{family_answer, NamesFamilyOf};
 ghost use Rattle.agent_core.specs.Denying.{denial, denials, denied_in};
 
@@ -58,14 +58,15 @@ fn denials(
 }
 
 /// The denied bindings of a request that is allowed in a view: those of a Get that are not in the view, each with the family that
-/// excludes its name, if one does. Only memory can fail.
+/// excludes its name, if one does. Only memory can fail, and only a Get takes some.
 pub fn denied_bindings(
     alloc: Global,
     vacm: &Vacm,
     view: &Name,
     request: &Request,
 ) -> Result<DeniedBindings, AllocError>
-    ensures { IfOk result (λ denied. denied ≡ denied_in vacm.now.families view.now request.now request.now.kind) }
+    ensures denied { IfOk result (λ denied. denied ≡ denied_in vacm.now.families view.now request.now request.now.kind) }
+    ensures takes { OnErr result (request.now.kind ≡ Kind.Get) }
 {
     match request.kind {
         Kind::Get => denials(alloc, vacm, view, request.bindings.as_slice()),
