@@ -1,2 +1,3 @@
 pub mod Noting
+pub mod Outcomes
 pub mod Seconds

@@ -1,9 +1,10 @@
 -- The notes of the lines that a session answered.
-use Rattle.std.proofs.Common.{◌≡◌, ◌∙◌, ℕ, Bool, true, false, ◌&&◌, if◌then◌else◌, List, [], ◌∷◌, ◌++◌, ap, sym, refl, subst}
-use Rattle.script_core.specs.Runs.{Says, SaysAll, SaysFirst, StopsBetween}
+use Rattle.std.proofs.Common.{◌≡◌, ◌∙◌, inl, inr, ℕ, Bool, true, false, ◌&&◌, if◌then◌else◌, List, [], ◌∷◌, ◌++◌, ap, sym, refl, subst}
+use Rattle.script_core.specs.Lines.{lines_of}
+use Rattle.script_core.specs.Runs.{IsFrontOf, Says, SaysAll, SaysFirst, SaysSome, StopsBetween, GivesUp}
 use Rattle.agent_script.specs.Notes.{is_nothing}
 use Rattle.agent_script.specs.State.{Agent}
-use Rattle.agent_script.specs.Script.{Noted, lines_in, lines_text, after_lines, line_text, end_text, AreMet, are_nothing, IsSaid, IsSaidFirst, IsSaidBefore}
+use Rattle.agent_script.specs.Script.{Noted, lines_in, lines_text, after_lines, line_text, end_text, AreMet, are_nothing, AreAnswered, IsSaid, IsSaidFirst, IsSaidSome, IsSaidBefore, IsGivenUp}
 use Rattle.agent_script.specs.Sessions.{Session, SaysToLine, SaysAtEnd}
 use Rattle.agent_script.specs.declared.session.Run.{Run}
 use Rattle.agent_script.specs.declared.session.Run.TheVariants.{Whole, Short}
@@ -48,8 +49,14 @@ notes_of s t (line ∷ lines) text p =
       whole = rest.whole ∙ ap (λ b. b && are_nothing rest.noted) here.whole ∙ and_assoc s.is_whole (is_nothing here.note) (are_nothing rest.noted);
     }
 
+answered_of : (s t : Session) (lines : List (List ℕ)) (text : List ℕ) → Says SaysToLine s lines text t → AreAnswered s.agent lines text
+answered_of s t lines text p = let n = notes_of s t lines text p in record { noted = n.noted; each = n.each; met = n.met; text_is = n.text_is }
+
 -- From the session that a run opens with, whose agent is this one.
 module _ (agent : Agent) (s : Session) (opened : s.agent ≡ agent) where
+  answered_from : (t : Session) (lines : List (List ℕ)) (text : List ℕ) → Says SaysToLine s lines text t → AreAnswered agent lines text
+  answered_from t lines text p = subst (λ (a : Agent). AreAnswered a lines text) opened (answered_of s t lines text p)
+
   pub said_of : (t : Session) (lines : List (List ℕ)) (text : List ℕ) (run : Run) → s.is_whole ≡ true → run ≡ (if t.is_whole then Whole else Short)
       → SaysAll SaysToLine SaysAtEnd s lines text t → IsSaid agent lines text run
   said_of t lines text run whole told p =
@@ -63,20 +70,35 @@ module _ (agent : Agent) (s : Session) (opened : s.agent ≡ agent) where
         run_is = told ∙ ap (λ b. if b then Whole else Short) (p.ends.whole ∙ n.whole ∙ ap (λ b. b && are_nothing n.noted) whole);
       })
 
-  pub said_first_of : (lines : List (List ℕ)) (text : List ℕ) → SaysFirst SaysToLine s lines text → IsSaidFirst agent lines text
+  said_first_of : (lines : List (List ℕ)) (text : List ℕ) → SaysFirst SaysToLine s lines text → IsSaidFirst agent lines text
   said_first_of lines text p =
-      let n = notes_of s p.between p.first text p.says in
-      subst (λ (a : Agent). IsSaidFirst a lines text) opened
-      (record { noted = n.noted; left = p.left; first = p.split ∙ ap (λ x. x ++ p.left) (sym n.each); met = n.met; text_is = n.text_is })
+      record { first = p.first; left = p.left; split = p.split; answered = answered_from p.between p.first text p.says }
+
+  said_some_of : (lines : List (List ℕ)) (text : List ℕ) → s.is_whole ≡ true → SaysSome SaysToLine SaysAtEnd s lines text → IsSaidSome agent lines text
+  said_some_of lines text whole (inl p) = inl (said_first_of lines text p)
+  said_some_of lines text whole (inr p) = inr (_, said_of p.0 lines text _ whole refl p.1)
+
+  pub said_front_of : (lines : List (List ℕ)) (text : List ℕ) → s.is_whole ≡ true → IsFrontOf (λ all. SaysSome SaysToLine SaysAtEnd s lines all) text
+      → IsFrontOf (λ all. IsSaidSome agent lines all) text
+  said_front_of lines text whole p =
+      record { whole = p.whole; rest = p.rest; split = p.split; holds = said_some_of lines p.whole whole p.holds }
 
   pub said_before_of : (t : Session) (input rest text : List ℕ) → StopsBetween SaysToLine s t input rest text → IsSaidBefore agent input rest text
-  said_before_of t input rest text p =
-      let n = notes_of s t p.feeds.ended text p.feeds.says in
-      subst (λ (a : Agent). IsSaidBefore a input rest text) opened (record {
-        noted = n.noted;
-        part = p.part;
-        no_end = p.no_end;
-        ended = rw n.each p.feeds.split;
-        met = n.met;
-        text_is = n.text_is;
-      })
+  said_before_of t input rest text p = record {
+    ended = p.feeds.ended;
+    part = p.part;
+    no_end = (p.feeds.no_end, p.no_end);
+    split = p.feeds.split;
+    answered = answered_from t p.feeds.ended text p.feeds.says;
+  }
+
+  pub given_up_of : (input rest text : List ℕ) → GivesUp SaysToLine s input rest text → IsGivenUp agent input rest text
+  given_up_of input rest text (inl p) = inl (record {
+    ended = p.feeds.ended;
+    left = p.left;
+    no_end = p.feeds.no_end;
+    some = p.some;
+    split = p.feeds.split;
+    answered = answered_from p.between p.feeds.ended text p.feeds.says;
+  })
+  given_up_of input rest text (inr p) = inr (record { read = p.read; answered = answered_from p.between (lines_of input) text p.says })

@@ -1,5 +1,5 @@
 -- Seconds, one after another.
-use Rattle.std.proofs.Common.{◌≡◌, ◌∙◌, ℕ, suc, ◌+◌, ◌-◌, ◌<◌, Bool, List, ◌++◌, ap, sym, refl, arith, append_assoc}
+use Rattle.std.proofs.Common.{◌≡◌, ◌∙◌, ℕ, suc, ◌+◌, ◌-◌, ◌<◌, Bool, List, ◌++◌, ap, sym, arith, append_assoc}
 use Rattle.bridge_core.specs.Bridge.{BridgeState, address_of}
 use Rattle.bridge_core.specs.Events.{tick_of, ticked_bridge}
 use Rattle.agent_core.specs.World.{World}

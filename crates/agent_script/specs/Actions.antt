@@ -14,12 +14,11 @@ use Rattle.bridge_core.specs.Bridge.{port_count}
 use Rattle.community_core.specs.Communities.{PolicyTables}
 use Rattle.policy_text.specs.Texts.{policy_in}
 use Rattle.agent_core.specs.World.{World}
-use Rattle.agent_core.specs.Replies.{failed}
 use Rattle.agent_core.specs.Answers.{one_more}
 use Rattle.agent_script.specs.Commands.{Command, request, frame, tick, link, policy, audit, counts, command_of}
 use Rattle.agent_script.specs.Events as event
 use Rattle.agent_script.specs.Events.{System, Event, after_event}
-use Rattle.agent_script.specs.Outputs.{drop_text, sent_text, event_text, seconds_text, after_seconds}
+use Rattle.agent_script.specs.Outputs.{drop_text, event_text, seconds_text, after_seconds}
 use Rattle.agent_script.specs.State.{Agent}
 use Rattle.agent_script.specs.declared.drops.Drops.{Drops}
 use Rattle.agent_script.specs.Notes.{is_unread, is_unanswered, is_unlearned, is_lost}
@@ -34,8 +33,6 @@ pub data Action : Type 0 where
   pass : (seconds : ℕ) → Action
   -- a datagram gives no request
   drop : (cause : DropCause) → Action
-  -- a request is told that there is no memory for its answer, and is no event
-  fail : (request : Request) → Action
   -- octets are no frame, and no event
   refuse_frame : (fault : FrameFault) → Action
   -- a policy has these lines so far
@@ -52,7 +49,7 @@ pub data Action : Type 0 where
 
 -- a request
 abbrev pub request_action : Request → Note → Action
-request_action r note = if is_unanswered note then fail r else happen (event.request r)
+request_action r note = happen (event.request r (is_unanswered note))
 
 abbrev pub reading_action : Result Request DropCause → Note → Action
 reading_action (Ok r) note = request_action r note
@@ -132,7 +129,6 @@ action_text agent bad_line = codes "badline\n"
 action_text agent (happen event) = event_text agent.is_auditing agent.system event
 action_text agent (pass seconds) = seconds_text agent.is_auditing seconds agent.system
 action_text agent (drop cause) = drop_text (cause_name cause)
-action_text agent (fail r) = sent_text (failed r)
 action_text agent (refuse_frame fault) = codes "badframe " ++ fault_name fault ++ codes "\n"
 action_text agent (keep lines) = []
 action_text agent (accept tables) = event_text agent.is_auditing agent.system (event.policy tables)
@@ -155,7 +151,6 @@ after_action agent bad_line = agent
 after_action agent (happen event) = record agent { system = after_event agent.system event }
 after_action agent (pass seconds) = record agent { system = after_seconds seconds agent.system }
 after_action agent (drop cause) = record agent { drops = dropped_more agent.drops cause }
-after_action agent (fail r) = agent
 after_action agent (refuse_frame fault) = agent
 after_action agent (keep lines) = record agent { policy_lines = Some lines }
 after_action agent (accept tables) = record agent { system = after_event agent.system (event.policy tables); policy_lines = None }

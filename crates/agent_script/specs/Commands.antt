@@ -2,6 +2,7 @@
 use Rattle.std.specs.Prelude.{ℕ, zero, suc, ◌≤◌, Bool, true, false, codes, if◌then◌else◌, List, Option, Some, None, option_map, option_and_then}
 use Rattle.std.specs.Str.{bytes_eq}
 use Rattle.script_core.specs.Words.{split_word, number_of, octets_of}
+use Rattle.agent_script.specs.declared.commands.TheConstants.{MAX_SECONDS}
 
 pub data Command : Type 0 where
   -- `request HEX`: answer a datagram
@@ -18,10 +19,6 @@ pub data Command : Type 0 where
   audit : (on : Bool) → Command
   -- `counts`: tell what was dropped
   counts : Command
-
--- the most seconds that one line lets pass
-abbrev pub most_seconds : ℕ
-most_seconds = 100000
 
 abbrev pub positive : Option ℕ → Option ℕ
 positive (Some (suc n)) = Some (suc n)
@@ -58,7 +55,7 @@ abbrev pub command_with : ℕ → List ℕ × List ℕ → Option Command
 command_with ports p =
     if bytes_eq p.0 (codes "request") then option_map request (octets_of p.1)
     else if bytes_eq p.0 (codes "frame") then option_and_then (frame_with ports) (split_word p.1)
-    else if bytes_eq p.0 (codes "tick") then option_map tick (counting_of most_seconds p.1)
+    else if bytes_eq p.0 (codes "tick") then option_map tick (counting_of MAX_SECONDS p.1)
     else if bytes_eq p.0 (codes "link") then option_and_then (link_with ports) (split_word p.1)
     else if bytes_eq p.0 (codes "audit") then option_map audit (switch_of p.1)
     else None

@@ -1,15 +1,18 @@
 -- What an event is, what it makes of the world and the bridge, and what comes out.
-use Rattle.std.specs.Prelude.{ℕ, Bool, List, Option}
+use Rattle.std.specs.Prelude.{ℕ, Bool, true, false, List, [], Option}
 use Rattle.message_core.specs.declared.request.Request.{Request}
 use Rattle.message_core.specs.declared.reply.Reply.{Reply}
 use Rattle.audit_core.specs.declared.audit.Audit.{Audit}
+use Rattle.decision.specs.declared.choice.Cause.{Cause}
 use Rattle.community_core.specs.Communities.{PolicyTables}
 use Rattle.frame_core.specs.declared.bpdu.Bpdu.{Bpdu}
 use Rattle.frame_core.specs.declared.frame.FrameIn.{FrameIn}
 use Rattle.bridge_core.specs.Bridge.{BridgeState}
 use Rattle.bridge_core.specs.Events.{framed, tick_of, ticked_bridge, link_of, linked_bridge}
 use Rattle.agent_core.specs.World.{World, shown_of}
-use Rattle.agent_core.specs.Answers.{reply_of, audit_of, world_after}
+use Rattle.agent_core.specs.Answers as answers
+use Rattle.agent_core.specs.Answers.{Outcome, outcome_of, world_after}
+use Rattle.agent_core.specs.Replies.{failed}
 
 -- what events happen to
 pub record System : Type 0 where
@@ -20,8 +23,8 @@ abbrev pub beside : World → BridgeState → System
 beside world bridge = record { world = world; bridge = bridge }
 
 pub data Event : Type 0 where
-  -- a request comes
-  request : (request : Request) → Event
+  -- a request comes; `no_memory` notes that there was none for its answer
+  request : (request : Request) (no_memory : Bool) → Event
   -- a frame comes in by a port; `no_room` notes that the growth for the row of its source was refused
   frame : (port : ℕ) (fields : FrameIn) (no_room : Bool) → Event
   -- a second passes
@@ -31,17 +34,13 @@ pub data Event : Type 0 where
   -- a policy comes into force in place of the one that was there
   policy : (tables : PolicyTables) → Event
 
--- What an event makes of the system.
-abbrev pub after_event : System → Event → System
-after_event s (request r) = record s { world = world_after s.world r }
-after_event s (frame port fields no_room) = record s { bridge = (framed s.bridge port fields no_room).bridge }
-after_event s tick = record s { bridge = ticked_bridge s.bridge }
-after_event s (link port up) = record s { bridge = linked_bridge port up s.bridge }
-after_event s (policy tables) = record s { world = record s.world { policy = tables } }
-
 pub data Output : Type 0 where
-  -- a request's reply, or none where it is dropped; and its audit
-  answered : (reply : Option Reply) (audit : Audit) → Output
+  -- a request is dropped for this cause, and audited
+  dropped : (cause : Cause) (audit : Audit) → Output
+  -- a request has this reply, and is audited; and the BPDUs that the ports send, from port 1 on
+  replied : (reply : Reply) (audit : Audit) (bpdus : List (Option Bpdu)) → Output
+  -- a request whose answer found no memory has this reply, and is not audited
+  unanswered : (reply : Reply) → Output
   -- the ports by which a frame goes out, and the BPDUs that the ports send, from port 1 on
   forwarded : (egress : List ℕ) (bpdus : List (Option Bpdu)) → Output
   -- the BPDUs that the ports send, from port 1 on
@@ -49,11 +48,31 @@ pub data Output : Type 0 where
   -- that a policy is in force
   in_force : Output
 
--- What comes out.
+-- the system after an event, and what comes out
+pub record Step : Type 0 where
+  pub system : System
+  pub output : Output
+
+-- what comes out of a request; it sends no BPDU, since nothing can be written
+abbrev pub answer_output : Outcome → Output
+answer_output (answers.dropped cause audit) = dropped cause audit
+answer_output (answers.replied reply audit) = replied reply audit []
+
+-- One step. Where there was no memory for an answer, genErr is replied, and nothing changes.
+abbrev pub step_of : System → Event → Step
+step_of s (request r true) = record { system = s; output = unanswered (failed r) }
+step_of s (request r false) =
+    record { system = record s { world = world_after s.world r }; output = answer_output (outcome_of (shown_of s.world) r) }
+step_of s (frame port fields no_room) =
+    let step = framed s.bridge port fields no_room in
+    record { system = record s { bridge = step.bridge }; output = forwarded step.egress step.bpdus }
+step_of s tick = record { system = record s { bridge = ticked_bridge s.bridge }; output = sent (tick_of s.bridge).bpdus }
+step_of s (link port up) =
+    record { system = record s { bridge = linked_bridge port up s.bridge }; output = sent (link_of port up s.bridge).bpdus }
+step_of s (policy tables) = record { system = record s { world = record s.world { policy = tables } }; output = in_force }
+
+abbrev pub after_event : System → Event → System
+after_event s event = (step_of s event).system
+
 abbrev pub output_of : System → Event → Output
-output_of s (request r) = answered (reply_of (shown_of s.world) r) (audit_of (shown_of s.world) r)
-output_of s (frame port fields no_room) =
-    forwarded (framed s.bridge port fields no_room).egress (framed s.bridge port fields no_room).bpdus
-output_of s tick = sent (tick_of s.bridge).bpdus
-output_of s (link port up) = sent (link_of port up s.bridge).bpdus
-output_of s (policy tables) = in_force
+output_of s event = (step_of s event).output

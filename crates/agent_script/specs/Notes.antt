@@ -9,10 +9,11 @@ use Rattle.message_core.specs.declared.request.Request.{Request}
 use Rattle.frame_core.specs.declared.frame.FrameIn.{FrameIn}
 use Rattle.frame_core.specs.declared.fault.FrameFault.{FrameFault}
 use Rattle.frame_core.specs.Reading.{frame_at}
+use Rattle.community_core.specs.Texts.{text_of}
 use Rattle.bridge_core.specs.Bridge.{BridgeState, port_count}
 use Rattle.bridge_core.specs.Forwarding.{MayLackMemory}
 use Rattle.agent_core.specs.World.{World, shown_of}
-use Rattle.agent_core.specs.Answers.{reply_of}
+use Rattle.agent_core.specs.Answers.{TakesMemory}
 use Rattle.agent_script.specs.Commands.{Command, request, frame, tick, link, policy, audit, counts, command_of}
 use Rattle.agent_script.specs.Events.{System}
 use Rattle.agent_script.specs.State.{Agent}
@@ -68,15 +69,11 @@ abbrev pub Case : Bool → Type 0 → Type 0 → Type 0
 Case true A B = A
 Case false A B = B
 
--- the request is one that has a reply
-unfoldable pub HasReply : World → Request → Type 0
-HasReply world r = IsSome (reply_of (shown_of world) r)
-
--- A request: its reply may find no memory, where it has one.
+-- A request: its answer may find no memory, where it takes some.
 abbrev pub MayMeetRequest : World → Request → Note → Type 0
 MayMeetRequest world r Nothing = Unit {0}
 MayMeetRequest world r RequestNotRead = ⊥
-MayMeetRequest world r RequestNotAnswered = HasReply world r
+MayMeetRequest world r RequestNotAnswered = TakesMemory (shown_of world) r
 MayMeetRequest world r SourceNotLearned = ⊥
 MayMeetRequest world r PolicyNotRead = ⊥
 
@@ -111,20 +108,20 @@ MayMeetCommand s (Some policy) note = note ≡ Nothing
 MayMeetCommand s (Some (audit on)) note = note ≡ Nothing
 MayMeetCommand s (Some counts) note = note ≡ Nothing
 
--- The end of a policy: the policy may find none.
-abbrev pub MayMeetEnd : Note → Type 0
-MayMeetEnd Nothing = Unit {0}
-MayMeetEnd RequestNotRead = ⊥
-MayMeetEnd RequestNotAnswered = ⊥
-MayMeetEnd SourceNotLearned = ⊥
-MayMeetEnd PolicyNotRead = Unit {0}
+-- The end of a policy of these lines: the policy may find none, where they are text.
+abbrev pub MayMeetEnd : List ℕ → Note → Type 0
+MayMeetEnd lines Nothing = Unit {0}
+MayMeetEnd lines RequestNotRead = ⊥
+MayMeetEnd lines RequestNotAnswered = ⊥
+MayMeetEnd lines SourceNotLearned = ⊥
+MayMeetEnd lines PolicyNotRead = IsSome (text_of lines)
 
--- A line of a policy: its end alone.
-abbrev pub MayMeetPolicyLine : List ℕ → Note → Type 0
-MayMeetPolicyLine line note = Case (bytes_eq line (codes "end")) (MayMeetEnd note) (note ≡ Nothing)
+-- A line of a policy behind these lines: its end alone.
+abbrev pub MayMeetPolicyLine : List ℕ → List ℕ → Note → Type 0
+MayMeetPolicyLine lines line note = Case (bytes_eq line (codes "end")) (MayMeetEnd lines note) (note ≡ Nothing)
 
 abbrev pub MayMeetIn : Agent → Option (List ℕ) → List ℕ → Note → Type 0
-MayMeetIn agent (Some lines) line note = MayMeetPolicyLine line note
+MayMeetIn agent (Some lines) line note = MayMeetPolicyLine lines line note
 MayMeetIn agent None line note = MayMeetCommand agent.system (command_of (port_count agent.system.bridge) line) note
 
 -- A line may meet this want of memory.

@@ -8,13 +8,11 @@ use Rattle.audit_core.specs.Text.{audit_text}
 use Rattle.audit_core.specs.declared.audit.Audit.{Audit}
 use Rattle.decision.specs.declared.choice.Cause.{Cause}
 use Rattle.decision.specs.declared.choice.Cause.TheVariants.{UnknownCommunity, NoSuchContext}
-use Rattle.decision.specs.declared.choice.Decision.{Decision}
-use Rattle.decision.specs.declared.choice.Decision.TheVariants.{Drop, Empty, Refused, Allowed}
 use Rattle.frame_core.specs.declared.mac.Mac.{Mac}
 use Rattle.frame_core.specs.declared.bpdu.Bpdu.{Bpdu}
 use Rattle.frame_core.specs.Sending.{frame_octets}
 use Rattle.bridge_core.specs.Bridge.{address_of}
-use Rattle.agent_script.specs.Events.{System, Event, tick, after_event, Output, answered, forwarded, sent, in_force, output_of}
+use Rattle.agent_script.specs.Events.{System, Event, tick, after_event, Output, dropped, replied, unanswered, forwarded, sent, in_force, output_of}
 
 -- `drop` and the name of a cause
 abbrev pub drop_text : List ℕ → List ℕ
@@ -25,21 +23,9 @@ abbrev pub dropped_name : Cause → List ℕ
 dropped_name UnknownCommunity = codes "UnknownCommunity"
 dropped_name (NoSuchContext name) = codes "NoSuchContext"
 
--- what is said of a decision to drop; the others drop nothing, and nothing is said of them
-abbrev pub decision_text : Decision → List ℕ
-decision_text (Drop cause) = drop_text (dropped_name cause)
-decision_text Empty = []
-decision_text (Refused why) = []
-decision_text (Allowed row view) = []
-
 -- `reply` and the octets of a reply in its minimal spelling
 unfoldable pub sent_text : Reply → List ℕ
 sent_text reply = codes "reply " ++ encode_upper (canon_reply reply) ++ codes "\n"
-
--- a reply, or what drops the request
-abbrev pub reply_text : Option Reply → Decision → List ℕ
-reply_text (Some reply) decision = sent_text reply
-reply_text None decision = decision_text decision
 
 -- the audit, where it is told
 abbrev pub told_audit : Bool → Audit → List ℕ
@@ -70,7 +56,9 @@ forwarded_text address egress bpdus = codes "forward " ++ egress_text egress ++ 
 
 -- The text of an output: audits are told where `on`, and the bridge sends from this address.
 abbrev pub output_text : Bool → Mac → Output → List ℕ
-output_text on address (answered reply audit) = reply_text reply audit.decision ++ told_audit on audit
+output_text on address (dropped cause audit) = drop_text (dropped_name cause) ++ told_audit on audit
+output_text on address (replied reply audit bpdus) = sent_text reply ++ told_audit on audit ++ bpdu_lines address 1 bpdus
+output_text on address (unanswered reply) = sent_text reply
 output_text on address (forwarded egress bpdus) = forwarded_text address egress bpdus
 output_text on address (sent bpdus) = bpdu_lines address 1 bpdus
 output_text on address in_force = codes "policy ok\n"

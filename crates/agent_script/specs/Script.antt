@@ -1,7 +1,7 @@
 -- What the agent says to the lines of a script, and what they change.
-use Rattle.std.specs.Prelude.{◌≡◌, ℕ, Bool, ◌&&◌, codes, if◌then◌else◌, List, [], ◌∷◌, ◌++◌, map, Option, Some, None}
+use Rattle.std.specs.Prelude.{◌≡◌, ◌⊎◌, ◌<◌, ℕ, Bool, codes, if◌then◌else◌, List, [], ◌∷◌, ◌++◌, All, length, map, Option, Some, None}
 use Rattle.std.specs.List.{flat_map, list_all}
-use Rattle.script_core.specs.Lines.{with_end, HasNoEnd}
+use Rattle.script_core.specs.Lines.{lines_of, with_end, HasNoEnd}
 use Rattle.agent_script.specs.Actions.{action_of, action_text, after_action}
 use Rattle.agent_script.specs.Notes.{MayMeet, is_nothing}
 use Rattle.agent_script.specs.State.{Agent}
@@ -70,20 +70,46 @@ pub record IsSaid (agent : Agent) (lines : List (List ℕ)) (text : List ℕ) (r
   pub text_is : text ≡ script_text agent noted
   pub run_is : run ≡ run_of noted
 
--- There are notes of the first of these lines, each one that its line may meet, such that this text is what is said to those.
-pub record IsSaidFirst (agent : Agent) (lines : List (List ℕ)) (text : List ℕ) : Type 0 where
+-- There are notes of these lines, each one that its line may meet, such that this text is what is said to the lines.
+pub record AreAnswered (agent : Agent) (lines : List (List ℕ)) (text : List ℕ) : Type 0 where
   pub noted : List Noted
-  pub left : List (List ℕ)
-  pub first : lines ≡ lines_in noted ++ left
+  pub each : lines_in noted ≡ lines
   pub met : AreMet agent noted
   pub text_is : text ≡ lines_text agent noted
 
--- Of an input, `rest` was not read, and behind the lines that had ended no more than a part of one was: there are notes of the lines that
--- had ended, each one that its line may meet, such that this text is what is said to those.
+-- the first of these lines are answered, and no others
+pub record IsSaidFirst (agent : Agent) (lines : List (List ℕ)) (text : List ℕ) : Type 0 where
+  pub first : List (List ℕ)
+  pub left : List (List ℕ)
+  pub split : lines ≡ first ++ left
+  pub answered : AreAnswered agent first text
+
+-- the first of these lines are answered, or all of them and the end of the script
+abbrev pub IsSaidSome : Agent → List (List ℕ) → List ℕ → Type 0
+IsSaidSome agent lines text = IsSaidFirst agent lines text ⊎ ((run : Run) × IsSaid agent lines text run)
+
+-- Of an input, `rest` was not read, and behind the lines that had ended no more than a part of one was: those lines are answered.
 pub record IsSaidBefore (agent : Agent) (input rest text : List ℕ) : Type 0 where
-  pub noted : List Noted
+  pub ended : List (List ℕ)
   pub part : List ℕ
-  pub no_end : HasNoEnd part
-  pub ended : input ≡ flat_map with_end (lines_in noted) ++ (part ++ rest)
-  pub met : AreMet agent noted
-  pub text_is : text ≡ lines_text agent noted
+  pub no_end : All HasNoEnd ended × HasNoEnd part
+  pub split : input ≡ flat_map with_end ended ++ (part ++ rest)
+  pub answered : AreAnswered agent ended text
+
+-- A line is given up: of an input, `rest` was not read; the lines before the one that is given up had ended and are answered; and of that
+-- line, which stands at the front of `left`, at least one octet was read.
+pub record IsLineGivenUp (agent : Agent) (input rest text : List ℕ) : Type 0 where
+  pub ended : List (List ℕ)
+  pub left : List ℕ
+  pub no_end : All HasNoEnd ended
+  pub some : 0 < length left
+  pub split : input ≡ flat_map with_end ended ++ (left ++ rest)
+  pub answered : AreAnswered agent ended text
+
+-- the end of the script is given up: the input was read to its end, and each of its lines is answered
+pub record IsEndGivenUp (agent : Agent) (input rest text : List ℕ) : Type 0 where
+  pub read : rest ≡ []
+  pub answered : AreAnswered agent (lines_of input) text
+
+abbrev pub IsGivenUp : Agent → List ℕ → List ℕ → List ℕ → Type 0
+IsGivenUp agent input rest text = IsLineGivenUp agent input rest text ⊎ IsEndGivenUp agent input rest text

@@ -15,10 +15,10 @@ use crate::bridging::{say_bad_frame, say_frame, say_link, say_ticks};
 use crate::commands::{Command, read_command};
 use crate::drops::Drops;
 use crate::note::{Note, note_of};
-use crate::saying::{cause_name, say_audit, say_counts, say_decision, say_drop, say_reply};
+use crate::saying::{cause_name, say_audit, say_counts, say_drop, say_dropped, say_reply};
 use agent_core::{Answered, Buffer, PlainWorld, answer, short_reply};
 use bridge_core::Bridge;
-use policy_text::policy_in;
+use policy_text::{policy_in, text_of};
 use frame_core::read_frame;
 use message_core::{Request, decode};
 use std::alloc::{AllocError, Global};
@@ -142,7 +142,7 @@ impl Agent {
 
     // Answers a request, and counts it where it is dropped. Where there was no memory for its reply, genErr is replied, and the world is
     // as before.
-    #[tactic(auto, unfolding(crate::specs::Outputs::sent_text, crate::specs::Notes::HasReply))]
+    #[tactic(auto, unfolding(crate::specs::Outputs::sent_text))]
     fn request(
         &mut self,
         alloc: Global,
@@ -162,7 +162,7 @@ impl Agent {
                 Ok(Note::Nothing)
             }
             Ok(Answered::NoReply(audit)) => {
-                say_decision(&audit.decision, out)?;
+                say_dropped(&audit.decision, out)?;
                 say_audit(alloc, self.is_auditing, &audit, out)?;
                 Ok(Note::Nothing)
             }
@@ -206,7 +206,7 @@ impl Agent {
         out: &mut Vec<u8>,
     ) -> Result<Note, AllocError>
         requires { self.old.policy_lines ≡ None }
-        ensures met { IfOk result (λ note. MayMeetPolicyLine line.now note) }
+        ensures met { IfOk result (λ note. MayMeetPolicyLine lines.items line.now note) }
         ensures said { IfOk result (λ note. out.new.items ≡ out.old.items ++ action_text self.old (policy_action lines.items line.now note)) }
         ensures after { IfOk result (λ note. self.new ≡ after_action self.old (policy_action lines.items line.now note)) }
     {
@@ -219,7 +219,8 @@ impl Agent {
         Ok(Note::Nothing)
     }
 
-    // Takes the end of a policy.
+    // Takes the end of a policy. Lines that are no text are no policy, and take no memory.
+    #[tactic(auto, unfolding(community_core::specs::Texts::policy_in))]
     fn end_policy(
         &mut self,
         alloc: Global,
@@ -227,10 +228,14 @@ impl Agent {
         out: &mut Vec<u8>,
     ) -> Result<Note, AllocError>
         requires { self.old.policy_lines ≡ None }
-        ensures met { IfOk result (λ note. MayMeetEnd note) }
+        ensures met { IfOk result (λ note. MayMeetEnd lines.now note) }
         ensures said { IfOk result (λ note. out.new.items ≡ out.old.items ++ action_text self.old (end_action lines.now note)) }
         ensures after { IfOk result (λ note. self.new ≡ after_action self.old (end_action lines.now note)) }
     {
+        if text_of(lines).is_none() {
+            out.extend_from_slice(b"policy refused\n")?;
+            return Ok(Note::Nothing);
+        }
         match policy_in(alloc, lines) {
             Ok(Some(policy)) => {
                 self.world.replace_policy(policy);

@@ -1,14 +1,15 @@
 //! What a line of a script asks for.
 ghost use Rattle.std.specs.Prelude.{◌≡◌, ◌≤◌, ℕ, IfOk, IfSome, option_map, option_and_then};
-ghost use Rattle.agent_script.specs.Commands.{request, counting_of, switch_of, direction_of, IsPortOf, NamesPortOf, frame_with, link_with, command_with, command_alone, command_of, most_seconds};
+ghost use Rattle.agent_script.specs.Commands.{request, counting_of, switch_of, direction_of, IsPortOf, NamesPortOf, frame_with, link_with, command_with, command_alone, command_of};
 ghost use Rattle.agent_script.specs.CommandViews.{command_view};
 ghost use Rattle.script_core.specs.Words.{split_word, octets_of};
 
+use rstp_core::MAX_PORTS;
 use script_core::words::{read_hex, read_number, split_word};
 use std::alloc::{AllocError, Global};
 
 /// The most seconds that one line lets pass.
-const MOST_SECONDS: u32 = 100_000;
+pub const MAX_SECONDS: u32 = 100_000;
 
 /// What a line asks for.
 #[derive(Debug, Drop)]
@@ -17,7 +18,7 @@ pub enum Command {
     Request(Vec<u8>),
     /// `frame P HEX`: a frame comes in by a port.
     Frame(u16, Vec<u8>),
-    /// `tick N`: so many seconds pass.
+    /// `tick N`: so many seconds pass, 1 to [`MAX_SECONDS`].
     Tick(u32),
     /// `link P up` or `link P down`: the link of a port.
     Link(u16, bool),
@@ -32,7 +33,7 @@ pub enum Command {
 /// Reads a line, which may be no command, where there are so many ports. Only memory can fail.
 #[tactic(auto, unfolding(crate::specs::Commands::command_of))]
 pub fn read_command(alloc: Global, ports: usize, line: &[u8]) -> Result<Option<Command>, AllocError>
-    requires { ports ≤ 32 }
+    requires { ports ≤ MAX_PORTS }
     ensures command { IfOk result (λ c. option_map command_view c ≡ command_of ports line.now) }
     ensures port { IfOk result (λ c. NamesPortOf ports (option_map command_view c)) }
 {
@@ -63,7 +64,7 @@ fn read_with(
     word: &[u8],
     rest: &[u8],
 ) -> Result<Option<Command>, AllocError>
-    requires { ports ≤ 32 }
+    requires { ports ≤ MAX_PORTS }
     ensures command { IfOk result (λ c. option_map command_view c ≡ command_with ports (word.now, rest.now)) }
     ensures port { IfOk result (λ c. NamesPortOf ports (option_map command_view c)) }
 {
@@ -74,7 +75,7 @@ fn read_with(
         return read_frame(alloc, ports, rest);
     }
     if word == b"tick".as_slice() {
-        return Ok(read_counting(rest, MOST_SECONDS).map(Command::Tick));
+        return Ok(read_counting(rest, MAX_SECONDS).map(Command::Tick));
     }
     if word == b"link".as_slice() {
         return Ok(read_link(ports, rest));
@@ -98,7 +99,7 @@ fn read_request(alloc: Global, text: &[u8]) -> Result<Option<Command>, AllocErro
 
 // A port and the octets of a frame.
 fn read_frame(alloc: Global, ports: usize, text: &[u8]) -> Result<Option<Command>, AllocError>
-    requires { ports ≤ 32 }
+    requires { ports ≤ MAX_PORTS }
     ensures command { IfOk result (λ c. option_map command_view c ≡ option_and_then (frame_with ports) (split_word text.now)) }
     ensures port { IfOk result (λ c. NamesPortOf ports (option_map command_view c)) }
 {
@@ -114,7 +115,7 @@ fn read_frame_of(
     word: &[u8],
     rest: &[u8],
 ) -> Result<Option<Command>, AllocError>
-    requires { ports ≤ 32 }
+    requires { ports ≤ MAX_PORTS }
     ensures command { IfOk result (λ c. option_map command_view c ≡ frame_with ports (word.now, rest.now)) }
     ensures port { IfOk result (λ c. NamesPortOf ports (option_map command_view c)) }
 {
@@ -129,7 +130,7 @@ fn read_frame_of(
 
 // A port and the direction of its link.
 fn read_link(ports: usize, text: &[u8]) -> Option<Command>
-    requires { ports ≤ 32 }
+    requires { ports ≤ MAX_PORTS }
     ensures command { option_map command_view result ≡ option_and_then (link_with ports) (split_word text.now) }
     ensures port { NamesPortOf ports (option_map command_view result) }
 {
@@ -140,7 +141,7 @@ fn read_link(ports: usize, text: &[u8]) -> Option<Command>
 }
 
 fn read_link_of(ports: usize, word: &[u8], rest: &[u8]) -> Option<Command>
-    requires { ports ≤ 32 }
+    requires { ports ≤ MAX_PORTS }
     ensures command { option_map command_view result ≡ link_with ports (word.now, rest.now) }
     ensures port { NamesPortOf ports (option_map command_view result) }
 {
@@ -151,7 +152,7 @@ fn read_link_of(ports: usize, word: &[u8], rest: &[u8]) -> Option<Command>
 
 // The number of one of so many ports.
 fn read_port(ports: usize, word: &[u8]) -> Option<u16>
-    requires { ports ≤ 32 }
+    requires { ports ≤ MAX_PORTS }
     ensures value { result ≡ counting_of ports word.now }
     ensures port { IfSome result (λ n. IsPortOf ports n) }
 {

@@ -5,15 +5,15 @@
 //! policy.
 //!
 //! # Definitions
-//! `specs/Commands.antt`: which command a line is; `specs/Events.antt`: what an event makes of world and bridge, and
-//! what comes out; `specs/Outputs.antt`: how that is written; `specs/Actions.antt`: what a line does;
+//! `specs/Commands.antt`: which command a line is; `specs/Events.antt`: the step of an event, what it makes of world and
+//! bridge and what comes out; `specs/Outputs.antt`: how that is written; `specs/Actions.antt`: what a line does;
 //! `specs/Notes.antt`: which want of memory a line may meet; `specs/Script.antt`: the text of a script.
 //!
 //! # Laws
-//! None.
+//! In [`laws`]: how many seconds one line lets pass at most.
 //!
 //! # Not claimed
-//! That a want of memory came only where memory was refused; what is written where a write failed.
+//! That a want of memory came only where memory was refused; how much of what was said is written where a write failed.
 #![tactic(auto)]
 
 mod agent;
@@ -21,11 +21,13 @@ mod bridging;
 mod built_in;
 mod commands;
 mod drops;
+pub mod laws;
 mod note;
 mod saying;
 mod session;
 
 pub use built_in::{NoWorld, built_in_world};
+pub use commands::MAX_SECONDS;
 pub use session::{Run, run_script};
 
 #[cfg(test)]

@@ -2,7 +2,7 @@
 ghost use Rattle.std.specs.Prelude.{◌≡◌, ◌++◌, codes, OnOk};
 ghost use Rattle.std.specs.List.{flat_map};
 ghost use Rattle.hex.specs.Hex.{encode_upper};
-ghost use Rattle.agent_script.specs.Outputs.{drop_text, dropped_name, decision_text, told_audit};
+ghost use Rattle.agent_script.specs.Outputs.{drop_text, dropped_name, told_audit};
 ghost use Rattle.agent_script.specs.Actions.{cause_name, spaced, counts_text};
 
 use crate::drops::Drops;
@@ -46,9 +46,10 @@ fn dropped_name(cause: &Cause) -> &'static [u8]
     }
 }
 
-/// Appends what drops a request, where its decision is to drop it.
-pub fn say_decision(decision: &Decision, out: &mut Vec<u8>) -> Result<(), AllocError>
-    ensures { OnOk result (out.new.items ≡ out.old.items ++ decision_text decision.now) }
+/// Appends what drops a request whose decision is to drop it.
+pub fn say_dropped(decision: &Decision, out: &mut Vec<u8>) -> Result<(), AllocError>
+    ensures { OnOk result ((cause : Cause) → decision.now ≡ Decision.Drop cause →
+        out.new.items ≡ out.old.items ++ drop_text (dropped_name cause)) }
 {
     match decision {
         Decision::Drop(cause) => say_drop(dropped_name(cause), out),

@@ -1,9 +1,9 @@
 //! Runs a script over a world and beside a bridge.
-ghost use Rattle.std.specs.Prelude.{◌≡◌, ◌≢◌, IfOk, IfErr, IfSome, if◌then◌else◌};
+ghost use Rattle.std.specs.Prelude.{◌≡◌, ◌⊎◌, IfOk, IfErr, IfSome, if◌then◌else◌};
 ghost use Rattle.script_core.specs.Lines.{lines_of};
-ghost use Rattle.script_core.specs.Runs.{Reads, Writes};
+ghost use Rattle.script_core.specs.Runs.{Reads, Writes, IsFrontOf};
 ghost use Rattle.agent_script.specs.State.{opening_agent};
-ghost use Rattle.agent_script.specs.Script.{IsSaid, IsSaidFirst, IsSaidBefore};
+ghost use Rattle.agent_script.specs.Script.{IsSaid, IsSaidSome, IsSaidBefore, IsGivenUp};
 ghost use Rattle.agent_script.specs.Sessions.{Session as State, SaysToLine, SaysAtEnd};
 
 use crate::agent::Agent;
@@ -58,9 +58,9 @@ impl Session for AgentSession {
 /// Reads a script to its end, and writes what the agent says to each line over this world and beside this bridge.
 ///
 /// # Errors
-/// `Input` where a read fails or the input has not ended after 4,294,967,295 reads: each line that had ended is answered. `Memory` where
-/// there is none for a line, for the lines of a policy or for what is said: the lines before it are answered. `Output` where a write
-/// fails; then nothing is promised of what is written.
+/// `Input` where a read fails or the input has not ended after [`MAX_READS`](script_core::MAX_READS) of them: each line that had ended is
+/// answered. `Memory` where there is none for a line, for the lines of a policy or for what is said: each line before it is answered,
+/// and the line was read, in part at least. `Output` where a write fails or takes nothing: a front of what was said is written.
 pub fn run_script<R: Read, W: Write>(
     alloc: Global,
     world: PlainWorld,
@@ -77,10 +77,15 @@ pub fn run_script<R: Read, W: Write>(
         Reads (R.remaining reader.old) (R.remaining reader.new) (λ input rest.
         Writes (W.contents writer.old) (W.contents writer.new) (λ text.
         IsSaidBefore (opening_agent world bridge) input rest text))) }
-    // Whatever stopped the run, but for a write, what is written is what was said to the first lines of the input.
-    ensures first { IfErr result (λ e. e ≢ RunFault.Output → IfSome (R.remaining reader.old) (λ input.
+    // Where a line was given up, each line before it is answered, and it was read, in part at least.
+    ensures given_up { IfErr result (λ e. (e ≡ RunFault.Memory) ⊎ (e ≡ RunFault.Stopped) →
+        Reads (R.remaining reader.old) (R.remaining reader.new) (λ input rest.
         Writes (W.contents writer.old) (W.contents writer.new) (λ text.
-        IsSaidFirst (opening_agent world bridge) (lines_of input) text))) }
+        IsGivenUp (opening_agent world bridge) input rest text))) }
+    // Where a write failed, what is written is a front of what was said to the first lines of the input, or to all of it.
+    ensures output { IfErr result (λ e. e ≡ RunFault.Output → IfSome (R.remaining reader.old) (λ input.
+        Writes (W.contents writer.old) (W.contents writer.new) (λ text. IsFrontOf (λ whole.
+        IsSaidSome (opening_agent world bridge) (lines_of input) whole) text))) }
 {
     let mut session = AgentSession {
         alloc,

@@ -1,12 +1,14 @@
 -- How what is said adds up, and how a reader's octets are followed.
-use Rattle.std.proofs.Common.{◌≡◌, ◌≢◌, ℕ, List, [], ◌∷◌, ◌++◌, All, Option, None, Some, IfSome, refl, ap, ◌∙◌, append_assoc, append-nil, sym}
-use Rattle.std.proofs.KnownBytes.{Appends-nil, Appends-trans}
+use Rattle.std.proofs.Common.{◌≡◌, ◌≢◌, ◌⊎◌, inl, inr, ◌<◌, length, ℕ, List, [], ◌∷◌, ◌++◌, Option, None, Some, IfSome, refl, ap, ◌∙◌, append_assoc, append-nil, length-append, sym, arith}
+use Rattle.std.proofs.KnownBytes.{Appends-nil, Appends-trans, Appends-kept}
 use Rattle.std.proofs.lemmas.List.Elements.{All-append, All-cons, All-nil}
 use Rattle.std.proofs.lemmas.List.Concat.{flat_map-append}
 use Rattle.std.specs.Io.KnownBytes.{Appends, Consumes, IsAtEnd, Keeps}
 use Rattle.std.specs.List.{flat_map}
 use Rattle.std.specs.Prelude.{Result, Ok, Err, IfErr, OnErr, OnOk, IsErrAnd}
-use Rattle.script_core.specs.Runs.{Adds, Writes, Reads, Answered, Says, SaysAll, SaysFirst, Feeds, FeedsFirst, StopsBetween}
+use Rattle.script_core.specs.Runs.{Adds, Writes, IsFrontOf, Reads, Says, SaysAll, SaysFirst, SaysSome, Feeds, FeedsFirst, StopsBetween, GivesUpLine, GivesUpEnd, GivesUp}
+use Rattle.script_core.specs.declared.fault.RunFault.{RunFault}
+use Rattle.script_core.specs.declared.fault.RunFault.TheVariants.{Memory as RunMemory, Stopped as RunStopped, Output as RunOutput}
 use Rattle.script_core.specs.Lines.{lines_of, with_end, HasNoEnd}
 use Rattle.script_core.proofs.LinesLemmas.{lines_of-behind}
 
@@ -31,6 +33,16 @@ if_some_weaker (Some x) P Q p f = f x p
 pub if_err_known : {T E : Type 0} (r : Result T E) (K P : E → Type 0) → IsErrAnd r K → ((e : E) → K e → P e) → IfErr r P
 if_err_known (Ok x) K P known f = tt
 if_err_known (Err e) K P known f = f e known
+
+-- who gives up a line did not fail to write
+pub not_output : (e : RunFault) → (e ≡ RunMemory) ⊎ (e ≡ RunStopped) → e ≢ RunOutput
+not_output e (inl same) other = cc
+not_output e (inr same) other = cc
+
+-- what holds in each case
+pub on_either : {T E : Type 0} {A B C : Type 0} (r : Result T E) → OnOk r A → OnErr r B → (A → C) → (B → C) → C
+on_either (Ok x) a b f g = f a
+on_either (Err e) a b f g = g b
 
 -- ---- what is added
 
@@ -66,6 +78,37 @@ Writes-weaker R p f = record { text = p.text; took = p.took; holds = f p.text p.
 pub Adds-written : {a b : Option (List ℕ)} {none out : List ℕ} {P : List ℕ → Type 0} → none ≡ [] → Appends a b out → Adds none out P → Writes a b P
 Adds-written {a} {b} {none} {out} e took p =
     record { text = p.said; took = rw (p.added ∙ ap (λ l. l ++ p.said) e) at took; holds = p.holds }
+
+-- a write that failed, or a flush, leaves what was written
+pub Writes-kept : {a b c : Option (List ℕ)} (P : List ℕ → Type 0) → Writes a b P → Keeps b c → Writes a c P
+Writes-kept {a} {b} {c} P p kept = record { text = p.text; took = Appends-kept a b c p.text p.took kept; holds = p.holds }
+
+-- what was taken of these octets, where the rest is left, is a front of them
+pub IsFrontOf-left : (octets text rest : List ℕ) → octets ≡ text ++ rest → IsFrontOf (λ whole. whole ≡ octets) text
+IsFrontOf-left octets text rest e = record { whole = octets; rest = rest; split = e; holds = refl }
+
+pub IsFrontOf-weaker : {P : List ℕ → Type 0} (Q : List ℕ → Type 0) {text : List ℕ} → IsFrontOf P text
+    → ((s : List ℕ) → P s → Q s) → IsFrontOf Q text
+IsFrontOf-weaker Q p f = record { whole = p.whole; rest = p.rest; split = p.split; holds = f p.whole p.holds }
+
+-- a front behind what was written whole
+pub IsFrontOf-behind : {P : List ℕ → Type 0} (Q : List ℕ → Type 0) (s : List ℕ) {t : List ℕ} → IsFrontOf P t
+    → ((u : List ℕ) → P u → Q (s ++ u)) → IsFrontOf Q (s ++ t)
+IsFrontOf-behind Q s {t} p f = record {
+  whole = s ++ p.whole;
+  rest = p.rest;
+  split = ap (λ l. s ++ l) p.split ∙ sym (append_assoc s t p.rest);
+  holds = f p.whole p.holds;
+}
+
+-- a front of what was added to nothing is written
+pub Adds-front : {a b : Option (List ℕ)} {none out : List ℕ} {P : List ℕ → Type 0} (Q : List ℕ → Type 0) → none ≡ []
+    → Writes a b (λ text. IsFrontOf (λ whole. whole ≡ out) text) → Adds none out P → ((s : List ℕ) → P s → Q s)
+    → Writes a b (λ text. IsFrontOf Q text)
+Adds-front {a} {b} {none} {out} {P} Q e written p f =
+    let all : out ≡ p.said = p.added ∙ ap (λ l. l ++ p.said) e in
+    Writes-weaker (λ text. IsFrontOf Q text) written
+    (λ text front. IsFrontOf-weaker Q front (λ s same. rw (same ∙ all) (f p.said p.holds)))
 
 -- ---- what is said
 
@@ -168,6 +211,57 @@ module _ {X : Type 0} (line_says : X → List ℕ → List ℕ → X → Type 0)
   pub SaysFirst-all : (a b : X) (lines : List (List ℕ)) (s : List ℕ) → Says line_says a lines s b → SaysFirst line_says a lines s
   SaysFirst-all a b lines s p = record { first = lines; left = []; between = b; split = sym (append-nil lines); says = p }
 
+  -- ---- what is given up
+
+  Feeds-gives_up_line : {a b : X} {octets left rest s t : List ℕ} → Feeds line_says a octets b left s → GivesUpLine line_says b left rest t
+      → GivesUpLine line_says a octets rest (s ++ t)
+  Feeds-gives_up_line p q = record { between = q.between; left = q.left; some = q.some; feeds = Feeds-more p q.feeds }
+
+  Feeds-gives_up_end : {a b : X} {octets left rest s t : List ℕ} → Feeds line_says a octets b left s → GivesUpEnd line_says b left rest t
+      → GivesUpEnd line_says a octets rest (s ++ t)
+  Feeds-gives_up_end {a} {b} {octets} {left} {rest} {s} {t} p q = record {
+    between = q.between;
+    read = q.read;
+    says = rw (Feeds-lines p) (Says-append p.ended (lines_of left) a b q.between s t p.says q.says);
+  }
+
+  pub Feeds-gives_up : {a b : X} {octets left rest s t : List ℕ} → Feeds line_says a octets b left s → GivesUp line_says b left rest t
+      → GivesUp line_says a octets rest (s ++ t)
+  Feeds-gives_up p (inl q) = inl (Feeds-gives_up_line p q)
+  Feeds-gives_up p (inr q) = inr (Feeds-gives_up_end p q)
+
+  -- a line that is given up stands behind those that were answered
+  pub GivesUpLine-left : {a : X} {octets rest s : List ℕ} (b : X) (left : List ℕ) → 0 < length left
+      → Feeds line_says a octets b (left ++ rest) s → GivesUpLine line_says a octets rest s
+  GivesUpLine-left {a} {octets} {rest} {s} b left some p = record { between = b; left = left; some = some; feeds = p }
+
+  -- the line whose part this is, and more of which was read
+  pub GivesUpLine-within : {a b : X} {octets rest s : List ℕ} (part more : List ℕ) → 0 < length more
+      → Feeds line_says a octets b (part ++ (more ++ rest)) s → GivesUpLine line_says a octets rest s
+  GivesUpLine-within {a} {b} part more some p =
+      GivesUpLine-left b (part ++ more) (omega (arith, length-append part more)) (rw append_assoc p)
+
+  -- the last line is given up
+  pub GivesUp-last : {a : X} {line : List ℕ} → 0 < length line → GivesUp line_says a line [] []
+  GivesUp-last {a} {line} some = inl (GivesUpLine-left a line some (rw append-nil Feeds-none))
+
+  -- the end is given up
+  pub GivesUp-end : {a : X} {octets s : List ℕ} (b : X) → Says line_says a (lines_of octets) s b → GivesUp line_says a octets [] s
+  GivesUp-end {a} {octets} {s} b p = inr (record { between = b; read = refl; says = p })
+
+  pub GivesUpLine-first : {a : X} {octets rest s : List ℕ} → GivesUpLine line_says a octets rest s → FeedsFirst line_says a octets s
+  GivesUpLine-first {a} {octets} {rest} {s} p = record { between = p.between; left = p.left ++ rest; feeds = p.feeds }
+
+  pub GivesUp-says : {a : X} {octets rest s : List ℕ} → GivesUp line_says a octets rest s → SaysFirst line_says a (lines_of octets) s
+  GivesUp-says (inl p) = FeedsFirst-says (GivesUpLine-first p)
+  GivesUp-says (inr p) = SaysFirst-all _ p.between _ _ p.says
+
+  -- what was said to some of the lines that are left
+  pub Feeds-says_some : (end_says : X → List ℕ → X → Type 0) {a b : X} {octets left s t : List ℕ} → Feeds line_says a octets b left s
+      → SaysSome line_says end_says b (lines_of left) t → SaysSome line_says end_says a (lines_of octets) (s ++ t)
+  Feeds-says_some end_says p (inl q) = inl (Feeds-says-first p q)
+  Feeds-says_some end_says p (inr q) = inr (q.0, Feeds-says-all end_says p q.1)
+
   -- where there are no lines, and where there is one
   pub Says-nothing : (s : X) (lines : List (List ℕ)) → lines ≡ [] → Says line_says s lines [] s
   Says-nothing s lines e = rw e (Says-none s)
@@ -187,11 +281,35 @@ module _ {X : Type 0} (line_says : X → List ℕ → List ℕ → X → Type 0)
       → Writes old new (λ text. SaysAll line_says end_says a (lines_of input) text c)
   Writes-all end_says part p q = Writes-more _ p q (λ s t f g. Feeds-says-all end_says (rw append-nil at f) g)
 
-  pub Writes-first : {old now new : Option (List ℕ)} {a b : X} {input : List ℕ} (part : List ℕ)
+  -- where all was read, and a line of the rest, or the end, is given up
+  pub Writes-gives_up : {old now new : Option (List ℕ)} {a b : X} {input : List ℕ} (part : List ℕ)
       → Writes old now (λ text. Feeds line_says a input b (part ++ []) text)
-      → Writes now new (λ text. SaysFirst line_says b (lines_of part) text)
-      → Writes old new (λ text. SaysFirst line_says a (lines_of input) text)
-  Writes-first part p q = Writes-more _ p q (λ s t f g. Feeds-says-first (rw append-nil at f) g)
+      → Writes now new (λ text. GivesUp line_says b part [] text)
+      → Writes old new (λ text. GivesUp line_says a input [] text)
+  Writes-gives_up part p q = Writes-more _ p q (λ s t f g. Feeds-gives_up (rw append-nil at f) g)
+
+  -- where all was read, and a write of what is said to the rest fails
+  pub Writes-part : (end_says : X → List ℕ → X → Type 0) {old now new : Option (List ℕ)} {a b : X} {input : List ℕ} (part : List ℕ)
+      → Writes old now (λ text. Feeds line_says a input b (part ++ []) text)
+      → Writes now new (λ text. IsFrontOf (λ whole. SaysSome line_says end_says b (lines_of part) whole) text)
+      → Writes old new (λ text. IsFrontOf (λ whole. SaysSome line_says end_says a (lines_of input) whole) text)
+  Writes-part end_says part p q =
+      Writes-more _ p q (λ s t f g. IsFrontOf-behind _ s g (λ u some. Feeds-says_some end_says (rw append-nil at f) some))
+
+  -- where more was read, and a line of it is given up
+  pub Writes-gives_up_line : {old now new : Option (List ℕ)} {a b : X} {input left rest : List ℕ}
+      → Writes old now (λ text. Feeds line_says a input b left text)
+      → Writes now new (λ text. GivesUpLine line_says b left rest text)
+      → Writes old new (λ text. GivesUp line_says a input rest text)
+  Writes-gives_up_line p q = Writes-more _ p q (λ s t f g. inl (Feeds-gives_up_line f g))
+
+  -- where more was read, and a write of what is said to it fails
+  pub Writes-front : (end_says : X → List ℕ → X → Type 0) {old now new : Option (List ℕ)} {a b : X} {input left : List ℕ}
+      → Writes old now (λ text. Feeds line_says a input b left text)
+      → Writes now new (λ text. IsFrontOf (λ whole. FeedsFirst line_says b left whole) text)
+      → Writes old new (λ text. IsFrontOf (λ whole. SaysSome line_says end_says a (lines_of input) whole) text)
+  Writes-front end_says p q =
+      Writes-more _ p q (λ s t f g. IsFrontOf-behind _ s g (λ u first. inl (FeedsFirst-says (FeedsFirst-more f first))))
 
 -- ---- the reader's octets
 
@@ -237,3 +355,10 @@ Reads-end None b c P Q p q e f = tt
 Reads-end (Some xs) None c P Q p q e f = absurd p
 Reads-end (Some xs) (Some ys) None P Q p q e f = absurd q
 Reads-end (Some xs) (Some ys) (Some zs) P Q p q e f = f xs (rw (← (q ∙ e)) p)
+
+pub Reads-close : (a b c : Option (List ℕ)) (P Q : List ℕ → List ℕ → Type 0)
+    → Reads a b P → Consumes b c [] → IsAtEnd c → ((xs : List ℕ) → P xs [] → Q xs []) → Reads a c Q
+Reads-close None b c P Q p q e f = tt
+Reads-close (Some xs) None c P Q p q e f = absurd p
+Reads-close (Some xs) (Some ys) None P Q p q e f = absurd q
+Reads-close (Some xs) (Some ys) (Some zs) P Q p q e f = rw e (f xs (rw (← (q ∙ e)) p))

@@ -1,8 +1,8 @@
 -- What a session says to lines, what was added to octets, and how far a run has come.
-use Rattle.std.specs.Prelude.{◌≡◌, ℕ, List, [], ◌∷◌, ◌++◌, All, Option, None, Some}
+use Rattle.std.specs.Prelude.{◌≡◌, ◌⊎◌, ◌<◌, ℕ, List, [], ◌∷◌, ◌++◌, All, length, Option, None, Some}
 use Rattle.std.specs.List.{flat_map}
 use Rattle.std.specs.Io.KnownBytes.{Appends}
-use Rattle.script_core.specs.Lines.{with_end, HasNoEnd}
+use Rattle.script_core.specs.Lines.{lines_of, with_end, HasNoEnd}
 
 -- octets were added, and this holds of them
 pub record Adds (old new : List ℕ) (P : List ℕ → Type 0) : Type 0 where
@@ -15,6 +15,13 @@ pub record Writes (old new : Option (List ℕ)) (P : List ℕ → Type 0) : Type
   pub text : List ℕ
   pub took : Appends old new text
   pub holds : P text
+
+-- a front of a text of which this holds: no octets of it, some, or all
+pub record IsFrontOf (P : List ℕ → Type 0) (front : List ℕ) : Type 0 where
+  pub whole : List ℕ
+  pub rest : List ℕ
+  pub split : whole ≡ front ++ rest
+  pub holds : P whole
 
 -- what a reader had at first and has now, where it tells its octets
 abbrev pub Reads : Option (List ℕ) → Option (List ℕ) → (List ℕ → List ℕ → Type 0) → Type 0
@@ -74,3 +81,24 @@ module _ {X : Type 0} (line_says : X → List ℕ → List ℕ → X → Type 0)
     pub part : List ℕ
     pub no_end : HasNoEnd part
     pub feeds : Feeds before input now (part ++ rest) text
+
+  -- A line was given up: of an input, `rest` was not read; each line before the one that is given up had ended and was answered, and no
+  -- other was; and of that line, which stands at the front of `left`, at least one octet was read.
+  pub record GivesUpLine (before : X) (input rest text : List ℕ) : Type 0 where
+    pub between : X
+    pub left : List ℕ
+    pub some : 0 < length left
+    pub feeds : Feeds before input between (left ++ rest) text
+
+  -- the end of the script was given up: the input was read to its end, and each of its lines was answered
+  pub record GivesUpEnd (before : X) (input rest text : List ℕ) : Type 0 where
+    pub between : X
+    pub read : rest ≡ []
+    pub says : Says before (lines_of input) text between
+
+  abbrev pub GivesUp : X → List ℕ → List ℕ → List ℕ → Type 0
+  GivesUp before input rest text = GivesUpLine before input rest text ⊎ GivesUpEnd before input rest text
+
+  -- what was said to the first of these lines, or to all of them and to the end of the script
+  abbrev pub SaysSome : (X → List ℕ → X → Type 0) → X → List (List ℕ) → List ℕ → Type 0
+  SaysSome end_says before lines text = SaysFirst before lines text ⊎ ((now : X) × SaysAll end_says before lines text now)

@@ -17,9 +17,9 @@ pub enum LineFault {
 /// Why a run stopped before the end of its script.
 #[derive(Clone, Copy, Debug, PartialEq, Eq)]
 pub enum RunFault {
-    /// A read failed, or the input has not ended after 4,294,967,295 reads.
+    /// A read failed, or the input has not ended after [`MAX_READS`](crate::MAX_READS) of them.
     Input,
-    /// A write failed.
+    /// A write failed, or took nothing.
     Output,
     /// There was no memory for a line, or for what it says.
     Memory,

@@ -4,6 +4,13 @@ ghost use Rattle.hex.specs.Hex.{encode_upper};
 ghost use Rattle.script_core.specs.Lines.{lines_of, AreLines};
 ghost use Rattle.script_core.specs.Words.{octets_of};
 
+use crate::run::MAX_READS;
+
+/// A run makes at most 4,294,967,295 reads.
+pub fn limits_are_fixed()
+    ensures reads { MAX_READS ≡ 4294967295 }
+{}
+
 /// The lines of an input are the only lists without octet 0A that, each ended by one, make the
 /// input, or the input and one 0A where it does not end with one.
 pub fn has_its_lines()

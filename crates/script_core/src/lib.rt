@@ -11,7 +11,7 @@
 //! In [`laws`]: each text has its lines; hexadecimal is read back.
 //!
 //! # Not claimed
-//! When a read or a write fails; how many octets one read gives.
+//! When a read or a write fails; how many octets one read gives; how many reads are made.
 #![tactic(auto)]
 
 mod fault;
@@ -19,9 +19,10 @@ pub mod laws;
 mod run;
 mod session;
 pub mod words;
+mod writing;
 
 pub use fault::{LineFault, RunFault};
-pub use run::run_script;
+pub use run::{MAX_READS, run_script};
 pub use session::Session;
 
 #[cfg(test)]

@@ -1,13 +1,18 @@
 //! Runs a script, a read at a time.
-ghost use Rattle.std.specs.Prelude.{◌≡◌, ◌≢◌, ℕ, List, [], ◌∷◌, ◌++◌, All, IfSome, IfErr, OnOk, OnErr};
-ghost use Rattle.std.specs.Io.KnownBytes.{Appends};
+ghost use Rattle.std.specs.Prelude.{◌≡◌, ◌≢◌, ◌⊎◌, ◌<◌, ℕ, List, [], ◌∷◌, ◌++◌, All, IfSome, IfErr, OnOk, OnErr, length};
+ghost use Rattle.std.specs.Io.{ReadsAtMost};
+ghost use Rattle.std.specs.Io.KnownBytes.{Appends, ReadConsumes};
 ghost use Rattle.script_core.specs.Lines.{lines_of, HasNoEnd};
-ghost use Rattle.script_core.specs.Runs.{Adds, Writes, Reads, Says, SaysAll, SaysFirst, Feeds, FeedsFirst, StopsBetween};
+ghost use Rattle.script_core.specs.Runs.{Adds, Writes, IsFrontOf, Reads, Says, SaysAll, SaysSome, Feeds, FeedsFirst, StopsBetween, GivesUpLine, GivesUp};
 
 use crate::fault::{LineFault, RunFault};
 use crate::session::Session;
+use crate::writing::write_octets;
 use std::alloc::Global;
 use std::io::{Read, Write};
+
+/// The most reads of one run.
+pub const MAX_READS: u32 = u32::MAX;
 
 /// The octet that ends a line.
 const LINE_END: u8 = b'\n';
@@ -66,8 +71,8 @@ fn feed<S: Session>(session: &mut S, buffers: &mut Buffers, chunk: &[u8]) -> Res
     ensures feeds { OnOk result ((rest : List ℕ) → Adds buffers.old.out.items buffers.new.out.items (λ said.
         Feeds S.line_says session.old (buffers.old.line.items ++ (chunk.now ++ rest)) session.new (buffers.new.line.items ++ rest) said)) }
     ensures part { OnOk result (HasNoEnd buffers.new.line.items) }
-    ensures first { OnErr result ((rest : List ℕ) → Adds buffers.old.out.items buffers.new.out.items (λ said.
-        FeedsFirst S.line_says session.old (buffers.old.line.items ++ (chunk.now ++ rest)) said)) }
+    ensures given_up { OnErr result ((rest : List ℕ) → Adds buffers.old.out.items buffers.new.out.items (λ said.
+        GivesUpLine S.line_says session.old (buffers.old.line.items ++ (chunk.now ++ rest)) rest said)) }
 {
     for octet in chunk {
         feed_octet(session, buffers, *octet)?;
@@ -92,6 +97,7 @@ fn finish_last_line<S: Session>(session: &mut S, buffers: &mut Buffers) -> Resul
     ensures said { OnOk result (Adds buffers.old.out.items buffers.new.out.items (λ said.
         Says S.line_says session.old (lines_of buffers.old.line.items) said session.new)) }
     ensures same { OnErr result (buffers.new.out.items ≡ buffers.old.out.items) }
+    ensures some { OnErr result (0 < length buffers.old.line.items) }
 {
     if buffers.line.is_empty() {
         return Ok(());
@@ -105,29 +111,41 @@ fn finish<S: Session>(session: &mut S, buffers: &mut Buffers) -> Result<(), Line
     requires { HasNoEnd buffers.old.line.items }
     ensures said { OnOk result (Adds buffers.old.out.items buffers.new.out.items (λ said.
         SaysAll S.line_says S.end_says session.old (lines_of buffers.old.line.items) said session.new)) }
-    ensures first { OnErr result (Adds buffers.old.out.items buffers.new.out.items (λ said.
-        SaysFirst S.line_says session.old (lines_of buffers.old.line.items) said)) }
+    ensures given_up { OnErr result (Adds buffers.old.out.items buffers.new.out.items (λ said.
+        GivesUp S.line_says session.old buffers.old.line.items [] said)) }
 {
     finish_last_line(session, buffers)?;
     end_session(session, buffers)?;
     Ok(())
 }
 
-// Writes what was said, in one write, if anything was.
+// Writes what was said, and flushes it, if anything was. Where that fails, a front of it is written.
 fn deliver<W: Write>(buffers: &mut Buffers, writer: &mut W) -> Result<(), RunFault>
     ensures written { OnOk result (Appends (W.contents writer.old) (W.contents writer.new) buffers.old.out.items) }
     ensures empty { OnOk result (buffers.new.out.items ≡ []) }
     ensures line { buffers.new.line.items ≡ buffers.old.line.items }
+    ensures front { OnErr result (Writes (W.contents writer.old) (W.contents writer.new) (λ text.
+        IsFrontOf (λ whole. whole ≡ buffers.old.out.items) text)) }
     ensures output { IfErr result (λ e. e ≡ RunFault.Output) }
 {
     if buffers.out.is_empty() {
         return Ok(());
     }
-    if writer.write_all(buffers.out.as_slice()).is_err() || writer.flush().is_err() {
-        return Err(RunFault::Output);
-    }
+    write_octets(buffers.out.as_slice(), writer)?;
     buffers.out.clear();
     Ok(())
+}
+
+// Reads some octets, and none at the end of the input.
+fn read_octets<R: Read>(reader: &mut R, chunk: &mut [u8]) -> Result<usize, RunFault>
+    ensures bound { ReadsAtMost result chunk.new }
+    ensures bytes { ReadConsumes (R.remaining reader.old) (R.remaining reader.new) result chunk.new }
+    ensures input { IfErr result (λ e. e ≡ RunFault.Input) }
+{
+    match reader.read(chunk) {
+        Ok(n) => Ok(n),
+        Err(_) => Err(RunFault::Input),
+    }
 }
 
 // Answers what one read gave. What was said to the lines before a fault is written too.
@@ -143,9 +161,12 @@ fn serve<S: Session, W: Write>(
         Feeds S.line_says session.old (buffers.old.line.items ++ (chunk.now ++ rest)) session.new (buffers.new.line.items ++ rest) text)) }
     ensures part { OnOk result (HasNoEnd buffers.new.line.items) }
     ensures empty { OnOk result (buffers.new.out.items ≡ []) }
-    ensures first { IfErr result (λ e. e ≢ RunFault.Output → (rest : List ℕ) →
+    ensures given_up { IfErr result (λ e. e ≢ RunFault.Output → (rest : List ℕ) →
         Writes (W.contents writer.old) (W.contents writer.new) (λ text.
-        FeedsFirst S.line_says session.old (buffers.old.line.items ++ (chunk.now ++ rest)) text)) }
+        GivesUpLine S.line_says session.old (buffers.old.line.items ++ (chunk.now ++ rest)) rest text)) }
+    ensures output { IfErr result (λ e. e ≡ RunFault.Output → (rest : List ℕ) →
+        Writes (W.contents writer.old) (W.contents writer.new) (λ text. IsFrontOf (λ whole.
+        FeedsFirst S.line_says session.old (buffers.old.line.items ++ (chunk.now ++ rest)) whole) text)) }
     ensures kind { IfErr result (λ e. e ≢ RunFault.Input) }
 {
     let fed = feed(session, buffers, chunk);
@@ -164,8 +185,10 @@ fn close<S: Session, W: Write>(
     requires empty { buffers.old.out.items ≡ [] }
     ensures written { OnOk result (Writes (W.contents writer.old) (W.contents writer.new) (λ text.
         SaysAll S.line_says S.end_says session.old (lines_of buffers.old.line.items) text session.new)) }
-    ensures first { IfErr result (λ e. e ≢ RunFault.Output → Writes (W.contents writer.old) (W.contents writer.new) (λ text.
-        SaysFirst S.line_says session.old (lines_of buffers.old.line.items) text)) }
+    ensures given_up { IfErr result (λ e. e ≢ RunFault.Output → Writes (W.contents writer.old) (W.contents writer.new) (λ text.
+        GivesUp S.line_says session.old buffers.old.line.items [] text)) }
+    ensures output { IfErr result (λ e. e ≡ RunFault.Output → Writes (W.contents writer.old) (W.contents writer.new) (λ text.
+        IsFrontOf (λ whole. SaysSome S.line_says S.end_says session.old (lines_of buffers.old.line.items) whole) text)) }
     ensures kind { IfErr result (λ e. e ≢ RunFault.Input) }
 {
     let finished = finish(session, buffers);
@@ -177,14 +200,16 @@ fn close<S: Session, W: Write>(
 /// Runs a script to the end of its input.
 ///
 /// Each line ends at octet 0A or at the end of the input. What the lines of one read say is written
-/// by one `write_all`, and flushed, before the next read. No more than 4,294,967,295 reads are made, and what
-/// the run holds does not grow with the number of lines.
+/// and flushed before the next read. No more than [`MAX_READS`] reads are made, and what the run holds
+/// does not grow with the number of lines.
 ///
 /// # Errors
 ///
 /// `Input` where a read fails or the reads run out: each line that had ended is answered, and what
-/// it says is written. `Memory` and `Stopped` where a line is given up: what the lines before it
-/// say is written. `Output` where a write fails.
+/// it says is written. `Memory` and `Stopped` where a line, or the end of the script, is given up:
+/// what is said to each line before it is written, and it was read, in part at least. `Output` where a
+/// write fails or takes nothing: a front of what was said is written. A write that was interrupted is
+/// made again; a read that was interrupted has failed.
 pub fn run_script<S: Session, R: Read, W: Write>(
     alloc: Global,
     session: &mut S,
@@ -200,12 +225,17 @@ pub fn run_script<S: Session, R: Read, W: Write>(
         Reads (R.remaining reader.old) (R.remaining reader.new) (λ input rest.
         Writes (W.contents writer.old) (W.contents writer.new) (λ text.
         StopsBetween S.line_says session.old session.new input rest text))) }
-    // Whatever stopped the run, but for a write, what is written is what was said to the first lines of the input.
-    ensures first { IfErr result (λ e. e ≢ RunFault.Output → IfSome (R.remaining reader.old) (λ input.
+    // Where a line was given up, each line before it was answered, and it was read, in part at least.
+    ensures given_up { IfErr result (λ e. (e ≡ RunFault.Memory) ⊎ (e ≡ RunFault.Stopped) →
+        Reads (R.remaining reader.old) (R.remaining reader.new) (λ input rest.
         Writes (W.contents writer.old) (W.contents writer.new) (λ text.
-        SaysFirst S.line_says session.old (lines_of input) text))) }
+        GivesUp S.line_says session.old input rest text))) }
+    // Where a write failed, what is written is a front of what was said to the first lines of the input, or to all of it.
+    ensures output { IfErr result (λ e. e ≡ RunFault.Output → IfSome (R.remaining reader.old) (λ input.
+        Writes (W.contents writer.old) (W.contents writer.new) (λ text. IsFrontOf (λ whole.
+        SaysSome S.line_says S.end_says session.old (lines_of input) whole) text))) }
 {
-    run_within(alloc, u32::MAX, session, reader, writer)
+    run_within(alloc, MAX_READS, session, reader, writer)
 }
 
 // Runs a script with no more than so many reads.
@@ -223,9 +253,13 @@ pub(crate) fn run_within<S: Session, R: Read, W: Write>(
         Reads (R.remaining reader.old) (R.remaining reader.new) (λ input rest.
         Writes (W.contents writer.old) (W.contents writer.new) (λ text.
         StopsBetween S.line_says session.old session.new input rest text))) }
-    ensures first { IfErr result (λ e. e ≢ RunFault.Output → IfSome (R.remaining reader.old) (λ input.
+    ensures given_up { IfErr result (λ e. (e ≡ RunFault.Memory) ⊎ (e ≡ RunFault.Stopped) →
+        Reads (R.remaining reader.old) (R.remaining reader.new) (λ input rest.
         Writes (W.contents writer.old) (W.contents writer.new) (λ text.
-        SaysFirst S.line_says session.old (lines_of input) text))) }
+        GivesUp S.line_says session.old input rest text))) }
+    ensures output { IfErr result (λ e. e ≡ RunFault.Output → IfSome (R.remaining reader.old) (λ input.
+        Writes (W.contents writer.old) (W.contents writer.new) (λ text. IsFrontOf (λ whole.
+        SaysSome S.line_says S.end_says session.old (lines_of input) whole) text))) }
 {
     let mut buffers = Buffers {
         line: Vec::new(alloc),
@@ -234,10 +268,9 @@ pub(crate) fn run_within<S: Session, R: Read, W: Write>(
     };
     let mut chunk = [0u8; READ_SIZE];
     for _ in 0..most_reads {
-        match reader.read(&mut chunk) {
-            Ok(0) => return close(session, &mut buffers, writer),
-            Ok(n) => serve(session, &mut buffers, &chunk[..n], writer)?,
-            Err(_) => return Err(RunFault::Input),
+        match read_octets(reader, &mut chunk)? {
+            0 => return close(session, &mut buffers, writer),
+            n => serve(session, &mut buffers, &chunk[..n], writer)?,
         }
     }
     Err(RunFault::Input)

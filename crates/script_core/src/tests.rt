@@ -33,10 +33,11 @@ impl Session for Shouter {
     }
 }
 
-/// Gives three octets a read, and then fails if it is told to. Counts its reads.
+/// Gives so many octets a read, and then fails if it is told to. Counts its reads.
 #[derive(Drop)]
 struct Slow<'a> {
     octets: &'a [u8],
+    size: usize,
     fails: bool,
     reads: usize,
 }
@@ -44,7 +45,7 @@ struct Slow<'a> {
 impl Read for Slow<'_> {
     fn read(&mut self, buf: &mut [u8]) -> io::Result<usize> {
         self.reads = self.reads.wrapping_add(1);
-        let size = self.octets.len().min(buf.len()).min(3);
+        let size = self.octets.len().min(buf.len()).min(self.size);
         if size == 0 && self.fails {
             return Err(Error::from(ErrorKind::Other));
         }
@@ -83,6 +84,33 @@ impl Write for Counted {
     }
 }
 
+/// Takes two octets a write until it has no room, and is interrupted before each.
+#[derive(Drop)]
+struct Narrow {
+    is_interrupted: bool,
+    room: usize,
+    octets: Vec<u8>,
+}
+
+impl Write for Narrow {
+    fn write(&mut self, buf: &[u8]) -> io::Result<usize> {
+        self.is_interrupted = !self.is_interrupted;
+        if self.is_interrupted {
+            return Err(Error::from(ErrorKind::Interrupted));
+        }
+        let size = buf.len().min(self.room).min(2);
+        if self.octets.extend_from_slice(&buf[..size]).is_err() {
+            return Err(Error::from(ErrorKind::Other));
+        }
+        self.room -= size;
+        Ok(size)
+    }
+
+    fn flush(&mut self) -> io::Result<()> {
+        Ok(())
+    }
+}
+
 #[test]
 fn answers_each_line(rt: HostRuntime) -> Result<(), Fail> {
     let rows: [(&[u8], &[u8]); 5] = [
@@ -115,6 +143,7 @@ fn stops_where_the_session_does(rt: HostRuntime) {
 fn slow_reader<'a>(fails: bool) -> Slow<'a> {
     Slow {
         octets: b"a\nb\ncd\ne\n",
+        size: 3,
         fails,
         reads: 0,
     }
@@ -182,6 +211,55 @@ fn fails_with_its_output(rt: HostRuntime) {
     );
     assert_eq!(rt; result, Err(RunFault::Output));
     assert_eq!(rt; writer.octets.as_slice(), b"a!\n".as_slice());
+}
+
+// What a narrow writer of so much room takes of a script of two lines.
+fn narrowly(alloc: Global, room: usize) -> (Result<(), RunFault>, Narrow) {
+    let mut writer = Narrow {
+        is_interrupted: false,
+        room,
+        octets: Vec::new(alloc),
+    };
+    let mut reader = b"a\nb\n".as_slice();
+    let result = run_script(alloc, &mut Shouter, &mut reader, &mut writer);
+    (result, writer)
+}
+
+#[test]
+fn writes_again_what_was_interrupted(rt: HostRuntime) {
+    let (result, writer) = narrowly(rt.alloc(), 100);
+    assert_eq!(rt; result, Ok(()));
+    assert_eq!(rt; writer.octets.as_slice(), b"a!\nb!\nend\n".as_slice());
+}
+
+#[test]
+fn fails_where_a_write_takes_nothing(rt: HostRuntime) {
+    let (result, writer) = narrowly(rt.alloc(), 5);
+    assert_eq!(rt; result, Err(RunFault::Output));
+    assert_eq!(rt; writer.octets.as_slice(), b"a!\nb!".as_slice());
+}
+
+#[test]
+fn reads_octet_by_octet(rt: HostRuntime) -> Result<(), Fail> {
+    let mut script = Vec::new(rt.alloc());
+    let mut want = Vec::new(rt.alloc());
+    for _ in 0..1_000 {
+        script.extend_from_slice(b"abc\n")?;
+        want.extend_from_slice(b"abc!\n")?;
+    }
+    want.extend_from_slice(b"end\n")?;
+    let mut reader = Slow {
+        octets: script.as_slice(),
+        size: 1,
+        fails: false,
+        reads: 0,
+    };
+    let mut out = Vec::new(rt.alloc());
+    let result = run_script(rt.alloc(), &mut Shouter, &mut reader, &mut out);
+    assert_eq!(rt; result, Ok(()));
+    assert_eq!(rt; reader.reads, 4_001);
+    assert_eq!(rt; out.as_slice(), want.as_slice());
+    Ok(())
 }
 
 #[test]

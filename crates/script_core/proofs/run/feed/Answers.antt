@@ -1,17 +1,18 @@
-use Rattle.std.proofs.Common.{◌≡◌, ℕ, List, [], ◌++◌, ◌+◌, refl, drop, arith, rules}
+use Rattle.std.proofs.Common.{◌≡◌, ℕ, ◌<◌, List, [], ◌++◌, ◌+◌, refl, length, drop, length-drop, arith}
 use Rattle.std.proofs.lemmas.Grind.{common_steps}
-use Rattle.script_core.proofs.RunsLemmas.{on_err, Adds-same, Adds-more, Adds-weaker, Feeds-none, Feeds-first, Feeds-then}
+use Rattle.script_core.proofs.RunsLemmas.{on_err, Adds-same, Adds-more, Adds-weaker, Feeds-none, Feeds-then, GivesUpLine-within}
 use Rattle.script_core.proofs.run.feed.Goals as goal
 
 pub loop-octet-init : goal.loop-octet-init
 loop-octet-init g c = record { part = c.requires; feeds = λ (rest : List ℕ). Adds-same _ refl (Feeds-none _) }
 
-pub returns-in_err-feed_octet-clause-first : goal.returns-in_err-feed_octet-clause-first
-returns-in_err-feed_octet-clause-first g c =
+pub returns-in_err-feed_octet-clause-given_up : goal.returns-in_err-feed_octet-clause-given_up
+returns-in_err-feed_octet-clause-given_up g c =
     on_err c.from_residual.result
     (λ (rest : List ℕ).
     let same : c.feed_octet.new.buffers.out.items ≡ c.loop-octet.buffers.out.items = c.in_err-feed_octet.ensures.same in
-    rw same (Adds-weaker _ (c.loop-octet.invariant.feeds rest) (λ s p. Feeds-first _ p)))
+    let some : 0 < length (drop c.loop-octet.octet-index c.args.chunk.now) = simp length-drop (omega arith) in
+    rw same (Adds-weaker _ (c.loop-octet.invariant.feeds rest) (λ s p. GivesUpLine-within _ _ _ some p)))
 
 pub loop-octet-preserved : goal.loop-octet-preserved
 loop-octet-preserved g c = record {

@@ -1,8 +1,8 @@
 use Rattle.std.proofs.Common.{◌≡◌, ℕ, List, [], arith, rules}
 use Rattle.script_core.specs.Runs.{Feeds, Writes}
 use Rattle.std.proofs.lemmas.Result.{IfErr-weaker}
-use Rattle.std.proofs.KnownBytes.{Consumes-nil, Keeps-refl}
-use Rattle.script_core.proofs.RunsLemmas.{if_err_known, on_ok_weaker, Reads-same, Reads-more, Reads-kept, Reads-input, Reads-end, Writes-none, Writes-more, Writes-weaker, Writes-all, Writes-first, Feeds-none, Feeds-more, Feeds-first, Feeds-stop, FeedsFirst-more, FeedsFirst-says}
+use Rattle.std.proofs.KnownBytes.{Keeps-refl}
+use Rattle.script_core.proofs.RunsLemmas.{if_err_known, not_output, on_ok_weaker, Reads-same, Reads-more, Reads-kept, Reads-input, Reads-end, Reads-close, Writes-none, Writes-more, Writes-weaker, Writes-all, Writes-gives_up, Writes-gives_up_line, Writes-part, Writes-front, Feeds-none, Feeds-more, Feeds-stop}
 use Rattle.script_core.proofs.run.run_within.Goals as goal
 
 pub loop-init : goal.loop-init
@@ -16,55 +16,57 @@ loop-init g c = record {
       (λ input. Writes-none _ (Feeds-none _)));
 }
 
-pub returns-in-Ok-eq0-clause-written : goal.returns-in-Ok-eq0-clause-written
-returns-in-Ok-eq0-clause-written g c =
+pub returns-in-0-clause-written : goal.returns-in-0-clause-written
+returns-in-0-clause-written g c =
     on_ok_weaker c.close.result c.close.ensures.written
     (λ written.
-    let none : c.in-Ok-eq0.field-0 ≡ 0 = c.in-Ok-eq0.field-0-test in
-    Reads-end _ _ _ _ _ c.loop.invariant.stands (rw none at c.in-Ok-eq0.ensures.bytes.0) (c.in-Ok-eq0.ensures.bytes.1 none (omega arith))
+    let none : c.in_ok-n.n ≡ 0 = c.in-0.is in
+    Reads-end _ _ _ _ _ c.loop.invariant.stands (rw none at c.in_ok-n.ensures.bytes.0) (c.in_ok-n.ensures.bytes.1 none (omega arith))
     (λ input stands. Writes-all _ _ _ stands written))
 
-pub returns-in-Ok-eq0-clause-first : goal.returns-in-Ok-eq0-clause-first
-returns-in-Ok-eq0-clause-first g c =
+pub returns-in-0-clause-given_up : goal.returns-in-0-clause-given_up
+returns-in-0-clause-given_up g c =
     IfErr-weaker c.close.result _ _
-    (λ e first other.
-    let none : c.in-Ok-eq0.field-0 ≡ 0 = c.in-Ok-eq0.field-0-test in
-    Reads-end _ _ _ _ _ c.loop.invariant.stands (rw none at c.in-Ok-eq0.ensures.bytes.0) (c.in-Ok-eq0.ensures.bytes.1 none (omega arith))
-    (λ input stands. Writes-first _ _ stands (first other)))
-    c.close.ensures.first
+    (λ e given_up stopped.
+    let none : c.in_ok-n.n ≡ 0 = c.in-0.is in
+    Reads-close _ _ _ _ _ c.loop.invariant.stands (rw none at c.in_ok-n.ensures.bytes.0) (c.in_ok-n.ensures.bytes.1 none (omega arith))
+    (λ input stands. Writes-gives_up _ _ stands (given_up (not_output e stopped))))
+    c.close.ensures.given_up
 
-pub returns-in_err-serve-in-Ok-clause-first : goal.returns-in_err-serve-in-Ok-clause-first
-returns-in_err-serve-in-Ok-clause-first g c =
-    if_err_known c.from_residual.result _ _ c.from_residual.ensures.1
-    (λ e made other.
-    let first = c.in_err-serve-in-Ok.ensures.first (rw made at other) in
-    Reads-input _ _ _ _ _ _ c.loop.invariant.stands c.in-Ok.ensures.bytes.0
-    (λ input rest stands. Writes-more _ stands (first rest) (λ s t p q. FeedsFirst-says _ (FeedsFirst-more _ p q))))
+pub returns-in-0-clause-output : goal.returns-in-0-clause-output
+returns-in-0-clause-output g c =
+    IfErr-weaker c.close.result _ _
+    (λ e front failed.
+    let none : c.in_ok-n.n ≡ 0 = c.in-0.is in
+    Reads-end _ _ _ _ _ c.loop.invariant.stands (rw none at c.in_ok-n.ensures.bytes.0) (c.in_ok-n.ensures.bytes.1 none (omega arith))
+    (λ input stands. Writes-part _ _ _ stands (front failed)))
+    c.close.ensures.output
 
-pub returns-in-Err-clause-input : goal.returns-in-Err-clause-input
-returns-in-Err-clause-input g c =
-    λ failed. Reads-kept _ _ _ _ _ c.loop.invariant.stands c.in-Err.ensures.bytes
-    (λ input rest stands. Writes-weaker _ stands (λ s p. Feeds-stop _ _ c.loop.invariant.part p))
+pub returns-in_err-serve-in_default-clause-given_up : goal.returns-in_err-serve-in_default-clause-given_up
+returns-in_err-serve-in_default-clause-given_up g c =
+    if_err_known c.from_residual-in_err-serve-in_default.result _ _ c.from_residual-in_err-serve-in_default.ensures.1
+    (λ e made stopped.
+    let given_up = c.in_err-serve-in_default.ensures.given_up (not_output _ (rw made at stopped)) in
+    Reads-more _ _ _ _ _ _ c.loop.invariant.stands c.in_ok-n.ensures.bytes.0
+    (λ input rest stands. Writes-gives_up_line _ stands (given_up rest)))
 
-pub returns-in-Err-clause-first : goal.returns-in-Err-clause-first
-returns-in-Err-clause-first g c =
-    λ other. Reads-input _ _ _ _ _ _ c.loop.invariant.stands (Consumes-nil (g.R.Read.remaining c.loop.reader))
-    (λ input rest stands. Writes-weaker _ stands (λ s p. FeedsFirst-says _ (Feeds-first _ p)))
+pub returns-in_err-serve-in_default-clause-output : goal.returns-in_err-serve-in_default-clause-output
+returns-in_err-serve-in_default-clause-output g c =
+    if_err_known c.from_residual-in_err-serve-in_default.result _ _ c.from_residual-in_err-serve-in_default.ensures.1
+    (λ e made failed.
+    let front = c.in_err-serve-in_default.ensures.output (rw made at failed) in
+    Reads-input _ _ _ _ _ _ c.loop.invariant.stands c.in_ok-n.ensures.bytes.0
+    (λ input rest stands. Writes-front _ _ stands (front rest)))
 
 pub loop-preserved : goal.loop-preserved
 loop-preserved g c = record {
-  part = c.in_ok-serve-in-Ok.ensures.part;
-  empty = c.in_ok-serve-in-Ok.ensures.empty;
-  stands = Reads-more _ _ _ _ _ _ c.loop.invariant.stands c.in-Ok.ensures.bytes.0
-      (λ input rest stands. Writes-more _ stands (c.in_ok-serve-in-Ok.ensures.feeds rest) (λ s t p q. Feeds-more _ p q));
+  part = c.in_ok-serve-in_default.ensures.part;
+  empty = c.in_ok-serve-in_default.ensures.empty;
+  stands = Reads-more _ _ _ _ _ _ c.loop.invariant.stands c.in_ok-n.ensures.bytes.0
+      (λ input rest stands. Writes-more _ stands (c.in_ok-serve-in_default.ensures.feeds rest) (λ s t p q. Feeds-more _ p q));
 }
 
 pub returns-clause-input : goal.returns-clause-input
 returns-clause-input g c =
     λ failed. Reads-kept _ _ _ _ _ c.loop.invariant.stands (Keeps-refl (g.R.Read.remaining c.loop.reader))
     (λ input rest stands. Writes-weaker _ stands (λ s p. Feeds-stop _ _ c.loop.invariant.part p))
-
-pub returns-clause-first : goal.returns-clause-first
-returns-clause-first g c =
-    λ other. Reads-input _ _ _ _ _ _ c.loop.invariant.stands (Consumes-nil (g.R.Read.remaining c.loop.reader))
-    (λ input rest stands. Writes-weaker _ stands (λ s p. FeedsFirst-says _ (Feeds-first _ p)))
