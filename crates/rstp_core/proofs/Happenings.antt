@@ -1,7 +1,6 @@
 -- Each happening is an event: what it leaves of each port.
-use Rattle.std.proofs.Common.{◌≡◌, ◌≢◌, ℕ, zero, suc, ◌+◌, ◌-◌, ◌*◌, ◌<◌, ◌≤◌, Bool, true, false, cond, ◌&&◌, not, eqb, List, [], ◌∷◌, length, get_or, map, ◌⊎◌, inl, inr, refl, sym, ap, subst, ◌∙◌, arith, Contains}
+use Rattle.std.proofs.Common.{◌≡◌, ℕ, zero, suc, ◌+◌, ◌-◌, ◌<◌, Bool, true, false, ◌&&◌, eqb, List, [], ◌∷◌, length, get_or, map, ◌⊎◌, inl, inr, refl, sym, ap, subst, ◌∙◌, arith, Contains}
 use Rattle.std.proofs.lemmas.List.{get_or-map, length-map}
-use Rattle.std.proofs.lemmas.Bool.Decides.{eqb_tells}
 use Rattle.frame_core.specs.declared.mac.Mac.{Mac}
 use Rattle.frame_core.specs.declared.bpdu.BridgeId.{BridgeId}
 use Rattle.frame_core.specs.declared.bpdu.Bpdu.{Bpdu}
@@ -21,7 +20,7 @@ use Rattle.rstp_rules.specs.declared.row.Context.{Context}
 use Rattle.rstp_rules.specs.declared.settled.SettledPort.{SettledPort}
 use Rattle.rstp_rules.specs.Ports.{is_root_or_designated, is_discarding}
 use Rattle.rstp_rules.specs.Vectors.{port_id}
-use Rattle.rstp_rules.specs.Lines.{own_id, row_of, enabled_by, edge_by, cost_in_use, settled_port_of, timers_of, rstp_version, times_in_force, no_config}
+use Rattle.rstp_rules.specs.Lines.{own_id, row_of, enabled_by, edge_by, settled_port_of, rstp_version, times_in_force, no_config}
 use Rattle.rstp_rules.specs.Roles.{expired, with_role}
 use Rattle.rstp_rules.specs.Restarts.{linked, settled_anew}
 use Rattle.rstp_rules.specs.Arrivals.{arrived, received, received_all}
@@ -33,7 +32,6 @@ use Rattle.rstp_core.specs.declared.rstp.Outcome.{Outcome}
 use Rattle.rstp_core.specs.Settled.{SettledValues, settled_of, settled_port}
 use Rattle.rstp_core.specs.Passes.{chosen, ready}
 use Rattle.rstp_core.specs.Tree.{Tree, rows_of, has_other_version, Ends}
-use Rattle.rstp_core.specs.Steps.{Event}
 use Rattle.rstp_core.specs.Runs.{Happening, Happens, event_by}
 use Rattle.rstp_core.specs.Runs.Happening.{Tick, Link, Message, Settle}
 use Rattle.rstp_core.proofs.Fresh.{IsFresh, Fresh-same, expired-same, ticked-same, received-same, told-same, linked-fresh, settled-fresh}

@@ -1,6 +1,5 @@
 -- The rows of an event are of port 1, port 2, .., and its turns come to one change of each port.
 use Rattle.std.proofs.Common.{◌≡◌, ℕ, ◌+◌, ◌<◌, Bool, true, false, cond, List, length, get_or, map, refl, sym, ap, subst, ◌∙◌, arith}
-use Rattle.std.proofs.lemmas.List.{length-map}
 use Rattle.frame_core.specs.declared.bpdu.BridgeId.{BridgeId}
 use Rattle.rstp_settings.specs.Table.{Table}
 use Rattle.rstp_rules.specs.declared.row.Row.{Row}
@@ -10,13 +9,13 @@ use Rattle.rstp_rules.specs.declared.row.Context.{Context}
 use Rattle.rstp_rules.specs.Roles.{expired, with_role}
 use Rattle.rstp_rules.specs.Transitions.{blocked, turned}
 use Rattle.rstp_rules.specs.Turns.{no_row, AreDistinct}
-use Rattle.rstp_core.specs.Passes.{chosen, advanced_rows, moved, moved_at_once, greeted_all, ready}
+use Rattle.rstp_core.specs.Passes.{chosen, advanced_rows, moved_at_once, greeted_all, ready}
 use Rattle.rstp_core.specs.Tree.{Tree, rows_of}
-use Rattle.rstp_core.specs.Steps.{Event, event_own, fresh_rows, event_root, roled_rows, event_context, ready_rows}
+use Rattle.rstp_core.specs.Steps.{event_own, fresh_rows, event_root, roled_rows, event_context, ready_rows}
 use Rattle.rstp_core.specs.Runs.{Happening, event_by}
 use Rattle.rstp_core.specs.Legal.{IsLegal, AreNumbered}
 use Rattle.rstp_core.proofs.Keeps.{Keeps, turned-keeps}
-use Rattle.rstp_core.proofs.Fresh.{Same, expired-same}
+use Rattle.rstp_core.proofs.Fresh.{expired-same}
 use Rattle.rstp_core.proofs.Roled.{with_role-is}
 use Rattle.rstp_core.proofs.Places.{AllHold, IsHeld, hold-trans, hold-map, keep-advanced, keep-ready}
 use Rattle.rstp_core.proofs.Happenings.{OwnPart, own_part}

@@ -1,5 +1,5 @@
 -- A port that starts anew, from the event's own part to its end.
-use Rattle.std.proofs.Common.{◌≡◌, ◌≢◌, ℕ, zero, suc, ◌+◌, ◌-◌, ◌<◌, ◌≤◌, Bool, true, false, cond, ◌&&◌, ◌||◌, not, eqb, max, ◌⊎◌, inl, inr, List, length, get_or, map, refl, sym, ap, subst, ◌∙◌, arith, Contains}
+use Rattle.std.proofs.Common.{◌≡◌, ◌≢◌, ℕ, ◌+◌, ◌-◌, ◌<◌, ◌≤◌, Bool, true, false, cond, ◌&&◌, ◌||◌, not, eqb, inl, inr, List, length, get_or, map, refl, sym, ap, subst, ◌∙◌, arith, Contains}
 use Rattle.std.specs.Prelude.{is_some, nat_lt}
 use Rattle.std.proofs.lemmas.List.{get_or-map, length-map}
 use Rattle.std.proofs.lemmas.Bool.Decides.{eqb_tells}
@@ -21,16 +21,16 @@ use Rattle.rstp_rules.specs.Ports.{is_received, is_root, is_designated, is_root_
 use Rattle.rstp_rules.specs.Vectors.{same_vector, same_times}
 use Rattle.rstp_rules.specs.Lines.{own_id, enabled_by, edge_by, rstp_version, seconds}
 use Rattle.rstp_rules.specs.Roles.{expired, with_role, designated}
-use Rattle.rstp_rules.specs.Restarts.{restarted, switched, linked, is_renewed, renewed, edged, migrated, settled_anew}
+use Rattle.rstp_rules.specs.Restarts.{restarted, switched, linked, is_renewed, renewed, edged, settled_anew}
 use Rattle.rstp_rules.specs.Ticks.{greeted}
-use Rattle.rstp_rules.specs.Transitions.{has_changed_role, blocked, delayed, retired, disagreed, rested, announced, turned, synced, synced_all, is_quick, advanced, advanced_all, no_recent_root, change_time, started, spread, counted}
+use Rattle.rstp_rules.specs.Transitions.{has_changed_role, blocked, delayed, retired, disagreed, rested, announced, turned, synced, synced_all, is_quick, advanced, no_recent_root, change_time, started, counted}
 use Rattle.rstp_rules.specs.Turns.{no_row, spread_but, begun, turns}
 use Rattle.rstp_rules.specs.Sends.{sends_rapid, due, sends, sent}
 use Rattle.rstp_core.specs.declared.rstp.Outcome.{Outcome}
 use Rattle.rstp_core.specs.Settled.{SettledValues, settled_of}
 use Rattle.rstp_core.specs.Passes.{chosen, advanced_rows, greeted_all, ready}
 use Rattle.rstp_core.specs.Tree.{Tree, rows_of, has_other_version, Ends}
-use Rattle.rstp_core.specs.Runs.{Happening, Happens, IsPort, Restarts, IsAnew, is_on, version_of}
+use Rattle.rstp_core.specs.Runs.{Happening, Happens, IsPort, Restarts, IsAnew, version_of}
 use Rattle.rstp_core.specs.Runs.Happening.{Tick, Link, Message, Settle}
 use Rattle.rstp_core.specs.Legal.{IsLegal, AreNumbered}
 use Rattle.rstp_core.proofs.Places.{AllHold, IsHeld, HoldsTurns, hold-refl, hold-trans, hold-map, hold-if, hold-turns, contains_flushed}

@@ -1,5 +1,5 @@
 -- What holds of settings and spanning tree between events, where each change of settings has been settled.
-use Rattle.std.specs.Prelude.{◌≡◌, ℕ, ◌+◌, ◌<◌, Bool, true, false, List, length, slice_index_or, All}
+use Rattle.std.specs.Prelude.{◌≡◌, ℕ, ◌+◌, ◌<◌, true, false, List, length, slice_index_or, All}
 use Rattle.rstp_settings.specs.Table.{Table}
 use Rattle.rstp_rules.specs.declared.row.Row.{Row}
 use Rattle.rstp_rules.specs.Ports.{is_root_or_designated, is_discarding}
