@@ -5,6 +5,7 @@ use Rattle.std.specs.List.{refill}
 use Rattle.std.proofs.lemmas.List.{length-set}
 use Rattle.rstp_settings.proofs.Puts.{refill_same}
 use Rattle.frame_core.specs.declared.mac.Mac.{Mac}
+use Rattle.frame_core.specs.declared.bpdu.Bpdu.{Bpdu}
 use Rattle.frame_core.specs.declared.frame.FrameIn.{FrameIn}
 use Rattle.fdb_core.specs.declared.row.Row.{Row}
 use Rattle.fdb_core.specs.Rows.{other_rows}
@@ -67,6 +68,13 @@ after_forward s t rows n cs sent ds p d test egress lost e g l h r =
     let both : ds ≡ set (sent_where (goes_out (state s t rows n cs) p d) cs) (p - 1) (with_discard (length (ports_where (goes_out (state s t rows n cs) p d) (length t.ports)) == 0) (get_or (sent_where (goes_out (state s t rows n cs) p d) cs) (p - 1) no_counters)) =
     r ∙ (ap (λ (b : Bool). set sent (p - 1) (with_discard b (get_or sent (p - 1) no_counters))) loses ∙ ap (λ (xs : List PortCounters). set xs (p - 1) (with_discard (length (ports_where (goes_out (state s t rows n cs) p d) (length t.ports)) == 0) (get_or xs (p - 1) no_counters))) counts) in
     ap (state s t rows n) both
+
+-- what is given, by its parts
+abbrev pub framed_of : BridgeState → List ℕ → List (Option Bpdu) → Framed
+framed_of b xs ms = record { bridge = b; egress = xs; bpdus = ms }
+
+pub framed_is : (b c : BridgeState) (xs ys : List ℕ) (ms ns : List (Option Bpdu)) → b ≡ c → xs ≡ ys → ms ≡ ns → framed_of b xs ms ≡ framed_of c ys ns
+framed_is b c xs ys ms ns e f g = λ i. framed_of (e i) (f i) (g i)
 
 pub framed_on : (b : BridgeState) (p : ℕ) (f : FrameIn) (no_room : Bool) → is_on b p ≡ true → framed b p f no_room ≡ taken p f f.bpdu no_room (received p b)
 unfolding framed

@@ -1,6 +1,6 @@
 -- What becomes of a frame that is no BPDU.
-use Rattle.std.proofs.Common.{◌≡◌, ◌≢◌, ℕ, ◌+◌, ◌-◌, ◌<◌, ◌≤◌, zero, suc, Bool, true, false, ◌&&◌, ◌||◌, not, List, [], ◌∷◌, length, get_or, filter, Contains, eq-eqb, refl, sym, ap, subst, ◌∙◌, arith, ◌⊎◌, inl, inr}
-use Rattle.std.specs.Prelude.{◌==◌, ◌↔◌, Option, Some, None}
+use Rattle.std.proofs.Common.{◌≡◌, ◌≢◌, ℕ, ◌+◌, ◌-◌, ◌<◌, ◌≤◌, zero, suc, Bool, true, false, ◌&&◌, ◌||◌, not, List, [], ◌∷◌, length, get_or, filter, Contains, eq-eqb, refl, sym, ap, subst, ◌∙◌, arith, inl, inr}
+use Rattle.std.specs.Prelude.{◌==◌, ◌↔◌, Option}
 use Rattle.std.specs.List.{range_with_len}
 use Rattle.std.proofs.lemmas.List.Elements.{Contains-append_right, All-contains, filter_passes}
 use Rattle.std.proofs.lemmas.List.FromFn.{length-range_with_len, get_or-range_with_len}
@@ -10,10 +10,9 @@ use Rattle.std.proofs.lemmas.Slice.Eq.{bytes_eq-Decides}
 use Rattle.frame_core.specs.declared.mac.Mac.{Mac}
 use Rattle.frame_core.specs.declared.bpdu.Bpdu.{Bpdu}
 use Rattle.frame_core.specs.declared.frame.FrameIn.{FrameIn}
-use Rattle.frame_core.specs.Octets.{is_group}
+use Rattle.frame_core.specs.Octets.{is_group, same_mac}
 use Rattle.fdb_core.specs.declared.row.Row.{Row}
 use Rattle.fdb_core.specs.Rows.{port_of as learned_port}
-use Rattle.rstp_rules.specs.Vectors.{same_mac}
 use Rattle.bridge_core.specs.Bridge.{BridgeState, address_of, port_count}
 use Rattle.bridge_core.specs.Forwarding.{is_reserved, forwards, may_be_behind, ports_where, egress_of}
 use Rattle.bridge_core.specs.Events.{received, learned_from, forwarded, passed, taken, Framed, framed, no_bpdus, GoesBetween}

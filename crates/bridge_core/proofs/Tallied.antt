@@ -1,5 +1,5 @@
 -- How a frame that is no BPDU is counted, and how its source is learned.
-use Rattle.std.proofs.Common.{◌≡◌, ◌≢◌, ℕ, ◌+◌, ◌-◌, ◌<◌, ◌≤◌, zero, suc, Bool, true, false, List, [], ◌∷◌, length, get_or, set, Contains, refl, sym, ap, subst, ◌∙◌, arith, ◌⊎◌, inl, inr}
+use Rattle.std.proofs.Common.{◌≡◌, ◌≢◌, ℕ, ◌+◌, ◌-◌, ◌<◌, ◌≤◌, zero, suc, Bool, true, false, List, [], ◌∷◌, length, get_or, Contains, refl, sym, ap, subst, ◌∙◌, arith, ◌⊎◌, inl, inr}
 use Rattle.std.specs.Prelude.{◌==◌, Option, Some, None, if◌then◌else◌, nat_lt}
 use Rattle.std.specs.Option.{option_map}
 use Rattle.std.proofs.lemmas.List.{length-set, get_or-set_same, get_or-set_other}
@@ -10,7 +10,7 @@ use Rattle.fdb_core.specs.declared.row.Row.{Row}
 use Rattle.fdb_core.specs.declared.learnt.Learnt.{Learnt}
 use Rattle.fdb_core.specs.declared.learnt.Learnt.TheVariants.{New, Moved, Same, Full, Memory}
 use Rattle.fdb_core.specs.Rows.{row_of, port_of as learned_port}
-use Rattle.fdb_core.specs.Learning.{answer_from, answer, learned, seen}
+use Rattle.fdb_core.specs.Learning.{answer_from, answer, seen}
 use Rattle.fdb_core.proofs.Found.{learned_here, learned_others}
 use Rattle.bridge_core.specs.declared.counters.PortCounters.{PortCounters}
 use Rattle.bridge_core.specs.declared.bridge.TheConstants.{MAX_LEARNED_ROWS}

@@ -9,8 +9,7 @@ use Rattle.frame_core.specs.declared.mac.Mac.{Mac}
 use Rattle.frame_core.specs.declared.frame.FrameIn.{FrameIn}
 use Rattle.frame_core.specs.declared.bpdu.Bpdu.{Bpdu}
 use Rattle.rstp_rules.specs.declared.port.State.{State}
-use Rattle.rstp_rules.specs.Vectors.{same_mac}
-use Rattle.frame_core.specs.Octets.{is_group}
+use Rattle.frame_core.specs.Octets.{is_group, same_mac}
 use Rattle.fdb_core.specs.Rows.{port_of as learned_port}
 use Rattle.bridge_core.specs.Bridge.{BridgeState, address_of, port_of, is_on}
 use Rattle.bridge_core.specs.Forwarding.{is_reserved, forwards, may_be_behind, goes_out, ports_where, egress_of}

@@ -9,6 +9,7 @@ use Rattle.rstp_settings.specs.declared.key.Key.{Key}
 use Rattle.rstp_settings.specs.declared.key.Key.TheVariants as key
 use Rattle.rstp_settings.specs.declared.key.BridgeKey.TheVariants as bridge
 use Rattle.rstp_core.specs.Steps.{Step, tick_step, arrival_step, link_step, settling_step}
+use Rattle.bridge_core.specs.declared.bridge.Forwarding.{Forwarding}
 use Rattle.bridge_core.specs.Bridge.{BridgeState, port_count, is_on}
 use Rattle.bridge_core.specs.Counting.{with_frame_in, with_discard, at_port, sent_where, has_bpdu, discards_after}
 use Rattle.bridge_core.specs.Forwarding.{learnt_of, rows_after, forwards, goes_out, egress_of}
@@ -54,6 +55,10 @@ pub record Framed : Type 0 where
   pub bridge : BridgeState
   pub egress : List ℕ
   pub bpdus : List (Option Bpdu)
+
+-- What was given, where this bridge was left and this answered.
+abbrev pub framed_by : BridgeState → Forwarding → Framed
+framed_by b out = record { bridge = b; egress = out.egress.items; bpdus = out.bpdus.items }
 
 abbrev pub no_bpdus : BridgeState → List (Option Bpdu)
 no_bpdus b = replicate (port_count b) None

@@ -5,14 +5,13 @@ use Rattle.std.specs.Str.{bytes_eq}
 use Rattle.frame_core.specs.declared.mac.Mac.{Mac}
 use Rattle.frame_core.specs.declared.mac.TheConstants.{BRIDGE_GROUP}
 use Rattle.frame_core.specs.declared.frame.FrameIn.{FrameIn}
-use Rattle.frame_core.specs.Octets.{is_group}
+use Rattle.frame_core.specs.Octets.{is_group, same_mac}
 use Rattle.fdb_core.specs.declared.row.Row.{Row}
 use Rattle.fdb_core.specs.declared.learnt.Learnt.{Learnt}
 use Rattle.fdb_core.specs.declared.learnt.Learnt.TheVariants.{New, Moved, Same, Full, Memory}
 use Rattle.fdb_core.specs.Rows.{port_of as learned_port}
 use Rattle.fdb_core.specs.Learning.{answer, learned}
 use Rattle.rstp_rules.specs.declared.port.State.{State}
-use Rattle.rstp_rules.specs.Vectors.{same_mac}
 use Rattle.rstp_rules.specs.Ports.{is_discarding, is_forwarding}
 use Rattle.bridge_core.specs.declared.bridge.TheConstants.{MAX_LEARNED_ROWS}
 use Rattle.bridge_core.specs.Bridge.{BridgeState, address_of, port_count, port_of, is_on}
@@ -24,8 +23,8 @@ is_reserved a = bytes_eq (take 5 a.0) (take 5 BRIDGE_GROUP.0) && nat_lt (slice_i
 abbrev pub forwards : BridgeState → ℕ → Bool
 forwards b n = is_forwarding (port_of b n).state
 
--- Whether the source of a frame is to be learned at a port of this state: the port is learning or forwarding, and neither is the
--- destination reserved nor the source a group address (7.8).
+-- Whether the source of a frame is to be learned at a port of this state: the port is learning or forwarding, and the source is no
+-- group address (7.8). That it is not where the destination is reserved is a rule of this profile alone.
 abbrev pub learns : State → FrameIn → Bool
 learns state f = not (is_discarding state) && not (is_reserved f.destination) && not (is_group f.source)
 

@@ -1,11 +1,10 @@
 -- How the ports of a frame are found: first its way, and then the ports to which that leads.
 use Rattle.std.specs.Prelude.{ℕ, Bool, true, false, ◌&&◌, ◌||◌, not, ◌==◌, List}
 use Rattle.frame_core.specs.declared.mac.Mac.{Mac}
-use Rattle.frame_core.specs.Octets.{is_group}
+use Rattle.frame_core.specs.Octets.{is_group, same_mac}
 use Rattle.fdb_core.specs.declared.row.Row.{Row}
 use Rattle.fdb_core.specs.Rows.{port_of as learned_port}
 use Rattle.rstp_rules.specs.declared.port.State.{State}
-use Rattle.rstp_rules.specs.Vectors.{same_mac}
 use Rattle.rstp_rules.specs.Ports.{is_forwarding}
 use Rattle.rstp_core.specs.Tree.{Tree, port_at}
 use Rattle.bridge_core.specs.declared.forwarding.Way.{Way}

@@ -6,7 +6,7 @@ ghost use Rattle.bridge_core.specs.Opening.{fault_of, opening_bridge};
 ghost use Rattle.bridge_core.specs.Forwarding.{AsksMemory, MayLackMemory, egress_of};
 ghost use Rattle.bridge_core.specs.Counting.{sent_where, has_bpdu};
 ghost use Rattle.fdb_core.specs.Rows.{other_rows};
-ghost use Rattle.bridge_core.specs.Events.{framed, taken, passed, received, learned_from, forwarded, stepped, arrival_of, tick_of, ticked_bridge, link_of, linked_bridge, settling_of, settled_bridge, set_bridge};
+ghost use Rattle.bridge_core.specs.Events.{framed, framed_by, taken, passed, received, learned_from, forwarded, stepped, arrival_of, tick_of, ticked_bridge, link_of, linked_bridge, settling_of, settled_bridge, set_bridge};
 ghost use Rattle.bridge_core.specs.Facts.{facts_of, port_facts_of};
 
 use crate::counters::{PortCounters, count_bpdus, count_discards};
@@ -180,8 +180,9 @@ impl Bridge {
     }
 
     /// A frame comes by port `port`. Where the port is off nothing changes and nothing goes out. A BPDU goes to the spanning tree
-    /// only. The source of any other frame is learned where the port is learning or forwarding, neither is the source a group address
-    /// nor the destination reserved, and there is room: it has a row, or there are fewer than [`MAX_LEARNED_ROWS`] (7.8).
+    /// only. The source of any other frame is learned where the port is learning or forwarding, the source is no group address, and
+    /// there is room: it has a row, or there are fewer than [`MAX_LEARNED_ROWS`] (7.8); but, by a rule of this profile alone, not
+    /// where the destination is reserved.
     /// Then, where the port forwards, the frame goes out by the other forwarding ports (7.7): by the one at which its destination is
     /// learned, or by all where it is a group address or not learned; but by none where it is the bridge's own address or one of
     /// 0180C2000000 to 0180C200000F (7.12.6). Only the growth for a new learned row takes memory: where that is refused the frame is
@@ -333,9 +334,7 @@ fn follow(fdb: &mut Fdb, counters: &mut [PortCounters], outcome: Outcome) -> Bpd
 fn take_frame(bridge: &mut Bridge, port: u16, frame: &FrameIn) -> Forwarding
     requires first { 1 ≤ port }
     requires last { port ≤ port_count bridge.old }
-    ensures step { bridge.new ≡ (framed bridge.old port frame.now result.no_room).bridge }
-    ensures egress { result.egress.items ≡ (framed bridge.old port frame.now result.no_room).egress }
-    ensures bpdus { result.bpdus.items ≡ (framed bridge.old port frame.now result.no_room).bpdus }
+    ensures gives { framed_by bridge.new result ≡ framed bridge.old port frame.now result.no_room }
     ensures note { result.no_room ≡ true → MayLackMemory bridge.old port frame.now }
     ensures ports { port_count bridge.new ≡ port_count bridge.old }
     ensures each { length result.bpdus.items ≡ port_count bridge.old }
@@ -356,9 +355,7 @@ fn take_frame(bridge: &mut Bridge, port: u16, frame: &FrameIn) -> Forwarding
 fn take_received(bridge: &mut Bridge, port: u16, frame: &FrameIn) -> Forwarding
     requires first { 1 ≤ port }
     requires last { port ≤ port_count bridge.old }
-    ensures step { bridge.new ≡ (taken port frame.now frame.now.bpdu result.no_room bridge.old).bridge }
-    ensures egress { result.egress.items ≡ (taken port frame.now frame.now.bpdu result.no_room bridge.old).egress }
-    ensures bpdus { result.bpdus.items ≡ (taken port frame.now frame.now.bpdu result.no_room bridge.old).bpdus }
+    ensures gives { framed_by bridge.new result ≡ taken port frame.now frame.now.bpdu result.no_room bridge.old }
     ensures note { result.no_room ≡ true → (frame.now.bpdu ≡ None) × AsksMemory bridge.old port frame.now }
     ensures ports { port_count bridge.new ≡ port_count bridge.old }
     ensures each { length result.bpdus.items ≡ port_count bridge.old }
@@ -377,9 +374,7 @@ fn take_received(bridge: &mut Bridge, port: u16, frame: &FrameIn) -> Forwarding
 fn pass_on(bridge: &mut Bridge, port: u16, frame: &FrameIn) -> Forwarding
     requires first { 1 ≤ port }
     requires last { port ≤ port_count bridge.old }
-    ensures step { bridge.new ≡ (passed port frame.now result.no_room bridge.old).bridge }
-    ensures egress { result.egress.items ≡ (passed port frame.now result.no_room bridge.old).egress }
-    ensures bpdus { result.bpdus.items ≡ (passed port frame.now result.no_room bridge.old).bpdus }
+    ensures gives { framed_by bridge.new result ≡ passed port frame.now result.no_room bridge.old }
     ensures note { result.no_room ≡ true → AsksMemory bridge.old port frame.now }
     ensures ports { port_count bridge.new ≡ port_count bridge.old }
     ensures each { length result.bpdus.items ≡ port_count bridge.old }

@@ -9,7 +9,6 @@ use arrayvec::ArrayVec;
 use fdb_core::Fdb;
 use frame_core::{BRIDGE_GROUP, Mac};
 use rstp_core::{MAX_PORTS, Rstp, State};
-use rstp_rules::vector::is_same_address;
 
 /// By which ports a frame may go, of those that forward and are not its own.
 #[derive(Clone, Copy, Debug, PartialEq, Eq)]
@@ -46,7 +45,7 @@ pub fn is_reserved(address: Mac) -> bool
 pub fn find_way(fdb: &Fdb, own: Mac, state: State, destination: Mac) -> Way
     ensures { (q : ℕ) → leads result q ≡ is_way fdb.now.rows own state destination q }
 {
-    if !state.is_forwarding() || is_reserved(destination) || is_same_address(destination, own) {
+    if !state.is_forwarding() || is_reserved(destination) || destination.is_same(own) {
         Way::Nowhere
     } else if destination.is_group() {
         Way::Anywhere

@@ -113,7 +113,8 @@ pub fn frames_are_counted()
 {}
 
 /// A source that is to be learned, for which there is a place and memory, is found at the port by which the frame came, seen just now;
-/// each other address is where it was, and so is every one where the source is not to be learned (7.8).
+/// each other address is where it was, and so is every one where the source is not to be learned (7.8; of a frame to a reserved
+/// address it is not, which is a rule of this profile alone).
 pub fn sources_are_learned()
     ensures found { (b : BridgeState) (p : ℕ) (f : FrameIn) → IsReceived b p f → learns (port_of b p).state f ≡ true
         → HasPlace b.learned f.source → learned_port (framed b p f false).bridge.learned f.source ≡ Some p }

@@ -7,6 +7,7 @@ use fdb_core::{Fdb, Learnt};
 use frame_core::FrameIn;
 use rstp_core::State;
 
+// Not of a frame to a reserved address, which is a rule of this profile alone.
 fn is_to_learn(state: State, frame: &FrameIn) -> bool
     ensures { result ≡ learns state frame.now }
 {

@@ -225,6 +225,74 @@ fn a_source_of_any_octets_is_learned(rt: HostRuntime) -> Result<(), Fail> {
     Ok(())
 }
 
+// A bridge of 32 ports at the edge, with all links up.
+fn wide(alloc: Global) -> Result<Bridge, BridgeFault>
+    ensures { IfOk result (λ b. port_count b ≡ 32) }
+{
+    let mut bridge = Bridge::new(alloc, OWN, &[port(); 32])?;
+    for at in 0..32 {
+        set_edge(&mut bridge, at + 1);
+        let _ = bridge.settle();
+        let _ = bridge.link(at + 1, true);
+    }
+    Ok(bridge)
+}
+
+// Sources of many kinds, other ones for each port.
+fn sources_at(port: u8) -> [Mac; 4] {
+    [
+        Mac([0x00, 0x1B, 0x21, 0x3C, 0x9D, port]),
+        Mac([0x02, port, 0x00, 0x00, 0x00, 0x00]),
+        Mac([0xAC, 0xDE, port, port, port, port]),
+        Mac([0xFE, 0xFF, 0xFF, 0xFF, port, 0xFF]),
+    ]
+}
+
+// Frames to everybody from these sources go out by the other ports.
+fn learn_at(rt: &impl Abort, bridge: &mut Bridge, port: u8)
+    requires first { 1 ≤ port }
+    requires last { port ≤ port_count bridge.old }
+    ensures { port_count bridge.new ≡ port_count bridge.old }
+{
+    for source in sources_at(port) {
+        let frame = FrameIn {
+            destination: Mac([0xFF; 6]),
+            source,
+            bpdu: None,
+        };
+        let forwarding = bridge.frame(u16::from(port), &frame);
+        assert!(rt; !forwarding.no_room, "port {port}");
+        assert_eq!(rt; forwarding.egress.len(), 31);
+    }
+}
+
+fn assert_found_at(rt: &impl Abort, bridge: &Bridge, port: u8) {
+    for source in sources_at(port) {
+        assert_eq!(rt; bridge.fdb().find(source), Some(u16::from(port)));
+    }
+}
+
+fn learn_everywhere(rt: &impl Abort, bridge: &mut Bridge)
+    requires { port_count bridge.old ≡ 32 }
+    ensures { port_count bridge.new ≡ 32 }
+{
+    for at in 0..32 {
+        learn_at(rt, bridge, at + 1);
+    }
+}
+
+#[test]
+fn each_of_32_ports_learns_new_sources(rt: HostRuntime) -> Result<(), Fail> {
+    let mut bridge = wide(rt.alloc())?;
+    learn_everywhere(&rt, &mut bridge);
+    for port in 1..=32 {
+        assert_found_at(&rt, &bridge, port);
+    }
+    assert_eq!(rt; bridge.fdb().len(), 4 * 32);
+    assert_eq!(rt; bridge.facts().entry_discards, 0);
+    Ok(())
+}
+
 #[test]
 fn a_better_bridge_becomes_root(rt: HostRuntime) -> Result<(), Fail> {
     let mut bridge = opened(rt.alloc())?;

@@ -9,7 +9,8 @@ use Rattle.frame_core.specs.declared.mac.Mac.{Mac}
 use Rattle.fdb_core.specs.declared.row.Row.{Row}
 use Rattle.fdb_core.specs.declared.learnt.Learnt.{Learnt}
 use Rattle.fdb_core.specs.declared.learnt.Learnt.TheVariants.{New, Moved, Same, Full, Memory}
-use Rattle.fdb_core.specs.Rows.{address_cmp, rows_below, rows_above, row_of}
+use Rattle.fdb_core.specs.Rows.{rows_below, rows_above, row_of}
+use Rattle.frame_core.specs.Octets.{mac_cmp}
 use Rattle.fdb_core.specs.Learning.{with_row, seen, learned}
 use Rattle.fdb_core.proofs.Order.{same_address, above_from_below, below_from_above}
 
@@ -56,8 +57,8 @@ module _ (p : Row → Bool) where
     found_dropped drops (x ∷ xs) = dropped_step x (filter q xs) (q x) (drops x) (found_dropped drops xs)
 
 -- how a row of an address compares with another address
-compares : (x : Row) (a b : Mac) → is_eq (address_cmp x.address b) ≡ true → address_cmp x.address a ≡ address_cmp b a
-compares x a b e = ap (λ (m : Mac). address_cmp m a) (same_address x.address b (is_equal _ e))
+compares : (x : Row) (a b : Mac) → is_eq (mac_cmp x.address b) ≡ true → mac_cmp x.address a ≡ mac_cmp b a
+compares x a b e = ap (λ (m : Mac). mac_cmp m a) (same_address x.address b (is_equal _ e))
 
 first_none : (o : Option Row) → first_of o None ≡ o
 first_none None = refl
@@ -65,39 +66,39 @@ first_none (Some r) = refl
 
 module _ (rows : List Row) (r : Row) (b : Mac) where
   parts : row_of (with_row rows r) b ≡ first_of (row_of (rows_below rows r.address) b) (row_of (r ∷ rows_above rows r.address) b)
-  parts = found_joined (λ x. is_eq (address_cmp x.address b)) (rows_below rows r.address) (r ∷ rows_above rows r.address)
+  parts = found_joined (λ x. is_eq (mac_cmp x.address b)) (rows_below rows r.address) (r ∷ rows_above rows r.address)
 
-  below_it : address_cmp b r.address ≡ Less → row_of (with_row rows r) b ≡ row_of rows b
+  below_it : mac_cmp b r.address ≡ Less → row_of (with_row rows r) b ≡ row_of rows b
   below_it e =
-      let kept : row_of (rows_below rows r.address) b ≡ row_of rows b = found_kept (λ x. is_eq (address_cmp x.address b)) (λ x. is_lt (address_cmp x.address r.address)) (λ x h. ap is_lt (compares x r.address b h ∙ e)) rows in
-      let dropped : row_of (rows_above rows r.address) b ≡ None = found_dropped (λ x. is_eq (address_cmp x.address b)) (λ x. is_gt (address_cmp x.address r.address)) (λ x h. ap is_gt (compares x r.address b h ∙ e)) rows in
-      let here : address_cmp r.address b ≡ Greater = above_from_below b r.address e in
+      let kept : row_of (rows_below rows r.address) b ≡ row_of rows b = found_kept (λ x. is_eq (mac_cmp x.address b)) (λ x. is_lt (mac_cmp x.address r.address)) (λ x h. ap is_lt (compares x r.address b h ∙ e)) rows in
+      let dropped : row_of (rows_above rows r.address) b ≡ None = found_dropped (λ x. is_eq (mac_cmp x.address b)) (λ x. is_gt (mac_cmp x.address r.address)) (λ x h. ap is_gt (compares x r.address b h ∙ e)) rows in
+      let here : mac_cmp r.address b ≡ Greater = above_from_below b r.address e in
       let back : row_of (r ∷ rows_above rows r.address) b ≡ None = rw here dropped in
       parts ∙ ap (λ o. first_of (row_of (rows_below rows r.address) b) o) back ∙ first_none _ ∙ kept
 
-  above_it : address_cmp b r.address ≡ Greater → row_of (with_row rows r) b ≡ row_of rows b
+  above_it : mac_cmp b r.address ≡ Greater → row_of (with_row rows r) b ≡ row_of rows b
   above_it e =
-      let dropped : row_of (rows_below rows r.address) b ≡ None = found_dropped (λ x. is_eq (address_cmp x.address b)) (λ x. is_lt (address_cmp x.address r.address)) (λ x h. ap is_lt (compares x r.address b h ∙ e)) rows in
-      let kept : row_of (rows_above rows r.address) b ≡ row_of rows b = found_kept (λ x. is_eq (address_cmp x.address b)) (λ x. is_gt (address_cmp x.address r.address)) (λ x h. ap is_gt (compares x r.address b h ∙ e)) rows in
-      let here : address_cmp r.address b ≡ Less = below_from_above b r.address e in
+      let dropped : row_of (rows_below rows r.address) b ≡ None = found_dropped (λ x. is_eq (mac_cmp x.address b)) (λ x. is_lt (mac_cmp x.address r.address)) (λ x h. ap is_lt (compares x r.address b h ∙ e)) rows in
+      let kept : row_of (rows_above rows r.address) b ≡ row_of rows b = found_kept (λ x. is_eq (mac_cmp x.address b)) (λ x. is_gt (mac_cmp x.address r.address)) (λ x h. ap is_gt (compares x r.address b h ∙ e)) rows in
+      let here : mac_cmp r.address b ≡ Less = below_from_above b r.address e in
       let back : row_of (r ∷ rows_above rows r.address) b ≡ row_of rows b = rw here kept in
       parts ∙ ap (λ o. first_of o (row_of (r ∷ rows_above rows r.address) b)) dropped ∙ back
 
-  by_order : (o : Ordering) → address_cmp b r.address ≡ o → b ≢ r.address → row_of (with_row rows r) b ≡ row_of rows b
+  by_order : (o : Ordering) → mac_cmp b r.address ≡ o → b ≢ r.address → row_of (with_row rows r) b ≡ row_of rows b
   by_order Less e other = below_it e
   by_order Equal e other = absurd (other (same_address b r.address e))
   by_order Greater e other = above_it e
 
 -- each other address has the row that it had
 others_keep : (rows : List Row) (r : Row) (b : Mac) → b ≢ r.address → row_of (with_row rows r) b ≡ row_of rows b
-others_keep rows r b other = by_order rows r b (address_cmp b r.address) refl other
+others_keep rows r b other = by_order rows r b (mac_cmp b r.address) refl other
 
 -- and this one has its own
 its_own : (rows : List Row) (r : Row) → row_of (with_row rows r) r.address ≡ Some r
 its_own rows r =
     let a = r.address in
-    let equal : address_cmp a a ≡ Equal = tied_itself nat_list_cmp_total a.0 in
-    let dropped : row_of (rows_below rows a) a ≡ None = found_dropped (λ x. is_eq (address_cmp x.address a)) (λ x. is_lt (address_cmp x.address a)) (λ x h. ap is_lt (is_equal _ h)) rows in
+    let equal : mac_cmp a a ≡ Equal = tied_itself nat_list_cmp_total a.0 in
+    let dropped : row_of (rows_below rows a) a ≡ None = found_dropped (λ x. is_eq (mac_cmp x.address a)) (λ x. is_lt (mac_cmp x.address a)) (λ x h. ap is_lt (is_equal _ h)) rows in
     let back : row_of (r ∷ rows_above rows a) a ≡ Some r = rw equal refl in
     parts rows r a ∙ ap (λ o. first_of o (row_of (r ∷ rows_above rows a) a)) dropped ∙ back
 

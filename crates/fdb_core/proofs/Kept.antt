@@ -13,7 +13,8 @@ use Rattle.fdb_core.specs.declared.row.Row.{Row}
 use Rattle.fdb_core.specs.declared.row.TheConstants.{MAX_AGING_TIME}
 use Rattle.fdb_core.specs.declared.learnt.Learnt.{Learnt}
 use Rattle.fdb_core.specs.declared.learnt.Learnt.TheVariants.{New, Moved, Same, Full, Memory}
-use Rattle.fdb_core.specs.Rows.{address_cmp, IsRising, IsYoung, rows_below, rows_above, aged, young_rows}
+use Rattle.fdb_core.specs.Rows.{IsRising, IsYoung, rows_below, rows_above, aged, young_rows}
+use Rattle.frame_core.specs.Octets.{mac_cmp}
 use Rattle.fdb_core.specs.Learning.{with_row, seen, seen_again, answer_on, learned}
 use Rattle.fdb_core.proofs.Order.{below_from_above, below_trans}
 
@@ -34,32 +35,32 @@ all_weaker P Q f [] h = tt
 all_weaker P Q f (x ∷ xs) h = (f x h.0, all_weaker P Q f xs h.1)
 
 module _ (a : Mac) where
-  below_more : (x : Row) (kept : List Row) (o : Ordering) → address_cmp x.address a ≡ o → AllByRecursion (λ s. address_cmp s.address a ≡ Less) kept → AllByRecursion (λ s. address_cmp s.address a ≡ Less) (cond (is_lt o) (x ∷ kept) kept)
+  below_more : (x : Row) (kept : List Row) (o : Ordering) → mac_cmp x.address a ≡ o → AllByRecursion (λ s. mac_cmp s.address a ≡ Less) kept → AllByRecursion (λ s. mac_cmp s.address a ≡ Less) (cond (is_lt o) (x ∷ kept) kept)
   below_more x kept Less e h = (e, h)
   below_more x kept Equal e h = h
   below_more x kept Greater e h = h
 
-  all_below_of : (xs : List Row) → AllByRecursion (λ s. address_cmp s.address a ≡ Less) (rows_below xs a)
+  all_below_of : (xs : List Row) → AllByRecursion (λ s. mac_cmp s.address a ≡ Less) (rows_below xs a)
   all_below_of [] = tt
-  all_below_of (x ∷ xs) = below_more x (rows_below xs a) (address_cmp x.address a) refl (all_below_of xs)
+  all_below_of (x ∷ xs) = below_more x (rows_below xs a) (mac_cmp x.address a) refl (all_below_of xs)
 
-  above_more : (x : Row) (kept : List Row) (o : Ordering) → address_cmp x.address a ≡ o → AllByRecursion (λ s. address_cmp a s.address ≡ Less) kept → AllByRecursion (λ s. address_cmp a s.address ≡ Less) (cond (is_gt o) (x ∷ kept) kept)
+  above_more : (x : Row) (kept : List Row) (o : Ordering) → mac_cmp x.address a ≡ o → AllByRecursion (λ s. mac_cmp a s.address ≡ Less) kept → AllByRecursion (λ s. mac_cmp a s.address ≡ Less) (cond (is_gt o) (x ∷ kept) kept)
   above_more x kept Less e h = h
   above_more x kept Equal e h = h
   above_more x kept Greater e h = (below_from_above x.address a e, h)
 
-  all_above_of : (xs : List Row) → AllByRecursion (λ s. address_cmp a s.address ≡ Less) (rows_above xs a)
+  all_above_of : (xs : List Row) → AllByRecursion (λ s. mac_cmp a s.address ≡ Less) (rows_above xs a)
   all_above_of [] = tt
-  all_above_of (x ∷ xs) = above_more x (rows_above xs a) (address_cmp x.address a) refl (all_above_of xs)
+  all_above_of (x ∷ xs) = above_more x (rows_above xs a) (mac_cmp x.address a) refl (all_above_of xs)
 
 -- rows that end below a row, and rows that begin with it
-rising_joined : (xs : List Row) (r : Row) (back : List Row) → IsRising xs → AllByRecursion (λ x. address_cmp x.address r.address ≡ Less) xs → IsRising (r ∷ back) → IsRising (xs ++ r ∷ back)
+rising_joined : (xs : List Row) (r : Row) (back : List Row) → IsRising xs → AllByRecursion (λ x. mac_cmp x.address r.address ≡ Less) xs → IsRising (r ∷ back) → IsRising (xs ++ r ∷ back)
 unfolding IsStrictlySortedBy
 rising_joined [] r back up below rest = rest
 rising_joined (x ∷ xs) r back up below rest =
-    let behind : AllByRecursion (λ s. address_cmp x.address s.address ≡ Less) (r ∷ back) =
-    (below.0, all_weaker (λ s. address_cmp r.address s.address ≡ Less) (λ s. address_cmp x.address s.address ≡ Less) (λ s e. below_trans x.address r.address s.address below.0 e) back rest.0) in
-    (all_joined (λ s. address_cmp x.address s.address ≡ Less) xs (r ∷ back) up.0 behind, rising_joined xs r back up.1 below.1 rest)
+    let behind : AllByRecursion (λ s. mac_cmp x.address s.address ≡ Less) (r ∷ back) =
+    (below.0, all_weaker (λ s. mac_cmp r.address s.address ≡ Less) (λ s. mac_cmp x.address s.address ≡ Less) (λ s e. below_trans x.address r.address s.address below.0 e) back rest.0) in
+    (all_joined (λ s. mac_cmp x.address s.address ≡ Less) xs (r ∷ back) up.0 behind, rising_joined xs r back up.1 below.1 rest)
 
 pub rising_with_row : (rows : List Row) (r : Row) → IsRising rows → IsRising (with_row rows r)
 unfolding IsStrictlySortedBy
@@ -85,7 +86,7 @@ young_learned Full rows a port young = young
 young_learned Memory rows a port young = young
 
 -- a second later the addresses are the same
-aged_above : (x : Row) (xs : List Row) → AllByRecursion (λ s. address_cmp x.address s.address ≡ Less) xs → AllByRecursion (λ s. address_cmp x.address s.address ≡ Less) (map aged xs)
+aged_above : (x : Row) (xs : List Row) → AllByRecursion (λ s. mac_cmp x.address s.address ≡ Less) xs → AllByRecursion (λ s. mac_cmp x.address s.address ≡ Less) (map aged xs)
 aged_above x [] h = tt
 aged_above x (y ∷ ys) h = (h.0, aged_above x ys h.1)
 

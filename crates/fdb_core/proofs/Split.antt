@@ -8,7 +8,8 @@ use Rattle.std.proofs.lemmas.List.{take-append-drop, get_or-take, get_or-drop, l
 use Rattle.std.proofs.lemmas.List.Elements.{recursion_from_All}
 use Rattle.frame_core.specs.declared.mac.Mac.{Mac}
 use Rattle.fdb_core.specs.declared.row.Row.{Row}
-use Rattle.fdb_core.specs.Rows.{address_cmp, IsRising, rows_below, rows_above, row_of}
+use Rattle.fdb_core.specs.Rows.{IsRising, rows_below, rows_above, row_of}
+use Rattle.frame_core.specs.Octets.{mac_cmp}
 use Rattle.fdb_core.specs.Places.{IsRowAt, IsGapAt}
 use Rattle.fdb_core.specs.Learning.{with_row}
 use Rattle.fdb_core.proofs.Order.{above_from_below, below_later, same_right, same_address, searchable}
@@ -20,7 +21,7 @@ module _ (a : Mac) where
     pub above : rows_above (xs ++ ys) a ≡ rows_above ys a
     pub row : row_of (xs ++ ys) a ≡ row_of ys a
 
-  pub fronts : (xs ys : List Row) → AllByRecursion (λ r. address_cmp r.address a ≡ Less) xs → Fronts xs ys
+  pub fronts : (xs ys : List Row) → AllByRecursion (λ r. mac_cmp r.address a ≡ Less) xs → Fronts xs ys
   fronts [] ys h = record { below = refl; above = refl; row = refl }
   fronts (r ∷ rs) ys h =
       let more = fronts rs ys h.1 in
@@ -36,7 +37,7 @@ module _ (a : Mac) where
     pub above : rows_above ys a ≡ ys
     pub row : row_of ys a ≡ None
 
-  pub all_above : (ys : List Row) → AllByRecursion (λ r. address_cmp r.address a ≡ Greater) ys → AllAbove ys
+  pub all_above : (ys : List Row) → AllByRecursion (λ r. mac_cmp r.address a ≡ Greater) ys → AllAbove ys
   all_above [] h = record { below = refl; above = refl; row = refl }
   all_above (r ∷ rs) h =
       let more = all_above rs h.1 in
@@ -47,19 +48,19 @@ module _ (a : Mac) where
       }
 
   -- those from a place on, and those before it
-  before_place : (rows : List Row) (i : ℕ) → i ≤ length rows → AllWithin (λ r. address_cmp r.address a ≡ Less) rows 0 i → AllByRecursion (λ r. address_cmp r.address a ≡ Less) (take i rows)
+  before_place : (rows : List Row) (i : ℕ) → i ≤ length rows → AllWithin (λ r. mac_cmp r.address a ≡ Less) rows 0 i → AllByRecursion (λ r. mac_cmp r.address a ≡ Less) (take i rows)
   before_place rows i within h =
       recursion_from_All _ (take i rows) (λ k d lt.
       let short : k < i = omega (arith, length-take-le i rows within) in
       rw (get_or-take i rows k d short) (h k d (omega arith) short))
 
-  from_place : (rows : List Row) (i : ℕ) → AllWithin (λ r. address_cmp r.address a ≡ Greater) rows i (length rows) → AllByRecursion (λ r. address_cmp r.address a ≡ Greater) (drop i rows)
+  from_place : (rows : List Row) (i : ℕ) → AllWithin (λ r. mac_cmp r.address a ≡ Greater) rows i (length rows) → AllByRecursion (λ r. mac_cmp r.address a ≡ Greater) (drop i rows)
   from_place rows i h =
       recursion_from_All _ (drop i rows) (λ k d lt.
       let short : i + k < length rows = omega (arith, length-drop i rows) in
       rw (get_or-drop i rows k d) (h (i + k) d (omega arith) short))
 
-  pub gap : (rows : List Row) (i : ℕ) → i ≤ length rows → IsPartitionPoint (λ r. address_cmp r.address a ≡ Less) (λ r. address_cmp r.address a ≡ Greater) rows i → IsGapAt rows a i
+  pub gap : (rows : List Row) (i : ℕ) → i ≤ length rows → IsPartitionPoint (λ r. mac_cmp r.address a ≡ Less) (λ r. mac_cmp r.address a ≡ Greater) rows i → IsGapAt rows a i
   gap rows i within parted =
       let front = fronts (take i rows) (drop i rows) (before_place rows i within parted.0) in
       let back = all_above (drop i rows) (from_place rows i parted.1) in
@@ -72,11 +73,11 @@ module _ (a : Mac) where
       }
 
   -- at a row of the address
-  module _ (rows : List Row) (rising : IsRising rows) (i : ℕ) (within : i < length rows) (equal : HoldsAt (λ r. address_cmp r.address a ≡ Equal) rows i) where
-    low : AllWithin (λ r. address_cmp r.address a ≡ Less) rows 0 i
+  module _ (rows : List Row) (rising : IsRising rows) (i : ℕ) (within : i < length rows) (equal : HoldsAt (λ r. mac_cmp r.address a ≡ Equal) rows i) where
+    low : AllWithin (λ r. mac_cmp r.address a ≡ Less) rows 0 i
     low k d _ lt = sym (same_right (get_or rows i d).address a (get_or rows k d).address (equal d)) ∙ below_later rows rising k i d lt within
 
-    high : AllWithin (λ r. address_cmp r.address a ≡ Greater) rows (i + 1) (length rows)
+    high : AllWithin (λ r. mac_cmp r.address a ≡ Greater) rows (i + 1) (length rows)
     high k d le lt = sym (same_right (get_or rows i d).address a (get_or rows k d).address (equal d)) ∙ above_from_below (get_or rows i d).address (get_or rows k d).address (below_later rows rising i k d (omega arith) lt)
 
     front : Fronts (take i rows) (drop i rows)
@@ -89,14 +90,14 @@ module _ (a : Mac) where
     here d = drop_more rows i d within
 
     -- the row itself is in neither part
-    below_here : (r : Row) (rest : List Row) → address_cmp r.address a ≡ Equal → rows_below (r ∷ rest) a ≡ rows_below rest a
+    below_here : (r : Row) (rest : List Row) → mac_cmp r.address a ≡ Equal → rows_below (r ∷ rest) a ≡ rows_below rest a
     below_here r rest e = rw e refl
 
-    above_here : (r : Row) (rest : List Row) → address_cmp r.address a ≡ Equal → rows_above (r ∷ rest) a ≡ rows_above rest a
+    above_here : (r : Row) (rest : List Row) → mac_cmp r.address a ≡ Equal → rows_above (r ∷ rest) a ≡ rows_above rest a
     above_here r rest e = rw e refl
 
     -- and is the one that is found
-    found_here : (r : Row) (rest : List Row) → address_cmp r.address a ≡ Equal → row_of (r ∷ rest) a ≡ Some r
+    found_here : (r : Row) (rest : List Row) → mac_cmp r.address a ≡ Equal → row_of (r ∷ rest) a ≡ Some r
     found_here r rest e = rw e refl
 
     pub hit : (d : Row) → IsRowAt rows a i
@@ -113,7 +114,7 @@ module _ (a : Mac) where
         }
 
 -- what a binary search by address finds
-pub placed : (rows : List Row) → IsRising rows → (a : Mac) (r : Result ℕ ℕ) → IsSearchInRange r (length rows) → IsBinarySearchResult (λ y. address_cmp y.address a) rows r → record { found : IfOk r (IsRowAt rows a); absent : IfErr r (IsGapAt rows a) }
+pub placed : (rows : List Row) → IsRising rows → (a : Mac) (r : Result ℕ ℕ) → IsSearchInRange r (length rows) → IsBinarySearchResult (λ y. mac_cmp y.address a) rows r → record { found : IfOk r (IsRowAt rows a); absent : IfErr r (IsGapAt rows a) }
 placed [] rising a (Ok i) within equal = absurd (omega arith)
 placed (row ∷ rows) rising a (Ok i) within equal = record { found = hit a (row ∷ rows) rising i within equal row; absent = tt }
 placed rows rising a (Err i) within parted = record { found = tt; absent = gap a rows i within (parted (searchable rows rising a)) }

@@ -3,20 +3,15 @@ use Rattle.std.specs.Prelude.{ℕ, ◌+◌, ◌<◌, not, ◌==◌, nat_lt, List
 use Rattle.std.specs.List.{AllByRecursion, list_any}
 use Rattle.std.specs.List.Sorted.{IsStrictlySortedBy}
 use Rattle.std.specs.Option.{option_map}
-use Rattle.std.specs.Ordering.{nat_cmp, is_lt, is_eq, is_gt}
-use Rattle.std.specs.declared.cmp.Ordering.{Ordering}
-use Rattle.std.specs.Cmp.Lexicographic.{slice_cmp}
+use Rattle.std.specs.Ordering.{is_lt, is_eq, is_gt}
 use Rattle.frame_core.specs.declared.mac.Mac.{Mac}
+use Rattle.frame_core.specs.Octets.{mac_cmp}
 use Rattle.fdb_core.specs.declared.row.Row.{Row}
 use Rattle.fdb_core.specs.declared.row.TheConstants.{MAX_AGING_TIME}
 
--- addresses are compared octet by octet
-abbrev pub address_cmp : Mac → Mac → Ordering
-address_cmp a b = slice_cmp nat_cmp a.0 b.0
-
 -- each address is below those of all later rows, so none comes twice
 abbrev pub IsRising : List Row → Type 0
-IsRising rows = IsStrictlySortedBy (λ r s. address_cmp r.address s.address) rows
+IsRising rows = IsStrictlySortedBy (λ r s. mac_cmp r.address s.address) rows
 
 -- each age is below the longest aging time
 abbrev pub IsYoung : List Row → Type 0
@@ -24,14 +19,14 @@ IsYoung rows = AllByRecursion (λ r. r.age < MAX_AGING_TIME) rows
 
 -- the rows of lower addresses, and those of higher ones
 abbrev pub rows_below : List Row → Mac → List Row
-rows_below rows address = filter (λ r. is_lt (address_cmp r.address address)) rows
+rows_below rows address = filter (λ r. is_lt (mac_cmp r.address address)) rows
 
 abbrev pub rows_above : List Row → Mac → List Row
-rows_above rows address = filter (λ r. is_gt (address_cmp r.address address)) rows
+rows_above rows address = filter (λ r. is_gt (mac_cmp r.address address)) rows
 
 -- the row of the address
 abbrev pub row_of : List Row → Mac → Option Row
-row_of rows address = find (λ r. is_eq (address_cmp r.address address)) rows
+row_of rows address = find (λ r. is_eq (mac_cmp r.address address)) rows
 
 -- its port
 abbrev pub port_of : List Row → Mac → Option ℕ

@@ -107,3 +107,41 @@ fn an_address_of_any_octets_is_learned(rt: HostRuntime) {
     }
     assert_eq!(rt; fdb.len(), 6 * 255 + 2);
 }
+
+// Addresses of many kinds, other ones for each port.
+fn addresses_at(port: u8) -> [Mac; 4] {
+    [
+        Mac([0x00, 0x1B, 0x21, 0x3C, 0x9D, port]),
+        Mac([port, 0x00, 0x00, 0x00, 0x00, 0x00]),
+        Mac([0xAC, 0xDE, port, port, port, port]),
+        Mac([0xFF, 0xFF, 0xFF, 0xFF, port, 0xFF]),
+    ]
+}
+
+fn learn_at(rt: &impl Abort, fdb: &mut Fdb, port: u8) {
+    for address in addresses_at(port) {
+        assert_eq!(rt;
+            fdb.learn(address, u16::from(port)),
+            Learnt::New,
+            "port {port}"
+        );
+    }
+}
+
+fn assert_found_at(rt: &impl Abort, fdb: &Fdb, port: u8) {
+    for address in addresses_at(port) {
+        assert_eq!(rt; fdb.find(address), Some(u16::from(port)));
+    }
+}
+
+#[test]
+fn each_of_32_ports_learns_new_addresses(rt: HostRuntime) {
+    let mut fdb = Fdb::new(rt.alloc(), usize::from(ROWS));
+    for port in 1..=32 {
+        learn_at(&rt, &mut fdb, port);
+    }
+    for port in 1..=32 {
+        assert_found_at(&rt, &fdb, port);
+    }
+    assert_eq!(rt; fdb.len(), 4 * 32);
+}

@@ -2,6 +2,7 @@
 use Rattle.std.specs.Prelude.{ℕ, ◌+◌, ◌/◌, ◌%◌, ◌==◌, ◌&&◌, Bool, nat_le, nat_lt, if◌then◌else◌, List, [], ◌∷◌, length, take, drop, slice_index, Option, Some, None, Result, Ok, Err}
 use Rattle.std.specs.Str.{bytes_eq}
 use Rattle.frame_core.specs.declared.frame.TheConstants.{MIN_FRAME_LEN, MAX_FRAME_LEN}
+use Rattle.frame_core.specs.declared.layout.TheConstants.{LENGTH_MAX}
 use Rattle.frame_core.specs.Octets.{number_at, has_bit}
 use Rattle.frame_core.specs.declared.mac.Mac.{Mac}
 use Rattle.frame_core.specs.declared.mac.TheConstants.{BRIDGE_GROUP}
@@ -104,7 +105,7 @@ content_of frame = take (number_at frame 12 2) (drop MIN_FRAME_LEN frame)
 -- the length field counts at most 1,500 octets, all of them there, and they begin with the LLC header 42 42 03
 abbrev pub has_llc : List ℕ → Bool
 has_llc frame =
-    nat_le (number_at frame 12 2) 1500
+    nat_le (number_at frame 12 2) LENGTH_MAX
     && (nat_le (MIN_FRAME_LEN + number_at frame 12 2) (length frame) && bytes_eq (take 3 (content_of frame)) (0x42 ∷ 0x42 ∷ 0x03 ∷ []))
 
 -- the BPDU that a frame carries

@@ -4,6 +4,8 @@ use Rattle.byteorder.specs.Endian.{big_bytes}
 use Rattle.frame_core.specs.Layout.{role_number}
 use Rattle.frame_core.specs.declared.mac.Mac.{Mac}
 use Rattle.frame_core.specs.declared.mac.TheConstants.{BRIDGE_GROUP}
+use Rattle.frame_core.specs.declared.frame.TheConstants.{SENT_FRAME_LEN}
+use Rattle.frame_core.specs.declared.layout.TheConstants.{HEADER_LEN}
 use Rattle.frame_core.specs.declared.bpdu.BridgeId.{BridgeId}
 use Rattle.frame_core.specs.declared.bpdu.PriorityVector.{PriorityVector}
 use Rattle.frame_core.specs.declared.bpdu.Times.{Times}
@@ -80,9 +82,9 @@ llc_octets len = big_bytes 2 len ++ 0x42 ∷ 0x42 ∷ 0x03 ∷ []
 unfoldable pub header_octets : Mac → ℕ → List ℕ
 header_octets source len = address_octets source ++ llc_octets len
 
--- the whole frame, 60 octets: the length counts the LLC header and the BPDU, and 00 pads
+-- the whole frame, with its header and padded by 00: the length counts the LLC header and the BPDU
 unfoldable pub frame_octets : Mac → Bpdu → List ℕ
-frame_octets source b = header_octets source (3 + bpdu_len b) ++ bpdu_octets b ++ replicate (43 - bpdu_len b) 0
+frame_octets source b = header_octets source (3 + bpdu_len b) ++ bpdu_octets b ++ replicate (SENT_FRAME_LEN - HEADER_LEN - bpdu_len b) 0
 
 -- what the fields of a BPDU are in octets: numbers of two and four octets, and addresses of six
 pub record FitsBridgeId (id : BridgeId) : Type 0 where

@@ -3,6 +3,9 @@
 /// The most octets that a length field counts (IEEE 802.3, 3.2.6).
 pub const LENGTH_MAX: usize = 1_500;
 
+/// The octets before the BPDU: two addresses, the length field and the LLC header (7.12).
+pub const HEADER_LEN: usize = 17;
+
 /// The LLC header of the spanning tree protocols: their address twice, and unnumbered information (7.12.3).
 pub const SPANNING_TREE_LLC: [u8; 3] = [0x42, 0x42, 0x03];
 

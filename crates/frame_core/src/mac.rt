@@ -1,6 +1,6 @@
 //! Addresses of 48 bits.
 ghost use Rattle.std.specs.Prelude.{◌≡◌};
-ghost use Rattle.frame_core.specs.Octets.{is_group};
+ghost use Rattle.frame_core.specs.Octets.{is_group, same_mac};
 
 /// An address of 48 bits, six octets in the order in which they are sent (IEEE 802.3, 3.2.3). Addresses are compared octet
 /// by octet.
@@ -16,5 +16,12 @@ impl Mac {
         ensures { result ≡ is_group self }
     {
         self.0[0] & 1 == 1
+    }
+
+    /// Whether two addresses are one.
+    pub fn is_same(self, other: Mac) -> bool
+        ensures { result ≡ same_mac self other }
+    {
+        self == other
     }
 }

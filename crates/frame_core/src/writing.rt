@@ -8,8 +8,8 @@ ghost use Rattle.frame_core.specs.Sending.{weight, bridge_id_octets, root_octets
 use crate::bpdu::{Bpdu, BridgeId, Config, PriorityVector, Rapid, Times};
 use crate::frame::SENT_FRAME_LEN;
 use crate::layout::{
-    ACKNOWLEDGE, AGREEMENT, CONFIG_TYPE, FORWARDING, LEARNING, NOTICE_TYPE, PROPOSAL, RAPID_TYPE,
-    RAPID_VERSION, ROLE, SPANNING_TREE_LLC, TOPOLOGY_CHANGE,
+    ACKNOWLEDGE, AGREEMENT, CONFIG_TYPE, FORWARDING, HEADER_LEN, LEARNING, NOTICE_TYPE, PROPOSAL,
+    RAPID_TYPE, RAPID_VERSION, ROLE, SPANNING_TREE_LLC, TOPOLOGY_CHANGE,
 };
 use crate::mac::{BRIDGE_GROUP, Mac};
 use byteorder::{BigEndian, ByteOrder};
@@ -216,8 +216,9 @@ fn put_header(out: &mut [u8], source: Mac, len: u16)
 }
 
 /// Writes the frame in which a bridge of this address sends the BPDU: to the bridges' group address, with the length of
-/// the LLC header and the BPDU, and padded with 00. The answer is how many octets the frame has, always 60.
-pub fn write_bpdu(bpdu: &Bpdu, source: Mac, frame: &mut [u8; 60]) -> usize
+/// the LLC header and the BPDU, and padded with 00. The answer is how many octets the frame has,
+/// always [`SENT_FRAME_LEN`].
+pub fn write_bpdu(bpdu: &Bpdu, source: Mac, frame: &mut [u8; SENT_FRAME_LEN]) -> usize
     ensures len { result ≡ SENT_FRAME_LEN }
     // Each octet,
     ensures octets { frame.new ≡ frame_octets source bpdu.now }
@@ -226,6 +227,6 @@ pub fn write_bpdu(bpdu: &Bpdu, source: Mac, frame: &mut [u8; 60]) -> usize
 {
     frame.fill(0);
     put_header(frame, source, 3 + bpdu_len_of(bpdu));
-    put_bpdu(&mut frame[17..], bpdu);
+    put_bpdu(&mut frame[HEADER_LEN..], bpdu);
     frame.len()
 }

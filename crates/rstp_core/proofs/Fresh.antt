@@ -1,5 +1,5 @@
 -- A port as the roles are about to be chosen, after an event's own part.
-use Rattle.std.proofs.Common.{◌≡◌, ℕ, Bool, true, false, cond, ◌&&◌, ◌||◌, not, ◌⊎◌, inl, inr, refl, sym, ap, subst, ◌∙◌, ◌≤◌}
+use Rattle.std.proofs.Common.{◌≡◌, ℕ, Bool, true, false, cond, ◌&&◌, ◌||◌, not, ◌⊎◌, inl, inr, refl, sym, ap, ◌∙◌}
 use Rattle.frame_core.specs.declared.bpdu.BridgeId.{BridgeId}
 use Rattle.frame_core.specs.declared.bpdu.PriorityVector.{PriorityVector}
 use Rattle.frame_core.specs.declared.bpdu.Times.{Times}

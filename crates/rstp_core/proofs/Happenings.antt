@@ -1,7 +1,6 @@
 -- Each happening is an event: what it leaves of each port.
-use Rattle.std.proofs.Common.{◌≡◌, ◌≢◌, ℕ, zero, suc, ◌+◌, ◌-◌, ◌*◌, ◌<◌, ◌≤◌, Bool, true, false, cond, ◌&&◌, not, eqb, List, [], ◌∷◌, length, get_or, map, ◌⊎◌, inl, inr, refl, sym, ap, subst, ◌∙◌, arith, Contains}
+use Rattle.std.proofs.Common.{◌≡◌, ℕ, zero, suc, ◌+◌, ◌-◌, ◌<◌, Bool, true, false, ◌&&◌, eqb, List, [], ◌∷◌, length, get_or, map, ◌⊎◌, inl, inr, refl, sym, ap, subst, ◌∙◌, arith, Contains}
 use Rattle.std.proofs.lemmas.List.{get_or-map, length-map}
-use Rattle.std.proofs.lemmas.Bool.Decides.{eqb_tells}
 use Rattle.frame_core.specs.declared.mac.Mac.{Mac}
 use Rattle.frame_core.specs.declared.bpdu.BridgeId.{BridgeId}
 use Rattle.frame_core.specs.declared.bpdu.Bpdu.{Bpdu}
@@ -21,7 +20,7 @@ use Rattle.rstp_rules.specs.declared.row.Context.{Context}
 use Rattle.rstp_rules.specs.declared.settled.SettledPort.{SettledPort}
 use Rattle.rstp_rules.specs.Ports.{is_root_or_designated, is_discarding}
 use Rattle.rstp_rules.specs.Vectors.{port_id}
-use Rattle.rstp_rules.specs.Lines.{own_id, row_of, enabled_by, cost_in_use, settled_port_of, timers_of, rstp_version, times_in_force, no_config}
+use Rattle.rstp_rules.specs.Lines.{own_id, row_of, enabled_by, edge_by, settled_port_of, rstp_version, times_in_force, no_config}
 use Rattle.rstp_rules.specs.Roles.{expired, with_role}
 use Rattle.rstp_rules.specs.Restarts.{linked, settled_anew}
 use Rattle.rstp_rules.specs.Arrivals.{arrived, received, received_all}
@@ -33,7 +32,7 @@ use Rattle.rstp_core.specs.declared.rstp.Outcome.{Outcome}
 use Rattle.rstp_core.specs.Settled.{SettledValues, settled_of, settled_port}
 use Rattle.rstp_core.specs.Passes.{chosen, ready}
 use Rattle.rstp_core.specs.Tree.{Tree, rows_of, has_other_version, Ends}
-use Rattle.rstp_core.specs.Runs.{Happening, Happens}
+use Rattle.rstp_core.specs.Runs.{Happening, Happens, event_by}
 use Rattle.rstp_core.specs.Runs.Happening.{Tick, Link, Message, Settle}
 use Rattle.rstp_core.proofs.Fresh.{IsFresh, Fresh-same, expired-same, ticked-same, received-same, told-same, linked-fresh, settled-fresh}
 use Rattle.rstp_core.proofs.Roled.{IsDone, Done-keeps, turned-done}
@@ -98,16 +97,18 @@ pub record Alike (v r : Table) : Type 0 where
   pub own : (x : Mac) → own_id r x ≡ own_id v x
   pub enabled : (n : ℕ) → enabled_by r n ≡ enabled_by v n
   pub id : (n : ℕ) → id_of r n ≡ id_of v n
+  pub edge : (n : ℕ) → edge_by r n ≡ edge_by v n
   pub cost : (n : ℕ) → get r (key.Port n port.Cost) ≡ get v (key.Port n port.Cost)
 
-alike : (v : Table) → Alike v v
-alike v = record { own = λ x. refl; enabled = λ n. refl; id = λ n. refl; cost = λ n. refl }
+pub alike : (v : Table) → Alike v v
+alike v = record { own = λ x. refl; enabled = λ n. refl; id = λ n. refl; edge = λ n. refl; cost = λ n. refl }
 
-spent_alike : (v : Table) → Alike v (spent v)
+pub spent_alike : (v : Table) → Alike v (spent v)
 spent_alike v = record {
   own = λ x. refl;
   enabled = λ n. ap (λ (p : PortValues). eqb p.enable 1) (spent_at n);
   id = λ n. ap (λ (p : PortValues). port_id p.priority n) (spent_at n);
+  edge = λ n. ap (λ (p : PortValues). eqb p.edge 1) (spent_at n);
   cost = λ n. ap (λ (p : PortValues). p.cost) (spent_at n);
 } where
   spent_at : (n : ℕ) → values_at (spent v) n ≡ spent_values (values_at v n)
@@ -208,6 +209,10 @@ part_again s t g rows p h = record { same = length-map rows g ∙ p.same; fresh 
 settled_enabled : (v : Table) (n : ℕ) → (settled_port (settled_of v) n).enabled ≡ enabled_by v n
 settled_enabled v n = ap (λ (p : SettledPort). p.enabled) (at_default settled_port_of v.ports (n - 1) no_values)
 
+-- a port was enabled by the settings before
+pub was_enabled : (s : Table) (t : Tree) → t.settled ≡ settled_of s → (n : ℕ) → (settled_port t.settled n).enabled ≡ enabled_by s n
+was_enabled s t settled n = ap (λ (w : SettledValues). (settled_port w n).enabled) settled ∙ settled_enabled s n
+
 settled_ports : (ps : List PortValues) → map settled_port_of ps ≡ map settled_port_of (map spent_values ps)
 settled_ports [] = refl
 settled_ports (p ∷ ps) = ap (λ (ws : List SettledPort). settled_port_of p ∷ ws) (settled_ports ps)
@@ -223,11 +228,23 @@ arrival_part s t n b each h =
     let heard = received_all own (rstp_version s) n b (rows_of s t) in
     part_again s t _ heard (part_map s t (received own (rstp_version s) n b) each (λ k i. Fresh-same _ _ _ _ _ (row_at s t k) _ (h k i) (received-same own (rstp_version s) n b (row_at s t k)))) (λ k r i. Fresh-same _ _ _ _ _ r _ i (told-same _ own n b _ r))
 
-pub event_of : (s : Table) (t : Tree) → IsReady s t → (h : Happening) (r : Table) (u : Tree) (out : Outcome) → Happens h s t r u out → (v : Table) × IsEvent v r t u out
-event_of s t ready h r u out = by h where
+-- the own part of each event
+pub own_part : (s : Table) (t : Tree) → IsReady s t → (h : Happening) → OwnPart (event_by h s t).settings t (event_by h s t).rows
+own_part s t ready h = by h where
   start : (k : ℕ) → k < length t.ports → IsFreshAt s t k (row_at s t k)
   start k b = begins s (settled_port t.settled (1 + k)) (1 + k) (get_or t.config k no_config) (get_or t.ports k no_row.port) (ready.calm k b)
 
+  by : (h : Happening) → OwnPart (event_by h s t).settings t (event_by h s t).rows
+  by Tick = part_map s t ticked ready.configured (λ k b. Fresh-same _ _ _ _ _ (row_at s t k) _ (start k b) (ticked-same (row_at s t k)))
+  by (Link n up) = part_map s t (linked n up) ready.configured (λ k b. linked-fresh _ _ _ _ _ n up (row_at s t k) (start k b))
+  by (Message n b) = arrival_part s t n b ready.configured start
+  by (Settle v) = part_map v t (settled_anew (has_other_version v t.settled)) ready.configured (λ k b.
+      let p = get_or t.ports k no_row.port in
+      let calm = ready.calm k b in
+      settled-fresh v (settled_port t.settled (1 + k)) (1 + k) (get_or t.config k no_config) p.state (has_other_version v t.settled) (row_at v t k) refl refl calm.still (λ i. calm.off (ap (λ x. x && p.link) (sym (was_enabled s t ready.settled (1 + k))) ∙ i)) (λ f. learns (enabled_by s (1 + k)) p calm f))
+
+pub event_of : (s : Table) (t : Tree) → IsReady s t → (h : Happening) (r : Table) (u : Tree) (out : Outcome) → Happens h s t r u out → (v : Table) × IsEvent v r t u out
+event_of s t ready h r u out = by h where
   -- under the same settings
   plain : (rows : List Row) (tick : Bool) (was : Times) → OwnPart s t rows → Ends s tick was rows t u out → r ≡ s → (v : Table) × IsEvent v r t u out
   plain rows tick was part ends e = (
@@ -246,13 +263,10 @@ event_of s t ready h r u out = by h where
     }),
   )
 
-  before : (n : ℕ) → (settled_port t.settled n).enabled ≡ enabled_by s n
-  before n = ap (λ (w : SettledValues). (settled_port w n).enabled) ready.settled ∙ settled_enabled s n
-
   by : (h : Happening) → Happens h s t r u out → (v : Table) × IsEvent v r t u out
-  by Tick e = plain _ _ _ (part_map s t ticked ready.configured (λ k b. Fresh-same _ _ _ _ _ (row_at s t k) _ (start k b) (ticked-same (row_at s t k)))) e.1 e.0
-  by (Link n up) e = plain _ _ _ (part_map s t (linked n up) ready.configured (λ k b. linked-fresh _ _ _ _ _ n up (row_at s t k) (start k b))) e.1 e.0
-  by (Message n b) e = plain _ _ _ (arrival_part s t n b ready.configured start) e.1 e.0
+  by Tick e = plain _ _ _ (own_part s t ready Tick) e.1 e.0
+  by (Link n up) e = plain _ _ _ (own_part s t ready (Link n up)) e.1 e.0
+  by (Message n b) e = plain _ _ _ (own_part s t ready (Message n b)) e.1 e.0
   by (Settle v) e = (
     v,
     subst (λ (x : Table). IsEvent v x t u out) (sym e.0) (record {
@@ -260,10 +274,7 @@ event_of s t ready h r u out = by h where
       was = times_in_force t.settled.timers (rows_of v t);
       rows = map (settled_anew (has_other_version v t.settled)) (rows_of v t);
       base = record t { settled = settled_of v };
-      part = part_map v t (settled_anew (has_other_version v t.settled)) ready.configured (λ k b.
-          let p = get_or t.ports k no_row.port in
-          let calm = ready.calm k b in
-          settled-fresh v (settled_port t.settled (1 + k)) (1 + k) (get_or t.config k no_config) p.state (has_other_version v t.settled) (row_at v t k) refl refl calm.still (λ i. calm.off (ap (λ x. x && p.link) (sym (before (1 + k))) ∙ i)) (λ f. learns (enabled_by s (1 + k)) p calm f));
+      part = own_part s t ready (Settle v);
       ends = e.1;
       address = refl;
       config = refl;

@@ -1,19 +1,17 @@
 -- Legal settings and trees: each event keeps them legal, and the opening is.
-use Rattle.std.proofs.Common.{◌≡◌, ℕ, zero, suc, ◌+◌, ◌-◌, ◌<◌, ◌≤◌, Bool, true, false, ◌&&◌, ◌⊎◌, inl, inr, List, [], ◌∷◌, ◌++◌, length, get_or, map, refl, sym, ap, subst, ◌∙◌, arith, All}
-use Rattle.std.specs.Prelude.{Option, Some, None}
+use Rattle.std.proofs.Common.{◌≡◌, ℕ, zero, suc, ◌+◌, ◌-◌, ◌<◌, ◌≤◌, Bool, true, false, ◌&&◌, ◌⊎◌, inl, inr, List, [], ◌∷◌, length, get_or, map, refl, sym, ap, subst, ◌∙◌, arith, All}
+use Rattle.std.specs.Prelude.{Some, None}
 use Rattle.std.specs.List.{filter_map, best_of}
 use Rattle.std.proofs.lemmas.List.{get_or-map, length-map, length-append, ext_get_or, get_or_append_left, get_or-append_right, get_or-replicate}
 use Rattle.std.proofs.lemmas.List.Elements.{All-get_or, All-from_get_or}
 use Rattle.frame_core.specs.declared.mac.Mac.{Mac}
 use Rattle.frame_core.specs.declared.bpdu.BridgeId.{BridgeId}
 use Rattle.frame_core.specs.declared.bpdu.Times.{Times}
-use Rattle.frame_core.specs.declared.bpdu.PriorityVector.{PriorityVector}
-use Rattle.rstp_settings.specs.Table.{Table, get, opening, opening_port as opening_values, no_values}
+use Rattle.rstp_settings.specs.Table.{Table, opening, opening_port as opening_values, no_values}
 use Rattle.rstp_settings.specs.declared.key.PortValues.{PortValues}
 use Rattle.rstp_rules.specs.declared.config.PortConfig.{PortConfig}
 use Rattle.rstp_rules.specs.declared.port.Info.TheVariants.{Mine}
 use Rattle.rstp_rules.specs.declared.port.Port.{Port}
-use Rattle.rstp_rules.specs.declared.port.Role.{Role}
 use Rattle.rstp_rules.specs.declared.port.Role.TheVariants.{Disabled}
 use Rattle.rstp_rules.specs.declared.port.State.{State}
 use Rattle.rstp_rules.specs.declared.port.State.TheVariants.{Discarding}
@@ -29,11 +27,11 @@ use Rattle.rstp_core.specs.declared.rstp.Outcome.{Outcome}
 use Rattle.rstp_core.specs.Passes.{chosen}
 use Rattle.rstp_core.specs.Tree.{Tree, rows_of, opening_port_of, opening_ports, opening_tree}
 use Rattle.rstp_core.specs.Runs.{Happening, Happens}
-use Rattle.rstp_core.specs.Legal.{IsActive, MayLearn, HasRoles, IsLegal}
+use Rattle.rstp_core.specs.Legal.{MayLearn, IsLegal}
 use Rattle.rstp_core.proofs.Bests.{IsBest-best_of}
 use Rattle.rstp_core.proofs.Roled.{choice-off, choice_of, row_choice, row_offer, offer_of, own_vector, with_choice, with_role-is, chosen-keeps, offer-keeps}
 use Rattle.rstp_core.proofs.Places.{length-rows_from, rows_from-at, OfferLess, best_stays}
-use Rattle.rstp_core.proofs.Happenings.{IsCalm, IsReady, IsEvent, IsLeft, Left-at, which, id_of, row_at, event_of, same_length}
+use Rattle.rstp_core.proofs.Happenings.{IsCalm, IsReady, IsEvent, Left-at, which, row_at, event_of, same_length}
 
 -- the rows of a tree, place by place
 pub rows_are : (s : Table) (t : Tree) → length t.config ≡ length t.ports → length (rows_of s t) ≡ length t.ports

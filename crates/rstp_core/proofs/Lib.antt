@@ -10,3 +10,5 @@ pub mod TreeLaws
 pub mod RunLaws
 pub mod Functions
 pub mod TurnsClosed
+pub mod Numbered
+pub mod Restarted

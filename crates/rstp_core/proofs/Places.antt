@@ -1,5 +1,5 @@
 -- Rows by their place.
-use Rattle.std.proofs.Common.{◌≡◌, ℕ, zero, suc, ◌+◌, ◌<◌, Bool, true, false, cond, List, [], ◌∷◌, length, get_or, set, map, ◌⊎◌, inl, inr, refl, sym, ap, ◌∙◌, arith, Contains, All}
+use Rattle.std.proofs.Common.{◌≡◌, ℕ, zero, suc, ◌+◌, ◌<◌, Bool, true, false, cond, List, [], ◌∷◌, length, get_or, set, map, ◌⊎◌, inl, inr, refl, sym, ap, subst, ◌∙◌, arith, Contains, All}
 use Rattle.std.specs.List.{filter_map, filter}
 use Rattle.std.specs.Prelude.{Option, Some, None}
 use Rattle.std.proofs.lemmas.List.{get_or-set_same, get_or-set_other, get_or-map, length-map, length-set, get_or_default}
@@ -20,7 +20,7 @@ use Rattle.rstp_rules.specs.Turns.{no_row, spread_but, begun, turn_at, first_tur
 use Rattle.rstp_rules.specs.Ticks.{greeted}
 use Rattle.rstp_rules.specs.Sends.{sent}
 use Rattle.rstp_core.specs.Settled.{SettledValues, settled_port}
-use Rattle.rstp_core.specs.Passes.{greeted_all, ready}
+use Rattle.rstp_core.specs.Passes.{advanced_rows, greeted_all, ready}
 use Rattle.rstp_core.specs.Tree.{rows_from}
 use Rattle.rstp_core.proofs.Keeps.{Keeps, Keeps-refl, Keeps-trans, synced-keeps, advanced-keeps, spread_but-keeps, begun-keeps, greeted-keeps, sent-keeps}
 
@@ -38,65 +38,93 @@ rows_from-at s w n (c ∷ cs) [] k e h = absurd (omega arith)
 rows_from-at s w n (c ∷ cs) (p ∷ ps) zero e h = let m : n + 0 ≡ n = omega arith in rw m
 rows_from-at s w n (c ∷ cs) (p ∷ ps) (suc k) e h = let m : n + suc k ≡ (n + 1) + k = omega arith in rw m (rows_from-at s w (n + 1) cs ps k (omega arith) (omega arith))
 
--- what a pass over all rows keeps at each place
-pub record AllKeep (xs ys : List Row) : Type 0 where
+-- what a pass over all rows leaves at each place, of what it found there
+pub record AllHold (R : Row → Row → Type 0) (xs ys : List Row) : Type 0 where
   pub same : length ys ≡ length xs
-  pub at : (k : ℕ) → k < length xs → Keeps (get_or xs k no_row) (get_or ys k no_row)
+  pub at : (k : ℕ) → k < length xs → R (get_or xs k no_row) (get_or ys k no_row)
 
-pub keep-refl : (xs : List Row) → AllKeep xs xs
-keep-refl xs = record { same = refl; at = λ k _. Keeps-refl (get_or xs k no_row) }
+-- what passes hold one after another
+pub record IsHeld (R : Row → Row → Type 0) : Type 0 where
+  pub still : (r : Row) → R r r
+  pub next : (r q p : Row) → R r q → R q p → R r p
 
-pub keep-trans : (xs ys zs : List Row) → AllKeep xs ys → AllKeep ys zs → AllKeep xs zs
-keep-trans xs ys zs h i = record {
+pub hold-refl : (R : Row → Row → Type 0) → IsHeld R → (xs : List Row) → AllHold R xs xs
+hold-refl R held xs = record { same = refl; at = λ k _. held.still (get_or xs k no_row) }
+
+pub hold-trans : (R : Row → Row → Type 0) → IsHeld R → (xs ys zs : List Row) → AllHold R xs ys → AllHold R ys zs → AllHold R xs zs
+hold-trans R held xs ys zs h i = record {
   same = i.same ∙ h.same;
-  at = λ k b. Keeps-trans (get_or xs k no_row) (get_or ys k no_row) (get_or zs k no_row) (h.at k b) (i.at k (omega (arith, b, h.same)));
+  at = λ k b. held.next (get_or xs k no_row) (get_or ys k no_row) (get_or zs k no_row) (h.at k b) (i.at k (omega (arith, b, h.same)));
 }
 
-pub keep-map : (f : Row → Row) (xs : List Row) → ((r : Row) → Keeps r (f r)) → AllKeep xs (map f xs)
-keep-map f xs h = record {
+pub hold-map : (R : Row → Row → Type 0) (f : Row → Row) (xs : List Row) → ((r : Row) → R r (f r)) → AllHold R xs (map f xs)
+hold-map R f xs h = record {
   same = length-map xs f;
-  at = λ k b. rw (get_or-map f xs k no_row no_row b) (h (get_or xs k no_row));
+  at = λ k b. subst (R (get_or xs k no_row)) (sym (get_or-map f xs k no_row no_row b)) (h (get_or xs k no_row));
 }
 
-keep-if : (b : Bool) (xs ys zs : List Row) → AllKeep xs ys → AllKeep xs zs → AllKeep xs (cond b ys zs)
-keep-if true xs ys zs h i = h
-keep-if false xs ys zs h i = i
+pub hold-if : (R : Row → Row → Type 0) (b : Bool) (xs ys zs : List Row) → AllHold R xs ys → AllHold R xs zs → AllHold R xs (cond b ys zs)
+hold-if R true xs ys zs h i = h
+hold-if R false xs ys zs h i = i
 
-keep-set : (t : Timing) (xs : List Row) (k : ℕ) → AllKeep xs (set xs k (begun t (get_or xs k no_row)))
-keep-set t xs k = record { same = length-set xs k (begun t (get_or xs k no_row)); at = at } where
-  at : (i : ℕ) → i < length xs → Keeps (get_or xs i no_row) (get_or (set xs k (begun t (get_or xs k no_row))) i no_row)
+-- what each turn holds
+pub record HoldsTurns (R : Row → Row → Type 0) (t : Timing) : Type 0 where
+  pub held : IsHeld R
+  pub begins : (r : Row) → R r (begun t r)
+  pub spreads : (n : ℕ) (r : Row) → R r (spread_but t n r)
+
+hold-set : (R : Row → Row → Type 0) (t : Timing) → HoldsTurns R t → (xs : List Row) (k : ℕ) → AllHold R xs (set xs k (begun t (get_or xs k no_row)))
+hold-set R t h xs k = record { same = length-set xs k (begun t (get_or xs k no_row)); at = at } where
+  at : (i : ℕ) → i < length xs → R (get_or xs i no_row) (get_or (set xs k (begun t (get_or xs k no_row))) i no_row)
   at i b = elim (eqb_tells i k) [
-    | inl e ↦ here (sym e.1)
-    | inr d ↦ rw (get_or-set_other xs k i (begun t (get_or xs k no_row)) no_row d.1) (Keeps-refl (get_or xs i no_row))
+    | inl e ↦ subst (λ (m : ℕ). R (get_or xs i no_row) (get_or (set xs m (begun t (get_or xs m no_row))) i no_row)) e.1 here
+    | inr d ↦ subst (R (get_or xs i no_row)) (sym (get_or-set_other xs k i (begun t (get_or xs k no_row)) no_row d.1)) (h.held.still (get_or xs i no_row))
   ] where
-    here : k ≡ i → Keeps (get_or xs i no_row) (get_or (set xs k (begun t (get_or xs k no_row))) i no_row)
-    here e = rw (e, get_or-set_same xs i (begun t (get_or xs i no_row)) no_row b) (begun-keeps t (get_or xs i no_row))
+    here : R (get_or xs i no_row) (get_or (set xs i (begun t (get_or xs i no_row))) i no_row)
+    here = subst (R (get_or xs i no_row)) (sym (get_or-set_same xs i (begun t (get_or xs i no_row)) no_row b)) (h.begins (get_or xs i no_row))
 
-keep-turn : (t : Timing) (xs : List Row) (k : ℕ) → AllKeep xs (turn_at t xs k)
-keep-turn t xs k =
+hold-turn : (R : Row → Row → Type 0) (t : Timing) → HoldsTurns R t → (xs : List Row) (k : ℕ) → AllHold R xs (turn_at t xs k)
+hold-turn R t h xs k =
     let r = get_or xs k no_row in
     let one = set xs k (begun t r) in
-    keep-if _ xs _ xs (keep-if _ xs one _ (keep-set t xs k) (keep-trans xs one (map (spread_but t r.line.number) one) (keep-set t xs k) (keep-map (spread_but t r.line.number) one (spread_but-keeps t r.line.number)))) (keep-refl xs)
+    hold-if R _ xs _ xs (hold-if R _ xs one _ (hold-set R t h xs k) (hold-trans R h.held xs one (map (spread_but t r.line.number) one) (hold-set R t h xs k) (hold-map R (spread_but t r.line.number) one (h.spreads r.line.number)))) (hold-refl R h.held xs)
 
-keep-turns : (t : Timing) (n : ℕ) (xs : List Row) → AllKeep xs (first_turns t n xs)
-keep-turns t zero xs = keep-refl xs
-keep-turns t (suc n) xs = keep-trans xs (first_turns t n xs) (turn_at t (first_turns t n xs) n) (keep-turns t n xs) (keep-turn t (first_turns t n xs) n)
+pub hold-turns : (R : Row → Row → Type 0) (t : Timing) → HoldsTurns R t → (n : ℕ) (xs : List Row) → AllHold R xs (first_turns t n xs)
+hold-turns R t h zero xs = hold-refl R h.held xs
+hold-turns R t h (suc n) xs = hold-trans R h.held xs (first_turns t n xs) (turn_at t (first_turns t n xs) n) (hold-turns R t h n xs) (hold-turn R t h (first_turns t n xs) n)
 
--- the states from d on, and the hello step
-pub keep-ready : (tick : Bool) (c : Context) (rows : List Row) → AllKeep (map (turned c) rows) (ready tick c rows)
-keep-ready tick c rows =
+-- what a pass over all rows keeps at each place
+abbrev pub AllKeep : List Row → List Row → Type 0
+AllKeep xs ys = AllHold Keeps xs ys
+
+kept : IsHeld Keeps
+kept = record { still = Keeps-refl; next = Keeps-trans }
+
+keep-turns : (t : Timing) → HoldsTurns Keeps t
+keep-turns t = record { held = kept; begins = begun-keeps t; spreads = spread_but-keeps t }
+
+-- the states: d and e
+pub keep-advanced : (c : Context) (rows : List Row) → AllKeep (map (turned c) rows) (advanced_rows c rows)
+keep-advanced c rows =
     let a = map (turned c) rows in
     let b = synced_all c a in
     let d = advanced_all c b in
+    let one : AllKeep a b = hold-if Keeps _ a (map (synced c) a) a (hold-map Keeps (synced c) a (synced-keeps c)) (hold-refl Keeps kept a) in
+    let two : AllKeep b d = hold-map Keeps (advanced c (no_recent_root b)) b (advanced-keeps c (no_recent_root b)) in
+    hold-trans Keeps kept a b d one two
+
+-- f, and the hello step
+pub keep-ready : (tick : Bool) (c : Context) (rows : List Row) → AllKeep (map (turned c) rows) (ready tick c rows)
+keep-ready tick c rows =
+    let a = map (turned c) rows in
+    let d = advanced_rows c rows in
     let e = turns c.timing d in
-    let one : AllKeep a b = keep-if _ a (map (synced c) a) a (keep-map (synced c) a (synced-keeps c)) (keep-refl a) in
-    let two : AllKeep b d = keep-map (advanced c (no_recent_root b)) b (advanced-keeps c (no_recent_root b)) in
-    let three : AllKeep d e = keep-turns c.timing (length d) d in
-    let four : AllKeep e (greeted_all tick c e) = keep-if tick e (map (greeted c.timing) e) e (keep-map (greeted c.timing) e (greeted-keeps c.timing)) (keep-refl e) in
-    keep-trans a b (greeted_all tick c e) one (keep-trans b d (greeted_all tick c e) two (keep-trans d e (greeted_all tick c e) three four))
+    let three : AllKeep d e = hold-turns Keeps c.timing (keep-turns c.timing) (length d) d in
+    let four : AllKeep e (greeted_all tick c e) = hold-if Keeps tick e (map (greeted c.timing) e) e (hold-map Keeps (greeted c.timing) e (greeted-keeps c.timing)) (hold-refl Keeps kept e) in
+    hold-trans Keeps kept a d (greeted_all tick c e) (keep-advanced c rows) (hold-trans Keeps kept d e (greeted_all tick c e) three four)
 
 pub keep-sent : (c : Context) (rows : List Row) → AllKeep rows (map (sent c) rows)
-keep-sent c rows = keep-map (sent c) rows (sent-keeps c)
+keep-sent c rows = hold-map Keeps (sent c) rows (sent-keeps c)
 
 some_none : (b : Best) → Some b ≡ None → ⊥
 some_none b e = cc

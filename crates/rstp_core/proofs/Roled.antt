@@ -20,8 +20,9 @@ use Rattle.rstp_rules.specs.declared.row.Line.{Line}
 use Rattle.rstp_rules.specs.declared.row.Context.{Context}
 use Rattle.rstp_rules.specs.Ports.{is_received, is_root_or_designated, is_alternate_or_backup, same_role, is_discarding}
 use Rattle.rstp_rules.specs.Lines.{line_of}
-use Rattle.rstp_rules.specs.Vectors.{vector_cmp, same_mac}
-use Rattle.rstp_rules.specs.Roles.{with_role, candidate}
+use Rattle.rstp_rules.specs.Vectors.{vector_cmp}
+use Rattle.frame_core.specs.Octets.{same_mac}
+use Rattle.rstp_rules.specs.Roles.{with_role}
 use Rattle.rstp_rules.specs.Transitions.{has_changed_role, blocked, turned}
 use Rattle.rstp_core.proofs.Keeps.{IsStill, Keeps, turned-keeps}
 use Rattle.rstp_core.proofs.Fresh.{IsFresh}

@@ -1,5 +1,5 @@
 -- The laws over all runs.
-use Rattle.std.proofs.Common.{◌≡◌, ℕ, ◌+◌, ◌-◌, ◌<◌, ◌≤◌, Bool, true, false, ◌&&◌, List, [], ◌∷◌, length, get_or, refl, sym, ap, subst, ◌∙◌, arith}
+use Rattle.std.proofs.Common.{◌≡◌, ℕ, ◌+◌, ◌-◌, ◌<◌, ◌≤◌, true, false, ◌&&◌, List, [], ◌∷◌, length, get_or, refl, sym, ap, subst, ◌∙◌, arith}
 use Rattle.std.proofs.lemmas.List.Elements.{All-get_or}
 use Rattle.frame_core.specs.declared.mac.Mac.{Mac}
 use Rattle.rstp_settings.specs.Table.{Table, opening}
@@ -9,12 +9,10 @@ use Rattle.rstp_rules.specs.Lines.{enabled_by}
 use Rattle.rstp_rules.specs.declared.port.State.{State}
 use Rattle.rstp_rules.specs.declared.port.State.TheVariants.{Forwarding}
 use Rattle.rstp_rules.specs.Turns.{no_row}
-use Rattle.rstp_core.specs.declared.rstp.Outcome.{Outcome}
-use Rattle.rstp_core.specs.Tree.{Tree, port_at, rows_of, opening_tree, Ends}
-use Rattle.rstp_core.specs.Runs.{Happening, Happens, Leads, Runs}
-use Rattle.rstp_core.specs.Runs.Happening.{Tick, Link, Message, Settle}
-use Rattle.rstp_core.specs.Legal.{IsActive, MayLearn, IsLegal, IsSameBridge}
-use Rattle.rstp_core.proofs.Happenings.{IsEvent, event_of, same_length, row_at}
+use Rattle.rstp_core.specs.Tree.{Tree, port_at, rows_of, opening_tree}
+use Rattle.rstp_core.specs.Runs.{Happening, Leads, Runs}
+use Rattle.rstp_core.specs.Legal.{MayLearn, IsLegal, IsSameBridge}
+use Rattle.rstp_core.proofs.Happenings.{event_of, row_at}
 use Rattle.rstp_core.proofs.LegalTrees.{rows_are, row_is, legal_ready, happening_legal, opening_legal}
 
 -- what began legal stays so

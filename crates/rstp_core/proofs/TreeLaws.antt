@@ -1,6 +1,6 @@
 -- The laws of legal settings and trees.
 use Rattle.std.proofs.Common.{◌≡◌, ◌≢◌, ℕ, zero, suc, ◌+◌, ◌-◌, ◌*◌, ◌%◌, ◌<◌, ◌≤◌, Bool, true, false, ◌&&◌, not, eqb, ◌⊎◌, inl, inr, List, length, get_or, min, refl, sym, ap, subst, ◌∙◌, arith, Contains, ◌↔◌}
-use Rattle.std.specs.Prelude.{Some, None}
+use Rattle.std.specs.Prelude.{Some}
 use Rattle.std.specs.List.{filter_map}
 use Rattle.std.specs.Cmp.{nat_cmp_is}
 use Rattle.std.specs.declared.cmp.Ordering.{Ordering}
@@ -17,17 +17,17 @@ use Rattle.rstp_settings.specs.Table.{Table, get}
 use Rattle.rstp_settings.specs.declared.key.Key.TheVariants as key
 use Rattle.rstp_settings.specs.declared.key.PortKey.TheVariants as port
 use Rattle.rstp_rules.specs.declared.port.Port.{Port}
-use Rattle.rstp_rules.specs.declared.port.Role.TheVariants.{Root}
 use Rattle.rstp_rules.specs.declared.row.Row.{Row}
 use Rattle.rstp_rules.specs.declared.row.Best.{Best}
 use Rattle.rstp_rules.specs.Ports.{is_received, is_root_or_designated}
-use Rattle.rstp_rules.specs.Vectors.{port_number, same_mac, bridge_cmp}
+use Rattle.rstp_rules.specs.Vectors.{port_number, bridge_cmp}
+use Rattle.frame_core.specs.Octets.{same_mac}
 use Rattle.rstp_rules.specs.Lines.{own_id, cost_in_use, no_config}
-use Rattle.rstp_rules.specs.Roles.{candidate, candidates, own_best, beats, IsBest}
+use Rattle.rstp_rules.specs.Roles.{candidate, candidates, own_best, beats}
 use Rattle.rstp_rules.specs.Turns.{no_row}
 use Rattle.rstp_core.specs.declared.rstp.Outcome.{Outcome}
 use Rattle.rstp_core.specs.Tree.{Tree, rows_of}
-use Rattle.rstp_core.specs.Runs.{Happening, Happens, IsPort, IsRootPort, LeavesActivity}
+use Rattle.rstp_core.specs.Runs.{Happening, Happens, IsRootPort, LeavesActivity}
 use Rattle.rstp_core.specs.Legal.{IsLegal, IsRootBridge}
 use Rattle.rstp_core.proofs.Bests.{bridge_total}
 use Rattle.rstp_core.proofs.Roled.{choice-root, choice-first, own_vector, offered_if}

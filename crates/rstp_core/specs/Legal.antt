@@ -1,10 +1,11 @@
 -- What holds of settings and spanning tree between events, where each change of settings has been settled.
-use Rattle.std.specs.Prelude.{◌≡◌, Bool, true, false, List, length, All}
+use Rattle.std.specs.Prelude.{◌≡◌, ℕ, ◌+◌, ◌<◌, true, false, List, length, slice_index_or, All}
 use Rattle.rstp_settings.specs.Table.{Table}
 use Rattle.rstp_rules.specs.declared.row.Row.{Row}
 use Rattle.rstp_rules.specs.Ports.{is_root_or_designated, is_discarding}
 use Rattle.rstp_rules.specs.Lines.{own_id}
 use Rattle.rstp_rules.specs.Roles.{candidates, own_best, IsBest}
+use Rattle.rstp_rules.specs.Turns.{no_row}
 use Rattle.rstp_core.specs.Settled.{settled_of}
 use Rattle.rstp_core.specs.Passes.{chosen}
 use Rattle.rstp_core.specs.Tree.{Tree, rows_of}
@@ -30,6 +31,10 @@ pub record IsLegal (s : Table) (t : Tree) : Type 0 where
   pub settled : t.settled ≡ settled_of s
   pub roles : HasRoles s t
   pub active : All MayLearn (rows_of s t)
+
+-- The rows are of port 1, port 2, .., in this order.
+abbrev pub AreNumbered : List Row → Type 0
+AreNumbered rows = (k : ℕ) → k < length rows → (slice_index_or rows k no_row).line.number ≡ k + 1
 
 -- The root vector is this bridge's own: it is the root.
 abbrev pub IsRootBridge : Table → Tree → Type 0

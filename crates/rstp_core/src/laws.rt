@@ -18,8 +18,9 @@ ghost use Rattle.rstp_rules.specs.Lines.{own_id};
 ghost use Rattle.rstp_rules.specs.Roles.{IsBest};
 ghost use Rattle.rstp_core.specs.declared.rstp.Outcome.{Outcome};
 ghost use Rattle.rstp_core.specs.Tree.{Tree, rows_of, port_at, Ticks, Arrives, Links, Settles};
-ghost use Rattle.rstp_core.specs.Steps.{tick_step, arrival_step, link_step, settling_step, IsStep};
-ghost use Rattle.rstp_core.specs.Runs.{Happening, Happens, Runs, IsRootPort, LeavesActivity};
+ghost use Rattle.rstp_core.specs.Passes.{moved_at_once, greeted_all};
+ghost use Rattle.rstp_core.specs.Steps.{event_context, roled_rows, ready_rows, tick_step, arrival_step, link_step, settling_step, IsStep};
+ghost use Rattle.rstp_core.specs.Runs.{Happening, Happens, Runs, event_by, IsPort, IsRootPort, LeavesActivity, Restarts, IsAnew};
 ghost use Rattle.rstp_core.specs.Legal.{MayLearn, HasRoles, IsLegal};
 
 use rstp_settings::settings::MAX_PORTS;
@@ -75,12 +76,26 @@ pub fn leaving_activity_flushes()
         → (n : ℕ) → LeavesActivity t u n → Contains out.flushed.items n }
 {}
 
-/// Where no two rows are of one port, the turns in ascending order come to one change of each port: it starts a topology change
-/// where it began to forward and is not at the edge; and it tells one, and its learned rows go, where another port starts one and
-/// it is on, root or designated, and not at the edge (17.31).
+/// A port that starts anew, as its link changes or settling finds another version or enable setting, loses its learned rows in that
+/// event, even where it is designated again, or forwards, at the event's end.
+pub fn starting_anew_flushes()
+    ensures flushed { (a : Mac) (cs : List PortConfig) (hs : List Happening) (s r : Table) (t u : Tree)
+        (h : Happening) (out : Outcome) → Runs a cs hs s t → Happens h s t r u out
+        → (n : ℕ) → IsPort t n → Restarts h s t n → Contains out.flushed.items n }
+    ensures anew { (a : Mac) (cs : List PortConfig) (hs : List Happening) (s r : Table) (t u : Tree)
+        (h : Happening) (out : Outcome) → Runs a cs hs s t → Happens h s t r u out
+        → (n : ℕ) → IsPort t n → Restarts h s t n → IsAnew r u n }
+{}
+
+/// The turns in ascending order come to one change of each port: it starts a topology change where it began to forward and is not
+/// at the edge; and it tells one, and its learned rows go, where another port starts one and it is on, root or designated, and not
+/// at the edge (17.31). So it is of any rows of which no two are of one port, and of each event after every run.
 pub fn turns_are_one_change()
-    ensures { (t : Timing) (rows : List Row) → AreDistinct rows
+    ensures rows { (t : Timing) (rows : List Row) → AreDistinct rows
         → turns t rows ≡ map (λ r. told_of_changes t (another_starts rows r) r) rows }
+    ensures event { (a : Mac) (cs : List PortConfig) (hs : List Happening) (s : Table) (t : Tree) (h : Happening)
+        → Runs a cs hs s t → let e = event_by h s t in
+        ready_rows e ≡ greeted_all e.tick (event_context e) (moved_at_once (event_context e) (roled_rows e)) }
 {}
 
 /// What a tick leaves and gives is what its function says, and nothing else.

@@ -8,9 +8,11 @@ ghost use Rattle.rstp_rules.specs.declared.config.PortConfig.{PortConfig};
 ghost use Rattle.rstp_rules.specs.Vectors.{port_number};
 ghost use Rattle.rstp_rules.specs.Lines.{own_id};
 ghost use Rattle.rstp_core.specs.declared.rstp.Outcome.{Outcome};
-ghost use Rattle.rstp_core.specs.Tree.{Tree, port_at, opening_tree};
-ghost use Rattle.rstp_core.specs.Runs.{Happening, Happens, Leads, IsRootPort, LeavesActivity};
-ghost use Rattle.rstp_core.specs.Legal.{IsLegal, IsRootBridge, IsSameBridge};
+ghost use Rattle.rstp_core.specs.Tree.{Tree, port_at, rows_of, opening_tree};
+ghost use Rattle.rstp_core.specs.Passes.{advanced_rows, moved_at_once, greeted_all};
+ghost use Rattle.rstp_core.specs.Steps.{event_context, roled_rows, ready_rows};
+ghost use Rattle.rstp_core.specs.Runs.{Happening, Happens, Leads, event_by, IsPort, IsRootPort, LeavesActivity, Restarts, IsAnew};
+ghost use Rattle.rstp_core.specs.Legal.{IsLegal, AreNumbered, IsRootBridge, IsSameBridge};
 
 use rstp_settings::settings::MAX_PORTS;
 
@@ -70,4 +72,27 @@ pub fn root_port_is_0_at_the_root()
 pub fn leaving_activity_flushes()
     ensures { (h : Happening) (s r : Table) (t u : Tree) (out : Outcome) → IsLegal s t → Happens h s t r u out
         → (n : ℕ) → LeavesActivity t u n → Contains out.flushed.items n }
+{}
+
+/// The rows of the ports are of port 1, port 2, .., in this order: as an event begins, and as its turns are taken.
+pub fn rows_are_numbered()
+    ensures begun { (s : Table) (t : Tree) → IsLegal s t → AreNumbered (rows_of s t) }
+    ensures turns { (h : Happening) (s : Table) (t : Tree) → IsLegal s t
+        → let e = event_by h s t in AreNumbered (advanced_rows (event_context e) (roled_rows e)) }
+{}
+
+/// In each event the turns in ascending order come to one change of each port (17.31): `ready_rows` is what the event makes of the
+/// rows before it sends.
+pub fn turns_of_an_event_are_one_change()
+    ensures { (h : Happening) (s : Table) (t : Tree) → IsLegal s t → let e = event_by h s t in
+        ready_rows e ≡ greeted_all e.tick (event_context e) (moved_at_once (event_context e) (roled_rows e)) }
+{}
+
+/// A port that starts anew loses its learned rows in that event, even where it is designated again, or forwards, at the event's end:
+/// so it does where the version changes. What it then is follows from whether it is on, the version and its edge setting alone.
+pub fn starting_anew_flushes()
+    ensures flushed { (h : Happening) (s r : Table) (t u : Tree) (out : Outcome) → IsLegal s t → Happens h s t r u out
+        → (n : ℕ) → IsPort t n → Restarts h s t n → Contains out.flushed.items n }
+    ensures anew { (h : Happening) (s r : Table) (t u : Tree) (out : Outcome) → IsLegal s t → Happens h s t r u out
+        → (n : ℕ) → IsPort t n → Restarts h s t n → IsAnew r u n }
 {}

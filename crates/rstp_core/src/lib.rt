@@ -10,8 +10,9 @@
 //! `specs/Runs.antt`: lists of events; `specs/Legal.antt`: what every event keeps.
 //!
 //! # Laws
-//! In [`laws`]: roles of the whole tree, one root port, which ports forward or learn, whose rows go, over every list of
-//! events.
+//! In [`laws`]: roles of the whole tree, one root port, which ports forward or learn, whose rows go, what a port is that
+//! started anew, topology changes as one change of each port, over every list of events. In [`legal`]: the same of every
+//! legal tree.
 //!
 //! # Not claimed
 //! Convergence of several bridges.

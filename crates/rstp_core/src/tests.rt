@@ -239,6 +239,68 @@ fn ports_at_the_edge_forward_at_once(rt: HostRuntime) -> Result<(), Fail> {
     Ok(())
 }
 
+// A bridge of one port, full duplex or not.
+fn one_port(full: bool) -> BridgeConfig
+    ensures { length result.ports.items ≡ 1 }
+{
+    let mut ports = ArrayVec::new();
+    ports.push(PortConfig {
+        ifindex: IfIndex::of(1),
+        speed: 1000,
+        full,
+    });
+    BridgeConfig {
+        address: OWN,
+        ports,
+    }
+}
+
+// The agreement of a worse bridge's root port to what this bridge's port 1 told it.
+fn agreement() -> Bpdu {
+    Bpdu::Rapid(Rapid {
+        topology_change: false,
+        proposal: false,
+        role: PortRole::Root,
+        learning: true,
+        forwarding: true,
+        agreement: true,
+        vector: PriorityVector {
+            root: BridgeId {
+                priority: 0x8000,
+                address: OWN,
+            },
+            cost: 20_000,
+            bridge: WORSE,
+            port: 0x8001,
+        },
+        times: TIMES,
+    })
+}
+
+// Whether a designated port forwards as soon as its neighbour agrees, with this point to point setting.
+fn forwards_when_agreed(setting: u32, full: bool) -> bool
+    requires { setting ≤ 2 }
+{
+    let mut settings = Settings::new(1);
+    let mut tree = Rstp::new(&one_port(full));
+    settings.put(Key::Port(1, PortKey::PointToPoint), setting);
+    let _ = tree.settle(&mut settings);
+    let _ = tree.link(1, true, &settings);
+    let _ = tree.on_bpdu(1, &agreement(), &settings);
+    tree.state(1).is_forwarding()
+}
+
+// 0 forces true, 1 forces false, and 2 goes by full duplex.
+#[test]
+fn only_a_point_to_point_link_agrees(rt: HostRuntime) {
+    assert!(rt; forwards_when_agreed(0, true));
+    assert!(rt; forwards_when_agreed(0, false));
+    assert!(rt; !forwards_when_agreed(1, true));
+    assert!(rt; !forwards_when_agreed(1, false));
+    assert!(rt; forwards_when_agreed(2, true));
+    assert!(rt; !forwards_when_agreed(2, false));
+}
+
 #[test]
 fn of_two_ports_on_one_wire_one_is_backup(rt: HostRuntime) -> Result<(), Fail> {
     let settings = Settings::new(2);

@@ -15,7 +15,8 @@ use Rattle.rstp_rules.specs.declared.row.Timing.{Timing}
 use Rattle.rstp_rules.specs.declared.port.Info.TheVariants.{Received}
 use Rattle.rstp_rules.specs.Bpdus.{tells_change}
 use Rattle.rstp_rules.specs.Ports.{is_received, is_root, is_designated, is_root_or_designated}
-use Rattle.rstp_rules.specs.Vectors.{vector_cmp, same_mac, same_vector, same_times, same_sender, port_number, info_time}
+use Rattle.rstp_rules.specs.Vectors.{vector_cmp, same_vector, same_times, same_sender, port_number, info_time}
+use Rattle.frame_core.specs.Octets.{same_mac}
 use Rattle.rstp_rules.specs.Lines.{rstp_version, timers_of, times_in_force, timing_of}
 use Rattle.rstp_rules.specs.Transitions.{spread}
 

@@ -1,10 +1,9 @@
 -- What the settings come to: for a port (IEEE 802.1D-2004 6.4.3, 9.2.5, 9.2.7, 17.14), and as times in
 -- force (17.18.4, 17.18.7, 17.20.6 to 17.20.8).
-use Rattle.std.specs.Prelude.{ℕ, ◌+◌, ◌*◌, ◌/◌, ◌≤◌, Bool, true, false, ◌&&◌, ◌||◌, if◌then◌else◌, ◌==◌, min, max, List, Option, Some, None}
+use Rattle.std.specs.Prelude.{ℕ, ◌+◌, ◌*◌, ◌/◌, ◌≤◌, Bool, false, ◌&&◌, ◌||◌, if◌then◌else◌, ◌==◌, min, max, List, Option, Some, None}
 use Rattle.std.specs.List.{find}
 use Rattle.frame_core.specs.declared.mac.Mac.{Mac}
 use Rattle.frame_core.specs.declared.bpdu.BridgeId.{BridgeId}
-use Rattle.frame_core.specs.declared.bpdu.PriorityVector.{PriorityVector}
 use Rattle.frame_core.specs.declared.bpdu.Times.{Times}
 use Rattle.rstp_settings.specs.Table.{Table, get}
 use Rattle.rstp_settings.specs.declared.key.PortValues.{PortValues}

@@ -1,5 +1,5 @@
 -- The root vector and the port roles (IEEE 802.1D-2004 17.6, 17.21.25, 17.28).
-use Rattle.std.specs.Prelude.{◌≡◌, ℕ, ◌+◌, ◌-◌, Bool, true, false, ◌&&◌, not, if◌then◌else◌, ◌==◌, min, List, ◌∷◌, Option, Some, None, All, Contains}
+use Rattle.std.specs.Prelude.{◌≡◌, ◌+◌, Bool, false, ◌&&◌, not, if◌then◌else◌, ◌==◌, min, List, ◌∷◌, Option, Some, None, All, Contains}
 use Rattle.std.specs.List.{filter_map}
 use Rattle.std.specs.declared.cmp.Ordering.{Ordering}
 use Rattle.std.specs.Ordering.{nat_cmp, ordering_then, is_lt}
@@ -11,7 +11,8 @@ use Rattle.rstp_rules.specs.declared.row.Row.{Row}
 use Rattle.rstp_rules.specs.declared.port.Info.TheVariants.{Mine}
 use Rattle.rstp_rules.specs.declared.port.Role.TheVariants.{Disabled, Designated, Root, Alternate, Backup}
 use Rattle.rstp_rules.specs.Ports.{is_received}
-use Rattle.rstp_rules.specs.Vectors.{vector_cmp, same_mac}
+use Rattle.rstp_rules.specs.Vectors.{vector_cmp}
+use Rattle.frame_core.specs.Octets.{same_mac}
 
 -- Where two vectors are equal, the receiving port's own id decides.
 abbrev pub best_cmp : Best → Best → Ordering

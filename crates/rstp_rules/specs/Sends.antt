@@ -1,5 +1,5 @@
 -- What a port sends (IEEE 802.1D-2004 17.21.19 to 17.21.21, 17.26).
-use Rattle.std.specs.Prelude.{ℕ, ◌+◌, Bool, true, false, ◌&&◌, not, if◌then◌else◌, nat_lt, Option, Some, None, is_some, List, map, filter}
+use Rattle.std.specs.Prelude.{ℕ, ◌+◌, Bool, false, ◌&&◌, not, if◌then◌else◌, nat_lt, Option, Some, None, is_some, List, map, filter}
 use Rattle.frame_core.specs.declared.bpdu.PortRole.{PortRole}
 use Rattle.frame_core.specs.declared.bpdu.PortRole.TheVariants as told
 use Rattle.frame_core.specs.declared.bpdu.Config.{Config as ConfigBody}

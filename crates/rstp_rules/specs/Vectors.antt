@@ -1,10 +1,8 @@
 -- Identifiers, priority vectors and their order (IEEE 802.1D-2004 9.2.5, 9.2.7, 17.5, 17.6).
 use Rattle.std.specs.Prelude.{ℕ, ◌+◌, ◌*◌, ◌/◌, ◌%◌, Bool, ◌&&◌, ◌==◌, if◌then◌else◌, nat_lt}
-use Rattle.std.specs.Str.{bytes_eq}
 use Rattle.std.specs.declared.cmp.Ordering.{Ordering}
 use Rattle.std.specs.Ordering.{nat_cmp, ordering_then}
-use Rattle.std.specs.Cmp.Lexicographic.{slice_cmp}
-use Rattle.frame_core.specs.declared.mac.Mac.{Mac}
+use Rattle.frame_core.specs.Octets.{mac_cmp, same_mac}
 use Rattle.frame_core.specs.declared.bpdu.BridgeId.{BridgeId}
 use Rattle.frame_core.specs.declared.bpdu.PriorityVector.{PriorityVector}
 use Rattle.frame_core.specs.declared.bpdu.Times.{Times}
@@ -18,18 +16,12 @@ port_number id = id % 4096
 
 -- 9.2.5. A bridge id is the priority in two octets and the address in six, compared as one unsigned number:
 -- by priority and then octet by octet.
-abbrev pub mac_cmp : Mac → Mac → Ordering
-mac_cmp a b = slice_cmp nat_cmp a.0 b.0
-
 abbrev pub bridge_cmp : BridgeId → BridgeId → Ordering
 bridge_cmp a b = ordering_then (nat_cmp a.priority b.priority) (mac_cmp a.address b.address)
 
 -- 17.5, 17.6. Root id, cost, bridge id and port id are compared in that order. Lower is better.
 abbrev pub vector_cmp : PriorityVector → PriorityVector → Ordering
 vector_cmp v w = ordering_then (bridge_cmp v.root w.root) (ordering_then (nat_cmp v.cost w.cost) (ordering_then (bridge_cmp v.bridge w.bridge) (nat_cmp v.port w.port)))
-
-abbrev pub same_mac : Mac → Mac → Bool
-same_mac a b = bytes_eq a.0 b.0
 
 abbrev pub same_bridge : BridgeId → BridgeId → Bool
 same_bridge a b = a.priority == b.priority && same_mac a.address b.address

@@ -6,8 +6,7 @@ use crate::bpdus::has_topology_change;
 use crate::port::Info;
 use crate::row::{Row, Timing};
 use crate::vector::{
-    info_time_of, is_better, is_same_address, is_same_sender, is_same_times, is_same_vector,
-    number_of_port,
+    info_time_of, is_better, is_same_sender, is_same_times, is_same_vector, number_of_port,
 };
 use frame_core::{Bpdu, BridgeId, PortRole, PriorityVector, Rapid, Times};
 
@@ -15,7 +14,7 @@ impl Row {
     fn is_own(&self, own: BridgeId, vector: &PriorityVector) -> bool
         ensures { result ≡ is_own own self.now vector.now }
     {
-        is_same_address(vector.bridge.address, own.address)
+        vector.bridge.address.is_same(own.address)
             && number_of_port(vector.port) == number_of_port(self.line.id)
     }
 

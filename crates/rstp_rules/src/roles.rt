@@ -3,7 +3,7 @@ ghost use Rattle.rstp_rules.specs.Roles.{best_cmp, beats, expired, own_best, can
 
 use crate::port::{Info, Role};
 use crate::row::{Best, Line, Row};
-use crate::vector::{is_better, is_same_address};
+use crate::vector::is_better;
 use frame_core::{BridgeId, PriorityVector};
 
 impl Best {
@@ -68,7 +68,7 @@ impl Row {
     {
         if self.line.on
             && self.port.info.is_received()
-            && !is_same_address(self.port.vector.bridge.address, own.address)
+            && !self.port.vector.bridge.address.is_same(own.address)
         {
             let mut vector = self.port.vector;
             vector.cost = vector.cost.saturating_add(self.line.cost);
@@ -103,7 +103,7 @@ impl Row {
             self.port.role = Role::Root;
         } else if is_better(&designated, &self.port.vector) {
             self.designate(own, root);
-        } else if is_same_address(self.port.vector.bridge.address, own.address) {
+        } else if self.port.vector.bridge.address.is_same(own.address) {
             self.port.role = Role::Backup;
         } else {
             self.port.role = Role::Alternate;

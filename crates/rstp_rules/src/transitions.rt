@@ -117,7 +117,7 @@ impl Row {
                 || self.port.role.is_designated() && (self.port.edge || self.port.agreed))
     }
 
-    /// The port's next state (17.30); `clear` says that no port but the root port is a recent root.
+    /// The port's next state (17.29.2, 17.29.3); `clear` says that no port but the root port is a recent root.
     pub fn advance(&mut self, context: &Context, clear: bool)
         ensures { self.new ≡ advanced context.now clear self.old }
     {

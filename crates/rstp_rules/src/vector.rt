@@ -1,15 +1,8 @@
 ghost use Rattle.std.specs.Prelude.{◌≡◌};
 ghost use Rattle.std.specs.Ordering.{is_lt};
-ghost use Rattle.rstp_rules.specs.Vectors.{port_number, vector_cmp, same_mac, same_vector, same_sender, same_times, info_time};
+ghost use Rattle.rstp_rules.specs.Vectors.{port_number, vector_cmp, same_vector, same_sender, same_times, info_time};
 
-use frame_core::{Mac, PriorityVector, Times};
-
-/// Whether two addresses are one.
-pub fn is_same_address(one: Mac, other: Mac) -> bool
-    ensures { result ≡ same_mac one other }
-{
-    one == other
-}
+use frame_core::{PriorityVector, Times};
 
 /// The number in a port identifier (IEEE 802.1D-2004 9.2.7): its low twelve bits.
 pub fn number_of_port(id: u16) -> u16
@@ -37,7 +30,7 @@ pub fn is_same_vector(vector: &PriorityVector, other: &PriorityVector) -> bool
 pub fn is_same_sender(vector: &PriorityVector, other: &PriorityVector) -> bool
     ensures { result ≡ same_sender vector.now other.now }
 {
-    is_same_address(vector.bridge.address, other.bridge.address)
+    vector.bridge.address.is_same(other.bridge.address)
         && number_of_port(vector.port) == number_of_port(other.port)
 }
 

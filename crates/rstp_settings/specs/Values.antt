@@ -1,5 +1,6 @@
 -- The values of the settings and their ranges: times in 1/100 s (RFC 4188, RFC 4318; IEEE 802.1D-2004 17.14, 7.9.2).
 use Rattle.std.specs.Prelude.{◌≡◌, ℕ, ◌+◌, ◌-◌, ◌%◌, ◌≤◌, ◌<◌, Bool, true, false, ◌&&◌, if◌then◌else◌, ◌==◌, ◌⊎◌}
+use Rattle.rstp_settings.specs.declared.key.TheConstants.{MIN_AGING, MAX_AGING}
 use Rattle.rstp_settings.specs.declared.key.BridgeKey.{BridgeKey}
 use Rattle.rstp_settings.specs.declared.key.BridgeKey.TheVariants as bridge
 use Rattle.rstp_settings.specs.declared.key.PortKey.{PortKey}
@@ -52,7 +53,7 @@ IsBridgeRange bridge.Hello v = IsStep 100 1000 100 v
 IsBridgeRange bridge.ForwardDelay v = IsStep 400 3000 100 v
 IsBridgeRange bridge.Version v = (v ≡ 0) ⊎ (v ≡ 2)
 IsBridgeRange bridge.HoldCount v = (1 ≤ v) × (v ≤ 10)
-IsBridgeRange bridge.Aging v = (10 ≤ v) × (v ≤ 1000000)
+IsBridgeRange bridge.Aging v = (MIN_AGING ≤ v) × (v ≤ MAX_AGING)
 
 abbrev pub IsPortRange : PortKey → ℕ → Type 0
 IsPortRange port.Priority v = IsStep 0 240 16 v

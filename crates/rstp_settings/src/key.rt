@@ -13,7 +13,7 @@ pub enum BridgeKey {
     Version,
     /// Transmit hold count (17.13.12): 1 to 10 BPDUs, at first 6.
     HoldCount,
-    /// Ageing time of learned addresses in seconds (7.9.2): 10 to 1000000, at first 300.
+    /// Ageing time of learned addresses in seconds (7.9.2): [`MIN_AGING`] to [`MAX_AGING`], at first 300.
     Aging,
 }
 
@@ -93,3 +93,9 @@ pub const POINT_TO_POINT_FALSE: u32 = 1;
 
 /// Admin point to point MAC: automatic, by full duplex.
 pub const POINT_TO_POINT_AUTO: u32 = 2;
+
+/// The least ageing time of learned addresses, in seconds (IEEE 802.1D-2004 Table 7-5).
+pub const MIN_AGING: u32 = 10;
+
+/// The greatest ageing time of learned addresses, in seconds (Table 7-5).
+pub const MAX_AGING: u32 = 1_000_000;

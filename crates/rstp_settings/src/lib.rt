@@ -8,7 +8,8 @@
 //! `specs/Table.antt`: the map; `specs/Values.antt`: ranges and steps.
 //!
 //! # Laws
-//! In [`laws`]: get after put, put back restores, puts of two keys commute, settings that agree on every key are equal.
+//! In [`laws`]: get after put, put back restores, puts of two keys commute, settings that agree on every key are equal; the
+//! numbers that stand for values, and the bounds of the ageing time, are what they are.
 //!
 //! # Not claimed
 //! That the three timers fit together: that is looked at where a Set assigns them.

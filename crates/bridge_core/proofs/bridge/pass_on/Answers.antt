@@ -3,16 +3,10 @@ use Rattle.std.specs.Prelude.{None}
 use Rattle.bridge_core.specs.Bridge.{BridgeState}
 use Rattle.bridge_core.specs.Forwarding.{egress_of}
 use Rattle.bridge_core.specs.Events.{passed, forwarded}
+use Rattle.bridge_core.proofs.Changes.{framed_is}
 use Rattle.bridge_core.proofs.bridge.pass_on.Goals as goal
 
-pub returns-clause-step : goal.returns-clause-step
+pub returns-clause-gives : goal.returns-clause-gives
 unfolding passed
-returns-clause-step c = c.forward-egress.ensures.step ∙ ap (forwarded c.args.port c.args.frame.now.destination) c.learn-no_room.ensures.step
-
-pub returns-clause-egress : goal.returns-clause-egress
-unfolding passed
-returns-clause-egress c = c.forward-egress.ensures.egress ∙ ap (λ (b : BridgeState). egress_of b c.args.port c.args.frame.now.destination) c.learn-no_room.ensures.step
-
-pub returns-clause-bpdus : goal.returns-clause-bpdus
-unfolding passed
-returns-clause-bpdus c = c.no_bpdus.ensures ∙ ap (λ (n : ℕ). replicate n None) (c.ports.ensures.count ∙ (c.forward-egress.ensures.ports ∙ c.learn-no_room.ensures.ports))
+returns-clause-gives c =
+    framed_is _ _ _ _ _ _ (c.forward-egress.ensures.step ∙ ap (forwarded c.args.port c.args.frame.now.destination) c.learn-no_room.ensures.step) (c.forward-egress.ensures.egress ∙ ap (λ (b : BridgeState). egress_of b c.args.port c.args.frame.now.destination) c.learn-no_room.ensures.step) (c.no_bpdus.ensures ∙ ap (λ (n : ℕ). replicate n None) (c.ports.ensures.count ∙ (c.forward-egress.ensures.ports ∙ c.learn-no_room.ensures.ports)))

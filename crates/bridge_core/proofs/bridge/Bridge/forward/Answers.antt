@@ -1,4 +1,4 @@
-use Rattle.std.proofs.Common.{◌-◌, ℕ, Bool, length, set, ap, ◌∙◌, sym}
+use Rattle.std.proofs.Common.{◌-◌, ℕ, Bool, length, set, ap, ◌∙◌}
 use Rattle.bridge_core.proofs.Changes.{state, after_forward, written}
 use Rattle.bridge_core.specs.Counting.{sent_where}
 use Rattle.bridge_core.specs.Forwarding.{ports_where, egress_of}

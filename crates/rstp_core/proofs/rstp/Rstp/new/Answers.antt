@@ -1,4 +1,4 @@
-use Rattle.std.proofs.Common.{length, arith, ap, ◌∙◌}
+use Rattle.std.proofs.Common.{length, arith, ap}
 use Rattle.std.proofs.lemmas.List.{length-replicate}
 use Rattle.rstp_settings.specs.Table.{Table, opening_port}
 use Rattle.rstp_core.proofs.rstp.Rstp.new.Goals as goal
