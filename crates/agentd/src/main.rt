@@ -14,9 +14,15 @@
 //! hold these. What a file holds and a terminal shows.
 #![tactic(auto)]
 
+mod failure;
+mod opening;
 mod run;
+mod running;
+mod telling;
+mod words;
 
-use run::{Failure, report, run_words};
+use failure::{Failure, report};
+use run::run_words;
 use std::process::ExitCode;
 use std::{env, io};
 

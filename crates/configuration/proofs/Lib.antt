@@ -1,3 +1,4 @@
+pub mod BoundLemmas
 pub mod NoFault
 pub mod PolicyFaults
 pub mod PortLemmas

@@ -5,3 +5,4 @@ pub mod Faults
 pub mod Ports
 pub mod Serving
 pub mod Configurations
+pub mod Bounds

@@ -1,0 +1,75 @@
+-- How the program ends: its exit status, and what it says on standard error.
+use Rattle.std.specs.Prelude.{◌≡◌, ℕ, codes, List, [], ◌++◌, Option, Result, Ok, Err, string_bytes}
+use Rattle.std.specs.Io.KnownBytes.{Appends}
+use Rattle.script_core.specs.declared.fault.RunFault.{RunFault}
+use Rattle.script_core.specs.declared.fault.RunFault.TheVariants.{Input as InputFailed, Output as OutputFailed, Memory as NoMemory, Stopped as Given}
+use Rattle.agent_script.specs.declared.session.Run.{Run}
+use Rattle.agentd.specs.declared.opening.NotRun.{NotRun}
+use Rattle.agentd.specs.declared.opening.NotRun.TheVariants.{Refused as IsRefused, Memory, Stopped}
+use Rattle.agentd.specs.declared.failure.Failure.{Failure}
+use Rattle.agentd.specs.declared.failure.Failure.TheVariants.{Usage, NotText, CannotRead, Refused, Input, Output, Run as RunFailed}
+
+-- the exit status: 2 for words that are no command and for a configuration that cannot be read or is refused, 1 for what failed in a run
+abbrev pub failure_status : Failure → ℕ
+failure_status (Usage why) = 2
+failure_status NotText = 2
+failure_status (CannotRead file) = 2
+failure_status Refused = 2
+failure_status Input = 1
+failure_status Output = 1
+failure_status RunFailed = 1
+
+abbrev pub status_of : Result (Unit {0}) Failure → ℕ
+status_of (Ok done) = 0
+status_of (Err failure) = failure_status failure
+
+-- what a failure is called, and what it names
+abbrev pub failure_words : Failure → List ℕ
+failure_words (Usage why) = codes "usage: agentd [script --config FILE]: "
+failure_words NotText = codes "usage: agentd [script --config FILE]: a word is no text"
+failure_words (CannotRead file) = codes "cannot read "
+failure_words Refused = codes "configuration refused"
+failure_words Input = codes "input failed"
+failure_words Output = codes "output failed"
+failure_words RunFailed = codes "run failed"
+
+abbrev pub failure_name : Failure → List ℕ
+failure_name (Usage why) = string_bytes why
+failure_name NotText = []
+failure_name (CannotRead file) = file.now
+failure_name Refused = []
+failure_name Input = []
+failure_name Output = []
+failure_name RunFailed = []
+
+-- its line
+abbrev pub failure_line : Failure → List ℕ
+failure_line failure = codes "agentd: " ++ (failure_words failure ++ (failure_name failure ++ codes "\n"))
+
+-- what is said on standard error
+abbrev pub said_of : Result (Unit {0}) Failure → List ℕ
+said_of (Ok done) = []
+said_of (Err failure) = failure_line failure
+
+-- a run that did not come to its end, as a failure of the program
+abbrev pub run_failure : RunFault → Failure
+run_failure InputFailed = Input
+run_failure OutputFailed = Output
+run_failure NoMemory = RunFailed
+run_failure Given = RunFailed
+
+abbrev pub failure_of : NotRun → Failure
+failure_of IsRefused = Refused
+failure_of Memory = Refused
+failure_of (Stopped fault) = run_failure fault
+
+abbrev pub ended_by : Result Run NotRun → Result (Unit {0}) Failure
+ended_by (Ok run) = Ok tt
+ended_by (Err why) = Err (failure_of why)
+
+-- a writer took a front of this text, and nothing else
+pub record TakesFront (old new : Option (List ℕ)) (text : List ℕ) : Type 0 where
+  pub front : List ℕ
+  pub rest : List ℕ
+  pub whole : text ≡ front ++ rest
+  pub took : Appends old new front

@@ -1,0 +1,4 @@
+pub mod Agents
+pub mod Runs
+pub mod Endings
+pub mod Programs

@@ -1,0 +1,57 @@
+-- What a run by the octets of a configuration promises.
+use Rattle.std.specs.Prelude.{◌≡◌, ◌≢◌, ℕ, List, Option, Result, Ok, Err, IfOk, IfErr, IfSome}
+use Rattle.script_core.specs.Lines.{lines_of}
+use Rattle.script_core.specs.Runs.{Reads, Writes}
+use Rattle.script_core.specs.declared.fault.RunFault.{RunFault}
+use Rattle.script_core.specs.declared.fault.RunFault.TheVariants.{Input, Output}
+use Rattle.agent_script.specs.Script.{IsSaid, IsSaidFirst, IsSaidBefore}
+use Rattle.agent_script.specs.State.{Agent}
+use Rattle.agent_script.specs.declared.session.Run.{Run}
+use Rattle.agentd.specs.declared.opening.NotRun.{NotRun}
+use Rattle.agentd.specs.declared.opening.NotRun.TheVariants.{Refused, Memory, Stopped}
+use Rattle.agentd.specs.Agents.{IsAgentOf, HasFault}
+
+-- Octets were not opened for this reason: exactly what says no configuration is refused.
+abbrev pub IsNotOpened : List ℕ → NotRun → Type 0
+IsNotOpened octets Refused = HasFault octets
+IsNotOpened octets Memory = Unit {0}
+IsNotOpened octets (Stopped fault) = ⊥
+
+-- A reader that may tell which octets it has left, and a writer that may tell which it took.
+module _ {I O : Type 0} (remaining : I → Option (List ℕ)) (contents : O → Option (List ℕ)) where
+  -- Nothing was read and nothing written.
+  pub record IsUntouched (reader reader' : I) (writer writer' : O) : Type 0 where
+    pub unread : reader' ≡ reader
+    pub unwritten : writer' ≡ writer
+
+  -- A script was run over this agent, and went so.
+  pub record IsScriptRun (agent : Agent) (reader reader' : I) (writer writer' : O) (went : Result Run RunFault) : Type 0 where
+    -- to its end: what is written is the script's text, and it is told whether all lines were answered in full
+    pub written : IfOk went (λ run. IfSome (remaining reader) (λ input.
+        Writes (contents writer) (contents writer') (λ text. IsSaid agent (lines_of input) text run)))
+    -- until the input failed: each line that had ended was answered
+    pub input : IfErr went (λ fault. fault ≡ Input → Reads (remaining reader) (remaining reader') (λ input rest.
+        Writes (contents writer) (contents writer') (λ text. IsSaidBefore agent input rest text)))
+    -- until something but a write failed: what is written is what was said to the first lines
+    pub first : IfErr went (λ fault. fault ≢ Output → IfSome (remaining reader) (λ input.
+        Writes (contents writer) (contents writer') (λ text. IsSaidFirst agent (lines_of input) text)))
+
+  -- What came of a script over this agent.
+  abbrev pub IsRunOver : Agent → I → I → O → O → Result Run NotRun → Type 0
+  IsRunOver agent reader reader' writer writer' (Ok run) = IsScriptRun agent reader reader' writer writer' (Ok run)
+  IsRunOver agent reader reader' writer writer' (Err (Stopped fault)) = IsScriptRun agent reader reader' writer writer' (Err fault)
+  IsRunOver agent reader reader' writer writer' (Err Refused) = ⊥
+  IsRunOver agent reader reader' writer writer' (Err Memory) = ⊥
+
+  -- These octets say a configuration, and a script was run over the agent that it opens.
+  pub record HasRun (octets : List ℕ) (reader reader' : I) (writer writer' : O) (went : Result Run RunFault) : Type 0 where
+    pub agent : Agent
+    pub is : IsAgentOf octets agent
+    pub run : IsScriptRun agent reader reader' writer writer' went
+
+  -- What came of octets: a run; a refusal, exactly of what is no configuration; or want of memory before anything was read.
+  abbrev pub IsRunBy : List ℕ → I → I → O → O → Result Run NotRun → Type 0
+  IsRunBy octets reader reader' writer writer' (Ok run) = HasRun octets reader reader' writer writer' (Ok run)
+  IsRunBy octets reader reader' writer writer' (Err (Stopped fault)) = HasRun octets reader reader' writer writer' (Err fault)
+  IsRunBy octets reader reader' writer writer' (Err Refused) = HasFault octets × IsUntouched reader reader' writer writer'
+  IsRunBy octets reader reader' writer writer' (Err Memory) = IsUntouched reader reader' writer writer'

@@ -1,0 +1,123 @@
+//! Why the program ends with another status than 0.
+ghost use Rattle.std.specs.Prelude.{◌≡◌, ◌++◌};
+ghost use Rattle.agentd.specs.Endings.{failure_status, failure_words, failure_name, failure_line, failure_of, run_failure, TakesFront};
+
+use crate::opening::NotRun;
+use crate::telling::{NotTaken, write_front};
+use script_core::RunFault;
+use std::io::{self, ErrorKind, Write};
+
+/// The status for words that are no command, and for a configuration that cannot be read or is refused.
+pub const USAGE: u8 = 2;
+
+/// The status for input, output or a run that failed.
+pub const FAILED: u8 = 1;
+
+/// Why the program ends with another status than 0.
+#[derive(Debug, Drop)]
+pub enum Failure<'a> {
+    /// The words are no command, for this reason.
+    Usage(String),
+    /// A word is no text.
+    NotText,
+    /// The file of the configuration cannot be read.
+    CannotRead(&'a str),
+    /// The configuration is none, or there is no memory for it.
+    Refused,
+    /// The input could not be read to its end.
+    Input,
+    /// The output could not be written.
+    Output,
+    /// The run found no memory for its own lines and lists.
+    Run,
+}
+
+impl From<io::Error> for Failure<'_> {
+    // Words that cannot be read are no text; want of memory for them is not their fault.
+    fn from(error: io::Error) -> Self {
+        match error.kind() {
+            ErrorKind::OutOfMemory => Failure::Run,
+            _ => Failure::NotText,
+        }
+    }
+}
+
+// A run that did not come to its end, as a failure of the program.
+fn run_failure<'a>(fault: RunFault) -> Failure<'a>
+    ensures { result ≡ run_failure fault }
+{
+    match fault {
+        RunFault::Input => Failure::Input,
+        RunFault::Output => Failure::Output,
+        RunFault::Memory | RunFault::Stopped => Failure::Run,
+    }
+}
+
+/// Why the octets of a configuration were not run to the end of a script, as a failure of the program.
+pub fn failure_of<'a>(why: NotRun) -> Failure<'a>
+    ensures { result ≡ failure_of why }
+{
+    match why {
+        NotRun::Refused | NotRun::Memory => Failure::Refused,
+        NotRun::Stopped(fault) => run_failure(fault),
+    }
+}
+
+impl Failure<'_> {
+    /// The exit status, 1 or 2.
+    pub fn status(&self) -> u8
+        ensures { result ≡ failure_status self.now }
+    {
+        match self {
+            Failure::Usage(_) | Failure::NotText | Failure::CannotRead(_) | Failure::Refused =>
+                USAGE,
+            Failure::Input | Failure::Output | Failure::Run => FAILED,
+        }
+    }
+
+    // What it is called.
+    fn words(&self) -> &'static [u8]
+        ensures { result.now ≡ failure_words self.now }
+    {
+        match self {
+            Failure::Usage(_) => b"usage: agentd [script --config FILE]: ",
+            Failure::NotText => b"usage: agentd [script --config FILE]: a word is no text",
+            Failure::CannotRead(_) => b"cannot read ",
+            Failure::Refused => b"configuration refused",
+            Failure::Input => b"input failed",
+            Failure::Output => b"output failed",
+            Failure::Run => b"run failed",
+        }
+    }
+
+    // What it names.
+    fn name(&self) -> &[u8]
+        ensures { result.now ≡ failure_name self.now }
+    {
+        match self {
+            Failure::Usage(why) => why.as_bytes(),
+            Failure::CannotRead(file) => file.as_bytes(),
+            Failure::NotText | Failure::Refused | Failure::Input | Failure::Output | Failure::Run =>
+                b"",
+        }
+    }
+}
+
+// Writes the line of a failure until a write fails.
+fn write_line<E: Write>(failure: &Failure<'_>, errors: &mut E) -> Result<(), NotTaken>
+    ensures { TakesFront (E.contents errors.old) (E.contents errors.new) (failure_line failure.now) }
+{
+    write_front(errors, b"agentd: ")?;
+    write_front(errors, failure.words())?;
+    write_front(errors, failure.name())?;
+    write_front(errors, b"\n")
+}
+
+/// Writes a failure as one line, or a front of it where a write fails, and gives its exit status.
+pub fn report<E: Write>(failure: &Failure<'_>, errors: &mut E) -> u8
+    ensures status { result ≡ failure_status failure.now }
+    ensures line { TakesFront (E.contents errors.old) (E.contents errors.new) (failure_line failure.now) }
+{
+    let _ = write_line(failure, errors);
+    failure.status()
+}
