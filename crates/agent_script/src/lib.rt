@@ -27,6 +27,3 @@ mod session;
 
 pub use built_in::{NoWorld, built_in_world};
 pub use session::{Run, run_script};
-
-#[cfg(test)]
-mod tests;
