@@ -29,6 +29,3 @@ mod session;
 pub use built_in::{NoWorld, built_in_world};
 pub use commands::MAX_SECONDS;
 pub use session::{Run, run_script};
-
-#[cfg(test)]
-mod tests;
