@@ -9,7 +9,7 @@ use Rattle.message_core.specs.declared.request.Request.{Request}
 use Rattle.frame_core.specs.declared.frame.FrameIn.{FrameIn}
 use Rattle.frame_core.specs.declared.fault.FrameFault.{FrameFault}
 use Rattle.frame_core.specs.Reading.{frame_at}
-use Rattle.community_core.specs.Texts.{text_of}
+use Rattle.policy_text.specs.Texts.{text_of}
 use Rattle.bridge_core.specs.Bridge.{BridgeState, port_count}
 use Rattle.bridge_core.specs.Forwarding.{MayLackMemory}
 use Rattle.agent_core.specs.World.{World, shown_of}

@@ -220,7 +220,7 @@ impl Agent {
     }
 
     // Takes the end of a policy. Lines that are no text are no policy, and take no memory.
-    #[tactic(auto, unfolding(community_core::specs::Texts::policy_in))]
+    #[tactic(auto, unfolding(policy_text::specs::Texts::policy_in))]
     fn end_policy(
         &mut self,
         alloc: Global,

@@ -10,8 +10,8 @@ use Rattle.rstp_rules.specs.declared.config.PortConfig.{PortConfig}
 use Rattle.rstp_rules.specs.declared.config.TheConstants.{IFINDEX_MAX}
 use Rattle.rstp_settings.specs.declared.settings.TheConstants.{MAX_PORTS}
 use Rattle.toml.specs.Data.{Data, Members, as_table}
-use Rattle.community_core.specs.Keys.{string_at, bool_at, array_at}
-use Rattle.community_core.specs.Reading.{AreRows}
+use Rattle.policy_text.specs.Keys.{string_at, bool_at, array_at}
+use Rattle.policy_text.specs.Reading.{AreRows}
 use Rattle.configuration.specs.declared.configuration.Configuration.{Configuration}
 use Rattle.configuration.specs.declared.configuration.Port.{Port}
 use Rattle.configuration.specs.Address.{mac_of, station, address_of}

@@ -2,7 +2,8 @@
 use agent_core::PlainWorld;
 use agent_script::{Run, built_in_world, run_script};
 use bridge_core::Bridge;
-use community_core::{Policy, policy_in};
+use community_core::Policy;
+use policy_text::policy_in;
 use frame_core::Mac;
 use message_core::{Binding, Octets, Value};
 use oid_core::Oid;
