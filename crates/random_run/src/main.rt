@@ -1,0 +1,92 @@
+//! Runs a script of thousands of random lines with ample memory, and judges whether each was answered in full. It finds what no
+//! contract can say: that there is an answer where there is memory. With the word `script` it prints the script and runs nothing.
+#![tactic(auto)]
+
+mod counts;
+mod draws;
+mod encoding;
+mod frames;
+mod judging;
+mod policies;
+mod requests;
+mod script;
+
+use agent_script::{Run, built_in_world, run_script};
+use bridge_core::Bridge;
+use configuration::{BUILT_IN, Configuration, configuration_of_text};
+use counts::missing_kind;
+use draws::Draws;
+use judging::{WANT, verdict};
+use script::draw_script;
+use std::alloc::Global;
+use std::io::{Error, ErrorKind, Write};
+use std::{env, io};
+
+/// What the script is drawn from.
+const SEED: u64 = 20_040_609;
+
+/// How many commands it has; a policy is one of many lines.
+const COMMANDS: u32 = 4_000;
+
+fn main(rt: HostRuntime) -> io::Result<()> {
+    let mut draws = Draws::new(SEED);
+    let script = draw_script(rt.alloc(), &mut draws, COMMANDS)?;
+    let mut words = env::args(&rt)?;
+    let _name = words.next();
+    match words.next() {
+        Some(word) if word.as_str() == "script" => io::writer(&rt).write_all(&script),
+        _ => judge(&rt, &script),
+    }
+}
+
+/// Runs a script, and prints what it showed: that each line was answered in full, and that each kind of line was printed.
+fn judge(rt: &HostRuntime, script: &[u8]) -> io::Result<()> {
+    let mut output = Vec::new(rt.alloc());
+    let run = run_over(rt.alloc(), script, &mut output)?;
+    if !verdict(run, &output) {
+        return tell_want(rt, &output);
+    }
+    println!(rt; "{COMMANDS} commands: whole, no want of memory")?;
+    match missing_kind(&output) {
+        None => println!(rt; "each kind of line was printed"),
+        Some(kind) => println!(rt; "no line begins with {kind}"),
+    }
+}
+
+/// Runs a script by the built-in configuration.
+fn run_over(alloc: Global, script: &[u8], output: &mut Vec<u8>) -> io::Result<Run> {
+    let Ok(configuration) = configuration_of_text(alloc, BUILT_IN) else {
+        return Err(Error::from(ErrorKind::InvalidData));
+    };
+    let bridge = make_bridge(alloc, &configuration)?;
+    let Ok(world) = built_in_world(alloc, configuration.policy) else {
+        return Err(Error::from(ErrorKind::OutOfMemory));
+    };
+    let mut reader = script;
+    match run_script(alloc, world, bridge, &mut reader, output) {
+        Ok(run) => Ok(run),
+        Err(_) => Err(Error::from(ErrorKind::Other)),
+    }
+}
+
+/// The bridge of a configuration.
+fn make_bridge(alloc: Global, configuration: &Configuration) -> io::Result<Bridge> {
+    let mut ports = Vec::new(alloc);
+    for port in configuration.ports.as_slice() {
+        ports.push(port.config)?;
+    }
+    match Bridge::new(alloc, configuration.address, &ports) {
+        Ok(bridge) => Ok(bridge),
+        Err(_) => Err(Error::from(ErrorKind::InvalidData)),
+    }
+}
+
+/// Prints the first line of the output that tells of a want of memory, and fails.
+fn tell_want(rt: &HostRuntime, output: &[u8]) -> io::Result<()> {
+    let mut lines = output.split(|octet| *octet == b'\n');
+    match lines.position(|line| line == WANT) {
+        Some(place) => eprintln!(rt; "random_run: line {place} of the output is drop Memory")?,
+        None => eprintln!(rt; "random_run: some line met want of memory")?,
+    }
+    Err(Error::from(ErrorKind::OutOfMemory))
+}
