@@ -1,10 +1,10 @@
 -- What a run by the octets of a configuration promises.
-use Rattle.std.specs.Prelude.{◌≡◌, ◌≢◌, ℕ, List, Option, Result, Ok, Err, IfOk, IfErr, IfSome}
+use Rattle.std.specs.Prelude.{◌≡◌, ◌⊎◌, ℕ, List, Option, Result, Ok, Err, IfOk, IfErr, IfSome}
 use Rattle.script_core.specs.Lines.{lines_of}
-use Rattle.script_core.specs.Runs.{Reads, Writes}
+use Rattle.script_core.specs.Runs.{Reads, Writes, IsFrontOf}
 use Rattle.script_core.specs.declared.fault.RunFault.{RunFault}
-use Rattle.script_core.specs.declared.fault.RunFault.TheVariants.{Input, Output}
-use Rattle.agent_script.specs.Script.{IsSaid, IsSaidFirst, IsSaidBefore}
+use Rattle.script_core.specs.declared.fault.RunFault.TheVariants.{Input, Output, Memory as NoMemory, Stopped as IsStopped}
+use Rattle.agent_script.specs.Script.{IsSaid, IsSaidBefore, IsGivenUp, IsSaidSome}
 use Rattle.agent_script.specs.State.{Agent}
 use Rattle.agent_script.specs.declared.session.Run.{Run}
 use Rattle.agentd.specs.declared.opening.NotRun.{NotRun}
@@ -32,9 +32,14 @@ module _ {I O : Type 0} (remaining : I → Option (List ℕ)) (contents : O → 
     -- until the input failed: each line that had ended was answered
     pub input : IfErr went (λ fault. fault ≡ Input → Reads (remaining reader) (remaining reader') (λ input rest.
         Writes (contents writer) (contents writer') (λ text. IsSaidBefore agent input rest text)))
-    -- until something but a write failed: what is written is what was said to the first lines
-    pub first : IfErr went (λ fault. fault ≢ Output → IfSome (remaining reader) (λ input.
-        Writes (contents writer) (contents writer') (λ text. IsSaidFirst agent (lines_of input) text)))
+    -- until a line was given up: each line before it is answered, and it was read, in part at least
+    pub given_up : IfErr went (λ fault. (fault ≡ NoMemory) ⊎ (fault ≡ IsStopped) →
+        Reads (remaining reader) (remaining reader') (λ input rest.
+        Writes (contents writer) (contents writer') (λ text. IsGivenUp agent input rest text)))
+    -- until a write failed: what is written is a front of what was said to the first lines, or to all of them and the end
+    pub output : IfErr went (λ fault. fault ≡ Output → IfSome (remaining reader) (λ input.
+        Writes (contents writer) (contents writer') (λ text. IsFrontOf (λ whole.
+        IsSaidSome agent (lines_of input) whole) text)))
 
   -- What came of a script over this agent.
   abbrev pub IsRunOver : Agent → I → I → O → O → Result Run NotRun → Type 0
