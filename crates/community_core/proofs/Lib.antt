@@ -4,3 +4,5 @@ pub mod Short
 pub mod SaidLemmas
 pub mod Utf8
 pub mod Indexes
+pub mod Begins
+pub mod Taking

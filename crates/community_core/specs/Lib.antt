@@ -1,6 +1,7 @@
 pub mod Communities
 pub mod Keys
 pub mod Reading
+pub mod Typed
 pub mod Policies
 pub mod Said
 pub mod Texts

@@ -7,7 +7,7 @@
 //!
 //! # Definitions
 //! `specs/Communities.antt`: rules of the rows and the caller; `specs/Policies.antt`, `specs/Reading.antt`: what a text
-//! says and its first fault; `specs/Said.antt`, `specs/Texts.antt`: the same as functions.
+//! says, its first fault, and where reading it takes memory; `specs/Said.antt`, `specs/Texts.antt`: the same as functions.
 //!
 //! # Laws
 //! In [`laws`]: a community row decides wherever one has the name; what a table of TOML says is what the functions give; the
