@@ -25,7 +25,7 @@ impl Model for Policy {
 }
 
 impl Policy {
-    ghost use Rattle.vacm_core.specs.Rules.{AreRight, IsFirstFault};
+    ghost use Rattle.vacm_core.specs.Rules.{AreRight, IsFirstFault, BeginsRight};
     ghost use Rattle.community_core.specs.Communities.{community_row, written_community, community_rules, caller_of, caller_of_row};
 
     /// The policy of these communities, as they are written, and these tables.
@@ -33,7 +33,7 @@ impl Policy {
     /// # Errors
     ///
     /// The first community at fault, and in it its lengths, then its fields, then its index;
-    /// `Memory` where a growth was refused.
+    /// `Memory` where a growth was refused: there is a first community, and nothing is wrong with it.
     pub fn new(
         alloc: Global,
         communities: Rows<WrittenCommunity>,
@@ -43,6 +43,8 @@ impl Policy {
         ensures right { OnOk result (AreRight community_rules communities) }
         ensures fault { IfErr result (λ e. e ≢ PolicyFault.Memory →
             IsFirstFault community_rules PolicyTable.Communities communities e) }
+        ensures memory { IfErr result (λ e. e ≡ PolicyFault.Memory →
+            BeginsRight community_rules communities) }
     {
         let communities = checked_rows(alloc, PolicyTable::Communities, communities)?;
         Ok(Policy { communities, vacm })

@@ -4,9 +4,9 @@ use Rattle.std.proofs.lemmas.List.{length-append, append-nil}
 use Rattle.ber_core.proofs.Octets.{EachIsOctet}
 use Rattle.oid_core.specs.declared.limits.TheConstants.{INLINE_NUMBERS, MOST_NUMBERS}
 use Rattle.oid_core.specs.Name.{IsCoded, AreCoded, HasRoot, packed, IsName, BeginsName, BeginsLong}
-use Rattle.oid_core.specs.Reading.{◌>>=◌, coded_at, all_coded_at, root_of, name_at}
+use Rattle.oid_core.specs.Reading.{coded_at, all_coded_at, root_of, name_at}
 use Rattle.oid_core.proofs.Loop.{with_front}
-use Rattle.oid_core.proofs.Names.{Begins, coded_found, root_found}
+use Rattle.oid_core.proofs.Names.{coded_found, root_found}
 use Rattle.oid_core.proofs.Written.{packed_more, root_len}
 use Rattle.oid_core.proofs.Texts.{each_more}
 use Rattle.std.specs.Prelude.{Ok}

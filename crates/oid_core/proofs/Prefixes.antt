@@ -1,5 +1,5 @@
 -- Names that a prefix begins stand together in the order of names.
-use Rattle.std.proofs.Common.{◌≡◌, ℕ, suc, ◌<◌, refl, Bool, true, false, nat_eq, nat_lt, List, [], ◌∷◌, arith, ◌⊎◌, inl, inr}
+use Rattle.std.proofs.Common.{◌≡◌, ℕ, suc, ◌<◌, refl, true, false, nat_eq, nat_lt, List, [], ◌∷◌, arith, ◌⊎◌, inl, inr}
 use Rattle.std.proofs.lemmas.Bool.Decides.{eqb_tells, leb_tells, nat_tests}
 use Rattle.oid_core.specs.Order.{name_lt, name_eq, is_prefix}
 

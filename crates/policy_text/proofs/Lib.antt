@@ -2,3 +2,5 @@ pub mod KeyLemmas
 pub mod RowLemmas
 pub mod SaidLemmas
 pub mod Utf8
+pub mod Begins
+pub mod Taking

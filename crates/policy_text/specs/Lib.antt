@@ -1,5 +1,6 @@
 pub mod Keys
 pub mod Reading
+pub mod Typed
 pub mod Policies
 pub mod Said
 pub mod Texts

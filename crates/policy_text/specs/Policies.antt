@@ -4,13 +4,13 @@ use Rattle.toml.specs.Data.{Data, Members}
 use Rattle.vacm_core.specs.declared.fault.PolicyFault.{PolicyFault}
 use Rattle.vacm_core.specs.declared.fault.PolicyFault.TheVariants.{BadField}
 use Rattle.vacm_core.specs.declared.fault.PolicyTable.TheVariants.{Groups, Access, Families, Contexts, Communities}
-use Rattle.vacm_core.specs.Rules.{AreRight, IsFirstFault}
-use Rattle.vacm_core.specs.Faults.{AreAllRight, IsFault}
+use Rattle.vacm_core.specs.Rules.{AreRight, IsFirstFault, BeginsRight}
+use Rattle.vacm_core.specs.Faults.{AreAllRight, IsFault, TakesMemory as ChecksTakeMemory}
 use Rattle.vacm_core.specs.Tables.{tables_of}
 use Rattle.policy_text.specs.declared.policies.PolicyRows.{PolicyRows}
 use Rattle.community_core.specs.Communities.{PolicyTables, community_rules, community_row}
 use Rattle.policy_text.specs.Keys.{key_count, array_at}
-use Rattle.policy_text.specs.Reading.{AreRows, IsFirstUnread, group_says, access_says, family_says, context_says, community_says, ◌>=>◌}
+use Rattle.policy_text.specs.Reading.{AreRows, IsFirstUnread, BeginsTyped, group_says, access_says, family_says, context_says, community_says, IsGroup, IsAccess, IsFamily, IsContext, IsCommunity, ◌>=>◌}
 
 -- the arrays of a policy
 pub record Arrays : Type 0 where
@@ -66,6 +66,27 @@ IsUnreadOf a e =
 -- the first fault of the keys and values: of the table itself (contexts, 0), then of its arrays
 abbrev pub IsUnread : Members → PolicyFault → Type 0
 IsUnread ms e = ((arrays_of ms ≡ None) × (e ≡ BadField Contexts 0)) ⊎ ((a : Arrays) × (arrays_of ms ≡ Some a) × IsUnreadOf a e)
+
+-- Where reading the arrays takes memory: each value of the arrays before some array says a row, and that has a first value
+-- that is typed as one.
+abbrev pub TakesMemoryOf : Arrays → Type 0
+TakesMemoryOf a =
+    BeginsTyped IsGroup a.groups
+    ⊎ (AllSay group_says a.groups × BeginsTyped IsAccess a.access)
+    ⊎ (AllSay group_says a.groups × AllSay access_says a.access × BeginsTyped IsFamily a.families)
+    ⊎ (AllSay group_says a.groups × AllSay access_says a.access × AllSay family_says a.families × BeginsTyped IsContext a.contexts)
+    ⊎ (AllSay group_says a.groups × AllSay access_says a.access × AllSay family_says a.families
+    × AllSay context_says a.contexts × BeginsTyped IsCommunity a.communities)
+
+-- Where reading the table takes memory: it has the arrays of a policy, and reading those does.
+pub record TakesMemory (ms : Members) : Type 0 where
+  pub arrays : Arrays
+  pub are : arrays_of ms ≡ Some arrays
+  pub reading : TakesMemoryOf arrays
+
+-- Where checking rows that were read takes memory.
+abbrev pub RowsTakeMemory : PolicyRows → Type 0
+RowsTakeMemory rows = ChecksTakeMemory rows.vacm ⊎ (AreAllRight rows.vacm × BeginsRight community_rules rows.communities)
 
 -- the first fault of rows that were read
 abbrev pub IsPolicyFault : PolicyRows → PolicyFault → Type 0

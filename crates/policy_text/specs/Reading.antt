@@ -1,5 +1,5 @@
 -- What the values of a TOML document say as rows.
-use Rattle.std.specs.Prelude.{◌≡◌, ◌⊎◌, ℕ, ◌≤◌, ◌==◌, if◌then◌else◌, codes, List, length, take, Option, Some, None, option_and_then, slice_get}
+use Rattle.std.specs.Prelude.{◌≡◌, ◌⊎◌, ℕ, ◌≤◌, ◌==◌, if◌then◌else◌, codes, List, [], ◌∷◌, length, take, Option, Some, None, IsSome, option_and_then, slice_get}
 use Rattle.std.specs.Result.{result_ok}
 use Rattle.std.specs.List.{AllZip}
 use Rattle.hex.specs.Hex.{decode_of}
@@ -31,6 +31,12 @@ pub record IsFirstUnread {R : Type 0} (says : Data → Option R → Type 0) (tab
   pub rows : List R
   pub before : AreRows says (take place ds) rows
 
+-- There is a first value, and it is typed as a row. Only of values that are, texts are copied and rows kept, so only then
+-- does reading the values take memory.
+abbrev pub BeginsTyped : (Data → Type 0) → List Data → Type 0
+BeginsTyped IsTyped [] = ⊥
+BeginsTyped IsTyped (d ∷ ds) = IsTyped d
+
 -- the next step, where there is a value
 infixl 10 ◌>=>◌
 abbrev pub ◌>=>◌ : {A B : Type 0} → Option A → (A → Option B) → Option B
@@ -39,6 +45,9 @@ o >=> f = option_and_then f o
 -- a context is a string
 abbrev pub context_says : Data → Option (List ℕ) → Type 0
 context_says d row = row ≡ as_str d
+
+abbrev pub IsContext : Data → Type 0
+IsContext d = IsSome (as_str d)
 
 -- ---- groups: a table of exactly the keys `model`, `name` and `group`
 
@@ -55,6 +64,10 @@ group_of d = option_and_then group_members (as_table d)
 
 abbrev pub group_says : Data → Option WrittenGroup → Type 0
 group_says d row = row ≡ group_of d
+
+-- the value is typed as a group row
+abbrev pub IsGroup : Data → Type 0
+IsGroup d = IsSome (group_of d)
 
 -- ---- access rows: a table of exactly these eight keys
 
@@ -73,6 +86,10 @@ access_of d = option_and_then access_members (as_table d)
 
 abbrev pub access_says : Data → Option WrittenAccess → Type 0
 access_says d row = row ≡ access_of d
+
+-- the value is typed as an access row
+abbrev pub IsAccess : Data → Type 0
+IsAccess d = IsSome (access_of d)
 
 -- ---- families: a table of exactly the keys `view`, `subtree`, `mask` and `included`
 
@@ -106,6 +123,10 @@ texts_say None row = row ≡ None
 abbrev pub family_says : Data → Option WrittenFamily → Type 0
 family_says d row = texts_say (option_and_then family_members (as_table d)) row
 
+-- the value is typed as a family row, whatever its mask and its subtree are
+abbrev pub IsFamily : Data → Type 0
+IsFamily d = IsSome (option_and_then family_members (as_table d))
+
 -- ---- communities: a table of exactly the keys `index`, `name`, `security` and `context`
 
 abbrev pub community_keys : Members → Option WrittenCommunity
@@ -121,3 +142,7 @@ community_of d = option_and_then community_members (as_table d)
 
 abbrev pub community_says : Data → Option WrittenCommunity → Type 0
 community_says d row = row ≡ community_of d
+
+-- the value is typed as a community
+abbrev pub IsCommunity : Data → Type 0
+IsCommunity d = IsSome (community_of d)

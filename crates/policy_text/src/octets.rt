@@ -1,12 +1,12 @@
 //! Reads a policy from octets.
-ghost use Rattle.std.specs.Prelude.{◌≡◌, IfOk, option_map};
+ghost use Rattle.std.specs.Prelude.{◌≡◌, IsSome, IfOk, OnErr, option_map};
 ghost use Rattle.toml.specs.Parse.{parse_document};
 ghost use Rattle.toml.specs.View.{table_view};
 ghost use Rattle.policy_text.specs.Said.{policy_said};
 ghost use Rattle.policy_text.specs.Texts.{text_of, policy_in};
 
-use crate::policies::policy_of;
 use community_core::Policy;
+use crate::policies::policy_of;
 use std::alloc::{AllocError, Global};
 use toml::Table;
 use vacm_core::PolicyFault;
@@ -49,10 +49,11 @@ fn policy_said(alloc: Global, table: &Table) -> Result<Option<Policy>, AllocErro
 }
 
 /// The policy that octets are: UTF-8, and a TOML document, which says a policy as [`policy_of`] reads it. `None` for any other
-/// octets. Only memory can fail.
+/// octets. Only memory can fail, and only of octets that are UTF-8.
 #[tactic(auto, unfolding(crate::specs::Texts::policy_in))]
 pub fn policy_in(alloc: Global, octets: &[u8]) -> Result<Option<Policy>, AllocError>
-    ensures { IfOk result (λ policy. policy ≡ policy_in octets.now) }
+    ensures policy { IfOk result (λ policy. policy ≡ policy_in octets.now) }
+    ensures memory { OnErr result (IsSome (text_of octets.now)) }
 {
     let Some(text) = text_of(octets) else {
         return Ok(None);

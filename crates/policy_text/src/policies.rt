@@ -1,12 +1,13 @@
 //! Reads a policy from a TOML table.
 ghost use Rattle.std.specs.Prelude.{◌≡◌, ◌≢◌, ◌⊎◌, IfOk, IfErr, OnOk, map, is_some, Some, None};
 ghost use Rattle.toml.specs.View.{table_view, view};
-ghost use Rattle.policy_text.specs.Policies.{arrays, arrays_of, AreRowsOf, IsUnreadOf, SaysRows, IsUnread, IsPolicyFault, policy_tables, ArePolicyRowsRight, IsPolicy, IsWrongPolicy};
+ghost use Rattle.policy_text.specs.Policies.{arrays, arrays_of, AreRowsOf, IsUnreadOf, SaysRows, IsUnread, TakesMemoryOf, TakesMemory, RowsTakeMemory, IsPolicyFault, policy_tables, ArePolicyRowsRight, IsPolicy, IsWrongPolicy};
 ghost use Rattle.policy_text.specs.Said.{policy_said};
 
+use community_core::WrittenCommunity;
 use crate::keys::{array_at, key_count};
+use community_core::Policy;
 use crate::rows::read_rows;
-use community_core::{Policy, WrittenCommunity};
 use std::alloc::Global;
 use toml::{Table, Value};
 use vacm_core::{PolicyFault, PolicyTable, Rows, Vacm, VacmRows};
@@ -33,6 +34,9 @@ fn read_arrays(
         (map view families.now.items) (map view contexts.now.items) (map view communities.now.items)) rows) }
     ensures fault { IfErr result (λ e. e ≢ PolicyFault.Memory → IsUnreadOf (arrays (map view groups.now.items) (map view access.now.items)
         (map view families.now.items) (map view contexts.now.items) (map view communities.now.items)) e) }
+    ensures memory { IfErr result (λ e. e ≡ PolicyFault.Memory →
+        TakesMemoryOf (arrays (map view groups.now.items) (map view access.now.items)
+        (map view families.now.items) (map view contexts.now.items) (map view communities.now.items))) }
 {
     let groups = read_rows(alloc, PolicyTable::Groups, groups)?;
     let access = read_rows(alloc, PolicyTable::Access, access)?;
@@ -82,10 +86,12 @@ pub fn has_policy_keys(table: &Table) -> bool
 ///
 /// `BadField(Contexts, 0)` where the table has not exactly the keys `contexts`, `community`, `group`,
 /// `access` and `family`, each an array; else `BadField` of the first value that is no row, in the
-/// order groups, access, families, contexts, communities; `Memory` where a growth was refused.
+/// order groups, access, families, contexts, communities; `Memory` where a growth was refused: the table has the five
+/// arrays, the values of those before some array are rows, and that has a first value that has a row's keys and types.
 pub fn policy_rows(alloc: Global, table: &Table) -> Result<PolicyRows, PolicyFault>
     ensures rows { IfOk result (λ rows. SaysRows (table_view table.now) rows) }
     ensures fault { IfErr result (λ e. e ≢ PolicyFault.Memory → IsUnread (table_view table.now) e) }
+    ensures memory { IfErr result (λ e. e ≡ PolicyFault.Memory → TakesMemory (table_view table.now)) }
 {
     let unread = PolicyFault::BadField(PolicyTable::Contexts, 0);
     if key_count(table) != 5 {
@@ -114,6 +120,7 @@ fn policy_of_rows(alloc: Global, rows: PolicyRows) -> Result<Policy, PolicyFault
     ensures policy { IfOk result (λ p. p ≡ policy_tables rows) }
     ensures right { OnOk result (ArePolicyRowsRight rows) }
     ensures fault { IfErr result (λ e. e ≢ PolicyFault.Memory → IsPolicyFault rows e) }
+    ensures memory { IfErr result (λ e. e ≡ PolicyFault.Memory → RowsTakeMemory rows) }
 {
     let vacm = Vacm::new(alloc, rows.vacm)?;
     Policy::new(alloc, rows.communities, vacm)
@@ -125,10 +132,11 @@ fn policy_of_rows(alloc: Global, rows: PolicyRows) -> Result<Policy, PolicyFault
 ///
 /// First the faults of the keys and of the types, as [`policy_rows`] names them; then the first row
 /// whose length, field or key is wrong, as [`Vacm::new`] and [`Policy::new`] name it; `Memory` where
-/// a growth was refused.
+/// a growth was refused, which comes only where [`policy_rows`] may lack memory.
 pub fn policy_of(alloc: Global, table: &Table) -> Result<Policy, PolicyFault>
     ensures policy { IfOk result (λ p. IsPolicy (table_view table.now) p) }
     ensures fault { IfErr result (λ e. e ≢ PolicyFault.Memory → IsUnread (table_view table.now) e ⊎ IsWrongPolicy (table_view table.now) e) }
+    ensures memory { IfErr result (λ e. e ≡ PolicyFault.Memory → TakesMemory (table_view table.now)) }
     // The same as a function of the table: its policy, or none.
     ensures said { IfOk result (λ p. policy_said (table_view table.now) ≡ Some p) }
     ensures refused { IfErr result (λ e. e ≢ PolicyFault.Memory → policy_said (table_view table.now) ≡ None) }

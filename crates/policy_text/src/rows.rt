@@ -1,12 +1,13 @@
 //! Reads the rows of a policy's tables.
-ghost use Rattle.std.specs.Prelude.{◌≡◌, ◌≢◌, Option, IfOk, IfErr, map, option_map};
+ghost use Rattle.std.specs.Prelude.{◌≡◌, ◌≢◌, Option, Some, IsSome, IfOk, IfErr, OnErr, map, option_map, option_and_then};
 ghost use Rattle.hex.specs.Hex.{decode_of};
-ghost use Rattle.toml.specs.Data.{Data};
+ghost use Rattle.toml.specs.Data.{Data, as_table};
 ghost use Rattle.toml.specs.View.{view, table_view};
-ghost use Rattle.policy_text.specs.Reading.{IsFirstUnread, AreRows, context_says, group_says, group_of, group_members, access_says, access_of, access_members, family_says, family_members, parts_say, texts_say, mask_of, subtree_says, community_says, community_of, community_members};
+ghost use Rattle.policy_text.specs.Typed.{context_typed, group_typed, access_typed, family_typed, community_typed};
+ghost use Rattle.policy_text.specs.Reading.{IsFirstUnread, BeginsTyped, AreRows, IsContext, IsGroup, IsAccess, IsFamily, IsCommunity, context_says, group_says, group_of, group_members, access_says, access_of, access_members, family_says, family_members, parts_say, texts_say, mask_of, subtree_says, community_says, community_of, community_members};
 
-use crate::keys::{bool_at, integer_at, key_count, string_at};
 use community_core::WrittenCommunity;
+use crate::keys::{bool_at, integer_at, key_count, string_at};
 use hex::FromHexError;
 use oid_core::{Oid, OidFault};
 use std::alloc::{AllocError, Global};
@@ -20,12 +21,20 @@ pub trait Read: Sized + Drop {
     // What a value says: this row, or none.
     ghost says: { Data → Option Self → Type 0 };
 
-    /// The row that a value says, if it says one.
+    // A value has the keys of a row, each of its type, whatever they hold.
+    ghost typed: { Data → Type 0 };
+
+    /// The row that a value says, if it says one. Takes memory only where the value is typed as a row.
     fn read(alloc: Global, value: &Value) -> Result<Option<Self>, AllocError>
-        ensures { IfOk result (λ row. says (view value.now) row) };
+        ensures row { IfOk result (λ row. says (view value.now) row) }
+        ensures memory { OnErr result (typed (view value.now)) };
+
+    // A value that says a row is typed as one.
+    ghost says_typed: { (d : Data) (row : Self) → says d (Some row) → typed d };
 }
 
-/// The rows that the values of an array say, or the fault of the first that says none.
+/// The rows that the values of an array say, or the fault of the first that says none. Takes memory only where the first
+/// value is typed as a row.
 pub fn read_rows<T: Read>(
     alloc: Global,
     table: PolicyTable,
@@ -33,6 +42,8 @@ pub fn read_rows<T: Read>(
 ) -> Result<Rows<T>, PolicyFault>
     ensures rows { IfOk result (λ rows. AreRows T.says (map view values.now.items) rows) }
     ensures fault { IfErr result (λ e. e ≢ PolicyFault.Memory → IsFirstUnread T.says table (map view values.now.items) e) }
+    ensures memory { IfErr result (λ e. e ≡ PolicyFault.Memory →
+        BeginsTyped T.typed (map view values.now.items)) }
 {
     let mut rows = Vec::new(alloc);
     for (n, value) in values.iter().enumerate() {
@@ -47,6 +58,10 @@ pub fn read_rows<T: Read>(
 impl Read for Text {
     ghost says = { context_says };
 
+    ghost typed = { IsContext };
+
+    ghost says_typed = { context_typed };
+
     fn read(alloc: Global, value: &Value) -> Result<Option<Text>, AllocError> {
         match value.as_str() {
             Some(text) => Ok(Some(Text::new(alloc, text)?)),
@@ -58,6 +73,10 @@ impl Read for Text {
 impl Read for WrittenGroup {
     ghost says = { group_says };
 
+    ghost typed = { IsGroup };
+
+    ghost says_typed = { group_typed };
+
     fn read(alloc: Global, value: &Value) -> Result<Option<WrittenGroup>, AllocError> {
         match value.as_table() {
             Some(table) => read_group(alloc, table),
@@ -67,7 +86,8 @@ impl Read for WrittenGroup {
 }
 
 fn read_group(alloc: Global, table: &Table) -> Result<Option<WrittenGroup>, AllocError>
-    ensures { IfOk result (λ row. row ≡ group_members (table_view table.now)) }
+    ensures row { IfOk result (λ row. row ≡ group_members (table_view table.now)) }
+    ensures memory { OnErr result (IsSome (group_members (table_view table.now))) }
 {
     if key_count(table) != 3 {
         return Ok(None);
@@ -91,6 +111,10 @@ fn read_group(alloc: Global, table: &Table) -> Result<Option<WrittenGroup>, Allo
 impl Read for WrittenAccess {
     ghost says = { access_says };
 
+    ghost typed = { IsAccess };
+
+    ghost says_typed = { access_typed };
+
     fn read(alloc: Global, value: &Value) -> Result<Option<WrittenAccess>, AllocError> {
         match value.as_table() {
             Some(table) => read_access(alloc, table),
@@ -100,7 +124,8 @@ impl Read for WrittenAccess {
 }
 
 fn read_access(alloc: Global, table: &Table) -> Result<Option<WrittenAccess>, AllocError>
-    ensures { IfOk result (λ row. row ≡ access_members (table_view table.now)) }
+    ensures row { IfOk result (λ row. row ≡ access_members (table_view table.now)) }
+    ensures memory { OnErr result (IsSome (access_members (table_view table.now))) }
 {
     if key_count(table) != 8 {
         return Ok(None);
@@ -153,6 +178,10 @@ struct FamilyTexts {
 impl Read for WrittenFamily {
     ghost says = { family_says };
 
+    ghost typed = { IsFamily };
+
+    ghost says_typed = { family_typed };
+
     fn read(alloc: Global, value: &Value) -> Result<Option<WrittenFamily>, AllocError> {
         match value.as_table() {
             Some(table) => read_family(alloc, table),
@@ -162,7 +191,8 @@ impl Read for WrittenFamily {
 }
 
 fn read_family(alloc: Global, table: &Table) -> Result<Option<WrittenFamily>, AllocError>
-    ensures { IfOk result (λ row. texts_say (family_members (table_view table.now)) row) }
+    ensures row { IfOk result (λ row. texts_say (family_members (table_view table.now)) row) }
+    ensures memory { OnErr result (IsSome (family_members (table_view table.now))) }
 {
     match family_texts(alloc, table)? {
         Some(texts) => read_family_texts(alloc, texts),
@@ -171,7 +201,8 @@ fn read_family(alloc: Global, table: &Table) -> Result<Option<WrittenFamily>, Al
 }
 
 fn family_texts(alloc: Global, table: &Table) -> Result<Option<FamilyTexts>, AllocError>
-    ensures { IfOk result (λ texts. texts ≡ family_members (table_view table.now)) }
+    ensures texts { IfOk result (λ texts. texts ≡ family_members (table_view table.now)) }
+    ensures memory { OnErr result (IsSome (family_members (table_view table.now))) }
 {
     if key_count(table) != 4 {
         return Ok(None);
@@ -237,6 +268,10 @@ fn read_subtree(alloc: Global, text: &str) -> Result<Option<Oid>, AllocError>
 impl Read for WrittenCommunity {
     ghost says = { community_says };
 
+    ghost typed = { IsCommunity };
+
+    ghost says_typed = { community_typed };
+
     fn read(alloc: Global, value: &Value) -> Result<Option<WrittenCommunity>, AllocError> {
         match value.as_table() {
             Some(table) => read_community(alloc, table),
@@ -246,7 +281,8 @@ impl Read for WrittenCommunity {
 }
 
 fn read_community(alloc: Global, table: &Table) -> Result<Option<WrittenCommunity>, AllocError>
-    ensures { IfOk result (λ row. row ≡ community_members (table_view table.now)) }
+    ensures row { IfOk result (λ row. row ≡ community_members (table_view table.now)) }
+    ensures memory { OnErr result (IsSome (community_members (table_view table.now))) }
 {
     if key_count(table) != 4 {
         return Ok(None);

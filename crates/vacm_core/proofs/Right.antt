@@ -1,5 +1,6 @@
 -- The rows of a table that are right so far.
-use Rattle.std.proofs.Common.{◌≡◌, ℕ, zero, suc, ◌+◌, ◌<◌, ◌≤◌, Bool, true, false, ◌||◌, if◌then◌else◌, List, [], ◌∷◌, ◌++◌, length, map, Option, Some, None, Result, Ok, Err, refl, sym, ap, ◌∙◌, arith, inl, inr, append_assoc}
+use Rattle.std.proofs.Common.{◌≡◌, ℕ, zero, suc, ◌+◌, ◌<◌, ◌≤◌, Bool, true, false, ◌||◌, if◌then◌else◌, List, [], ◌∷◌, ◌++◌, length, map, Option, Some, None, Result, Ok, Err, refl, sym, ap, subst, ◌∙◌, arith, inl, inr, append_assoc}
+use Rattle.std.specs.Prelude.{IfErr}
 use Rattle.std.specs.List.{list_any, slice_get}
 use Rattle.std.proofs.lemmas.Bool.{cases_lt, cases_eq, cases_Bool}
 use Rattle.std.proofs.lemmas.List.{take-append-le, length-append, length-map, map-append}
@@ -8,8 +9,9 @@ use Rattle.std.proofs.Math.Seq.{take-append_seam}
 use Rattle.vacm_core.specs.declared.fault.Wrong.{Wrong}
 use Rattle.vacm_core.specs.declared.fault.Wrong.TheVariants.{Duplicate}
 use Rattle.vacm_core.specs.declared.fault.PolicyFault.{PolicyFault}
+use Rattle.vacm_core.specs.declared.fault.PolicyFault.TheVariants.{Memory}
 use Rattle.vacm_core.specs.declared.fault.PolicyTable.{PolicyTable}
-use Rattle.vacm_core.specs.Rules.{Rules, has_earlier, wrong_of, wrong_at, AreRight, IsFirstWrong, IsFirstFault, fault_of, row_behind}
+use Rattle.vacm_core.specs.Rules.{Rules, has_earlier, wrong_of, wrong_at, AreRight, IsFirstWrong, IsFirstFault, BeginsRight, fault_of, row_behind}
 
 get_front : {W : Type 0} (xs ys : List W) (k : ℕ) → k < length xs → slice_get (xs ++ ys) k ≡ slice_get xs k
 get_front [] ys k h = absurd (omega arith)
@@ -51,6 +53,11 @@ module _ {W R : Type 0} (rules : Rules W R) where
     before = λ k lt. ap (λ (l : List W). wrong_at rules l k) e ∙ wrong_front xs (w ∷ ys) k lt ∙ right k;
   }
 
+  -- a row with which nothing is wrong, behind others of that kind: the first one is of that kind too
+  pub begins_right : (xs : List W) (w : W) (ys : List W) → AreRight rules xs → wrong_of rules xs w ≡ None → BeginsRight rules (xs ++ w ∷ ys)
+  begins_right [] w ys right h = h
+  begins_right (x ∷ xs) w ys right h = right 0
+
 abbrev as_result : {R : Type 0} → Option Wrong → R → Result R Wrong
 as_result None row = Ok row
 as_result (Some wrong) row = Err wrong
@@ -84,6 +91,10 @@ module _ {W R : Type 0} (rules : Rules W R) where
   pub read_err : (rows : List R) (earlier : List W) (w : W) (wrong : Wrong) → rows ≡ map rules.row_of earlier → row_behind rules rows w ≡ Err wrong → wrong_of rules earlier w ≡ Some wrong
   read_err rows earlier w wrong e h = err_parts (wrong_of rules earlier w) (rules.row_of w) wrong (sym (behind_is rows earlier w e) ∙ h)
 
+if_memory : {X : Type 0} (result : Result X PolicyFault) (P : Type 0) → P → IfErr result (λ e. e ≡ Memory → P)
+if_memory (Ok x) P p = tt
+if_memory (Err e) P p = λ _. p
+
 -- the rows that were read so far, and those that are left
 pub record Going {W R : Type 0} (rules : Rules W R) (written yielded rest : List W) (left : ℕ) (rows : List R) : Type 0 where
   pub all : written ≡ yielded ++ rest
@@ -112,3 +123,11 @@ module _ {W R : Type 0} (rules : Rules W R) (written yielded rest after : List W
         is = is ∙ ap (fault_of wrong table) same_len;
         first = first_wrong rules written yielded w after wrong (g.all ∙ ap (λ (l : List W). yielded ++ l) next) g.right (read_err rules front yielded w wrong (same ∙ g.rows_are) (sym read));
       }
+
+  -- the first row is kept where one is
+  pub going_begins : {X : Type 0} (row : R) (result : Result X PolicyFault) → Going rules written yielded rest left rows → rest ≡ w ∷ after → front ≡ rows → Ok row ≡ row_behind rules front w → IfErr result (λ e. e ≡ Memory → BeginsRight rules written)
+  going_begins row result g next same read =
+      let nothing = read_ok rules front yielded w row (same ∙ g.rows_are) (sym read) in
+      let begins = begins_right rules yielded w after g.right nothing.0 in
+      let all = g.all ∙ ap (λ (l : List W). yielded ++ l) next in
+      if_memory result (BeginsRight rules written) (subst (λ (l : List W). BeginsRight rules l) (sym all) begins)

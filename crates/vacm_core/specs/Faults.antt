@@ -7,7 +7,7 @@ use Rattle.vacm_core.specs.declared.fault.PolicyTable.TheVariants.{Groups, Acces
 use Rattle.vacm_core.specs.declared.fault.Wrong.{Wrong}
 use Rattle.vacm_core.specs.declared.fault.Wrong.TheVariants.{Length, Field, Duplicate}
 use Rattle.vacm_core.specs.declared.written.VacmRows.{VacmRows}
-use Rattle.vacm_core.specs.Rules.{IsFirstWrong, AreRight}
+use Rattle.vacm_core.specs.Rules.{IsFirstWrong, AreRight, BeginsRight}
 use Rattle.vacm_core.specs.Rows.{group_rules, access_rules, family_rules, context_rules}
 
 -- nothing is wrong with the rows of the tables before this one
@@ -38,3 +38,18 @@ IsFault rows Memory = ⊥
 IsFault rows (BadLength table n) = AreRightBefore table rows × IsFirstIn table rows n Length
 IsFault rows (BadField table n) = AreRightBefore table rows × IsFirstIn table rows n Field
 IsFault rows (SameKey table n) = AreRightBefore table rows × IsFirstIn table rows n Duplicate
+
+-- the table has a first row, and nothing is wrong with it
+abbrev pub BeginsRightIn : PolicyTable → VacmRows → Type 0
+BeginsRightIn Groups rows = BeginsRight group_rules rows.groups
+BeginsRightIn Access rows = BeginsRight access_rules rows.access
+BeginsRightIn Families rows = BeginsRight family_rules rows.families
+BeginsRightIn Contexts rows = BeginsRight context_rules rows.contexts
+BeginsRightIn Communities rows = ⊥
+
+-- Where checking the tables takes memory: nothing is wrong with the tables before some table, and that has a first row, with
+-- which nothing is wrong.
+pub record TakesMemory (rows : VacmRows) : Type 0 where
+  pub table : PolicyTable
+  pub before : AreRightBefore table rows
+  pub begins : BeginsRightIn table rows

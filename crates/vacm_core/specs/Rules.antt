@@ -1,5 +1,5 @@
 -- What is wrong with the rows of a table, and which row is the first at fault.
-use Rattle.std.specs.Prelude.{◌≡◌, ℕ, ◌<◌, Bool, if◌then◌else◌, List, take, Option, Some, None, slice_get, option_and_then, Result, Ok, Err}
+use Rattle.std.specs.Prelude.{◌≡◌, ℕ, ◌<◌, Bool, if◌then◌else◌, List, [], ◌∷◌, take, Option, Some, None, slice_get, option_and_then, Result, Ok, Err}
 use Rattle.std.specs.List.{list_any}
 use Rattle.vacm_core.specs.declared.fault.PolicyFault.{PolicyFault}
 use Rattle.vacm_core.specs.declared.fault.PolicyFault.TheVariants.{Duplicate as SameKey, BadLength, BadField}
@@ -41,6 +41,12 @@ pub record IsFirstWrong {W R : Type 0} (rules : Rules W R) (rows : List W) (n : 
 -- nothing is wrong with any row
 abbrev pub AreRight : {W R : Type 0} → Rules W R → List W → Type 0
 AreRight rules rows = (k : ℕ) → wrong_at rules rows k ≡ None
+
+-- There is a first row, and nothing is wrong with it. A row is kept only where nothing is wrong with it and with the rows
+-- before it, so only then does checking the rows take memory.
+abbrev pub BeginsRight : {W R : Type 0} → Rules W R → List W → Type 0
+BeginsRight rules [] = ⊥
+BeginsRight rules (w ∷ ws) = wrong_of rules [] w ≡ None
 
 abbrev pub fault_of : Wrong → PolicyTable → ℕ → PolicyFault
 fault_of Length table row = BadLength table row

@@ -2,7 +2,7 @@
 ghost use Rattle.std.specs.Prelude.{◌≡◌, ◌≢◌, ℕ, Bool, true, List, map, Result, IfOk, IfErr, OnOk, if◌then◌else◌};
 ghost use Rattle.std.specs.List.{list_any};
 ghost use Rattle.vacm_core.specs.declared.fault.Wrong.{Wrong};
-ghost use Rattle.vacm_core.specs.Rules.{rules_of, by_itself, row_behind, AreRight, IsFirstFault};
+ghost use Rattle.vacm_core.specs.Rules.{rules_of, by_itself, row_behind, AreRight, IsFirstFault, BeginsRight};
 
 use crate::fault::{PolicyFault, PolicyTable, Wrong};
 use crate::rows::Rows;
@@ -79,7 +79,8 @@ fn read_behind<W: Written>(rows: &[W::Row], written: W) -> Result<W::Row, Wrong>
 /// # Errors
 ///
 /// `BadLength`, `BadField` or `Duplicate` with the table and the number of the row, counted from 0;
-/// `Memory` where a growth was refused.
+/// `Memory` where a growth was refused: each row that is kept takes memory, so there is a first row and nothing is wrong
+/// with it.
 pub fn checked_rows<W: Written>(
     alloc: Global,
     table: PolicyTable,
@@ -89,6 +90,8 @@ pub fn checked_rows<W: Written>(
     ensures right { OnOk result (AreRight (rules_of W.lengths W.fields W.row_of W.same_key) written) }
     ensures fault { IfErr result (λ e. e ≢ PolicyFault.Memory →
         IsFirstFault (rules_of W.lengths W.fields W.row_of W.same_key) table written e) }
+    ensures memory { IfErr result (λ e. e ≡ PolicyFault.Memory →
+        BeginsRight (rules_of W.lengths W.fields W.row_of W.same_key) written) }
 {
     let mut rows = Vec::new(alloc);
     for row in written.into_vec() {

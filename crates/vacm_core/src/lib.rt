@@ -8,7 +8,7 @@
 //! # Definitions
 //! `specs/Access.antt`: which access rows may decide and which beats which; `specs/Families.antt`: which families have
 //! a name; `specs/Best.antt`: the row that no row beats; `specs/Faults.antt`, `specs/Rules.antt`: lengths, fields and
-//! keys of rows, and the first fault.
+//! keys of rows, the first fault, and where checking the rows takes memory.
 //!
 //! # Laws
 //! In [`laws`] and `Vacm::one_row_decides`: a row decides wherever one fits, and only one; kept rows break no rule; the

@@ -38,7 +38,7 @@ impl Vacm {
     ghost use Rattle.vacm_core.specs.declared.verdict.Ask.{Ask};
     ghost use Rattle.vacm_core.specs.Best.{IsUnbeatenAt};
     ghost use Rattle.vacm_core.specs.Tables.{tables_of, rows_of};
-    ghost use Rattle.vacm_core.specs.Faults.{AreAllRight, IsFault};
+    ghost use Rattle.vacm_core.specs.Faults.{AreAllRight, IsFault, TakesMemory};
     ghost use Rattle.vacm_core.specs.Families.{family_answer, by_type, matches, family_beats, NamesFamilyOf};
     ghost use Rattle.vacm_core.specs.Access.{verdict_of, by_access, by_view, deciding_access, candidate, access_beats, NamesRowOf};
 
@@ -48,11 +48,13 @@ impl Vacm {
     ///
     /// The first fault, table by table in the order groups, access, families and contexts, in each
     /// table row by row from 0, and in each row its lengths, then its fields, then its key;
-    /// `Memory` where a growth was refused.
+    /// `Memory` where a growth was refused: nothing is wrong with the tables before some table, and that has a first row,
+    /// with which nothing is wrong.
     pub fn new(alloc: Global, rows: VacmRows) -> Result<Vacm, PolicyFault>
         ensures tables { IfOk result (λ v. v ≡ tables_of rows) }
         ensures right { OnOk result (AreAllRight rows) }
         ensures fault { IfErr result (λ e. e ≢ PolicyFault.Memory → IsFault rows e) }
+        ensures memory { IfErr result (λ e. e ≡ PolicyFault.Memory → TakesMemory rows) }
     {
         let groups = checked_rows(alloc, PolicyTable::Groups, rows.groups)?;
         let access = checked_rows(alloc, PolicyTable::Access, rows.access)?;

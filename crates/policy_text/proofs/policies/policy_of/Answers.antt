@@ -5,6 +5,7 @@ use Rattle.toml.specs.View.{table_view}
 use Rattle.vacm_core.specs.declared.fault.PolicyFault.TheVariants.{Memory}
 use Rattle.policy_text.specs.Policies.{IsUnread, IsPolicy, IsWrongPolicy}
 use Rattle.policy_text.proofs.SaidLemmas.{unread_told, said_if, refused_if}
+use Rattle.policy_text.proofs.Taking.{memory_by}
 use Rattle.policy_text.proofs.policies.policy_of.Goals as goal
 
 pub returns-in_err-rows-clause-fault : goal.returns-in_err-rows-clause-fault
@@ -28,3 +29,6 @@ returns-clause-refused c =
     let ms = table_view c.args.table.now in
     let found : IfErr c.policy_of_rows.result (λ e. e ≢ Memory → IsUnread ms e ⊎ IsWrongPolicy ms e) = search rules in
     refused_if ms c.policy_of_rows.result found
+
+pub returns-clause-memory : goal.returns-clause-memory
+returns-clause-memory c = memory_by (table_view c.args.table.now) c.in_ok-rows.rows c.policy_of_rows.result c.in_ok-rows.ensures.rows c.policy_of_rows.ensures.memory

@@ -1,6 +1,6 @@
 use Rattle.std.proofs.Common.{arith}
 use Rattle.vacm_core.specs.Rules.{rules_of}
-use Rattle.vacm_core.proofs.Right.{going_more, going_fault}
+use Rattle.vacm_core.proofs.Right.{going_more, going_fault, going_begins}
 use Rattle.vacm_core.proofs.checking.checked_rows.Goals as goal
 
 pub loop-row-preserved : goal.loop-row-preserved
@@ -18,3 +18,11 @@ returns-in-Err-clause-fault g c other =
     going_fault rules c.args.written c.loop-row.yielded c.loop-row.row-iterator.rest.items c.next.new.self.rest.items c.loop-row.row-iterator.rest.len
     c.loop-row.rows.items c.as_slice.result.now c.in-Some.row c.args.table c.len.result c.in-Err.wrong c.at.result
     c.loop-row.invariant c.in-Some.ensures.steps.0 c.as_slice.ensures.value c.in-Err.ensures (omega (arith, c.len.ensures, c.loop-row.rows.ok)) c.at.ensures
+
+pub returns-in_err-push-in-Ok-clause-memory : goal.returns-in_err-push-in-Ok-clause-memory
+returns-in_err-push-in-Ok-clause-memory g c =
+    let w = g.W.Written in
+    let rules = rules_of w.lengths w.fields w.row_of w.same_key in
+    going_begins rules c.args.written c.loop-row.yielded c.loop-row.row-iterator.rest.items c.next.new.self.rest.items c.loop-row.row-iterator.rest.len
+    c.loop-row.rows.items c.as_slice.result.now c.in-Some.row c.in-Ok.row c.from_residual.result
+    c.loop-row.invariant c.in-Some.ensures.steps.0 c.as_slice.ensures.value c.in-Ok.ensures

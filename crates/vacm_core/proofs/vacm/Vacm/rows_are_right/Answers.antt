@@ -1,7 +1,7 @@
 use Rattle.std.proofs.Common.{◌≡◌, List, ℕ, None, refl, subst}
 use Rattle.vacm_core.specs.Rows.{group_rules, access_rules, family_rules, context_rules}
 use Rattle.vacm_core.specs.Rules.{wrong_at}
-use Rattle.vacm_core.specs.Tables.{Tables, IsSound, written_group, written_access, written_family}
+use Rattle.vacm_core.specs.Tables.{IsSound, written_group, written_access, written_family}
 use Rattle.vacm_core.proofs.Again.{right_again, map_back, access_back, map_same}
 use Rattle.vacm_core.proofs.vacm.Vacm.rows_are_right.Goals as goal
 
