@@ -1,5 +1,5 @@
 -- Names of which none begins another.
-use Rattle.std.proofs.Common.{◌≡◌, ℕ, refl, sym, ap, subst, Bool, true, false, cond, not, ◌&&◌, nat_eq, List, [], ◌∷◌, find, Option, Some, ◌⊎◌, inl, inr, ◌↔◌, All, AllPairs, IsTrue, suc, arith}
+use Rattle.std.proofs.Common.{◌≡◌, ℕ, refl, sym, subst, Bool, true, false, cond, not, ◌&&◌, nat_eq, List, [], ◌∷◌, Some, ◌⊎◌, inl, inr, ◌↔◌, All, IsTrue, suc, arith}
 use Rattle.std.proofs.lemmas.Bool.Decides.{eqb_tells, nat_tests}
 use Rattle.std.proofs.lemmas.List.Elements.{All-cons, All-weaker}
 use Rattle.std.proofs.lemmas.List.Kept.{AllPairs-cons}

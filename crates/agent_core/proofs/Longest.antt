@@ -1,5 +1,5 @@
 -- The longest front that fits.
-use Rattle.std.proofs.Common.{◌≡◌, ◌↔◌, ℕ, zero, suc, ◌+◌, ◌-◌, ◌*◌, ◌<◌, ◌≤◌, ◌∙◌, sym, ap, subst, refl, Bool, true, false, cond, nat_le, min, List, [], ◌∷◌, ◌++◌, length, take, drop, arith, append-nil, inl, inr, length-append}
+use Rattle.std.proofs.Common.{◌≡◌, ◌↔◌, ℕ, zero, suc, ◌+◌, ◌-◌, ◌<◌, ◌≤◌, ◌∙◌, sym, ap, refl, Bool, true, false, cond, nat_le, List, [], ◌∷◌, ◌++◌, length, take, drop, arith, append-nil, inl, inr, length-append}
 use Rattle.std.proofs.lemmas.Bool.{cases_lt}
 use Rattle.std.proofs.lemmas.Bool.Decides.{nat_tests}
 use Rattle.std.proofs.lemmas.List.{take-append-drop, length-take}
@@ -10,7 +10,7 @@ use Rattle.message_core.specs.declared.binding.Binding.{Binding}
 use Rattle.message_core.specs.declared.request.Request.{Request}
 use Rattle.message_core.specs.declared.status.ErrorStatus.TheVariants.{NoError}
 use Rattle.message_core.proofs.Short.{reply_short}
-use Rattle.agent_core.specs.Fitting.{total, fit_into, reply_size, longest_front, fitting, IsFront, IsLongestFitting, IsFilled}
+use Rattle.agent_core.specs.Fitting.{total, reply_size, longest_front, fitting, IsFront, IsLongestFitting, IsFilled}
 use Rattle.agent_core.proofs.Fits.{total-append}
 
 pub le_true : (m n : ℕ) → m ≤ n → nat_le m n ≡ true

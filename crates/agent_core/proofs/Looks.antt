@@ -1,7 +1,8 @@
 -- Looks so far, and those for one successor more.
-use Rattle.std.proofs.Common.{◌≡◌, ◌≤◌, ◌+◌, ◌*◌, ℕ, Bool, true, false, cond, not, List, [], ◌∷◌, ◌++◌, ◌∙◌, length, length-append, filter, ap, sym, subst, refl, arith, Option, Some}
+use Rattle.std.proofs.Common.{◌≡◌, ◌≤◌, ◌+◌, ◌*◌, ℕ, Bool, true, false, cond, not, List, [], ◌∷◌, ◌++◌, ◌∙◌, length, length-append, filter, ap, sym, subst, refl, arith, All, Option, Some}
 use Rattle.std.proofs.Math.Nat.{add-mul, mul-le-mul_right}
 use Rattle.std.proofs.lemmas.List.Sums.{sum_by-cons}
+use Rattle.std.proofs.lemmas.List.Elements.{All-head, All-tail}
 use Rattle.message_core.specs.Instances.{IsRising, after, next_of}
 use Rattle.message_core.specs.declared.binding.Binding.{Binding}
 use Rattle.agent_core.specs.Looking.{hidden, most_looks}
@@ -84,3 +85,16 @@ pub last_look : (shows : List ℕ → Bool) (rows : List Binding) (found : Optio
 last_look shows rows found row now later most here hides before one =
     let past : hidden shows (from rows found) ≡ 1 + hidden shows (after row.name rows) = hidden_here shows rows found row here hides in
     omega (arith, past, before, one)
+
+-- nothing is hidden
+all_seen : (shows : List ℕ → Bool) (rows : List Binding) → All (λ row. shows row.name ≡ true) rows → hidden shows rows ≡ 0
+all_seen shows [] h = refl
+all_seen shows (x ∷ xs) h =
+    let seen : shows x.name ≡ true = All-head (λ (y : Binding). shows y.name ≡ true) x xs h in
+    let here : ◌≡◌ {A = ℕ} (cond (not (shows x.name)) 1 0) 0 = ap (λ (b : Bool). cond (not b) 1 0) seen in
+    let more : hidden shows xs ≡ 0 = all_seen shows xs (All-tail (λ (y : Binding). shows y.name ≡ true) x xs h) in
+    omega (arith, hidden_cons shows x xs, here, more)
+
+pub one_look_law : (shows : List ℕ → Bool) (rows : List Binding) → All (λ row. shows row.name ≡ true) rows → most_looks shows rows ≡ 1
+unfolding most_looks
+one_look_law shows rows h = let none : hidden shows rows ≡ 0 = all_seen shows rows h in omega (arith, none)

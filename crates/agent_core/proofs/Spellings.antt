@@ -1,6 +1,5 @@
 -- What Get and GetNext answer can be spelled.
 use Rattle.std.proofs.Common.{◌≡◌, ℕ, Bool, true, false, cond, List, [], ◌∷◌, Option, Some, None, refl, subst}
-use Rattle.std.specs.List.{AllByRecursion}
 use Rattle.oid_core.specs.Order.{name_eq, name_lt}
 use Rattle.oid_core.specs.Name.{HasRoot}
 use Rattle.message_core.specs.Spellable.{IsSpellableValue, IsSpellableBinding, AreSpellable}

@@ -58,7 +58,8 @@ fn repeat_once<S: Source, V: View, L: Ledger>(
     ensures work { let most = most_looks (V.shows view.now) (S.instances source.now) in
         steps.new + length sent.old.bindings * most ≤ steps.old + (length sent.new.bindings + 1) * most }
     ensures whole_work { let most = most_looks (V.shows view.now) (S.instances source.now) in
-        IfOk result (λ whole. IsTrue whole → steps.new + length sent.old.bindings * most ≤ steps.old + length sent.new.bindings * most) }
+        IfOk result (λ whole. IsTrue whole →
+        steps.new + length sent.old.bindings * most ≤ steps.old + length sent.new.bindings * most) }
 {
     for name in names {
         if !send_next(alloc, source, view, name, sent, steps)? {
@@ -173,9 +174,9 @@ fn max_repetitions(request: &Request) -> u32
 
 /// What GetBulk answers (RFC 3416, 4.2.3): the longest front of the list that it asks for whose reply has at most `MAX_REPLY`, 1,472, octets.
 ///
-/// It looks for a successor in the view for each binding that is sent, and for one more, whatever max-repetitions says: at most
-/// `most_successors`, 246, also where memory fails. Each look at the source is a step, and a successor takes one for each hidden
-/// instance that is passed over, and one more: at most `most_looks`. Only memory can fail.
+/// Each look at the source is a step. There are at most `most_looks` for each binding that is sent, and for one more, whatever
+/// max-repetitions says; so at most `most_successors`, 246, times as many, also where memory fails. `most_looks` is one more than
+/// the instances that the view hides. Only memory can fail.
 pub fn get_bulk<S: Source, V: View, L: Ledger>(
     alloc: Global,
     source: &S,
@@ -187,7 +188,8 @@ pub fn get_bulk<S: Source, V: View, L: Ledger>(
     requires spellable { AreSpellable request.now.bindings }
     ensures answer { IfOk result (λ sent. sent ≡ fitting request.now (asked_list (visible (V.shows view.now) (S.instances source.now)) request.now)) }
     ensures spellable { IfOk result (λ sent. AreSpellable sent) }
-    ensures work { IfOk result (λ sent. steps.new ≤ steps.old + (length sent + 1) * most_looks (V.shows view.now) (S.instances source.now)) }
+    ensures work { let most = most_looks (V.shows view.now) (S.instances source.now) in
+        IfOk result (λ sent. steps.new ≤ steps.old + (length sent + 1) * most) }
     ensures most_work { steps.new ≤ steps.old + most_successors * most_looks (V.shows view.now) (S.instances source.now) }
 {
     let asked = request.bindings.as_slice();

@@ -12,6 +12,7 @@ ghost use Rattle.oid_core.specs.Order.{is_prefix};
 ghost use Rattle.message_core.specs.Instances.{IsRising, after};
 ghost use Rattle.message_core.specs.declared.limits.TheConstants.{MAX_COMMUNITY, MAX_REPLY};
 ghost use Rattle.agent_core.specs.Reading.{visible, object_of, end_under};
+ghost use Rattle.agent_core.specs.Looking.{most_looks};
 ghost use Rattle.agent_core.specs.Bulk.{repetitions, IsRepeated};
 ghost use Rattle.agent_core.specs.Fitting.{fitting, least_binding, IsLongestFitting};
 ghost use Rattle.agent_core.specs.Replies.{AgreesOnAsked, get_reply, next_reply, bulk_reply, walk, last_name};
@@ -61,6 +62,11 @@ pub fn fitting_is_longest()
 pub fn repetitions_are_successors()
     ensures { (rows : List Binding) (names : List (List ℕ)) (most : ℕ) →
         (count : ℕ) × IsRepeated rows names most count (repetitions rows most names) }
+{}
+
+/// Where a view hides nothing, one look finds a successor.
+pub fn one_look_where_all_is_seen()
+    ensures { (shows : List ℕ → Bool) (rows : List Binding) → All (λ row. IsTrue (shows row.name)) rows → most_looks shows rows ≡ 1 }
 {}
 
 /// Few bindings fit: each has `least_binding`, 6, octets or more.

@@ -12,7 +12,7 @@
 //!
 //! # Laws
 //! In [`laws`]: replies hang on nothing but what is visible; repeated GetNext lists all of it; a name has one object;
-//! repetitions are successors; the longest front that fits.
+//! repetitions are successors; the longest front that fits; one look where nothing is hidden.
 //!
 //! # Not claimed
 //! That memory was refused where want of it is answered; Set, which is genErr today.

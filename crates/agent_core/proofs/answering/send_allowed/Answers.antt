@@ -1,4 +1,4 @@
-use Rattle.std.proofs.Common.{◌≡◌, ◌∙◌, ℕ, List, IfOk, ap, subst}
+use Rattle.std.proofs.Common.{◌≡◌, ◌∙◌, IfOk, ap, subst}
 use Rattle.vacm_core.specs.Families.{in_view}
 use Rattle.vacm_core.specs.Tables.{Tables}
 use Rattle.community_core.specs.Communities.{PolicyTables}

@@ -1,4 +1,4 @@
-use Rattle.std.proofs.Common.{◌≡◌, ◌≤◌, ◌∙◌, ap, pos, List, length, refl, sym, subst}
+use Rattle.std.proofs.Common.{◌∙◌, ap, pos, List, sym, subst}
 use Rattle.message_core.specs.Canon.{answer_to}
 use Rattle.message_core.specs.declared.reply.Reply.{Reply}
 use Rattle.message_core.specs.Spellable.{AreSpellable}

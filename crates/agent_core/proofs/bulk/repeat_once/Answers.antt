@@ -1,8 +1,6 @@
-use Rattle.std.proofs.Common.{◌∙◌, ◌++◌, ◌∷◌, [], length, ap, sym, subst, rules, List}
+use Rattle.std.proofs.Common.{length, sym, subst, rules}
 use Rattle.oid_core.specs.Name.{HasRoot}
-use Rattle.message_core.specs.declared.binding.Binding.{Binding}
 use Rattle.agent_core.specs.Reading.{visible, next_answer}
-use Rattle.agent_core.specs.Fitting.{fit_into}
 use Rattle.agent_core.proofs.Fits.{all_at, once_cut, once_more}
 use Rattle.agent_core.specs.Looking.{most_looks}
 use Rattle.agent_core.proofs.Looks.{beside_within, pushed_looks, cut_looks}

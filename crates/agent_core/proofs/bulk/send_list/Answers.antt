@@ -1,11 +1,11 @@
-use Rattle.std.proofs.Common.{◌≡◌, ◌∙◌, ◌++◌, ℕ, ◌-◌, ap, sym, subst, List, length, take, drop}
+use Rattle.std.proofs.Common.{◌∙◌, ◌++◌, ℕ, ◌-◌, ap, sym, subst, List, length, take, drop}
 use Rattle.std.specs.List.{AllByRecursion}
 use Rattle.oid_core.specs.Name.{HasRoot}
 use Rattle.message_core.specs.Spellable.{IsSpellableBinding}
 use Rattle.message_core.specs.declared.binding.Binding.{Binding}
 use Rattle.message_core.specs.Instances.{names_of}
-use Rattle.agent_core.specs.Reading.{visible, next_answers}
-use Rattle.agent_core.specs.Bulk.{repetitions, bulk_list}
+use Rattle.agent_core.specs.Reading.{visible}
+use Rattle.agent_core.specs.Bulk.{repetitions}
 use Rattle.agent_core.proofs.Fits.{all_take, all_drop, rooted, list_parts, list_whole, rest_whole, filled_at}
 use Rattle.agent_core.proofs.bulk.send_list.Goals as goal
 

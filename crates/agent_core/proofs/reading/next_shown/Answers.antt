@@ -1,5 +1,4 @@
-use Rattle.std.proofs.Common.{◌∙◌, ℕ, Bool, List, ap, sym, refl, find, rules}
-use Rattle.message_core.specs.declared.binding.Binding.{Binding}
+use Rattle.std.proofs.Common.{◌∙◌, ap, sym, refl, find, rules}
 use Rattle.agent_core.proofs.Rest.{from, next-visible, from_shorter, from_hidden}
 use Rattle.agent_core.proofs.Looks.{first_look, one_look, next_look, last_look}
 use Rattle.agent_core.proofs.reading.next_shown.Goals as goal
