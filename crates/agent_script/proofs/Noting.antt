@@ -81,7 +81,7 @@ module _ (agent : Agent) (s : Session) (opened : s.agent ≡ agent) where
   pub said_front_of : (lines : List (List ℕ)) (text : List ℕ) → s.is_whole ≡ true → IsFrontOf (λ all. SaysSome SaysToLine SaysAtEnd s lines all) text
       → IsFrontOf (λ all. IsSaidSome agent lines all) text
   said_front_of lines text whole p =
-      record { whole = p.whole; rest = p.rest; split = p.split; holds = said_some_of lines p.whole whole p.holds }
+      record { whole = p.whole; rest = p.rest; some = p.some; split = p.split; holds = said_some_of lines p.whole whole p.holds }
 
   pub said_before_of : (t : Session) (input rest text : List ℕ) → StopsBetween SaysToLine s t input rest text → IsSaidBefore agent input rest text
   said_before_of t input rest text p = record {

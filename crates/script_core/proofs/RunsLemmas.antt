@@ -83,13 +83,9 @@ Adds-written {a} {b} {none} {out} e took p =
 pub Writes-kept : {a b c : Option (List ℕ)} (P : List ℕ → Type 0) → Writes a b P → Keeps b c → Writes a c P
 Writes-kept {a} {b} {c} P p kept = record { text = p.text; took = Appends-kept a b c p.text p.took kept; holds = p.holds }
 
--- what was taken of these octets, where the rest is left, is a front of them
-pub IsFrontOf-left : (octets text rest : List ℕ) → octets ≡ text ++ rest → IsFrontOf (λ whole. whole ≡ octets) text
-IsFrontOf-left octets text rest e = record { whole = octets; rest = rest; split = e; holds = refl }
-
 pub IsFrontOf-weaker : {P : List ℕ → Type 0} (Q : List ℕ → Type 0) {text : List ℕ} → IsFrontOf P text
     → ((s : List ℕ) → P s → Q s) → IsFrontOf Q text
-IsFrontOf-weaker Q p f = record { whole = p.whole; rest = p.rest; split = p.split; holds = f p.whole p.holds }
+IsFrontOf-weaker Q p f = record { whole = p.whole; rest = p.rest; some = p.some; split = p.split; holds = f p.whole p.holds }
 
 -- a front behind what was written whole
 pub IsFrontOf-behind : {P : List ℕ → Type 0} (Q : List ℕ → Type 0) (s : List ℕ) {t : List ℕ} → IsFrontOf P t
@@ -97,6 +93,7 @@ pub IsFrontOf-behind : {P : List ℕ → Type 0} (Q : List ℕ → Type 0) (s : 
 IsFrontOf-behind Q s {t} p f = record {
   whole = s ++ p.whole;
   rest = p.rest;
+  some = omega (arith, length-append s p.whole, p.some);
   split = ap (λ l. s ++ l) p.split ∙ sym (append_assoc s t p.rest);
   holds = f p.whole p.holds;
 }

@@ -16,10 +16,11 @@ pub record Writes (old new : Option (List ℕ)) (P : List ℕ → Type 0) : Type
   pub took : Appends old new text
   pub holds : P text
 
--- a front of a text of which this holds: no octets of it, some, or all
+-- a front of a text that has octets and of which this holds: none of its octets, some, or all
 pub record IsFrontOf (P : List ℕ → Type 0) (front : List ℕ) : Type 0 where
   pub whole : List ℕ
   pub rest : List ℕ
+  pub some : 0 < length whole
   pub split : whole ≡ front ++ rest
   pub holds : P whole
 

@@ -1,5 +1,5 @@
 //! Writes octets, and tells which were taken where a write fails.
-ghost use Rattle.std.specs.Prelude.{◌≡◌, ◌++◌, IfOk, IfErr, OnOk, OnErr};
+ghost use Rattle.std.specs.Prelude.{◌≡◌, ◌<◌, ◌++◌, length, IfOk, IfErr, OnOk, OnErr};
 ghost use Rattle.std.specs.Io.KnownBytes.{Appends, Keeps};
 ghost use Rattle.script_core.specs.Runs.{Writes, IsFrontOf};
 
@@ -21,11 +21,12 @@ fn write_some<'a, W: Write>(octets: &'a [u8], writer: &mut W) -> Result<&'a [u8]
     }
 }
 
-/// Writes all octets, and flushes them. A write that was interrupted is made again.
+/// Writes all of some octets, at least one, and flushes them. A write that was interrupted is made again.
 ///
 /// # Errors
 /// `Output` where a write fails, takes nothing, or the flush fails: a front of the octets is written.
 pub fn write_octets<W: Write>(octets: &[u8], writer: &mut W) -> Result<(), RunFault>
+    requires { 0 < length octets.now }
     ensures written { OnOk result (Appends (W.contents writer.old) (W.contents writer.new) octets.now) }
     ensures front { OnErr result (Writes (W.contents writer.old) (W.contents writer.new) (λ text.
         IsFrontOf (λ whole. whole ≡ octets.now) text)) }
