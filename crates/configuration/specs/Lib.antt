@@ -6,3 +6,4 @@ pub mod Ports
 pub mod Serving
 pub mod Configurations
 pub mod Bounds
+pub mod Sentences

@@ -3,13 +3,14 @@
 //!
 //! # Entry points
 //! [`configuration_in`] reads octets, [`configuration_of_text`] a text, [`configuration_of`] a table of TOML; each gives the configuration or its
-//! first fault.
+//! first fault. [`sentence`] is what an operator is told of a fault.
 //!
 //! # Definitions
-//! `specs/Configurations.antt`: what a configuration says, and its first fault; a file for each part.
+//! `specs/Configurations.antt`: what a configuration says, and its first fault; a file for each part;
+//! `specs/Bounds.antt`: the bounds of each; `specs/Sentences.antt`: the text of each fault.
 //!
 //! # Laws
-//! In [`laws`]: a table that says a configuration has no fault; the limits are what they are.
+//! In [`laws`]: a table that says a configuration has no fault; a configuration is one that a bridge can have; the limits are what they are.
 //!
 //! # Not claimed
 //! That memory is there; TOML and the texts of socket addresses, whose readers are the kit's.
@@ -22,12 +23,14 @@ pub mod laws;
 mod numbers;
 mod ports;
 mod reading;
+mod sentences;
 mod serve;
 mod sockets;
 
 pub use configuration::{BUILT_IN, Configuration, Port, ROUNDS_MAX, Serve, WORKERS_MAX};
 pub use fault::ConfigurationFault;
 pub use reading::{configuration_in, configuration_of, configuration_of_text};
+pub use sentences::sentence;
 
 #[cfg(test)]
 mod tests;

@@ -194,3 +194,43 @@ fn other_octets_are_refused(rt: HostRuntime) -> Result<(), Fail> {
     assert_eq!(rt; fault, Some(ConfigurationFault::BadText));
     Ok(())
 }
+
+const COMMUNITY: &str =
+    "[[community]]\nindex = \"a\"\nname = \"x\"\nsecurity = \"x\"\ncontext = \"\"\n";
+
+#[test]
+fn faults_are_told(rt: HostRuntime) -> Result<(), Fail> {
+    let tables = "community = []\ngroup = []\naccess = []\nfamily = []\n";
+    let others = "contexts = []\ngroup = []\naccess = []\nfamily = []\n";
+    let long = "contexts = [\"\", \"a-name-of-33-octets-for-a-context\"]\n";
+    let slow = "[[port]]\nifindex = 1\nspeed = 40\nfull = true\n";
+    let mut twice = String::from_str(rt.alloc(), COMMUNITY)?;
+    twice.push_str(COMMUNITY)?;
+    for (parts, told) in [
+        (
+            ["address = \"\"\n", POLICY, PORT, ""],
+            "top level: address is to be a string of 12 hexadecimal digits, and no group address",
+        ),
+        (
+            [ADDRESS, POLICY, PORT, slow],
+            "row 2 of [[port]], counted from 1: its keys are to be ifindex (1 to 2147483647), speed (10, 100 or 1000) and full (true or false), and may be listen and peer (as 127.0.0.1:161), and no others",
+        ),
+        (
+            [ADDRESS, "name = 1\n", POLICY, PORT],
+            "top level: its keys are to be address, port, contexts, community, group, access and family, the last five arrays, and may be serve, and no others",
+        ),
+        (
+            [ADDRESS, long, tables, PORT],
+            "row 2 of contexts, counted from 1: a context is to have at most 32 octets",
+        ),
+        (
+            [ADDRESS, others, PORT, twice.as_str()],
+            "row 2 of [[community]], counted from 1: no earlier row may have its index",
+        ),
+    ] {
+        let fault = fault_of(rt.alloc(), parts)?.ok_or("it is right")?;
+        let text = sentence(rt.alloc(), fault)?;
+        assert!(rt; text.as_str() == told, "{text}");
+    }
+    Ok(())
+}

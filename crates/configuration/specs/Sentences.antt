@@ -1,0 +1,77 @@
+-- What an operator is told of each fault: where it stands, and what would be right there.
+use Rattle.std.specs.Prelude.{ℕ, ◌+◌, ◌-◌, ◌^◌, min, codes, decimal, List, ◌++◌}
+use Rattle.vacm_core.specs.declared.fault.PolicyFault.{PolicyFault}
+use Rattle.vacm_core.specs.declared.fault.PolicyFault.TheVariants.{Memory as NoMemory, Duplicate, BadLength, BadField}
+use Rattle.vacm_core.specs.declared.fault.PolicyTable.{PolicyTable}
+use Rattle.vacm_core.specs.declared.fault.PolicyTable.TheVariants.{Groups, Access, Families, Contexts, Communities}
+use Rattle.configuration.specs.declared.fault.ConfigurationFault.{ConfigurationFault}
+use Rattle.configuration.specs.declared.fault.ConfigurationFault.TheVariants.{Memory, BadText, BadAddress, BadPorts, BadPort, BadServe, BadKeys, Policy}
+
+-- the number of a row, counted from 1, of one that is counted from 0; no table has 2^64 rows
+abbrev pub counted : ℕ → ℕ
+counted row = min (row + 1) (2 ^ 64 - 1)
+
+-- a row of a table, and what would be right there
+abbrev pub row_sentence : List ℕ → ℕ → List ℕ → List ℕ
+row_sentence table row rule =
+    codes "row " ++ (decimal (counted row) ++ (codes " of " ++ (table ++ (codes ", counted from 1: " ++ rule))))
+
+-- a table as it stands in the text
+abbrev pub table_key : PolicyTable → List ℕ
+table_key Groups = codes "[[group]]"
+table_key Access = codes "[[access]]"
+table_key Families = codes "[[family]]"
+table_key Contexts = codes "contexts"
+table_key Communities = codes "[[community]]"
+
+-- which keys no earlier row may have
+abbrev pub key_rule : PolicyTable → List ℕ
+key_rule Groups = codes "no earlier row may have its model and name"
+key_rule Access = codes "no earlier row may have its group, prefix, model and level"
+key_rule Families = codes "no earlier row may have its view and subtree"
+key_rule Contexts = codes "any context may stand twice"
+key_rule Communities = codes "no earlier row may have its index"
+
+-- how long its texts may be
+abbrev pub length_rule : PolicyTable → List ℕ
+length_rule Groups = codes "name and group are to have 1 to 32 octets"
+length_rule Access = codes "group is to have 1 to 32 octets, prefix, read, write and notify at most 32"
+length_rule Families = codes "view is to have 1 to 32 octets, mask at most 16, and view and subtree at most 114 together"
+length_rule Contexts = codes "a context is to have at most 32 octets"
+length_rule Communities = codes "index and security are to have 1 to 32 octets, name 1 to 255, context at most 32"
+
+-- which keys and values a row is to have; a plain text is one of ASCII letters and digits, `-`, `_` and `.`
+abbrev pub field_rule : PolicyTable → List ℕ
+field_rule Groups = codes "its keys are to be model (1 to 2147483647), name and group (plain texts), and no others"
+field_rule Access =
+    codes "its keys are to be group, prefix, read, write and notify (plain texts), model (0 to 2147483647), level (1 to 3) and exact (true or false), and no others"
+field_rule Families =
+    codes "its keys are to be view (a plain text), subtree (as 1.3.6.1), mask (hexadecimal) and included (true or false), and no others"
+field_rule Contexts = codes "a context is to be a plain text"
+field_rule Communities = codes "its keys are to be index, security and context (plain texts) and name (a string), and no others"
+
+abbrev pub memory_sentence : List ℕ
+memory_sentence = codes "no memory to read it, which says nothing of it"
+
+abbrev pub policy_sentence : PolicyFault → List ℕ
+policy_sentence NoMemory = memory_sentence
+policy_sentence (Duplicate table row) = row_sentence (table_key table) row (key_rule table)
+policy_sentence (BadLength table row) = row_sentence (table_key table) row (length_rule table)
+policy_sentence (BadField table row) = row_sentence (table_key table) row (field_rule table)
+
+-- which keys a port is to have
+abbrev pub port_rule : List ℕ
+port_rule =
+    codes "its keys are to be ifindex (1 to 2147483647), speed (10, 100 or 1000) and full (true or false), and may be listen and peer (as 127.0.0.1:161), and no others"
+
+abbrev pub sentence : ConfigurationFault → List ℕ
+sentence Memory = memory_sentence
+sentence BadText = codes "the text: it is to be a TOML document in UTF-8"
+sentence BadAddress = codes "top level: address is to be a string of 12 hexadecimal digits, and no group address"
+sentence BadPorts = codes "top level: port is to be an array of 1 to 32 tables"
+sentence (BadPort row) = row_sentence (codes "[[port]]") row port_rule
+sentence BadServe =
+    codes "table serve: its keys are to be snmp (as 127.0.0.1:161), workers (1 to 8) and rounds (1 to 1000000), and no others"
+sentence BadKeys =
+    codes "top level: its keys are to be address, port, contexts, community, group, access and family, the last five arrays, and may be serve, and no others"
+sentence (Policy fault) = policy_sentence fault
