@@ -168,7 +168,7 @@ impl Bridge {
     /// Gives a setting that there is a value in its range, and answers the one before. Every event reads the settings as they are: the
     /// next tick ages by them, and the next frame comes in where its port is enabled by them; `port_facts` shows by them whether a port
     /// is on, its cost and whether its link is point to point. So call `settle` before any other event: until then a port that was
-    /// disabled may still be sent frames.
+    /// disabled may still be sent frames, and where its link goes down in between also after it, until the port starts anew.
     pub fn put_setting(&mut self, key: Key, value: u32) -> u32
         requires key { HasKey self.old.settings key }
         requires value { IsInRange key value }

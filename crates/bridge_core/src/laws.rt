@@ -1,7 +1,8 @@
 //! Laws of forwarding: of every bridge, and of a bridge after any list of events from its opening on (a second, a link event, a frame,
 //! or settings that are put and then settled). Each function does nothing: its contract is the law.
 //!
-//! Not true here, and not claimed: that no port forwards while it is disabled between `put_setting` and `settle`.
+//! Not true here, and not claimed: that no port forwards while it is disabled between `put_setting` and `settle`; nor after it
+//! where its link goes down in between, until it starts anew.
 ghost use Rattle.std.specs.Prelude.{◌≡◌, ◌≢◌, ◌≤◌, ◌<◌, ◌↔◌, ◌==◌, ◌&&◌, ℕ, Bool, true, false, not, List, [], ◌∷◌, length, Some, Contains};
 ghost use Rattle.frame_core.specs.declared.mac.Mac.{Mac};
 ghost use Rattle.frame_core.specs.declared.frame.FrameIn.{FrameIn};

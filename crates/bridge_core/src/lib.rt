@@ -15,7 +15,8 @@
 //! there is no root port.
 //!
 //! # Not claimed
-//! That no port forwards while it is disabled between `put_setting` and `settle`.
+//! That no port forwards while it is disabled between `put_setting` and `settle`; nor after it where its link goes down in
+//! between, until it starts anew.
 #![tactic(auto)]
 
 mod bridge;

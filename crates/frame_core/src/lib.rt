@@ -9,8 +9,8 @@
 //! `specs/Reading.antt`: the same as a function; `specs/Sending.antt`: the octets that are sent.
 //!
 //! # Laws
-//! In [`laws`]: a frame is one thing or one fault; what is written is read back; the lengths and the group address are
-//! what they are.
+//! In [`laws`]: a frame is one thing or one fault; the lengths and the group address are what they are. That what is
+//! written is read back is a clause of [`write_bpdu`].
 //!
 //! # Not claimed
 //! Check sequences, which hardware adds and takes away; VLAN tags.

@@ -49,14 +49,14 @@ pub fn only_active_ports_learn_or_forward()
         → Runs a cs hs s t → All MayLearn (rows_of s t) }
 {}
 
-/// At most one port is the root port.
+/// Of at most [`MAX_PORTS`] ports at most one is the root port.
 pub fn root_port_is_one()
     ensures { (a : Mac) (cs : List PortConfig) (hs : List Happening) (s : Table) (t : Tree)
         → length cs ≤ MAX_PORTS → Runs a cs hs s t
         → (m n : ℕ) → IsRootPort t m → IsRootPort t n → m ≡ n }
 {}
 
-/// The address in the bridge identifier of a root port's vector is another bridge's.
+/// The address in the bridge identifier of a root port's vector is another bridge's, with at most [`MAX_PORTS`] ports.
 pub fn root_port_hears_another()
     ensures { (a : Mac) (cs : List PortConfig) (hs : List Happening) (s : Table) (t : Tree)
         → length cs ≤ MAX_PORTS → Runs a cs hs s t

@@ -39,13 +39,13 @@ pub fn runs_keep_the_bridge()
         → IsLegal s t → Leads s t hs r u → IsSameBridge t u }
 {}
 
-/// At most one port is the root port.
+/// Of at most [`MAX_PORTS`] ports at most one is the root port.
 pub fn root_port_is_one()
     ensures { (s : Table) (t : Tree) → IsLegal s t → length t.ports ≤ MAX_PORTS
         → (m n : ℕ) → IsRootPort t m → IsRootPort t n → m ≡ n }
 {}
 
-/// The address in the bridge identifier of a root port's vector is another bridge's.
+/// The address in the bridge identifier of a root port's vector is another bridge's, with at most [`MAX_PORTS`] ports.
 pub fn root_port_hears_another()
     ensures { (s : Table) (t : Tree) → IsLegal s t → length t.ports ≤ MAX_PORTS
         → (n : ℕ) → IsRootPort t n → (port_at t n).vector.bridge.address ≢ t.address }
@@ -62,7 +62,7 @@ pub fn root_is_this_bridge()
         → (t.facts.root.vector.root ≡ own_id s t.address) ↔ IsRootBridge s t }
 {}
 
-/// The number of the root port is 0 exactly there.
+/// The number of the root port is 0 exactly there, with at most [`MAX_PORTS`] ports.
 pub fn root_port_is_0_at_the_root()
     ensures { (s : Table) (t : Tree) → IsLegal s t → length t.ports ≤ MAX_PORTS
         → (port_number t.facts.root.receiver ≡ 0) ↔ IsRootBridge s t }

@@ -172,9 +172,10 @@ impl Rstp {
         &self.facts
     }
 
-    /// The settled values.
+    /// The settled values, of as many ports.
     pub fn settled(&self) -> &Settled
-        ensures { result.now ≡ self.now.settled }
+        ensures value { result.now ≡ self.now.settled }
+        ensures ports { length result.now.ports ≡ length self.now.ports }
     {
         &self.settled
     }
@@ -258,8 +259,9 @@ impl Rstp {
         self.end(settings, false, was_times, rows)
     }
 
-    /// Settles changed settings: ports whose version or enabling changed start anew, a changed edge setting takes effect, protocol
-    /// migration checks are done and spent, and what was settled is kept for the next settling.
+    /// Settles changed settings: every port starts anew where the version changed, and a port whose link is up where its enabling
+    /// changed; a changed edge setting takes effect, protocol migration checks are done and spent, and what was settled is kept for
+    /// the next settling.
     pub fn settle(&mut self, settings: &mut Settings) -> Outcome
         requires { length settings.old.ports ≡ length self.old.ports }
         ensures event { Settles settings.old self.old self.new result }

@@ -68,7 +68,7 @@ impl Settled {
         }
     }
 
-    /// The version: 0 or 2.
+    /// The version setting as it was settled.
     pub fn version(&self) -> u32
         ensures { result ≡ self.now.version }
     {
