@@ -6,6 +6,6 @@ use Rattle.message_core.specs.declared.binding.Binding.{Binding}
 abbrev pub hidden : (List ℕ → Bool) → List Binding → ℕ
 hidden shows rows = count_by (λ row. not (shows row.name)) rows
 
--- The most looks that one successor in the view takes: one for each hidden instance that is passed over, and one more.
+-- The most looks that one successor in the view takes: one for each instance that the view hides, and one more.
 unfoldable pub most_looks : (List ℕ → Bool) → List Binding → ℕ
 most_looks shows rows = hidden shows rows + 1

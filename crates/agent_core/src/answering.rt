@@ -27,7 +27,7 @@ use vacm_core::Name;
 
 /// Answers a request over a plain world by RFC 3416, 4.2, as the policy lets its caller see it (RFC 3415, 3.2). The buffer holds the
 /// reply in its minimal spelling, or nothing where the request is dropped; a drop is counted, and nothing else changes in the world.
-/// How often a GetBulk looks for a successor hangs on what it sends, and not on max-repetitions: see `get_bulk`.
+/// How often a GetBulk looks for a successor is said by `get_bulk`, and by no clause here.
 ///
 /// The caller hands in a request whose names and OBJECT IDENTIFIER values have a spelling, as `decode` gives it.
 ///

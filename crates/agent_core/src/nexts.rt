@@ -28,7 +28,7 @@ fn end_under(alloc: Global, name: &Oid) -> Result<Binding, AllocError>
 
 /// What GetNext answers under a name (RFC 3416, 4.2.2), over the instances that the view shows. Only memory can fail.
 ///
-/// It looks at the source once for each hidden instance that it passes over, and once more.
+/// It looks at the source at most once for each instance that the view hides, and once more.
 pub fn get_next<S: Source, V: View, L: Ledger>(
     alloc: Global,
     source: &S,
