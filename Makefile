@@ -1,6 +1,6 @@
 .PHONY: run test bench wrong-bodies
 
-# Answers the worked request. It compiles and runs, and proves nothing.
+# Answers some worked lines. It compiles and runs, and proves nothing.
 run:
 	cd crates/agentd && rt try < stdin
 
