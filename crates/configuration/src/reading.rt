@@ -1,8 +1,9 @@
 //! Reads a configuration.
-ghost use Rattle.std.specs.Prelude.{◌≡◌, ◌≢◌, ◌⊎◌, ◌↔◌, IfOk, IfErr};
+ghost use Rattle.std.specs.Prelude.{◌≡◌, ◌≢◌, ◌⊎◌, ◌↔◌, IsSome, IfOk, IfErr};
 ghost use Rattle.toml.specs.Errors.{IsMemory};
 ghost use Rattle.toml.specs.View.{table_view};
-ghost use Rattle.policy_text.specs.Policies.{IsPolicy};
+ghost use Rattle.policy_text.specs.Policies.{IsPolicy, TakesMemory};
+ghost use Rattle.policy_text.specs.Texts.{text_of};
 ghost use Rattle.configuration.specs.Configurations.{without, policy_members, IsRestFault, IsConfiguration, IsFault, IsConfigurationText, IsTextFault, IsConfigurationIn, IsFaultIn};
 
 use crate::address::address_of;
@@ -34,6 +35,7 @@ fn policy_table(table: Table) -> Table
 fn rest_policy(alloc: Global, table: &Table) -> Result<Policy, ConfigurationFault>
     ensures policy { IfOk result (λ p. IsPolicy (table_view table.now) p) }
     ensures fault { IfErr result (λ e. e ≢ ConfigurationFault.Memory → IsRestFault (table_view table.now) e) }
+    ensures memory { IfErr result (λ e. e ≡ ConfigurationFault.Memory → TakesMemory (table_view table.now)) }
 {
     if !has_policy_keys(table) {
         return Err(ConfigurationFault::BadKeys);
@@ -46,10 +48,13 @@ fn rest_policy(alloc: Global, table: &Table) -> Result<Policy, ConfigurationFaul
 /// # Errors
 ///
 /// The first fault, of `address`, then of `port`, then of `serve`, then of the keys of the rest, which is the
-/// policy's table, then of their values; `Memory` where a growth was refused.
+/// policy's table, then of their values; `Memory` where a growth was refused, which comes only where reading the policy may
+/// lack memory.
 pub fn configuration_of(alloc: Global, table: Table) -> Result<Configuration, ConfigurationFault>
     ensures configuration { IfOk result (λ c. IsConfiguration (table_view table) c) }
     ensures fault { IfErr result (λ e. e ≢ ConfigurationFault.Memory → IsFault (table_view table) e) }
+    ensures memory { IfErr result (λ e. e ≡ ConfigurationFault.Memory →
+        TakesMemory (policy_members (table_view table))) }
 {
     let address = address_of(&table).ok_or(ConfigurationFault::BadAddress)?;
     let ports = ports_of(&table)?;
@@ -94,10 +99,11 @@ pub fn configuration_of_text(alloc: Global, text: &str) -> Result<Configuration,
 ///
 /// # Errors
 ///
-/// `BadText` where the octets are no UTF-8 (RFC 3629), else as [`configuration_of_text`] has it.
+/// `BadText` where the octets are no UTF-8 (RFC 3629), which takes no memory, else as [`configuration_of_text`] has it.
 pub fn configuration_in(alloc: Global, octets: &[u8]) -> Result<Configuration, ConfigurationFault>
     ensures configuration { IfOk result (λ c. IsConfigurationIn octets.now c) }
     ensures fault { IfErr result (λ e. e ≢ ConfigurationFault.Memory → IsFaultIn octets.now e) }
+    ensures memory { IfErr result (λ e. e ≡ ConfigurationFault.Memory → IsSome (text_of octets.now)) }
 {
     match text_of(octets) {
         Some(text) => configuration_of_text(alloc, text),
