@@ -56,7 +56,8 @@ fn repeat_once<S: Source, V: View, L: Ledger>(
         IsFilled sent.new.room (sent.old.bindings ++ (next_answers (visible (V.shows view.now) (S.instances source.now)) names.now ++ more)) sent.new.bindings) }
     ensures room { sent.new.room ≡ sent.old.room }
     ensures work { let most = most_looks (V.shows view.now) (S.instances source.now) in
-        steps.new + length sent.old.bindings * most ≤ steps.old + (length sent.new.bindings + 1) * most }
+        steps.new + length sent.old.bindings * most
+        ≤ steps.old + (length sent.new.bindings + 1) * most }
     ensures whole_work { let most = most_looks (V.shows view.now) (S.instances source.now) in
         IfOk result (λ whole. IsTrue whole →
         steps.new + length sent.old.bindings * most ≤ steps.old + length sent.new.bindings * most) }
@@ -107,7 +108,8 @@ fn repeat<S: Source, V: View, L: Ledger>(
     ensures filled { OnOk result (IsFilled sent.old.room (sent.old.bindings ++ repetitions (visible (V.shows view.now) (S.instances source.now)) most columns.items) sent.new.bindings) }
     ensures room { sent.new.room ≡ sent.old.room }
     ensures work { let most = most_looks (V.shows view.now) (S.instances source.now) in
-        steps.new + length sent.old.bindings * most ≤ steps.old + (length sent.new.bindings + 1) * most }
+        steps.new + length sent.old.bindings * most
+        ≤ steps.old + (length sent.new.bindings + 1) * most }
 {
     let mut names = columns;
     for i in 0..most {
@@ -139,7 +141,8 @@ fn send_list<S: Source, V: View, L: Ledger>(
     ensures filled { OnOk result (IsFilled sent.old.room (sent.old.bindings ++ bulk_list (visible (V.shows view.now) (S.instances source.now)) once most (names_of asked.now)) sent.new.bindings) }
     ensures room { sent.new.room ≡ sent.old.room }
     ensures work { let most = most_looks (V.shows view.now) (S.instances source.now) in
-        steps.new + length sent.old.bindings * most ≤ steps.old + (length sent.new.bindings + 1) * most }
+        steps.new + length sent.old.bindings * most
+        ≤ steps.old + (length sent.new.bindings + 1) * most }
 {
     let first = copied_names(alloc, &asked[..once])?;
     if !repeat_once(alloc, source, view, first.as_slice(), sent, steps)? {
@@ -172,7 +175,8 @@ fn max_repetitions(request: &Request) -> u32
     count_of(request.second)
 }
 
-/// What GetBulk answers (RFC 3416, 4.2.3): the longest front of the list that it asks for whose reply has at most `MAX_REPLY`, 1,472, octets.
+/// What GetBulk answers (RFC 3416, 4.2.3): the longest front of the list that it asks for whose reply has at most `MAX_REPLY`,
+/// 1,472, octets.
 ///
 /// Each look at the source is a step. There are at most `most_looks` for each binding that is sent, and for one more, whatever
 /// max-repetitions says; so at most `most_successors`, 246, times as many, also where memory fails. `most_looks` is one more than

@@ -65,7 +65,8 @@ pub fn denied_bindings(
     view: &Name,
     request: &Request,
 ) -> Result<DeniedBindings, AllocError>
-    ensures denied { IfOk result (λ denied. denied ≡ denied_in vacm.now.families view.now request.now request.now.kind) }
+    ensures denied { IfOk result (λ denied.
+        denied ≡ denied_in vacm.now.families view.now request.now request.now.kind) }
     ensures takes { OnErr result (request.now.kind ≡ Kind.Get) }
 {
     match request.kind {

@@ -38,7 +38,8 @@ fn shows_below<S: Source, V: View, L: Ledger>(
     object: &Oid,
     steps: &mut Steps<L>,
 ) -> Result<bool, AllocError>
-    ensures answer { IfOk result (λ b. b ≡ list_any (λ row. is_prefix object.now row.name) (visible (V.shows view.now) (S.instances source.now))) }
+    ensures answer { IfOk result (λ b.
+        b ≡ list_any (λ row. is_prefix object.now row.name) (visible (V.shows view.now) (S.instances source.now))) }
     ensures work { steps.new ≤ steps.old + most_looks (V.shows view.now) (S.instances source.now) }
 {
     source.known();
@@ -60,7 +61,9 @@ fn knows_object<S: Source, V: View, L: Ledger>(
     name: &Oid,
     steps: &mut Steps<L>,
 ) -> Result<bool, AllocError>
-    ensures answer { IfOk result (λ b. b ≡ is_known shown (visible (V.shows view.now) (S.instances source.now)) (object_of (S.objects source.now) name.now)) }
+    ensures answer { IfOk result (λ b.
+        b ≡ is_known shown (visible (V.shows view.now) (S.instances source.now))
+        (object_of (S.objects source.now) name.now)) }
     ensures work { steps.new ≤ steps.old + most_looks (V.shows view.now) (S.instances source.now) }
 {
     let Some(object) = source.object(name) else {
@@ -93,7 +96,9 @@ pub fn get<S: Source, V: View, L: Ledger>(
     name: &Oid,
     steps: &mut Steps<L>,
 ) -> Result<Binding, AllocError>
-    ensures answer { IfOk result (λ b. b ≡ get_answer (S.objects source.now) (V.shows view.now name.now) (visible (V.shows view.now) (S.instances source.now)) name.now) }
+    ensures answer { IfOk result (λ b.
+        b ≡ get_answer (S.objects source.now) (V.shows view.now name.now)
+        (visible (V.shows view.now) (S.instances source.now)) name.now) }
     ensures work { steps.new ≤ steps.old + most_looks (V.shows view.now) (S.instances source.now) }
 {
     let Ok(asked) = name.try_copy(alloc) else {
@@ -118,7 +123,8 @@ pub fn get_all<S: Source, V: View, L: Ledger>(
     asked: &[Binding],
     steps: &mut Steps<L>,
 ) -> Result<Bindings, AllocError>
-    ensures answers { IfOk result (λ answers. answers ≡ get_answers (S.objects source.now) (V.shows view.now) (S.instances source.now) asked.now) }
+    ensures answers { IfOk result (λ answers.
+        answers ≡ get_answers (S.objects source.now) (V.shows view.now) (S.instances source.now) asked.now) }
     ensures work { steps.new ≤ steps.old + length asked.now * most_looks (V.shows view.now) (S.instances source.now) }
 {
     let mut answers = Bindings::new(alloc);

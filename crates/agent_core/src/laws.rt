@@ -49,12 +49,14 @@ pub fn walk_lists_all()
 /// Where no object's name begins another's, the object of a name is the one that begins it: there is no other.
 pub fn one_object()
     ensures { (objects : List (List ℕ)) (name : List ℕ) → AreApart objects →
-        All (λ object. IsTrue (is_prefix object name) → object_of objects name ≡ Some object) objects }
+        All (λ object. IsTrue (is_prefix object name) →
+        object_of objects name ≡ Some object) objects }
 {}
 
 /// What GetBulk sends is the longest front of its list that fits into a reply; a community has at most `MAX_COMMUNITY` octets.
 pub fn fitting_is_longest()
-    ensures { (request : Request) (all : List Binding) → length request.community ≤ MAX_COMMUNITY → IsLongestFitting request all (fitting request all) }
+    ensures { (request : Request) (all : List Binding) → length request.community ≤ MAX_COMMUNITY →
+        IsLongestFitting request all (fitting request all) }
 {}
 
 /// A GetBulk repeats (RFC 3416, 4.2.3): the binding of repetition r and column c is the r-th successor of that column's name, each
@@ -66,10 +68,12 @@ pub fn repetitions_are_successors()
 
 /// Where a view hides nothing, one look finds a successor.
 pub fn one_look_where_all_is_seen()
-    ensures { (shows : List ℕ → Bool) (rows : List Binding) → All (λ row. IsTrue (shows row.name)) rows → most_looks shows rows ≡ 1 }
+    ensures { (shows : List ℕ → Bool) (rows : List Binding) → All (λ row. IsTrue (shows row.name)) rows →
+        most_looks shows rows ≡ 1 }
 {}
 
 /// Few bindings fit: each has `least_binding`, 6, octets or more.
 pub fn few_fit()
-    ensures { (request : Request) (all : List Binding) → length request.community ≤ MAX_COMMUNITY → least_binding * length (fitting request all) ≤ MAX_REPLY }
+    ensures { (request : Request) (all : List Binding) → length request.community ≤ MAX_COMMUNITY →
+        least_binding * length (fitting request all) ≤ MAX_REPLY }
 {}

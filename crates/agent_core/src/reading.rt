@@ -19,7 +19,8 @@ pub fn next_shown<S: Source, V: View, L: Ledger>(
     name: &Oid,
     steps: &mut Steps<L>,
 ) -> Result<Option<Binding>, AllocError>
-    ensures found { IfOk result (λ found. found ≡ next_of (visible (V.shows view.now) (S.instances source.now)) name.now) }
+    ensures found { IfOk result (λ found.
+        found ≡ next_of (visible (V.shows view.now) (S.instances source.now)) name.now) }
     ensures work { steps.new ≤ steps.old + most_looks (V.shows view.now) (S.instances source.now) }
 {
     source.known();

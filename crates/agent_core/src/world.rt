@@ -79,8 +79,11 @@ impl PlainWorld {
         }) }
         ensures unsorted { IsErrOf result WorldFault.Unsorted ↔ ¬ IsRising instances.items }
         ensures unspellable { IsErrOf result WorldFault.Unspellable ↔ (IsRising instances.items × ¬ AreSpellable instances.items) }
-        ensures exceptional { IsErrOf result WorldFault.Exceptional ↔ (IsRising instances.items × AreSpellable instances.items × ¬ AllByRecursion (λ row. IsInstanceValue row.value) instances.items) }
-        ensures nested { IsErrOf result WorldFault.Nested ↔ (IsRising instances.items × AreSpellable instances.items ×
+        ensures exceptional { IsErrOf result WorldFault.Exceptional ↔
+            (IsRising instances.items × AreSpellable instances.items ×
+            ¬ AllByRecursion (λ row. IsInstanceValue row.value) instances.items) }
+        ensures nested { IsErrOf result WorldFault.Nested ↔
+            (IsRising instances.items × AreSpellable instances.items ×
             AllByRecursion (λ row. IsInstanceValue row.value) instances.items × ¬ AreApart objects.items) }
     {
         if !rises(instances.as_slice()) {
