@@ -1,12 +1,12 @@
 -- What a bridge is: its settings, its spanning tree, the addresses that it has learned, and its counters.
-use Rattle.std.specs.Prelude.{ℕ, ◌-◌, Bool, ◌&&◌, List, length, slice_index_or}
+use Rattle.std.specs.Prelude.{ℕ, ◌-◌, Bool, List, length, slice_index_or}
 use Rattle.frame_core.specs.declared.mac.Mac.{Mac}
 use Rattle.fdb_core.specs.declared.row.Row.{Row}
 use Rattle.rstp_settings.specs.Table.{Table}
 use Rattle.rstp_rules.specs.declared.config.PortConfig.{PortConfig}
 use Rattle.rstp_rules.specs.declared.port.Port.{Port}
-use Rattle.rstp_rules.specs.Lines.{enabled_by}
 use Rattle.rstp_core.specs.Tree.{Tree, port_at, config_at}
+use Rattle.rstp_core.specs.Runs.{is_on as tree_is_on}
 use Rattle.bridge_core.specs.declared.counters.PortCounters.{PortCounters}
 
 -- The frames whose source was not learned for want of room, and the counters of port 1, port 2, ..
@@ -44,4 +44,4 @@ counters_of b n = slice_index_or b.counters.ports (n - 1) no_counters
 
 -- A port is on where it is enabled by its setting and its link is up.
 abbrev pub is_on : BridgeState → ℕ → Bool
-is_on b n = enabled_by b.settings n && (port_of b n).link
+is_on b n = tree_is_on b.settings b.tree n

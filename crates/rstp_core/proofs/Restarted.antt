@@ -37,6 +37,7 @@ use Rattle.rstp_core.proofs.Places.{AllHold, IsHeld, HoldsTurns, hold-refl, hold
 use Rattle.rstp_core.proofs.Happenings.{IsCalm, IsReady, which, row_at, OwnPart, own_part, event_of, same_length, was_enabled, Alike, alike, spent_alike}
 use Rattle.rstp_core.proofs.Numbered.{IsFixed, fixed_held, fixed_keeps, fixed_expired, fixed_chosen, fixed_ready, numbered, own_numbered}
 use Rattle.rstp_core.proofs.Keeps.{sent-keeps}
+use Rattle.rstp_core.proofs.TurnsClosed.{or_false, or_true, same_number}
 use Rattle.rstp_core.proofs.LegalTrees.{rows_are, row_is, legal_ready, happening_legal}
 
 -- A port as the roles are about to be chosen, where e says that it is set to be at the edge.
@@ -152,10 +153,6 @@ started_if : (q z : Bool) (a b r : Row) → z ≡ false → IsStarted Forwarding
 started_if true z a b r e h i = h
 started_if false false a b r e h i = i
 started_if false true a b r e h i = cc
-
-or_false : (b : Bool) → (b || false) ≡ b
-or_false true = refl
-or_false false = refl
 
 not_over : (n : ℕ) → 1 ≤ n → eqb n 0 ≡ false
 not_over n h = elim (eqb_tells n 0) [ inl e ↦ absurd (omega (arith, e.1, h)) | inr d ↦ d.0 ]
@@ -344,9 +341,6 @@ differ true false h = refl
 differ false true h = refl
 differ false false h = absurd (h refl)
 
-same_number : (n : ℕ) → eqb n n ≡ true
-same_number n = elim (eqb_tells n n) [ inl e ↦ e.0 | inr d ↦ absurd (d.1 refl) ]
-
 linked_first : (n : ℕ) (up : Bool) (q : Row) → q.line.number ≡ n → q.line.enabled ≡ true → q.port.link ≢ up → (let p = linked n up q in IsFirst p.line.edge p)
 linked_first n up q number enabled link =
     let s = record q { line = record q.line { on = q.line.enabled && up }; port = record q.port { link = up } } in
@@ -360,10 +354,6 @@ changed true true h = absurd (h refl)
 changed true false h = refl
 changed false true h = refl
 changed false false h = absurd (h refl)
-
-or_true : (b : Bool) → (b || true) ≡ true
-or_true true = refl
-or_true false = refl
 
 first_both : (b : Bool) (x y : Row) → IsFirst x.line.edge x → IsFirst y.line.edge y → (let p = cond b x y in IsFirst p.line.edge p)
 first_both true x y h i = h

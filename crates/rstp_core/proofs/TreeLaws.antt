@@ -32,6 +32,7 @@ use Rattle.rstp_core.specs.Legal.{IsLegal, IsRootBridge}
 use Rattle.rstp_core.proofs.Bests.{bridge_total}
 use Rattle.rstp_core.proofs.Roled.{choice-root, choice-first, own_vector, offered_if}
 use Rattle.rstp_core.proofs.Places.{IsFrom, candidate_from}
+use Rattle.rstp_core.proofs.TurnsClosed.{same_number}
 use Rattle.rstp_core.proofs.Happenings.{Left-at, id_of, row_at, event_of}
 use Rattle.rstp_core.proofs.LegalTrees.{rows_are, row_is, row_chosen, row_role, legal_ready}
 
@@ -139,9 +140,6 @@ root_source s t h =
           let within : from.place < length t.ports = omega (arith, from.within, rows_are s t h.configured) in
           inr (from.place, record { within = within; offered = offer own (row_at s t from.place) best (ap (candidate own) (sym (row_is s t h.configured from.place within)) ∙ from.offers) })
     ]
-
-same_number : (n : ℕ) → eqb n n ≡ true
-same_number n = elim (eqb_tells n n) [ inl e ↦ e.0 | inr d ↦ absurd (d.1 refl) ]
 
 -- the port that offers it is the root port
 offered_root : (s : Table) (t : Tree) → IsLegal s t → (k : ℕ) → IsOffered s t k → IsRootPort t (1 + k)

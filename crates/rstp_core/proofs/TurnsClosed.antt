@@ -171,11 +171,11 @@ one_more xs r n h =
     let e : suc n ≡ n + 1 = omega arith in
     ap (λ (m : ℕ). list_any (other r) (take m xs)) e ∙ list_any_more (other r) xs n no_row h
 
-or_false : (b : Bool) → (b || false) ≡ b
+pub or_false : (b : Bool) → (b || false) ≡ b
 or_false true = refl
 or_false false = refl
 
-or_true : (b : Bool) → (b || true) ≡ true
+pub or_true : (b : Bool) → (b || true) ≡ true
 or_true true = refl
 or_true false = refl
 
@@ -183,7 +183,7 @@ and_false : (b : Bool) → (b && false) ≡ false
 and_false true = refl
 and_false false = refl
 
-same_number : (n : ℕ) → eqb n n ≡ true
+pub same_number : (n : ℕ) → eqb n n ≡ true
 same_number n = elim (eqb_tells n n) [ inl e ↦ e.0 | inr d ↦ absurd (d.1 refl) ]
 
 -- a row that starts no change for the port of row r

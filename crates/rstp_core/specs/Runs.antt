@@ -65,6 +65,7 @@ event_by (Settle v) s t = settling_event v t
 abbrev pub version_of : Table → ℕ
 version_of s = get s (key.Bridge bridge.Version)
 
+-- Port n is on: enabled by its setting, and its link is up.
 abbrev pub is_on : Table → Tree → ℕ → Bool
 is_on s t n = enabled_by s n && (port_at t n).link
 
