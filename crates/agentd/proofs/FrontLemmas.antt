@@ -52,3 +52,8 @@ front_of_first old new a b first = record {
 
 pub front_none : (old : Option (List ℕ)) → TakesFront old old []
 front_none old = record { front = []; rest = []; whole = refl; took = Appends-nil old }
+
+-- what was taken stays
+pub front_kept : (old mid new : Option (List ℕ)) (text : List ℕ) → TakesFront old mid text → Keeps mid new → TakesFront old new text
+front_kept old mid new text taken kept =
+    record { front = taken.front; rest = taken.rest; whole = taken.whole; took = Appends-kept old mid new taken.front taken.took kept }

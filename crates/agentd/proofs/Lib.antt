@@ -1,2 +1,3 @@
 pub mod FrontLemmas
 pub mod OpeningLemmas
+pub mod TellingLemmas

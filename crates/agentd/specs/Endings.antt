@@ -25,8 +25,8 @@ status_of (Err failure) = failure_status failure
 
 -- what a failure is called, and what it names
 abbrev pub failure_words : Failure → List ℕ
-failure_words (Usage why) = codes "usage: agentd [script --config FILE]: "
-failure_words NotText = codes "usage: agentd [script --config FILE]: a word is no text"
+failure_words (Usage why) = codes "usage: agentd [script|check --config FILE]: "
+failure_words NotText = codes "usage: agentd [script|check --config FILE]: a word is no text"
 failure_words (CannotRead file) = codes "cannot read "
 failure_words Refused = codes "configuration refused"
 failure_words Input = codes "input failed"

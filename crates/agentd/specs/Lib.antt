@@ -1,4 +1,5 @@
 pub mod Agents
 pub mod Runs
 pub mod Endings
+pub mod Telling
 pub mod Programs

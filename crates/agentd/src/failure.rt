@@ -1,5 +1,6 @@
 //! Why the program ends with another status than 0.
 ghost use Rattle.std.specs.Prelude.{◌≡◌, ◌++◌};
+ghost use Rattle.agentd.specs.Telling.{IsTold};
 ghost use Rattle.agentd.specs.Endings.{failure_status, failure_words, failure_name, failure_line, failure_of, run_failure, TakesFront};
 
 use crate::opening::NotRun;
@@ -80,8 +81,8 @@ impl Failure<'_> {
         ensures { result.now ≡ failure_words self.now }
     {
         match self {
-            Failure::Usage(_) => b"usage: agentd [script --config FILE]: ",
-            Failure::NotText => b"usage: agentd [script --config FILE]: a word is no text",
+            Failure::Usage(_) => b"usage: agentd [script|check --config FILE]: ",
+            Failure::NotText => b"usage: agentd [script|check --config FILE]: a word is no text",
             Failure::CannotRead(_) => b"cannot read ",
             Failure::Refused => b"configuration refused",
             Failure::Input => b"input failed",
@@ -120,4 +121,20 @@ pub fn report<E: Write>(failure: &Failure<'_>, errors: &mut E) -> u8
 {
     let _ = write_line(failure, errors);
     failure.status()
+}
+
+/// Writes a text to the output, and flushes it.
+///
+/// # Errors
+/// `Output` where a write fails, behind a front of the text, or where the flush does.
+pub fn tell<'a, O: Write>(text: &[u8], writer: &mut O) -> Result<(), Failure<'a>>
+    ensures { IsTold O.contents text.now writer.old writer.new result }
+{
+    match write_front(writer, text) {
+        Ok(()) => match writer.flush() {
+            Ok(()) => Ok(()),
+            Err(_) => Err(Failure::Output),
+        },
+        Err(_) => Err(Failure::Output),
+    }
 }

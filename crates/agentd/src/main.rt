@@ -1,19 +1,23 @@
 //! The agent, driven by a script from standard input.
 //!
 //! # Entry points
-//! `run_words` over words, streams and the file system gives the exit status: 0, 1 or 2.
+//! `run_words` over words, streams and the file system gives the exit status: 0, 1 or 2. `run_octets` runs the script by the
+//! octets of a configuration, `check_octets` tells whether octets are one.
 //!
 //! # Definitions
-//! None of its own yet.
+//! `specs/Agents.antt`: the agent that a configuration opens; `specs/Runs.antt`: what a run by octets promises;
+//! `specs/Endings.antt`: statuses, and the line of each failure; `specs/Telling.antt`: what a check tells;
+//! `specs/Programs.antt`: what the program does with its words.
 //!
 //! # Laws
 //! None.
 //!
 //! # Not claimed
-//! Which of the three statuses comes, what is written, and that the file named is the configuration that runs: tests
-//! hold these. What a file holds and a terminal shows.
+//! Which words are a command, the text of the help, and that the octets that run are those of the file named: tests hold
+//! these. That memory was refused where the answer is for want of it. What a file holds and a terminal shows.
 #![tactic(auto)]
 
+mod checking;
 mod failure;
 mod opening;
 mod run;

@@ -3,7 +3,8 @@ ghost use Rattle.std.specs.Prelude.{◌≡◌, length};
 ghost use Rattle.agentd.specs.Endings.{ended_by};
 ghost use Rattle.agentd.specs.Programs.{RunsBy, HasEnded, IsProgramRun};
 
-use crate::failure::{Failure, failure_of, report};
+use crate::checking::check_octets;
+use crate::failure::{Failure, failure_of, report, tell};
 use crate::running::run_octets;
 use crate::words::{Asked, asked_by};
 use configuration::BUILT_IN;
@@ -56,6 +57,11 @@ where
             let octets = read_file(rt, file)?;
             run_by(rt.alloc(), &octets, reader, writer)
         }
+        Ok(Asked::Check(file)) => {
+            let octets = read_file(rt, file)?;
+            check_octets(rt.alloc(), &octets, writer)
+        }
+        Ok(Asked::Text(text)) => tell(text.as_bytes(), writer),
         Err(failure) => Err(failure),
     }
 }

@@ -1,4 +1,5 @@
 //! Runs over readers and writers in memory.
+use crate::failure::{Failure, report};
 use crate::run::run_words;
 use configuration::BUILT_IN;
 use std::alloc::{AllocGlobal, Global};
@@ -121,24 +122,49 @@ fn ran<R: Files + AllocGlobal>(rt: &R, texts: &[&str], script: &[u8]) -> Result<
     })
 }
 
+// A run of this word on a file of this text.
+fn ran_by<R: Files + AllocGlobal>(
+    rt: &R,
+    word: &str,
+    name: &str,
+    text: &[u8],
+    script: &[u8],
+) -> Result<Finished, Fail> {
+    fs::write(rt, name, text)?;
+    let run = ran(rt, &["agentd", word, "--config", name], script)?;
+    fs::remove_file(rt, name)?;
+    Ok(run)
+}
+
 #[test]
 fn takes_no_other_words(rt: HostRuntime) -> Result<(), Fail> {
-    for words in [
-        ["agentd", "script", "", ""].as_slice(),
-        ["agentd", "script"].as_slice(),
-        ["agentd", "serve", "--config", "a.toml"].as_slice(),
-        ["agentd", "script", "--config"].as_slice(),
-        ["agentd", "--config", "a.toml"].as_slice(),
-        ["agentd", "script", "--config", "a.toml", "--fast"].as_slice(),
-        ["agentd", "--help"].as_slice(),
+    for (words, wrong) in [
+        (["agentd", "script", "", ""].as_slice(), ""),
+        (["agentd", "script"].as_slice(), "--config <FILE>"),
+        (
+            ["agentd", "serve", "--config", "a.toml"].as_slice(),
+            "serve",
+        ),
+        (
+            ["agentd", "check", "--config"].as_slice(),
+            "--config <FILE>",
+        ),
+        (["agentd", "--config", "a.toml"].as_slice(), "--config"),
+        (
+            ["agentd", "script", "--config", "a.toml", "--fast"].as_slice(),
+            "--fast",
+        ),
     ] {
         let run = ran(&rt, words, GET)?;
+        let line = std::str::from_utf8(run.errors.as_slice())?;
+        assert!(rt;
+            line.starts_with("agentd: usage: agentd [script|check --config FILE]: "),
+            "{line}"
+        );
+        assert!(rt; line.contains(wrong), "{line}");
+        assert_eq!(rt; line.lines().count(), 1, "{line}");
         assert_eq!(rt;
-            (
-                run.status,
-                run.out.is_empty(),
-                run.errors.starts_with(b"agentd: usage")
-            ),
+            (run.status, run.out.is_empty(), line.ends_with("\n")),
             (2, true, true)
         );
     }
@@ -146,9 +172,50 @@ fn takes_no_other_words(rt: HostRuntime) -> Result<(), Fail> {
 }
 
 #[test]
+fn tells_its_help(rt: HostRuntime) -> Result<(), Fail> {
+    for (words, told) in [
+        (["agentd", "--help"].as_slice(), "script  Runs the script"),
+        (["agentd", "--help"].as_slice(), "check   Tells whether"),
+        (["agentd", "script", "--help"].as_slice(), "--config <FILE>"),
+        (
+            ["agentd", "script", "--help"].as_slice(),
+            "link P up         the link of port P goes up",
+        ),
+        (["agentd", "script", "--help"].as_slice(), "Example: printf"),
+        (["agentd", "check", "--help"].as_slice(), "--config <FILE>"),
+        (["agentd", "--version"].as_slice(), "agentd 0.1\n"),
+    ] {
+        let run = ran(&rt, words, GET)?;
+        let text = std::str::from_utf8(run.out.as_slice())?;
+        assert!(rt; text.contains(told), "{text}");
+        assert_eq!(rt; (run.status, run.errors.is_empty()), (0, true));
+    }
+    Ok(())
+}
+
+// Words that cannot be had: there is no memory for them, or they are no text.
+#[test]
+fn says_why_it_has_no_words(rt: HostRuntime) -> Result<(), Fail> {
+    for (kind, status, line) in [
+        (ErrorKind::OutOfMemory, 1, "agentd: run failed\n"),
+        (
+            ErrorKind::InvalidData,
+            2,
+            "agentd: usage: agentd [script|check --config FILE]: a word is no text\n",
+        ),
+    ] {
+        let mut errors = Vec::new(rt.alloc());
+        let failure = Failure::from(Error::from(kind));
+        assert_eq!(rt; report(&failure, &mut errors), status);
+        assert_eq!(rt; errors.as_slice(), line.as_bytes());
+        assert_eq!(rt; report(&failure, &mut Full), status);
+    }
+    Ok(())
+}
+
+#[test]
 fn runs_by_a_file(rt: HostRuntime) -> Result<(), Fail> {
-    fs::write(&rt, "built_in.toml", BUILT_IN)?;
-    let run = ran(&rt, &["agentd", "script", "--config", "built_in.toml"], GET)?;
+    let run = ran_by(&rt, "script", "built_in.toml", BUILT_IN.as_bytes(), GET)?;
     assert_eq!(rt;
         (run.status, run.out.as_slice(), run.errors.as_slice()),
         (0, REPLY, b"".as_slice())
@@ -174,8 +241,7 @@ fn refuses_a_configuration(rt: HostRuntime) -> Result<(), Fail> {
         ("octets.toml", b"# \xFF\n"),
         ("address.toml", b"address = \"01000000000A\"\n"),
     ] {
-        fs::write(&rt, name, text)?;
-        let run = ran(&rt, &["agentd", "script", "--config", name], GET)?;
+        let run = ran_by(&rt, "script", name, text, GET)?;
         assert_eq!(rt;
             (run.status, run.out.is_empty(), run.errors.as_slice()),
             (2, true, b"agentd: configuration refused\n".as_slice())
@@ -189,12 +255,94 @@ fn refuses_a_configuration(rt: HostRuntime) -> Result<(), Fail> {
 fn has_the_ports_of_its_configuration(rt: HostRuntime) -> Result<(), Fail> {
     let mut text = String::from_str(rt.alloc(), BUILT_IN)?;
     text.push_str("[[port]]\nifindex = 3\nspeed = 10\nfull = false\n")?;
-    fs::write(&rt, "three.toml", text.as_bytes())?;
     let script = b"frame 3 0200\nframe 4 0200\n".as_slice();
-    let run = ran(&rt, &["agentd", "script", "--config", "three.toml"], script)?;
+    let run = ran_by(&rt, "script", "three.toml", text.as_bytes(), script)?;
     assert_eq!(rt;
         (run.status, run.out.as_slice()),
         (0, b"badframe Short\nbadline\n".as_slice())
+    );
+    Ok(())
+}
+
+/// Another community, view, address and port than the built-in configuration has.
+const OTHER: &str = "address = \"02AABBCCDDEE\"
+contexts = []
+[[port]]
+ifindex = 7
+speed = 1000
+full = true
+[[community]]
+index = \"s\"
+name = \"sesame\"
+security = \"gate\"
+context = \"\"
+[[group]]
+model = 2
+name = \"gate\"
+group = \"visitors\"
+[[access]]
+group = \"visitors\"
+prefix = \"\"
+model = 2
+level = 1
+exact = true
+read = \"part\"
+write = \"\"
+notify = \"\"
+[[family]]
+view = \"part\"
+subtree = \"1.3.6.1.2.1.17\"
+mask = \"\"
+included = true
+[[family]]
+view = \"part\"
+subtree = \"1.3.6.1.2.1.17.1.2\"
+mask = \"\"
+included = false
+";
+
+/// Asks as `public` and as `sesame` for 1.3.6.1.2.1.17.1.2.0, and lets two links go up.
+const OTHER_SCRIPT: &[u8] =
+    b"request 302702010104067075626C6963A01A020101020100020100300F300D06092B06010201110102000500
+audit on
+request 30270201010406736573616D65A01A020101020100020100300F300D06092B06010201110102000500
+link 1 up
+link 2 up
+";
+
+/// What is said to it.
+const OTHER_TEXT: &[u8] = b"drop UnknownCommunity
+reply 30270201010406736573616D65A21A020101020100020100300F300D06092B06010201110102008000
+audit get 0 0 ok access(visitors,,2,1) view part denied 1 family(part,1.3.6.1.2.1.17.1.2)
+bpdu 1 0180C200000002AABBCCDDEE0027424203000002020E800002AABBCCDDEE00000000800002AABBCCDDEE80010000140002000F000000000000000000
+badline
+";
+
+// The policy, the address and the ports are the file's.
+#[test]
+fn runs_by_its_own_configuration(rt: HostRuntime) -> Result<(), Fail> {
+    let run = ran_by(&rt, "script", "other.toml", OTHER.as_bytes(), OTHER_SCRIPT)?;
+    assert_eq!(rt;
+        (run.status, run.out.as_slice(), run.errors.as_slice()),
+        (0, OTHER_TEXT, b"".as_slice())
+    );
+    Ok(())
+}
+
+#[test]
+fn checks_a_configuration(rt: HostRuntime) -> Result<(), Fail> {
+    let run = ran_by(&rt, "check", "right.toml", BUILT_IN.as_bytes(), GET)?;
+    assert_eq!(rt;
+        (run.status, run.out.as_slice(), run.errors.as_slice()),
+        (0, b"configuration ok\n".as_slice(), b"".as_slice())
+    );
+    let group = b"address = \"01000000000A\"\n".as_slice();
+    let run = ran_by(&rt, "check", "wrong.toml", group, GET)?;
+    let told =
+        b"top level: address is to be a string of 12 hexadecimal digits, and no group address\n".as_slice();
+    assert_eq!(rt;
+        (run.status, run.out.as_slice(), run.errors.as_slice()),
+        (2, told, b"agentd: configuration refused\n".as_slice())
     );
     Ok(())
 }

@@ -1,0 +1,68 @@
+-- What is written of a text, and what a check tells of octets.
+use Rattle.std.specs.Prelude.{◌≡◌, ◌≢◌, ◌⊎◌, ℕ, codes, List, ◌++◌, Option, Result, Ok, Err}
+use Rattle.std.specs.Io.KnownBytes.{Appends}
+use Rattle.configuration.specs.declared.configuration.Configuration.{Configuration}
+use Rattle.configuration.specs.declared.fault.ConfigurationFault.{ConfigurationFault}
+use Rattle.configuration.specs.declared.fault.ConfigurationFault.TheVariants.{Memory}
+use Rattle.configuration.specs.Configurations.{IsConfigurationIn, IsFaultIn}
+use Rattle.configuration.specs.Sentences.{sentence}
+use Rattle.agentd.specs.declared.failure.Failure.{Failure}
+use Rattle.agentd.specs.declared.failure.Failure.TheVariants.{Usage, NotText, CannotRead, Refused, Input, Output, Run as RunFailed}
+use Rattle.agentd.specs.Endings.{TakesFront}
+
+-- what is said of a configuration, and of a fault
+abbrev pub ok_text : List ℕ
+ok_text = codes "configuration ok\n"
+
+abbrev pub fault_text : ConfigurationFault → List ℕ
+fault_text fault = sentence fault ++ codes "\n"
+
+-- this is the first fault of the octets, unless it is want of memory, which says nothing of them
+abbrev pub IsFaultFound : List ℕ → ConfigurationFault → Type 0
+IsFaultFound octets fault = fault ≢ Memory → IsFaultIn octets fault
+
+-- A writer that may tell which octets it took.
+module _ {O : Type 0} (contents : O → Option (List ℕ)) where
+  -- A failure of the output: a front of this text was written.
+  abbrev pub IsCutOff : List ℕ → O → O → Failure → Type 0
+  IsCutOff text writer writer' (Usage why) = ⊥
+  IsCutOff text writer writer' NotText = ⊥
+  IsCutOff text writer writer' (CannotRead file) = ⊥
+  IsCutOff text writer writer' Refused = ⊥
+  IsCutOff text writer writer' Input = ⊥
+  IsCutOff text writer writer' Output = TakesFront (contents writer) (contents writer') text
+  IsCutOff text writer writer' RunFailed = ⊥
+
+  -- This text was written, or a front of it until the output failed.
+  abbrev pub IsTold : List ℕ → O → O → Result (Unit {0}) Failure → Type 0
+  IsTold text writer writer' (Ok done) = Appends (contents writer) (contents writer') text
+  IsTold text writer writer' (Err failure) = IsCutOff text writer writer' failure
+
+  -- A fault was told, and the configuration is refused; or the output failed before its end; or there was no memory for its sentence,
+  -- and nothing was written.
+  abbrev pub IsFaultTold : ConfigurationFault → O → O → Failure → Type 0
+  IsFaultTold fault writer writer' (Usage why) = ⊥
+  IsFaultTold fault writer writer' NotText = ⊥
+  IsFaultTold fault writer writer' (CannotRead file) = ⊥
+  IsFaultTold fault writer writer' Refused = Appends (contents writer) (contents writer') (fault_text fault)
+  IsFaultTold fault writer writer' Input = ⊥
+  IsFaultTold fault writer writer' Output = TakesFront (contents writer) (contents writer') (fault_text fault)
+  IsFaultTold fault writer writer' RunFailed = writer' ≡ writer
+
+  -- the octets are no configuration, and that is told
+  pub record IsRefusalTold (octets : List ℕ) (writer writer' : O) (failure : Failure) : Type 0 where
+    pub fault : ConfigurationFault
+    pub found : IsFaultFound octets fault
+    pub told : IsFaultTold fault writer writer' failure
+
+  -- the octets are a configuration, and that is told, whole or until the output failed
+  pub record IsRightTold (octets : List ℕ) (writer writer' : O) (ended : Result (Unit {0}) Failure) : Type 0 where
+    pub configuration : Configuration
+    pub said : IsConfigurationIn octets configuration
+    pub told : IsTold ok_text writer writer' ended
+
+  -- What a check of octets comes to.
+  abbrev pub IsChecked : List ℕ → O → O → Result (Unit {0}) Failure → Type 0
+  IsChecked octets writer writer' (Ok done) = IsRightTold octets writer writer' (Ok done)
+  IsChecked octets writer writer' (Err failure) =
+      IsRightTold octets writer writer' (Err failure) ⊎ IsRefusalTold octets writer writer' failure
