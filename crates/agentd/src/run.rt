@@ -1,7 +1,7 @@
 //! What the program does with its words.
 ghost use Rattle.std.specs.Prelude.{◌≡◌, length};
 ghost use Rattle.agentd.specs.Endings.{ended_by};
-ghost use Rattle.agentd.specs.Programs.{RunsBy, HasEnded, IsProgramRun};
+ghost use Rattle.agentd.specs.Programs.{RunsBy, RunsByRead, HasEnded, IsProgramRun};
 
 use crate::checking::check_octets;
 use crate::failure::{Failure, failure_of, report, tell};
@@ -15,7 +15,7 @@ use std::rt::Files;
 
 /// Runs the program on the words of its command line, its name first, and gives its exit status: 0; 1 where input, output or
 /// the run failed; 2 for words that are no command, and for a configuration that cannot be read or is refused. A failure is
-/// written to `errors` as one line.
+/// written to `errors` as one line. Files are read only; no clause can say so, nor what one holds.
 pub fn run_words<R, I, O, E>(
     rt: &R,
     words: &[String],
@@ -53,10 +53,7 @@ where
 {
     match asked_by(rt.alloc(), words) {
         Ok(Asked::BuiltIn) => run_by(rt.alloc(), BUILT_IN.as_bytes(), reader, writer),
-        Ok(Asked::Script(file)) => {
-            let octets = read_file(rt, file)?;
-            run_by(rt.alloc(), &octets, reader, writer)
-        }
+        Ok(Asked::Script(file)) => run_read(rt.alloc(), read_file(rt, file), reader, writer),
         Ok(Asked::Check(file)) => {
             let octets = read_file(rt, file)?;
             check_octets(rt.alloc(), &octets, writer)
@@ -79,6 +76,22 @@ fn run_by<'a, I: Read, O: Write>(
     match run_octets(alloc, octets, reader, writer) {
         Ok(_) => Ok(()),
         Err(why) => Err(failure_of(why)),
+    }
+}
+
+// Runs the script by the octets that were read of a file; where it could not be read, by nothing else.
+fn run_read<'a, I: Read, O: Write>(
+    alloc: Global,
+    read: Result<Vec<u8>, Failure<'a>>,
+    reader: &mut I,
+    writer: &mut O,
+) -> Result<(), Failure<'a>>
+    ensures { RunsByRead I.remaining O.contents read
+        reader.old reader.new writer.old writer.new result }
+{
+    match read {
+        Ok(octets) => run_by(alloc, &octets, reader, writer),
+        Err(why) => Err(why),
     }
 }
 
