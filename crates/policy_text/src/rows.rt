@@ -1,7 +1,7 @@
 //! Reads the rows of a policy's tables.
-ghost use Rattle.std.specs.Prelude.{◌≡◌, ◌≢◌, Option, Some, IsSome, IfOk, IfErr, OnErr, map, option_map, option_and_then};
+ghost use Rattle.std.specs.Prelude.{◌≡◌, ◌≢◌, Option, Some, IsSome, IfOk, IfErr, OnErr, map, option_map};
 ghost use Rattle.hex.specs.Hex.{decode_of};
-ghost use Rattle.toml.specs.Data.{Data, as_table};
+ghost use Rattle.toml.specs.Data.{Data};
 ghost use Rattle.toml.specs.View.{view, table_view};
 ghost use Rattle.policy_text.specs.Typed.{context_typed, group_typed, access_typed, family_typed, community_typed};
 ghost use Rattle.policy_text.specs.Reading.{IsFirstUnread, BeginsTyped, AreRows, IsContext, IsGroup, IsAccess, IsFamily, IsCommunity, context_says, group_says, group_of, group_members, access_says, access_of, access_members, family_says, family_members, parts_say, texts_say, mask_of, subtree_says, community_says, community_of, community_members};
