@@ -1,3 +1,4 @@
+//! What is told of a request that was answered.
 use audit_core::Audit;
 
 /// What a request is answered.

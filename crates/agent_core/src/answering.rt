@@ -1,3 +1,4 @@
+//! Answers a request: the decision, the reply by its kind, the audit (RFC 3416, 4.2).
 ghost use Rattle.std.specs.Prelude.{◌≡◌, ◌≢◌, ◌≤◌, ◌<◌, length, IfOk, OnErr};
 ghost use Rattle.message_core.specs.Canon.{canon_reply};
 ghost use Rattle.message_core.specs.Spellable.{AreSpellable};
@@ -149,7 +150,9 @@ fn send_kind<S: Source, V: View>(
 ) -> Result<SentReply, AllocError>
     requires community { length request.now.community ≤ MAX_COMMUNITY }
     requires spellable { AreSpellable request.now.bindings }
-    ensures sent { IfOk result (λ sent. IsSent (kind_reply (S.objects source.now) (V.shows view.now) (S.instances source.now) request.now request.now.kind) sent buffer.new) }
+    ensures sent { IfOk result (λ sent.
+        IsSent (kind_reply (S.objects source.now) (V.shows view.now)
+        (S.instances source.now) request.now request.now.kind) sent buffer.new) }
     ensures err { OnErr result (buffer.new ≡ buffer.old) }
     ensures takes { OnErr result (request.now.kind ≢ Kind.Set) }
 {
@@ -181,7 +184,9 @@ fn send_get<S: Source, V: View, L: Ledger>(
     requires name { blank.name ≡ L.name }
     requires parts { blank.parts ≡ L.parts }
     requires some { 0 < blank.parts }
-    ensures sent { IfOk result (λ sent. IsSent (get_reply (S.objects source.now) (V.shows view.now) (S.instances source.now) request.now) sent buffer.new) }
+    ensures sent { IfOk result (λ sent.
+        IsSent (get_reply (S.objects source.now) (V.shows view.now)
+        (S.instances source.now) request.now) sent buffer.new) }
     ensures err { OnErr result (buffer.new ≡ buffer.old) }
 {
     let mut steps: Steps<L> = Steps::new(blank);
@@ -204,7 +209,9 @@ fn send_get_next<S: Source, V: View, L: Ledger>(
     requires name { blank.name ≡ L.name }
     requires parts { blank.parts ≡ L.parts }
     requires some { 0 < blank.parts }
-    ensures sent { IfOk result (λ sent. IsSent (next_reply (V.shows view.now) (S.instances source.now) request.now) sent buffer.new) }
+    ensures sent { IfOk result (λ sent.
+        IsSent (next_reply (V.shows view.now)
+        (S.instances source.now) request.now) sent buffer.new) }
     ensures err { OnErr result (buffer.new ≡ buffer.old) }
 {
     let mut steps: Steps<L> = Steps::new(blank);
@@ -227,7 +234,9 @@ fn send_get_bulk<S: Source, V: View, L: Ledger>(
     requires name { blank.name ≡ L.name }
     requires parts { blank.parts ≡ L.parts }
     requires some { 0 < blank.parts }
-    ensures sent { IfOk result (λ sent. IsSent (bulk_reply (V.shows view.now) (S.instances source.now) request.now) sent buffer.new) }
+    ensures sent { IfOk result (λ sent.
+        IsSent (bulk_reply (V.shows view.now)
+        (S.instances source.now) request.now) sent buffer.new) }
     ensures err { OnErr result (buffer.new ≡ buffer.old) }
 {
     let mut steps: Steps<L> = Steps::new(blank);

@@ -1,3 +1,4 @@
+//! The room for one reply, and what is put into it (RFC 3416, 4.2: tooBig).
 ghost use Rattle.std.specs.Prelude.{◌≡◌, ◌≤◌, [], length, pos, take};
 ghost use Rattle.message_core.specs.Canon.{canon_reply, answer_to};
 ghost use Rattle.message_core.specs.Spellable.{AreSpellable};
@@ -63,7 +64,8 @@ impl Buffer {
     ) -> SentReply
         requires community { length request.now.community ≤ MAX_COMMUNITY }
         requires spellable { AreSpellable bindings.now }
-        ensures { IsSent (sized (answer_to request.now status (pos 0) bindings.now)) result self.new }
+        ensures { IsSent (sized (answer_to request.now status
+            (pos 0) bindings.now)) result self.new }
     {
         let sent = put_sized(request, status, bindings, &mut self.octets);
         self.length = sent.length;
@@ -80,7 +82,8 @@ fn put_sized(
 ) -> SentReply
     requires community { length request.now.community ≤ MAX_COMMUNITY }
     requires spellable { AreSpellable bindings.now }
-    ensures sent { IsSent (sized (answer_to request.now status (pos 0) bindings.now)) result (record { reply = take result.length octets.new }) }
+    ensures sent { IsSent (sized (answer_to request.now status (pos 0) bindings.now)) result
+        (record { reply = take result.length octets.new }) }
     ensures most { result.length ≤ MAX_REPLY }
 {
     match encode_answer(request, status, 0, bindings, octets) {
@@ -100,8 +103,10 @@ fn put_sized(
 // Writes tooBig without bindings, which fits beside a community of at most `MAX_COMMUNITY` octets.
 fn put_too_big(request: &Request, octets: &mut [u8; MAX_REPLY]) -> usize
     requires { length request.now.community ≤ MAX_COMMUNITY }
-    ensures reply { take result octets.new ≡ canon_reply (answer_to request.now ErrorStatus.TooBig (pos 0) []) }
-    ensures len { result ≡ length (canon_reply (answer_to request.now ErrorStatus.TooBig (pos 0) [])) }
+    ensures reply { take result octets.new ≡ canon_reply (answer_to request.now ErrorStatus.TooBig
+        (pos 0) []) }
+    ensures len { result ≡ length (canon_reply (answer_to request.now ErrorStatus.TooBig
+        (pos 0) [])) }
     ensures most { result ≤ MAX_REPLY }
 {
     short_reply_fits();

@@ -1,3 +1,4 @@
+//! GetBulk: non-repeaters, repetitions, and where they stop (RFC 3416, 4.2.3).
 ghost use Rattle.std.specs.Prelude.{◌≡◌, ◌≤◌, ◌+◌, ◌*◌, ◌++◌, [], ◌∷◌, List, false, length, min, IfOk, OnOk, OnErr, IsTrue, take, drop};
 ghost use Rattle.std.specs.List.{AllByRecursion};
 ghost use Rattle.oid_core.specs.Name.{HasRoot};
@@ -29,9 +30,13 @@ fn send_next<S: Source, V: View, L: Ledger>(
     steps: &mut Steps<L>,
 ) -> Result<bool, AllocError>
     requires { HasRoot name.now }
-    ensures taken { IfOk result (λ taken. IsTrue taken → sent.new.bindings ≡ sent.old.bindings ++ next_answer (visible (V.shows view.now) (S.instances source.now)) name.now ∷ []) }
+    ensures taken { IfOk result (λ taken. IsTrue taken →
+        sent.new.bindings ≡ sent.old.bindings ++ next_answer (visible (V.shows view.now)
+        (S.instances source.now)) name.now ∷ []) }
     ensures full { IfOk result (λ taken. taken ≡ false → sent.new.bindings ≡ sent.old.bindings) }
-    ensures fits { IfOk result (λ taken. taken ≡ fit_into sent.old.room (sent.old.bindings ++ next_answer (visible (V.shows view.now) (S.instances source.now)) name.now ∷ [])) }
+    ensures fits { IfOk result (λ taken.
+        taken ≡ fit_into sent.old.room (sent.old.bindings ++ next_answer
+        (visible (V.shows view.now) (S.instances source.now)) name.now ∷ [])) }
     ensures room { sent.new.room ≡ sent.old.room }
     ensures err { OnErr result (sent.new.bindings ≡ sent.old.bindings) }
     ensures work { steps.new ≤ steps.old + most_looks (V.shows view.now) (S.instances source.now) }
@@ -105,7 +110,9 @@ fn repeat<S: Source, V: View, L: Ledger>(
     steps: &mut Steps<L>,
 ) -> Result<(), AllocError>
     requires { AllByRecursion HasRoot columns.items }
-    ensures filled { OnOk result (IsFilled sent.old.room (sent.old.bindings ++ repetitions (visible (V.shows view.now) (S.instances source.now)) most columns.items) sent.new.bindings) }
+    ensures filled { OnOk result (IsFilled sent.old.room (sent.old.bindings ++ repetitions
+        (visible (V.shows view.now)
+        (S.instances source.now)) most columns.items) sent.new.bindings) }
     ensures room { sent.new.room ≡ sent.old.room }
     ensures work { let most = most_looks (V.shows view.now) (S.instances source.now) in
         steps.new + length sent.old.bindings * most
@@ -138,7 +145,9 @@ fn send_list<S: Source, V: View, L: Ledger>(
 ) -> Result<(), AllocError>
     requires once { once ≤ length asked.now }
     requires spellable { AreSpellable asked.now }
-    ensures filled { OnOk result (IsFilled sent.old.room (sent.old.bindings ++ bulk_list (visible (V.shows view.now) (S.instances source.now)) once most (names_of asked.now)) sent.new.bindings) }
+    ensures filled { OnOk result (IsFilled sent.old.room (sent.old.bindings ++ bulk_list
+        (visible (V.shows view.now) (S.instances source.now)) once most
+        (names_of asked.now)) sent.new.bindings) }
     ensures room { sent.new.room ≡ sent.old.room }
     ensures work { let most = most_looks (V.shows view.now) (S.instances source.now) in
         steps.new + length sent.old.bindings * most
@@ -190,11 +199,14 @@ pub fn get_bulk<S: Source, V: View, L: Ledger>(
 ) -> Result<Bindings, AllocError>
     requires community { length request.now.community ≤ MAX_COMMUNITY }
     requires spellable { AreSpellable request.now.bindings }
-    ensures answer { IfOk result (λ sent. sent ≡ fitting request.now (asked_list (visible (V.shows view.now) (S.instances source.now)) request.now)) }
+    ensures answer { IfOk result (λ sent.
+        sent ≡ fitting request.now (asked_list (visible (V.shows view.now)
+        (S.instances source.now)) request.now)) }
     ensures spellable { IfOk result (λ sent. AreSpellable sent) }
     ensures work { let most = most_looks (V.shows view.now) (S.instances source.now) in
         IfOk result (λ sent. steps.new ≤ steps.old + (length sent + 1) * most) }
-    ensures most_work { steps.new ≤ steps.old + most_successors * most_looks (V.shows view.now) (S.instances source.now) }
+    ensures most_work { steps.new ≤ steps.old + most_successors * most_looks (V.shows view.now)
+        (S.instances source.now) }
 {
     let asked = request.bindings.as_slice();
     let once = non_repeaters(request);

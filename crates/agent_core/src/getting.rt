@@ -1,3 +1,4 @@
+//! Get: the value under a name, or which exception (RFC 3416, 4.2.1).
 ghost use Rattle.std.specs.Prelude.{◌≡◌, ◌+◌, ◌*◌, ◌≤◌, IfOk, None, length};
 ghost use Rattle.std.specs.List.{list_any};
 ghost use Rattle.oid_core.specs.Order.{is_prefix};
@@ -22,7 +23,8 @@ fn shown_value<S: Source, V: View>(
     view: &V,
     name: &Oid,
 ) -> Result<Option<Value>, AllocError>
-    ensures { IfOk result (λ found. found ≡ value_of (visible (V.shows view.now) (S.instances source.now)) name.now) }
+    ensures { IfOk result (λ found.
+        found ≡ value_of (visible (V.shows view.now) (S.instances source.now)) name.now) }
 {
     if !view.has_name(name) {
         return Ok(None);
@@ -125,7 +127,8 @@ pub fn get_all<S: Source, V: View, L: Ledger>(
 ) -> Result<Bindings, AllocError>
     ensures answers { IfOk result (λ answers.
         answers ≡ get_answers (S.objects source.now) (V.shows view.now) (S.instances source.now) asked.now) }
-    ensures work { steps.new ≤ steps.old + length asked.now * most_looks (V.shows view.now) (S.instances source.now) }
+    ensures work { steps.new ≤ steps.old + length asked.now * most_looks (V.shows view.now)
+        (S.instances source.now) }
 {
     let mut answers = Bindings::new(alloc);
     for binding in asked {

@@ -24,16 +24,23 @@ ghost use Rattle.agent_core.specs.Answers.{reply_of};
 ///
 /// In particular a hidden instance that exists is answered as one that does not.
 pub fn same_visible()
-    ensures get { (objects : List (List ℕ)) (first second : List ℕ → Bool) (rows others : List Binding) (request : Request) →
-        visible first rows ≡ visible second others → All (λ asked. first asked.name ≡ second asked.name) request.bindings →
+    ensures get { (objects : List (List ℕ)) (first second : List ℕ →
+        Bool) (rows others : List Binding) (request : Request) →
+        visible first rows ≡ visible second others →
+        All (λ asked. first asked.name ≡ second asked.name) request.bindings →
         get_reply objects first rows request ≡ get_reply objects second others request }
     ensures next { (first second : List ℕ → Bool) (rows others : List Binding) (request : Request) →
-        visible first rows ≡ visible second others → next_reply first rows request ≡ next_reply second others request }
+        visible first rows ≡ visible second others →
+        next_reply first rows request ≡ next_reply second others request }
     ensures bulk { (first second : List ℕ → Bool) (rows others : List Binding) (request : Request) →
-        visible first rows ≡ visible second others → bulk_reply first rows request ≡ bulk_reply second others request }
-    ensures reply { (shown other : Shown) (request : Request) (row other_row : AccessKey) (view other_view : List ℕ) →
-        decided shown.policy request ≡ Allowed row view → decided other.policy request ≡ Allowed other_row other_view →
-        visible (in_view shown.policy.vacm.families view) shown.instances ≡ visible (in_view other.policy.vacm.families other_view) other.instances →
+        visible first rows ≡ visible second others →
+        bulk_reply first rows request ≡ bulk_reply second others request }
+    ensures reply { (shown other : Shown) (request : Request) (row other_row : AccessKey)
+        (view other_view : List ℕ) →
+        decided shown.policy request ≡ Allowed row view →
+        decided other.policy request ≡ Allowed other_row other_view →
+        visible (in_view shown.policy.vacm.families view) shown.instances ≡ visible
+        (in_view other.policy.vacm.families other_view) other.instances →
         (request.kind ≡ Get → AgreesOnAsked shown other view other_view request) →
         reply_of shown request ≡ reply_of other request }
 {}
@@ -68,7 +75,8 @@ pub fn repetitions_are_successors()
 
 /// Where a view hides nothing, one look finds a successor.
 pub fn one_look_where_all_is_seen()
-    ensures { (shows : List ℕ → Bool) (rows : List Binding) → All (λ row. IsTrue (shows row.name)) rows →
+    ensures { (shows : List ℕ → Bool) (rows : List Binding) →
+        All (λ row. IsTrue (shows row.name)) rows →
         most_looks shows rows ≡ 1 }
 {}
 

@@ -1,3 +1,4 @@
+//! GetNext: the binding after a name, or endOfMibView (RFC 3416, 4.2.2).
 ghost use Rattle.std.specs.Prelude.{◌≡◌, ◌+◌, ◌*◌, ◌≤◌, IfOk, length};
 ghost use Rattle.oid_core.specs.Name.{HasRoot};
 ghost use Rattle.message_core.specs.Spellable.{IsSpellableBinding};
@@ -36,7 +37,8 @@ pub fn get_next<S: Source, V: View, L: Ledger>(
     name: &Oid,
     steps: &mut Steps<L>,
 ) -> Result<Binding, AllocError>
-    ensures answer { IfOk result (λ b. b ≡ next_answer (visible (V.shows view.now) (S.instances source.now)) name.now) }
+    ensures answer { IfOk result (λ b.
+        b ≡ next_answer (visible (V.shows view.now) (S.instances source.now)) name.now) }
     ensures spellable { IfOk result (λ b. HasRoot name.now → IsSpellableBinding b) }
     ensures work { steps.new ≤ steps.old + most_looks (V.shows view.now) (S.instances source.now) }
 {
@@ -55,8 +57,11 @@ pub fn get_next_all<S: Source, V: View, L: Ledger>(
     asked: &[Binding],
     steps: &mut Steps<L>,
 ) -> Result<Bindings, AllocError>
-    ensures answers { IfOk result (λ answers. answers ≡ next_answers (visible (V.shows view.now) (S.instances source.now)) (names_of asked.now)) }
-    ensures work { steps.new ≤ steps.old + length asked.now * most_looks (V.shows view.now) (S.instances source.now) }
+    ensures answers { IfOk result (λ answers.
+        answers ≡ next_answers (visible (V.shows view.now) (S.instances source.now))
+        (names_of asked.now)) }
+    ensures work { steps.new ≤ steps.old + length asked.now * most_looks (V.shows view.now)
+        (S.instances source.now) }
 {
     let mut answers = Bindings::new(alloc);
     for binding in asked {

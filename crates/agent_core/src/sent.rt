@@ -1,3 +1,4 @@
+//! The bindings of a GetBulk that fit so far (RFC 3416, 4.2.3).
 ghost use Rattle.std.specs.Prelude.{◌≡◌, ◌≤◌, ◌-◌, ◌++◌, [], ◌∷◌, IfOk, OnErr, IsTrue, true, false, length, drop};
 ghost use Rattle.message_core.specs.Spellable.{IsSpellableBinding, AreSpellable};
 ghost use Rattle.message_core.specs.declared.limits.TheConstants.{MAX_REPLY};
@@ -41,9 +42,12 @@ impl Sent {
     // Adds a binding where there is room for it, and says whether there was.
     pub fn offer(&mut self, binding: Binding) -> Result<bool, AllocError>
         requires { IsSpellableBinding binding }
-        ensures taken { IfOk result (λ taken. IsTrue taken → self.new.bindings ≡ self.old.bindings ++ binding ∷ []) }
-        ensures full { IfOk result (λ taken. taken ≡ false → self.new.bindings ≡ self.old.bindings) }
-        ensures fits { IfOk result (λ taken. taken ≡ fit_into self.old.room (self.old.bindings ++ binding ∷ [])) }
+        ensures taken { IfOk result (λ taken. IsTrue taken →
+            self.new.bindings ≡ self.old.bindings ++ binding ∷ []) }
+        ensures full { IfOk result (λ taken. taken ≡ false →
+            self.new.bindings ≡ self.old.bindings) }
+        ensures fits { IfOk result (λ taken.
+            taken ≡ fit_into self.old.room (self.old.bindings ++ binding ∷ [])) }
         ensures room { self.new.room ≡ self.old.room }
         ensures err { OnErr result (self.new.bindings ≡ self.old.bindings) }
     {

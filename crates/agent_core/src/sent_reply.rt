@@ -1,3 +1,4 @@
+//! What was put into a buffer.
 use message_core::ErrorStatus;
 
 /// What is told of a reply that stands in the buffer.

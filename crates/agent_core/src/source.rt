@@ -1,3 +1,4 @@
+//! What requests are answered from, and what a view shows, as traits.
 ghost use Rattle.std.specs.Prelude.{◌≡◌, ◌+◌, IfOk};
 ghost use Rattle.std.specs.Option.{option_copied};
 

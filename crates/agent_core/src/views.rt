@@ -1,3 +1,4 @@
+//! The view that a policy gives.
 ghost use Rattle.std.specs.Prelude.{◌≡◌};
 
 use crate::source::View;

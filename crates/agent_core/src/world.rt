@@ -1,3 +1,4 @@
+//! A plain list of instances under a policy, with what was dropped.
 ghost use Rattle.std.specs.Prelude.{◌≡◌, ◌↔◌, IfOk, IsOk, IsErrOf, IsTrue, All, ℕ};
 ghost use Rattle.oid_core.specs.Order.{name_lt};
 ghost use Rattle.std.specs.Option.{option_copied};
@@ -78,7 +79,8 @@ impl PlainWorld {
           unknown_contexts = 0;
         }) }
         ensures unsorted { IsErrOf result WorldFault.Unsorted ↔ ¬ IsRising instances.items }
-        ensures unspellable { IsErrOf result WorldFault.Unspellable ↔ (IsRising instances.items × ¬ AreSpellable instances.items) }
+        ensures unspellable { IsErrOf result WorldFault.Unspellable ↔ (IsRising instances.items ×
+            ¬ AreSpellable instances.items) }
         ensures exceptional { IsErrOf result WorldFault.Exceptional ↔
             (IsRising instances.items × AreSpellable instances.items ×
             ¬ AllByRecursion (λ row. IsInstanceValue row.value) instances.items) }

@@ -18,9 +18,9 @@ use crate::note::{Note, note_of};
 use crate::saying::{cause_name, say_audit, say_counts, say_drop, say_dropped, say_reply};
 use agent_core::{Answered, Buffer, PlainWorld, answer, short_reply};
 use bridge_core::Bridge;
-use policy_text::{policy_in, text_of};
 use frame_core::read_frame;
 use message_core::{Request, decode};
+use policy_text::{policy_in, text_of};
 use std::alloc::{AllocError, Global};
 use std::marker::Model;
 
@@ -70,7 +70,8 @@ impl Agent {
         out: &mut Vec<u8>,
     ) -> Result<Note, AllocError>
         ensures met { IfOk result (λ note. MayMeet self.old line.now note) }
-        ensures said { IfOk result (λ note. out.new.items ≡ out.old.items ++ line_text self.old line.now note) }
+        ensures said { IfOk result (λ note.
+            out.new.items ≡ out.old.items ++ line_text self.old line.now note) }
         ensures after { IfOk result (λ note. self.new ≡ after_line self.old line.now note) }
     {
         match self.policy_lines.take() {
@@ -101,10 +102,16 @@ impl Agent {
         out: &mut Vec<u8>,
     ) -> Result<Note, AllocError>
         requires outside { self.old.policy_lines ≡ None }
-        requires ports { NamesPortOf (port_count self.old.system.bridge) (option_map command_view command) }
-        ensures met { IfOk result (λ note. MayMeetCommand self.old.system (option_map command_view command) note) }
-        ensures said { IfOk result (λ note. out.new.items ≡ out.old.items ++ action_text self.old (command_action (option_map command_view command) note)) }
-        ensures after { IfOk result (λ note. self.new ≡ after_action self.old (command_action (option_map command_view command) note)) }
+        requires ports { NamesPortOf (port_count self.old.system.bridge)
+            (option_map command_view command) }
+        ensures met { IfOk result (λ note.
+            MayMeetCommand self.old.system (option_map command_view command) note) }
+        ensures said { IfOk result (λ note.
+            out.new.items ≡ out.old.items ++ action_text self.old (command_action
+            (option_map command_view command) note)) }
+        ensures after { IfOk result (λ note.
+            self.new ≡ after_action self.old (command_action
+            (option_map command_view command) note)) }
     {
         match command {
             None => out.extend_from_slice(b"badline\n")?,
@@ -126,9 +133,13 @@ impl Agent {
         datagram: &[u8],
         out: &mut Vec<u8>,
     ) -> Result<Note, AllocError>
-        ensures met { IfOk result (λ note. MayMeetDatagram self.old.system.world datagram.now note) }
-        ensures said { IfOk result (λ note. out.new.items ≡ out.old.items ++ action_text self.old (datagram_action datagram.now note)) }
-        ensures after { IfOk result (λ note. self.new ≡ after_action self.old (datagram_action datagram.now note)) }
+        ensures met { IfOk result (λ note.
+            MayMeetDatagram self.old.system.world datagram.now note) }
+        ensures said { IfOk result (λ note.
+            out.new.items ≡ out.old.items ++ action_text self.old
+            (datagram_action datagram.now note)) }
+        ensures after { IfOk result (λ note.
+            self.new ≡ after_action self.old (datagram_action datagram.now note)) }
     {
         match decode(alloc, datagram) {
             Ok(request) => self.request(alloc, &request, out),
@@ -152,8 +163,11 @@ impl Agent {
         requires { AreSpellable request.now.bindings }
         ensures met { IfOk result (λ note. MayMeetRequest self.old.system.world request.now note) }
         ensures read { IfOk result (λ note. is_unread note ≡ false) }
-        ensures said { IfOk result (λ note. out.new.items ≡ out.old.items ++ action_text self.old (request_action request.now note)) }
-        ensures after { IfOk result (λ note. self.new ≡ after_action self.old (request_action request.now note)) }
+        ensures said { IfOk result (λ note.
+            out.new.items ≡ out.old.items ++ action_text self.old
+            (request_action request.now note)) }
+        ensures after { IfOk result (λ note.
+            self.new ≡ after_action self.old (request_action request.now note)) }
     {
         match answer(alloc, &mut self.world, request, &mut self.buffer) {
             Ok(Answered::Reply(_, audit)) => {
@@ -178,9 +192,13 @@ impl Agent {
     fn frame(&mut self, port: u16, octets: &[u8], out: &mut Vec<u8>) -> Result<Note, AllocError>
         requires first { 1 ≤ port }
         requires last { port ≤ port_count self.old.system.bridge }
-        ensures met { IfOk result (λ note. MayMeetFrame self.old.system.bridge port (frame_at octets.now) note) }
-        ensures said { IfOk result (λ note. out.new.items ≡ out.old.items ++ action_text self.old (frame_action port (frame_at octets.now) note)) }
-        ensures after { IfOk result (λ note. self.new ≡ after_action self.old (frame_action port (frame_at octets.now) note)) }
+        ensures met { IfOk result (λ note.
+            MayMeetFrame self.old.system.bridge port (frame_at octets.now) note) }
+        ensures said { IfOk result (λ note.
+            out.new.items ≡ out.old.items ++ action_text self.old (frame_action port
+            (frame_at octets.now) note)) }
+        ensures after { IfOk result (λ note.
+            self.new ≡ after_action self.old (frame_action port (frame_at octets.now) note)) }
     {
         match read_frame(octets) {
             Ok(fields) => {
@@ -207,8 +225,11 @@ impl Agent {
     ) -> Result<Note, AllocError>
         requires { self.old.policy_lines ≡ None }
         ensures met { IfOk result (λ note. MayMeetPolicyLine lines.items line.now note) }
-        ensures said { IfOk result (λ note. out.new.items ≡ out.old.items ++ action_text self.old (policy_action lines.items line.now note)) }
-        ensures after { IfOk result (λ note. self.new ≡ after_action self.old (policy_action lines.items line.now note)) }
+        ensures said { IfOk result (λ note.
+            out.new.items ≡ out.old.items ++ action_text self.old
+            (policy_action lines.items line.now note)) }
+        ensures after { IfOk result (λ note.
+            self.new ≡ after_action self.old (policy_action lines.items line.now note)) }
     {
         if line == b"end".as_slice() {
             return self.end_policy(alloc, &lines, out);
@@ -229,8 +250,10 @@ impl Agent {
     ) -> Result<Note, AllocError>
         requires { self.old.policy_lines ≡ None }
         ensures met { IfOk result (λ note. MayMeetEnd lines.now note) }
-        ensures said { IfOk result (λ note. out.new.items ≡ out.old.items ++ action_text self.old (end_action lines.now note)) }
-        ensures after { IfOk result (λ note. self.new ≡ after_action self.old (end_action lines.now note)) }
+        ensures said { IfOk result (λ note.
+            out.new.items ≡ out.old.items ++ action_text self.old (end_action lines.now note)) }
+        ensures after { IfOk result (λ note.
+            self.new ≡ after_action self.old (end_action lines.now note)) }
     {
         if text_of(lines).is_none() {
             out.extend_from_slice(b"policy refused\n")?;

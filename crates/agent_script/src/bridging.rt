@@ -26,7 +26,8 @@ fn address_of(bridge: &Bridge) -> Mac
 
 // Appends `bpdu`, a port and the frame that it sends.
 fn say_bpdu(address: Mac, port: usize, bpdu: &Bpdu, out: &mut Vec<u8>) -> Result<(), AllocError>
-    ensures { OnOk result (out.new.items ≡ out.old.items ++ bpdu_line address port (Some bpdu.now)) }
+    ensures { OnOk result (out.new.items ≡ out.old.items ++ bpdu_line address port
+        (Some bpdu.now)) }
 {
     let mut frame = [0; SENT_FRAME_LEN];
     write_bpdu(bpdu, address, &mut frame);
@@ -118,7 +119,8 @@ fn say_egress(ports: &[u16], out: &mut Vec<u8>) -> Result<(), AllocError>
 
 /// Appends why octets are no frame.
 pub fn say_bad_frame(fault: FrameFault, out: &mut Vec<u8>) -> Result<(), AllocError>
-    ensures { OnOk result (out.new.items ≡ out.old.items ++ (codes "badframe " ++ fault_name fault ++ codes "\n")) }
+    ensures { OnOk result (out.new.items ≡ out.old.items ++ (codes "badframe " ++ fault_name fault
+        ++ codes "\n")) }
 {
     out.extend_from_slice(b"badframe ")?;
     out.extend_from_slice(fault_name(fault))?;
@@ -134,10 +136,13 @@ pub fn say_frame(
 ) -> Result<bool, AllocError>
     requires first { 1 ≤ port }
     requires last { port ≤ port_count bridge.old }
-    ensures said { IfOk result (λ no_room. out.new.items ≡ out.old.items ++ forwarded_text (address_of bridge.old)
+    ensures said { IfOk result (λ no_room.
+        out.new.items ≡ out.old.items ++ forwarded_text (address_of bridge.old)
         (framed bridge.old port frame.now no_room).egress (framed bridge.old port frame.now no_room).bpdus) }
-    ensures after { IfOk result (λ no_room. bridge.new ≡ (framed bridge.old port frame.now no_room).bridge) }
-    ensures note { IfOk result (λ no_room. no_room ≡ true → MayLackMemory bridge.old port frame.now) }
+    ensures after { IfOk result (λ no_room.
+        bridge.new ≡ (framed bridge.old port frame.now no_room).bridge) }
+    ensures note { IfOk result (λ no_room. no_room ≡ true →
+        MayLackMemory bridge.old port frame.now) }
 {
     let address = address_of(bridge);
     let taken = bridge.frame(port, frame);
@@ -150,7 +155,8 @@ pub fn say_frame(
 
 // Appends what is sent as one second passes.
 fn say_tick(bridge: &mut Bridge, out: &mut Vec<u8>) -> Result<(), AllocError>
-    ensures said { OnOk result (out.new.items ≡ out.old.items ++ bpdu_lines (address_of bridge.old) 1 (tick_of bridge.old).bpdus) }
+    ensures said { OnOk result (out.new.items ≡ out.old.items ++ bpdu_lines
+        (address_of bridge.old) 1 (tick_of bridge.old).bpdus) }
     ensures after { bridge.new ≡ ticked_bridge bridge.old }
 {
     let address = address_of(bridge);
@@ -180,7 +186,8 @@ pub fn say_link(
 ) -> Result<(), AllocError>
     requires first { 1 ≤ port }
     requires last { port ≤ port_count bridge.old }
-    ensures said { OnOk result (out.new.items ≡ out.old.items ++ bpdu_lines (address_of bridge.old) 1 (link_of port up bridge.old).bpdus) }
+    ensures said { OnOk result (out.new.items ≡ out.old.items ++ bpdu_lines
+        (address_of bridge.old) 1 (link_of port up bridge.old).bpdus) }
     ensures after { bridge.new ≡ linked_bridge port up bridge.old }
 {
     let address = address_of(bridge);

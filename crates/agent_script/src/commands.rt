@@ -65,7 +65,8 @@ fn read_with(
     rest: &[u8],
 ) -> Result<Option<Command>, AllocError>
     requires { ports ≤ MAX_PORTS }
-    ensures command { IfOk result (λ c. option_map command_view c ≡ command_with ports (word.now, rest.now)) }
+    ensures command { IfOk result (λ c.
+        option_map command_view c ≡ command_with ports (word.now, rest.now)) }
     ensures port { IfOk result (λ c. NamesPortOf ports (option_map command_view c)) }
 {
     if word == b"request".as_slice() {
@@ -88,7 +89,8 @@ fn read_with(
 
 // The octets of a datagram.
 fn read_request(alloc: Global, text: &[u8]) -> Result<Option<Command>, AllocError>
-    ensures command { IfOk result (λ c. option_map command_view c ≡ option_map request (octets_of text.now)) }
+    ensures command { IfOk result (λ c.
+        option_map command_view c ≡ option_map request (octets_of text.now)) }
     ensures port { (ports : ℕ) → IfOk result (λ c. NamesPortOf ports (option_map command_view c)) }
 {
     match read_hex(alloc, text)? {
@@ -100,7 +102,8 @@ fn read_request(alloc: Global, text: &[u8]) -> Result<Option<Command>, AllocErro
 // A port and the octets of a frame.
 fn read_frame(alloc: Global, ports: usize, text: &[u8]) -> Result<Option<Command>, AllocError>
     requires { ports ≤ MAX_PORTS }
-    ensures command { IfOk result (λ c. option_map command_view c ≡ option_and_then (frame_with ports) (split_word text.now)) }
+    ensures command { IfOk result (λ c.
+        option_map command_view c ≡ option_and_then (frame_with ports) (split_word text.now)) }
     ensures port { IfOk result (λ c. NamesPortOf ports (option_map command_view c)) }
 {
     match split_word(text) {
@@ -116,7 +119,8 @@ fn read_frame_of(
     rest: &[u8],
 ) -> Result<Option<Command>, AllocError>
     requires { ports ≤ MAX_PORTS }
-    ensures command { IfOk result (λ c. option_map command_view c ≡ frame_with ports (word.now, rest.now)) }
+    ensures command { IfOk result (λ c.
+        option_map command_view c ≡ frame_with ports (word.now, rest.now)) }
     ensures port { IfOk result (λ c. NamesPortOf ports (option_map command_view c)) }
 {
     let Some(port) = read_port(ports, word) else {
@@ -131,7 +135,8 @@ fn read_frame_of(
 // A port and the direction of its link.
 fn read_link(ports: usize, text: &[u8]) -> Option<Command>
     requires { ports ≤ MAX_PORTS }
-    ensures command { option_map command_view result ≡ option_and_then (link_with ports) (split_word text.now) }
+    ensures command { option_map command_view result ≡ option_and_then (link_with ports)
+        (split_word text.now) }
     ensures port { NamesPortOf ports (option_map command_view result) }
 {
     match split_word(text) {

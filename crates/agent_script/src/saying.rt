@@ -59,7 +59,8 @@ pub fn say_dropped(decision: &Decision, out: &mut Vec<u8>) -> Result<(), AllocEr
 
 /// Appends `reply` and the octets of a reply.
 pub fn say_reply(octets: &[u8], out: &mut Vec<u8>) -> Result<(), AllocError>
-    ensures { OnOk result (out.new.items ≡ out.old.items ++ (codes "reply " ++ encode_upper octets.now ++ codes "\n")) }
+    ensures { OnOk result (out.new.items ≡ out.old.items ++ (codes "reply "
+        ++ encode_upper octets.now ++ codes "\n")) }
 {
     out.extend_from_slice(b"reply ")?;
     write_hex(out, octets)?;

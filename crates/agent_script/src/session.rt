@@ -83,7 +83,8 @@ pub fn run_script<R: Read, W: Write>(
         Writes (W.contents writer.old) (W.contents writer.new) (λ text.
         IsGivenUp (opening_agent world bridge) input rest text))) }
     // Where a write failed, what is written is a front of what was said to the first lines of the input, or to all of it.
-    ensures output { IfErr result (λ e. e ≡ RunFault.Output → IfSome (R.remaining reader.old) (λ input.
+    ensures output { IfErr result (λ e. e ≡ RunFault.Output →
+        IfSome (R.remaining reader.old) (λ input.
         Writes (W.contents writer.old) (W.contents writer.new) (λ text. IsFrontOf (λ whole.
         IsSaidSome (opening_agent world bridge) (lines_of input) whole) text))) }
 {

@@ -106,7 +106,8 @@ impl Failure<'_> {
 
 // Writes the line of a failure until a write fails.
 fn write_line<E: Write>(failure: &Failure<'_>, errors: &mut E) -> Result<(), NotTaken>
-    ensures { TakesFront (E.contents errors.old) (E.contents errors.new) (failure_line failure.now) }
+    ensures { TakesFront (E.contents errors.old) (E.contents errors.new)
+        (failure_line failure.now) }
 {
     write_front(errors, b"agentd: ")?;
     write_front(errors, failure.words())?;
@@ -117,7 +118,8 @@ fn write_line<E: Write>(failure: &Failure<'_>, errors: &mut E) -> Result<(), Not
 /// Writes a failure as one line, or a front of it where a write fails, and gives its exit status.
 pub fn report<E: Write>(failure: &Failure<'_>, errors: &mut E) -> u8
     ensures status { result ≡ failure_status failure.now }
-    ensures line { TakesFront (E.contents errors.old) (E.contents errors.new) (failure_line failure.now) }
+    ensures line { TakesFront (E.contents errors.old) (E.contents errors.new)
+        (failure_line failure.now) }
 {
     let _ = write_line(failure, errors);
     failure.status()

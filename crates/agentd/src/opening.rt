@@ -51,7 +51,8 @@ fn port_configs(ports: &[Port]) -> ArrayVec<PortConfig, MAX_PORTS>
 // The bridge of a configuration, whose address and ports are those of a bridge.
 fn open_bridge(alloc: Global, configuration: &Configuration) -> Bridge
     requires { IsWithinBounds configuration.now }
-    ensures { result ≡ opening_bridge configuration.now.address (configs_of configuration.now.ports.items) }
+    ensures { result ≡ opening_bridge configuration.now.address
+        (configs_of configuration.now.ports.items) }
 {
     let ports = port_configs(configuration.ports.as_slice());
     match Bridge::new(alloc, configuration.address, ports.as_slice()) {

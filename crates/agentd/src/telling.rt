@@ -14,7 +14,8 @@ pub struct NotTaken;
 /// # Errors
 /// `NotTaken` where a write fails or takes nothing.
 pub fn write_front<W: Write>(writer: &mut W, octets: &[u8]) -> Result<(), NotTaken>
-    ensures whole { OnOk result (Appends (W.contents writer.old) (W.contents writer.new) octets.now) }
+    ensures whole { OnOk result (Appends (W.contents writer.old)
+        (W.contents writer.new) octets.now) }
     ensures front { TakesFront (W.contents writer.old) (W.contents writer.new) octets.now }
 {
     let mut rest = octets;

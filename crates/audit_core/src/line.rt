@@ -14,7 +14,8 @@ use std::io;
 /// That of the writer. Then a part of the line may be written, and nothing is said of what the writer holds: what is
 /// written through [`io::Write`] by parts says nothing of itself where it fails. [`write_audit`] adds all or nothing.
 pub fn audit_line<W: io::Write>(audit: &Audit, writer: &mut W) -> io::Result<()>
-    ensures { OnOk result (Appends (W.contents writer.old) (W.contents writer.new) (audit_text audit.now ++ 10 ∷ [])) }
+    ensures { OnOk result (Appends (W.contents writer.old) (W.contents writer.new)
+        (audit_text audit.now ++ 10 ∷ [])) }
 {
     writeln!(writer, "{audit}")
 }

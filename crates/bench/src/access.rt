@@ -1,8 +1,8 @@
 //! Access: which row decides, among 10, 100 and 1,000 family rows.
 use crate::print::print_turns;
 use community_core::Policy;
-use policy_text::policy_in;
 use oid_core::Oid;
+use policy_text::policy_in;
 use std::alloc::Global;
 use std::io;
 use std::io::{Error, ErrorKind, Write};

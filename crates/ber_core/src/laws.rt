@@ -6,17 +6,20 @@ ghost use Rattle.ber_core.specs.Spelling.{AreOctets, IsMinimal, IsLength, IsTlv,
 
 /// The shortest spelling of a tag and a content is one of its spellings.
 pub fn tlv_is_spelled()
-    ensures { (tag : ℕ) (content : List ℕ) → length content < 2 ^ 32 → IsTlv tag content (canon_tlv tag content) }
+    ensures { (tag : ℕ) (content : List ℕ) → length content < 2 ^ 32 →
+        IsTlv tag content (canon_tlv tag content) }
 {}
 
 /// No spelling of a tag and a content has fewer octets.
 pub fn no_tlv_is_shorter()
-    ensures { (tag : ℕ) (content octets : List ℕ) → AreOctets octets → IsTlv tag content octets → length (canon_tlv tag content) ≤ length octets }
+    ensures { (tag : ℕ) (content octets : List ℕ) → AreOctets octets → IsTlv tag content octets →
+        length (canon_tlv tag content) ≤ length octets }
 {}
 
 /// A spelling of a length that is no longer than the shortest is the shortest.
 pub fn shortest_length_is_one()
-    ensures { (octets : List ℕ) (n : ℕ) → AreOctets octets → IsLength octets n → length octets ≤ length (canon_length n) → octets ≡ canon_length n }
+    ensures { (octets : List ℕ) (n : ℕ) → AreOctets octets → IsLength octets n →
+        length octets ≤ length (canon_length n) → octets ≡ canon_length n }
 {}
 
 /// A spelling of a tag and a content that is no longer than the shortest is the shortest.
@@ -34,12 +37,14 @@ pub fn tlv_is_one()
 
 /// The shortest content of an INTEGER is one of its contents, and has no first octet to spare (X.690, 8.3.2).
 pub fn integer_is_spelled()
-    ensures { (z : ℤ) → FitsSigned w32 z → IsInteger (canon_integer z) z × IsMinimal (canon_integer z) }
+    ensures { (z : ℤ) → FitsSigned w32 z → IsInteger (canon_integer z) z ×
+        IsMinimal (canon_integer z) }
 {}
 
 /// No content of an INTEGER has fewer octets.
 pub fn no_integer_is_shorter()
-    ensures { (content : List ℕ) (z : ℤ) → AreOctets content → IsInteger content z → length (canon_integer z) ≤ length content }
+    ensures { (content : List ℕ) (z : ℤ) → AreOctets content → IsInteger content z →
+        length (canon_integer z) ≤ length content }
 {}
 
 /// A content of an INTEGER that is no longer than the shortest is the shortest.
@@ -62,16 +67,19 @@ pub fn unsigned_is_spelled()
 
 /// No content of an unsigned number has fewer octets.
 pub fn no_unsigned_is_shorter()
-    ensures { (width : ℕ) (content : List ℕ) (n : ℕ) → width ≤ 8 → AreOctets content → IsUnsigned width content n → length (canon_unsigned n) ≤ length content }
+    ensures { (width : ℕ) (content : List ℕ) (n : ℕ) → width ≤ 8 → AreOctets content →
+        IsUnsigned width content n → length (canon_unsigned n) ≤ length content }
 {}
 
 /// A content of an unsigned number, of 32 bits or 64, that is no longer than the shortest is the shortest.
 pub fn shortest_unsigned_is_one()
-    ensures { (width : ℕ) (content : List ℕ) (n : ℕ) → width ≤ 8 → AreOctets content → IsUnsigned width content n
+    ensures { (width : ℕ) (content : List ℕ) (n : ℕ) → width ≤ 8 → AreOctets content →
+        IsUnsigned width content n
         → length content ≤ length (canon_unsigned n) → content ≡ canon_unsigned n }
 {}
 
 /// A content writes one unsigned number at most.
 pub fn unsigned_is_one()
-    ensures { (width : ℕ) (content : List ℕ) (m n : ℕ) → IsUnsigned width content m → IsUnsigned width content n → m ≡ n }
+    ensures { (width : ℕ) (content : List ℕ) (m n : ℕ) → IsUnsigned width content m →
+        IsUnsigned width content n → m ≡ n }
 {}

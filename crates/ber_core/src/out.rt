@@ -1,3 +1,4 @@
+//! A writer into a lent slice, from the back (X.690, 8.1 and 8.3).
 ghost use Rattle.std.specs.Prelude.{◌≡◌, [], ◌∷◌, ◌++◌, ◌≤◌, ◌<◌, ◌^◌, ◌-◌, ◌+◌, length, drop, OnOk, OnErr};
 
 use crate::fault::BerFault;
@@ -87,7 +88,8 @@ impl<'a> Out<'a> {
     pub fn truncate(&mut self, len: usize)
         requires { len ≤ length (written self.old) }
         ensures same_reference { self.new.room.ghost_name ≡ self.old.room.ghost_name }
-        ensures rest { written self.new ≡ drop (length (written self.old) - len) (written self.old) }
+        ensures rest { written self.new ≡ drop (length (written self.old) - len)
+            (written self.old) }
         ensures room { capacity self.new ≡ capacity self.old }
         ensures kept { self.new.room.now ≡ self.old.room.now }
     {

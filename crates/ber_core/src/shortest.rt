@@ -1,3 +1,4 @@
+//! The shortest content of a number (X.690, 8.3.2).
 ghost use Rattle.std.specs.Prelude.{◌≡◌, ◌≤◌, length};
 ghost use Rattle.ber_core.specs.Spelling.{is_spare, shortest};
 

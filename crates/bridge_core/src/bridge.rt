@@ -78,8 +78,10 @@ impl Bridge {
     /// The first of these: `BadPorts` where there is no port or more than 32; `BadAddress` where the address is a group address;
     /// `BadSpeed` where the speed of some port is none of 10, 100 and 1000 Mb/s.
     pub fn new(alloc: Global, address: Mac, ports: &[PortConfig]) -> Result<Self, BridgeFault>
-        ensures opened { fault_of address ports.now ≡ None → result ≡ Ok (opening_bridge address ports.now) }
-        ensures refused { (fault : BridgeFault) → fault_of address ports.now ≡ Some fault → result ≡ Err fault }
+        ensures opened { fault_of address ports.now ≡ None →
+            result ≡ Ok (opening_bridge address ports.now) }
+        ensures refused { (fault : BridgeFault) → fault_of address ports.now ≡ Some fault →
+            result ≡ Err fault }
         ensures ports { IfOk result (λ b. port_count b ≡ length ports.now) }
     {
         match find_fault(address, ports) {
@@ -191,7 +193,8 @@ impl Bridge {
         requires first { 1 ≤ port }
         requires last { port ≤ port_count self.old }
         ensures step { self.new ≡ (framed self.old port frame.now result.no_room).bridge }
-        ensures egress { result.egress.items ≡ (framed self.old port frame.now result.no_room).egress }
+        ensures egress { result.egress.items
+            ≡ (framed self.old port frame.now result.no_room).egress }
         ensures bpdus { result.bpdus.items ≡ (framed self.old port frame.now result.no_room).bpdus }
         ensures note { result.no_room ≡ true → MayLackMemory self.old port frame.now }
         ensures ports { port_count self.new ≡ port_count self.old }
@@ -321,7 +324,8 @@ fn open(alloc: Global, address: Mac, ports: &[PortConfig]) -> Bridge
 // What follows a step of the spanning tree: the learned rows of the flushed ports go, and each BPDU is a frame out of its port.
 fn follow(fdb: &mut Fdb, counters: &mut [PortCounters], outcome: Outcome) -> Bpdus
     requires { length outcome.bpdus.items ≡ length counters.old }
-    ensures fdb { fdb.new ≡ record fdb.old { rows = other_rows outcome.flushed.items fdb.old.rows } }
+    ensures fdb { fdb.new
+        ≡ record fdb.old { rows = other_rows outcome.flushed.items fdb.old.rows } }
     ensures counters { counters.new ≡ sent_where (has_bpdu outcome.bpdus.items) counters.old }
     ensures bpdus { result.items ≡ outcome.bpdus.items }
 {
@@ -355,8 +359,10 @@ fn take_frame(bridge: &mut Bridge, port: u16, frame: &FrameIn) -> Forwarding
 fn take_received(bridge: &mut Bridge, port: u16, frame: &FrameIn) -> Forwarding
     requires first { 1 ≤ port }
     requires last { port ≤ port_count bridge.old }
-    ensures gives { framed_by bridge.new result ≡ taken port frame.now frame.now.bpdu result.no_room bridge.old }
-    ensures note { result.no_room ≡ true → (frame.now.bpdu ≡ None) × AsksMemory bridge.old port frame.now }
+    ensures gives { framed_by bridge.new result
+        ≡ taken port frame.now frame.now.bpdu result.no_room bridge.old }
+    ensures note { result.no_room ≡ true → (frame.now.bpdu ≡ None) ×
+        AsksMemory bridge.old port frame.now }
     ensures ports { port_count bridge.new ≡ port_count bridge.old }
     ensures each { length result.bpdus.items ≡ port_count bridge.old }
 {

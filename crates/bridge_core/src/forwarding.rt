@@ -70,7 +70,8 @@ fn send_one(
 )
     requires { length egress.old.items < MAX_PORTS }
     ensures counters { counters.new ≡ with_frame_out goes counters.old }
-    ensures egress { egress.new.items ≡ (if goes then egress.old.items ++ port ∷ [] else egress.old.items) }
+    ensures egress { egress.new.items ≡ (if goes then egress.old.items
+        ++ port ∷ [] else egress.old.items) }
     ensures most { length egress.new.items ≤ length egress.old.items + 1 }
 {
     counters.send(goes);
@@ -89,7 +90,8 @@ pub fn send_out(
 ) -> ArrayVec<u16, MAX_PORTS>
     requires ports { length counters.old ≡ length tree.now.ports }
     requires few { length tree.now.ports ≤ MAX_PORTS }
-    ensures egress { result.items ≡ ports_where (goes_by (leads way) from tree.now) (length tree.now.ports) }
+    ensures egress { result.items ≡ ports_where (goes_by (leads way) from tree.now)
+        (length tree.now.ports) }
     ensures counters { counters.new ≡ sent_where (goes_by (leads way) from tree.now) counters.old }
 {
     let mut egress = ArrayVec::new();

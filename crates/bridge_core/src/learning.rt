@@ -16,9 +16,12 @@ fn is_to_learn(state: State, frame: &FrameIn) -> bool
 
 /// Learns the source of a frame where a port of this state learns it, and answers what that gave.
 pub fn learn_from(fdb: &mut Fdb, state: State, port: u16, frame: &FrameIn) -> Option<Learnt>
-    ensures rows { fdb.new ≡ record fdb.old { rows = rows_after result fdb.old.rows frame.now.source port } }
-    ensures answer { result ≡ learnt_with fdb.old.rows fdb.old.limit state port frame.now (is_refused result) }
-    ensures memory { is_refused result ≡ true → NeedsMemory fdb.old.rows fdb.old.limit state frame.now }
+    ensures rows { fdb.new
+        ≡ record fdb.old { rows = rows_after result fdb.old.rows frame.now.source port } }
+    ensures answer { result ≡ learnt_with fdb.old.rows fdb.old.limit state port frame.now
+        (is_refused result) }
+    ensures memory { is_refused result ≡ true →
+        NeedsMemory fdb.old.rows fdb.old.limit state frame.now }
 {
     if is_to_learn(state, frame) {
         Some(fdb.learn(frame.source, port))

@@ -12,11 +12,14 @@ use crate::community::COMMUNITY_MAX;
 /// decides exactly where no row has the name, and the one that decides has the name, and no row that
 /// has it comes before. Where no two rows have one index, there is at most one such row.
 pub fn some_community_decides()
-    ensures none { (rows : List CommunityRow) (name : List ℕ) → (deciding_community rows name ≡ None) ↔ (list_any (has_name name) rows ≡ false) }
-    ensures some { (rows : List CommunityRow) (name : List ℕ) (n : ℕ) → deciding_community rows name ≡ Some n
+    ensures none { (rows : List CommunityRow) (name : List ℕ) →
+        (deciding_community rows name ≡ None) ↔ (list_any (has_name name) rows ≡ false) }
+    ensures some { (rows : List CommunityRow) (name : List ℕ) (n : ℕ) →
+        deciding_community rows name ≡ Some n
         → IsUnbeatenAt (has_name name) index_before rows n }
     ensures one { (rows : List CommunityRow) (name : List ℕ) (n m : ℕ) → KeysDiffer same_index rows
-        → IsUnbeatenAt (has_name name) index_before rows n → IsUnbeatenAt (has_name name) index_before rows m → n ≡ m }
+        → IsUnbeatenAt (has_name name) index_before rows n →
+        IsUnbeatenAt (has_name name) index_before rows m → n ≡ m }
 {}
 
 /// The limit of a community's name. RFC 3584, section 5, gives snmpCommunityName none; 255 octets is what a request may bear here.

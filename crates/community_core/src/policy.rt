@@ -39,7 +39,8 @@ impl Policy {
         communities: Rows<WrittenCommunity>,
         vacm: Vacm,
     ) -> Result<Policy, PolicyFault>
-        ensures policy { IfOk result (λ p. p ≡ record { communities = map community_row communities; vacm = vacm }) }
+        ensures policy { IfOk result (λ p.
+            p ≡ record { communities = map community_row communities; vacm = vacm }) }
         ensures right { OnOk result (AreRight community_rules communities) }
         ensures fault { IfErr result (λ e. e ≢ PolicyFault.Memory →
             IsFirstFault community_rules PolicyTable.Communities communities e) }
@@ -73,7 +74,8 @@ impl Policy {
     /// communities: what [`Policy::new`] takes gives the same policy again.
     pub fn communities_are_right(&self)
         ensures right { AreRight community_rules (map written_community self.now.communities) }
-        ensures same { map community_row (map written_community self.now.communities) ≡ self.now.communities }
+        ensures same { map community_row (map written_community self.now.communities)
+            ≡ self.now.communities }
     {
         let _ = &self.vacm;
     }

@@ -3,9 +3,9 @@ ghost use Rattle.std.specs.Prelude.{◌≡◌};
 ghost use Rattle.toml.specs.View.{table_view};
 ghost use Rattle.configuration.specs.Address.{address_of, mac_of};
 
-use policy_text::keys::string_at;
 use frame_core::Mac;
 use hex::FromHex;
+use policy_text::keys::string_at;
 use toml::Table;
 
 // The address that 12 hexadecimal digits write, if it is no group address.

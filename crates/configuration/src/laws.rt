@@ -12,7 +12,8 @@ use rstp_rules::config::IFINDEX_MAX;
 
 /// A table that says a configuration has no fault, so none that says one is refused but for want of memory.
 pub fn no_fault_in_a_configuration()
-    ensures { (ms : Members) (c : Configuration) (e : ConfigurationFault) → IsConfiguration ms c → ¬ IsFault ms e }
+    ensures { (ms : Members) (c : Configuration) (e : ConfigurationFault) → IsConfiguration ms c →
+        ¬ IsFault ms e }
 {}
 
 /// A configuration is one that a bridge can have: its address is no group address (IEEE 802.3, 3.2.3), and it has 1 to 32 ports,

@@ -80,7 +80,8 @@ fn read_port_row(value: &Value) -> Option<Port>
 fn read_ports(rows: &Vec<Value>) -> Result<ArrayVec<Port, MAX_PORTS>, ConfigurationFault>
     requires { vec_len rows.now ≤ MAX_PORTS }
     ensures ports { IfOk result (λ ports. AreRows port_says (map view rows.now.items) ports.items) }
-    ensures fault { IfErr result (λ e. (n : ℕ) × (e ≡ ConfigurationFault.BadPort n) × IsFirstNoPort (map view rows.now.items) n) }
+    ensures fault { IfErr result (λ e. (n : ℕ) × (e ≡ ConfigurationFault.BadPort n) ×
+        IsFirstNoPort (map view rows.now.items) n) }
 {
     let mut ports = ArrayVec::new();
     for (n, row) in rows.iter().enumerate() {
@@ -101,7 +102,8 @@ fn are_tables(rows: &[Value]) -> bool
 
 // The array of ports, if it has 1 to 32 elements and each is a table.
 fn port_rows(table: &Table) -> Option<&Vec<Value>>
-    ensures rows { option_map (λ v. map view v.now.items) result ≡ port_rows (table_view table.now) }
+    ensures rows { option_map (λ v.
+        map view v.now.items) result ≡ port_rows (table_view table.now) }
     ensures few { IfSome result (λ v. vec_len v.now ≤ MAX_PORTS) }
 {
     let rows = array_at(table, "port")?;

@@ -34,8 +34,10 @@ fn policy_table(table: Table) -> Table
 // The policy that the rest of a table says.
 fn rest_policy(alloc: Global, table: &Table) -> Result<Policy, ConfigurationFault>
     ensures policy { IfOk result (λ p. IsPolicy (table_view table.now) p) }
-    ensures fault { IfErr result (λ e. e ≢ ConfigurationFault.Memory → IsRestFault (table_view table.now) e) }
-    ensures memory { IfErr result (λ e. e ≡ ConfigurationFault.Memory → TakesMemory (table_view table.now)) }
+    ensures fault { IfErr result (λ e. e ≢ ConfigurationFault.Memory →
+        IsRestFault (table_view table.now) e) }
+    ensures memory { IfErr result (λ e. e ≡ ConfigurationFault.Memory →
+        TakesMemory (table_view table.now)) }
 {
     if !has_policy_keys(table) {
         return Err(ConfigurationFault::BadKeys);
@@ -52,7 +54,8 @@ fn rest_policy(alloc: Global, table: &Table) -> Result<Policy, ConfigurationFaul
 /// lack memory.
 pub fn configuration_of(alloc: Global, table: Table) -> Result<Configuration, ConfigurationFault>
     ensures configuration { IfOk result (λ c. IsConfiguration (table_view table) c) }
-    ensures fault { IfErr result (λ e. e ≢ ConfigurationFault.Memory → IsFault (table_view table) e) }
+    ensures fault { IfErr result (λ e. e ≢ ConfigurationFault.Memory →
+        IsFault (table_view table) e) }
     ensures memory { IfErr result (λ e. e ≡ ConfigurationFault.Memory →
         TakesMemory (policy_members (table_view table))) }
 {
@@ -103,7 +106,8 @@ pub fn configuration_of_text(alloc: Global, text: &str) -> Result<Configuration,
 pub fn configuration_in(alloc: Global, octets: &[u8]) -> Result<Configuration, ConfigurationFault>
     ensures configuration { IfOk result (λ c. IsConfigurationIn octets.now c) }
     ensures fault { IfErr result (λ e. e ≢ ConfigurationFault.Memory → IsFaultIn octets.now e) }
-    ensures memory { IfErr result (λ e. e ≡ ConfigurationFault.Memory → IsSome (text_of octets.now)) }
+    ensures memory { IfErr result (λ e. e ≡ ConfigurationFault.Memory →
+        IsSome (text_of octets.now)) }
 {
     match text_of(octets) {
         Some(text) => configuration_of_text(alloc, text),

@@ -44,7 +44,8 @@ fn read_serve_row(value: &Value) -> Option<Serve>
 /// `BadServe` where `serve` is there and is no table of the keys `snmp`, `workers` and `rounds`.
 pub fn serve_of(table: &Table) -> Result<Option<Serve>, ConfigurationFault>
     ensures serve { IfOk result (λ o. IsServing (table_view table.now) o) }
-    ensures fault { IfErr result (λ e. (e ≡ ConfigurationFault.BadServe) × ((o : Option Serve) → ¬ IsServing (table_view table.now) o)) }
+    ensures fault { IfErr result (λ e. (e ≡ ConfigurationFault.BadServe) × ((o : Option Serve) →
+        ¬ IsServing (table_view table.now) o)) }
 {
     match value_at(table, "serve") {
         Some(value) => match read_serve_row(value) {

@@ -19,16 +19,20 @@ fn socket_of(value: &Value) -> Option<SocketAddr>
 
 /// The address at a key that has to be there, if the key holds one.
 pub fn socket_at(table: &Table, key: &str) -> Option<SocketAddr>
-    ensures found { IfSome result (λ a. IsRequired IsSocket (get_member key.now (table_view table.now)) a) }
-    ensures none { IfNone result ((a : SocketAddr) → ¬ IsRequired IsSocket (get_member key.now (table_view table.now)) a) }
+    ensures found { IfSome result (λ a.
+        IsRequired IsSocket (get_member key.now (table_view table.now)) a) }
+    ensures none { IfNone result ((a : SocketAddr) →
+        ¬ IsRequired IsSocket (get_member key.now (table_view table.now)) a) }
 {
     socket_of(value_at(table, key)?)
 }
 
 /// The address at a key, or none where the key is not there; `None` if the key holds anything else.
 pub fn optional_socket_at(table: &Table, key: &str) -> Option<Option<SocketAddr>>
-    ensures found { IfSome result (λ o. IsOptional IsSocket (get_member key.now (table_view table.now)) o) }
-    ensures none { IfNone result ((o : Option SocketAddr) → ¬ IsOptional IsSocket (get_member key.now (table_view table.now)) o) }
+    ensures found { IfSome result (λ o.
+        IsOptional IsSocket (get_member key.now (table_view table.now)) o) }
+    ensures none { IfNone result ((o : Option SocketAddr) →
+        ¬ IsOptional IsSocket (get_member key.now (table_view table.now)) o) }
 {
     match value_at(table, key) {
         Some(value) => Some(Some(socket_of(value)?)),

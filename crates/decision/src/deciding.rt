@@ -87,7 +87,8 @@ fn unless_empty(empty: bool, decision: Decision) -> Decision
 #[tactic(auto, unfolding(crate::specs::Deciding::decided))]
 pub fn decide(policy: &Policy, request: &Request) -> Decision
     ensures decision { result ≡ decided policy.now request.now }
-    ensures short { result ≢ Decision.Drop Cause.UnknownCommunity → length request.now.community ≤ COMMUNITY_MAX }
+    ensures short { result ≢ Decision.Drop Cause.UnknownCommunity →
+        length request.now.community ≤ COMMUNITY_MAX }
 {
     let Some(caller) = policy.caller(request.community.as_slice()) else {
         return Decision::Drop(Cause::UnknownCommunity);

@@ -1,3 +1,4 @@
+//! The key of a row of vacmAccessTable (RFC 3415, section 4).
 ghost use Rattle.std.specs.Prelude.{◌≡◌};
 ghost use Rattle.decision.specs.Keys.{access_key};
 

@@ -52,14 +52,18 @@ impl Fdb {
     /// takes memory, and that before anything changes.
     pub fn learn(&mut self, address: Mac, port: u16) -> Learnt
         // The whole list: a row of the address in its place, or nothing changed.
-        ensures rows { self.new ≡ record self.old { rows = learned result self.old.rows address port } }
+        ensures rows { self.new
+            ≡ record self.old { rows = learned result self.old.rows address port } }
         // Which answer it is,
-        ensures answer { result ≢ Memory → result ≡ answer self.old.rows self.old.limit address port }
+        ensures answer { result ≢ Memory →
+            result ≡ answer self.old.rows self.old.limit address port }
         // and `Memory` only for a new address that has a place.
         ensures memory { result ≡ Memory → answer self.old.rows self.old.limit address port ≡ New }
         // So the address has this row, where there is a place for it, and each other address the row that it had.
-        ensures own { result ≢ Full → result ≢ Memory → row_of self.new.rows address ≡ Some (seen address port) }
-        ensures others { (other : Mac) → other ≢ address → row_of self.new.rows other ≡ row_of self.old.rows other }
+        ensures own { result ≢ Full → result ≢ Memory →
+            row_of self.new.rows address ≡ Some (seen address port) }
+        ensures others { (other : Mac) → other ≢ address →
+            row_of self.new.rows other ≡ row_of self.old.rows other }
     {
         rows::learn_in(&mut self.rows, self.limit, address, port)
     }

@@ -1,3 +1,4 @@
+//! What became of an address that was to be learned (IEEE 802.1D-2004, 7.8).
 /// What learning an address did.
 #[derive(Clone, Copy, Debug, PartialEq, Eq)]
 pub enum Learnt {

@@ -13,7 +13,8 @@ use crate::mac::BRIDGE_GROUP;
 /// a fault exactly where it is theirs.
 pub fn frame_is_read()
     ensures frame { (octets : List ℕ) (f : FrameIn) → IsFrame octets f ↔ (frame_at octets ≡ Ok f) }
-    ensures fault { (octets : List ℕ) (e : FrameFault) → IsFault octets e ↔ (frame_at octets ≡ Err e) }
+    ensures fault { (octets : List ℕ) (e : FrameFault) →
+        IsFault octets e ↔ (frame_at octets ≡ Err e) }
 {}
 
 /// The bridges' group address is 01-80-C2-00-00-00 (IEEE 802.1D-2004, 7.12.3).

@@ -120,7 +120,8 @@ fn bpdu_of(octets: &[u8]) -> Option<Bpdu>
 // The BPDU that a frame carries behind its addresses.
 fn carried_by(frame: &[u8]) -> Option<Bpdu>
     requires { MIN_FRAME_LEN ≤ length frame.now }
-    ensures { MatchOption result ((b : Bpdu) → ¬ CarriesBpdu frame.now b) (λ b. CarriesBpdu frame.now b) }
+    ensures { MatchOption result ((b : Bpdu) → ¬ CarriesBpdu frame.now b) (λ b.
+        CarriesBpdu frame.now b) }
 {
     let len = usize::from(BigEndian::read_u16(&frame[12..]));
     if len > LENGTH_MAX || frame.len() - MIN_FRAME_LEN < len {

@@ -223,7 +223,8 @@ pub fn write_bpdu(bpdu: &Bpdu, source: Mac, frame: &mut [u8; SENT_FRAME_LEN]) ->
     // Each octet,
     ensures octets { frame.new ≡ frame_octets source bpdu.now }
     // and so what `read_frame` reads again.
-    ensures reads_back { IsFrame frame.new (record { destination = BRIDGE_GROUP; source = source; bpdu = Some bpdu.now }) }
+    ensures reads_back { IsFrame frame.new
+        (record { destination = BRIDGE_GROUP; source = source; bpdu = Some bpdu.now }) }
 {
     frame.fill(0);
     put_header(frame, source, 3 + bpdu_len_of(bpdu));

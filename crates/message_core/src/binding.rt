@@ -1,3 +1,4 @@
+//! A variable binding, and a list of them (RFC 3416, section 3).
 ghost use Rattle.std.specs.Prelude.{◌≡◌, ◌↔◌, [], ◌∷◌, ◌++◌, IsTrue, IsOk, IfOk, OnOk, OnErr};
 ghost use Rattle.message_core.specs.Inline.{IsInlineBinding};
 ghost use Rattle.message_core.specs.Spellable.{IsSpellableBinding};

@@ -1,3 +1,4 @@
+//! Numbers in a datagram (X.690, 8.3).
 ghost use Rattle.std.specs.Prelude.{◌≡◌, IfErr};
 ghost use Rattle.message_core.specs.FirstFault.{Gives, integer_of, unsigned_of};
 

@@ -1,3 +1,4 @@
+//! A response (RFC 3416, section 3).
 use crate::binding::Bindings;
 use crate::octets::Octets;
 use crate::status::ErrorStatus;

@@ -1,3 +1,4 @@
+//! How many octets a binding and a reply have in their shortest encoding.
 ghost use Rattle.std.specs.Prelude.{◌≡◌, ◌≤◌, ◌<◌, ◌+◌, ◌↔◌, length, List, pos, MatchOption};
 ghost use Rattle.ber_core.specs.Spelling.{canon_tlv};
 ghost use Rattle.message_core.specs.Tags as tags;
@@ -28,7 +29,8 @@ const INTEGER_ROOM: usize = 16;
 pub fn encoded_len(binding: &Binding, most: usize) -> Option<usize>
     requires spellable { IsSpellableBinding binding.now }
     requires most { most ≤ MAX_REPLY }
-    ensures { MatchOption result (most < length (canon_binding binding.now)) (λ len. (len ≡ length (canon_binding binding.now)) × (len ≤ most)) }
+    ensures { MatchOption result (most < length (canon_binding binding.now)) (λ len.
+        (len ≡ length (canon_binding binding.now)) × (len ≤ most)) }
 {
     let mut room = [0u8; MAX_REPLY];
     let mut out = Out::new(&mut room[..most]);
@@ -70,7 +72,10 @@ fn community_len(community: &[u8]) -> usize
 /// The community has at most `MAX_COMMUNITY` octets. Takes no memory.
 pub fn bindings_room(request: &Request) -> usize
     requires { length request.now.community ≤ MAX_COMMUNITY }
-    ensures room { (bindings : List Binding) → (length (canon_bindings bindings) ≤ result) ↔ (length (canon_reply (answer_to request.now ErrorStatus.NoError (pos 0) bindings)) ≤ MAX_REPLY) }
+    ensures room { (bindings : List Binding) →
+        (length (canon_bindings bindings) ≤ result) ↔
+        (length (canon_reply (answer_to request.now ErrorStatus.NoError (pos 0) bindings))
+        ≤ MAX_REPLY) }
     ensures most { result ≤ MAX_REPLY }
 {
     let version = integer_len(VERSION);

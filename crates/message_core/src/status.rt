@@ -1,3 +1,4 @@
+//! The error statuses (RFC 3416, section 3).
 ghost use Rattle.std.specs.Prelude.{◌≡◌};
 ghost use Rattle.message_core.specs.Status.{code_of};
 

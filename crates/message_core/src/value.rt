@@ -1,3 +1,4 @@
+//! A value of a variable binding (RFC 3416, section 3; RFC 2578, section 7.1).
 ghost use Rattle.std.specs.Prelude.{◌≡◌, ◌↔◌, IsTrue, IsOk, IfOk};
 ghost use Rattle.message_core.specs.Inline.{IsInlineValue};
 ghost use Rattle.message_core.specs.Spellable.{IsSpellableValue};

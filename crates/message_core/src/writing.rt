@@ -1,3 +1,4 @@
+//! Writes a reply in its shortest encoding (RFC 3417, section 8; X.690).
 ghost use Rattle.std.specs.Prelude.{◌≡◌, ◌<◌, ◌≤◌, ◌++◌, drop, length, IfOk, OnErr};
 ghost use Rattle.std.specs.List.{flat_map};
 ghost use Rattle.ber_core.specs.Spelling.{canon_tlv};
@@ -98,7 +99,8 @@ fn put_bindings(out: &mut Out<'_>, bindings: &[Binding]) -> Result<(), BerFault>
 fn put_list(out: &mut Out<'_>, bindings: &[Binding]) -> Result<(), BerFault>
     requires { AreSpellable bindings.now }
     ensures same_reference { out.new.room.ghost_name ≡ out.old.room.ghost_name }
-    ensures puts { Prepends out.old out.new result (canon_tlv tags.sequence (flat_map canon_binding bindings.now)) }
+    ensures puts { Prepends out.old out.new result (canon_tlv tags.sequence
+        (flat_map canon_binding bindings.now)) }
 {
     let mark = out.len();
     put_bindings(out, bindings)?;
@@ -120,7 +122,8 @@ fn put_tail(out: &mut Out<'_>, second: i32, bindings: &[Binding]) -> Result<(), 
 fn put_body(out: &mut Out<'_>, message: &Message<'_>) -> Result<(), BerFault>
     requires { AreSpellable message.now.bindings.now }
     ensures same_reference { out.new.room.ghost_name ≡ out.old.room.ghost_name }
-    ensures puts { let m = message.now in Prepends out.old out.new result (canon_body m.id m.first m.second m.bindings.now) }
+    ensures puts { let m = message.now in Prepends out.old out.new result
+        (canon_body m.id m.first m.second m.bindings.now) }
 {
     put_tail(out, message.second, message.bindings)?;
     out.put_i32(Tag(tag::INTEGER), message.first)?;
@@ -131,7 +134,8 @@ fn put_body(out: &mut Out<'_>, message: &Message<'_>) -> Result<(), BerFault>
 fn put_pdu(out: &mut Out<'_>, message: &Message<'_>) -> Result<(), BerFault>
     requires { AreSpellable message.now.bindings.now }
     ensures same_reference { out.new.room.ghost_name ≡ out.old.room.ghost_name }
-    ensures puts { let m = message.now in Prepends out.old out.new result (canon_tlv m.tag.0 (canon_body m.id m.first m.second m.bindings.now)) }
+    ensures puts { let m = message.now in Prepends out.old out.new result (canon_tlv m.tag.0
+        (canon_body m.id m.first m.second m.bindings.now)) }
 {
     let mark = out.len();
     put_body(out, message)?;
@@ -143,7 +147,8 @@ fn put_pdu(out: &mut Out<'_>, message: &Message<'_>) -> Result<(), BerFault>
 fn put_inside(out: &mut Out<'_>, message: &Message<'_>) -> Result<(), BerFault>
     requires { AreSpellable message.now.bindings.now }
     ensures same_reference { out.new.room.ghost_name ≡ out.old.room.ghost_name }
-    ensures puts { let m = message.now in Prepends out.old out.new result (canon_inside m.community.now m.tag.0 (canon_body m.id m.first m.second m.bindings.now)) }
+    ensures puts { let m = message.now in Prepends out.old out.new result
+        (canon_inside m.community.now m.tag.0 (canon_body m.id m.first m.second m.bindings.now)) }
 {
     put_pdu(out, message)?;
     out.put_tlv(Tag(tag::OCTET_STRING), message.community)?;
@@ -154,7 +159,8 @@ fn put_inside(out: &mut Out<'_>, message: &Message<'_>) -> Result<(), BerFault>
 fn put_message(out: &mut Out<'_>, message: &Message<'_>) -> Result<(), BerFault>
     requires { AreSpellable message.now.bindings.now }
     ensures same_reference { out.new.room.ghost_name ≡ out.old.room.ghost_name }
-    ensures puts { let m = message.now in Prepends out.old out.new result (canon_message m.community.now m.tag.0 (canon_body m.id m.first m.second m.bindings.now)) }
+    ensures puts { let m = message.now in Prepends out.old out.new result
+        (canon_message m.community.now m.tag.0 (canon_body m.id m.first m.second m.bindings.now)) }
 {
     let mark = out.len();
     put_inside(out, message)?;
@@ -165,9 +171,14 @@ fn put_message(out: &mut Out<'_>, message: &Message<'_>) -> Result<(), BerFault>
 /// Writes a message to the front of the buffer, and answers how long it is. A message that does not fit changes nothing.
 fn encode(message: &Message<'_>, buffer: &mut [u8; MAX_REPLY]) -> Result<usize, TooBig>
     requires { AreSpellable message.now.bindings.now }
-    ensures ok { let m = message.now in IfOk result (λ n. buffer.new ≡ canon_message m.community.now m.tag.0 (canon_body m.id m.first m.second m.bindings.now) ++ drop n buffer.old) }
-    ensures len { let m = message.now in IfOk result (λ n. (n ≡ length (canon_message m.community.now m.tag.0 (canon_body m.id m.first m.second m.bindings.now))) × (n ≤ MAX_REPLY)) }
-    ensures too_big { let m = message.now in OnErr result (MAX_REPLY < length (canon_message m.community.now m.tag.0 (canon_body m.id m.first m.second m.bindings.now))) }
+    ensures ok { let m = message.now in IfOk result (λ n.
+        buffer.new ≡ canon_message m.community.now m.tag.0
+        (canon_body m.id m.first m.second m.bindings.now) ++ drop n buffer.old) }
+    ensures len { let m = message.now in IfOk result (λ n.
+        (n ≡ length (canon_message m.community.now m.tag.0
+        (canon_body m.id m.first m.second m.bindings.now))) × (n ≤ MAX_REPLY)) }
+    ensures too_big { let m = message.now in OnErr result (MAX_REPLY < length
+        (canon_message m.community.now m.tag.0 (canon_body m.id m.first m.second m.bindings.now))) }
     ensures unchanged { OnErr result (buffer.new ≡ buffer.old) }
 {
     let mut room = [0u8; MAX_REPLY];
@@ -215,9 +226,14 @@ pub fn encode_answer(
     buffer: &mut [u8; MAX_REPLY],
 ) -> Result<usize, TooBig>
     requires { AreSpellable bindings.now }
-    ensures ok { IfOk result (λ n. buffer.new ≡ canon_reply (answer_to request.now status index bindings.now) ++ drop n buffer.old) }
-    ensures len { IfOk result (λ n. (n ≡ length (canon_reply (answer_to request.now status index bindings.now))) × (n ≤ MAX_REPLY)) }
-    ensures too_big { OnErr result (MAX_REPLY < length (canon_reply (answer_to request.now status index bindings.now))) }
+    ensures ok { IfOk result (λ n.
+        buffer.new ≡ canon_reply (answer_to request.now status index bindings.now)
+        ++ drop n buffer.old) }
+    ensures len { IfOk result (λ n.
+        (n ≡ length (canon_reply (answer_to request.now status index bindings.now))) ×
+        (n ≤ MAX_REPLY)) }
+    ensures too_big { OnErr result (MAX_REPLY < length
+        (canon_reply (answer_to request.now status index bindings.now))) }
     ensures unchanged { OnErr result (buffer.new ≡ buffer.old) }
 {
     let message = Message {

@@ -18,7 +18,8 @@ pub fn name_is_spelled()
 
 /// No content of a name has fewer octets.
 pub fn no_name_is_shorter()
-    ensures { (content name : List ℕ) → IsName content name → length (canon_name name) ≤ length content }
+    ensures { (content name : List ℕ) → IsName content name →
+        length (canon_name name) ≤ length content }
 {}
 
 /// A name has one content, the shortest: no group of seven bits is to spare (X.690, 8.19.2).
@@ -33,8 +34,11 @@ pub fn name_is_one()
 
 /// Reading from left to right gives a name exactly where the grammar has one, and `BadContent` exactly where it has none.
 pub fn reading_is_the_grammar()
-    ensures name { (content name : List ℕ) → AreOctets content → (name_at content ≡ Ok name) ↔ IsName content name }
-    ensures fault { (content : List ℕ) (f : OidFault) → AreOctets content → (name_at content ≡ Err f) ↔ ((f ≡ OidFault.BadContent) × ((name : List ℕ) → ¬ IsName content name)) }
+    ensures name { (content name : List ℕ) → AreOctets content →
+        (name_at content ≡ Ok name) ↔ IsName content name }
+    ensures fault { (content : List ℕ) (f : OidFault) → AreOctets content →
+        (name_at content ≡ Err f) ↔ ((f ≡ OidFault.BadContent) × ((name : List ℕ) →
+        ¬ IsName content name)) }
 {}
 
 /// A text is the dotted text of one name at most.
@@ -45,7 +49,8 @@ pub fn text_is_one()
 /// The name of a text is a function of it: `name_of_text` gives the name exactly of the dotted texts, and none of every other.
 pub fn text_is_read()
     ensures name { (text name : List ℕ) → (name_of_text text ≡ Some name) ↔ IsDotted text name }
-    ensures none { (text : List ℕ) → (name_of_text text ≡ None) ↔ ((name : List ℕ) → ¬ IsDotted text name) }
+    ensures none { (text : List ℕ) → (name_of_text text ≡ None) ↔ ((name : List ℕ) →
+        ¬ IsDotted text name) }
 {}
 
 /// Names are in one order.

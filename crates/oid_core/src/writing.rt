@@ -1,3 +1,4 @@
+//! Writes the coded numbers of a name (X.690, 8.19.2 and 8.19.4).
 ghost use Rattle.std.specs.Prelude.{◌≡◌, length, OnOk, OnErr};
 ghost use Rattle.ber_core.specs.Writing.{written, Prepends, KeepsFront};
 ghost use Rattle.oid_core.specs.Name.{HasRoot, canon_coded, canon_name};

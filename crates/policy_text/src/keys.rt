@@ -52,7 +52,8 @@ pub fn bool_at(table: &Table, key: &str) -> Option<bool>
 
 /// The array at a key, if the key holds one.
 pub fn array_at<'a>(table: &'a Table, key: &str) -> Option<&'a Vec<Value>>
-    ensures { option_map (λ v. map view v.now.items) result ≡ array_at key.now (table_view table.now) }
+    ensures { option_map (λ v.
+        map view v.now.items) result ≡ array_at key.now (table_view table.now) }
 {
     match value_at(table, key) {
         Some(value) => value.as_array(),

@@ -8,5 +8,6 @@ ghost use Rattle.policy_text.specs.Said.{policy_said};
 /// The policy of a table is a function of it: `policy_said` gives the policy exactly of the tables that say one of
 /// which nothing is wrong.
 pub fn policy_is_said()
-    ensures { (ms : Members) (policy : PolicyTables) → (policy_said ms ≡ Some policy) ↔ IsPolicy ms policy }
+    ensures { (ms : Members) (policy : PolicyTables) →
+        (policy_said ms ≡ Some policy) ↔ IsPolicy ms policy }
 {}

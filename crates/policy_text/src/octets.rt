@@ -5,8 +5,8 @@ ghost use Rattle.toml.specs.View.{table_view};
 ghost use Rattle.policy_text.specs.Said.{policy_said};
 ghost use Rattle.policy_text.specs.Texts.{text_of, policy_in};
 
-use community_core::Policy;
 use crate::policies::policy_of;
+use community_core::Policy;
 use std::alloc::{AllocError, Global};
 use toml::Table;
 use vacm_core::PolicyFault;

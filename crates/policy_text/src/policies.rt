@@ -4,10 +4,9 @@ ghost use Rattle.toml.specs.View.{table_view, view};
 ghost use Rattle.policy_text.specs.Policies.{arrays, arrays_of, AreRowsOf, IsUnreadOf, SaysRows, IsUnread, TakesMemoryOf, TakesMemory, RowsTakeMemory, IsPolicyFault, policy_tables, ArePolicyRowsRight, IsPolicy, IsWrongPolicy};
 ghost use Rattle.policy_text.specs.Said.{policy_said};
 
-use community_core::WrittenCommunity;
 use crate::keys::{array_at, key_count};
-use community_core::Policy;
 use crate::rows::read_rows;
+use community_core::{Policy, WrittenCommunity};
 use std::alloc::Global;
 use toml::{Table, Value};
 use vacm_core::{PolicyFault, PolicyTable, Rows, Vacm, VacmRows};
@@ -30,9 +29,11 @@ fn read_arrays(
     contexts: &Vec<Value>,
     communities: &Vec<Value>,
 ) -> Result<PolicyRows, PolicyFault>
-    ensures rows { IfOk result (λ rows. AreRowsOf (arrays (map view groups.now.items) (map view access.now.items)
+    ensures rows { IfOk result (λ rows.
+        AreRowsOf (arrays (map view groups.now.items) (map view access.now.items)
         (map view families.now.items) (map view contexts.now.items) (map view communities.now.items)) rows) }
-    ensures fault { IfErr result (λ e. e ≢ PolicyFault.Memory → IsUnreadOf (arrays (map view groups.now.items) (map view access.now.items)
+    ensures fault { IfErr result (λ e. e ≢ PolicyFault.Memory →
+        IsUnreadOf (arrays (map view groups.now.items) (map view access.now.items)
         (map view families.now.items) (map view contexts.now.items) (map view communities.now.items)) e) }
     ensures memory { IfErr result (λ e. e ≡ PolicyFault.Memory →
         TakesMemoryOf (arrays (map view groups.now.items) (map view access.now.items)
@@ -91,7 +92,8 @@ pub fn has_policy_keys(table: &Table) -> bool
 pub fn policy_rows(alloc: Global, table: &Table) -> Result<PolicyRows, PolicyFault>
     ensures rows { IfOk result (λ rows. SaysRows (table_view table.now) rows) }
     ensures fault { IfErr result (λ e. e ≢ PolicyFault.Memory → IsUnread (table_view table.now) e) }
-    ensures memory { IfErr result (λ e. e ≡ PolicyFault.Memory → TakesMemory (table_view table.now)) }
+    ensures memory { IfErr result (λ e. e ≡ PolicyFault.Memory →
+        TakesMemory (table_view table.now)) }
 {
     let unread = PolicyFault::BadField(PolicyTable::Contexts, 0);
     if key_count(table) != 5 {
@@ -135,11 +137,14 @@ fn policy_of_rows(alloc: Global, rows: PolicyRows) -> Result<Policy, PolicyFault
 /// a growth was refused, which comes only where [`policy_rows`] may lack memory.
 pub fn policy_of(alloc: Global, table: &Table) -> Result<Policy, PolicyFault>
     ensures policy { IfOk result (λ p. IsPolicy (table_view table.now) p) }
-    ensures fault { IfErr result (λ e. e ≢ PolicyFault.Memory → IsUnread (table_view table.now) e ⊎ IsWrongPolicy (table_view table.now) e) }
-    ensures memory { IfErr result (λ e. e ≡ PolicyFault.Memory → TakesMemory (table_view table.now)) }
+    ensures fault { IfErr result (λ e. e ≢ PolicyFault.Memory → IsUnread (table_view table.now) e ⊎
+        IsWrongPolicy (table_view table.now) e) }
+    ensures memory { IfErr result (λ e. e ≡ PolicyFault.Memory →
+        TakesMemory (table_view table.now)) }
     // The same as a function of the table: its policy, or none.
     ensures said { IfOk result (λ p. policy_said (table_view table.now) ≡ Some p) }
-    ensures refused { IfErr result (λ e. e ≢ PolicyFault.Memory → policy_said (table_view table.now) ≡ None) }
+    ensures refused { IfErr result (λ e. e ≢ PolicyFault.Memory →
+        policy_said (table_view table.now) ≡ None) }
 {
     let rows = policy_rows(alloc, table)?;
     policy_of_rows(alloc, rows)

@@ -6,8 +6,8 @@ ghost use Rattle.toml.specs.View.{view, table_view};
 ghost use Rattle.policy_text.specs.Typed.{context_typed, group_typed, access_typed, family_typed, community_typed};
 ghost use Rattle.policy_text.specs.Reading.{IsFirstUnread, BeginsTyped, AreRows, IsContext, IsGroup, IsAccess, IsFamily, IsCommunity, context_says, group_says, group_of, group_members, access_says, access_of, access_members, family_says, family_members, parts_say, texts_say, mask_of, subtree_says, community_says, community_of, community_members};
 
-use community_core::WrittenCommunity;
 use crate::keys::{bool_at, integer_at, key_count, string_at};
+use community_core::WrittenCommunity;
 use hex::FromHexError;
 use oid_core::{Oid, OidFault};
 use std::alloc::{AllocError, Global};
@@ -41,7 +41,8 @@ pub fn read_rows<T: Read>(
     values: &Vec<Value>,
 ) -> Result<Rows<T>, PolicyFault>
     ensures rows { IfOk result (λ rows. AreRows T.says (map view values.now.items) rows) }
-    ensures fault { IfErr result (λ e. e ≢ PolicyFault.Memory → IsFirstUnread T.says table (map view values.now.items) e) }
+    ensures fault { IfErr result (λ e. e ≢ PolicyFault.Memory →
+        IsFirstUnread T.says table (map view values.now.items) e) }
     ensures memory { IfErr result (λ e. e ≡ PolicyFault.Memory →
         BeginsTyped T.typed (map view values.now.items)) }
 {

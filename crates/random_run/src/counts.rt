@@ -32,8 +32,5 @@ fn has_kind(output: &[u8], kind: &str) -> bool {
 
 /// The first kind of line that an output does not have.
 pub fn missing_kind(output: &[u8]) -> Option<&'static str> {
-    KINDS
-        .iter()
-        .find(|kind| !has_kind(output, kind))
-        .copied()
+    KINDS.iter().find(|kind| !has_kind(output, kind)).copied()
 }

@@ -1,3 +1,4 @@
+//! The passes that each event makes over the ports, in their order (IEEE 802.1D-2004 17.21.25, 17.26, 17.29 to 17.31).
 ghost use Rattle.std.specs.Prelude.{◌≡◌, length, ◌≤◌};
 ghost use Rattle.rstp_rules.specs.Lines.{IsSmall};
 ghost use Rattle.rstp_rules.specs.Arrivals.{arrived};

@@ -1,3 +1,4 @@
+//! What a bridge shows of its spanning tree (RFC 4188, dot1dStp; IEEE 802.1D-2004 17.18, 17.19).
 ghost use Rattle.std.specs.Prelude.{◌≡◌};
 ghost use Rattle.rstp_rules.specs.Vectors.{port_number};
 ghost use Rattle.rstp_core.specs.Tree.{changes_after, since_after, facts_after};

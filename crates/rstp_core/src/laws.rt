@@ -66,7 +66,8 @@ pub fn root_port_hears_another()
 /// Where the root is this bridge by its whole identifier, priority included, there is no root port, and nowhere else.
 pub fn root_bridge_has_no_root_port()
     ensures { (a : Mac) (cs : List PortConfig) (hs : List Happening) (s : Table) (t : Tree)
-        → Runs a cs hs s t → (t.facts.root.vector.root ≡ own_id s a) ↔ ((n : ℕ) → ¬ IsRootPort t n) }
+        → Runs a cs hs s t → (t.facts.root.vector.root ≡ own_id s a) ↔ ((n : ℕ) →
+        ¬ IsRootPort t n) }
 {}
 
 /// A port that learned or forwarded and is now disabled, alternate or backup loses its learned rows in that event.
@@ -79,7 +80,8 @@ pub fn leaving_activity_flushes()
 /// A port that starts anew, as its link changes or settling finds another version or enable setting, loses its learned rows in that
 /// event, even where it is designated again, or forwards, at the event's end.
 pub fn starting_anew_flushes()
-    ensures flushed { (a : Mac) (cs : List PortConfig) (hs : List Happening) (s r : Table) (t u : Tree)
+    ensures flushed { (a : Mac) (cs : List PortConfig) (hs : List Happening) (s r : Table)
+        (t u : Tree)
         (h : Happening) (out : Outcome) → Runs a cs hs s t → Happens h s t r u out
         → (n : ℕ) → IsPort t n → Restarts h s t n → Contains out.flushed.items n }
     ensures anew { (a : Mac) (cs : List PortConfig) (hs : List Happening) (s r : Table) (t u : Tree)
@@ -93,14 +95,16 @@ pub fn starting_anew_flushes()
 pub fn turns_are_one_change()
     ensures rows { (t : Timing) (rows : List Row) → AreDistinct rows
         → turns t rows ≡ map (λ r. told_of_changes t (another_starts rows r) r) rows }
-    ensures event { (a : Mac) (cs : List PortConfig) (hs : List Happening) (s : Table) (t : Tree) (h : Happening)
+    ensures event { (a : Mac) (cs : List PortConfig) (hs : List Happening) (s : Table) (t : Tree)
+        (h : Happening)
         → Runs a cs hs s t → let e = event_by h s t in
         ready_rows e ≡ greeted_all e.tick (event_context e) (moved_at_once (event_context e) (roled_rows e)) }
 {}
 
 /// What a tick leaves and gives is what its function says, and nothing else.
 pub fn tick_is_a_step()
-    ensures { (s : Table) (t u : Tree) (out : Outcome) → Ticks s t u out ↔ IsStep (tick_step s t) t u out }
+    ensures { (s : Table) (t u : Tree) (out : Outcome) →
+        Ticks s t u out ↔ IsStep (tick_step s t) t u out }
 {}
 
 /// What a BPDU leaves and gives is what its function says, and nothing else.

@@ -53,7 +53,8 @@ pub fn root_port_hears_another()
 
 /// There is no root port exactly where the root vector is this bridge's own.
 pub fn no_root_port_at_the_root()
-    ensures { (s : Table) (t : Tree) → IsLegal s t → ((n : ℕ) → ¬ IsRootPort t n) ↔ IsRootBridge s t }
+    ensures { (s : Table) (t : Tree) → IsLegal s t →
+        ((n : ℕ) → ¬ IsRootPort t n) ↔ IsRootBridge s t }
 {}
 
 /// The root vector is this bridge's own exactly where the root is this bridge's whole identifier, priority and address.
@@ -70,7 +71,8 @@ pub fn root_port_is_0_at_the_root()
 
 /// A port that learned or forwarded and is now disabled, alternate or backup loses its learned rows in that event.
 pub fn leaving_activity_flushes()
-    ensures { (h : Happening) (s r : Table) (t u : Tree) (out : Outcome) → IsLegal s t → Happens h s t r u out
+    ensures { (h : Happening) (s r : Table) (t u : Tree) (out : Outcome) → IsLegal s t →
+        Happens h s t r u out
         → (n : ℕ) → LeavesActivity t u n → Contains out.flushed.items n }
 {}
 
@@ -91,8 +93,10 @@ pub fn turns_of_an_event_are_one_change()
 /// A port that starts anew loses its learned rows in that event, even where it is designated again, or forwards, at the event's end:
 /// so it does where the version changes. What it then is follows from whether it is on, the version and its edge setting alone.
 pub fn starting_anew_flushes()
-    ensures flushed { (h : Happening) (s r : Table) (t u : Tree) (out : Outcome) → IsLegal s t → Happens h s t r u out
+    ensures flushed { (h : Happening) (s r : Table) (t u : Tree) (out : Outcome) → IsLegal s t →
+        Happens h s t r u out
         → (n : ℕ) → IsPort t n → Restarts h s t n → Contains out.flushed.items n }
-    ensures anew { (h : Happening) (s r : Table) (t u : Tree) (out : Outcome) → IsLegal s t → Happens h s t r u out
+    ensures anew { (h : Happening) (s r : Table) (t u : Tree) (out : Outcome) → IsLegal s t →
+        Happens h s t r u out
         → (n : ℕ) → IsPort t n → Restarts h s t n → IsAnew r u n }
 {}

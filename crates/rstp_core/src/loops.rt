@@ -1,3 +1,4 @@
+//! Each rule of one port, taken for all ports.
 ghost use Rattle.std.specs.Prelude.{◌≡◌, map, length, ◌≤◌};
 ghost use Rattle.std.specs.List.{list_any};
 ghost use Rattle.rstp_rules.specs.Lines.{IsSmall};

@@ -1,3 +1,4 @@
+//! The root vector among the candidates of all ports (IEEE 802.1D-2004 17.21.25).
 ghost use Rattle.rstp_rules.specs.Roles.{candidates, IsBest};
 
 use frame_core::BridgeId;

@@ -1,3 +1,4 @@
+//! The spanning tree of a bridge, one event at a time (IEEE 802.1D-2004 clause 17).
 ghost use Rattle.std.specs.Prelude.{◌≡◌, ◌≤◌, length};
 ghost use Rattle.rstp_core.specs.Tree.{port_at, config_at, rows_of, opening_port_of, opening_ports, opening_tree, Ends, Ticks, Arrives, Links, Settles};
 ghost use Rattle.rstp_settings.specs.Table.{spent};

@@ -1,3 +1,4 @@
+//! What is kept of the settings when they are settled.
 ghost use Rattle.std.specs.Prelude.{◌≡◌, ◌≤◌, length, map};
 ghost use Rattle.rstp_rules.specs.Lines.{settled_port_of};
 ghost use Rattle.rstp_core.specs.Settled.{settled_of, settled_port};

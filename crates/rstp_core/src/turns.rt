@@ -1,3 +1,4 @@
+//! The turns of the ports that became forwarding (IEEE 802.1D-2004 17.31).
 ghost use Rattle.std.specs.Prelude.{◌≡◌, ◌<◌, map, length};
 ghost use Rattle.rstp_rules.specs.Lines.{IsSmall};
 ghost use Rattle.rstp_rules.specs.Turns.{spread_but, turn_at, turns};

@@ -1,3 +1,4 @@
+//! A BPDU that arrives (IEEE 802.1D-2004 17.21.1, 17.21.8 to 17.21.18, 17.23, 17.27).
 ghost use Rattle.std.specs.Prelude.{◌≡◌, ◌&&◌};
 ghost use Rattle.rstp_rules.specs.Lines.{IsSmall};
 ghost use Rattle.rstp_rules.specs.Arrivals.{is_own, is_taken, marked, is_superior, recorded, offered, answered, by_role, taken, received, spreads, acknowledged, told};

@@ -1,3 +1,4 @@
+//! What a BPDU tells of a topology change (IEEE 802.1D-2004 9.3, 17.21.8).
 ghost use Rattle.std.specs.Prelude.{◌≡◌};
 ghost use Rattle.rstp_rules.specs.Bpdus.{tells_change};
 

@@ -1,3 +1,4 @@
+//! What is fixed of a bridge and its ports: address, interface number, speed, duplex.
 ghost use Rattle.std.specs.Prelude.{◌≡◌, ◌≤◌, ◌&&◌, if◌then◌else◌, nat_le, Some, None};
 
 use arrayvec::ArrayVec;

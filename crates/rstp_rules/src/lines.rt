@@ -1,3 +1,4 @@
+//! What the settings come to for a port, and the times in force (IEEE 802.1D-2004 6.4.3, 9.2.5, 9.2.7, 17.14).
 ghost use Rattle.std.specs.Prelude.{◌≡◌, ◌≤◌, length};
 ghost use Rattle.std.specs.List.{find};
 ghost use Rattle.std.specs.Option.{option_copied};

@@ -1,3 +1,4 @@
+//! A port of the spanning tree: information, role, state, timers (IEEE 802.1D-2004 7.4, 17.17, 17.19).
 ghost use Rattle.std.specs.Prelude.{◌≡◌};
 ghost use Rattle.rstp_rules.specs.Ports.{is_received, is_root_or_designated, is_alternate_or_backup, is_root, is_designated, is_discarding, is_forwarding, next_state, opening_port};
 

@@ -1,3 +1,4 @@
+//! A port that starts anew, a link that changes, settled settings (IEEE 802.1D-2004 17.24, 17.25, 17.29.1).
 ghost use Rattle.std.specs.Prelude.{◌≡◌};
 ghost use Rattle.rstp_rules.specs.Restarts.{restarted, switched, linked, is_renewed, settled_anew};
 

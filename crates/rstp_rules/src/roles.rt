@@ -1,3 +1,4 @@
+//! The root vector and the roles of ports (IEEE 802.1D-2004 17.6, 17.21.25, 17.28).
 ghost use Rattle.std.specs.Prelude.{◌≡◌};
 ghost use Rattle.rstp_rules.specs.Roles.{best_cmp, beats, expired, own_best, candidate, or_better, designated_vector, designated, with_role};
 

@@ -1,3 +1,4 @@
+//! What a pass over the ports knows of each: its line, its port, and what it was before.
 use crate::port::{Port, Role, State};
 use frame_core::{BridgeId, PriorityVector, Times};
 

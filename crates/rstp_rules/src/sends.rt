@@ -1,3 +1,4 @@
+//! What a port sends (IEEE 802.1D-2004 17.21.19 to 17.21.21, 17.26).
 ghost use Rattle.std.specs.Prelude.{◌≡◌};
 ghost use Rattle.rstp_rules.specs.Sends.{said, sends_rapid, config_of, rapid_of, due, sends, bpdu_of, sent};
 

@@ -1,3 +1,4 @@
+//! What is kept of the settings of a bridge and a port when they are settled.
 /// The three times of the settings (IEEE 802.1D-2004 17.14), in 1/100 s.
 #[derive(Clone, Copy, Debug, Default, PartialEq, Eq)]
 pub struct Timers {

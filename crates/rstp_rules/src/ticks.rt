@@ -1,3 +1,4 @@
+//! A tick of one second (IEEE 802.1D-2004 17.17, 17.22, 17.26).
 ghost use Rattle.std.specs.Prelude.{◌≡◌};
 ghost use Rattle.rstp_rules.specs.Ticks.{ticked, greeted};
 

@@ -1,3 +1,4 @@
+//! How the state of a port follows from its role (IEEE 802.1D-2004 17.29 to 17.31).
 ghost use Rattle.std.specs.Prelude.{◌≡◌};
 ghost use Rattle.rstp_rules.specs.Lines.{IsSmall};
 ghost use Rattle.rstp_rules.specs.Transitions.{has_changed_role, blocked, delayed, retired, disagreed, rested, announced, turned, synced, is_quick, advanced, has_begun, change_time, started, spread, counted};

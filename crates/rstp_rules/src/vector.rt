@@ -1,3 +1,4 @@
+//! Priority vectors, identifiers and times compared (IEEE 802.1D-2004 9.2.5, 17.5, 17.6).
 ghost use Rattle.std.specs.Prelude.{◌≡◌};
 ghost use Rattle.std.specs.Ordering.{is_lt};
 ghost use Rattle.rstp_rules.specs.Vectors.{port_number, vector_cmp, same_vector, same_sender, same_times, info_time};

@@ -1,3 +1,4 @@
+//! The settings of a bridge and its ports: keys, values, ranges (RFC 4188, RFC 4318; IEEE 802.1D-2004 17.13, 17.14).
 /// A setting of the bridge as a whole.
 #[derive(Clone, Copy, Debug, PartialEq, Eq)]
 pub enum BridgeKey {

@@ -1,3 +1,4 @@
+//! Laws of settings as a finite map. Each holds of all settings, and its function does nothing.
 // Laws of the settings as a finite map. Each function does nothing: its contract is the law.
 ghost use Rattle.std.specs.Prelude.{◌≡◌, ◌≢◌, ℕ, if◌then◌else◌, length};
 ghost use Rattle.rstp_settings.specs.Table.{Table, get, put, HasKey, same_key};

@@ -1,3 +1,4 @@
+//! The settings of a bridge as a finite map.
 ghost use Rattle.std.specs.Prelude.{◌≡◌, ◌≤◌, ◌<◌, ◌+◌, length, replicate, map};
 ghost use Rattle.rstp_settings.specs.Table.{get, put, HasKey, IsInRange, opening, opening_port, spent, spent_values};
 ghost use Rattle.rstp_settings.specs.Values.{bridge_value, with_bridge_value, port_value, with_port_value};

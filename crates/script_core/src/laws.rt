@@ -15,7 +15,8 @@ pub fn limits_are_fixed()
 /// input, or the input and one 0A where it does not end with one.
 pub fn has_its_lines()
     ensures are { (input : List ℕ) → AreLines input (lines_of input) }
-    ensures only { (input : List ℕ) (lines : List (List ℕ)) → AreLines input lines → lines ≡ lines_of input }
+    ensures only { (input : List ℕ) (lines : List (List ℕ)) → AreLines input lines →
+        lines ≡ lines_of input }
 {}
 
 /// Octets that are written in hexadecimal are read back.

@@ -52,7 +52,8 @@ fn feed_octet<S: Session>(
     octet: u8,
 ) -> Result<(), LineFault>
     requires { HasNoEnd buffers.old.line.items }
-    ensures feeds { OnOk result ((rest : List ℕ) → Adds buffers.old.out.items buffers.new.out.items (λ said.
+    ensures feeds { OnOk result ((rest : List ℕ) →
+        Adds buffers.old.out.items buffers.new.out.items (λ said.
         Feeds S.line_says session.old (buffers.old.line.items ++ (octet ∷ rest)) session.new (buffers.new.line.items ++ rest) said)) }
     ensures part { OnOk result (HasNoEnd buffers.new.line.items) }
     ensures same { OnErr result (buffers.new.out.items ≡ buffers.old.out.items) }
@@ -68,10 +69,12 @@ fn feed_octet<S: Session>(
 // Takes what one read gave.
 fn feed<S: Session>(session: &mut S, buffers: &mut Buffers, chunk: &[u8]) -> Result<(), LineFault>
     requires { HasNoEnd buffers.old.line.items }
-    ensures feeds { OnOk result ((rest : List ℕ) → Adds buffers.old.out.items buffers.new.out.items (λ said.
+    ensures feeds { OnOk result ((rest : List ℕ) →
+        Adds buffers.old.out.items buffers.new.out.items (λ said.
         Feeds S.line_says session.old (buffers.old.line.items ++ (chunk.now ++ rest)) session.new (buffers.new.line.items ++ rest) said)) }
     ensures part { OnOk result (HasNoEnd buffers.new.line.items) }
-    ensures given_up { OnErr result ((rest : List ℕ) → Adds buffers.old.out.items buffers.new.out.items (λ said.
+    ensures given_up { OnErr result ((rest : List ℕ) →
+        Adds buffers.old.out.items buffers.new.out.items (λ said.
         GivesUpLine S.line_says session.old (buffers.old.line.items ++ (chunk.now ++ rest)) rest said)) }
 {
     for octet in chunk {
@@ -82,7 +85,8 @@ fn feed<S: Session>(session: &mut S, buffers: &mut Buffers, chunk: &[u8]) -> Res
 
 // Ends the session, and keeps what it says.
 fn end_session<S: Session>(session: &mut S, buffers: &mut Buffers) -> Result<(), LineFault>
-    ensures said { OnOk result (Adds buffers.old.out.items buffers.new.out.items (λ said. S.end_says session.old said session.new)) }
+    ensures said { OnOk result (Adds buffers.old.out.items buffers.new.out.items (λ said.
+        S.end_says session.old said session.new)) }
     ensures same { OnErr result (buffers.new.out.items ≡ buffers.old.out.items) }
 {
     buffers.said.clear();
@@ -121,7 +125,8 @@ fn finish<S: Session>(session: &mut S, buffers: &mut Buffers) -> Result<(), Line
 
 // Writes what was said, and flushes it, if anything was. Where that fails, a front of it is written.
 fn deliver<W: Write>(buffers: &mut Buffers, writer: &mut W) -> Result<(), RunFault>
-    ensures written { OnOk result (Appends (W.contents writer.old) (W.contents writer.new) buffers.old.out.items) }
+    ensures written { OnOk result (Appends (W.contents writer.old)
+        (W.contents writer.new) buffers.old.out.items) }
     ensures empty { OnOk result (buffers.new.out.items ≡ []) }
     ensures line { buffers.new.line.items ≡ buffers.old.line.items }
     ensures front { OnErr result (Writes (W.contents writer.old) (W.contents writer.new) (λ text.
@@ -139,7 +144,8 @@ fn deliver<W: Write>(buffers: &mut Buffers, writer: &mut W) -> Result<(), RunFau
 // Reads some octets, and none at the end of the input.
 fn read_octets<R: Read>(reader: &mut R, chunk: &mut [u8]) -> Result<usize, RunFault>
     ensures bound { ReadsAtMost result chunk.new }
-    ensures bytes { ReadConsumes (R.remaining reader.old) (R.remaining reader.new) result chunk.new }
+    ensures bytes { ReadConsumes (R.remaining reader.old)
+        (R.remaining reader.new) result chunk.new }
     ensures input { IfErr result (λ e. e ≡ RunFault.Input) }
 {
     match reader.read(chunk) {
@@ -157,7 +163,8 @@ fn serve<S: Session, W: Write>(
 ) -> Result<(), RunFault>
     requires part { HasNoEnd buffers.old.line.items }
     requires empty { buffers.old.out.items ≡ [] }
-    ensures feeds { OnOk result ((rest : List ℕ) → Writes (W.contents writer.old) (W.contents writer.new) (λ text.
+    ensures feeds { OnOk result ((rest : List ℕ) →
+        Writes (W.contents writer.old) (W.contents writer.new) (λ text.
         Feeds S.line_says session.old (buffers.old.line.items ++ (chunk.now ++ rest)) session.new (buffers.new.line.items ++ rest) text)) }
     ensures part { OnOk result (HasNoEnd buffers.new.line.items) }
     ensures empty { OnOk result (buffers.new.out.items ≡ []) }
@@ -185,9 +192,11 @@ fn close<S: Session, W: Write>(
     requires empty { buffers.old.out.items ≡ [] }
     ensures written { OnOk result (Writes (W.contents writer.old) (W.contents writer.new) (λ text.
         SaysAll S.line_says S.end_says session.old (lines_of buffers.old.line.items) text session.new)) }
-    ensures given_up { IfErr result (λ e. e ≢ RunFault.Output → Writes (W.contents writer.old) (W.contents writer.new) (λ text.
+    ensures given_up { IfErr result (λ e. e ≢ RunFault.Output →
+        Writes (W.contents writer.old) (W.contents writer.new) (λ text.
         GivesUp S.line_says session.old buffers.old.line.items [] text)) }
-    ensures output { IfErr result (λ e. e ≡ RunFault.Output → Writes (W.contents writer.old) (W.contents writer.new) (λ text.
+    ensures output { IfErr result (λ e. e ≡ RunFault.Output →
+        Writes (W.contents writer.old) (W.contents writer.new) (λ text.
         IsFrontOf (λ whole. SaysSome S.line_says S.end_says session.old (lines_of buffers.old.line.items) whole) text)) }
     ensures kind { IfErr result (λ e. e ≢ RunFault.Input) }
 {
@@ -231,7 +240,8 @@ pub fn run_script<S: Session, R: Read, W: Write>(
         Writes (W.contents writer.old) (W.contents writer.new) (λ text.
         GivesUp S.line_says session.old input rest text))) }
     // Where a write failed, what is written is a front of what was said to the first lines of the input, or to all of it.
-    ensures output { IfErr result (λ e. e ≡ RunFault.Output → IfSome (R.remaining reader.old) (λ input.
+    ensures output { IfErr result (λ e. e ≡ RunFault.Output →
+        IfSome (R.remaining reader.old) (λ input.
         Writes (W.contents writer.old) (W.contents writer.new) (λ text. IsFrontOf (λ whole.
         SaysSome S.line_says S.end_says session.old (lines_of input) whole) text))) }
 {
@@ -257,7 +267,8 @@ pub(crate) fn run_within<S: Session, R: Read, W: Write>(
         Reads (R.remaining reader.old) (R.remaining reader.new) (λ input rest.
         Writes (W.contents writer.old) (W.contents writer.new) (λ text.
         GivesUp S.line_says session.old input rest text))) }
-    ensures output { IfErr result (λ e. e ≡ RunFault.Output → IfSome (R.remaining reader.old) (λ input.
+    ensures output { IfErr result (λ e. e ≡ RunFault.Output →
+        IfSome (R.remaining reader.old) (λ input.
         Writes (W.contents writer.old) (W.contents writer.new) (λ text. IsFrontOf (λ whole.
         SaysSome S.line_says S.end_says session.old (lines_of input) whole) text))) }
 {

@@ -18,9 +18,11 @@ pub trait Session {
     /// Appends to `out` what is said to one line, which is given without its end. After an error
     /// the run stops, and what `out` then holds is dropped.
     fn line(&mut self, line: &[u8], out: &mut Vec<u8>) -> Result<(), LineFault>
-        ensures said { OnOk result (Adds out.old.items out.new.items (λ said. line_says self.old line.now said self.new)) };
+        ensures said { OnOk result (Adds out.old.items out.new.items (λ said.
+            line_says self.old line.now said self.new)) };
 
     /// Appends to `out` what is said at the end of the script.
     fn end(&mut self, out: &mut Vec<u8>) -> Result<(), LineFault>
-        ensures said { OnOk result (Adds out.old.items out.new.items (λ said. end_says self.old said self.new)) };
+        ensures said { OnOk result (Adds out.old.items out.new.items (λ said.
+            end_says self.old said self.new)) };
 }

@@ -12,7 +12,8 @@ use std::alloc::{AllocError, Global};
 /// line has no space.
 pub fn split_word(line: &[u8]) -> Option<(&[u8], &[u8])>
     ensures value { option_map (λ p. (p.0.now, p.1.now)) result ≡ split_word line.now }
-    ensures cut { IfSome result (λ p. (line.now ≡ p.0.now ++ (32 ∷ p.1.now)) × All (λ b. b ≢ 32) p.0.now) }
+    ensures cut { IfSome result (λ p. (line.now ≡ p.0.now ++ (32 ∷ p.1.now)) ×
+        All (λ b. b ≢ 32) p.0.now) }
     ensures whole { IfNone result (All (λ b. b ≢ 32) line.now) }
 {
     cut_at_space(line)
@@ -83,7 +84,8 @@ fn scan_number(word: &[u8], most: u32) -> Option<u32>
 /// `AllocError` where there is no memory for the octets.
 pub fn read_hex(alloc: Global, text: &[u8]) -> Result<Option<Vec<u8>>, AllocError>
     ensures value { IfOk result (λ octets. option_map (λ v. v.items) octets ≡ octets_of text.now) }
-    ensures reads { IfOk result (λ octets. IsSome octets ↔ ((length text.now % 2 ≡ 0) × AllPass is_hex_digit text.now)) }
+    ensures reads { IfOk result (λ octets. IsSome octets ↔ ((length text.now % 2 ≡ 0) ×
+        AllPass is_hex_digit text.now)) }
 {
     match hex::decode(alloc, text) {
         Ok(octets) => Ok(Some(octets)),
@@ -98,7 +100,8 @@ pub fn read_hex(alloc: Global, text: &[u8]) -> Result<Option<Vec<u8>>, AllocErro
 ///
 /// `AllocError` where there is no memory for the digits; `out` then is as it was.
 pub fn write_hex(out: &mut Vec<u8>, octets: &[u8]) -> Result<(), AllocError>
-    ensures { out.new.items ≡ (if is_ok result then out.old.items ++ encode_upper octets.now else out.old.items) }
+    ensures { out.new.items ≡ (if is_ok result then out.old.items
+        ++ encode_upper octets.now else out.old.items) }
 {
     let text = hex::encode_upper(*out.allocator(), octets)?;
     out.extend_from_slice(text.as_bytes())

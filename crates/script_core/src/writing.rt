@@ -8,7 +8,8 @@ use std::io::{ErrorKind, Write};
 
 // Writes a front of some octets, and gives the others: all of them where the write was interrupted.
 fn write_some<'a, W: Write>(octets: &'a [u8], writer: &mut W) -> Result<&'a [u8], RunFault>
-    ensures took { IfOk result (λ rest. Writes (W.contents writer.old) (W.contents writer.new) (λ text.
+    ensures took { IfOk result (λ rest.
+        Writes (W.contents writer.old) (W.contents writer.new) (λ text.
         octets.now ≡ text ++ rest.now)) }
     ensures kept { OnErr result (Keeps (W.contents writer.old) (W.contents writer.new)) }
     ensures output { IfErr result (λ e. e ≡ RunFault.Output) }
@@ -27,7 +28,8 @@ fn write_some<'a, W: Write>(octets: &'a [u8], writer: &mut W) -> Result<&'a [u8]
 /// `Output` where a write fails, takes nothing, or the flush fails: a front of the octets is written.
 pub fn write_octets<W: Write>(octets: &[u8], writer: &mut W) -> Result<(), RunFault>
     requires { 0 < length octets.now }
-    ensures written { OnOk result (Appends (W.contents writer.old) (W.contents writer.new) octets.now) }
+    ensures written { OnOk result (Appends (W.contents writer.old)
+        (W.contents writer.new) octets.now) }
     ensures front { OnErr result (Writes (W.contents writer.old) (W.contents writer.new) (λ text.
         IsFrontOf (λ whole. whole ≡ octets.now) text)) }
     ensures output { IfErr result (λ e. e ≡ RunFault.Output) }

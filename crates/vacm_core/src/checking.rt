@@ -65,7 +65,8 @@ fn has_key<W: Written>(rows: &[W::Row], row: &W::Row) -> bool
 
 // The row that a written row behind these rows stands for, or what is wrong with it.
 fn read_behind<W: Written>(rows: &[W::Row], written: W) -> Result<W::Row, Wrong>
-    ensures { result ≡ row_behind (rules_of W.lengths W.fields W.row_of W.same_key) rows.now written }
+    ensures { result ≡ row_behind
+        (rules_of W.lengths W.fields W.row_of W.same_key) rows.now written }
 {
     let row = read_row(written)?;
     if has_key::<W>(rows, &row) {
@@ -87,7 +88,8 @@ pub fn checked_rows<W: Written>(
     written: Rows<W>,
 ) -> Result<Rows<W::Row>, PolicyFault>
     ensures rows { IfOk result (λ rows. rows ≡ map W.row_of written) }
-    ensures right { OnOk result (AreRight (rules_of W.lengths W.fields W.row_of W.same_key) written) }
+    ensures right { OnOk result (AreRight
+        (rules_of W.lengths W.fields W.row_of W.same_key) written) }
     ensures fault { IfErr result (λ e. e ≢ PolicyFault.Memory →
         IsFirstFault (rules_of W.lengths W.fields W.row_of W.same_key) table written e) }
     ensures memory { IfErr result (λ e. e ≡ PolicyFault.Memory →

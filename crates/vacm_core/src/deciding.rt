@@ -113,7 +113,8 @@ fn is_listed(contexts: &[Name], context: &Name) -> bool
 
 /// The group row of a security name under a model.
 pub fn group_row<'a>(rows: &'a [GroupRow], ask: &Ask) -> Option<&'a GroupRow>
-    ensures { option_map (λ row. row.now) result ≡ find (is_of ask.now.model ask.now.security) rows.now }
+    ensures { option_map (λ row.
+        row.now) result ≡ find (is_of ask.now.model ask.now.security) rows.now }
 {
     rows.iter()
         .find(|row| row.model == ask.model && row.name.is(&ask.security))
@@ -176,7 +177,8 @@ fn access_is_better(
     group: &Name,
 ) -> bool
     requires { ForSome best (λ b. b < length rows.now) }
-    ensures { result ≡ (candidate ask.now group.now row.now && takes_over (access_beats ask.now) rows.now best row.now) }
+    ensures { result ≡ (candidate ask.now group.now row.now && takes_over
+        (access_beats ask.now) rows.now best row.now) }
 {
     is_candidate(row, ask, group) && access_takes_over(rows, best, row, ask)
 }

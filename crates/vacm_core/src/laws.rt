@@ -15,14 +15,17 @@ use crate::limits::{FAMILY_MAX, MASK_MAX, MODEL_MAX, NAME_MAX};
 /// the subtree wherever the mask's bit is 1 (RFC 3415, vacmViewTreeFamilyMask).
 pub fn families_by_bits()
     ensures { (mask subtree name : List ℕ) → (agrees_from 0 mask subtree name ≡ true)
-        ↔ ((length subtree ≤ length name) × ((k : ℕ) → k < length subtree → mask_bit mask k ≡ true → slice_index name k ≡ slice_index subtree k)) }
+        ↔ ((length subtree ≤ length name) × ((k : ℕ) → k < length subtree →
+        mask_bit mask k ≡ true → slice_index name k ≡ slice_index subtree k)) }
 {}
 
 /// An access row decides wherever one fits: none decides exactly where no row is a candidate, and the
 /// one that decides is a candidate that no candidate comes before (RFC 3415, vacmAccessTable).
 pub fn some_access_row_decides()
-    ensures none { (rows : List AccessRow) (ask : Ask) (group : List ℕ) → (deciding_access rows ask group ≡ None) ↔ (list_any (candidate ask group) rows ≡ false) }
-    ensures some { (rows : List AccessRow) (ask : Ask) (group : List ℕ) (n : ℕ) → deciding_access rows ask group ≡ Some n
+    ensures none { (rows : List AccessRow) (ask : Ask) (group : List ℕ) →
+        (deciding_access rows ask group ≡ None) ↔ (list_any (candidate ask group) rows ≡ false) }
+    ensures some { (rows : List AccessRow) (ask : Ask) (group : List ℕ) (n : ℕ) →
+        deciding_access rows ask group ≡ Some n
         → IsUnbeatenAt (candidate ask group) (access_beats ask) rows n }
 {}
 
@@ -30,8 +33,11 @@ pub fn some_access_row_decides()
 /// name in its family, and the one that decides is such a row that no such row comes before
 /// (RFC 3415, vacmViewTreeFamilyTable).
 pub fn some_family_row_decides()
-    ensures none { (families : List FamilyRow) (view name : List ℕ) → (deciding_family families view name ≡ None) ↔ (list_any (matches view name) families ≡ false) }
-    ensures some { (families : List FamilyRow) (view name : List ℕ) (n : ℕ) → deciding_family families view name ≡ Some n
+    ensures none { (families : List FamilyRow) (view name : List ℕ) →
+        (deciding_family families view name ≡ None) ↔ (list_any (matches view name) families
+        ≡ false) }
+    ensures some { (families : List FamilyRow) (view name : List ℕ) (n : ℕ) →
+        deciding_family families view name ≡ Some n
         → IsUnbeatenAt (matches view name) family_beats families n }
 {}
 

@@ -84,7 +84,8 @@ impl Vacm {
 
     // The decision for a group.
     fn decide_access(&self, ask: &Ask, group: &Name) -> Verdict
-        ensures verdict { result ≡ by_access self.now ask.now group.now (deciding_access self.now.access ask.now group.now) }
+        ensures verdict { result ≡ by_access self.now ask.now group.now
+            (deciding_access self.now.access ask.now group.now) }
         ensures row { NamesRowOf self.now.access result }
     {
         match deciding::deciding_access(self.access.as_slice(), ask, group) {
@@ -133,9 +134,11 @@ impl Vacm {
     /// The law that at most one row decides: for what is asked and a group, at most one candidate is
     /// beaten by no candidate, and for a view and a name at most one matching family row by none.
     pub fn one_row_decides(&self)
-        ensures access { (ask : Ask) (group : List ℕ) (n m : ℕ) → IsUnbeatenAt (candidate ask group) (access_beats ask) self.now.access n
+        ensures access { (ask : Ask) (group : List ℕ) (n m : ℕ) →
+            IsUnbeatenAt (candidate ask group) (access_beats ask) self.now.access n
             → IsUnbeatenAt (candidate ask group) (access_beats ask) self.now.access m → n ≡ m }
-        ensures family { (view name : List ℕ) (n m : ℕ) → IsUnbeatenAt (matches view name) family_beats self.now.families n
+        ensures family { (view name : List ℕ) (n m : ℕ) →
+            IsUnbeatenAt (matches view name) family_beats self.now.families n
             → IsUnbeatenAt (matches view name) family_beats self.now.families m → n ≡ m }
     {
         let _ = &self.access;
