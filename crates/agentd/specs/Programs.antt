@@ -1,6 +1,5 @@
 -- What the program does with its words.
-use Rattle.std.specs.Prelude.{◌≡◌, ◌≤◌, ◌⊎◌, ℕ, List, Option, Result, Ok, Err, IsErr}
-use Rattle.std.specs.declared.vec.Vec.{Vec}
+use Rattle.std.specs.Prelude.{◌≡◌, ◌≤◌, ◌⊎◌, ℕ, List, Option, Result, IsErr}
 use Rattle.configuration.specs.declared.configuration.TheConstants.{BUILT_IN}
 use Rattle.agent_script.specs.declared.session.Run.{Run}
 use Rattle.agentd.specs.declared.opening.NotRun.{NotRun}
@@ -20,11 +19,6 @@ module _ {I O : Type 0} (remaining : I → Option (List ℕ)) (contents : O → 
   pub record FailsFirst (reader reader' : I) (writer writer' : O) (ended : Result (Unit {0}) Failure) : Type 0 where
     pub failed : IsErr ended
     pub untouched : IsUntouched remaining contents reader reader' writer writer'
-
-  -- a run by what was read of a file: by its octets, or where it could not be read, a failure for that reason and nothing else
-  abbrev pub RunsByRead : Result (Vec ℕ) Failure → I → I → O → O → Result (Unit {0}) Failure → Type 0
-  RunsByRead (Ok octets) reader reader' writer writer' ended = RunsBy octets.items reader reader' writer writer' ended
-  RunsByRead (Err why) reader reader' writer writer' ended = (ended ≡ Err why) × IsUntouched remaining contents reader reader' writer writer'
 
   -- the program told whether these octets are a configuration, and read nothing
   pub record ChecksBy (octets : List ℕ) (reader reader' : I) (writer writer' : O) (ended : Result (Unit {0}) Failure) : Type 0 where

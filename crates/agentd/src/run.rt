@@ -1,7 +1,8 @@
 //! What the program does with its words.
-ghost use Rattle.std.specs.Prelude.{◌≡◌, length};
+ghost use Rattle.std.specs.Prelude.{◌≡◌, IfOk, IfErr, OnErr, Err, length};
 ghost use Rattle.agentd.specs.Endings.{ended_by};
-ghost use Rattle.agentd.specs.Programs.{RunsBy, RunsByRead, HasEnded, IsProgramRun};
+ghost use Rattle.agentd.specs.Runs.{IsUntouched};
+ghost use Rattle.agentd.specs.Programs.{RunsBy, HasEnded, IsProgramRun};
 
 use crate::checking::check_octets;
 use crate::failure::{Failure, failure_of, report, tell};
@@ -86,8 +87,11 @@ fn run_read<'a, I: Read, O: Write>(
     reader: &mut I,
     writer: &mut O,
 ) -> Result<(), Failure<'a>>
-    ensures { RunsByRead I.remaining O.contents read
-        reader.old reader.new writer.old writer.new result }
+    ensures octets { IfOk read.entry (λ octets. RunsBy I.remaining O.contents octets.items
+        reader.old reader.new writer.old writer.new result) }
+    ensures failure { IfErr read.entry (λ why. result ≡ Err why) }
+    ensures untouched { OnErr read.entry (IsUntouched I.remaining O.contents reader.old reader.new
+        writer.old writer.new) }
 {
     match read {
         Ok(octets) => run_by(alloc, &octets, reader, writer),

@@ -336,13 +336,25 @@ fn checks_a_configuration(rt: HostRuntime) -> Result<(), Fail> {
         (run.status, run.out.as_slice(), run.errors.as_slice()),
         (0, b"configuration ok\n".as_slice(), b"".as_slice())
     );
-    let group = b"address = \"01000000000A\"\n".as_slice();
-    let run = ran_by(&rt, "check", "wrong.toml", group, GET)?;
-    let told =
-        b"top level: address is to be a string of 12 hexadecimal digits, and no group address\n".as_slice();
+    Ok(())
+}
+
+/// What is told of a group address.
+const TOLD: &[u8] =
+    b"top level: address is to be a string of 12 hexadecimal digits, and no group address\n";
+
+#[test]
+fn checks_a_wrong_configuration(rt: HostRuntime) -> Result<(), Fail> {
+    let run = ran_by(
+        &rt,
+        "check",
+        "wrong.toml",
+        b"address = \"01000000000A\"\n",
+        GET,
+    )?;
     assert_eq!(rt;
         (run.status, run.out.as_slice(), run.errors.as_slice()),
-        (2, told, b"agentd: configuration refused\n".as_slice())
+        (2, TOLD, b"agentd: configuration refused\n".as_slice())
     );
     Ok(())
 }

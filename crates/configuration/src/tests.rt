@@ -195,8 +195,18 @@ fn other_octets_are_refused(rt: HostRuntime) -> Result<(), Fail> {
     Ok(())
 }
 
-const COMMUNITY: &str =
-    "[[community]]\nindex = \"a\"\nname = \"x\"\nsecurity = \"x\"\ncontext = \"\"\n";
+// A community, and another of its index.
+const COMMUNITY_TWICE: &str = "[[community]]
+index = \"a\"
+name = \"x\"
+security = \"x\"
+context = \"\"
+[[community]]
+index = \"a\"
+name = \"x\"
+security = \"x\"
+context = \"\"
+";
 
 #[test]
 fn faults_are_told(rt: HostRuntime) -> Result<(), Fail> {
@@ -204,8 +214,6 @@ fn faults_are_told(rt: HostRuntime) -> Result<(), Fail> {
     let others = "contexts = []\ngroup = []\naccess = []\nfamily = []\n";
     let long = "contexts = [\"\", \"a-name-of-33-octets-for-a-context\"]\n";
     let slow = "[[port]]\nifindex = 1\nspeed = 40\nfull = true\n";
-    let mut twice = String::from_str(rt.alloc(), COMMUNITY)?;
-    twice.push_str(COMMUNITY)?;
     for (parts, told) in [
         (
             ["address = \"\"\n", POLICY, PORT, ""],
@@ -224,7 +232,7 @@ fn faults_are_told(rt: HostRuntime) -> Result<(), Fail> {
             "row 2 of contexts, counted from 1: a context is to have at most 32 octets",
         ),
         (
-            [ADDRESS, others, PORT, twice.as_str()],
+            [ADDRESS, others, PORT, COMMUNITY_TWICE],
             "row 2 of [[community]], counted from 1: no earlier row may have its index",
         ),
     ] {
