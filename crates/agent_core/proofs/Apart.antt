@@ -1,30 +1,11 @@
 -- Names of which none begins another.
-use Rattle.std.proofs.Common.{◌≡◌, ℕ, refl, sym, subst, Bool, true, false, cond, not, ◌&&◌, nat_eq, List, [], ◌∷◌, Some, ◌⊎◌, inl, inr, ◌↔◌, All, IsTrue, suc, arith}
+use Rattle.std.proofs.Common.{◌≡◌, ℕ, refl, Bool, true, false, cond, not, ◌&&◌, nat_eq, List, [], ◌∷◌, Some, ◌⊎◌, inl, inr, All, IsTrue, arith}
 use Rattle.std.proofs.lemmas.Bool.Decides.{eqb_tells, nat_tests}
 use Rattle.std.proofs.lemmas.List.Elements.{All-cons, All-weaker}
-use Rattle.std.proofs.lemmas.List.Kept.{AllPairs-cons}
 use Rattle.oid_core.specs.Order.{is_prefix}
 use Rattle.agent_core.specs.World.{is_apart, AreApart}
 use Rattle.agent_core.specs.Reading.{object_of}
-
-apart_head : (x : List ℕ) (xs : List (List ℕ)) → AreApart (x ∷ xs) → All (λ y. is_apart x y ≡ true) xs
-apart_head x xs h = λ k d within. h 0 (suc k) d (omega arith) (omega (arith, within))
-
-apart_tail : (x : List ℕ) (xs : List (List ℕ)) → AreApart (x ∷ xs) → AreApart xs
-apart_tail x xs h = λ i j d below within. h (suc i) (suc j) d (omega (arith, below)) (omega (arith, within))
-
--- names are apart if the others are apart from the first, and from each other
-pub apart_step : (names xs : List (List ℕ)) (x : List ℕ) (first more : Bool) → names ≡ x ∷ xs → IsTrue first ↔ All (λ y. IsTrue (is_apart x y)) xs → IsTrue more ↔ AreApart xs → first ≡ true → IsTrue more ↔ AreApart names
-apart_step names xs x first more e b m t = (
-  (λ h. subst AreApart (sym e) (AllPairs-cons (λ (a c : List ℕ). IsTrue (is_apart a c)) x xs (b.0 t) (m.0 h))),
-  (λ h. m.1 (apart_tail x xs (subst AreApart e h))),
-)
-
-pub apart_not : (names xs : List (List ℕ)) (x : List ℕ) (first : Bool) → names ≡ x ∷ xs → IsTrue first ↔ All (λ y. IsTrue (is_apart x y)) xs → first ≡ false → IsTrue first ↔ AreApart names
-apart_not names xs x first e b f = (
-  (λ h. absurd (cc)),
-  (λ h. b.1 (apart_head x xs (subst AreApart e h))),
-)
+use Rattle.agent_core.proofs.Pairs.{pairs_head, pairs_tail}
 
 -- of two names that begin a third, one begins the other
 one_begins : (x y name : List ℕ) → is_prefix x name ≡ true → is_prefix y name ≡ true → (is_prefix x y ≡ true) ⊎ (is_prefix y x ≡ true)
@@ -54,11 +35,11 @@ never x y false false e f h k = elim h [ inl a ↦ a | inr a ↦ a ]
 -- the object that begins a name is the object of the name
 pub one_object_law : (objects : List (List ℕ)) (name : List ℕ) → AreApart objects → All (λ object. is_prefix object name ≡ true → object_of objects name ≡ Some object) objects
 one_object_law [] name h = λ i d within. absurd (omega (arith, within))
-one_object_law (x ∷ xs) name h = first (is_prefix x name) refl (one_object_law xs name (apart_tail x xs h))
+one_object_law (x ∷ xs) name h = first (is_prefix x name) refl (one_object_law xs name (pairs_tail (λ (a b : List ℕ). IsTrue (is_apart a b)) x xs h))
   where
     first : (b : Bool) → is_prefix x name ≡ b → All (λ object. is_prefix object name ≡ true → object_of xs name ≡ Some object) xs →
         All (λ object. is_prefix object name ≡ true → cond b (Some x) (object_of xs name) ≡ Some object) (x ∷ xs)
     first true e more = All-cons (λ (object : List ℕ). is_prefix object name ≡ true → Some x ≡ Some object) x xs (λ _. refl)
         (All-weaker (λ (y : List ℕ). is_apart x y ≡ true) (λ (object : List ℕ). is_prefix object name ≡ true → Some x ≡ Some object)
-        (λ y k m. let f : false ≡ true = never x y (is_prefix x y) (is_prefix y x) refl refl (one_begins x y name e m) k in absurd (cc)) xs (apart_head x xs h))
+        (λ y k m. let f : false ≡ true = never x y (is_prefix x y) (is_prefix y x) refl refl (one_begins x y name e m) k in absurd (cc)) xs (pairs_head (λ (a b : List ℕ). IsTrue (is_apart a b)) x xs h))
     first false e more = All-cons (λ (object : List ℕ). is_prefix object name ≡ true → object_of xs name ≡ Some object) x xs (λ m. absurd (cc)) more

@@ -6,7 +6,7 @@ use Rattle.std.proofs.lemmas.Grind.{flat_map-append}
 use Rattle.std.proofs.Math.Seq.{drop-append_seam, take-length}
 use Rattle.oid_core.specs.Name.{HasRoot}
 use Rattle.message_core.specs.Canon.{canon_binding}
-use Rattle.message_core.specs.Spellable.{AreSpellable}
+use Rattle.message_core.specs.Encodable.{AreEncodable}
 use Rattle.message_core.specs.declared.binding.Binding.{Binding}
 use Rattle.message_core.specs.Instances.{names_of}
 use Rattle.agent_core.specs.Reading.{next_answer, next_answers}
@@ -36,8 +36,8 @@ pub all_append : {X : Type 0} (P : X → Type 0) (xs ys : List X) → AllByRecur
 all_append P [] ys h k = k
 all_append P (x ∷ xs) ys h k = (h.0, all_append P xs ys h.1 k)
 
--- the names of bindings that can be spelled
-pub rooted : (bs : List Binding) → AreSpellable bs → AllByRecursion HasRoot (names_of bs)
+-- the names of bindings that can be encoded
+pub rooted : (bs : List Binding) → AreEncodable bs → AllByRecursion HasRoot (names_of bs)
 rooted [] h = tt
 rooted (b ∷ bs) h = (h.0.name, rooted bs h.1)
 

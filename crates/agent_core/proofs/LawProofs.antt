@@ -1,9 +1,8 @@
 -- The laws of replies.
-use Rattle.std.proofs.Common.{◌≡◌, ℕ, pos, suc, ◌+◌, ◌*◌, ◌≤◌, ◌∙◌, ap, sym, refl, Bool, List, [], ◌∷◌, ◌++◌, length, append-nil, arith, IsTrue, All, Some}
+use Rattle.std.proofs.Common.{◌≡◌, ℕ, pos, suc, ◌+◌, ◌*◌, ◌≤◌, ◌∙◌, ap, sym, refl, Bool, List, [], ◌∷◌, ◌++◌, length, append-nil, arith, All, Some}
 use Rattle.std.proofs.Math.Nat.{mul-le-mul_right}
 use Rattle.std.proofs.lemmas.List.Concat.{flat_map-cons}
 use Rattle.std.proofs.lemmas.List.Elements.{All-head, All-tail}
-use Rattle.std.proofs.lemmas.List.Kept.{AllPairs-filter}
 use Rattle.oid_core.specs.Order.{name_lt}
 use Rattle.message_core.specs.Canon.{answer_to, canon_binding}
 use Rattle.message_core.specs.declared.limits.TheConstants.{MAX_COMMUNITY, MAX_REPLY}
@@ -15,18 +14,19 @@ use Rattle.message_core.specs.declared.status.ErrorStatus.TheVariants.{NoError}
 use Rattle.message_core.proofs.Smallest.{binding_some, reply_some}
 use Rattle.message_core.specs.Instances.{IsRising, after, names_of}
 use Rattle.agent_core.specs.Reading.{visible, end_under, get_answer, get_answers, next_answers}
-use Rattle.agent_core.specs.Fitting.{total, fitting, reply_size, least_binding, most_successors}
+use Rattle.agent_core.specs.Fitting.{total, fitting_front, reply_size, least_binding, most_successors}
 use Rattle.agent_core.specs.Bulk.{asked_list}
 use Rattle.vacm_core.specs.Families.{in_view}
 use Rattle.message_core.specs.declared.reply.Reply.{Reply}
 use Rattle.decision.specs.declared.keys.AccessKey.{AccessKey}
 use Rattle.decision.specs.declared.choice.Decision.{Decision}
 use Rattle.decision.specs.declared.choice.Decision.TheVariants.{Allowed}
-use Rattle.decision.specs.Deciding.{decided}
+use Rattle.decision.specs.Deciding.{decision_on}
 use Rattle.agent_core.specs.World.{Shown}
-use Rattle.agent_core.specs.Replies.{sized, kind_reply, AgreesOnAsked, walk, last_name}
+use Rattle.agent_core.specs.Replies.{reply_within_limit, kind_reply, AgreesOnAsked, walk, last_name}
 use Rattle.agent_core.specs.Answers.{outcome_of, outcome_by, reply_in, reply_of}
 use Rattle.message_core.proofs.Rising.{find_is, after-first}
+use Rattle.agent_core.proofs.Below.{visible-rising}
 use Rattle.agent_core.proofs.Fits.{total-append}
 use Rattle.agent_core.proofs.Longest.{longest_law}
 
@@ -39,7 +39,7 @@ walk-all rows (y ∷ ys) name h e =
 pub walk_law : (shows : List ℕ → Bool) (rows : List Binding) (name : List ℕ) → IsRising rows →
     walk (visible shows rows) (suc (length (after name (visible shows rows)))) name ≡ after name (visible shows rows) ++ end_under (last_name name (after name (visible shows rows))) ∷ []
 walk_law shows rows name h =
-    walk-all (visible shows rows) (after name (visible shows rows)) name (AllPairs-filter (λ (a b : Binding). IsTrue (name_lt a.name b.name)) (λ row. shows row.name) rows h) refl
+    walk-all (visible shows rows) (after name (visible shows rows)) name (visible-rising shows rows h) refl
 
 -- equal answers to the asked names
 pub get_same : (objects : List (List ℕ)) (asked : List Binding) (first second : List ℕ → Bool) (rows others : List Binding) → visible first rows ≡ visible second others → All (λ b. first b.name ≡ second b.name) asked →
@@ -57,15 +57,15 @@ kind_same : (objects others_objects : List (List ℕ)) (first second : List ℕ 
     visible first rows ≡ visible second others → (kind ≡ Get → (objects ≡ others_objects) × All (λ b. first b.name ≡ second b.name) request.bindings) →
     kind_reply objects first rows request kind ≡ kind_reply others_objects second others request kind
 kind_same objects others_objects first second rows others request Get e h =
-    ap (λ bs. sized (answer_to request NoError (pos 0) bs))
+    ap (λ bs. reply_within_limit (answer_to request NoError (pos 0) bs))
     (ap (λ (os : List (List ℕ)). get_answers os first rows request.bindings) (h refl).0
     ∙ get_same others_objects request.bindings first second rows others e (h refl).1)
-kind_same objects others_objects first second rows others request GetNext e h = ap (λ vs. sized (answer_to request NoError (pos 0) (next_answers vs (names_of request.bindings)))) e
+kind_same objects others_objects first second rows others request GetNext e h = ap (λ vs. reply_within_limit (answer_to request NoError (pos 0) (next_answers vs (names_of request.bindings)))) e
 kind_same objects others_objects first second rows others request Set e h = refl
-kind_same objects others_objects first second rows others request GetBulk e h = ap (λ vs. answer_to request NoError (pos 0) (fitting request (asked_list vs request))) e
+kind_same objects others_objects first second rows others request GetBulk e h = ap (λ vs. answer_to request NoError (pos 0) (fitting_front request (asked_list vs request))) e
 
 pub reply_same : (shown other : Shown) (request : Request) (row other_row : AccessKey) (view other_view : List ℕ) →
-    decided shown.policy request ≡ Allowed row view → decided other.policy request ≡ Allowed other_row other_view →
+    decision_on shown.policy request ≡ Allowed row view → decision_on other.policy request ≡ Allowed other_row other_view →
     visible (in_view shown.policy.vacm.families view) shown.instances ≡ visible (in_view other.policy.vacm.families other_view) other.instances →
     (request.kind ≡ Get → AgreesOnAsked shown other view other_view request) →
     reply_of shown request ≡ reply_of other request
@@ -87,9 +87,9 @@ total_some (b ∷ bs) =
     let sum : total (b ∷ bs) ≡ total (b ∷ []) + total bs = total-append (b ∷ []) bs in
     omega (arith, more, binding_some b, one, sum)
 
-pub few_law : (request : Request) (all : List Binding) → length request.community ≤ MAX_COMMUNITY → least_binding * length (fitting request all) ≤ MAX_REPLY
+pub few_law : (request : Request) (all : List Binding) → length request.community ≤ MAX_COMMUNITY → least_binding * length (fitting_front request all) ≤ MAX_REPLY
 few_law request all community =
-    let sent : List Binding = fitting request all in
+    let sent : List Binding = fitting_front request all in
     let fits : reply_size request sent ≤ MAX_REPLY = (longest_law request all community).fits in
     omega (arith, fits, reply_some (answer_to request NoError (pos 0) sent), total_some sent)
 

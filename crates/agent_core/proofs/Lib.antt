@@ -1,10 +1,10 @@
-pub mod Rising
+pub mod Pairs
 pub mod Apart
 pub mod Rest
 pub mod Looks
 pub mod Below
 pub mod Sizes
-pub mod Spellings
+pub mod Encodings
 pub mod Fits
 pub mod Repeats
 pub mod Longest

@@ -10,7 +10,7 @@ use Rattle.message_core.specs.declared.binding.Binding.{Binding}
 use Rattle.message_core.specs.declared.request.Request.{Request}
 use Rattle.message_core.specs.declared.status.ErrorStatus.TheVariants.{NoError}
 use Rattle.message_core.proofs.Short.{reply_short}
-use Rattle.agent_core.specs.Fitting.{total, reply_size, longest_front, fitting, IsFront, IsLongestFitting, IsFilled}
+use Rattle.agent_core.specs.Fitting.{total, reply_size, longest_front, fitting_front, IsFront, IsLongestFitting, IsFilled}
 use Rattle.agent_core.proofs.Fits.{total-append}
 
 pub le_true : (m n : ℕ) → m ≤ n → nat_le m n ≡ true
@@ -85,8 +85,8 @@ too_long request room bs tells past true e = let within : total bs ≤ room = (t
 
 -- what is sent as far as there is room is the longest front that fits
 pub filled_fits : (request : Request) (room : ℕ) (all sent : List Binding) → ((bindings : List Binding) → (total bindings ≤ room) ↔ (reply_size request bindings ≤ MAX_REPLY)) →
-    total sent ≤ room → IsFilled room all sent → sent ≡ fitting request all
-unfolding fitting
+    total sent ≤ room → IsFilled room all sent → sent ≡ fitting_front request all
+unfolding fitting_front
 filled_fits request room all sent tells within filled =
     let len : length sent ≤ length all = omega (arith, ap length filled.front, length-append sent filled.rest) in
     sym (longest_is (λ front. nat_le (reply_size request front) MAX_REPLY) all sent filled.rest filled.front
@@ -128,8 +128,8 @@ front_longest passes all other rest e fits (suc k) h = split (passes (take (suc 
           absurd (cc)
     ]
 
-pub longest_law : (request : Request) (all : List Binding) → length request.community ≤ MAX_COMMUNITY → IsLongestFitting request all (fitting request all)
-unfolding fitting
+pub longest_law : (request : Request) (all : List Binding) → length request.community ≤ MAX_COMMUNITY → IsLongestFitting request all (fitting_front request all)
+unfolding fitting_front
 longest_law request all community = record {
   front = front_is (λ front. nat_le (reply_size request front) MAX_REPLY) (length all) all;
   fits = true_le (reply_size request (longest_front (λ front. nat_le (reply_size request front) MAX_REPLY) (length all) all)) MAX_REPLY

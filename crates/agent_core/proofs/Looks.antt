@@ -5,7 +5,7 @@ use Rattle.std.proofs.lemmas.List.Sums.{sum_by-cons}
 use Rattle.std.proofs.lemmas.List.Elements.{All-head, All-tail}
 use Rattle.message_core.specs.Instances.{IsRising, after, next_of}
 use Rattle.message_core.specs.declared.binding.Binding.{Binding}
-use Rattle.agent_core.specs.Looking.{hidden, most_looks}
+use Rattle.agent_core.specs.Looking.{hidden_count, most_looks}
 use Rattle.agent_core.proofs.Rest.{from, from-next, from_step}
 
 -- so many times as much
@@ -36,26 +36,26 @@ cut_looks start now later u old sent new before one same =
     subst (λ (bs : List Binding). later + length old * u ≤ start + (length bs + 1) * u) (sym same) (beside_more start now later (length old) (length sent) u before one)
 
 -- one instance more in front
-hidden_cons : (shows : List ℕ → Bool) (x : Binding) (xs : List Binding) → hidden shows (x ∷ xs) ≡ cond (not (shows x.name)) 1 0 + hidden shows xs
+hidden_cons : (shows : List ℕ → Bool) (x : Binding) (xs : List Binding) → hidden_count shows (x ∷ xs) ≡ cond (not (shows x.name)) 1 0 + hidden_count shows xs
 hidden_cons shows x xs = sum_by-cons (λ (row : Binding). cond (not (shows row.name)) 1 0) x xs
 
 -- some of them hide no more than all
-hidden_filter : (shows : List ℕ → Bool) (p : Binding → Bool) (rows : List Binding) → hidden shows (filter p rows) ≤ hidden shows rows
+hidden_filter : (shows : List ℕ → Bool) (p : Binding → Bool) (rows : List Binding) → hidden_count shows (filter p rows) ≤ hidden_count shows rows
 hidden_filter shows p [] = omega arith
 hidden_filter shows p (x ∷ xs) = pick (p x) (hidden_filter shows p xs)
   where
-    pick : (b : Bool) → hidden shows (filter p xs) ≤ hidden shows xs → hidden shows (cond b (x ∷ filter p xs) (filter p xs)) ≤ hidden shows (x ∷ xs)
+    pick : (b : Bool) → hidden_count shows (filter p xs) ≤ hidden_count shows xs → hidden_count shows (cond b (x ∷ filter p xs) (filter p xs)) ≤ hidden_count shows (x ∷ xs)
     pick true more = omega (arith, more, hidden_cons shows x (filter p xs), hidden_cons shows x xs)
     pick false more = omega (arith, more, hidden_cons shows x xs)
 
 -- the first look for a successor
 pub first_look : (shows : List ℕ → Bool) (rows : List Binding) (name : List ℕ) (found : Option Binding) (start now : ℕ) → IsRising rows → found ≡ next_of rows name → now ≡ start + 1 →
-    now + hidden shows (from rows found) ≤ start + most_looks shows rows
+    now + hidden_count shows (from rows found) ≤ start + most_looks shows rows
 unfolding most_looks
 first_look shows rows name found start now h is one =
     let e : from rows found ≡ after name rows = ap (from rows) is ∙ from-next rows name (after name rows) h refl in
-    let c : hidden shows (from rows found) ≡ hidden shows (after name rows) = ap (hidden shows) e in
-    let f : hidden shows (after name rows) ≤ hidden shows rows = hidden_filter shows _ rows in
+    let c : hidden_count shows (from rows found) ≡ hidden_count shows (after name rows) = ap (hidden_count shows) e in
+    let f : hidden_count shows (after name rows) ≤ hidden_count shows rows = hidden_filter shows _ rows in
     omega (arith, c, f, one)
 
 -- a first look that finds no memory
@@ -65,36 +65,36 @@ one_look shows rows start now one = omega (arith, one)
 
 -- an instance that is passed over is hidden
 hidden_here : (shows : List ℕ → Bool) (rows : List Binding) (found : Option Binding) (row : Binding) → found ≡ Some row → shows row.name ≡ false →
-    hidden shows (from rows found) ≡ 1 + hidden shows (after row.name rows)
+    hidden_count shows (from rows found) ≡ 1 + hidden_count shows (after row.name rows)
 hidden_here shows rows found row here hides =
-    ap (λ (o : Option Binding). hidden shows (from rows o)) here
+    ap (λ (o : Option Binding). hidden_count shows (from rows o)) here
     ∙ hidden_cons shows row (after row.name rows)
-    ∙ ap (λ (b : Bool). cond (not b) 1 0 + hidden shows (after row.name rows)) hides
+    ∙ ap (λ (b : Bool). cond (not b) 1 0 + hidden_count shows (after row.name rows)) hides
 
 -- one look more
 pub next_look : (shows : List ℕ → Bool) (rows : List Binding) (found next : Option Binding) (row : Binding) (now later most : ℕ) → IsRising rows → found ≡ Some row → next ≡ next_of rows row.name → shows row.name ≡ false →
-    now + hidden shows (from rows found) ≤ most → later ≡ now + 1 → later + hidden shows (from rows next) ≤ most
+    now + hidden_count shows (from rows found) ≤ most → later ≡ now + 1 → later + hidden_count shows (from rows next) ≤ most
 next_look shows rows found next row now later most h here is hides before one =
-    let past : hidden shows (from rows found) ≡ 1 + hidden shows (after row.name rows) = hidden_here shows rows found row here hides in
-    let step : hidden shows (from rows next) ≡ hidden shows (after row.name rows) = ap (hidden shows) (from_step rows next row row.name h refl is) in
+    let past : hidden_count shows (from rows found) ≡ 1 + hidden_count shows (after row.name rows) = hidden_here shows rows found row here hides in
+    let step : hidden_count shows (from rows next) ≡ hidden_count shows (after row.name rows) = ap (hidden_count shows) (from_step rows next row row.name h refl is) in
     omega (arith, past, step, before, one)
 
 -- a look more that finds no memory
 pub last_look : (shows : List ℕ → Bool) (rows : List Binding) (found : Option Binding) (row : Binding) (now later most : ℕ) → found ≡ Some row → shows row.name ≡ false →
-    now + hidden shows (from rows found) ≤ most → later ≡ now + 1 → later ≤ most
+    now + hidden_count shows (from rows found) ≤ most → later ≡ now + 1 → later ≤ most
 last_look shows rows found row now later most here hides before one =
-    let past : hidden shows (from rows found) ≡ 1 + hidden shows (after row.name rows) = hidden_here shows rows found row here hides in
+    let past : hidden_count shows (from rows found) ≡ 1 + hidden_count shows (after row.name rows) = hidden_here shows rows found row here hides in
     omega (arith, past, before, one)
 
 -- nothing is hidden
-all_seen : (shows : List ℕ → Bool) (rows : List Binding) → All (λ row. shows row.name ≡ true) rows → hidden shows rows ≡ 0
+all_seen : (shows : List ℕ → Bool) (rows : List Binding) → All (λ row. shows row.name ≡ true) rows → hidden_count shows rows ≡ 0
 all_seen shows [] h = refl
 all_seen shows (x ∷ xs) h =
     let seen : shows x.name ≡ true = All-head (λ (y : Binding). shows y.name ≡ true) x xs h in
     let here : ◌≡◌ {A = ℕ} (cond (not (shows x.name)) 1 0) 0 = ap (λ (b : Bool). cond (not b) 1 0) seen in
-    let more : hidden shows xs ≡ 0 = all_seen shows xs (All-tail (λ (y : Binding). shows y.name ≡ true) x xs h) in
+    let more : hidden_count shows xs ≡ 0 = all_seen shows xs (All-tail (λ (y : Binding). shows y.name ≡ true) x xs h) in
     omega (arith, hidden_cons shows x xs, here, more)
 
 pub one_look_law : (shows : List ℕ → Bool) (rows : List Binding) → All (λ row. shows row.name ≡ true) rows → most_looks shows rows ≡ 1
 unfolding most_looks
-one_look_law shows rows h = let none : hidden shows rows ≡ 0 = all_seen shows rows h in omega (arith, none)
+one_look_law shows rows h = let none : hidden_count shows rows ≡ 0 = all_seen shows rows h in omega (arith, none)

@@ -6,17 +6,17 @@ use Rattle.message_core.specs.Canon.{canon_reply}
 use Rattle.message_core.specs.declared.limits.TheConstants.{MAX_REPLY}
 use Rattle.message_core.specs.declared.reply.Reply.{Reply}
 use Rattle.message_core.specs.declared.status.ErrorStatus.TheVariants.{TooBig}
-use Rattle.agent_core.specs.Replies.{sized}
+use Rattle.agent_core.specs.Replies.{reply_within_limit}
 use Rattle.agent_core.specs.Answers.{IsSent}
 
 -- a reply that fits is sent
-pub sized-fits : (r : Reply) → length (canon_reply r) ≤ MAX_REPLY → sized r ≡ r
-unfolding sized
+pub sized-fits : (r : Reply) → length (canon_reply r) ≤ MAX_REPLY → reply_within_limit r ≡ r
+unfolding reply_within_limit
 sized-fits r fits = rw (le-ltb _ _ fits) refl
 
 -- a reply that does not fit is sent as tooBig
-pub sized-long : (r : Reply) → MAX_REPLY < length (canon_reply r) → sized r ≡ record r { status = TooBig; index = pos 0; bindings = [] }
-unfolding sized
+pub sized-long : (r : Reply) → MAX_REPLY < length (canon_reply r) → reply_within_limit r ≡ record r { status = TooBig; index = pos 0; bindings = [] }
+unfolding reply_within_limit
 sized-long r long = rw (lt-ltb _ _ long) refl
 
 -- the front of a buffer
@@ -25,7 +25,7 @@ front n octets rest buffer e b = ap (λ (m : ℕ). take m buffer) e ∙ ap (take
 
 -- what is put of a reply that fits
 pub sent_fits : (r : Reply) (len : ℕ) (octets : List ℕ) → length (canon_reply r) ≤ MAX_REPLY → octets ≡ canon_reply r → len ≡ length (canon_reply r) →
-    IsSent (sized r) (record { length = len; status = r.status; index = r.index }) (record { reply = octets })
+    IsSent (reply_within_limit r) (record { length = len; status = r.status; index = r.index }) (record { reply = octets })
 sent_fits r len octets fits o l =
     subst (λ (reply : Reply). IsSent reply (record { length = len; status = r.status; index = r.index }) (record { reply = octets })) (sym (sized-fits r fits))
     (record { octets = o; len = l; status = refl; index = refl })
@@ -33,7 +33,7 @@ sent_fits r len octets fits o l =
 -- what is put in place of one that does not
 pub sent_long : (r : Reply) (len : ℕ) (octets : List ℕ) → MAX_REPLY < length (canon_reply r) →
     octets ≡ canon_reply (record r { status = TooBig; index = pos 0; bindings = [] }) → len ≡ length (canon_reply (record r { status = TooBig; index = pos 0; bindings = [] })) →
-    IsSent (sized r) (record { length = len; status = TooBig; index = pos 0 }) (record { reply = octets })
+    IsSent (reply_within_limit r) (record { length = len; status = TooBig; index = pos 0 }) (record { reply = octets })
 sent_long r len octets long o l =
     subst (λ (reply : Reply). IsSent reply (record { length = len; status = TooBig; index = pos 0 }) (record { reply = octets })) (sym (sized-long r long))
     (record { octets = o; len = l; status = refl; index = refl })

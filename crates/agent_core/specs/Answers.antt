@@ -8,7 +8,7 @@ use Rattle.message_core.specs.declared.request.Kind.TheVariants.{Set}
 use Rattle.message_core.specs.declared.request.Request.{Request}
 use Rattle.message_core.specs.declared.status.ErrorStatus.TheVariants.{NoError}
 use Rattle.vacm_core.specs.Families.{in_view}
-use Rattle.decision.specs.Deciding.{decided}
+use Rattle.decision.specs.Deciding.{decision_on}
 use Rattle.decision.specs.declared.choice.Cause.{Cause}
 use Rattle.decision.specs.declared.choice.Cause.TheVariants.{UnknownCommunity, NoSuchContext}
 use Rattle.decision.specs.declared.choice.Decision.{Decision}
@@ -19,7 +19,7 @@ use Rattle.audit_core.specs.declared.denied.Denied.{Denied}
 use Rattle.agent_core.specs.Buffered.{Buffered}
 use Rattle.agent_core.specs.World.{Shown, World, shown_of}
 use Rattle.agent_core.specs.Denying.{denied_in}
-use Rattle.agent_core.specs.Replies.{sized, halted, kind_reply}
+use Rattle.agent_core.specs.Replies.{reply_within_limit, refusal_reply, kind_reply}
 use Rattle.agent_core.specs.declared.answered.Answered.{Answered}
 use Rattle.agent_core.specs.declared.answered.Answered.TheVariants as answered
 use Rattle.agent_core.specs.declared.sent_reply.SentReply.{SentReply}
@@ -50,14 +50,14 @@ reply_outcome request decision denied reply = replied reply (reply_audit request
 -- nothing of it.
 abbrev pub outcome_by : Shown → Request → Decision → Outcome
 outcome_by shown request (Drop cause) = drop_outcome request cause
-outcome_by shown request Empty = reply_outcome request Empty [] (sized (answer_to request NoError (pos 0) []))
-outcome_by shown request (Refused why) = reply_outcome request (Refused why) [] (halted request)
+outcome_by shown request Empty = reply_outcome request Empty [] (reply_within_limit (answer_to request NoError (pos 0) []))
+outcome_by shown request (Refused why) = reply_outcome request (Refused why) [] (refusal_reply request)
 outcome_by shown request (Allowed row view) =
     reply_outcome request (Allowed row view) (denied_in shown.policy.vacm.families view request request.kind)
     (kind_reply shown.objects (in_view shown.policy.vacm.families view) shown.instances request request.kind)
 
 unfoldable pub outcome_of : Shown → Request → Outcome
-outcome_of shown request = outcome_by shown request (decided shown.policy request)
+outcome_of shown request = outcome_by shown request (decision_on shown.policy request)
 
 -- the reply of an outcome, or none where the request is dropped
 abbrev pub reply_in : Outcome → Option Reply
@@ -80,7 +80,7 @@ audit_of shown request = audit_in (outcome_of shown request)
 pub record TakesMemory (shown : Shown) (request : Request) : Type 0 where
   pub row : AccessKey
   pub view : List ℕ
-  pub allowed : decided shown.policy request ≡ Allowed row view
+  pub allowed : decision_on shown.policy request ≡ Allowed row view
   pub reads : request.kind ≢ Set
 
 -- a count, and one more
@@ -88,19 +88,19 @@ abbrev pub one_more : ℕ → ℕ
 one_more count = (count + 1) % 2 ^ 32
 
 -- one more request that this cause drops
-abbrev pub counted : World → Cause → World
-counted world UnknownCommunity = record world { bad_communities = one_more world.bad_communities }
-counted world (NoSuchContext name) = record world { unknown_contexts = one_more world.unknown_contexts }
+abbrev pub with_count_of : World → Cause → World
+with_count_of world UnknownCommunity = record world { bad_communities = one_more world.bad_communities }
+with_count_of world (NoSuchContext name) = record world { unknown_contexts = one_more world.unknown_contexts }
 
 -- A request that is dropped is counted, and nothing else changes.
 abbrev pub world_by : World → Decision → World
-world_by world (Drop cause) = counted world cause
+world_by world (Drop cause) = with_count_of world cause
 world_by world Empty = world
 world_by world (Refused why) = world
 world_by world (Allowed row view) = world
 
 unfoldable pub world_after : World → Request → World
-world_after world request = world_by world (decided world.policy request)
+world_after world request = world_by world (decision_on world.policy request)
 
 -- One step of a request: its outcome, and the world after it. It sends no BPDU, since nothing can be written.
 pub record Step : Type 0 where
@@ -110,14 +110,14 @@ pub record Step : Type 0 where
 abbrev pub step_of : World → Request → Step
 step_of world request = record { outcome = outcome_of (shown_of world) request; world = world_after world request }
 
--- a reply stands in the buffer in its minimal spelling, and this is told of it
+-- a reply stands in the buffer in its minimal encoding, and this is told of it
 pub record IsSent (reply : Reply) (sent : SentReply) (buffer : Buffered) : Type 0 where
   pub octets : buffer.reply ≡ canon_reply reply
   pub len : sent.length ≡ length (canon_reply reply)
   pub status : sent.status ≡ reply.status
   pub index : sent.index ≡ reply.index
 
--- A reply stands in the buffer in its minimal spelling, or the request is dropped and the buffer is empty; and the audit is told.
+-- A reply stands in the buffer in its minimal encoding, or the request is dropped and the buffer is empty; and the audit is told.
 abbrev pub IsAnswered : Outcome → Answered → Buffered → Type 0
 IsAnswered (replied reply audit) (answered.Reply len told) buffer =
     (buffer.reply ≡ canon_reply reply) × (len ≡ length (canon_reply reply)) × (told ≡ audit)

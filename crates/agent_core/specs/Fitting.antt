@@ -6,7 +6,7 @@ use Rattle.message_core.specs.declared.limits.TheConstants.{MAX_REPLY}
 use Rattle.message_core.specs.declared.request.Request.{Request}
 use Rattle.message_core.specs.declared.status.ErrorStatus.TheVariants.{NoError}
 
--- the octets of the reply to a request with these bindings and no error, in its minimal spelling
+-- the octets of the reply to a request with these bindings and no error, in its minimal encoding
 abbrev pub reply_size : Request → List Binding → ℕ
 reply_size request bindings = length (canon_reply (answer_to request NoError (pos 0) bindings))
 
@@ -16,8 +16,8 @@ longest_front passes zero all = []
 longest_front passes (suc most) all = if passes (take (suc most) all) then take (suc most) all else longest_front passes most all
 
 -- The longest front of the whole list whose reply is not too long.
-unfoldable pub fitting : Request → List Binding → List Binding
-fitting request all = longest_front (λ front. nat_le (reply_size request front) MAX_REPLY) (length all) all
+unfoldable pub fitting_front : Request → List Binding → List Binding
+fitting_front request all = longest_front (λ front. nat_le (reply_size request front) MAX_REPLY) (length all) all
 
 -- a front of a list
 abbrev pub IsFront : List Binding → List Binding → Type 0

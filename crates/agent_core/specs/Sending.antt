@@ -1,6 +1,6 @@
 -- Bindings that are to be sent, and the octets that there is room for.
 use Rattle.std.specs.Prelude.{◌≡◌, ℕ, ◌≤◌, List}
-use Rattle.message_core.specs.Spellable.{AreSpellable}
+use Rattle.message_core.specs.Encodable.{AreEncodable}
 use Rattle.message_core.specs.declared.binding.Binding.{Binding}
 use Rattle.message_core.specs.declared.limits.TheConstants.{MAX_REPLY}
 use Rattle.agent_core.specs.Fitting.{total}
@@ -15,4 +15,4 @@ pub record IsSending (sending : Sending) (used : ℕ) : Type 0 where
   pub used_is : used ≡ total sending.bindings
   pub within : used ≤ sending.room
   pub most : sending.room ≤ MAX_REPLY
-  pub spellable : AreSpellable sending.bindings
+  pub encodable : AreEncodable sending.bindings

@@ -1,10 +1,10 @@
 //! Answers a request: the decision, the reply by its kind, the audit (RFC 3416, 4.2).
 ghost use Rattle.std.specs.Prelude.{◌≡◌, ◌≢◌, ◌≤◌, ◌<◌, length, IfOk, OnErr};
 ghost use Rattle.message_core.specs.Canon.{canon_reply};
-ghost use Rattle.message_core.specs.Spellable.{AreSpellable};
+ghost use Rattle.message_core.specs.Encodable.{AreEncodable};
 ghost use Rattle.message_core.specs.declared.limits.TheConstants.{MAX_COMMUNITY};
 ghost use Rattle.vacm_core.specs.Families.{in_view};
-ghost use Rattle.agent_core.specs.Replies.{kind_reply, failed, get_reply, next_reply, bulk_reply};
+ghost use Rattle.agent_core.specs.Replies.{kind_reply, failure_reply, get_reply, next_reply, bulk_reply};
 ghost use Rattle.agent_core.specs.Answers.{IsSent, IsStep, drop_audit};
 
 use crate::answered::Answered;
@@ -26,14 +26,16 @@ use std::sync::ledger::{Blank, Ledger};
 use steps::Steps;
 use vacm_core::Name;
 
-/// Answers a request over a plain world by RFC 3416, 4.2, as the policy lets its caller see it (RFC 3415, 3.2). The buffer holds the
-/// reply in its minimal spelling, or nothing where the request is dropped; a drop is counted, and nothing else changes in the world.
+/// Answers a request over a plain world by RFC 3416, 4.2, as the policy lets its caller see it (RFC 3415, 3.2). The buffer holds
+/// the reply in its minimal encoding, or nothing where the request is dropped; a drop is counted, and nothing else changes in the
+/// world.
 /// How often a GetBulk looks for a successor is said by `get_bulk`, and by no clause here.
 ///
-/// The caller hands in a request whose names and OBJECT IDENTIFIER values have a spelling, as `decode` gives it.
+/// The caller hands in a request whose names and OBJECT IDENTIFIER values have an encoding, as `decode` gives it.
 ///
 /// # Errors
-/// Only memory can fail: then the buffer is empty, the world is as before, and the request is one that is let in to a view and reads.
+/// Only memory can fail: then the buffer is empty, the world is as before, and the request is one that is let in to a view and
+/// reads.
 /// A request that is dropped or refused, one without bindings and a Set take none.
 #[tactic(auto, unfolding(crate::specs::Answers::outcome_of, crate::specs::Answers::world_after))]
 pub fn answer(
@@ -42,7 +44,7 @@ pub fn answer(
     request: &Request,
     buffer: &mut Buffer,
 ) -> Result<Answered, AllocError>
-    requires { AreSpellable request.now.bindings }
+    requires { AreEncodable request.now.bindings }
     ensures { IsStep world.old request.now result buffer.new world.new }
 {
     buffer.clear();
@@ -93,7 +95,13 @@ fn reply_with(
     denied: DeniedBindings,
     sent: SentReply,
 ) -> Answered
-    ensures { result ≡ Answered.Reply sent.length (record { kind = request.now.kind; status = sent.status; index = sent.index; decision = decision; denied = denied }) }
+    ensures { result ≡ Answered.Reply sent.length (record {
+      kind = request.now.kind;
+      status = sent.status;
+      index = sent.index;
+      decision = decision;
+      denied = denied;
+    }) }
 {
     Answered::Reply(
         sent.length,
@@ -107,13 +115,14 @@ fn reply_with(
     )
 }
 
-/// Writes the reply to a request that found no memory: genErr, index 0, its own bindings, or tooBig where that is too long.
+/// Writes the reply to a request that found no memory (RFC 3416, 4.2.1): genErr, index 0, its own bindings, or tooBig where that
+/// is too long.
 /// It takes no memory, and answers how many octets the reply has. The community has at most `MAX_COMMUNITY`, 255,
-/// octets, and the names and OBJECT IDENTIFIER values have a spelling: `answer` fails for no other request.
+/// octets, and the names and OBJECT IDENTIFIER values have an encoding: `answer` fails for no other request.
 pub fn short_reply(request: &Request, buffer: &mut Buffer) -> usize
     requires community { length request.now.community ≤ MAX_COMMUNITY }
-    requires spellable { AreSpellable request.now.bindings }
-    ensures reply { buffer.new.reply ≡ canon_reply (failed request.now) }
+    requires encodable { AreEncodable request.now.bindings }
+    ensures reply { buffer.new.reply ≡ canon_reply (failure_reply request.now) }
     ensures len { result ≡ length buffer.new.reply }
 {
     buffer
@@ -121,7 +130,7 @@ pub fn short_reply(request: &Request, buffer: &mut Buffer) -> usize
         .length
 }
 
-// Puts the reply to a request that is allowed in a view into the buffer.
+// Puts the reply to a request that is allowed in a view into the buffer. What follows is over any source and any view.
 fn send_allowed(
     alloc: Global,
     world: &PlainWorld,
@@ -130,8 +139,10 @@ fn send_allowed(
     buffer: &mut Buffer,
 ) -> Result<SentReply, AllocError>
     requires community { length request.now.community ≤ MAX_COMMUNITY }
-    requires spellable { AreSpellable request.now.bindings }
-    ensures sent { IfOk result (λ sent. IsSent (kind_reply world.now.objects (in_view world.now.policy.vacm.families view.now) world.now.instances request.now request.now.kind) sent buffer.new) }
+    requires encodable { AreEncodable request.now.bindings }
+    ensures sent { IfOk result (λ sent. IsSent (kind_reply world.now.objects (in_view
+        world.now.policy.vacm.families view.now) world.now.instances request.now request.now.kind)
+        sent buffer.new) }
     ensures err { OnErr result (buffer.new ≡ buffer.old) }
     ensures takes { OnErr result (request.now.kind ≢ Kind.Set) }
 {
@@ -149,7 +160,7 @@ fn send_kind<S: Source, V: View>(
     buffer: &mut Buffer,
 ) -> Result<SentReply, AllocError>
     requires community { length request.now.community ≤ MAX_COMMUNITY }
-    requires spellable { AreSpellable request.now.bindings }
+    requires encodable { AreEncodable request.now.bindings }
     ensures sent { IfOk result (λ sent.
         IsSent (kind_reply (S.objects source.now) (V.shows view.now)
         (S.instances source.now) request.now request.now.kind) sent buffer.new) }
@@ -170,7 +181,8 @@ fn send_kind<S: Source, V: View>(
     }
 }
 
-// Answers a Get, and counts nothing: the ledger is a new one.
+// Answers a Get, and counts nothing: the ledger is a new one. It is a function of its own, as those of GetNext and GetBulk are,
+// since a ledger's name is a type parameter.
 fn send_get<S: Source, V: View, L: Ledger>(
     alloc: Global,
     source: &S,
@@ -180,7 +192,7 @@ fn send_get<S: Source, V: View, L: Ledger>(
     blank: Blank,
 ) -> Result<SentReply, AllocError>
     requires community { length request.now.community ≤ MAX_COMMUNITY }
-    requires spellable { AreSpellable request.now.bindings }
+    requires encodable { AreEncodable request.now.bindings }
     requires name { blank.name ≡ L.name }
     requires parts { blank.parts ≡ L.parts }
     requires some { 0 < blank.parts }
@@ -205,7 +217,7 @@ fn send_get_next<S: Source, V: View, L: Ledger>(
     blank: Blank,
 ) -> Result<SentReply, AllocError>
     requires community { length request.now.community ≤ MAX_COMMUNITY }
-    requires spellable { AreSpellable request.now.bindings }
+    requires encodable { AreEncodable request.now.bindings }
     requires name { blank.name ≡ L.name }
     requires parts { blank.parts ≡ L.parts }
     requires some { 0 < blank.parts }
@@ -230,7 +242,7 @@ fn send_get_bulk<S: Source, V: View, L: Ledger>(
     blank: Blank,
 ) -> Result<SentReply, AllocError>
     requires community { length request.now.community ≤ MAX_COMMUNITY }
-    requires spellable { AreSpellable request.now.bindings }
+    requires encodable { AreEncodable request.now.bindings }
     requires name { blank.name ≡ L.name }
     requires parts { blank.parts ≡ L.parts }
     requires some { 0 < blank.parts }

@@ -1,9 +1,9 @@
 //! The room for one reply, and what is put into it (RFC 3416, 4.2: tooBig).
 ghost use Rattle.std.specs.Prelude.{◌≡◌, ◌≤◌, [], length, pos, take};
 ghost use Rattle.message_core.specs.Canon.{canon_reply, answer_to};
-ghost use Rattle.message_core.specs.Spellable.{AreSpellable};
+ghost use Rattle.message_core.specs.Encodable.{AreEncodable};
 ghost use Rattle.message_core.specs.declared.limits.TheConstants.{MAX_COMMUNITY};
-ghost use Rattle.agent_core.specs.Replies.{sized};
+ghost use Rattle.agent_core.specs.Replies.{reply_within_limit};
 ghost use Rattle.agent_core.specs.Answers.{IsSent};
 
 use crate::sent_reply::SentReply;
@@ -55,7 +55,8 @@ impl Buffer {
         self.length = 0;
     }
 
-    // Puts the reply to a request in, as far as its size allows, and says what was put.
+    /// Puts the reply to a request in, or tooBig without bindings where that is too long (RFC 3416, 4.2.1), and says what was
+    /// put. Takes no memory.
     pub(crate) fn put(
         &mut self,
         request: &Request,
@@ -63,8 +64,8 @@ impl Buffer {
         bindings: &[Binding],
     ) -> SentReply
         requires community { length request.now.community ≤ MAX_COMMUNITY }
-        requires spellable { AreSpellable bindings.now }
-        ensures { IsSent (sized (answer_to request.now status
+        requires encodable { AreEncodable bindings.now }
+        ensures { IsSent (reply_within_limit (answer_to request.now status
             (pos 0) bindings.now)) result self.new }
     {
         let sent = put_sized(request, status, bindings, &mut self.octets);
@@ -81,8 +82,9 @@ fn put_sized(
     octets: &mut [u8; MAX_REPLY],
 ) -> SentReply
     requires community { length request.now.community ≤ MAX_COMMUNITY }
-    requires spellable { AreSpellable bindings.now }
-    ensures sent { IsSent (sized (answer_to request.now status (pos 0) bindings.now)) result
+    requires encodable { AreEncodable bindings.now }
+    ensures sent { IsSent (reply_within_limit (answer_to request.now status (pos 0) bindings.now))
+        result
         (record { reply = take result.length octets.new }) }
     ensures most { result.length ≤ MAX_REPLY }
 {

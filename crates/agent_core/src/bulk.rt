@@ -2,13 +2,13 @@
 ghost use Rattle.std.specs.Prelude.{◌≡◌, ◌≤◌, ◌+◌, ◌*◌, ◌++◌, [], ◌∷◌, List, false, length, min, IfOk, OnOk, OnErr, IsTrue, take, drop};
 ghost use Rattle.std.specs.List.{AllByRecursion};
 ghost use Rattle.oid_core.specs.Name.{HasRoot};
-ghost use Rattle.message_core.specs.Spellable.{AreSpellable};
+ghost use Rattle.message_core.specs.Encodable.{AreEncodable};
 ghost use Rattle.message_core.specs.declared.limits.TheConstants.{MAX_COMMUNITY};
 ghost use Rattle.message_core.specs.Instances.{names_of};
 ghost use Rattle.agent_core.specs.Reading.{visible, next_answer, next_answers};
 ghost use Rattle.agent_core.specs.Looking.{most_looks};
 ghost use Rattle.agent_core.specs.Bulk.{all_end, repetitions, bulk_list, count_of, asked_list};
-ghost use Rattle.agent_core.specs.Fitting.{fitting, fit_into, most_successors, IsFilled};
+ghost use Rattle.agent_core.specs.Fitting.{fitting_front, fit_into, most_successors, IsFilled};
 ghost use Rattle.message_core.specs.declared.binding.Binding.{Binding};
 
 use crate::nexts::get_next;
@@ -56,9 +56,12 @@ fn repeat_once<S: Source, V: View, L: Ledger>(
 ) -> Result<bool, AllocError>
     requires { AllByRecursion HasRoot names.now }
     ensures whole { IfOk result (λ whole. IsTrue whole →
-        sent.new.bindings ≡ sent.old.bindings ++ next_answers (visible (V.shows view.now) (S.instances source.now)) names.now) }
+        sent.new.bindings ≡ sent.old.bindings ++ next_answers
+        (visible (V.shows view.now) (S.instances source.now)) names.now) }
     ensures cut { IfOk result (λ whole. whole ≡ false → (more : List Binding) →
-        IsFilled sent.new.room (sent.old.bindings ++ (next_answers (visible (V.shows view.now) (S.instances source.now)) names.now ++ more)) sent.new.bindings) }
+        IsFilled sent.new.room (sent.old.bindings ++ (next_answers
+        (visible (V.shows view.now) (S.instances source.now)) names.now ++ more))
+        sent.new.bindings) }
     ensures room { sent.new.room ≡ sent.old.room }
     ensures work { let most = most_looks (V.shows view.now) (S.instances source.now) in
         steps.new + length sent.old.bindings * most
@@ -144,7 +147,7 @@ fn send_list<S: Source, V: View, L: Ledger>(
     steps: &mut Steps<L>,
 ) -> Result<(), AllocError>
     requires once { once ≤ length asked.now }
-    requires spellable { AreSpellable asked.now }
+    requires encodable { AreEncodable asked.now }
     ensures filled { OnOk result (IsFilled sent.old.room (sent.old.bindings ++ bulk_list
         (visible (V.shows view.now) (S.instances source.now)) once most
         (names_of asked.now)) sent.new.bindings) }
@@ -198,11 +201,11 @@ pub fn get_bulk<S: Source, V: View, L: Ledger>(
     steps: &mut Steps<L>,
 ) -> Result<Bindings, AllocError>
     requires community { length request.now.community ≤ MAX_COMMUNITY }
-    requires spellable { AreSpellable request.now.bindings }
+    requires encodable { AreEncodable request.now.bindings }
     ensures answer { IfOk result (λ sent.
-        sent ≡ fitting request.now (asked_list (visible (V.shows view.now)
+        sent ≡ fitting_front request.now (asked_list (visible (V.shows view.now)
         (S.instances source.now)) request.now)) }
-    ensures spellable { IfOk result (λ sent. AreSpellable sent) }
+    ensures encodable { IfOk result (λ sent. AreEncodable sent) }
     ensures work { let most = most_looks (V.shows view.now) (S.instances source.now) in
         IfOk result (λ sent. steps.new ≤ steps.old + (length sent + 1) * most) }
     ensures most_work { steps.new ≤ steps.old + most_successors * most_looks (V.shows view.now)

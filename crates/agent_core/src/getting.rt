@@ -3,7 +3,7 @@ ghost use Rattle.std.specs.Prelude.{◌≡◌, ◌+◌, ◌*◌, ◌≤◌, IfOk
 ghost use Rattle.std.specs.List.{list_any};
 ghost use Rattle.oid_core.specs.Order.{is_prefix};
 ghost use Rattle.oid_core.specs.Name.{HasRoot};
-ghost use Rattle.message_core.specs.Spellable.{AreSpellable, IsSpellableBinding};
+ghost use Rattle.message_core.specs.Encodable.{AreEncodable, IsEncodableBinding};
 ghost use Rattle.message_core.specs.Instances.{value_of};
 ghost use Rattle.agent_core.specs.Reading.{visible, get_answer, get_answers, is_known, object_of, or_missing};
 ghost use Rattle.agent_core.specs.Looking.{most_looks};
@@ -41,7 +41,8 @@ fn shows_below<S: Source, V: View, L: Ledger>(
     steps: &mut Steps<L>,
 ) -> Result<bool, AllocError>
     ensures answer { IfOk result (λ b.
-        b ≡ list_any (λ row. is_prefix object.now row.name) (visible (V.shows view.now) (S.instances source.now))) }
+        b ≡ list_any (λ row. is_prefix object.now row.name)
+        (visible (V.shows view.now) (S.instances source.now))) }
     ensures work { steps.new ≤ steps.old + most_looks (V.shows view.now) (S.instances source.now) }
 {
     source.known();
@@ -117,7 +118,7 @@ pub fn get<S: Source, V: View, L: Ledger>(
     })
 }
 
-/// What Get answers to each asked name, in order. Only memory can fail.
+/// What Get answers to each asked name, in order (RFC 3416, 4.2.1). Only memory can fail.
 pub fn get_all<S: Source, V: View, L: Ledger>(
     alloc: Global,
     source: &S,
@@ -126,7 +127,8 @@ pub fn get_all<S: Source, V: View, L: Ledger>(
     steps: &mut Steps<L>,
 ) -> Result<Bindings, AllocError>
     ensures answers { IfOk result (λ answers.
-        answers ≡ get_answers (S.objects source.now) (V.shows view.now) (S.instances source.now) asked.now) }
+        answers ≡ get_answers (S.objects source.now) (V.shows view.now) (S.instances source.now)
+        asked.now) }
     ensures work { steps.new ≤ steps.old + length asked.now * most_looks (V.shows view.now)
         (S.instances source.now) }
 {

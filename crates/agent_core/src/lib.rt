@@ -43,6 +43,3 @@ pub use nexts::get_next;
 pub use source::{Source, View};
 pub use views::PolicyView;
 pub use world::{PlainWorld, WorldFault};
-
-#[cfg(test)]
-mod tests;

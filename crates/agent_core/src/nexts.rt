@@ -1,7 +1,7 @@
 //! GetNext: the binding after a name, or endOfMibView (RFC 3416, 4.2.2).
 ghost use Rattle.std.specs.Prelude.{◌≡◌, ◌+◌, ◌*◌, ◌≤◌, IfOk, length};
 ghost use Rattle.oid_core.specs.Name.{HasRoot};
-ghost use Rattle.message_core.specs.Spellable.{IsSpellableBinding};
+ghost use Rattle.message_core.specs.Encodable.{IsEncodableBinding};
 ghost use Rattle.message_core.specs.Instances.{names_of};
 ghost use Rattle.agent_core.specs.Reading.{visible, next_answer, next_answers, end_under};
 ghost use Rattle.agent_core.specs.Looking.{most_looks};
@@ -39,7 +39,7 @@ pub fn get_next<S: Source, V: View, L: Ledger>(
 ) -> Result<Binding, AllocError>
     ensures answer { IfOk result (λ b.
         b ≡ next_answer (visible (V.shows view.now) (S.instances source.now)) name.now) }
-    ensures spellable { IfOk result (λ b. HasRoot name.now → IsSpellableBinding b) }
+    ensures encodable { IfOk result (λ b. HasRoot name.now → IsEncodableBinding b) }
     ensures work { steps.new ≤ steps.old + most_looks (V.shows view.now) (S.instances source.now) }
 {
     source.known();
@@ -49,7 +49,8 @@ pub fn get_next<S: Source, V: View, L: Ledger>(
     }
 }
 
-/// What GetNext answers under each asked name, in order, by the looks of one successor for each. Only memory can fail.
+/// What GetNext answers under each asked name, in order (RFC 3416, 4.2.2), by the looks of one successor for each. Only memory
+/// can fail.
 pub fn get_next_all<S: Source, V: View, L: Ledger>(
     alloc: Global,
     source: &S,

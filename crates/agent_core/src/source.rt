@@ -15,7 +15,7 @@ pub trait View {
     // Whether a name is in the view.
     ghost shows: { Self → List ℕ → Bool };
 
-    /// Whether a name is in the view.
+    /// Whether a name is in the view (RFC 3415, 2.4).
     fn has_name(&self, name: &Oid) -> bool
         ensures { result ≡ shows self.now name.now };
 }
@@ -35,7 +35,8 @@ pub trait Source {
     // The names of the objects.
     ghost objects: { Self → List (List ℕ) };
 
-    /// Hands on that the names rise, that each instance can be served, and that no object's name begins another's; it does nothing.
+    /// Hands on that the names rise, that each instance can be served, and that no object's name begins another's. It does
+    /// nothing, and only proofs want it.
     fn known(&self)
         ensures { IsSource (instances self.now) (objects self.now) };
 
@@ -43,11 +44,11 @@ pub trait Source {
     fn object(&self, name: &Oid) -> Option<&Oid>
         ensures { option_copied result ≡ object_of (objects self.now) name.now };
 
-    /// A copy of the value under a name, where an instance has that name. Only memory can fail.
+    /// A copy of the value under a name, where an instance has that name (RFC 3416, 4.2.1). Only memory can fail.
     fn get(&self, alloc: Global, name: &Oid) -> Result<Option<Value>, AllocError>
         ensures { IfOk result (λ found. found ≡ value_of (instances self.now) name.now) };
 
-    /// A copy of the first instance after a name, where there is one. It is one step. Only memory can fail.
+    /// A copy of the first instance after a name, where there is one (RFC 3416, 4.2.2). It is one step. Only memory can fail.
     fn next<L: Ledger>(
         &self,
         alloc: Global,

@@ -2,13 +2,11 @@
 ghost use Rattle.std.specs.Prelude.{◌≡◌, ◌↔◌, IfOk, IsOk, IsErrOf, IsTrue, All, ℕ};
 ghost use Rattle.oid_core.specs.Order.{name_lt};
 ghost use Rattle.std.specs.Option.{option_copied};
-ghost use Rattle.message_core.specs.Spellable.{AreSpellable};
-ghost use Rattle.message_core.specs.Instances.{IsInstanceValue};
-ghost use Rattle.std.specs.List.{AllByRecursion};
+ghost use Rattle.message_core.specs.Encodable.{AreEncodable};
 ghost use Rattle.agent_core.specs.World.{AreApart, is_apart};
 ghost use Rattle.agent_core.specs.Reading.{object_of};
-ghost use Rattle.message_core.specs.Instances.{IsRising, next_of, value_of};
-ghost use Rattle.agent_core.specs.Answers.{counted};
+ghost use Rattle.message_core.specs.Instances.{AreValued, IsInstanceValue, IsRising, next_of, value_of};
+ghost use Rattle.agent_core.specs.Answers.{with_count_of};
 
 use crate::source::Source;
 use community_core::Policy;
@@ -25,16 +23,16 @@ use steps::Steps;
 pub enum WorldFault {
     /// A name is not less than a later one.
     Unsorted,
-    /// A name or an OBJECT IDENTIFIER value has no spelling (X.690, 8.19.4).
-    Unspellable,
+    /// A name or an OBJECT IDENTIFIER value has no encoding (X.690, 8.19.4).
+    Unencodable,
     /// A value is an exception, which stands for the want of one (RFC 3416, section 3).
     Exceptional,
     /// An object's name begins another's.
     Nested,
 }
 
-/// A list of instances by rising name, the names of the objects that they belong to, the policy that says who may see which of them,
-/// and the counts of requests that were dropped.
+/// A list of instances by rising name (RFC 3416, 4.2.2), the names of the objects that they belong to, the policy that says who
+/// may see which of them (RFC 3415), and the counts of requests that were dropped.
 #[derive(Drop)]
 pub struct PlainWorld {
     instances: Vec<Binding>,
@@ -64,8 +62,9 @@ impl PlainWorld {
     /// The world of these instances and objects under this policy, of which nothing was dropped yet. It takes no memory.
     ///
     /// # Errors
-    /// `Unsorted` where the names do not rise; else `Unspellable` where one has no spelling; else `Exceptional` where a value is an
-    /// exception; else `Nested` where an object's name begins another's.
+    /// `Unsorted` where the names do not rise; else `Unencodable` where a name or an OBJECT IDENTIFIER value has no encoding
+    /// (X.690, 8.19.4); else `Exceptional` where a value is an exception (RFC 3416, section 3); else `Nested` where an object's
+    /// name begins another's.
     pub fn new(
         instances: Vec<Binding>,
         objects: Vec<Oid>,
@@ -79,20 +78,20 @@ impl PlainWorld {
           unknown_contexts = 0;
         }) }
         ensures unsorted { IsErrOf result WorldFault.Unsorted ↔ ¬ IsRising instances.items }
-        ensures unspellable { IsErrOf result WorldFault.Unspellable ↔ (IsRising instances.items ×
-            ¬ AreSpellable instances.items) }
+        ensures unencodable { IsErrOf result WorldFault.Unencodable ↔ (IsRising instances.items ×
+            ¬ AreEncodable instances.items) }
         ensures exceptional { IsErrOf result WorldFault.Exceptional ↔
-            (IsRising instances.items × AreSpellable instances.items ×
-            ¬ AllByRecursion (λ row. IsInstanceValue row.value) instances.items) }
+            (IsRising instances.items × AreEncodable instances.items ×
+            ¬ AreValued instances.items) }
         ensures nested { IsErrOf result WorldFault.Nested ↔
-            (IsRising instances.items × AreSpellable instances.items ×
-            AllByRecursion (λ row. IsInstanceValue row.value) instances.items × ¬ AreApart objects.items) }
+            (IsRising instances.items × AreEncodable instances.items ×
+            AreValued instances.items × ¬ AreApart objects.items) }
     {
         if !rises(instances.as_slice()) {
             return Err(WorldFault::Unsorted);
         }
-        if !are_spellable(instances.as_slice()) {
-            return Err(WorldFault::Unspellable);
+        if !are_encodable(instances.as_slice()) {
+            return Err(WorldFault::Unencodable);
         }
         if !are_valued(instances.as_slice()) {
             return Err(WorldFault::Exceptional);
@@ -116,7 +115,7 @@ impl PlainWorld {
         self.objects.as_slice()
     }
 
-    /// Who may see what.
+    /// Who may see what (RFC 3415).
     pub fn policy(&self) -> &Policy
         ensures { result.now ≡ self.now.policy }
     {
@@ -144,9 +143,9 @@ impl PlainWorld {
         self.unknown_contexts
     }
 
-    // Counts a request that this cause drops.
+    /// Counts a request that this cause drops (RFC 3418, snmpInBadCommunityNames; RFC 3413, snmpUnknownContexts).
     pub(crate) fn count(&mut self, cause: &Cause)
-        ensures { self.new ≡ counted self.old cause.now }
+        ensures { self.new ≡ with_count_of self.old cause.now }
     {
         match cause {
             Cause::UnknownCommunity => {
@@ -176,19 +175,19 @@ fn is_below(row: &Binding, others: &[Binding]) -> bool
     others.iter().all(|other| precedes(row.name.as_slice(), other.name.as_slice()))
 }
 
-// Whether each name and each OBJECT IDENTIFIER value has a spelling.
-fn are_spellable(rows: &[Binding]) -> bool
-    ensures { IsTrue result ↔ AreSpellable rows.now }
+// Whether each name and each OBJECT IDENTIFIER value has an encoding.
+fn are_encodable(rows: &[Binding]) -> bool
+    ensures { IsTrue result ↔ AreEncodable rows.now }
 {
     let Some((row, others)) = rows.split_first() else {
         return true;
     };
-    row.is_spellable() && are_spellable(others)
+    row.is_encodable() && are_encodable(others)
 }
 
 // Whether no value is an exception.
 fn are_valued(rows: &[Binding]) -> bool
-    ensures { IsTrue result ↔ AllByRecursion (λ row. IsInstanceValue row.value) rows.now }
+    ensures { IsTrue result ↔ AreValued rows.now }
 {
     let Some((row, others)) = rows.split_first() else {
         return true;

@@ -1,3 +1,5 @@
+pub mod Faults
+pub mod Hexadecimal
 pub mod Noting
 pub mod Outcomes
 pub mod Seconds

@@ -2,7 +2,7 @@
 use Rattle.std.proofs.Common.{◌≡◌, ℕ, Bool, List, ◌++◌, ap, refl}
 use Rattle.message_core.specs.declared.request.Request.{Request}
 use Rattle.audit_core.specs.declared.audit.Audit.{Audit}
-use Rattle.decision.specs.Deciding.{decided}
+use Rattle.decision.specs.Deciding.{decision_on}
 use Rattle.decision.specs.declared.choice.Cause.{Cause}
 use Rattle.decision.specs.declared.choice.Decision.{Decision}
 use Rattle.decision.specs.declared.choice.Decision.TheVariants.{Drop, Empty, Refused, Allowed}
@@ -33,4 +33,4 @@ pub told_drop : (shown : Shown) (r : Request) (told : Audit) (buffer : Buffered)
     → IsAnswered (outcome_of shown r) (NoReply told) buffer
     → IsDropTold (output_text on address (answer_output (outcome_of shown r))) told on
 unfolding outcome_of
-told_drop shown r told buffer on address p = told_drop_by shown r (decided shown.policy r) told buffer on address p
+told_drop shown r told buffer on address p = told_drop_by shown r (decision_on shown.policy r) told buffer on address p

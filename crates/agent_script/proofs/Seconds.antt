@@ -1,7 +1,7 @@
 -- Seconds, one after another.
 use Rattle.std.proofs.Common.{◌≡◌, ◌∙◌, ℕ, suc, ◌+◌, ◌-◌, ◌<◌, Bool, List, ◌++◌, ap, sym, arith, append_assoc}
 use Rattle.bridge_core.specs.Bridge.{BridgeState, address_of}
-use Rattle.bridge_core.specs.Events.{tick_of, ticked_bridge}
+use Rattle.bridge_core.specs.Events.{tick_of, after_tick}
 use Rattle.agent_core.specs.World.{World}
 use Rattle.agent_script.specs.Events.{System, beside}
 use Rattle.agent_script.specs.Outputs.{bpdu_lines, seconds_text, after_seconds}
@@ -12,10 +12,10 @@ one_less n i lt = omega (arith, lt)
 -- what is said, after one more second
 pub told_next : (on : Bool) (world : World) (n i : ℕ) (b c : BridgeState) (told next all : List ℕ) → i < n
     → told ++ seconds_text on (n - i) (beside world b) ≡ all → next ≡ told ++ bpdu_lines (address_of b) 1 (tick_of b).bpdus
-    → c ≡ ticked_bridge b → next ++ seconds_text on (n - (i + 1)) (beside world c) ≡ all
+    → c ≡ after_tick b → next ++ seconds_text on (n - (i + 1)) (beside world c) ≡ all
 told_next on world n i b c told next all lt is more same =
     let said : List ℕ = bpdu_lines (address_of b) 1 (tick_of b).bpdus in
-    let rest : List ℕ = seconds_text on (n - (i + 1)) (beside world (ticked_bridge b)) in
+    let rest : List ℕ = seconds_text on (n - (i + 1)) (beside world (after_tick b)) in
     ap (λ (l : List ℕ). l ++ seconds_text on (n - (i + 1)) (beside world c)) more
     ∙ ap (λ (d : BridgeState). (told ++ said) ++ seconds_text on (n - (i + 1)) (beside world d)) same
     ∙ append_assoc told said rest
@@ -24,7 +24,7 @@ told_next on world n i b c told next all lt is more same =
 
 -- the system at the end
 pub after_next : (world : World) (n i : ℕ) (b c : BridgeState) (last : System) → i < n → after_seconds (n - i) (beside world b) ≡ last
-    → c ≡ ticked_bridge b → after_seconds (n - (i + 1)) (beside world c) ≡ last
+    → c ≡ after_tick b → after_seconds (n - (i + 1)) (beside world c) ≡ last
 after_next world n i b c last lt is same =
     ap (λ (d : BridgeState). after_seconds (n - (i + 1)) (beside world d)) same
     ∙ sym (ap (λ (m : ℕ). after_seconds m (beside world b)) (one_less n i lt)) ∙ is

@@ -112,8 +112,8 @@ fault_name FrameTooLong = codes "TooLong"
 fault_name BadBpdu = codes "BadBpdu"
 
 -- a space and a number
-abbrev pub spaced : ℕ → List ℕ
-spaced n = codes " " ++ decimal n
+abbrev pub space_and_number : ℕ → List ℕ
+space_and_number n = codes " " ++ decimal n
 
 -- the datagrams that each cause dropped, and the requests that an unknown community or context dropped
 abbrev pub counts_of : Drops → World → List ℕ
@@ -122,7 +122,7 @@ counts_of drops world =
     ∷ world.bad_communities ∷ world.unknown_contexts ∷ []
 
 abbrev pub counts_text : Drops → World → List ℕ
-counts_text drops world = codes "counts" ++ flat_map spaced (counts_of drops world) ++ codes "\n"
+counts_text drops world = codes "counts" ++ flat_map space_and_number (counts_of drops world) ++ codes "\n"
 
 abbrev pub action_text : Agent → Action → List ℕ
 action_text agent bad_line = codes "badline\n"

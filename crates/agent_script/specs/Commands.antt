@@ -75,6 +75,17 @@ command_in ports line None = command_alone line
 unfoldable pub command_of : ℕ → List ℕ → Option Command
 command_of ports line = command_in ports line (split_word line)
 
+-- a line writes the octets of a datagram or of a frame
+abbrev pub HasOctets : Option Command → Type 0
+HasOctets None = ⊥
+HasOctets (Some (request datagram)) = Unit {0}
+HasOctets (Some (frame port octets)) = Unit {0}
+HasOctets (Some (tick seconds)) = ⊥
+HasOctets (Some (link port up)) = ⊥
+HasOctets (Some policy) = ⊥
+HasOctets (Some (audit on)) = ⊥
+HasOctets (Some counts) = ⊥
+
 -- the port that a command names is one of so many
 abbrev pub IsPortOf : ℕ → ℕ → Type 0
 IsPortOf ports port = (1 ≤ port) × (port ≤ ports)

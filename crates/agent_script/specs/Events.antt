@@ -8,11 +8,11 @@ use Rattle.community_core.specs.Communities.{PolicyTables}
 use Rattle.frame_core.specs.declared.bpdu.Bpdu.{Bpdu}
 use Rattle.frame_core.specs.declared.frame.FrameIn.{FrameIn}
 use Rattle.bridge_core.specs.Bridge.{BridgeState}
-use Rattle.bridge_core.specs.Events.{framed, tick_of, ticked_bridge, link_of, linked_bridge}
+use Rattle.bridge_core.specs.Events.{frame_result, tick_of, after_tick, link_of, after_link}
 use Rattle.agent_core.specs.World.{World, shown_of}
 use Rattle.agent_core.specs.Answers as answers
 use Rattle.agent_core.specs.Answers.{Outcome, outcome_of, world_after}
-use Rattle.agent_core.specs.Replies.{failed}
+use Rattle.agent_core.specs.Replies.{failure_reply}
 
 -- what events happen to
 pub record System : Type 0 where
@@ -60,15 +60,15 @@ answer_output (answers.replied reply audit) = replied reply audit []
 
 -- One step. Where there was no memory for an answer, genErr is replied, and nothing changes.
 abbrev pub step_of : System → Event → Step
-step_of s (request r true) = record { system = s; output = unanswered (failed r) }
+step_of s (request r true) = record { system = s; output = unanswered (failure_reply r) }
 step_of s (request r false) =
     record { system = record s { world = world_after s.world r }; output = answer_output (outcome_of (shown_of s.world) r) }
 step_of s (frame port fields no_room) =
-    let step = framed s.bridge port fields no_room in
+    let step = frame_result s.bridge port fields no_room in
     record { system = record s { bridge = step.bridge }; output = forwarded step.egress step.bpdus }
-step_of s tick = record { system = record s { bridge = ticked_bridge s.bridge }; output = sent (tick_of s.bridge).bpdus }
+step_of s tick = record { system = record s { bridge = after_tick s.bridge }; output = sent (tick_of s.bridge).bpdus }
 step_of s (link port up) =
-    record { system = record s { bridge = linked_bridge port up s.bridge }; output = sent (link_of port up s.bridge).bpdus }
+    record { system = record s { bridge = after_link port up s.bridge }; output = sent (link_of port up s.bridge).bpdus }
 step_of s (policy tables) = record { system = record s { world = record s.world { policy = tables } }; output = in_force }
 
 abbrev pub after_event : System → Event → System

@@ -23,7 +23,7 @@ abbrev pub dropped_name : Cause → List ℕ
 dropped_name UnknownCommunity = codes "UnknownCommunity"
 dropped_name (NoSuchContext name) = codes "NoSuchContext"
 
--- `reply` and the octets of a reply in its minimal spelling
+-- `reply` and the octets of a reply in its minimal encoding
 unfoldable pub sent_text : Reply → List ℕ
 sent_text reply = codes "reply " ++ encode_upper (canon_reply reply) ++ codes "\n"
 

@@ -1,5 +1,7 @@
 -- The agent as it answers lines.
 use Rattle.std.specs.Prelude.{◌≡◌, ℕ, Bool, ◌&&◌, List}
+use Rattle.script_core.specs.declared.fault.RunFault.{RunFault}
+use Rattle.script_core.specs.declared.fault.RunFault.TheVariants.{Input, Output, Memory, Stopped}
 use Rattle.agent_script.specs.Notes.{MayMeet, is_nothing}
 use Rattle.agent_script.specs.Script.{line_text, after_line, end_text, after_end}
 use Rattle.agent_script.specs.State.{Agent}
@@ -23,3 +25,10 @@ pub record SaysAtEnd (before : Session) (said : List ℕ) (now : Session) : Type
   pub text : said ≡ end_text before.agent
   pub agent : now.agent ≡ after_end before.agent
   pub whole : now.is_whole ≡ before.is_whole
+
+-- why a run of the agent stopped: it gives up what it does for want of memory alone
+abbrev pub fault_of : RunFault → RunFault
+fault_of Input = Input
+fault_of Output = Output
+fault_of Memory = Memory
+fault_of Stopped = Memory

@@ -1,6 +1,6 @@
 //! The agent that a script drives.
-ghost use Rattle.std.specs.Prelude.{◌≡◌, ◌≤◌, ◌++◌, false, IfOk, OnOk, Some, None, [], option_map, codes};
-ghost use Rattle.message_core.specs.Spellable.{AreSpellable};
+ghost use Rattle.std.specs.Prelude.{◌≡◌, ◌≤◌, ◌++◌, false, IsSome, IfOk, OnOk, OnErr, Some, None, [], option_map, codes};
+ghost use Rattle.message_core.specs.Encodable.{AreEncodable};
 ghost use Rattle.bridge_core.specs.Bridge.{port_count};
 ghost use Rattle.policy_text.specs.Texts.{policy_in};
 ghost use Rattle.frame_core.specs.Reading.{frame_at};
@@ -20,7 +20,7 @@ use agent_core::{Answered, Buffer, PlainWorld, answer, short_reply};
 use bridge_core::Bridge;
 use frame_core::read_frame;
 use message_core::{Request, decode};
-use policy_text::{policy_in, text_of};
+use policy_text::policy_in;
 use std::alloc::{AllocError, Global};
 use std::marker::Model;
 
@@ -83,10 +83,12 @@ impl Agent {
         }
     }
 
-    /// Answers the end of the script: a policy that has not ended is refused.
+    /// Answers the end of the script: a policy that has not ended is refused. Where none is open nothing is said, and that takes no
+    /// memory.
     pub fn end(&mut self, out: &mut Vec<u8>) -> Result<(), AllocError>
         ensures said { OnOk result (out.new.items ≡ out.old.items ++ end_text self.old) }
         ensures after { OnOk result (self.new ≡ after_end self.old) }
+        ensures given_up { OnErr result (IsSome self.old.policy_lines) }
     {
         match self.policy_lines.take() {
             Some(_lines) => out.extend_from_slice(b"policy refused\n"),
@@ -160,7 +162,7 @@ impl Agent {
         request: &Request,
         out: &mut Vec<u8>,
     ) -> Result<Note, AllocError>
-        requires { AreSpellable request.now.bindings }
+        requires { AreEncodable request.now.bindings }
         ensures met { IfOk result (λ note. MayMeetRequest self.old.system.world request.now note) }
         ensures read { IfOk result (λ note. is_unread note ≡ false) }
         ensures said { IfOk result (λ note.
@@ -241,7 +243,6 @@ impl Agent {
     }
 
     // Takes the end of a policy. Lines that are no text are no policy, and take no memory.
-    #[tactic(auto, unfolding(policy_text::specs::Texts::policy_in))]
     fn end_policy(
         &mut self,
         alloc: Global,
@@ -255,10 +256,6 @@ impl Agent {
         ensures after { IfOk result (λ note.
             self.new ≡ after_action self.old (end_action lines.now note)) }
     {
-        if text_of(lines).is_none() {
-            out.extend_from_slice(b"policy refused\n")?;
-            return Ok(Note::Nothing);
-        }
         match policy_in(alloc, lines) {
             Ok(Some(policy)) => {
                 self.world.replace_policy(policy);

@@ -3,7 +3,7 @@ ghost use Rattle.std.specs.Prelude.{◌≡◌, ◌≤◌, ◌++◌, codes, decim
 ghost use Rattle.std.specs.List.{flat_map};
 ghost use Rattle.frame_core.specs.declared.bpdu.Bpdu.{Bpdu};
 ghost use Rattle.bridge_core.specs.Bridge.{address_of, port_count};
-ghost use Rattle.bridge_core.specs.Events.{framed, ticked_bridge, tick_of, link_of, linked_bridge};
+ghost use Rattle.bridge_core.specs.Events.{frame_result, after_tick, tick_of, link_of, after_link};
 ghost use Rattle.bridge_core.specs.Forwarding.{MayLackMemory};
 ghost use Rattle.agent_core.specs.World.{World};
 ghost use Rattle.agent_script.specs.Events.{beside};
@@ -138,9 +138,9 @@ pub fn say_frame(
     requires last { port ≤ port_count bridge.old }
     ensures said { IfOk result (λ no_room.
         out.new.items ≡ out.old.items ++ forwarded_text (address_of bridge.old)
-        (framed bridge.old port frame.now no_room).egress (framed bridge.old port frame.now no_room).bpdus) }
+        (frame_result bridge.old port frame.now no_room).egress (frame_result bridge.old port frame.now no_room).bpdus) }
     ensures after { IfOk result (λ no_room.
-        bridge.new ≡ (framed bridge.old port frame.now no_room).bridge) }
+        bridge.new ≡ (frame_result bridge.old port frame.now no_room).bridge) }
     ensures note { IfOk result (λ no_room. no_room ≡ true →
         MayLackMemory bridge.old port frame.now) }
 {
@@ -157,7 +157,7 @@ pub fn say_frame(
 fn say_tick(bridge: &mut Bridge, out: &mut Vec<u8>) -> Result<(), AllocError>
     ensures said { OnOk result (out.new.items ≡ out.old.items ++ bpdu_lines
         (address_of bridge.old) 1 (tick_of bridge.old).bpdus) }
-    ensures after { bridge.new ≡ ticked_bridge bridge.old }
+    ensures after { bridge.new ≡ after_tick bridge.old }
 {
     let address = address_of(bridge);
     let bpdus = bridge.tick();
@@ -188,7 +188,7 @@ pub fn say_link(
     requires last { port ≤ port_count bridge.old }
     ensures said { OnOk result (out.new.items ≡ out.old.items ++ bpdu_lines
         (address_of bridge.old) 1 (link_of port up bridge.old).bpdus) }
-    ensures after { bridge.new ≡ linked_bridge port up bridge.old }
+    ensures after { bridge.new ≡ after_link port up bridge.old }
 {
     let address = address_of(bridge);
     let bpdus = bridge.link(port, up);

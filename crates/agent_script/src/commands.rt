@@ -1,6 +1,8 @@
 //! What a line of a script asks for.
-ghost use Rattle.std.specs.Prelude.{◌≡◌, ◌≤◌, ℕ, IfOk, IfSome, option_map, option_and_then};
-ghost use Rattle.agent_script.specs.Commands.{request, counting_of, switch_of, direction_of, IsPortOf, NamesPortOf, frame_with, link_with, command_with, command_alone, command_of};
+ghost use Rattle.std.specs.Prelude.{◌≡◌, ◌≤◌, ℕ, is_some, IsSome, IfOk, IfSome, OnErr, option_map, option_and_then};
+ghost use Rattle.std.specs.List.{list_all};
+ghost use Rattle.hex.specs.Hex.{is_hex_digit};
+ghost use Rattle.agent_script.specs.Commands.{request, counting_of, switch_of, direction_of, IsPortOf, NamesPortOf, frame_with, link_with, command_with, command_alone, command_of, HasOctets};
 ghost use Rattle.agent_script.specs.CommandViews.{command_view};
 ghost use Rattle.script_core.specs.Words.{split_word, octets_of};
 
@@ -30,12 +32,14 @@ pub enum Command {
     Counts,
 }
 
-/// Reads a line, which may be no command, where there are so many ports. Only memory can fail.
+/// Reads a line, which may be no command, where there are so many ports. Only memory can fail, and only of a line that writes the
+/// octets of a datagram or of a frame.
 #[tactic(auto, unfolding(crate::specs::Commands::command_of))]
 pub fn read_command(alloc: Global, ports: usize, line: &[u8]) -> Result<Option<Command>, AllocError>
     requires { ports ≤ MAX_PORTS }
     ensures command { IfOk result (λ c. option_map command_view c ≡ command_of ports line.now) }
     ensures port { IfOk result (λ c. NamesPortOf ports (option_map command_view c)) }
+    ensures memory { OnErr result (HasOctets (command_of ports line.now)) }
 {
     match split_word(line) {
         Some((word, rest)) => read_with(alloc, ports, word, rest),
@@ -68,6 +72,7 @@ fn read_with(
     ensures command { IfOk result (λ c.
         option_map command_view c ≡ command_with ports (word.now, rest.now)) }
     ensures port { IfOk result (λ c. NamesPortOf ports (option_map command_view c)) }
+    ensures memory { OnErr result (HasOctets (command_with ports (word.now, rest.now))) }
 {
     if word == b"request".as_slice() {
         return read_request(alloc, rest);
@@ -87,13 +92,47 @@ fn read_with(
     Ok(None)
 }
 
+// Whether an octet is a digit of hexadecimal, in either case.
+fn is_hex_digit(digit: u8) -> bool
+    ensures { result ≡ is_hex_digit digit }
+{
+    digit.is_ascii_hexdigit()
+}
+
+// Whether a text has no octet but digits of hexadecimal.
+fn has_only_digits(text: &[u8]) -> bool
+    ensures { result ≡ list_all is_hex_digit text.now }
+{
+    text.iter().all(|digit| is_hex_digit(*digit))
+}
+
+// Whether a text writes octets in hexadecimal.
+fn is_hexadecimal(text: &[u8]) -> bool
+    ensures { result ≡ is_some (octets_of text.now) }
+{
+    text.len() % 2 == 0 && has_only_digits(text)
+}
+
+// The octets that a text writes in hexadecimal. A text that writes none takes no memory.
+fn read_octets(alloc: Global, text: &[u8]) -> Result<Option<Vec<u8>>, AllocError>
+    ensures value { IfOk result (λ octets. option_map (λ v. v.items) octets ≡ octets_of text.now) }
+    ensures memory { OnErr result (IsSome (octets_of text.now)) }
+{
+    match read_hex(alloc, text) {
+        Err(error) if is_hexadecimal(text) => Err(error),
+        Err(_) => Ok(None),
+        octets => octets,
+    }
+}
+
 // The octets of a datagram.
 fn read_request(alloc: Global, text: &[u8]) -> Result<Option<Command>, AllocError>
     ensures command { IfOk result (λ c.
         option_map command_view c ≡ option_map request (octets_of text.now)) }
     ensures port { (ports : ℕ) → IfOk result (λ c. NamesPortOf ports (option_map command_view c)) }
+    ensures memory { OnErr result (HasOctets (option_map request (octets_of text.now))) }
 {
-    match read_hex(alloc, text)? {
+    match read_octets(alloc, text)? {
         Some(datagram) => Ok(Some(Command::Request(datagram))),
         None => Ok(None),
     }
@@ -105,6 +144,8 @@ fn read_frame(alloc: Global, ports: usize, text: &[u8]) -> Result<Option<Command
     ensures command { IfOk result (λ c.
         option_map command_view c ≡ option_and_then (frame_with ports) (split_word text.now)) }
     ensures port { IfOk result (λ c. NamesPortOf ports (option_map command_view c)) }
+    ensures memory { OnErr result (HasOctets (option_and_then (frame_with ports)
+        (split_word text.now))) }
 {
     match split_word(text) {
         Some((word, rest)) => read_frame_of(alloc, ports, word, rest),
@@ -122,11 +163,12 @@ fn read_frame_of(
     ensures command { IfOk result (λ c.
         option_map command_view c ≡ frame_with ports (word.now, rest.now)) }
     ensures port { IfOk result (λ c. NamesPortOf ports (option_map command_view c)) }
+    ensures memory { OnErr result (HasOctets (frame_with ports (word.now, rest.now))) }
 {
     let Some(port) = read_port(ports, word) else {
         return Ok(None);
     };
-    match read_hex(alloc, rest)? {
+    match read_octets(alloc, rest)? {
         Some(octets) => Ok(Some(Command::Frame(port, octets))),
         None => Ok(None),
     }

@@ -8,10 +8,15 @@ use message_core::DropCause;
 /// How many datagrams each cause dropped, modulo 2^32.
 #[derive(Clone, Copy, Debug, Default, PartialEq, Eq)]
 pub struct Drops {
+    /// Longer than a datagram may be.
     pub too_long: u32,
+    /// No message.
     pub malformed: u32,
+    /// Of another version than SNMPv2c.
     pub bad_version: u32,
+    /// No request.
     pub bad_kind: u32,
+    /// No memory for the request.
     pub memory: u32,
 }
 
@@ -24,7 +29,13 @@ fn one_more(count: u32) -> u32
 impl Drops {
     /// None yet.
     pub fn none() -> Drops
-        ensures { result ≡ record { too_long = 0; malformed = 0; bad_version = 0; bad_kind = 0; memory = 0 } }
+        ensures { result ≡ record {
+          too_long = 0;
+          malformed = 0;
+          bad_version = 0;
+          bad_kind = 0;
+          memory = 0;
+        } }
     {
         Drops {
             too_long: 0,

@@ -13,7 +13,9 @@
 //! In [`laws`]: how many seconds one line lets pass at most.
 //!
 //! # Not claimed
-//! That a want of memory came only where memory was refused; how much of what was said is written where a write failed.
+//! That a want of memory came only where memory was refused, and that a read failed where the answer is `Input`: that answer may come
+//! before anything is read, and the end of a script may be given up where no policy is open. How much of what was said is written
+//! where a write failed.
 #![tactic(auto)]
 
 mod agent;

@@ -3,7 +3,7 @@ ghost use Rattle.std.specs.Prelude.{◌≡◌, ◌++◌, codes, OnOk};
 ghost use Rattle.std.specs.List.{flat_map};
 ghost use Rattle.hex.specs.Hex.{encode_upper};
 ghost use Rattle.agent_script.specs.Outputs.{drop_text, dropped_name, told_audit};
-ghost use Rattle.agent_script.specs.Actions.{cause_name, spaced, counts_text};
+ghost use Rattle.agent_script.specs.Actions.{cause_name, space_and_number, counts_text};
 
 use crate::drops::Drops;
 use agent_core::PlainWorld;
@@ -85,7 +85,7 @@ pub fn say_audit(
 
 // Appends a space and a number.
 fn say_spaced(number: u32, out: &mut Vec<u8>) -> Result<(), AllocError>
-    ensures { OnOk result (out.new.items ≡ out.old.items ++ spaced number) }
+    ensures { OnOk result (out.new.items ≡ out.old.items ++ space_and_number number) }
 {
     match write!(out, " {number}") {
         Ok(()) => Ok(()),
@@ -95,7 +95,7 @@ fn say_spaced(number: u32, out: &mut Vec<u8>) -> Result<(), AllocError>
 
 // Appends numbers, each behind a space.
 fn say_numbers(numbers: &[u32], out: &mut Vec<u8>) -> Result<(), AllocError>
-    ensures { OnOk result (out.new.items ≡ out.old.items ++ flat_map spaced numbers.now) }
+    ensures { OnOk result (out.new.items ≡ out.old.items ++ flat_map space_and_number numbers.now) }
 {
     for number in numbers {
         say_spaced(*number, out)?;

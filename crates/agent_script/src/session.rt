@@ -1,10 +1,10 @@
 //! Runs a script over a world and beside a bridge.
-ghost use Rattle.std.specs.Prelude.{◌≡◌, ◌⊎◌, IfOk, IfErr, IfSome, if◌then◌else◌};
+ghost use Rattle.std.specs.Prelude.{◌≡◌, ◌≢◌, IfOk, IfErr, IfSome, if◌then◌else◌};
 ghost use Rattle.script_core.specs.Lines.{lines_of};
 ghost use Rattle.script_core.specs.Runs.{Reads, Writes, IsFrontOf};
 ghost use Rattle.agent_script.specs.State.{opening_agent};
 ghost use Rattle.agent_script.specs.Script.{IsSaid, IsSaidSome, IsSaidBefore, IsGivenUp};
-ghost use Rattle.agent_script.specs.Sessions.{Session as State, SaysToLine, SaysAtEnd};
+ghost use Rattle.agent_script.specs.Sessions.{Session as State, SaysToLine, SaysAtEnd, fault_of};
 
 use crate::agent::Agent;
 use agent_core::PlainWorld;
@@ -59,8 +59,10 @@ impl Session for AgentSession {
 ///
 /// # Errors
 /// `Input` where a read fails or the input has not ended after [`MAX_READS`](script_core::MAX_READS) of them: each line that had ended is
-/// answered. `Memory` where there is none for a line, for the lines of a policy or for what is said: each line before it is answered,
-/// and the line was read, in part at least. `Output` where a write fails or takes nothing: a front of what was said is written.
+/// answered. `Memory` where there is none for a line, for the lines of a policy or for what is said: where a line is given up, each line
+/// before it is answered, and it was read, in part at least; where the end of the script is given up, the input was read to its end,
+/// all its lines are answered, and `policy refused` is not written. `Output` where a write fails or takes nothing: a front of what was
+/// said is written.
 pub fn run_script<R: Read, W: Write>(
     alloc: Global,
     world: PlainWorld,
@@ -78,7 +80,7 @@ pub fn run_script<R: Read, W: Write>(
         Writes (W.contents writer.old) (W.contents writer.new) (λ text.
         IsSaidBefore (opening_agent world bridge) input rest text))) }
     // Where a line was given up, each line before it is answered, and it was read, in part at least.
-    ensures given_up { IfErr result (λ e. (e ≡ RunFault.Memory) ⊎ (e ≡ RunFault.Stopped) →
+    ensures given_up { IfErr result (λ e. e ≡ RunFault.Memory →
         Reads (R.remaining reader.old) (R.remaining reader.new) (λ input rest.
         Writes (W.contents writer.old) (W.contents writer.new) (λ text.
         IsGivenUp (opening_agent world bridge) input rest text))) }
@@ -87,14 +89,29 @@ pub fn run_script<R: Read, W: Write>(
         IfSome (R.remaining reader.old) (λ input.
         Writes (W.contents writer.old) (W.contents writer.new) (λ text. IsFrontOf (λ whole.
         IsSaidSome (opening_agent world bridge) (lines_of input) whole) text))) }
+    // The agent ends no run of itself.
+    ensures kind { IfErr result (λ e. e ≢ RunFault.Stopped) }
 {
     let mut session = AgentSession {
         alloc,
         agent: Agent::new(world, bridge),
         is_whole: true,
     };
-    script_core::run_script(alloc, &mut session, reader, writer)?;
-    Ok(session.run())
+    match script_core::run_script(alloc, &mut session, reader, writer) {
+        Ok(()) => Ok(session.run()),
+        Err(fault) => Err(fault_of(fault)),
+    }
+}
+
+// Why a run of the agent stopped: it gives up what it does for want of memory alone.
+fn fault_of(fault: RunFault) -> RunFault
+    ensures { result ≡ fault_of fault }
+{
+    match fault {
+        RunFault::Input => RunFault::Input,
+        RunFault::Output => RunFault::Output,
+        RunFault::Memory | RunFault::Stopped => RunFault::Memory,
+    }
 }
 
 impl AgentSession {

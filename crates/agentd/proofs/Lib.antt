@@ -1,3 +1,4 @@
+pub mod FileLemmas
 pub mod FrontLemmas
 pub mod OpeningLemmas
 pub mod TellingLemmas

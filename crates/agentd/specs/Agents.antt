@@ -1,6 +1,6 @@
 -- The agent that a configuration opens.
 use Rattle.std.specs.Prelude.{◌≡◌, ℕ, List, map}
-use Rattle.rstp_rules.specs.declared.config.PortConfig.{PortConfig}
+use Rattle.rstp_settings.specs.declared.config.PortConfig.{PortConfig}
 use Rattle.bridge_core.specs.Opening.{opening_bridge}
 use Rattle.agent_script.specs.BuiltIn.{built_in}
 use Rattle.agent_script.specs.State.{Agent, opening_agent}

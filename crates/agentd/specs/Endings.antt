@@ -1,11 +1,16 @@
 -- How the program ends: its exit status, and what it says on standard error.
-use Rattle.std.specs.Prelude.{◌≡◌, ℕ, codes, List, [], ◌++◌, Option, Result, Ok, Err, string_bytes}
+use Rattle.std.specs.Prelude.{◌≡◌, ℕ, codes, List, [], ◌++◌, Option, Result, Ok, Err}
 use Rattle.std.specs.Io.KnownBytes.{Appends}
 use Rattle.script_core.specs.declared.fault.RunFault.{RunFault}
 use Rattle.script_core.specs.declared.fault.RunFault.TheVariants.{Input as InputFailed, Output as OutputFailed, Memory as NoMemory, Stopped as Given}
 use Rattle.agent_script.specs.declared.session.Run.{Run}
 use Rattle.agentd.specs.declared.opening.NotRun.{NotRun}
 use Rattle.agentd.specs.declared.opening.NotRun.TheVariants.{Refused as IsRefused, Memory, Stopped}
+use Rattle.agentd.specs.declared.files.NotRead.{NotRead}
+use Rattle.agentd.specs.declared.files.NotRead.TheVariants.{Memory as FileMemory, Unreadable}
+use Rattle.agentd.specs.declared.words.Wrong.{Wrong}
+use Rattle.agentd.specs.declared.words.Wrong.TheVariants.{Unexpected, Missing}
+use Rattle.agentd.specs.declared.telling.NotTaken.{NotTaken}
 use Rattle.agentd.specs.declared.failure.Failure.{Failure}
 use Rattle.agentd.specs.declared.failure.Failure.TheVariants.{Usage, NotText, CannotRead, Refused, Input, Output, Run as RunFailed}
 
@@ -25,7 +30,8 @@ status_of (Err failure) = failure_status failure
 
 -- what a failure is called, and what it names
 abbrev pub failure_words : Failure → List ℕ
-failure_words (Usage why) = codes "usage: agentd [script|check --config FILE]: "
+failure_words (Usage (Unexpected word)) = codes "usage: agentd [script|check --config FILE]: unexpected word "
+failure_words (Usage Missing) = codes "usage: agentd [script|check --config FILE]: --config FILE is missing"
 failure_words NotText = codes "usage: agentd [script|check --config FILE]: a word is no text"
 failure_words (CannotRead file) = codes "cannot read "
 failure_words Refused = codes "configuration refused"
@@ -34,7 +40,8 @@ failure_words Output = codes "output failed"
 failure_words RunFailed = codes "run failed"
 
 abbrev pub failure_name : Failure → List ℕ
-failure_name (Usage why) = string_bytes why
+failure_name (Usage (Unexpected word)) = word.now
+failure_name (Usage Missing) = []
 failure_name NotText = []
 failure_name (CannotRead file) = file.now
 failure_name Refused = []
@@ -58,6 +65,11 @@ run_failure OutputFailed = Output
 run_failure NoMemory = RunFailed
 run_failure Given = RunFailed
 
+-- a file that was not read, as a failure of the program: without memory for its octets nothing is said of them
+abbrev pub read_failure : NotRead → Failure
+read_failure FileMemory = Refused
+read_failure (Unreadable file) = CannotRead file
+
 abbrev pub failure_of : NotRun → Failure
 failure_of IsRefused = Refused
 failure_of Memory = Refused
@@ -73,3 +85,8 @@ pub record TakesFront (old new : Option (List ℕ)) (text : List ℕ) : Type 0 w
   pub rest : List ℕ
   pub whole : text ≡ front ++ rest
   pub took : Appends old new front
+
+-- a line was taken whole, or a front of it behind which a write failed
+abbrev pub IsLineTaken : Result (Unit {0}) NotTaken → Option (List ℕ) → Option (List ℕ) → List ℕ → Type 0
+IsLineTaken (Ok done) old new line = Appends old new line
+IsLineTaken (Err failed) old new line = TakesFront old new line

@@ -1,3 +1,5 @@
+pub mod Words
+pub mod Files
 pub mod Agents
 pub mod Runs
 pub mod Endings

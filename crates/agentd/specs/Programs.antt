@@ -1,12 +1,21 @@
 -- What the program does with its words.
-use Rattle.std.specs.Prelude.{◌≡◌, ◌≤◌, ◌⊎◌, ℕ, List, Option, Result, IsErr}
+use Rattle.std.specs.Prelude.{◌≡◌, ℕ, List, Option, Result, Ok, Err}
 use Rattle.configuration.specs.declared.configuration.TheConstants.{BUILT_IN}
 use Rattle.agent_script.specs.declared.session.Run.{Run}
+use Rattle.agentd.specs.declared.files.NotRead.{NotRead}
 use Rattle.agentd.specs.declared.opening.NotRun.{NotRun}
 use Rattle.agentd.specs.declared.failure.Failure.{Failure}
-use Rattle.agentd.specs.Endings.{status_of, said_of, ended_by, TakesFront}
+use Rattle.agentd.specs.declared.failure.Ended.{Ended}
+use Rattle.agentd.specs.declared.failure.Failure.TheVariants.{Usage}
+use Rattle.agentd.specs.declared.words.TheConstants.{HELP, VERSION}
+use Rattle.agentd.specs.declared.words.Asked.{Asked}
+use Rattle.agentd.specs.declared.words.Asked.TheVariants.{BuiltIn, Script, Check, Help, Version}
+use Rattle.agentd.specs.declared.words.Wrong.{Wrong}
+use Rattle.agentd.specs.Words.{asking_of, asking_view}
+use Rattle.agentd.specs.Files.{IsReadOf}
+use Rattle.agentd.specs.Endings.{status_of, said_of, ended_by, read_failure, IsLineTaken}
 use Rattle.agentd.specs.Runs.{IsUntouched, IsRunBy}
-use Rattle.agentd.specs.Telling.{IsTold, IsChecked}
+use Rattle.agentd.specs.Telling.{IsTold, IsCheckOf}
 
 module _ {I O : Type 0} (remaining : I → Option (List ℕ)) (contents : O → Option (List ℕ)) where
   -- a run by these octets ended the program so
@@ -15,40 +24,51 @@ module _ {I O : Type 0} (remaining : I → Option (List ℕ)) (contents : O → 
     pub run : IsRunBy remaining contents octets reader reader' writer writer' result
     pub is : ended ≡ ended_by result
 
-  -- the program failed before it read or wrote anything
-  pub record FailsFirst (reader reader' : I) (writer writer' : O) (ended : Result (Unit {0}) Failure) : Type 0 where
-    pub failed : IsErr ended
+  -- the program failed so before it read or wrote anything
+  pub record FailsFirst (failure : Failure) (reader reader' : I) (writer writer' : O) (ended : Result (Unit {0}) Failure) : Type 0 where
+    pub failed : ended ≡ Err failure
     pub untouched : IsUntouched remaining contents reader reader' writer writer'
 
-  -- the program told whether these octets are a configuration, and read nothing
-  pub record ChecksBy (octets : List ℕ) (reader reader' : I) (writer writer' : O) (ended : Result (Unit {0}) Failure) : Type 0 where
-    pub unread : reader' ≡ reader
-    pub checked : IsChecked contents octets writer writer' ended
+  -- A run by what was read of a file: by its octets, and by nothing else where they were not had.
+  abbrev pub RunsRead : Result (List ℕ) NotRead → I → I → O → O → Result (Unit {0}) Failure → Type 0
+  RunsRead (Ok octets) reader reader' writer writer' ended = RunsBy octets reader reader' writer writer' ended
+  RunsRead (Err why) reader reader' writer writer' ended = FailsFirst (read_failure why) reader reader' writer writer' ended
 
-  -- the program told its help or its version, and read nothing
-  pub record Tells (reader reader' : I) (writer writer' : O) (ended : Result (Unit {0}) Failure) : Type 0 where
+  -- a file was read, or not, and the program ran by it
+  pub record RunsFile (file : List ℕ) (reader reader' : I) (writer writer' : O) (ended : Result (Unit {0}) Failure) : Type 0 where
+    pub read : Result (List ℕ) NotRead
+    pub named : IsReadOf file read
+    pub ran : RunsRead read reader reader' writer writer' ended
+
+  -- the program told whether a file is a configuration, and read nothing else
+  pub record ChecksFile (file : List ℕ) (reader reader' : I) (writer writer' : O) (ended : Result (Unit {0}) Failure) : Type 0 where
     pub unread : reader' ≡ reader
-    pub text : List ℕ
+    pub checked : IsCheckOf contents file writer writer' ended
+
+  -- the program told something, and read nothing
+  pub record Tells (text : List ℕ) (reader reader' : I) (writer writer' : O) (ended : Result (Unit {0}) Failure) : Type 0 where
+    pub unread : reader' ≡ reader
     pub told : IsTold contents text writer writer' ended
 
-  -- What the program did with words behind its name: it ran by the octets of a file, told whether they are a configuration, told its help
-  -- or its version, or failed before any of these.
-  abbrev pub Did : I → I → O → O → Result (Unit {0}) Failure → Type 0
-  Did reader reader' writer writer' ended =
-      ((octets : List ℕ) × RunsBy octets reader reader' writer writer' ended)
-      ⊎ ((octets : List ℕ) × ChecksBy octets reader reader' writer writer' ended)
-      ⊎ Tells reader reader' writer writer' ended
-      ⊎ FailsFirst reader reader' writer writer' ended
+  -- What the program did for what its words ask: no clause says which octets a file holds, nor whether it can be read.
+  abbrev pub Does : Result Asked Wrong → I → I → O → O → Result (Unit {0}) Failure → Type 0
+  Does (Ok BuiltIn) reader reader' writer writer' ended = RunsBy BUILT_IN.now reader reader' writer writer' ended
+  Does (Ok (Script file)) reader reader' writer writer' ended = RunsFile file.now reader reader' writer writer' ended
+  Does (Ok (Check file)) reader reader' writer writer' ended = ChecksFile file.now reader reader' writer writer' ended
+  Does (Ok Help) reader reader' writer writer' ended = Tells HELP.now reader reader' writer writer' ended
+  Does (Ok Version) reader reader' writer writer' ended = Tells VERSION.now reader reader' writer writer' ended
+  Does (Err wrong) reader reader' writer writer' ended = FailsFirst (Usage wrong) reader reader' writer writer' ended
 
-  -- Without words behind its name the program runs by the built-in configuration.
-  pub record HasEnded (words : ℕ) (reader reader' : I) (writer writer' : O) (ended : Result (Unit {0}) Failure) : Type 0 where
-    pub alone : words ≤ 1 → RunsBy BUILT_IN.now reader reader' writer writer' ended
-    pub did : Did reader reader' writer writer' ended
+  -- The program did what its words, its name first, ask for.
+  pub record HasEnded (words : List (List ℕ)) (reader reader' : I) (writer writer' : O) (ended : Result (Unit {0}) Failure) : Type 0 where
+    pub asked : Result Asked Wrong
+    pub is : asking_view asked ≡ asking_of words
+    pub does : Does asked reader reader' writer writer' ended
 
-  -- The program ended: its status is that of how it did, and on standard error stands the line that says so, or, where writing
-  -- failed there, a front of that line.
-  pub record IsProgramRun (words : ℕ) (reader reader' : I) (writer writer' : O) (errors errors' : Option (List ℕ)) (status : ℕ) : Type 0 where
+  -- The program ended: its status is that of how it did, and on standard error stands the line that says so, whole or a front of it behind
+  -- which a write failed.
+  pub record IsProgramRun (words : List (List ℕ)) (reader reader' : I) (writer writer' : O) (errors errors' : Option (List ℕ)) (finished : Ended) : Type 0 where
     pub ended : Result (Unit {0}) Failure
     pub did : HasEnded words reader reader' writer writer' ended
-    pub status_is : status ≡ status_of ended
-    pub said : TakesFront errors errors' (said_of ended)
+    pub status : finished.status ≡ status_of ended
+    pub said : IsLineTaken finished.line errors errors' (said_of ended)

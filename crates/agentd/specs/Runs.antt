@@ -1,9 +1,10 @@
 -- What a run by the octets of a configuration promises.
-use Rattle.std.specs.Prelude.{◌≡◌, ◌⊎◌, ℕ, List, Option, Result, Ok, Err, IfOk, IfErr, IfSome}
+use Rattle.std.specs.Prelude.{◌≡◌, ◌≢◌, ℕ, List, Option, Result, Ok, Err, IfOk, IfErr, IfSome, IsSome}
 use Rattle.script_core.specs.Lines.{lines_of}
 use Rattle.script_core.specs.Runs.{Reads, Writes, IsFrontOf}
 use Rattle.script_core.specs.declared.fault.RunFault.{RunFault}
 use Rattle.script_core.specs.declared.fault.RunFault.TheVariants.{Input, Output, Memory as NoMemory, Stopped as IsStopped}
+use Rattle.policy_text.specs.Texts.{text_of}
 use Rattle.agent_script.specs.Script.{IsSaid, IsSaidBefore, IsGivenUp, IsSaidSome}
 use Rattle.agent_script.specs.State.{Agent}
 use Rattle.agent_script.specs.declared.session.Run.{Run}
@@ -11,10 +12,10 @@ use Rattle.agentd.specs.declared.opening.NotRun.{NotRun}
 use Rattle.agentd.specs.declared.opening.NotRun.TheVariants.{Refused, Memory, Stopped}
 use Rattle.agentd.specs.Agents.{IsAgentOf, HasFault}
 
--- Octets were not opened for this reason: exactly what says no configuration is refused.
+-- Octets were not opened for this reason: what is refused says no configuration, and only a text takes memory.
 abbrev pub IsNotOpened : List ℕ → NotRun → Type 0
 IsNotOpened octets Refused = HasFault octets
-IsNotOpened octets Memory = Unit {0}
+IsNotOpened octets Memory = IsSome (text_of octets)
 IsNotOpened octets (Stopped fault) = ⊥
 
 -- A reader that may tell which octets it has left, and a writer that may tell which it took.
@@ -33,13 +34,15 @@ module _ {I O : Type 0} (remaining : I → Option (List ℕ)) (contents : O → 
     pub input : IfErr went (λ fault. fault ≡ Input → Reads (remaining reader) (remaining reader') (λ input rest.
         Writes (contents writer) (contents writer') (λ text. IsSaidBefore agent input rest text)))
     -- until a line was given up: each line before it is answered, and it was read, in part at least
-    pub given_up : IfErr went (λ fault. (fault ≡ NoMemory) ⊎ (fault ≡ IsStopped) →
+    pub given_up : IfErr went (λ fault. fault ≡ NoMemory →
         Reads (remaining reader) (remaining reader') (λ input rest.
         Writes (contents writer) (contents writer') (λ text. IsGivenUp agent input rest text)))
     -- until a write failed: what is written is a front of what was said to the first lines, or to all of them and the end
     pub output : IfErr went (λ fault. fault ≡ Output → IfSome (remaining reader) (λ input.
         Writes (contents writer) (contents writer') (λ text. IsFrontOf (λ whole.
         IsSaidSome agent (lines_of input) whole) text)))
+    -- and for no other reason
+    pub kind : IfErr went (λ fault. fault ≢ IsStopped)
 
   -- What came of a script over this agent.
   abbrev pub IsRunOver : Agent → I → I → O → O → Result Run NotRun → Type 0
@@ -54,9 +57,9 @@ module _ {I O : Type 0} (remaining : I → Option (List ℕ)) (contents : O → 
     pub is : IsAgentOf octets agent
     pub run : IsScriptRun agent reader reader' writer writer' went
 
-  -- What came of octets: a run; a refusal, exactly of what is no configuration; or want of memory before anything was read.
+  -- What came of octets: a run; a refusal of what is no configuration; or, of a text, want of memory before anything was read.
   abbrev pub IsRunBy : List ℕ → I → I → O → O → Result Run NotRun → Type 0
   IsRunBy octets reader reader' writer writer' (Ok run) = HasRun octets reader reader' writer writer' (Ok run)
   IsRunBy octets reader reader' writer writer' (Err (Stopped fault)) = HasRun octets reader reader' writer writer' (Err fault)
   IsRunBy octets reader reader' writer writer' (Err Refused) = HasFault octets × IsUntouched reader reader' writer writer'
-  IsRunBy octets reader reader' writer writer' (Err Memory) = IsUntouched reader reader' writer writer'
+  IsRunBy octets reader reader' writer writer' (Err Memory) = IsSome (text_of octets) × IsUntouched reader reader' writer writer'

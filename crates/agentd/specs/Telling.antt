@@ -1,14 +1,18 @@
 -- What is written of a text, and what a check tells of octets.
-use Rattle.std.specs.Prelude.{◌≡◌, ◌≢◌, ◌⊎◌, ℕ, codes, List, ◌++◌, Option, Result, Ok, Err}
+use Rattle.std.specs.Prelude.{◌≡◌, ◌≢◌, ◌⊎◌, ℕ, codes, List, ◌++◌, Option, Result, Ok, Err, IsSome}
 use Rattle.std.specs.Io.KnownBytes.{Appends}
+use Rattle.policy_text.specs.Texts.{text_of}
 use Rattle.configuration.specs.declared.configuration.Configuration.{Configuration}
 use Rattle.configuration.specs.declared.fault.ConfigurationFault.{ConfigurationFault}
 use Rattle.configuration.specs.declared.fault.ConfigurationFault.TheVariants.{Memory}
 use Rattle.configuration.specs.Configurations.{IsConfigurationIn, IsFaultIn}
 use Rattle.configuration.specs.Sentences.{sentence}
+use Rattle.agentd.specs.declared.files.NotRead.{NotRead}
+use Rattle.agentd.specs.declared.files.NotRead.TheVariants.{Memory as FileMemory, Unreadable}
 use Rattle.agentd.specs.declared.failure.Failure.{Failure}
 use Rattle.agentd.specs.declared.failure.Failure.TheVariants.{Usage, NotText, CannotRead, Refused, Input, Output, Run as RunFailed}
 use Rattle.agentd.specs.Endings.{TakesFront}
+use Rattle.agentd.specs.Files.{IsReadOf}
 
 -- what is said of a configuration, and of a fault
 abbrev pub ok_text : List ℕ
@@ -17,9 +21,9 @@ ok_text = codes "configuration ok\n"
 abbrev pub fault_text : ConfigurationFault → List ℕ
 fault_text fault = sentence fault ++ codes "\n"
 
--- this is the first fault of the octets, unless it is want of memory, which says nothing of them
+-- this is the first fault of the octets, unless it is want of memory, which says of them only that they are a text
 abbrev pub IsFaultFound : List ℕ → ConfigurationFault → Type 0
-IsFaultFound octets fault = fault ≢ Memory → IsFaultIn octets fault
+IsFaultFound octets fault = (fault ≢ Memory → IsFaultIn octets fault) × (fault ≡ Memory → IsSome (text_of octets))
 
 -- A writer that may tell which octets it took.
 module _ {O : Type 0} (contents : O → Option (List ℕ)) where
@@ -66,3 +70,22 @@ module _ {O : Type 0} (contents : O → Option (List ℕ)) where
   IsChecked octets writer writer' (Ok done) = IsRightTold octets writer writer' (Ok done)
   IsChecked octets writer writer' (Err failure) =
       IsRightTold octets writer writer' (Err failure) ⊎ IsRefusalTold octets writer writer' failure
+
+  -- there was no memory to read a configuration, and that is told
+  pub record IsWantTold (writer writer' : O) (ended : Result (Unit {0}) Failure) : Type 0 where
+    pub failure : Failure
+    pub failed : ended ≡ Err failure
+    pub told : IsFaultTold Memory writer writer' failure
+
+  -- What a check of what was read of a file comes to: want of memory for its octets is told as that for the configuration; of a file that
+  -- cannot be read nothing is told.
+  abbrev pub IsFileChecked : Result (List ℕ) NotRead → O → O → Result (Unit {0}) Failure → Type 0
+  IsFileChecked (Ok octets) writer writer' ended = IsChecked octets writer writer' ended
+  IsFileChecked (Err FileMemory) writer writer' ended = IsWantTold writer writer' ended
+  IsFileChecked (Err (Unreadable file)) writer writer' ended = (ended ≡ Err (CannotRead file)) × (writer' ≡ writer)
+
+  -- a file was read, or not, and it was told whether it is a configuration
+  pub record IsCheckOf (file : List ℕ) (writer writer' : O) (ended : Result (Unit {0}) Failure) : Type 0 where
+    pub read : Result (List ℕ) NotRead
+    pub named : IsReadOf file read
+    pub checked : IsFileChecked read writer writer' ended

@@ -1,8 +1,10 @@
 //! Tells whether octets are a configuration.
 ghost use Rattle.std.specs.Prelude.{◌≡◌, IfOk, string_bytes};
-ghost use Rattle.agentd.specs.Telling.{fault_text, IsFaultTold, IsChecked};
+ghost use Rattle.agentd.specs.Telling.{fault_text, IsFaultTold, IsChecked, IsFileChecked};
+ghost use Rattle.agentd.specs.Files.{read_view};
 
 use crate::failure::{Failure, tell};
+use crate::files::NotRead;
 use configuration::{ConfigurationFault, configuration_in, sentence};
 use std::alloc::{AllocError, Global};
 use std::io::Write;
@@ -47,5 +49,24 @@ pub fn check_octets<'a, O: Write>(
     match configuration_in(alloc, octets) {
         Ok(_) => tell(OK_TEXT, writer),
         Err(fault) => Err(tell_fault(alloc, fault, writer)),
+    }
+}
+
+/// Tells whether what was read of a file is a configuration, as [`check_octets`] does; where there was no memory for its octets, that
+/// sentence.
+///
+/// # Errors
+/// As [`check_octets`] has them; `CannotRead`, with nothing written, where the file cannot be read.
+pub fn check_read<'a, O: Write>(
+    alloc: Global,
+    read: Result<Vec<u8>, NotRead<'a>>,
+    writer: &mut O,
+) -> Result<(), Failure<'a>>
+    ensures { IsFileChecked O.contents (read_view read.entry) writer.old writer.new result }
+{
+    match read {
+        Ok(octets) => check_octets(alloc, &octets, writer),
+        Err(NotRead::Memory) => Err(tell_fault(alloc, ConfigurationFault::Memory, writer)),
+        Err(NotRead::Unreadable(file)) => Err(Failure::CannotRead(file)),
     }
 }

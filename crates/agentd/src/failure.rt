@@ -1,10 +1,13 @@
 //! Why the program ends with another status than 0.
-ghost use Rattle.std.specs.Prelude.{◌≡◌, ◌++◌};
+ghost use Rattle.std.specs.Prelude.{◌≡◌, ◌++◌, OnOk};
+ghost use Rattle.std.specs.Io.KnownBytes.{Appends};
 ghost use Rattle.agentd.specs.Telling.{IsTold};
-ghost use Rattle.agentd.specs.Endings.{failure_status, failure_words, failure_name, failure_line, failure_of, run_failure, TakesFront};
+ghost use Rattle.agentd.specs.Endings.{failure_status, failure_words, failure_name, failure_line, failure_of, run_failure, read_failure, TakesFront, IsLineTaken};
 
+use crate::files::NotRead;
 use crate::opening::NotRun;
 use crate::telling::{NotTaken, write_front};
+use crate::words::Wrong;
 use script_core::RunFault;
 use std::io::{self, ErrorKind, Write};
 
@@ -18,7 +21,7 @@ pub const FAILED: u8 = 1;
 #[derive(Debug, Drop)]
 pub enum Failure<'a> {
     /// The words are no command, for this reason.
-    Usage(String),
+    Usage(Wrong<'a>),
     /// A word is no text.
     NotText,
     /// The file of the configuration cannot be read.
@@ -64,6 +67,16 @@ pub fn failure_of<'a>(why: NotRun) -> Failure<'a>
     }
 }
 
+/// Why a file was not read, as a failure of the program.
+pub fn read_failure(why: NotRead<'_>) -> Failure<'_>
+    ensures { result ≡ read_failure why.entry }
+{
+    match why {
+        NotRead::Memory => Failure::Refused,
+        NotRead::Unreadable(file) => Failure::CannotRead(file),
+    }
+}
+
 impl Failure<'_> {
     /// The exit status, 1 or 2.
     pub fn status(&self) -> u8
@@ -81,7 +94,10 @@ impl Failure<'_> {
         ensures { result.now ≡ failure_words self.now }
     {
         match self {
-            Failure::Usage(_) => b"usage: agentd [script|check --config FILE]: ",
+            Failure::Usage(Wrong::Unexpected(_)) =>
+                b"usage: agentd [script|check --config FILE]: unexpected word ",
+            Failure::Usage(Wrong::Missing) =>
+                b"usage: agentd [script|check --config FILE]: --config FILE is missing",
             Failure::NotText => b"usage: agentd [script|check --config FILE]: a word is no text",
             Failure::CannotRead(_) => b"cannot read ",
             Failure::Refused => b"configuration refused",
@@ -96,17 +112,23 @@ impl Failure<'_> {
         ensures { result.now ≡ failure_name self.now }
     {
         match self {
-            Failure::Usage(why) => why.as_bytes(),
+            Failure::Usage(Wrong::Unexpected(word)) => word.as_bytes(),
             Failure::CannotRead(file) => file.as_bytes(),
-            Failure::NotText | Failure::Refused | Failure::Input | Failure::Output | Failure::Run =>
-                b"",
+            Failure::Usage(Wrong::Missing)
+            | Failure::NotText
+            | Failure::Refused
+            | Failure::Input
+            | Failure::Output
+            | Failure::Run => b"",
         }
     }
 }
 
 // Writes the line of a failure until a write fails.
 fn write_line<E: Write>(failure: &Failure<'_>, errors: &mut E) -> Result<(), NotTaken>
-    ensures { TakesFront (E.contents errors.old) (E.contents errors.new)
+    ensures whole { OnOk result (Appends (E.contents errors.old) (E.contents errors.new)
+        (failure_line failure.now)) }
+    ensures front { TakesFront (E.contents errors.old) (E.contents errors.new)
         (failure_line failure.now) }
 {
     write_front(errors, b"agentd: ")?;
@@ -115,14 +137,26 @@ fn write_line<E: Write>(failure: &Failure<'_>, errors: &mut E) -> Result<(), Not
     write_front(errors, b"\n")
 }
 
+/// How a run of the program ended, as it is told.
+#[derive(Clone, Copy, Debug, PartialEq, Eq)]
+pub struct Ended {
+    /// The exit status, 0 to 2.
+    pub status: u8,
+    /// Whether its line is written whole, or a front of it, behind which a write failed.
+    pub line: Result<(), NotTaken>,
+}
+
 /// Writes a failure as one line, or a front of it where a write fails, and gives its exit status.
-pub fn report<E: Write>(failure: &Failure<'_>, errors: &mut E) -> u8
-    ensures status { result ≡ failure_status failure.now }
-    ensures line { TakesFront (E.contents errors.old) (E.contents errors.new)
+pub fn report<E: Write>(failure: &Failure<'_>, errors: &mut E) -> Ended
+    ensures status { result.status ≡ failure_status failure.now }
+    ensures line { IsLineTaken result.line (E.contents errors.old) (E.contents errors.new)
         (failure_line failure.now) }
 {
-    let _ = write_line(failure, errors);
-    failure.status()
+    let line = write_line(failure, errors);
+    Ended {
+        status: failure.status(),
+        line,
+    }
 }
 
 /// Writes a text to the output, and flushes it.

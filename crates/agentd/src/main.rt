@@ -1,24 +1,26 @@
 //! The agent, driven by a script from standard input.
 //!
 //! # Entry points
-//! `run_words` over words, streams and the file system gives the exit status: 0, 1 or 2. `run_octets` runs the script by the
+//! `run_words` over words, streams and the file system gives the exit status, 0, 1 or 2, and whether the line of a failure was
+//! written whole. `run_octets` runs the script by the
 //! octets of a configuration, `check_octets` tells whether octets are one.
 //!
 //! # Definitions
-//! `specs/Agents.antt`: the agent that a configuration opens; `specs/Runs.antt`: what a run by octets promises;
-//! `specs/Endings.antt`: statuses, and the line of each failure; `specs/Telling.antt`: what a check tells;
-//! `specs/Programs.antt`: what the program does with its words.
+//! `specs/Words.antt`: what words ask for; `specs/Files.antt`: why a file was not read; `specs/Agents.antt`: the agent that a
+//! configuration opens; `specs/Runs.antt`: what a run by octets promises; `specs/Endings.antt`: statuses, and the line of each
+//! failure; `specs/Telling.antt`: what a check tells; `specs/Programs.antt`: what the program does with its words.
 //!
 //! # Laws
 //! None.
 //!
 //! # Not claimed
-//! Which words are a command, the text of the help, and that the octets that run are those of the file named: tests hold
-//! these. That memory was refused where the answer is for want of it. What a file holds and a terminal shows.
+//! That the octets that run are those of the file named: a test holds it. That a write failed where the line of a failure is told to
+//! be cut off. That memory was refused where the answer is for want of it. What a file holds and a terminal shows.
 #![tactic(auto)]
 
 mod checking;
 mod failure;
+mod files;
 mod opening;
 mod run;
 mod running;
@@ -27,6 +29,7 @@ mod words;
 
 use failure::{Failure, report};
 use run::run_words;
+use std::alloc::Allocator;
 use std::process::ExitCode;
 use std::{env, io};
 
@@ -34,20 +37,25 @@ fn main(rt: HostRuntime) -> ExitCode {
     let mut errors = rt.stderr();
     let words = match read_words(&rt) {
         Ok(words) => words,
-        Err(error) => return ExitCode::from(report(&Failure::from(error), &mut errors)),
+        Err(error) => return ExitCode::from(report(&Failure::from(error), &mut errors).status),
     };
     let mut reader = rt.reader();
     let mut writer = io::writer(&rt);
-    ExitCode::from(run_words(&rt, &words, &mut reader, &mut writer, &mut errors))
+    ExitCode::from(run_words(&rt, &words, &mut reader, &mut writer, &mut errors).status)
 }
 
 // The words of the command line, the program's name first.
 fn read_words(rt: &HostRuntime) -> io::Result<Vec<String>> {
-    let mut words = Vec::new(rt.alloc());
-    for word in env::args(rt)? {
-        words.push(word)?;
+    collect_words(rt.alloc(), env::args(rt)?)
+}
+
+// Words as a list.
+fn collect_words<A: Allocator>(alloc: A, words: env::Args) -> io::Result<Vec<String, A>> {
+    let mut list = Vec::new(alloc);
+    for word in words {
+        list.push(word)?;
     }
-    Ok(words)
+    Ok(list)
 }
 
 #[cfg(test)]

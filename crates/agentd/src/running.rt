@@ -28,7 +28,7 @@ fn run_opened<I: Read, O: Write>(
 /// policy, the address and the ports are the configuration's own.
 ///
 /// # Errors
-/// `Refused` exactly where the octets say no configuration, and `Memory` where there is none for it: then nothing is read or
+/// `Refused` only where the octets say no configuration, and `Memory` only where they are a text: then nothing is read or
 /// written. `Stopped` as [`run_script`] has it.
 pub fn run_octets<I: Read, O: Write>(
     alloc: Global,

@@ -9,7 +9,7 @@ use std::io::{ErrorKind, Write};
 #[derive(Clone, Copy, Debug, PartialEq, Eq)]
 pub struct NotTaken;
 
-/// Writes octets until all are taken or a write fails, and then those before are.
+/// Writes octets until all are taken or a write fails; a front of them is written then.
 ///
 /// # Errors
 /// `NotTaken` where a write fails or takes nothing.

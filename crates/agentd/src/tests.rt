@@ -1,6 +1,11 @@
 //! Runs over readers and writers in memory.
+use crate::checking::check_read;
+use crate::collect_words;
 use crate::failure::{Failure, report};
+use crate::files::NotRead;
 use crate::run::run_words;
+use crate::telling::NotTaken;
+use bumpalo::Bump;
 use configuration::BUILT_IN;
 use std::alloc::{AllocGlobal, Global};
 use std::io::{Error, ErrorKind, Read, Write};
@@ -57,9 +62,9 @@ fn answers_a_script(rt: HostRuntime) -> Result<(), Fail> {
     let words = vec![in rt.alloc(); String::from_str(rt.alloc(), "agentd")?]?;
     let mut out = Vec::new(rt.alloc());
     let mut errors = Vec::new(rt.alloc());
-    let status = run_words(&rt, &words, &mut { GET }, &mut out, &mut errors);
+    let ended = run_words(&rt, &words, &mut { GET }, &mut out, &mut errors);
     assert_eq!(rt;
-        (status, out.as_slice(), errors.as_slice()),
+        (ended.status, out.as_slice(), errors.as_slice()),
         (0, REPLY, b"".as_slice())
     );
     Ok(())
@@ -71,9 +76,9 @@ fn fails_with_its_input(rt: HostRuntime) -> Result<(), Fail> {
     let mut out = Vec::new(rt.alloc());
     let mut errors = Vec::new(rt.alloc());
     let mut reader = Failing { octets: GET };
-    let status = run_words(&rt, &words, &mut reader, &mut out, &mut errors);
+    let ended = run_words(&rt, &words, &mut reader, &mut out, &mut errors);
     assert_eq!(rt;
-        (status, out.as_slice(), errors.as_slice()),
+        (ended.status, out.as_slice(), errors.as_slice()),
         (1, REPLY, b"agentd: input failed\n".as_slice())
     );
     Ok(())
@@ -83,9 +88,9 @@ fn fails_with_its_input(rt: HostRuntime) -> Result<(), Fail> {
 fn fails_with_its_output(rt: HostRuntime) -> Result<(), Fail> {
     let words = vec![in rt.alloc(); String::from_str(rt.alloc(), "agentd")?]?;
     let mut errors = Vec::new(rt.alloc());
-    let status = run_words(&rt, &words, &mut { GET }, &mut Full, &mut errors);
+    let ended = run_words(&rt, &words, &mut { GET }, &mut Full, &mut errors);
     assert_eq!(rt;
-        (status, errors.as_slice()),
+        (ended.status, errors.as_slice()),
         (1, b"agentd: output failed\n".as_slice())
     );
     Ok(())
@@ -114,9 +119,10 @@ fn ran<R: Files + AllocGlobal>(rt: &R, texts: &[&str], script: &[u8]) -> Result<
     let mut out = Vec::new(rt.alloc());
     let mut errors = Vec::new(rt.alloc());
     let mut reader = script;
-    let status = run_words(rt, &words, &mut reader, &mut out, &mut errors);
+    let ended = run_words(rt, &words, &mut reader, &mut out, &mut errors);
+    ended.line.map_err(|_| "a line was cut off")?;
     Ok(Finished {
-        status,
+        status: ended.status,
         out,
         errors,
     })
@@ -136,80 +142,115 @@ fn ran_by<R: Files + AllocGlobal>(
     Ok(run)
 }
 
+/// What stands before the reason that words are no command.
+const USAGE_LINE: &str = "agentd: usage: agentd [script|check --config FILE]: ";
+
+// What stands behind that.
+fn told_of(alloc: Global, run: &Finished) -> Result<String, Fail> {
+    let line = std::str::from_utf8(run.errors.as_slice())?;
+    let told = line.strip_prefix(USAGE_LINE).ok_or("another line")?;
+    Ok(String::from_str(alloc, told)?)
+}
+
 #[test]
 fn takes_no_other_words(rt: HostRuntime) -> Result<(), Fail> {
-    for (words, wrong) in [
-        (["agentd", "script", "", ""].as_slice(), ""),
-        (["agentd", "script"].as_slice(), "--config <FILE>"),
+    for (words, told) in [
+        (
+            ["agentd", "script", "", ""].as_slice(),
+            "unexpected word \n",
+        ),
+        (
+            ["agentd", "script"].as_slice(),
+            "--config FILE is missing\n",
+        ),
         (
             ["agentd", "serve", "--config", "a.toml"].as_slice(),
-            "serve",
+            "unexpected word serve\n",
         ),
         (
             ["agentd", "check", "--config"].as_slice(),
-            "--config <FILE>",
+            "--config FILE is missing\n",
         ),
-        (["agentd", "--config", "a.toml"].as_slice(), "--config"),
+        (
+            ["agentd", "--config", "a.toml"].as_slice(),
+            "unexpected word --config\n",
+        ),
         (
             ["agentd", "script", "--config", "a.toml", "--fast"].as_slice(),
-            "--fast",
+            "unexpected word --fast\n",
+        ),
+        (
+            ["agentd", "--version", "now"].as_slice(),
+            "unexpected word now\n",
         ),
     ] {
         let run = ran(&rt, words, GET)?;
-        let line = std::str::from_utf8(run.errors.as_slice())?;
-        assert!(rt;
-            line.starts_with("agentd: usage: agentd [script|check --config FILE]: "),
-            "{line}"
-        );
-        assert!(rt; line.contains(wrong), "{line}");
-        assert_eq!(rt; line.lines().count(), 1, "{line}");
-        assert_eq!(rt;
-            (run.status, run.out.is_empty(), line.ends_with("\n")),
-            (2, true, true)
-        );
+        assert_eq!(rt; (run.status, run.out.is_empty()), (2, true));
+        assert_eq!(rt; told_of(rt.alloc(), &run)?.as_str(), told);
     }
     Ok(())
 }
 
 #[test]
 fn tells_its_help(rt: HostRuntime) -> Result<(), Fail> {
-    for (words, told) in [
-        (["agentd", "--help"].as_slice(), "script  Runs the script"),
-        (["agentd", "--help"].as_slice(), "check   Tells whether"),
-        (["agentd", "script", "--help"].as_slice(), "--config <FILE>"),
-        (
-            ["agentd", "script", "--help"].as_slice(),
-            "link P up         the link of port P goes up",
-        ),
-        (["agentd", "script", "--help"].as_slice(), "Example: printf"),
-        (["agentd", "check", "--help"].as_slice(), "--config <FILE>"),
-        (["agentd", "--version"].as_slice(), "agentd 0.1\n"),
+    for words in [
+        ["agentd", "--help"].as_slice(),
+        ["agentd", "script", "--help"].as_slice(),
+        ["agentd", "check", "--help"].as_slice(),
     ] {
         let run = ran(&rt, words, GET)?;
         let text = std::str::from_utf8(run.out.as_slice())?;
-        assert!(rt; text.contains(told), "{text}");
+        for told in [
+            "agentd script --config FILE",
+            "agentd check --config FILE",
+            "link P up         the link of port P goes up",
+            "Without words the built-in configuration runs: address 02000000000A",
+            "Example: printf 'link 1 up\\ntick 2\\n' | agentd script --config",
+        ] {
+            assert!(rt; text.contains(told), "{told}");
+        }
         assert_eq!(rt; (run.status, run.errors.is_empty()), (0, true));
     }
     Ok(())
 }
 
-// Words that cannot be had: there is no memory for them, or they are no text.
 #[test]
-fn says_why_it_has_no_words(rt: HostRuntime) -> Result<(), Fail> {
-    for (kind, status, line) in [
-        (ErrorKind::OutOfMemory, 1, "agentd: run failed\n"),
-        (
-            ErrorKind::InvalidData,
-            2,
-            "agentd: usage: agentd [script|check --config FILE]: a word is no text\n",
-        ),
-    ] {
-        let mut errors = Vec::new(rt.alloc());
-        let failure = Failure::from(Error::from(kind));
-        assert_eq!(rt; report(&failure, &mut errors), status);
-        assert_eq!(rt; errors.as_slice(), line.as_bytes());
-        assert_eq!(rt; report(&failure, &mut Full), status);
-    }
+fn tells_its_version(rt: HostRuntime) -> Result<(), Fail> {
+    let run = ran(&rt, &["agentd", "--version"], GET)?;
+    assert_eq!(rt;
+        (run.status, run.out.as_slice(), run.errors.as_slice()),
+        (0, b"agentd 0.1\n".as_slice(), b"".as_slice())
+    );
+    Ok(())
+}
+
+// An arena of no room refuses each growth.
+#[test]
+fn says_that_there_is_no_memory_for_words(rt: HostRuntime) -> Result<(), Fail> {
+    let room = Bump::new(rt.alloc());
+    room.set_allocation_limit(Some(0));
+    let words = words_of(rt.alloc(), &["agentd", "script"])?;
+    let refused = collect_words(&room, words.into_iter()).err();
+    let failure = Failure::from(refused.ok_or("there was room")?);
+    let mut errors = Vec::new(rt.alloc());
+    let whole = report(&failure, &mut errors);
+    assert_eq!(rt; (whole.status, whole.line), (1, Ok(())));
+    assert_eq!(rt; errors.as_slice(), b"agentd: run failed\n".as_slice());
+    let cut = report(&failure, &mut Full);
+    assert_eq!(rt; (cut.status, cut.line), (1, Err(NotTaken)));
+    Ok(())
+}
+
+#[test]
+fn says_that_a_word_is_no_text(rt: HostRuntime) -> Result<(), Fail> {
+    let failure = Failure::from(Error::from(ErrorKind::InvalidData));
+    let mut errors = Vec::new(rt.alloc());
+    let whole = report(&failure, &mut errors);
+    assert_eq!(rt; (whole.status, whole.line), (2, Ok(())));
+    assert_eq!(rt;
+        errors.as_slice(),
+        b"agentd: usage: agentd [script|check --config FILE]: a word is no text\n".as_slice()
+    );
     Ok(())
 }
 
@@ -343,6 +384,10 @@ fn checks_a_configuration(rt: HostRuntime) -> Result<(), Fail> {
 const TOLD: &[u8] =
     b"top level: address is to be a string of 12 hexadecimal digits, and no group address\n";
 
+/// What is told where there is no memory for the configuration.
+const NO_MEMORY: &[u8] =
+    b"there was no memory to read the configuration; whether it is right is not known\n";
+
 #[test]
 fn checks_a_wrong_configuration(rt: HostRuntime) -> Result<(), Fail> {
     let run = ran_by(
@@ -356,5 +401,15 @@ fn checks_a_wrong_configuration(rt: HostRuntime) -> Result<(), Fail> {
         (run.status, run.out.as_slice(), run.errors.as_slice()),
         (2, TOLD, b"agentd: configuration refused\n".as_slice())
     );
+    Ok(())
+}
+
+// Want of memory for a file's octets is told as that for its configuration.
+#[test]
+fn says_that_there_is_no_memory_for_a_file(rt: HostRuntime) -> Result<(), Fail> {
+    let mut out = Vec::new(rt.alloc());
+    let ended = check_read(rt.alloc(), Err(NotRead::Memory), &mut out);
+    assert!(rt; matches!(ended, Err(Failure::Refused)));
+    assert_eq!(rt; out.as_slice(), NO_MEMORY);
     Ok(())
 }

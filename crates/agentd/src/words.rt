@@ -1,13 +1,18 @@
 //! What the words of the command line ask for.
-ghost use Rattle.std.specs.Prelude.{◌≡◌, ◌≤◌, ◌≢◌, ◌<◌, length, Ok, IfOk};
+ghost use Rattle.std.specs.Prelude.{◌≡◌, map, string_bytes, Ok, Err, MatchResult};
+ghost use Rattle.agentd.specs.Words.{asking_with_file, file_behind, alone, file_asking, asking_with, asking_of, asked_view, wrong_view, asking_view};
 
-use crate::failure::Failure;
-use clap::error::ErrorKind;
-use clap::{Arg, ArgAction, ArgMatches, Command};
-use std::alloc::{AllocError, Global};
+/// What `agentd --help` tells.
+pub const HELP: &str = "An SNMPv2c agent of a bridge, driven by a script
 
-/// What `--help` tells of scripts.
-const SCRIPT_HELP: &str = "Lines of a script, from standard input:
+Usage:
+  agentd                        runs the script on standard input by the built-in configuration
+  agentd script --config FILE   runs it by the configuration in FILE, a TOML document
+  agentd check --config FILE    tells whether FILE is a configuration, and if not, what would be right
+  agentd --help                 tells this, as agentd script --help and agentd check --help do
+  agentd --version              tells the version
+
+Lines of a script, from standard input:
   request HEX       a datagram: reply HEX, or drop and the cause
   frame P HEX       a frame by port P: forward P,P.. or forward -, then the BPDUs that are sent
   tick N            N seconds pass, 1 to 100000: the BPDUs that are sent
@@ -18,10 +23,14 @@ const SCRIPT_HELP: &str = "Lines of a script, from standard input:
 
 Without words the built-in configuration runs: address 02000000000A, two ports, the communities public and admin.
 
-Example: printf 'link 1 up\\ntick 2\\n' | agentd script --config agentd.toml";
+Example: printf 'link 1 up\\ntick 2\\n' | agentd script --config agentd.toml
+";
+
+/// What `agentd --version` tells.
+pub const VERSION: &str = "agentd 0.1\n";
 
 /// What the words ask for.
-#[derive(Drop)]
+#[derive(Clone, Copy, Debug)]
 pub enum Asked<'a> {
     /// The script by the built-in configuration.
     BuiltIn,
@@ -29,95 +38,99 @@ pub enum Asked<'a> {
     Script(&'a str),
     /// Whether this file is a configuration.
     Check(&'a str),
-    /// This text, which is the help or the version.
-    Text(String),
+    /// The help.
+    Help,
+    /// The version.
+    Version,
 }
 
-/// What the words of a command line ask for, its name first.
+/// Why words are no command.
+#[derive(Clone, Copy, Debug)]
+pub enum Wrong<'a> {
+    /// This word is the first that may not stand where it does.
+    Unexpected(&'a str),
+    /// The words end where `--config`, or the file behind it, is to stand.
+    Missing,
+}
+
+/// What the words of a command line ask for, its name first. Takes no memory.
 ///
 /// # Errors
-/// `Usage` where they are no command; `Run` where there is no memory for them, which is not their fault.
-pub fn asked_by<'a>(alloc: Global, words: &'a [String]) -> Result<Asked<'a>, Failure<'a>>
-    ensures { length words.now ≤ 1 → result ≡ Ok Asked.BuiltIn }
+/// The first word that may not stand where it does; `Missing` where there is none, and a file is wanted.
+pub fn asked_by(words: &[String]) -> Result<Asked<'_>, Wrong<'_>>
+    ensures { asking_view result ≡ asking_of (map string_bytes words.now) }
 {
     if words.len() <= 1 {
         return Ok(Asked::BuiltIn);
     }
-    let Ok(command) = make_command(alloc) else {
-        return Err(Failure::Run);
+    asked_with(words[1].as_str(), &words[2..])
+}
+
+// What a first word asks for with those behind it.
+fn asked_with<'a>(word: &'a str, more: &'a [String]) -> Result<Asked<'a>, Wrong<'a>>
+    ensures { asking_view result ≡ asking_with word.now (map string_bytes more.now) }
+{
+    match word {
+        "script" => file_asked(Doing::Script, more),
+        "check" => file_asked(Doing::Check, more),
+        "--help" => alone(Asked::Help, more),
+        "--version" => alone(Asked::Version, more),
+        _ => Err(Wrong::Unexpected(word)),
+    }
+}
+
+/// What may be done with a file.
+#[derive(Clone, Copy, Debug, PartialEq, Eq)]
+pub enum Doing {
+    /// The script by its configuration.
+    Script,
+    /// Whether it is a configuration.
+    Check,
+}
+
+// What is asked for with a file.
+fn asked_of(doing: Doing, file: &str) -> Asked<'_>
+    ensures { asked_view result ≡ asking_with_file doing file.now }
+{
+    match doing {
+        Doing::Script => Asked::Script(file),
+        Doing::Check => Asked::Check(file),
+    }
+}
+
+// What is asked for by the words behind `script` or `check`.
+fn file_asked<'a>(doing: Doing, more: &'a [String]) -> Result<Asked<'a>, Wrong<'a>>
+    ensures { asking_view result ≡ file_asking doing (map string_bytes more.now) }
+{
+    let Some((option, rest)) = more.split_first() else {
+        return Err(Wrong::Missing);
     };
-    match command.try_get_matches_from(words) {
-        Ok(matches) => asked_in(alloc, &matches),
-        Err(error) => asked_by_error(alloc, &error),
+    match option.as_str() {
+        "--config" => Ok(asked_of(doing, file_behind(rest)?)),
+        "--help" => alone(Asked::Help, rest),
+        other => Err(Wrong::Unexpected(other)),
     }
 }
 
-// The file of a configuration.
-fn config_argument<'a>(alloc: Global) -> Arg<'a> {
-    Arg::new(alloc, "config")
-        .long("config")
-        .value_name("FILE")
-        .help("The configuration, a TOML document")
-        .required(true)
-        .action(ArgAction::Set)
-}
-
-// The command line that the program has.
-fn make_command<'a>(alloc: Global) -> Result<Command<'a>, AllocError> {
-    let script = Command::new(alloc, "script")
-        .about("Runs the script on standard input by the configuration of a file")
-        .after_help(SCRIPT_HELP)
-        .arg(config_argument(alloc))?;
-    let check = Command::new(alloc, "check")
-        .about("Tells whether a file is a configuration, and if not, what would be right")
-        .arg(config_argument(alloc))?;
-    Command::new(alloc, "agentd")
-        .version("0.1")
-        .about("An SNMPv2c agent of a bridge, driven by a script")
-        .after_help(SCRIPT_HELP)
-        .subcommand_required(true)
-        .subcommand(script)?
-        .subcommand(check)
-}
-
-// What a parse found.
-fn asked_in<'a>(alloc: Global, matches: &ArgMatches<'a>) -> Result<Asked<'a>, Failure<'a>> {
-    let Some((word, found)) = matches.subcommand() else {
-        return Err(Failure::Usage(String::new(alloc)));
-    };
-    match (word, found.get_str("config")) {
-        ("script", Some(file)) => Ok(Asked::Script(file)),
-        ("check", Some(file)) => Ok(Asked::Check(file)),
-        _ => Err(Failure::Usage(String::new(alloc))),
+// The one word behind `--config`.
+fn file_behind<'a>(rest: &'a [String]) -> Result<&'a str, Wrong<'a>>
+    ensures { MatchResult result
+        (λ file. file_behind (map string_bytes rest.now) ≡ Ok file.now)
+        (λ wrong. file_behind (map string_bytes rest.now) ≡ Err (wrong_view wrong)) }
+{
+    match rest {
+        [] => Err(Wrong::Missing),
+        [file] => Ok(file.as_str()),
+        [_, extra, ..] => Err(Wrong::Unexpected(extra.as_str())),
     }
 }
 
-// What words ask for that gave no matches: the help, the version, or nothing that there is.
-fn asked_by_error<'a>(alloc: Global, error: &clap::Error) -> Result<Asked<'a>, Failure<'a>> {
-    let Ok(text) = format!(in alloc; "{error}") else {
-        return Err(Failure::Run);
-    };
-    match error.kind() {
-        ErrorKind::OutOfMemory => Err(Failure::Run),
-        ErrorKind::DisplayHelp | ErrorKind::DisplayVersion => Ok(Asked::Text(text)),
-        _ => match reason_in(alloc, text.as_str()) {
-            Ok(reason) => Err(Failure::Usage(reason)),
-            Err(_) => Err(Failure::Run),
-        },
+// This, where no word stands behind it.
+fn alone<'a>(asked: Asked<'a>, more: &'a [String]) -> Result<Asked<'a>, Wrong<'a>>
+    ensures { asking_view result ≡ alone (asked_view asked.entry) (map string_bytes more.now) }
+{
+    match more.first() {
+        None => Ok(asked),
+        Some(extra) => Err(Wrong::Unexpected(extra.as_str())),
     }
-}
-
-// What is wrong with the words, in one line: the first lines of a text, up to an empty one.
-fn reason_in(alloc: Global, text: &str) -> Result<String, AllocError> {
-    let mut reason = String::new(alloc);
-    for line in text.strip_prefix("error: ").unwrap_or(text).lines() {
-        if line.is_empty() {
-            break;
-        }
-        if !reason.is_empty() {
-            reason.push(' ')?;
-        }
-        reason.push_str(line.trim())?;
-    }
-    Ok(reason)
 }

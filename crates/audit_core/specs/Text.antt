@@ -1,10 +1,10 @@
--- The text of an audit: the kind of the request, then 'drop' and why it is dropped (RFC 3418, snmpInBadCommunityNames;
+-- The text of an audit: the PDU type of the request, then 'drop' and why it is dropped (RFC 3418, snmpInBadCommunityNames;
 -- RFC 3413, snmpUnknownContexts), or the reply's status and index (RFC 3416, section 3), the decision (RFC 3415,
 -- section 3.2) with the key of its row, and the denied bindings.
 use Rattle.std.specs.Prelude.{ℕ, codes, decimal, List, [], ◌∷◌, ◌++◌, Option, Some, None}
 use Rattle.std.specs.Fmt.{signed_decimal}
 use Rattle.std.specs.List.{flat_map}
-use Rattle.oid_core.specs.Text.{dotted}
+use Rattle.oid_core.specs.Text.{dotted_text}
 use Rattle.message_core.specs.declared.request.Kind.{Kind}
 use Rattle.message_core.specs.declared.request.Kind.TheVariants.{Get, GetNext, GetBulk, Set}
 use Rattle.message_core.specs.Status.{code_of}
@@ -33,7 +33,7 @@ access_text key =
     ++ decimal (level_number key.level) ++ codes ")"
 
 abbrev pub family_text : FamilyKey → List ℕ
-family_text key = codes "family(" ++ key.view ++ codes "," ++ dotted key.subtree ++ codes ")"
+family_text key = codes "family(" ++ key.view ++ codes "," ++ dotted_text key.subtree ++ codes ")"
 
 -- the family that excludes a name, if one does
 abbrev pub deciding_text : Option FamilyKey → List ℕ
@@ -63,13 +63,13 @@ refusal_text (NoSuchView row view) = codes "noSuchView " ++ access_text row ++ c
 unfoldable pub leave_text : AccessKey → List ℕ → List ℕ
 leave_text row view = codes "ok " ++ access_text row ++ codes " view " ++ view
 
--- what stands behind the kind where there is a reply: its status and index, the decision, and the denied bindings
+-- what stands behind the PDU type where there is a reply: its status and index, the decision, and the denied bindings
 abbrev pub reply_text : Audit → List ℕ → List ℕ
 reply_text audit decision =
     signed_decimal (code_of audit.status) ++ codes " " ++ signed_decimal audit.index ++ codes " "
     ++ decision ++ flat_map denied_text audit.denied
 
--- what stands behind the kind
+-- what stands behind the PDU type
 abbrev pub said_text : Audit → Decision → List ℕ
 said_text audit (Drop cause) = codes "drop " ++ cause_text cause
 said_text audit Empty = reply_text audit (codes "empty")

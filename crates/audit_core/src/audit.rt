@@ -11,20 +11,20 @@ use std::fmt;
 /// What was decided on a request, by which rows, and the status of the reply as it is sent.
 #[derive(Drop)]
 pub struct Audit {
-    /// What the request asks for.
+    /// The PDU type of the request (RFC 3416, section 3).
     pub kind: Kind,
     /// The error-status of the reply (RFC 3416, section 3); means nothing where the request is dropped.
     pub status: ErrorStatus,
-    /// The error-index of the reply, the number of a binding or 0; means nothing where the request is
+    /// The error-index of the reply, the number of a variable binding or 0; means nothing where the request is
     /// dropped.
     pub index: i32,
     /// The decision up to the names.
     pub decision: Decision,
-    /// The bindings that the view does not let through; none unless the request is allowed.
+    /// The variable bindings that the view does not let through; none unless the request is allowed.
     pub denied: DeniedBindings,
 }
 
-// The word for a kind of request.
+// The word for a PDU type.
 fn kind_word(kind: Kind) -> &'static str
     ensures { result.now ≡ kind_text kind }
 {

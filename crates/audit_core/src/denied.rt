@@ -1,4 +1,4 @@
-//! The bindings of a request that are not in the view.
+//! The variable bindings of a request that are not in the view.
 ghost use Rattle.std.specs.Prelude.{◌≡◌, [], ◌∷◌, ◌++◌, Some, OnOk, OnErr};
 ghost use Rattle.std.specs.List.{flat_map};
 ghost use Rattle.audit_core.specs.Text.{denied_text};
@@ -8,7 +8,7 @@ use std::alloc::{AllocError, Global};
 use std::fmt;
 use std::marker::Model;
 
-/// A binding of a request whose name is not in the view.
+/// A variable binding of a request whose name is not in the view.
 #[derive(Drop)]
 pub struct Denied {
     /// The number of the binding, from 1 on.

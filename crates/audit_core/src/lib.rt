@@ -1,8 +1,8 @@
 //! The audit of a request, and the line of text that says it.
 //!
 //! # Entry points
-//! [`Audit`] is a plain record: kind, status and index as sent, the decision with the keys of its rows, and the denied
-//! bindings. [`audit_line`] and [`write_audit`] write its line.
+//! [`Audit`] is a plain record: the PDU type, status and index as sent, the decision with the keys of its rows, and the
+//! denied variable bindings. [`audit_line`] and [`write_audit`] write its line.
 //!
 //! # Definitions
 //! `specs/Text.antt`: the line, to the octet.

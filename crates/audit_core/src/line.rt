@@ -7,7 +7,8 @@ use crate::audit::Audit;
 use std::alloc::{AllocError, Global};
 use std::io;
 
-/// Writes the line of an audit, which ends with a line feed.
+/// Writes the line of an audit, which ends with a line feed. For an agent that serves a network and writes its audits to a
+/// stream; a script adds its lines in memory, by [`write_audit`].
 ///
 /// # Errors
 ///

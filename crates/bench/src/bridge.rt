@@ -1,6 +1,7 @@
 //! Frames and learned addresses.
 use crate::print::print_turns;
 use fdb_core::{Fdb, Learnt};
+use frame_core::worked::PROPOSES;
 use frame_core::{Bpdu, FrameIn, Mac, read_frame};
 use std::io;
 use std::time::Instant;
@@ -10,14 +11,6 @@ const FRAMES: u32 = 1_000_000;
 
 /// How many addresses are learned.
 const ADDRESSES: u32 = 1_024;
-
-/// A frame of 60 octets with an RST BPDU.
-const HELLO: [u8; 60] = [
-    0x01, 0x80, 0xC2, 0x00, 0x00, 0x00, 0x02, 0x00, 0x00, 0x00, 0x00, 0x0A, 0x00, 0x27, 0x42, 0x42,
-    0x03, 0x00, 0x00, 0x02, 0x02, 0x0E, 0x80, 0x00, 0x02, 0x00, 0x00, 0x00, 0x00, 0x0A, 0x00, 0x00,
-    0x00, 0x00, 0x80, 0x00, 0x02, 0x00, 0x00, 0x00, 0x00, 0x0A, 0x80, 0x01, 0x00, 0x00, 0x14, 0x00,
-    0x02, 0x00, 0x0F, 0x00, 0x00, 0x00, 0x00, 0x00, 0x00, 0x00, 0x00, 0x00,
-];
 
 // The cost that a frame's RST BPDU tells.
 fn cost_in(frame: &[u8]) -> u32 {
@@ -34,7 +27,7 @@ fn cost_in(frame: &[u8]) -> u32 {
 
 /// Reads a frame with a BPDU over and over; each time another of its fields has changed.
 pub fn measure_frames(rt: &HostRuntime) -> io::Result<()> {
-    let mut frame = HELLO;
+    let mut frame = PROPOSES;
     let start = Instant::now(rt)?;
     let mut costs = 0u32;
     for turn in 0..FRAMES {

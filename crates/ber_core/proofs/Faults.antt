@@ -1,11 +1,11 @@
 -- Why a value is not read.
 use Rattle.std.proofs.Common.{◌≡◌, ℕ, ◌-◌, Bool, true, false, cond, ltb, List, [], ◌∷◌, length, take, drop, Result, Ok, Err, refl, ap, subst, ◌∙◌, arith, inl, inr}
-use Rattle.std.specs.Prelude.{IfErr}
+use Rattle.std.specs.Prelude.{None, IfErr}
 use Rattle.std.proofs.lemmas.Bool.{lt-ltb, le-ltb, cases_lt}
 use Rattle.std.proofs.lemmas.Bool.Decides.{eqb_tells}
 use Rattle.ber_core.specs.declared.fault.BerFault.{BerFault}
 use Rattle.ber_core.specs.declared.fault.BerFault.TheVariants.{Short, Indefinite, LengthTooLong, BadContent, NoRoom}
-use Rattle.ber_core.specs.Spelling.{number}
+use Rattle.ber_core.specs.Encoding.{number}
 use Rattle.ber_core.specs.Reading.{◌>>=◌, Gives, length_at, tlv_at}
 use Rattle.ber_core.specs.Fault.{BeginsIndefinite, BeginsTooLong, IsTlvFault}
 use Rattle.ber_core.proofs.Tlv.{tlv_only}
@@ -80,6 +80,6 @@ tlv_fault octets LengthTooLong e = said octets LengthTooLong e
 tlv_fault octets BadContent e = said octets BadContent e
 tlv_fault octets NoRoom e = said octets NoRoom e
 
-pub fault_by : {X : Type 0} (view : X → ℕ × List ℕ × List ℕ) (octets : List ℕ) (r : Result X BerFault) → Gives view r (tlv_at octets) → IfErr r (λ f. IsTlvFault octets f)
+pub fault_by : {X : Type 0} (view : X → ℕ × List ℕ × List ℕ) (octets : List ℕ) (r : Result X BerFault) → Gives None view r (tlv_at octets) → IfErr r (λ f. IsTlvFault octets f)
 fault_by view octets (Ok x) g = tt
 fault_by view octets (Err f) g = tlv_fault octets f g

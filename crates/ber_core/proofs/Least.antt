@@ -1,4 +1,4 @@
--- No spelling is shorter than the shortest.
+-- No encoding is shorter than the shortest.
 use Rattle.std.proofs.Common.{◌≡◌, ℕ, zero, suc, ℤ, pos, ◌+◌, ◌*◌, ◌%◌, ◌^◌, ◌<◌, ◌≤◌, ◌-ℤ◌, Bool, true, false, cond, List, [], ◌∷◌, ◌++◌, length, get_or, refl, ap, sym, subst, ◌∙◌, arith, inl, inr, FitsSigned, w32, w64, of_z}
 use Rattle.std.specs.Int.{to_be_bytes}
 use Rattle.std.specs.Int.Digits.{AllBelowBase}
@@ -9,13 +9,13 @@ use Rattle.std.proofs.lemmas.Int.{ints}
 use Rattle.std.proofs.lemmas.Int.Digits.{length-digits_of-le}
 use Rattle.std.proofs.lemmas.List.{length-append}
 use Rattle.std.proofs.lemmas.Nat.{from_be_bytes-to_be_bytes_8}
-use Rattle.ber_core.specs.Spelling.{IsMinimal, number, signed, IsLength, IsTlv, BeginsTlv, IsInteger, IsUnsigned, canon_length, canon_tlv, is_spare, shortest, canon_integer, canon_unsigned}
+use Rattle.ber_core.specs.Encoding.{IsMinimal, number, twos_complement, IsLength, IsTlv, BeginsTlv, IsInteger, IsUnsigned, canon_length, canon_tlv, is_spare, shortest, canon_integer, canon_unsigned}
 use Rattle.ber_core.proofs.Octets.{EachIsOctet}
 use Rattle.ber_core.proofs.Unsigned.{number_below, number_shift, power_le}
 use Rattle.ber_core.proofs.Signed.{ranges}
 use Rattle.ber_core.proofs.Tlv.{tlv_only}
 use Rattle.ber_core.proofs.Tools.{ok_is}
-use Rattle.ber_core.proofs.Canon.{canon_integer_spells, shortest_same, shortest_len}
+use Rattle.ber_core.proofs.Canon.{canon_integer_encodes, shortest_same, shortest_len}
 
 -- ---- lengths and values
 
@@ -85,13 +85,13 @@ high_large a rest high = omega (arith, lead a rest, mul-le-mul_right (256 ^ leng
 
 -- ---- two contents of one number
 
-pub low_signed : (a : ℕ) (rest : List ℕ) → a < 128 → signed (a ∷ rest) ≡ pos (number (a ∷ rest))
+pub low_signed : (a : ℕ) (rest : List ℕ) → a < 128 → twos_complement (a ∷ rest) ≡ pos (number (a ∷ rest))
 low_signed a rest low = rw (lt-ltb _ _ low) refl
 
-pub high_signed : (a : ℕ) (rest : List ℕ) → 128 ≤ a → signed (a ∷ rest) ≡ pos (number (a ∷ rest)) -ℤ pos (256 ^ length (a ∷ rest))
+pub high_signed : (a : ℕ) (rest : List ℕ) → 128 ≤ a → twos_complement (a ∷ rest) ≡ pos (number (a ∷ rest)) -ℤ pos (256 ^ length (a ∷ rest))
 high_signed a rest high = rw (le-ltb _ _ high) refl
 
-too_short : (a b d : ℕ) (rest others : List ℕ) → EachIsOctet (a ∷ b ∷ rest) → EachIsOctet (d ∷ others) → is_spare a b ≡ false → length others ≤ length rest → signed (a ∷ b ∷ rest) ≡ signed (d ∷ others) → ⊥
+too_short : (a b d : ℕ) (rest others : List ℕ) → EachIsOctet (a ∷ b ∷ rest) → EachIsOctet (d ∷ others) → is_spare a b ≡ false → length others ≤ length rest → twos_complement (a ∷ b ∷ rest) ≡ twos_complement (d ∷ others) → ⊥
 too_short a b d rest others fits also e few same =
     let power : 128 * 256 ^ length others ≤ 128 * 256 ^ length rest = mul-le-mul_left 128 (power_le (length others) (length rest) few) in
     let step = power_more (length others) in
@@ -112,7 +112,7 @@ too_short a b d rest others fits also e few same =
           ]
     ]
 
-pub no_shorter : (content other : List ℕ) → EachIsOctet content → EachIsOctet other → IsMinimal content → 1 ≤ length other → signed content ≡ signed other → length content ≤ length other
+pub no_shorter : (content other : List ℕ) → EachIsOctet content → EachIsOctet other → IsMinimal content → 1 ≤ length other → twos_complement content ≡ twos_complement other → length content ≤ length other
 no_shorter content [] fits also least some same = absurd (omega arith)
 no_shorter [] (d ∷ others) fits also least some same = omega arith
 no_shorter (a ∷ []) (d ∷ others) fits also least some same = omega arith
@@ -177,7 +177,7 @@ integer_fits (a ∷ rest) z fits i =
 
 pub no_shorter_integer : (content : List ℕ) (z : ℤ) → EachIsOctet content → IsInteger content z → length (canon_integer z) ≤ length content
 no_shorter_integer content z fits i =
-    let c = canon_integer_spells z (integer_fits content z fits i) in
+    let c = canon_integer_encodes z (integer_fits content z fits i) in
     no_shorter (canon_integer z) content (canon_integer_octets z) fits (canon_integer_minimal z) i.some (c.value ∙ sym i.value)
 
 -- ---- unsigned numbers
@@ -193,7 +193,7 @@ pub canon_unsigned_minimal : (n : ℕ) → IsMinimal (canon_unsigned n)
 unfolding canon_unsigned
 canon_unsigned_minimal n = shortest_minimal (0 ∷ to_be_bytes w64 n)
 
-pub canon_unsigned_value : (n : ℕ) → n < 2 ^ 64 → signed (canon_unsigned n) ≡ pos n
+pub canon_unsigned_value : (n : ℕ) → n < 2 ^ 64 → twos_complement (canon_unsigned n) ≡ pos n
 unfolding canon_unsigned
 canon_unsigned_value n bound = shortest_same (0 ∷ to_be_bytes w64 n) ∙ ap (λ (k : ℕ). pos k) (eight n bound)
 
@@ -212,7 +212,7 @@ canon_unsigned_wide n bound =
     let len = canon_unsigned_some n in
     record { some = len.0; few = len.1; value = canon_unsigned_value n bound; fits = bound }
 
-four : (n : ℕ) → n < 2 ^ 32 → signed (0 ∷ to_be_bytes w32 n) ≡ pos n
+four : (n : ℕ) → n < 2 ^ 32 → twos_complement (0 ∷ to_be_bytes w32 n) ≡ pos n
 four n bound = ap (λ (k : ℕ). pos k) (let e : number (to_be_bytes w32 n) ≡ n = omega arith in e)
 
 pub canon_unsigned_narrow : (n : ℕ) → n < 2 ^ 32 → IsUnsigned 4 (canon_unsigned n) n
@@ -227,7 +227,7 @@ canon_unsigned_narrow n bound =
       fits = bound;
     }
 
--- ---- octets spell one thing
+-- ---- octets encode one thing
 
 pub one_tlv : (octets : List ℕ) (tag : ℕ) (content rest : List ℕ) (other : ℕ) (more after : List ℕ) → BeginsTlv octets tag content rest → BeginsTlv octets other more after → (tag ≡ other) × (content ≡ more) × (rest ≡ after)
 one_tlv octets tag content rest other more after b c =

@@ -1,6 +1,6 @@
 -- Octets by their places, as the range of a slice of octets says it.
 use Rattle.std.proofs.Common.{ℕ, zero, suc, ◌<◌, List, [], ◌∷◌, get_or, arith}
-use Rattle.ber_core.specs.Spelling.{AreOctets}
+use Rattle.ber_core.specs.Encoding.{AreOctets}
 
 abbrev pub EachIsOctet : List ℕ → Type 0
 EachIsOctet octets = (i : ℕ) → get_or octets i 0 < 256

@@ -5,7 +5,7 @@ use Rattle.std.proofs.Math.Nat.{pow-suc, pow-le-pow_right, mul-le-mul_right}
 use Rattle.std.proofs.lemmas.Bool.{lt-ltb, le-ltb}
 use Rattle.std.proofs.lemmas.Int.{ints}
 use Rattle.std.proofs.lemmas.Int.Digits.{number_lt}
-use Rattle.ber_core.specs.Spelling.{number, signed, IsUnsigned}
+use Rattle.ber_core.specs.Encoding.{number, twos_complement, IsUnsigned}
 use Rattle.ber_core.proofs.Octets.{EachIsOctet}
 
 pub all_below : (digits : List ℕ) → EachIsOctet digits → AllBelowBase 256 digits
@@ -22,12 +22,12 @@ pub whole_below : (width : ℕ) (content : List ℕ) → EachIsOctet content →
 whole_below width content fits few = omega (arith, number_below content fits, power_le (length content) width few)
 
 -- a first octet from 128 on makes the number negative
-pub negative : (content : List ℕ) (n : ℕ) → EachIsOctet content → 128 ≤ get_or content 0 0 → signed content ≡ pos n → ⊥
+pub negative : (content : List ℕ) (n : ℕ) → EachIsOctet content → 128 ≤ get_or content 0 0 → twos_complement content ≡ pos n → ⊥
 negative content n fits high value =
     let e = rw (le-ltb _ _ high) at value in
     omega (arith, ints, number_below content fits, e)
 
-low_value : (content : List ℕ) → get_or content 0 0 < 128 → signed content ≡ pos (number content)
+low_value : (content : List ℕ) → get_or content 0 0 < 128 → twos_complement content ≡ pos (number content)
 low_value content low = rw (lt-ltb _ _ low) refl
 
 pub whole_is : (width n : ℕ) (content : List ℕ) → EachIsOctet content → 1 ≤ length content → get_or content 0 0 < 128 → length content ≤ width → n ≡ number content → IsUnsigned width content n

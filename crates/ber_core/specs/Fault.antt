@@ -2,7 +2,7 @@
 use Rattle.std.specs.Prelude.{◌≡◌, ℕ, ◌<◌, List, ◌∷◌}
 use Rattle.ber_core.specs.declared.fault.BerFault.{BerFault}
 use Rattle.ber_core.specs.declared.fault.BerFault.TheVariants.{Short, Indefinite, LengthTooLong, BadContent, NoRoom}
-use Rattle.ber_core.specs.Spelling.{BeginsTlv}
+use Rattle.ber_core.specs.Encoding.{BeginsTlv}
 
 -- Behind the tag stands the indefinite form of a length, 80 (X.690, 8.1.3.6).
 pub record BeginsIndefinite (octets : List ℕ) : Type 0 where

@@ -1,4 +1,4 @@
-pub mod Spelling
+pub mod Encoding
 pub mod Reading
 pub mod Writing
 pub mod Fault

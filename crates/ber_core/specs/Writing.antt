@@ -5,8 +5,8 @@ use Rattle.ber_core.specs.declared.fault.BerFault.TheVariants.{NoRoom}
 use Rattle.ber_core.specs.declared.out.Out.{Out}
 
 -- what was written so far
-abbrev pub written : Out → List ℕ
-written out = drop out.start out.room.now
+abbrev pub written_octets : Out → List ℕ
+written_octets out = drop out.start out.room.now
 
 -- how many octets there is room for in all
 abbrev pub capacity : Out → ℕ
@@ -14,8 +14,8 @@ capacity out = length out.room.now
 
 -- Writing these octets: they stand in front of the others, or there is no room for them.
 abbrev pub Prepends : Out → Out → Result (Unit {0}) BerFault → List ℕ → Type 0
-Prepends old new (Ok _) octets = (written new ≡ octets ++ written old) × (capacity new ≡ capacity old)
-Prepends old new (Err fault) octets = (fault ≡ NoRoom) × (capacity old < length (octets ++ written old)) × (capacity new ≡ capacity old)
+Prepends old new (Ok _) octets = (written_octets new ≡ octets ++ written_octets old) × (capacity new ≡ capacity old)
+Prepends old new (Err fault) octets = (fault ≡ NoRoom) × (capacity old < length (octets ++ written_octets old)) × (capacity new ≡ capacity old)
 
 -- The octets of the slice in front of those written are as they were.
 abbrev pub KeepsFront : Out → Out → Type 0

@@ -1,6 +1,6 @@
 //! How long a tag and a length are.
 ghost use Rattle.std.specs.Prelude.{◌≡◌, ◌<◌, ◌^◌, ◌+◌, length};
-ghost use Rattle.ber_core.specs.Spelling.{canon_length};
+ghost use Rattle.ber_core.specs.Encoding.{canon_length};
 
 /// The octets of a tag and the shortest length of a content of `len` octets (X.690, 8.1.3).
 #[tactic(auto, using(crate::proofs::Lengths::canon_1, crate::proofs::Lengths::canon_2, crate::proofs::Lengths::canon_3, crate::proofs::Lengths::canon_4))]

@@ -1,28 +1,28 @@
-//! Laws of spellings. Each holds of all octets and numbers, and its function does nothing.
+//! Laws of encodings. Each holds of all octets and numbers, and its function does nothing.
 ghost use Rattle.std.specs.Prelude.{◌≡◌, ◌<◌, ◌≤◌, ◌^◌, ℕ, ℤ, List, length};
 ghost use Rattle.std.specs.Prelude.{FitsSigned};
 ghost use Rattle.std.specs.Int.{w32};
-ghost use Rattle.ber_core.specs.Spelling.{AreOctets, IsMinimal, IsLength, IsTlv, BeginsTlv, IsInteger, IsUnsigned, canon_length, canon_tlv, canon_integer, canon_unsigned};
+ghost use Rattle.ber_core.specs.Encoding.{AreOctets, IsMinimal, IsLength, IsTlv, BeginsTlv, IsInteger, IsUnsigned, canon_length, canon_tlv, canon_integer, canon_unsigned};
 
-/// The shortest spelling of a tag and a content is one of its spellings.
-pub fn tlv_is_spelled()
+/// The shortest encoding of a tag and a content is one of its encodings.
+pub fn tlv_is_encoded()
     ensures { (tag : ℕ) (content : List ℕ) → length content < 2 ^ 32 →
         IsTlv tag content (canon_tlv tag content) }
 {}
 
-/// No spelling of a tag and a content has fewer octets.
+/// No encoding of a tag and a content has fewer octets.
 pub fn no_tlv_is_shorter()
     ensures { (tag : ℕ) (content octets : List ℕ) → AreOctets octets → IsTlv tag content octets →
         length (canon_tlv tag content) ≤ length octets }
 {}
 
-/// A spelling of a length that is no longer than the shortest is the shortest.
+/// An encoding of a length that is no longer than the shortest is the shortest.
 pub fn shortest_length_is_one()
     ensures { (octets : List ℕ) (n : ℕ) → AreOctets octets → IsLength octets n →
         length octets ≤ length (canon_length n) → octets ≡ canon_length n }
 {}
 
-/// A spelling of a tag and a content that is no longer than the shortest is the shortest.
+/// An encoding of a tag and a content that is no longer than the shortest is the shortest.
 pub fn shortest_tlv_is_one()
     ensures { (tag : ℕ) (content octets : List ℕ) → AreOctets octets → IsTlv tag content octets
         → length octets ≤ length (canon_tlv tag content) → octets ≡ canon_tlv tag content }
@@ -36,7 +36,7 @@ pub fn tlv_is_one()
 {}
 
 /// The shortest content of an INTEGER is one of its contents, and has no first octet to spare (X.690, 8.3.2).
-pub fn integer_is_spelled()
+pub fn integer_is_encoded()
     ensures { (z : ℤ) → FitsSigned w32 z → IsInteger (canon_integer z) z ×
         IsMinimal (canon_integer z) }
 {}
@@ -59,7 +59,7 @@ pub fn integer_is_one()
 {}
 
 /// The shortest content of an unsigned number is one of its contents, at 32 bits and at 64, with no octet to spare.
-pub fn unsigned_is_spelled()
+pub fn unsigned_is_encoded()
     ensures narrow { (n : ℕ) → n < 2 ^ 32 → IsUnsigned 4 (canon_unsigned n) n }
     ensures wide { (n : ℕ) → n < 2 ^ 64 → IsUnsigned 8 (canon_unsigned n) n }
     ensures minimal { (n : ℕ) → IsMinimal (canon_unsigned n) }

@@ -6,7 +6,7 @@
 //! [`Out`] writes into a lent slice, from its back to its front. Each refuses by a [`BerFault`] of its own.
 //!
 //! # Definitions
-//! `specs/Spelling.antt`: heads and lengths, two's complement, and the shortest encoding; `specs/Reading.antt`: the
+//! `specs/Encoding.antt`: heads and lengths, two's complement, and the shortest encoding; `specs/Reading.antt`: the
 //! same from left to right; `specs/Writing.antt`: what a writer wrote and its room.
 //!
 //! # Laws

@@ -19,15 +19,15 @@ pub struct Out<'a> {
 }
 
 impl<'a> Out<'a> {
-    ghost use Rattle.ber_core.specs.Writing.{written, capacity, Prepends, KeepsFront};
-    ghost use Rattle.ber_core.specs.Spelling.{canon_length, canon_tlv, canon_integer, canon_unsigned};
+    ghost use Rattle.ber_core.specs.Writing.{written_octets, capacity, Prepends, KeepsFront};
+    ghost use Rattle.ber_core.specs.Encoding.{canon_length, canon_tlv, canon_integer, canon_unsigned};
 
     /// A writer that has written nothing.
     pub fn new(room: &'a mut [u8]) -> Out<'a>
         requires { length room.old < 2 ^ 32 }
         ensures same_reference { result.room.ghost_name ≡ room.entry.ghost_name }
         ensures room { result.room.now ≡ room.old }
-        ensures empty { written result ≡ [] }
+        ensures empty { written_octets result ≡ [] }
     {
         let start = room.len();
         Out { room, start }
@@ -35,7 +35,7 @@ impl<'a> Out<'a> {
 
     /// How many octets are written.
     pub fn len(&self) -> usize
-        ensures value { result ≡ length (written self.now) }
+        ensures value { result ≡ length (written_octets self.now) }
         ensures small { result < 2 ^ 32 }
     {
         self.room.len() - self.start
@@ -86,10 +86,10 @@ impl<'a> Out<'a> {
 
     /// Takes back what was written last, so that `len` octets stay. No octet of the slice changes.
     pub fn truncate(&mut self, len: usize)
-        requires { len ≤ length (written self.old) }
+        requires { len ≤ length (written_octets self.old) }
         ensures same_reference { self.new.room.ghost_name ≡ self.old.room.ghost_name }
-        ensures rest { written self.new ≡ drop (length (written self.old) - len)
-            (written self.old) }
+        ensures rest { written_octets self.new ≡ drop (length (written_octets self.old) - len)
+            (written_octets self.old) }
         ensures room { capacity self.new ≡ capacity self.old }
         ensures kept { self.new.room.now ≡ self.old.room.now }
     {
@@ -99,7 +99,7 @@ impl<'a> Out<'a> {
     /// Writes a value whose content is at hand, with the shortest length.
     ///
     /// `NoRoom` where it does not fit.
-    #[tactic(auto, unfolding(crate::specs::Spelling::canon_tlv))]
+    #[tactic(auto, unfolding(crate::specs::Encoding::canon_tlv))]
     pub fn put_tlv(&mut self, tag: Tag, content: &[u8]) -> Result<(), BerFault>
         ensures same_reference { self.new.room.ghost_name ≡ self.old.room.ghost_name }
         ensures puts { Prepends self.old self.new result (canon_tlv tag.0 content.now) }
@@ -114,10 +114,10 @@ impl<'a> Out<'a> {
         self.put_tlv_head(tag, len)
     }
 
-    /// Writes an INTEGER, or another value that is spelled like one, under its tag (X.690, 8.3).
+    /// Writes an INTEGER, or another value that is encoded like one, under its tag (X.690, 8.3).
     ///
     /// `NoRoom` where it does not fit.
-    #[tactic(auto, unfolding(crate::specs::Spelling::canon_integer))]
+    #[tactic(auto, unfolding(crate::specs::Encoding::canon_integer))]
     pub fn put_i32(&mut self, tag: Tag, value: i32) -> Result<(), BerFault>
         ensures same_reference { self.new.room.ghost_name ≡ self.old.room.ghost_name }
         ensures puts { Prepends self.old self.new result (canon_tlv tag.0 (canon_integer value)) }
@@ -143,7 +143,7 @@ impl<'a> Out<'a> {
     /// Writes a Counter64 under its tag (RFC 2578, 7.1.10).
     ///
     /// `NoRoom` where it does not fit.
-    #[tactic(auto, unfolding(crate::specs::Spelling::canon_unsigned))]
+    #[tactic(auto, unfolding(crate::specs::Encoding::canon_unsigned))]
     pub fn put_u64(&mut self, tag: Tag, value: u64) -> Result<(), BerFault>
         ensures same_reference { self.new.room.ghost_name ≡ self.old.room.ghost_name }
         ensures puts { Prepends self.old self.new result (canon_tlv tag.0 (canon_unsigned value)) }

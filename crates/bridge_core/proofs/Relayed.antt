@@ -15,27 +15,27 @@ use Rattle.fdb_core.specs.declared.row.Row.{Row}
 use Rattle.fdb_core.specs.Rows.{port_of as learned_port}
 use Rattle.bridge_core.specs.Bridge.{BridgeState, address_of, port_count}
 use Rattle.bridge_core.specs.Forwarding.{is_reserved, forwards, may_be_behind, ports_where, egress_of}
-use Rattle.bridge_core.specs.Events.{received, learned_from, forwarded, passed, taken, Framed, framed, no_bpdus, GoesBetween}
+use Rattle.bridge_core.specs.Events.{after_reception, after_learning, after_forwarding, data_result, reception_result, Framed, frame_result, no_bpdus, GoesBetween}
 use Rattle.bridge_core.specs.Relay.{IsReceived, IsRelayed, IsForAll, IsFor, destination_port}
 use Rattle.bridge_core.proofs.Changes.{framed_on}
 use Rattle.bridge_core.proofs.Ways.{framed_goes}
 
 -- a frame that is no BPDU is passed on
-pub framed_passed : (b : BridgeState) (p : ℕ) (f : FrameIn) (no_room : Bool) → IsReceived b p f → framed b p f no_room ≡ passed p f no_room (received p b)
+pub framed_passed : (b : BridgeState) (p : ℕ) (f : FrameIn) (no_room : Bool) → IsReceived b p f → frame_result b p f no_room ≡ data_result p f no_room (after_reception p b)
 framed_passed b p f no_room h =
-    framed_on b p f no_room h.on ∙ ap (λ (m : Option Bpdu). taken p f m no_room (received p b)) h.plain
+    framed_on b p f no_room h.on ∙ ap (λ (m : Option Bpdu). reception_result p f m no_room (after_reception p b)) h.plain
 
 -- settings and spanning tree stay, and no BPDU goes out
-pub keeps_settings : (b : BridgeState) (p : ℕ) (f : FrameIn) (no_room : Bool) → IsReceived b p f → (framed b p f no_room).bridge.settings ≡ b.settings
-unfolding passed received learned_from forwarded
+pub keeps_settings : (b : BridgeState) (p : ℕ) (f : FrameIn) (no_room : Bool) → IsReceived b p f → (frame_result b p f no_room).bridge.settings ≡ b.settings
+unfolding data_result after_reception after_learning after_forwarding
 keeps_settings b p f no_room h = ap (λ (g : Framed). g.bridge.settings) (framed_passed b p f no_room h)
 
-pub keeps_tree : (b : BridgeState) (p : ℕ) (f : FrameIn) (no_room : Bool) → IsReceived b p f → (framed b p f no_room).bridge.tree ≡ b.tree
-unfolding passed received learned_from forwarded
+pub keeps_tree : (b : BridgeState) (p : ℕ) (f : FrameIn) (no_room : Bool) → IsReceived b p f → (frame_result b p f no_room).bridge.tree ≡ b.tree
+unfolding data_result after_reception after_learning after_forwarding
 keeps_tree b p f no_room h = ap (λ (g : Framed). g.bridge.tree) (framed_passed b p f no_room h)
 
-pub sends_none : (b : BridgeState) (p : ℕ) (f : FrameIn) (no_room : Bool) → IsReceived b p f → (framed b p f no_room).bpdus ≡ no_bpdus b
-unfolding passed received
+pub sends_none : (b : BridgeState) (p : ℕ) (f : FrameIn) (no_room : Bool) → IsReceived b p f → (frame_result b p f no_room).bpdus ≡ no_bpdus b
+unfolding data_result after_reception
 sends_none b p f no_room h = ap (λ (g : Framed). g.bpdus) (framed_passed b p f no_room h)
 
 -- whether a frame to d by port p goes out by port q, where these rows are learned
@@ -45,8 +45,8 @@ leaves_by b p d rows q =
     && (is_group d || may_be_behind (learned_port rows d) q)
 
 pub egress_is : (b : BridgeState) (p : ℕ) (f : FrameIn) (no_room : Bool) → IsReceived b p f
-    → (framed b p f no_room).egress ≡ ports_where (leaves_by b p f.destination (framed b p f no_room).bridge.learned) (port_count b)
-unfolding passed received learned_from forwarded egress_of
+    → (frame_result b p f no_room).egress ≡ ports_where (leaves_by b p f.destination (frame_result b p f no_room).bridge.learned) (port_count b)
+unfolding data_result after_reception after_learning after_forwarding egress_of
 egress_is b p f no_room h =
     let P : Framed → Type 0 = λ g. g.egress ≡ ports_where (leaves_by b p f.destination g.bridge.learned) (port_count b) in
     subst P (sym (framed_passed b p f no_room h)) refl
@@ -149,16 +149,16 @@ and_true true false c e = refl
 and_true false b c e = refl
 
 pub flooded : (b : BridgeState) (p : ℕ) (f : FrameIn) (no_room : Bool) → IsRelayed b p f → IsForAll b p f no_room
-    → (framed b p f no_room).egress ≡ ports_where (λ (q : ℕ). forwards b q && not (q == p)) (port_count b)
+    → (frame_result b p f no_room).egress ≡ ports_where (λ (q : ℕ). forwards b q && not (q == p)) (port_count b)
 flooded b p f no_room h all =
     egress_is b p f no_room h.received
-    ∙ ap (λ (t : ℕ → Bool). ports_where t (port_count b)) (leaves_relayed b p f (framed b p f no_room).bridge.learned h
+    ∙ ap (λ (t : ℕ → Bool). ports_where t (port_count b)) (leaves_relayed b p f (frame_result b p f no_room).bridge.learned h
     ∙ λ i q. and_true (forwards b q) (not (q == p)) (is_group f.destination || may_be_behind (destination_port b p f no_room) q) (for_all b p f no_room q all) i)
 
-pub floods : (b : BridgeState) (p : ℕ) (f : FrameIn) (no_room : Bool) → IsRelayed b p f → IsForAll b p f no_room → (q : ℕ) → Contains (framed b p f no_room).egress q ↔ GoesBetween b p q
+pub floods : (b : BridgeState) (p : ℕ) (f : FrameIn) (no_room : Bool) → IsRelayed b p f → IsForAll b p f no_room → (q : ℕ) → Contains (frame_result b p f no_room).egress q ↔ GoesBetween b p q
 floods b p f no_room h all q = (
   framed_goes b p f no_room q,
-  λ g. subst (λ (xs : List ℕ). Contains xs q) (sym (flooded b p f no_room h all)) (listed (λ (k : ℕ). forwards b k && not (k == p)) (port_count b) q g.first g.last (rw (g.to, another q p g.other))),
+  λ g. subst (λ (xs : List ℕ). Contains xs q) (sym (flooded b p f no_room h all)) (listed (λ (k : ℕ). forwards b k && not (k == p)) (port_count b) q g.has_port.0 g.has_port.1 (rw (g.to, another q p g.other))),
 )
 
 -- a frame for one station
@@ -166,31 +166,31 @@ for_one : (b : BridgeState) (p : ℕ) (f : FrameIn) (no_room : Bool) (r q : ℕ)
 for_one b p f no_room r q h = rw (h.single, h.at)
 
 pub directed : (b : BridgeState) (p : ℕ) (f : FrameIn) (no_room : Bool) (r : ℕ) → IsRelayed b p f → IsFor b p f no_room r
-    → (framed b p f no_room).egress ≡ ports_where (λ (q : ℕ). forwards b q && not (q == p) && r == q) (port_count b)
+    → (frame_result b p f no_room).egress ≡ ports_where (λ (q : ℕ). forwards b q && not (q == p) && r == q) (port_count b)
 directed b p f no_room r h one =
     egress_is b p f no_room h.received
-    ∙ ap (λ (t : ℕ → Bool). ports_where t (port_count b)) (leaves_relayed b p f (framed b p f no_room).bridge.learned h
+    ∙ ap (λ (t : ℕ → Bool). ports_where t (port_count b)) (leaves_relayed b p f (frame_result b p f no_room).bridge.learned h
     ∙ λ i q. forwards b q && not (q == p) && for_one b p f no_room r q one i)
 
-pub goes_alone : (b : BridgeState) (p : ℕ) (f : FrameIn) (no_room : Bool) (r : ℕ) → IsRelayed b p f → IsFor b p f no_room r → GoesBetween b p r → (framed b p f no_room).egress ≡ r ∷ []
+pub goes_alone : (b : BridgeState) (p : ℕ) (f : FrameIn) (no_room : Bool) (r : ℕ) → IsRelayed b p f → IsFor b p f no_room r → GoesBetween b p r → (frame_result b p f no_room).egress ≡ r ∷ []
 goes_alone b p f no_room r h one g =
     let test : ℕ → Bool = λ q. forwards b q && not (q == p) && r == q in
     let only : (q : ℕ) → test q ≡ true → q ≡ r = λ q e. sym ((Decides-eqb r q).0 (both_true (forwards b q && not (q == p)) (r == q) e).1) in
-    directed b p f no_room r h one ∙ alone test r (port_count b) only g.first g.last (rw (g.to, another r p g.other, eq-eqb r r refl))
+    directed b p f no_room r h one ∙ alone test r (port_count b) only g.has_port.0 g.has_port.1 (rw (g.to, another r p g.other, eq-eqb r r refl))
 
-pub goes_nowhere : (b : BridgeState) (p : ℕ) (f : FrameIn) (no_room : Bool) (r : ℕ) → IsRelayed b p f → IsFor b p f no_room r → (GoesBetween b p r → ⊥) → (framed b p f no_room).egress ≡ []
+pub goes_nowhere : (b : BridgeState) (p : ℕ) (f : FrameIn) (no_room : Bool) (r : ℕ) → IsRelayed b p f → IsFor b p f no_room r → (GoesBetween b p r → ⊥) → (frame_result b p f no_room).egress ≡ []
 goes_nowhere b p f no_room r h one g =
     let test : ℕ → Bool = λ q. forwards b q && not (q == p) && r == q in
     directed b p f no_room r h one ∙ nowhere test (port_count b) (λ q first last. to_false (test q) (λ e.
     let way = both_true (forwards b q && not (q == p)) (r == q) e in
     let ends = both_true (forwards b q) (not (q == p)) way.0 in
-    let to : GoesBetween b p q = record { first = first; last = last; other = is_another q p ends.1; from = h.forwards; to = ends.0 } in
+    let to : GoesBetween b p q = record { has_port = (first, last); other = is_another q p ends.1; from = h.forwards; to = ends.0 } in
     g (subst (GoesBetween b p) (sym ((Decides-eqb r q).0 way.1)) to)))
 
 -- a frame that may not go out
-stays : (b : BridgeState) (p : ℕ) (f : FrameIn) (no_room : Bool) → IsReceived b p f → ((rows : List Row) (q : ℕ) → leaves_by b p f.destination rows q ≡ true → ⊥) → (framed b p f no_room).egress ≡ []
+stays : (b : BridgeState) (p : ℕ) (f : FrameIn) (no_room : Bool) → IsReceived b p f → ((rows : List Row) (q : ℕ) → leaves_by b p f.destination rows q ≡ true → ⊥) → (frame_result b p f no_room).egress ≡ []
 stays b p f no_room h none =
-    let rows = (framed b p f no_room).bridge.learned in
+    let rows = (frame_result b p f no_room).bridge.learned in
     egress_is b p f no_room h ∙ nowhere (leaves_by b p f.destination rows) (port_count b) (λ q first last. to_false (leaves_by b p f.destination rows q) (none rows q))
 
 -- what a frame that goes out needs
@@ -208,15 +208,15 @@ needs b p d rows q e =
     let ends = both_true (forwards b p) (forwards b q) other.0 in
     record { from = ends.0; unreserved = free.1; foreign = away.1 }
 
-pub stays_at : (b : BridgeState) (p : ℕ) (f : FrameIn) (no_room : Bool) → IsReceived b p f → forwards b p ≡ false → (framed b p f no_room).egress ≡ []
+pub stays_at : (b : BridgeState) (p : ℕ) (f : FrameIn) (no_room : Bool) → IsReceived b p f → forwards b p ≡ false → (frame_result b p f no_room).egress ≡ []
 stays_at b p f no_room h e =
     stays b p f no_room h (λ rows q g. true≢false (sym (needs b p f.destination rows q g).from ∙ e))
 
-pub stays_reserved : (b : BridgeState) (p : ℕ) (f : FrameIn) (no_room : Bool) → IsReceived b p f → is_reserved f.destination ≡ true → (framed b p f no_room).egress ≡ []
+pub stays_reserved : (b : BridgeState) (p : ℕ) (f : FrameIn) (no_room : Bool) → IsReceived b p f → is_reserved f.destination ≡ true → (frame_result b p f no_room).egress ≡ []
 stays_reserved b p f no_room h e =
     stays b p f no_room h (λ rows q g. true≢false (sym (needs b p f.destination rows q g).unreserved ∙ ap not e))
 
-pub stays_own : (b : BridgeState) (p : ℕ) (f : FrameIn) (no_room : Bool) → IsReceived b p f → f.destination ≡ address_of b → (framed b p f no_room).egress ≡ []
+pub stays_own : (b : BridgeState) (p : ℕ) (f : FrameIn) (no_room : Bool) → IsReceived b p f → f.destination ≡ address_of b → (frame_result b p f no_room).egress ≡ []
 stays_own b p f no_room h e =
     let same : same_mac f.destination (address_of b) ≡ true = (bytes_eq-Decides f.destination.0 (address_of b).0).1 (ap (λ (a : Mac). a.0) e) in
     stays b p f no_room h (λ rows q g. true≢false (sym (needs b p f.destination rows q g).foreign ∙ ap not same))

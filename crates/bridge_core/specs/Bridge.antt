@@ -2,8 +2,8 @@
 use Rattle.std.specs.Prelude.{ℕ, ◌-◌, Bool, List, length, slice_index_or}
 use Rattle.frame_core.specs.declared.mac.Mac.{Mac}
 use Rattle.fdb_core.specs.declared.row.Row.{Row}
-use Rattle.rstp_settings.specs.Table.{Table}
-use Rattle.rstp_rules.specs.declared.config.PortConfig.{PortConfig}
+use Rattle.rstp_settings.specs.Table.{Table, IsPortOf}
+use Rattle.rstp_settings.specs.declared.config.PortConfig.{PortConfig}
 use Rattle.rstp_rules.specs.declared.port.Port.{Port}
 use Rattle.rstp_core.specs.Tree.{Tree, port_at, config_at}
 use Rattle.rstp_core.specs.Runs.{is_on as tree_is_on}
@@ -29,19 +29,23 @@ address_of b = b.tree.address
 abbrev pub port_count : BridgeState → ℕ
 port_count b = length b.tree.ports
 
--- What is fixed of port n, from 1; what its spanning tree holds; and its counters.
+-- Whether it has a port: ports are numbered from 1.
+abbrev pub HasPort : BridgeState → ℕ → Type 0
+HasPort b port = IsPortOf (port_count b) port
+
+-- What is configured of a port; what its spanning tree holds; and its counters.
 abbrev pub no_counters : PortCounters
 no_counters = record { frames_in = 0; frames_out = 0; discards_in = 0 }
 
 abbrev pub config_of : BridgeState → ℕ → PortConfig
-config_of b n = config_at b.tree n
+config_of b port = config_at b.tree port
 
 abbrev pub port_of : BridgeState → ℕ → Port
-port_of b n = port_at b.tree n
+port_of b port = port_at b.tree port
 
 abbrev pub counters_of : BridgeState → ℕ → PortCounters
-counters_of b n = slice_index_or b.counters.ports (n - 1) no_counters
+counters_of b port = slice_index_or b.counters.ports (port - 1) no_counters
 
 -- A port is on where it is enabled by its setting and its link is up.
 abbrev pub is_on : BridgeState → ℕ → Bool
-is_on b n = tree_is_on b.settings b.tree n
+is_on b port = tree_is_on b.settings b.tree port

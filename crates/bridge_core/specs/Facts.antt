@@ -2,9 +2,9 @@
 use Rattle.std.specs.Prelude.{ℕ}
 use Rattle.rstp_settings.specs.Table.{get}
 use Rattle.rstp_settings.specs.declared.key.Key.TheVariants as key
-use Rattle.rstp_settings.specs.declared.key.PortKey.TheVariants as port
+use Rattle.rstp_settings.specs.declared.key.PortKey.TheVariants as port_key
 use Rattle.rstp_rules.specs.Vectors.{port_number}
-use Rattle.rstp_rules.specs.Lines.{cost_in_use, is_point_to_point}
+use Rattle.rstp_settings.specs.Config.{cost_in_use, is_point_to_point}
 use Rattle.bridge_core.specs.declared.facts.Facts.{Facts}
 use Rattle.bridge_core.specs.declared.facts.PortFacts.{PortFacts}
 use Rattle.bridge_core.specs.Bridge.{BridgeState, address_of, port_count, config_of, port_of, counters_of, is_on}
@@ -22,19 +22,19 @@ facts_of b = record {
   entry_discards = b.counters.entry_discards;
 }
 
--- Of port n.
+-- Of a port.
 unfoldable pub port_facts_of : BridgeState → ℕ → PortFacts
-port_facts_of b n = record {
-  ifindex = (config_of b n).ifindex;
-  on = is_on b n;
-  state = (port_of b n).state;
-  role = (port_of b n).role;
-  vector = (port_of b n).vector;
-  forward_transitions = (port_of b n).forward_transitions;
-  cost = cost_in_use (get b.settings (key.Port n port.Cost)) (config_of b n).speed;
-  edge = (port_of b n).edge;
-  point_to_point = is_point_to_point (get b.settings (key.Port n port.PointToPoint)) (config_of b n).full;
-  frames_in = (counters_of b n).frames_in;
-  frames_out = (counters_of b n).frames_out;
-  discards_in = (counters_of b n).discards_in;
+port_facts_of b port = record {
+  ifindex = (config_of b port).ifindex;
+  on = is_on b port;
+  state = (port_of b port).state;
+  role = (port_of b port).role;
+  vector = (port_of b port).vector;
+  forward_transitions = (port_of b port).forward_transitions;
+  cost = cost_in_use (get b.settings (key.Port port port_key.Cost)) (config_of b port).speed;
+  edge = (port_of b port).edge;
+  point_to_point = is_point_to_point (get b.settings (key.Port port port_key.PointToPoint)) (config_of b port).full;
+  frames_in = (counters_of b port).frames_in;
+  frames_out = (counters_of b port).frames_out;
+  discards_in = (counters_of b port).discards_in;
 }

@@ -10,7 +10,7 @@ use Rattle.fdb_core.specs.declared.row.Row.{Row}
 use Rattle.fdb_core.specs.declared.learnt.Learnt.{Learnt}
 use Rattle.fdb_core.specs.declared.learnt.Learnt.TheVariants.{New, Moved, Same, Full, Memory}
 use Rattle.fdb_core.specs.Rows.{port_of as learned_port}
-use Rattle.fdb_core.specs.Learning.{answer, learned}
+use Rattle.fdb_core.specs.Learning.{answer, learned_rows}
 use Rattle.rstp_rules.specs.declared.port.State.{State}
 use Rattle.rstp_rules.specs.Ports.{is_discarding, is_forwarding}
 use Rattle.bridge_core.specs.declared.bridge.TheConstants.{MAX_LEARNED_ROWS}
@@ -21,7 +21,7 @@ abbrev pub is_reserved : Mac → Bool
 is_reserved a = bytes_eq (take 5 a.0) (take 5 BRIDGE_GROUP.0) && nat_lt (slice_index a.0 5) 16
 
 abbrev pub forwards : BridgeState → ℕ → Bool
-forwards b n = is_forwarding (port_of b n).state
+forwards b port = is_forwarding (port_of b port).state
 
 -- Whether the source of a frame is to be learned at a port of this state: the port is learning or forwarding, and the source is no
 -- group address (7.8). That it is not where the destination is reserved is a rule of this profile alone.
@@ -30,14 +30,14 @@ learns state f = not (is_discarding state) && not (is_reserved f.destination) &&
 
 -- What learning the source gives, where its growth was refused or not; nothing where it is not to be learned.
 abbrev pub learnt_with : List Row → ℕ → State → ℕ → FrameIn → Bool → Option Learnt
-learnt_with rows limit state p f no_room = if learns state f then Some (if no_room then Memory else answer rows limit f.source p) else None
+learnt_with rows limit state port f no_room = if learns state f then Some (if no_room then Memory else answer rows limit f.source port) else None
 
 abbrev pub learnt_of : BridgeState → ℕ → FrameIn → Bool → Option Learnt
-learnt_of b p f no_room = learnt_with b.learned MAX_LEARNED_ROWS (port_of b p).state p f no_room
+learnt_of b port f no_room = learnt_with b.learned MAX_LEARNED_ROWS (port_of b port).state port f no_room
 
 abbrev pub rows_after : Option Learnt → List Row → Mac → ℕ → List Row
-rows_after None rows a p = rows
-rows_after (Some l) rows a p = learned l rows a p
+rows_after None rows a port = rows
+rows_after (Some l) rows a port = learned_rows l rows a port
 
 -- Whether the growth for a learned row was refused.
 abbrev pub is_refused : Option Learnt → Bool
@@ -55,25 +55,25 @@ pub record NeedsMemory (rows : List Row) (limit : ℕ) (state : State) (f : Fram
   pub has_place : length rows < limit
 
 abbrev pub AsksMemory : BridgeState → ℕ → FrameIn → Type 0
-AsksMemory b p f = NeedsMemory b.learned MAX_LEARNED_ROWS (port_of b p).state f
+AsksMemory b port f = NeedsMemory b.learned MAX_LEARNED_ROWS (port_of b port).state f
 
 -- A frame may find no memory for its learned row only at a port that is on, where it is no BPDU and the growth is asked for.
-pub record MayLackMemory (b : BridgeState) (p : ℕ) (f : FrameIn) : Type 0 where
-  pub on : is_on b p ≡ true
+pub record MayLackMemory (b : BridgeState) (port : ℕ) (f : FrameIn) : Type 0 where
+  pub on : is_on b port ≡ true
   pub plain : f.bpdu ≡ None
-  pub asks : AsksMemory b p f
+  pub asks : AsksMemory b port f
 
--- Whether an address that is learned at a port, or at none, may be behind port q.
+-- Whether an address that is learned at a port, or at none, may be behind another one.
 abbrev pub may_be_behind : Option ℕ → ℕ → Bool
-may_be_behind None q = true
-may_be_behind (Some r) q = r == q
+may_be_behind None out = true
+may_be_behind (Some r) out = r == out
 
--- Whether a frame to this destination that came by port p goes out by port q: both forward and they are two; and the destination is
+-- Whether a frame to this destination that came by a port goes out by the port `out`: both forward and they are two; and the destination is
 -- neither reserved nor the bridge itself, and it is a group, or learned at q or nowhere.
 abbrev pub goes_out : BridgeState → ℕ → Mac → ℕ → Bool
-goes_out b p d q =
-    forwards b p && forwards b q && not (q == p) && not (is_reserved d) && not (same_mac d (address_of b))
-    && (is_group d || may_be_behind (learned_port b.learned d) q)
+goes_out b port d out =
+    forwards b port && forwards b out && not (out == port) && not (is_reserved d) && not (same_mac d (address_of b))
+    && (is_group d || may_be_behind (learned_port b.learned d) out)
 
 -- The ports of so many that pass the test, rising.
 unfoldable pub ports_where : (ℕ → Bool) → ℕ → List ℕ
@@ -81,4 +81,4 @@ ports_where test count = filter test (range_with_len 1 count)
 
 -- The ports by which a frame goes out.
 unfoldable pub egress_of : BridgeState → ℕ → Mac → List ℕ
-egress_of b p d = ports_where (goes_out b p d) (port_count b)
+egress_of b port d = ports_where (goes_out b port d) (port_count b)

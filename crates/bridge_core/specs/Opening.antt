@@ -5,7 +5,7 @@ use Rattle.frame_core.specs.declared.mac.Mac.{Mac}
 use Rattle.frame_core.specs.Octets.{is_group}
 use Rattle.rstp_settings.specs.Table.{opening}
 use Rattle.rstp_settings.specs.declared.settings.TheConstants.{MAX_PORTS}
-use Rattle.rstp_rules.specs.declared.config.PortConfig.{PortConfig}
+use Rattle.rstp_settings.specs.declared.config.PortConfig.{PortConfig}
 use Rattle.rstp_core.specs.Tree.{opening_tree}
 use Rattle.bridge_core.specs.declared.fault.BridgeFault.{BridgeFault}
 use Rattle.bridge_core.specs.declared.fault.BridgeFault.TheVariants.{BadPorts, BadAddress, BadSpeed}

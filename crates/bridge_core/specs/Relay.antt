@@ -1,41 +1,40 @@
 -- What becomes of a frame that is no BPDU, in the standard's words (IEEE 802.1D-2004 7.5 to 7.8).
-use Rattle.std.specs.Prelude.{◌≡◌, ◌≢◌, ◌⊎◌, ℕ, ◌≤◌, ◌<◌, Bool, true, false, List, length, Option, Some, None}
+use Rattle.std.specs.Prelude.{◌≡◌, ◌≢◌, ◌⊎◌, ℕ, ◌<◌, Bool, true, false, List, length, Option, Some, None}
 use Rattle.frame_core.specs.declared.mac.Mac.{Mac}
 use Rattle.frame_core.specs.declared.frame.FrameIn.{FrameIn}
 use Rattle.frame_core.specs.Octets.{is_group}
 use Rattle.fdb_core.specs.declared.row.Row.{Row}
 use Rattle.fdb_core.specs.Rows.{port_of as learned_port}
 use Rattle.bridge_core.specs.declared.bridge.TheConstants.{MAX_LEARNED_ROWS}
-use Rattle.bridge_core.specs.Bridge.{BridgeState, address_of, port_count, is_on}
+use Rattle.bridge_core.specs.Bridge.{BridgeState, HasPort, address_of, is_on}
 use Rattle.bridge_core.specs.Forwarding.{is_reserved, forwards}
-use Rattle.bridge_core.specs.Events.{framed}
+use Rattle.bridge_core.specs.Events.{frame_result}
 
 -- A frame that is no BPDU comes by a port that is on.
-pub record IsReceived (b : BridgeState) (p : ℕ) (f : FrameIn) : Type 0 where
-  pub first : 1 ≤ p
-  pub last : p ≤ port_count b
-  pub on : is_on b p ≡ true
+pub record IsReceived (b : BridgeState) (port : ℕ) (f : FrameIn) : Type 0 where
+  pub has_port : HasPort b port
+  pub on : is_on b port ≡ true
   pub plain : f.bpdu ≡ None
 
 -- That port forwards, and the destination is neither reserved nor the bridge's own address (7.7, 7.12.6).
-pub record IsRelayed (b : BridgeState) (p : ℕ) (f : FrameIn) : Type 0 where
-  pub received : IsReceived b p f
-  pub forwards : forwards b p ≡ true
+pub record IsRelayed (b : BridgeState) (port : ℕ) (f : FrameIn) : Type 0 where
+  pub received : IsReceived b port f
+  pub forwards : forwards b port ≡ true
   pub unreserved : is_reserved f.destination ≡ false
   pub foreign : f.destination ≢ address_of b
 
 -- The port at which the frame's destination is learned, if at one, once its source was learned.
 abbrev pub destination_port : BridgeState → ℕ → FrameIn → Bool → Option ℕ
-destination_port b p f no_room = learned_port (framed b p f no_room).bridge.learned f.destination
+destination_port b port f no_room = learned_port (frame_result b port f no_room).bridge.learned f.destination
 
 -- The destination is a group, or is learned nowhere once the source was learned.
 abbrev pub IsForAll : BridgeState → ℕ → FrameIn → Bool → Type 0
-IsForAll b p f no_room = (is_group f.destination ≡ true) ⊎ (destination_port b p f no_room ≡ None)
+IsForAll b port f no_room = (is_group f.destination ≡ true) ⊎ (destination_port b port f no_room ≡ None)
 
 -- The destination is one station, learned at port r once the source was learned.
-pub record IsFor (b : BridgeState) (p : ℕ) (f : FrameIn) (no_room : Bool) (r : ℕ) : Type 0 where
+pub record IsFor (b : BridgeState) (port : ℕ) (f : FrameIn) (no_room : Bool) (r : ℕ) : Type 0 where
   pub single : is_group f.destination ≡ false
-  pub at : destination_port b p f no_room ≡ Some r
+  pub at : destination_port b port f no_room ≡ Some r
 
 -- There is a row of the address, or a place for one.
 abbrev pub HasPlace : List Row → Mac → Type 0

@@ -1,12 +1,12 @@
 //! The bridge: one event at a time.
 ghost use Rattle.std.specs.Prelude.{◌≡◌, ◌≤◌, length, true, Some, None, Ok, Err, IfOk};
 ghost use Rattle.rstp_settings.specs.Table.{get, HasKey, IsInRange};
-ghost use Rattle.bridge_core.specs.Bridge.{port_count, is_on};
+ghost use Rattle.bridge_core.specs.Bridge.{HasPort, port_count, is_on};
 ghost use Rattle.bridge_core.specs.Opening.{fault_of, opening_bridge};
 ghost use Rattle.bridge_core.specs.Forwarding.{AsksMemory, MayLackMemory, egress_of};
 ghost use Rattle.bridge_core.specs.Counting.{sent_where, has_bpdu};
 ghost use Rattle.fdb_core.specs.Rows.{other_rows};
-ghost use Rattle.bridge_core.specs.Events.{framed, framed_by, taken, passed, received, learned_from, forwarded, stepped, arrival_of, tick_of, ticked_bridge, link_of, linked_bridge, settling_of, settled_bridge, set_bridge};
+ghost use Rattle.bridge_core.specs.Events.{Gives, frame_result, reception_result, data_result, after_reception, after_learning, after_forwarding, after_tree_step, arrival_of, tick_of, after_tick, link_of, after_link, settling_of, after_settling, set_bridge};
 ghost use Rattle.bridge_core.specs.Facts.{facts_of, port_facts_of};
 
 use crate::counters::{PortCounters, count_bpdus, count_discards};
@@ -19,10 +19,11 @@ use arrayvec::ArrayVec;
 use fdb_core::Fdb;
 use frame_core::{Bpdu, FrameIn, Mac};
 use rstp_core::{
-    BridgeConfig, BridgeKey, IFINDEX_MAX, Key, MAX_PORTS, Outcome, PortConfig, PortKey, Rstp,
+    BridgeConfig, BridgeKey, Key, MAX_IFINDEX, MAX_PORTS, Outcome, PortConfig, PortKey, Rstp,
     Settings,
 };
 use rstp_rules::lines::is_enabled;
+use rstp_settings::copies::copied;
 use std::alloc::Global;
 use std::marker::Model;
 
@@ -43,8 +44,9 @@ pub struct Forwarding {
     pub no_room: bool,
 }
 
-/// A learning bridge that runs the Rapid Spanning Tree Protocol. It is seen as its settings, its spanning tree, its learned rows and
-/// its counters. Ports are numbered from 1. A change of settings is followed by `settle`.
+/// A learning bridge that runs the Rapid Spanning Tree Protocol. It is seen as its settings, its
+/// spanning tree, its learned rows and its counters. Ports are numbered from 1. A change of
+/// settings is followed by `settle`.
 #[derive(Drop)]
 pub struct Bridge {
     settings: Settings,
@@ -71,12 +73,14 @@ impl Model for Bridge {
 }
 
 impl Bridge {
-    /// A bridge of 1 to 32 ports under the opening settings, with all its links down and nothing learned. It takes no memory.
+    /// A bridge of 1 to 32 ports under the opening settings, with all its links down and nothing
+    /// learned. It takes no memory.
     ///
     /// # Errors
     ///
-    /// The first of these: `BadPorts` where there is no port or more than 32; `BadAddress` where the address is a group address;
-    /// `BadSpeed` where the speed of some port is none of 10, 100 and 1000 Mb/s.
+    /// The first of these: `BadPorts` where there is no port or more than 32; `BadAddress` where
+    /// the address is a group address; `BadSpeed` where the speed of some port is none of 10, 100
+    /// and 1000 Mb/s.
     pub fn new(alloc: Global, address: Mac, ports: &[PortConfig]) -> Result<Self, BridgeFault>
         ensures opened { fault_of address ports.now ≡ None →
             result ≡ Ok (opening_bridge address ports.now) }
@@ -120,13 +124,12 @@ impl Bridge {
         }
     }
 
-    /// What the bridge shows of port `port`.
+    /// What the bridge shows of port `port`, for the objects of its ports (RFC 4188, RFC 4318).
     pub fn port_facts(&self, port: u16) -> PortFacts
-        requires first { 1 ≤ port }
-        requires last { port ≤ port_count self.now }
+        requires { HasPort self.now port }
         ensures facts { result ≡ port_facts_of self.now port }
         ensures ifindex_least { 1 ≤ result.ifindex }
-        ensures ifindex_most { result.ifindex ≤ IFINDEX_MAX }
+        ensures ifindex_most { result.ifindex ≤ MAX_IFINDEX }
     {
         let at = port as usize - 1;
         let config = self.tree.config(port);
@@ -150,7 +153,7 @@ impl Bridge {
         }
     }
 
-    /// The learned addresses.
+    /// The learned addresses, for the objects that show them.
     pub fn fdb(&self) -> &Fdb
         ensures rows { result.now.rows ≡ self.now.learned }
         ensures limit { result.now.limit ≡ MAX_LEARNED_ROWS }
@@ -158,7 +161,7 @@ impl Bridge {
         &self.fdb
     }
 
-    /// The value of a setting that there is, in the unit of its key.
+    /// The value of a setting that there is, in the unit of its key, for the objects that show it.
     pub fn get_setting(&self, key: Key) -> u32
         requires { HasKey self.now.settings key }
         ensures value { result ≡ get self.now.settings key }
@@ -167,10 +170,12 @@ impl Bridge {
         self.settings.get(key)
     }
 
-    /// Gives a setting that there is a value in its range, and answers the one before. Every event reads the settings as they are: the
-    /// next tick ages by them, and the next frame comes in where its port is enabled by them; `port_facts` shows by them whether a port
-    /// is on, its cost and whether its link is point to point. So call `settle` before any other event: until then a port that was
-    /// disabled may still be sent frames, and where its link goes down in between also after it, until the port starts anew.
+    /// Gives a setting that there is a value in its range, and answers the one before. Every event
+    /// reads the settings as they are: the next tick ages by them, and the next frame comes in
+    /// where its port is enabled by them; `port_facts` shows by them whether a port is on, its cost
+    /// and whether its link is point to point. So call `settle` before any other event: until then
+    /// a port that was disabled may still be sent frames, and where its link goes down in between
+    /// also after it, until the port starts anew.
     pub fn put_setting(&mut self, key: Key, value: u32) -> u32
         requires key { HasKey self.old.settings key }
         requires value { IsInRange key value }
@@ -181,31 +186,28 @@ impl Bridge {
         self.settings.put(key, value)
     }
 
-    /// A frame comes by port `port`. Where the port is off nothing changes and nothing goes out. A BPDU goes to the spanning tree
-    /// only. The source of any other frame is learned where the port is learning or forwarding, the source is no group address, and
-    /// there is room: it has a row, or there are fewer than [`MAX_LEARNED_ROWS`] (7.8); but, by a rule of this profile alone, not
-    /// where the destination is reserved.
-    /// Then, where the port forwards, the frame goes out by the other forwarding ports (7.7): by the one at which its destination is
-    /// learned, or by all where it is a group address or not learned; but by none where it is the bridge's own address or one of
-    /// 0180C2000000 to 0180C200000F (7.12.6). Only the growth for a new learned row takes memory: where that is refused the frame is
-    /// forwarded all the same, and noted in `no_room`.
+    /// A frame comes by port `port`. Where the port is off nothing changes and nothing goes out. A
+    /// BPDU goes to the spanning tree only. The source of any other frame is learned where the port
+    /// is learning or forwarding, the source is no group address, and there is room: it has a row,
+    /// or there are fewer than [`MAX_LEARNED_ROWS`] (7.8); but, by a rule of this profile alone,
+    /// not where the destination is reserved. Then, where the port forwards, the frame goes out by
+    /// the other forwarding ports (7.7): by the one at which its destination is learned, or by all
+    /// where it is a group address or not learned; but by none where it is the bridge's own address
+    /// or one of 0180C2000000 to 0180C200000F (7.12.6). Only the growth for a new learned row takes
+    /// memory: where that is refused the frame is forwarded all the same, and noted in `no_room`.
     pub fn frame(&mut self, port: u16, frame: &FrameIn) -> Forwarding
-        requires first { 1 ≤ port }
-        requires last { port ≤ port_count self.old }
-        ensures step { self.new ≡ (framed self.old port frame.now result.no_room).bridge }
-        ensures egress { result.egress.items
-            ≡ (framed self.old port frame.now result.no_room).egress }
-        ensures bpdus { result.bpdus.items ≡ (framed self.old port frame.now result.no_room).bpdus }
+        requires { HasPort self.old port }
+        ensures gives { Gives (frame_result self.old port frame.now result.no_room)
+            self.old self.new result }
         ensures note { result.no_room ≡ true → MayLackMemory self.old port frame.now }
-        ensures ports { port_count self.new ≡ port_count self.old }
-        ensures each { length result.bpdus.items ≡ port_count self.old }
     {
         take_frame(self, port, frame)
     }
 
-    /// One second passes: learned rows age, and then the spanning tree's tick. It answers what each port sends.
+    /// One second passes: learned rows age, and then the spanning tree's tick. It answers what each
+    /// port sends.
     pub fn tick(&mut self) -> Bpdus
-        ensures step { self.new ≡ ticked_bridge self.old }
+        ensures step { self.new ≡ after_tick self.old }
         ensures bpdus { result.items ≡ (tick_of self.old).bpdus }
         ensures ports { port_count self.new ≡ port_count self.old }
         ensures each { length result.items ≡ port_count self.old }
@@ -218,9 +220,8 @@ impl Bridge {
 
     /// The link of port `port` is up, or down. It answers what each port sends.
     pub fn link(&mut self, port: u16, up: bool) -> Bpdus
-        requires first { 1 ≤ port }
-        requires last { port ≤ port_count self.old }
-        ensures step { self.new ≡ linked_bridge port up self.old }
+        requires { HasPort self.old port }
+        ensures step { self.new ≡ after_link port up self.old }
         ensures bpdus { result.items ≡ (link_of port up self.old).bpdus }
         ensures ports { port_count self.new ≡ port_count self.old }
         ensures each { length result.items ≡ port_count self.old }
@@ -229,9 +230,10 @@ impl Bridge {
         follow(&mut self.fdb, self.counters.as_mut_slice(), outcome)
     }
 
-    /// Settles changed settings, and spends protocol migration checks. It answers what each port sends.
+    /// Settles changed settings, and spends protocol migration checks. It answers what each port
+    /// sends.
     pub fn settle(&mut self) -> Bpdus
-        ensures step { self.new ≡ settled_bridge self.old }
+        ensures step { self.new ≡ after_settling self.old }
         ensures bpdus { result.items ≡ (settling_of self.old).bpdus }
         ensures ports { port_count self.new ≡ port_count self.old }
         ensures each { length result.items ≡ port_count self.old }
@@ -240,9 +242,9 @@ impl Bridge {
         follow(&mut self.fdb, self.counters.as_mut_slice(), outcome)
     }
 
+    // Whether a port is enabled by its setting and its link is up.
     fn is_on(&self, port: u16) -> bool
-        requires first { 1 ≤ port }
-        requires last { port ≤ port_count self.now }
+        requires { HasPort self.now port }
         ensures { result ≡ is_on self.now port }
     {
         is_enabled(&self.settings, port) && self.tree.facts(port).link
@@ -250,9 +252,8 @@ impl Bridge {
 
     // One more frame in.
     fn receive(&mut self, port: u16)
-        requires first { 1 ≤ port }
-        requires last { port ≤ port_count self.old }
-        ensures step { self.new ≡ received port self.old }
+        requires { HasPort self.old port }
+        ensures step { self.new ≡ after_reception port self.old }
         ensures ports { port_count self.new ≡ port_count self.old }
     {
         self.counters[port as usize - 1].receive();
@@ -260,9 +261,8 @@ impl Bridge {
 
     // Learns the source where it is to be learned. Whether its growth was refused.
     fn learn(&mut self, port: u16, frame: &FrameIn) -> bool
-        requires first { 1 ≤ port }
-        requires last { port ≤ port_count self.old }
-        ensures step { self.new ≡ learned_from port frame.now result self.old }
+        requires { HasPort self.old port }
+        ensures step { self.new ≡ after_learning port frame.now result self.old }
         ensures note { result ≡ true → AsksMemory self.old port frame.now }
         ensures ports { port_count self.new ≡ port_count self.old }
     {
@@ -273,9 +273,8 @@ impl Bridge {
 
     // Sends a frame out, and answers the ports by which it goes.
     fn forward(&mut self, port: u16, destination: Mac) -> ArrayVec<u16, MAX_PORTS>
-        requires first { 1 ≤ port }
-        requires last { port ≤ port_count self.old }
-        ensures step { self.new ≡ forwarded port destination self.old }
+        requires { HasPort self.old port }
+        ensures step { self.new ≡ after_forwarding port destination self.old }
         ensures egress { result.items ≡ egress_of self.old port destination }
         ensures ports { port_count self.new ≡ port_count self.old }
     {
@@ -289,9 +288,8 @@ impl Bridge {
 
     // A BPDU comes by a port.
     fn hear(&mut self, port: u16, bpdu: &Bpdu) -> Bpdus
-        requires first { 1 ≤ port }
-        requires last { port ≤ port_count self.old }
-        ensures step { self.new ≡ stepped (arrival_of port bpdu.now self.old) self.old }
+        requires { HasPort self.old port }
+        ensures step { self.new ≡ after_tree_step (arrival_of port bpdu.now self.old) self.old }
         ensures bpdus { result.items ≡ (arrival_of port bpdu.now self.old).bpdus }
         ensures ports { port_count self.new ≡ port_count self.old }
         ensures each { length result.items ≡ port_count self.old }
@@ -301,6 +299,7 @@ impl Bridge {
     }
 }
 
+// A bridge of a configuration that has no fault.
 fn open(alloc: Global, address: Mac, ports: &[PortConfig]) -> Bridge
     requires least { 1 ≤ length ports.now }
     requires most { length ports.now ≤ MAX_PORTS }
@@ -309,7 +308,7 @@ fn open(alloc: Global, address: Mac, ports: &[PortConfig]) -> Bridge
 {
     let config = BridgeConfig {
         address,
-        ports: opening::copied(ports),
+        ports: copied(ports),
     };
     let tree = Rstp::new(&config);
     Bridge {
@@ -321,7 +320,8 @@ fn open(alloc: Global, address: Mac, ports: &[PortConfig]) -> Bridge
     }
 }
 
-// What follows a step of the spanning tree: the learned rows of the flushed ports go, and each BPDU is a frame out of its port.
+// What follows a step of the spanning tree: the learned rows of the flushed ports go, and each BPDU
+// is a frame out of its port.
 fn follow(fdb: &mut Fdb, counters: &mut [PortCounters], outcome: Outcome) -> Bpdus
     requires { length outcome.bpdus.items ≡ length counters.old }
     ensures fdb { fdb.new
@@ -335,13 +335,13 @@ fn follow(fdb: &mut Fdb, counters: &mut [PortCounters], outcome: Outcome) -> Bpd
     bpdus
 }
 
+// A frame comes by a port. It stands outside the methods, whose bodies have one path each: a branch
+// is proved of a bridge as it is seen from outside.
 fn take_frame(bridge: &mut Bridge, port: u16, frame: &FrameIn) -> Forwarding
-    requires first { 1 ≤ port }
-    requires last { port ≤ port_count bridge.old }
-    ensures gives { framed_by bridge.new result ≡ framed bridge.old port frame.now result.no_room }
+    requires { HasPort bridge.old port }
+    ensures gives { Gives (frame_result bridge.old port frame.now result.no_room)
+        bridge.old bridge.new result }
     ensures note { result.no_room ≡ true → MayLackMemory bridge.old port frame.now }
-    ensures ports { port_count bridge.new ≡ port_count bridge.old }
-    ensures each { length result.bpdus.items ≡ port_count bridge.old }
 {
     if bridge.is_on(port) {
         bridge.receive(port);
@@ -357,14 +357,11 @@ fn take_frame(bridge: &mut Bridge, port: u16, frame: &FrameIn) -> Forwarding
 
 // A frame that was received.
 fn take_received(bridge: &mut Bridge, port: u16, frame: &FrameIn) -> Forwarding
-    requires first { 1 ≤ port }
-    requires last { port ≤ port_count bridge.old }
-    ensures gives { framed_by bridge.new result
-        ≡ taken port frame.now frame.now.bpdu result.no_room bridge.old }
+    requires { HasPort bridge.old port }
+    ensures gives { Gives (reception_result port frame.now frame.now.bpdu result.no_room bridge.old)
+        bridge.old bridge.new result }
     ensures note { result.no_room ≡ true → (frame.now.bpdu ≡ None) ×
         AsksMemory bridge.old port frame.now }
-    ensures ports { port_count bridge.new ≡ port_count bridge.old }
-    ensures each { length result.bpdus.items ≡ port_count bridge.old }
 {
     match &frame.bpdu {
         Some(bpdu) => Forwarding {
@@ -378,12 +375,10 @@ fn take_received(bridge: &mut Bridge, port: u16, frame: &FrameIn) -> Forwarding
 
 // A frame that is no BPDU.
 fn pass_on(bridge: &mut Bridge, port: u16, frame: &FrameIn) -> Forwarding
-    requires first { 1 ≤ port }
-    requires last { port ≤ port_count bridge.old }
-    ensures gives { framed_by bridge.new result ≡ passed port frame.now result.no_room bridge.old }
+    requires { HasPort bridge.old port }
+    ensures gives { Gives (data_result port frame.now result.no_room bridge.old)
+        bridge.old bridge.new result }
     ensures note { result.no_room ≡ true → AsksMemory bridge.old port frame.now }
-    ensures ports { port_count bridge.new ≡ port_count bridge.old }
-    ensures each { length result.bpdus.items ≡ port_count bridge.old }
 {
     let no_room = bridge.learn(port, frame);
     let egress = bridge.forward(port, frame.destination);

@@ -1,6 +1,6 @@
 //! The counters of a bridge's ports.
 ghost use Rattle.std.specs.Prelude.{◌≡◌, length};
-ghost use Rattle.bridge_core.specs.Counting.{risen, with_frame_in, with_frame_out, with_discard, sent_where, has_bpdu, discards_after};
+ghost use Rattle.bridge_core.specs.Counting.{next_count, with_frame_in, with_frame_out, with_discard, sent_where, has_bpdu, discards_after};
 
 use fdb_core::Learnt;
 use frame_core::Bpdu;

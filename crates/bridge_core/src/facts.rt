@@ -20,14 +20,15 @@ pub struct Facts {
     pub times: Times,
     /// How many topology changes there were, modulo 2^32.
     pub topology_changes: u32,
-    /// The seconds since no port tells a topology change any more, or since the opening where none was told; 0 while one is told.
-    /// At most 2^64 - 1.
+    /// The seconds since no port tells a topology change any more, or since the opening where none
+    /// was told; 0 while one is told. At most 2^64 - 1.
     pub since: u64,
     /// How many sources were not learned for want of room, modulo 2^32.
     pub entry_discards: u32,
 }
 
-/// What a bridge shows of a port (RFC 4188 dot1dBasePortTable, dot1dStpPortTable, dot1dTpPortTable; RFC 4318).
+/// What a bridge shows of a port (RFC 4188 dot1dBasePortTable, dot1dStpPortTable, dot1dTpPortTable;
+/// RFC 4318).
 #[derive(Clone, Copy, Debug, PartialEq, Eq)]
 pub struct PortFacts {
     /// The interface number, 1 to 2147483647 (RFC 2863, InterfaceIndex).

@@ -1,5 +1,6 @@
 //! By which ports a frame goes out (IEEE 802.1D-2004 7.7, 7.12).
 ghost use Rattle.std.specs.Prelude.{◌≡◌, ◌≤◌, ◌<◌, ◌+◌, ℕ, length, [], ◌∷◌, ◌++◌, if◌then◌else◌};
+ghost use Rattle.rstp_core.specs.Tree.{HasPort};
 ghost use Rattle.bridge_core.specs.Counting.{with_frame_out, sent_where};
 ghost use Rattle.bridge_core.specs.Forwarding.{is_reserved, ports_where};
 ghost use Rattle.bridge_core.specs.ForwardingInside.{is_way, leads, goes_by};
@@ -41,9 +42,11 @@ pub fn is_reserved(address: Mac) -> bool
     address.0[..5] == BRIDGE_GROUP.0[..5] && address.0[5] < 16
 }
 
-/// By which ports a frame to this destination may go, where the port by which it came is of this state.
+/// By which ports a frame to this destination may go, where the port by which it came is of this
+/// state.
 pub fn find_way(fdb: &Fdb, own: Mac, state: State, destination: Mac) -> Way
-    ensures { (q : ℕ) → leads result q ≡ is_way fdb.now.rows own state destination q }
+    ensures { (out : ℕ) →
+        leads result out ≡ is_way fdb.now.rows own state destination out }
 {
     if !state.is_forwarding() || is_reserved(destination) || destination.is_same(own) {
         Way::Nowhere
@@ -55,8 +58,7 @@ pub fn find_way(fdb: &Fdb, own: Mac, state: State, destination: Mac) -> Way
 }
 
 fn goes_by(way: Way, from: u16, tree: &Rstp, port: u16) -> bool
-    requires first { 1 ≤ port }
-    requires last { port ≤ length tree.now.ports }
+    requires { HasPort tree.now port }
     ensures { result ≡ goes_by (leads way) from tree.now port }
 {
     tree.state(port).is_forwarding() && port != from && way.leads(port)
@@ -80,8 +82,8 @@ fn send_one(
     }
 }
 
-/// Sends a frame by the forwarding ports to which the way leads, but for the port by which it came: counts it there, and answers
-/// their numbers, rising.
+/// Sends a frame by the forwarding ports to which the way leads, but for the port by which it came:
+/// counts it there, and answers their numbers, rising.
 pub fn send_out(
     way: Way,
     from: u16,

@@ -1,22 +1,24 @@
-//! A learning bridge that runs the Rapid Spanning Tree Protocol (IEEE 802.1D-2004 7.5 to 7.9 and 17): its settings, its
-//! spanning tree, the addresses that it has learned and its counters, changed by one event at a time.
+//! A learning bridge that runs the Rapid Spanning Tree Protocol (IEEE 802.1D-2004 7.5 to 7.9 and
+//! 17): its settings, its spanning tree, the addresses that it has learned and its counters,
+//! changed by one event at a time.
 //!
 //! # Entry points
-//! [`Bridge`]: `new`, `frame`, `tick`, `link`, `settle`; `ports`, `facts`, `port_facts`, `fdb`, `get_setting`,
-//! `put_setting`. Only `frame` may take memory, for a learned address.
+//! [`Bridge`]: `new`, `frame`, `tick`, `link`, `settle`; `ports`, `facts`, `port_facts`, `fdb`,
+//! `get_setting`, `put_setting`. Only `frame` may take memory, for a learned address.
 //!
 //! # Definitions
-//! `specs/Bridge.antt`, `specs/Opening.antt`: what a bridge is, and is at first; `specs/Events.antt`: one event;
-//! `specs/Forwarding.antt`: egress and learning, and `specs/Relay.antt` the same in the standard's words;
-//! `specs/Counting.antt`, `specs/Facts.antt`: counters and what is shown; `specs/Runs.antt`: lists of events.
+//! `specs/Bridge.antt`, `specs/Opening.antt`: what a bridge is, and is at first;
+//! `specs/Events.antt`: one event; `specs/Forwarding.antt`: egress and learning, and
+//! `specs/Relay.antt` the same in the standard's words; `specs/Counting.antt`, `specs/Facts.antt`:
+//! counters and what is shown; `specs/Runs.antt`: lists of events.
 //!
 //! # Laws
-//! In [`laws`]: where a frame goes in the standard's words, which ports forward after any list of events, and when
-//! there is no root port.
+//! In [`laws`]: where a frame goes in the standard's words, which ports forward after any list of
+//! events, and when there is no root port.
 //!
 //! # Not claimed
-//! That no port forwards while it is disabled between `put_setting` and `settle`; nor after it where its link goes down in
-//! between, until it starts anew.
+//! That no port forwards while it is disabled between `put_setting` and `settle`; nor after it
+//! where its link goes down in between, until it starts anew.
 #![tactic(auto)]
 
 mod bridge;

@@ -1,23 +1,11 @@
 //! The parts of a bridge at first.
-ghost use Rattle.std.specs.Prelude.{◌≡◌, ◌≤◌, length, replicate, None};
+ghost use Rattle.std.specs.Prelude.{◌≡◌, ◌≤◌, replicate, None};
 ghost use Rattle.bridge_core.specs.Bridge.{no_counters};
 
 use crate::counters::PortCounters;
 use arrayvec::ArrayVec;
 use frame_core::Bpdu;
-use rstp_core::{MAX_PORTS, PortConfig};
-
-/// The same list of configurations.
-pub fn copied(ports: &[PortConfig]) -> ArrayVec<PortConfig, MAX_PORTS>
-    requires { length ports.now ≤ MAX_PORTS }
-    ensures { result.items ≡ ports.now }
-{
-    let mut copies = ArrayVec::new();
-    for port in ports {
-        copies.push(*port);
-    }
-    copies
-}
+use rstp_core::MAX_PORTS;
 
 /// Counters at 0.
 pub fn zero_counters(count: usize) -> ArrayVec<PortCounters, MAX_PORTS>

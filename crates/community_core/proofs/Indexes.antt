@@ -1,17 +1,11 @@
--- The order of communities by their indexes, in which only rows of one index tie.
+-- In the order of communities by their indexes only rows of one index tie.
 use Rattle.std.proofs.Common.{ℕ, List, refl}
-use Rattle.std.specs.Cmp.{IsStrictWeakOrder}
 use Rattle.std.specs.Cmp.Lexicographic.{slice_cmp}
 use Rattle.std.specs.Ordering.{nat_cmp}
 use Rattle.std.proofs.lemmas.Cmp.{nat_list_cmp_total}
-use Rattle.std.proofs.lemmas.List.MinMax.{ranks_by}
 use Rattle.oid_core.proofs.OrderLaws.{cmp_equal}
 use Rattle.vacm_core.proofs.Ties.{Ties, bytes_same, neither}
-use Rattle.community_core.specs.declared.community.CommunityRow.{CommunityRow}
 use Rattle.community_core.specs.Communities.{has_name, same_index, index_before}
-
-pub index_order : IsStrictWeakOrder index_before
-index_order = ranks_by nat_list_cmp_total (λ (r : CommunityRow). r.index)
 
 pub index_ties : (name : List ℕ) → Ties (has_name name) index_before same_index
 index_ties name a b pass_a pass_b not_a not_b =

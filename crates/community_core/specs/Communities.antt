@@ -2,20 +2,20 @@
 use Rattle.std.specs.Prelude.{ℕ, Bool, ◌&&◌, List, slice_get, bytes_eq, Option, Some, None}
 use Rattle.std.specs.Cmp.Lexicographic.{slice_cmp}
 use Rattle.std.specs.Ordering.{nat_cmp, is_lt}
-use Rattle.vacm_core.specs.declared.limits.TheConstants.{NAME_MAX}
+use Rattle.vacm_core.specs.declared.limits.TheConstants.{MAX_NAME}
 use Rattle.vacm_core.specs.Best.{unbeaten}
 use Rattle.vacm_core.specs.Rules.{Rules, rules_of}
 use Rattle.vacm_core.specs.Tables.{Tables, KeysDiffer, AreWellFormed}
 use Rattle.vacm_core.specs.Texts.{has_length, is_plain}
 use Rattle.community_core.specs.declared.community.Caller.{Caller}
 use Rattle.community_core.specs.declared.community.CommunityRow.{CommunityRow}
-use Rattle.community_core.specs.declared.community.TheConstants.{COMMUNITY_MAX}
+use Rattle.community_core.specs.declared.community.TheConstants.{MAX_COMMUNITY_NAME}
 use Rattle.community_core.specs.declared.community.WrittenCommunity.{WrittenCommunity}
 
 abbrev pub community_lengths : WrittenCommunity → Bool
 community_lengths w =
-    has_length 1 NAME_MAX w.index && has_length 1 COMMUNITY_MAX w.name && has_length 1 NAME_MAX w.security
-    && has_length 0 NAME_MAX w.context
+    has_length 1 MAX_NAME w.index && has_length 1 MAX_COMMUNITY_NAME w.name && has_length 1 MAX_NAME w.security
+    && has_length 0 MAX_NAME w.context
 
 abbrev pub community_fields : WrittenCommunity → Bool
 community_fields w = is_plain w.index && is_plain w.security && is_plain w.context

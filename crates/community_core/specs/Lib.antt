@@ -1,1 +1,3 @@
 pub mod Communities
+pub mod Faults
+pub mod Orders

@@ -1,14 +1,12 @@
 //! Communities, and who they stand for (RFC 3584, section 5: snmpCommunityTable).
-ghost use Rattle.std.specs.Prelude.{◌≡◌, ◌<◌, ◌&&◌, length, bytes_eq};
+ghost use Rattle.std.specs.Prelude.{◌≡◌, ◌<◌, length};
 ghost use Rattle.std.specs.Option.{ForSome};
-ghost use Rattle.vacm_core.specs.Best.{takes_over};
-ghost use Rattle.vacm_core.specs.Texts.{has_length, is_plain};
 ghost use Rattle.community_core.specs.Communities.{community_lengths, community_fields, community_row, same_index, has_name, index_before, deciding_community};
 
-use vacm_core::{NAME_MAX, Name, Text, Written};
+use vacm_core::{Contest, MAX_NAME, Name, Text, Written, deciding_row};
 
 /// The most octets of a community's name.
-pub const COMMUNITY_MAX: usize = 255;
+pub const MAX_COMMUNITY_NAME: usize = 255;
 
 /// A community row as it is written.
 #[derive(Drop)]
@@ -57,10 +55,10 @@ impl Written for WrittenCommunity {
     ghost same_key = { same_index };
 
     fn has_right_lengths(&self) -> bool {
-        self.index.has_length(1, NAME_MAX)
-            && self.name.has_length(1, COMMUNITY_MAX)
-            && self.security.has_length(1, NAME_MAX)
-            && self.context.has_length(0, NAME_MAX)
+        self.index.has_length(1, MAX_NAME)
+            && self.name.has_length(1, MAX_COMMUNITY_NAME)
+            && self.security.has_length(1, MAX_NAME)
+            && self.context.has_length(0, MAX_NAME)
     }
 
     fn has_right_fields(&self) -> bool {
@@ -81,33 +79,30 @@ impl Written for WrittenCommunity {
     }
 }
 
-fn has_name(row: &CommunityRow, name: &[u8]) -> bool
-    ensures { result ≡ has_name name.now row.now }
-{
-    row.name.as_str().as_bytes() == name
+/// Which row decides on a community name: of the rows of that name, the one whose index comes first.
+#[derive(Drop)]
+struct CommunityContest<'a> {
+    name: &'a [u8],
 }
 
-fn index_before(row: &CommunityRow, other: &CommunityRow) -> bool
-    ensures { result ≡ index_before row.now other.now }
-{
-    row.index.as_bytes().cmp(other.index.as_bytes()).is_lt()
-}
+impl<'a> Contest for CommunityContest<'a> {
+    ghost use Rattle.community_core.specs.Orders.{index_order};
 
-fn takes_over(rows: &[CommunityRow], best: Option<usize>, row: &CommunityRow) -> bool
-    requires { ForSome best (λ b. b < length rows.now) }
-    ensures { result ≡ takes_over index_before rows.now best row.now }
-{
-    match best {
-        Some(best) => index_before(row, &rows[best]),
-        None => true,
+    type Row = CommunityRow;
+
+    ghost passes = { λ c. has_name c.name.now };
+
+    ghost beats = { λ c. index_before };
+
+    ghost ranks = { λ c. index_order };
+
+    fn passes(&self, row: &CommunityRow) -> bool {
+        row.name.as_str().as_bytes() == self.name
     }
-}
 
-fn is_better(rows: &[CommunityRow], best: Option<usize>, row: &CommunityRow, name: &[u8]) -> bool
-    requires { ForSome best (λ b. b < length rows.now) }
-    ensures { result ≡ (has_name name.now row.now && takes_over index_before rows.now best row.now) }
-{
-    has_name(row, name) && takes_over(rows, best, row)
+    fn beats(&self, row: &CommunityRow, other: &CommunityRow) -> bool {
+        row.index.as_bytes().cmp(other.index.as_bytes()).is_lt()
+    }
 }
 
 /// The number of the row that decides on a community name.
@@ -115,11 +110,5 @@ pub fn deciding_community(rows: &[CommunityRow], name: &[u8]) -> Option<usize>
     ensures place { result ≡ deciding_community rows.now name.now }
     ensures within { ForSome result (λ n. n < length rows.now) }
 {
-    let mut best = None;
-    for (n, row) in rows.iter().enumerate() {
-        if is_better(rows, best, row, name) {
-            best = Some(n);
-        }
-    }
-    best
+    deciding_row(&CommunityContest { name }, rows)
 }

@@ -6,7 +6,7 @@ ghost use Rattle.vacm_core.specs.Tables.{KeysDiffer};
 ghost use Rattle.community_core.specs.declared.community.CommunityRow.{CommunityRow};
 ghost use Rattle.community_core.specs.Communities.{PolicyTables, same_index, has_name, index_before, deciding_community};
 
-use crate::community::COMMUNITY_MAX;
+use crate::community::MAX_COMMUNITY_NAME;
 
 /// A community row decides on a name wherever one has it (RFC 3584, section 5, snmpCommunityTable): none
 /// decides exactly where no row has the name, and the one that decides has the name, and no row that
@@ -24,5 +24,5 @@ pub fn some_community_decides()
 
 /// The limit of a community's name. RFC 3584, section 5, gives snmpCommunityName none; 255 octets is what a request may bear here.
 pub fn limits()
-    ensures { COMMUNITY_MAX ≡ 255 }
+    ensures { MAX_COMMUNITY_NAME ≡ 255 }
 {}

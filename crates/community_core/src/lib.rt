@@ -4,18 +4,22 @@
 //! `Policy::caller` says whom a community stands for; `Policy::new` takes written communities or names the first fault.
 //!
 //! # Definitions
-//! `specs/Communities.antt`: rules of the rows and the caller.
+//! `specs/Communities.antt`: rules of the rows and the caller; `specs/Orders.antt`: which row comes first;
+//! `specs/Faults.antt`: the faults of a policy.
 //!
 //! # Laws
-//! In [`laws`]: a community row decides wherever one has the name; the limit of a name is 255.
+//! In [`laws`]: a community row decides wherever one has the name; the limit of a name is 255. On the type, since it holds
+//! of kept communities alone, by its invariant: `Policy::communities_are_right`, they break no rule.
 //!
 //! # Not claimed
 //! How long a caller takes to be found: each row is looked at.
 #![tactic(auto)]
 
 mod community;
+mod fault;
 pub mod laws;
 mod policy;
 
-pub use community::{COMMUNITY_MAX, Caller, CommunityRow, WrittenCommunity};
+pub use community::{Caller, CommunityRow, MAX_COMMUNITY_NAME, WrittenCommunity};
+pub use fault::{PolicyFault, PolicyTable};
 pub use policy::Policy;

@@ -1,10 +1,13 @@
 //! A policy: the communities, and the tables of access control.
 ghost use Rattle.std.specs.Prelude.{◌≡◌, ◌≢◌, ◌<◌, ◌≤◌, length, map, slice_get, Some, IfOk, IfErr, IfSome, OnOk};
 
-use crate::community::{COMMUNITY_MAX, Caller, CommunityRow, WrittenCommunity, deciding_community};
+use crate::community::{
+    Caller, CommunityRow, MAX_COMMUNITY_NAME, WrittenCommunity, deciding_community,
+};
+use crate::fault::{PolicyFault, PolicyTable};
 use std::alloc::Global;
 use std::marker::Model;
-use vacm_core::{PolicyFault, PolicyTable, Rows, Vacm, checked_rows};
+use vacm_core::{Rows, Vacm, checked_rows};
 
 /// Who may read and write what, seen as five lists of rows. No two communities have one index, and each
 /// community's lengths and fields are right.
@@ -25,7 +28,8 @@ impl Model for Policy {
 }
 
 impl Policy {
-    ghost use Rattle.vacm_core.specs.Rules.{AreRight, IsFirstFault, BeginsRight};
+    ghost use Rattle.vacm_core.specs.Rules.{AreRight, BeginsRight};
+    ghost use Rattle.community_core.specs.Faults.{IsCommunityFault};
     ghost use Rattle.community_core.specs.Communities.{community_row, written_community, community_rules, caller_of, caller_of_row};
 
     /// The policy of these communities, as they are written, and these tables.
@@ -43,7 +47,7 @@ impl Policy {
             p ≡ record { communities = map community_row communities; vacm = vacm }) }
         ensures right { OnOk result (AreRight community_rules communities) }
         ensures fault { IfErr result (λ e. e ≢ PolicyFault.Memory →
-            IsFirstFault community_rules PolicyTable.Communities communities e) }
+            IsCommunityFault communities e) }
         ensures memory { IfErr result (λ e. e ≡ PolicyFault.Memory →
             BeginsRight community_rules communities) }
     {
@@ -59,10 +63,10 @@ impl Policy {
     }
 
     /// Whom a community name stands for: the row of that name whose index comes first. A name that
-    /// stands for somebody has at most [`COMMUNITY_MAX`] octets.
+    /// stands for somebody has at most [`MAX_COMMUNITY_NAME`] octets.
     pub fn caller(&self, name: &[u8]) -> Option<Caller>
         ensures caller { result ≡ caller_of self.now.communities name.now }
-        ensures short { IfSome result (λ _. length name.now ≤ COMMUNITY_MAX) }
+        ensures short { IfSome result (λ _. length name.now ≤ MAX_COMMUNITY_NAME) }
     {
         match deciding_community(self.communities.as_slice(), name) {
             Some(n) => Some(self.caller_at(n)),

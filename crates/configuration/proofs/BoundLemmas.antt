@@ -6,8 +6,8 @@ use Rattle.std.specs.Result.{result_ok}
 use Rattle.hex.specs.Hex.{decode_sized}
 use Rattle.frame_core.specs.declared.mac.Mac.{Mac}
 use Rattle.frame_core.specs.Octets.{is_group}
-use Rattle.rstp_rules.specs.declared.config.PortConfig.{PortConfig}
-use Rattle.rstp_rules.specs.declared.config.TheConstants.{IFINDEX_MAX}
+use Rattle.rstp_settings.specs.declared.config.PortConfig.{PortConfig}
+use Rattle.rstp_settings.specs.declared.config.TheConstants.{MAX_IFINDEX}
 use Rattle.rstp_settings.specs.declared.settings.TheConstants.{MAX_PORTS}
 use Rattle.toml.specs.Data.{Data, Members, as_table}
 use Rattle.policy_text.specs.Keys.{string_at, bool_at, array_at}
@@ -59,7 +59,7 @@ same_some x y e = cc
 
 config_speed : (ms : Members) (p : PortConfig) → port_config_of ms ≡ Some p → is_speed p.speed ≡ true
 config_speed ms p e =
-    let first = stepped (number_at (codes "ifindex") 1 IFINDEX_MAX ms) _ p e in
+    let first = stepped (number_at (codes "ifindex") 1 MAX_IFINDEX ms) _ p e in
     let second = stepped (speed_at ms) _ p first.2 in
     let third = stepped (bool_at (codes "full") ms) _ p second.2 in
     let made : PortConfig = record { ifindex = first.0; speed = second.0; full = third.0 } in

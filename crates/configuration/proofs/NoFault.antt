@@ -2,7 +2,7 @@
 use Rattle.std.proofs.Common.{◌≡◌, ◌⊎◌, ℕ, zero, suc, List, [], ◌∷◌, Option, Some, None, subst}
 use Rattle.std.specs.List.{slice_get}
 use Rattle.toml.specs.Data.{Data, Members}
-use Rattle.vacm_core.specs.declared.fault.PolicyFault.{PolicyFault}
+use Rattle.community_core.specs.declared.fault.PolicyFault.{PolicyFault}
 use Rattle.community_core.specs.Communities.{PolicyTables}
 use Rattle.policy_text.specs.Policies.{IsPolicy, IsUnread, IsWrongPolicy}
 use Rattle.policy_text.specs.Reading.{AreRows}

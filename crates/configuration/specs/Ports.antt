@@ -1,13 +1,13 @@
 -- The ports of a configuration.
 use Rattle.std.specs.Prelude.{◌≡◌, ◌⊎◌, ℕ, ◌+◌, ◌==◌, ◌&&◌, ◌||◌, Bool, codes, nat_le, is_some, if◌then◌else◌, List, length, take, slice_get, Option, Some, None}
 use Rattle.std.specs.List.{list_all}
-use Rattle.rstp_rules.specs.declared.config.PortConfig.{PortConfig}
+use Rattle.rstp_settings.specs.declared.config.PortConfig.{PortConfig}
 use Rattle.rstp_settings.specs.declared.settings.TheConstants.{MAX_PORTS}
 use Rattle.toml.specs.Data.{Data, Members, get_member, as_table}
 use Rattle.policy_text.specs.Keys.{key_count, bool_at, array_at}
 use Rattle.policy_text.specs.Reading.{AreRows, ◌>=>◌}
 use Rattle.configuration.specs.declared.configuration.Port.{Port}
-use Rattle.rstp_rules.specs.declared.config.TheConstants.{IFINDEX_MAX}
+use Rattle.rstp_settings.specs.declared.config.TheConstants.{MAX_IFINDEX}
 use Rattle.configuration.specs.declared.fault.ConfigurationFault.{ConfigurationFault}
 use Rattle.configuration.specs.declared.fault.ConfigurationFault.TheVariants.{BadPorts, BadPort}
 use Rattle.configuration.specs.Numbers.{number_at}
@@ -26,7 +26,7 @@ speed_at ms = number_at (codes "speed") 10 1000 ms >=> if_speed
 -- what is fixed of a port
 abbrev pub port_config_of : Members → Option PortConfig
 port_config_of ms =
-    number_at (codes "ifindex") 1 IFINDEX_MAX ms >=> (λ ifindex. speed_at ms >=> (λ speed. bool_at (codes "full") ms >=> (λ full.
+    number_at (codes "ifindex") 1 MAX_IFINDEX ms >=> (λ ifindex. speed_at ms >=> (λ speed. bool_at (codes "full") ms >=> (λ full.
     Some (record { ifindex = ifindex; speed = speed; full = full }))))
 
 -- the keys of a port: three, and `listen` and `peer` where they are there

@@ -1,20 +1,20 @@
 -- What an operator is told of each fault: where it stands, and what would be right there.
 use Rattle.std.specs.Prelude.{ℕ, ◌+◌, ◌-◌, ◌^◌, min, codes, decimal, List, ◌++◌}
-use Rattle.vacm_core.specs.declared.fault.PolicyFault.{PolicyFault}
-use Rattle.vacm_core.specs.declared.fault.PolicyFault.TheVariants.{Memory as NoMemory, Duplicate, BadLength, BadField}
-use Rattle.vacm_core.specs.declared.fault.PolicyTable.{PolicyTable}
-use Rattle.vacm_core.specs.declared.fault.PolicyTable.TheVariants.{Groups, Access, Families, Contexts, Communities}
+use Rattle.community_core.specs.declared.fault.PolicyFault.{PolicyFault}
+use Rattle.community_core.specs.declared.fault.PolicyFault.TheVariants.{Memory as NoMemory, Duplicate, BadLength, BadField}
+use Rattle.community_core.specs.declared.fault.PolicyTable.{PolicyTable}
+use Rattle.community_core.specs.declared.fault.PolicyTable.TheVariants.{Groups, Access, Families, Contexts, Communities}
 use Rattle.configuration.specs.declared.fault.ConfigurationFault.{ConfigurationFault}
 use Rattle.configuration.specs.declared.fault.ConfigurationFault.TheVariants.{Memory, BadText, BadAddress, BadPorts, BadPort, BadServe, BadKeys, Policy}
 
 -- the number of a row, counted from 1, of one that is counted from 0; no table has 2^64 rows
-abbrev pub counted : ℕ → ℕ
-counted row = min (row + 1) (2 ^ 64 - 1)
+abbrev pub row_count : ℕ → ℕ
+row_count row = min (row + 1) (2 ^ 64 - 1)
 
 -- a row of a table, and what would be right there
 abbrev pub row_sentence : List ℕ → ℕ → List ℕ → List ℕ
 row_sentence table row rule =
-    codes "row " ++ (decimal (counted row) ++ (codes " of " ++ (table ++ (codes ", counted from 1: " ++ rule))))
+    codes "row " ++ (decimal (row_count row) ++ (codes " of " ++ (table ++ (codes ", counted from 1: " ++ rule))))
 
 -- a table as it stands in the text
 abbrev pub table_key : PolicyTable → List ℕ
@@ -36,22 +36,22 @@ key_rule Communities = codes "no earlier row may have its index"
 abbrev pub length_rule : PolicyTable → List ℕ
 length_rule Groups = codes "name and group are to have 1 to 32 octets"
 length_rule Access = codes "group is to have 1 to 32 octets, prefix, read, write and notify at most 32"
-length_rule Families = codes "view is to have 1 to 32 octets, mask at most 16, and view and subtree at most 114 together"
+length_rule Families = codes "view is to have 1 to 32 octets, mask at most 32 digits (16 octets), and the octets of view and the numbers of subtree are to be at most 114 together"
 length_rule Contexts = codes "a context is to have at most 32 octets"
 length_rule Communities = codes "index and security are to have 1 to 32 octets, name 1 to 255, context at most 32"
 
--- which keys and values a row is to have; a plain text is one of ASCII letters and digits, `-`, `_` and `.`
+-- which keys and values a row is to have: a plain text is of ASCII letters and digits, `-`, `_` and `.`
 abbrev pub field_rule : PolicyTable → List ℕ
-field_rule Groups = codes "its keys are to be model (1 to 2147483647), name and group (plain texts), and no others"
+field_rule Groups = codes "it is to be a table whose keys are model (1 to 2147483647), name and group (strings of ASCII letters and digits, -, _ and .), and no others"
 field_rule Access =
-    codes "its keys are to be group, prefix, read, write and notify (plain texts), model (0 to 2147483647), level (1 to 3) and exact (true or false), and no others"
+    codes "it is to be a table whose keys are group, prefix, read, write and notify (strings of ASCII letters and digits, -, _ and .), model (0 to 2147483647), level (1 to 3) and exact (true or false), and no others"
 field_rule Families =
-    codes "its keys are to be view (a plain text), subtree (as 1.3.6.1), mask (hexadecimal) and included (true or false), and no others"
-field_rule Contexts = codes "a context is to be a plain text"
-field_rule Communities = codes "its keys are to be index, security and context (plain texts) and name (a string), and no others"
+    codes "it is to be a table whose keys are view (a string of ASCII letters and digits, -, _ and .), subtree (a string of 1 to 128 numbers below 4294967296 with dots between them and no leading zeros), mask (a string of hexadecimal digits, two an octet) and included (true or false), and no others"
+field_rule Contexts = codes "a context is to be a string of ASCII letters and digits, -, _ and ."
+field_rule Communities = codes "it is to be a table whose keys are index, security and context (strings of ASCII letters and digits, -, _ and .) and name (a string), and no others"
 
 abbrev pub memory_sentence : List ℕ
-memory_sentence = codes "no memory to read it, which says nothing of it"
+memory_sentence = codes "there was no memory to read the configuration; whether it is right is not known"
 
 abbrev pub policy_sentence : PolicyFault → List ℕ
 policy_sentence NoMemory = memory_sentence
@@ -71,7 +71,7 @@ sentence BadAddress = codes "top level: address is to be a string of 12 hexadeci
 sentence BadPorts = codes "top level: port is to be an array of 1 to 32 tables"
 sentence (BadPort row) = row_sentence (codes "[[port]]") row port_rule
 sentence BadServe =
-    codes "table serve: its keys are to be snmp (as 127.0.0.1:161), workers (1 to 8) and rounds (1 to 1000000), and no others"
+    codes "table serve: it is to be one table whose keys are snmp (as 127.0.0.1:161), workers (1 to 8) and rounds (1 to 1000000), and no others"
 sentence BadKeys =
     codes "top level: its keys are to be address, port, contexts, community, group, access and family, the last five arrays, and may be serve, and no others"
 sentence (Policy fault) = policy_sentence fault

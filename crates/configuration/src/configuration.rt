@@ -3,15 +3,15 @@
 use arrayvec::ArrayVec;
 use community_core::Policy;
 use frame_core::Mac;
-use rstp_rules::config::PortConfig;
+use rstp_settings::config::PortConfig;
 use rstp_settings::settings::MAX_PORTS;
 use std::net::SocketAddr;
 
 /// The most threads that answer requests.
-pub const WORKERS_MAX: u32 = 8;
+pub const MAX_WORKERS: u32 = 8;
 
 /// The most rounds of a server.
-pub const ROUNDS_MAX: u32 = 1000000;
+pub const MAX_ROUNDS: u32 = 1000000;
 
 /// A port of the bridge.
 #[derive(Clone, Copy, Debug, Default, PartialEq, Eq)]

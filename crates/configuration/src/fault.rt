@@ -2,8 +2,8 @@
 ghost use Rattle.std.specs.Prelude.{◌≡◌};
 ghost use Rattle.configuration.specs.Faults.{of_policy};
 
+use community_core::PolicyFault;
 use thiserror::Error;
-use vacm_core::PolicyFault;
 
 /// Why a configuration is refused: its first fault, in the order of the cases from `BadText` on.
 #[derive(Clone, Copy, Debug, PartialEq, Eq, Error)]

@@ -6,9 +6,9 @@ ghost use Rattle.configuration.specs.declared.fault.ConfigurationFault.{Configur
 ghost use Rattle.configuration.specs.Configurations.{IsConfiguration, IsFault};
 ghost use Rattle.configuration.specs.Bounds.{IsWithinBounds};
 
-use crate::configuration::{Configuration, ROUNDS_MAX, WORKERS_MAX};
+use crate::configuration::{Configuration, MAX_ROUNDS, MAX_WORKERS};
 use crate::fault::ConfigurationFault;
-use rstp_rules::config::IFINDEX_MAX;
+use rstp_settings::config::MAX_IFINDEX;
 
 /// A table that says a configuration has no fault, so none that says one is refused but for want of memory.
 pub fn no_fault_in_a_configuration()
@@ -24,7 +24,7 @@ pub fn configurations_are_within_bounds()
 
 /// The limits of a configuration: InterfaceIndex (1..2147483647) of RFC 2863, and how many threads and rounds may serve.
 pub fn limits()
-    ensures ifindex { IFINDEX_MAX ≡ 2147483647 }
-    ensures workers { WORKERS_MAX ≡ 8 }
-    ensures rounds { ROUNDS_MAX ≡ 1000000 }
+    ensures ifindex { MAX_IFINDEX ≡ 2147483647 }
+    ensures workers { MAX_WORKERS ≡ 8 }
+    ensures rounds { MAX_ROUNDS ≡ 1000000 }
 {}

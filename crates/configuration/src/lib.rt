@@ -27,7 +27,7 @@ mod sentences;
 mod serve;
 mod sockets;
 
-pub use configuration::{BUILT_IN, Configuration, Port, ROUNDS_MAX, Serve, WORKERS_MAX};
+pub use configuration::{BUILT_IN, Configuration, MAX_ROUNDS, MAX_WORKERS, Port, Serve};
 pub use fault::ConfigurationFault;
 pub use reading::{configuration_in, configuration_of, configuration_of_text};
 pub use sentences::sentence;

@@ -12,7 +12,7 @@ use crate::numbers::number_at;
 use crate::sockets::optional_socket_at;
 use arrayvec::ArrayVec;
 use policy_text::keys::{array_at, bool_at, key_count, value_at};
-use rstp_rules::config::{IFINDEX_MAX, IfIndex, PortConfig};
+use rstp_settings::config::{IfIndex, MAX_IFINDEX, PortConfig};
 use rstp_settings::settings::MAX_PORTS;
 use toml::{Table, Value};
 
@@ -32,7 +32,7 @@ fn speed_at(table: &Table) -> Option<u32>
 fn port_config(table: &Table) -> Option<PortConfig>
     ensures { result ≡ port_config_of (table_view table.now) }
 {
-    let ifindex = number_at(table, "ifindex", 1, IFINDEX_MAX)?;
+    let ifindex = number_at(table, "ifindex", 1, MAX_IFINDEX)?;
     let speed = speed_at(table)?;
     let full = bool_at(table, "full")?;
     Some(PortConfig {

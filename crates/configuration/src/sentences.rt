@@ -1,17 +1,18 @@
 //! What an operator is told of a fault.
 ghost use Rattle.std.specs.Prelude.{◌≡◌, IfOk, string_bytes};
-ghost use Rattle.configuration.specs.Sentences.{counted, row_sentence, table_key, key_rule, length_rule, field_rule, policy_sentence, sentence};
+ghost use Rattle.configuration.specs.Sentences.{row_count, row_sentence, table_key, key_rule, length_rule, field_rule, policy_sentence, sentence};
 
 use crate::fault::ConfigurationFault;
+use community_core::{PolicyFault, PolicyTable};
 use std::alloc::{AllocError, Global};
-use vacm_core::{PolicyFault, PolicyTable};
 
 /// What is said where there was no memory for a configuration.
-const NO_MEMORY: &str = "no memory to read it, which says nothing of it";
+const NO_MEMORY: &str =
+    "there was no memory to read the configuration; whether it is right is not known";
 
 // The number of a row, counted from 1.
 fn counted(row: usize) -> usize
-    ensures { result ≡ counted row }
+    ensures { result ≡ row_count row }
 {
     row.saturating_add(1)
 }
@@ -59,7 +60,7 @@ fn length_rule(table: PolicyTable) -> &'static str
         PolicyTable::Access =>
             "group is to have 1 to 32 octets, prefix, read, write and notify at most 32",
         PolicyTable::Families =>
-            "view is to have 1 to 32 octets, mask at most 16, and view and subtree at most 114 together",
+            "view is to have 1 to 32 octets, mask at most 32 digits (16 octets), and the octets of view and the numbers of subtree are to be at most 114 together",
         PolicyTable::Contexts => "a context is to have at most 32 octets",
         PolicyTable::Communities =>
             "index and security are to have 1 to 32 octets, name 1 to 255, context at most 32",
@@ -72,14 +73,15 @@ fn field_rule(table: PolicyTable) -> &'static str
 {
     match table {
         PolicyTable::Groups =>
-            "its keys are to be model (1 to 2147483647), name and group (plain texts), and no others",
+            "it is to be a table whose keys are model (1 to 2147483647), name and group (strings of ASCII letters and digits, -, _ and .), and no others",
         PolicyTable::Access =>
-            "its keys are to be group, prefix, read, write and notify (plain texts), model (0 to 2147483647), level (1 to 3) and exact (true or false), and no others",
+            "it is to be a table whose keys are group, prefix, read, write and notify (strings of ASCII letters and digits, -, _ and .), model (0 to 2147483647), level (1 to 3) and exact (true or false), and no others",
         PolicyTable::Families =>
-            "its keys are to be view (a plain text), subtree (as 1.3.6.1), mask (hexadecimal) and included (true or false), and no others",
-        PolicyTable::Contexts => "a context is to be a plain text",
+            "it is to be a table whose keys are view (a string of ASCII letters and digits, -, _ and .), subtree (a string of 1 to 128 numbers below 4294967296 with dots between them and no leading zeros), mask (a string of hexadecimal digits, two an octet) and included (true or false), and no others",
+        PolicyTable::Contexts =>
+            "a context is to be a string of ASCII letters and digits, -, _ and .",
         PolicyTable::Communities =>
-            "its keys are to be index, security and context (plain texts) and name (a string), and no others",
+            "it is to be a table whose keys are index, security and context (strings of ASCII letters and digits, -, _ and .) and name (a string), and no others",
     }
 }
 
@@ -116,7 +118,7 @@ const PORT_RULE: &str =
 
 // What is said of `serve`.
 const SERVE_SENTENCE: &str =
-    "table serve: its keys are to be snmp (as 127.0.0.1:161), workers (1 to 8) and rounds (1 to 1000000), and no others";
+    "table serve: it is to be one table whose keys are snmp (as 127.0.0.1:161), workers (1 to 8) and rounds (1 to 1000000), and no others";
 
 // What is said of the keys at the top.
 const KEYS_SENTENCE: &str =

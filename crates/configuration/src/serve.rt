@@ -4,7 +4,7 @@ ghost use Rattle.toml.specs.View.{table_view, view};
 ghost use Rattle.configuration.specs.Serving.{IsServe, IsServeRow, IsServing};
 ghost use Rattle.configuration.specs.declared.configuration.Serve.{Serve};
 
-use crate::configuration::{ROUNDS_MAX, Serve, WORKERS_MAX};
+use crate::configuration::{MAX_ROUNDS, MAX_WORKERS, Serve};
 use crate::fault::ConfigurationFault;
 use crate::numbers::number_at;
 use crate::sockets::socket_at;
@@ -17,8 +17,8 @@ fn read_serve(table: &Table) -> Option<Serve>
     ensures none { IfNone result ((s : Serve) → ¬ IsServe (table_view table.now) s) }
 {
     let snmp = socket_at(table, "snmp")?;
-    let workers = number_at(table, "workers", 1, WORKERS_MAX)?;
-    let rounds = number_at(table, "rounds", 1, ROUNDS_MAX)?;
+    let workers = number_at(table, "workers", 1, MAX_WORKERS)?;
+    let rounds = number_at(table, "rounds", 1, MAX_ROUNDS)?;
     if key_count(table) != 3 {
         return None;
     }

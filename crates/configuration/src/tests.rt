@@ -1,7 +1,7 @@
 use super::*;
+use community_core::{PolicyFault, PolicyTable};
 use std::alloc::Global;
 use std::test::Fail;
-use vacm_core::{PolicyFault, PolicyTable};
 
 const POLICY: &str = "
 contexts = []

@@ -31,8 +31,8 @@ view_type GetBulk = Read
 view_type Set = Write
 
 -- what a caller's request asks of the tables: SNMPv2c is security model 2 (RFC 3411, SnmpSecurityModel), with no security
-abbrev pub asked : Caller → Kind → Ask
-asked caller kind = record {
+abbrev pub ask_of : Caller → Kind → Ask
+ask_of caller kind = record {
   model = 2;
   security = caller.security;
   context = caller.context;
@@ -49,28 +49,28 @@ abbrev pub access_key_at : List AccessRow → ℕ → AccessKey
 access_key_at rows n = access_key (slice_index_or rows n no_access_row)
 
 -- a verdict of the tables, with the keys of its rows
-abbrev pub judged : List AccessRow → Verdict → Decision
-judged rows (verdict.NoSuchContext name) = Drop (NoSuchContext name)
-judged rows (verdict.NoGroupName model name) = Refused (NoGroupName model name)
-judged rows (verdict.NoAccessEntry group context model level) =
+abbrev pub decision_by : List AccessRow → Verdict → Decision
+decision_by rows (verdict.NoSuchContext name) = Drop (NoSuchContext name)
+decision_by rows (verdict.NoGroupName model name) = Refused (NoGroupName model name)
+decision_by rows (verdict.NoAccessEntry group context model level) =
     Refused (NoAccessEntry (record { group = group; prefix = context; model = model; level = level }))
-judged rows (verdict.NoSuchView n view) = Refused (NoSuchView (access_key_at rows n) view)
-judged rows (verdict.Allowed n view) = Allowed (access_key_at rows n) view
+decision_by rows (verdict.NoSuchView n view) = Refused (NoSuchView (access_key_at rows n) view)
+decision_by rows (verdict.Allowed n view) = Allowed (access_key_at rows n) view
 
 -- a request that is not dropped and asks for nothing is neither refused nor allowed
-abbrev pub of_nothing : Decision → Decision
-of_nothing (Drop cause) = Drop cause
-of_nothing Empty = Empty
-of_nothing (Refused why) = Empty
-of_nothing (Allowed row view) = Empty
+abbrev pub decision_on_nothing : Decision → Decision
+decision_on_nothing (Drop cause) = Drop cause
+decision_on_nothing Empty = Empty
+decision_on_nothing (Refused why) = Empty
+decision_on_nothing (Allowed row view) = Empty
 
-abbrev pub unless_empty : Bool → Decision → Decision
-unless_empty empty decision = if empty then of_nothing decision else decision
+abbrev pub decision_unless_empty : Bool → Decision → Decision
+decision_unless_empty empty decision = if empty then decision_on_nothing decision else decision
 
-abbrev pub decided_for : Tables → Request → Option Caller → Decision
-decided_for t request (Some caller) = unless_empty (length request.bindings == 0) (judged t.access (verdict_of t (asked caller request.kind)))
-decided_for t request None = Drop UnknownCommunity
+abbrev pub decision_for : Tables → Request → Option Caller → Decision
+decision_for t request (Some caller) = decision_unless_empty (length request.bindings == 0) (decision_by t.access (verdict_of t (ask_of caller request.kind)))
+decision_for t request None = Drop UnknownCommunity
 
--- The decision on a request: its community, its context, whether it has bindings, and what the tables say, in this order.
-unfoldable pub decided : PolicyTables → Request → Decision
-decided policy request = decided_for policy.vacm request (caller_of policy.communities request.community)
+-- The decision on a request: its community, its context, whether it has variable bindings, and what the tables say, in this order.
+unfoldable pub decision_on : PolicyTables → Request → Decision
+decision_on policy request = decision_for policy.vacm request (caller_of policy.communities request.community)

@@ -37,7 +37,7 @@ pub enum Refusal {
 pub enum Decision {
     /// The request is dropped.
     Drop(Cause),
-    /// The request has no bindings, so nothing further is decided.
+    /// The request has no variable bindings, so nothing further is decided.
     Empty,
     /// The request may not do what it asks for.
     Refused(Refusal),

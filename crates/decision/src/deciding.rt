@@ -1,18 +1,18 @@
 //! Who is let in to what.
 ghost use Rattle.std.specs.Prelude.{◌≡◌, ◌≢◌, ◌≤◌, ◌<◌, length};
-ghost use Rattle.decision.specs.Deciding.{view_type, asked, access_key_at, judged, unless_empty, decided};
+ghost use Rattle.decision.specs.Deciding.{view_type, ask_of, access_key_at, decision_by, decision_unless_empty, decision_on};
 ghost use Rattle.vacm_core.specs.Access.{NamesRowOf};
 
 use crate::choice::{Cause, Decision, Refusal};
 use crate::keys::AccessKey;
-use community_core::{COMMUNITY_MAX, Caller, Policy};
+use community_core::{Caller, MAX_COMMUNITY_NAME, Policy};
 use message_core::{Kind, Request};
 use vacm_core::{Ask, Level, Vacm, Verdict, ViewType};
 
 /// The security model of SNMPv2c (RFC 3411, SnmpSecurityModel).
 const COMMUNITY_MODEL: u32 = 2;
 
-// The view that a kind of request asks for.
+// The view that a PDU type asks for.
 fn view_type(kind: Kind) -> ViewType
     ensures { result ≡ view_type kind }
 {
@@ -24,7 +24,7 @@ fn view_type(kind: Kind) -> ViewType
 
 // What a caller's request asks of the tables.
 fn asked(caller: Caller, kind: Kind) -> Ask
-    ensures { result ≡ asked caller kind }
+    ensures { result ≡ ask_of caller kind }
 {
     Ask {
         model: COMMUNITY_MODEL,
@@ -46,7 +46,7 @@ fn access_key_at(vacm: &Vacm, n: usize) -> AccessKey
 // A verdict of the tables, with the keys of its rows.
 fn judged(vacm: &Vacm, verdict: Verdict) -> Decision
     requires { NamesRowOf vacm.now.access verdict }
-    ensures { result ≡ judged vacm.now.access verdict }
+    ensures { result ≡ decision_by vacm.now.access verdict }
 {
     match verdict {
         Verdict::NoSuchContext(name) => Decision::Drop(Cause::NoSuchContext(name)),
@@ -74,7 +74,7 @@ fn judged(vacm: &Vacm, verdict: Verdict) -> Decision
 
 // A decision, or that nothing is asked for by a request that is not dropped.
 fn unless_empty(empty: bool, decision: Decision) -> Decision
-    ensures { result ≡ unless_empty empty decision }
+    ensures { result ≡ decision_unless_empty empty decision }
 {
     match decision {
         Decision::Drop(cause) => Decision::Drop(cause),
@@ -84,11 +84,11 @@ fn unless_empty(empty: bool, decision: Decision) -> Decision
 
 /// The decision on a request up to its names: its community (RFC 3584, section 5.2.1), its context, and what the tables of access
 /// control say (RFC 3415, section 3.2). It takes no memory.
-#[tactic(auto, unfolding(crate::specs::Deciding::decided))]
+#[tactic(auto, unfolding(crate::specs::Deciding::decision_on))]
 pub fn decide(policy: &Policy, request: &Request) -> Decision
-    ensures decision { result ≡ decided policy.now request.now }
+    ensures decision { result ≡ decision_on policy.now request.now }
     ensures short { result ≢ Decision.Drop Cause.UnknownCommunity →
-        length request.now.community ≤ COMMUNITY_MAX }
+        length request.now.community ≤ MAX_COMMUNITY_NAME }
 {
     let Some(caller) = policy.caller(request.community.as_slice()) else {
         return Decision::Drop(Cause::UnknownCommunity);

@@ -5,7 +5,7 @@
 //! [`decide`] gives a [`Decision`] with the keys of the deciding or missing row. It takes no memory.
 //!
 //! # Definitions
-//! `specs/Deciding.antt`: community, context, whether there are bindings, and then the verdict of `vacm_core`;
+//! `specs/Deciding.antt`: community, context, whether there are variable bindings, and then the verdict of `vacm_core`;
 //! `specs/Keys.antt`: the key of an access row.
 //!
 //! # Laws

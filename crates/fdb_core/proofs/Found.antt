@@ -11,7 +11,7 @@ use Rattle.fdb_core.specs.declared.learnt.Learnt.{Learnt}
 use Rattle.fdb_core.specs.declared.learnt.Learnt.TheVariants.{New, Moved, Same, Full, Memory}
 use Rattle.fdb_core.specs.Rows.{rows_below, rows_above, row_of}
 use Rattle.frame_core.specs.Octets.{mac_cmp}
-use Rattle.fdb_core.specs.Learning.{with_row, seen, learned}
+use Rattle.fdb_core.specs.Learning.{with_row, new_row, learned_rows}
 use Rattle.fdb_core.proofs.Order.{same_address, above_from_below, below_from_above}
 
 not_true : (b : Bool) → (b ≡ true → ⊥) → b ≡ false
@@ -102,16 +102,16 @@ its_own rows r =
     let back : row_of (r ∷ rows_above rows a) a ≡ Some r = rw equal refl in
     parts rows r a ∙ ap (λ o. first_of o (row_of (r ∷ rows_above rows a) a)) dropped ∙ back
 
-pub learned_others : (l : Learnt) (rows : List Row) (a : Mac) (port : ℕ) (b : Mac) → b ≢ a → row_of (learned l rows a port) b ≡ row_of rows b
-learned_others New rows a port b other = others_keep rows (seen a port) b other
-learned_others Moved rows a port b other = others_keep rows (seen a port) b other
-learned_others Same rows a port b other = others_keep rows (seen a port) b other
+pub learned_others : (l : Learnt) (rows : List Row) (a : Mac) (port : ℕ) (b : Mac) → b ≢ a → row_of (learned_rows l rows a port) b ≡ row_of rows b
+learned_others New rows a port b other = others_keep rows (new_row a port) b other
+learned_others Moved rows a port b other = others_keep rows (new_row a port) b other
+learned_others Same rows a port b other = others_keep rows (new_row a port) b other
 learned_others Full rows a port b other = refl
 learned_others Memory rows a port b other = refl
 
-pub learned_here : (l : Learnt) (rows : List Row) (a : Mac) (port : ℕ) → l ≢ Full → l ≢ Memory → row_of (learned l rows a port) a ≡ Some (seen a port)
-learned_here New rows a port full memory = its_own rows (seen a port)
-learned_here Moved rows a port full memory = its_own rows (seen a port)
-learned_here Same rows a port full memory = its_own rows (seen a port)
+pub learned_here : (l : Learnt) (rows : List Row) (a : Mac) (port : ℕ) → l ≢ Full → l ≢ Memory → row_of (learned_rows l rows a port) a ≡ Some (new_row a port)
+learned_here New rows a port full memory = its_own rows (new_row a port)
+learned_here Moved rows a port full memory = its_own rows (new_row a port)
+learned_here Same rows a port full memory = its_own rows (new_row a port)
 learned_here Full rows a port full memory = absurd (full refl)
 learned_here Memory rows a port full memory = absurd (memory refl)

@@ -13,9 +13,9 @@ use Rattle.fdb_core.specs.declared.row.Row.{Row}
 use Rattle.fdb_core.specs.declared.row.TheConstants.{MAX_AGING_TIME}
 use Rattle.fdb_core.specs.declared.learnt.Learnt.{Learnt}
 use Rattle.fdb_core.specs.declared.learnt.Learnt.TheVariants.{New, Moved, Same, Full, Memory}
-use Rattle.fdb_core.specs.Rows.{IsRising, IsYoung, rows_below, rows_above, aged, young_rows}
+use Rattle.fdb_core.specs.Rows.{IsRising, IsYoung, rows_below, rows_above, older_row, young_rows}
 use Rattle.frame_core.specs.Octets.{mac_cmp}
-use Rattle.fdb_core.specs.Learning.{with_row, seen, seen_again, answer_on, learned}
+use Rattle.fdb_core.specs.Learning.{with_row, new_row, renewed_row, answer_on, learned_rows}
 use Rattle.fdb_core.proofs.Order.{below_from_above, below_trans}
 
 -- what holds of each row holds of those that a filter keeps
@@ -71,32 +71,32 @@ young_with_row : (rows : List Row) (r : Row) → r.age < MAX_AGING_TIME → IsYo
 young_with_row rows r now young = all_joined _ _ _ (kept_by _ _ rows young) (now, kept_by _ _ rows young)
 
 -- what learning leaves
-pub rising_learned : (l : Learnt) (rows : List Row) (a : Mac) (port : ℕ) → IsRising rows → IsRising (learned l rows a port)
-rising_learned New rows a port up = rising_with_row rows (seen a port) up
-rising_learned Moved rows a port up = rising_with_row rows (seen a port) up
-rising_learned Same rows a port up = rising_with_row rows (seen a port) up
+pub rising_learned : (l : Learnt) (rows : List Row) (a : Mac) (port : ℕ) → IsRising rows → IsRising (learned_rows l rows a port)
+rising_learned New rows a port up = rising_with_row rows (new_row a port) up
+rising_learned Moved rows a port up = rising_with_row rows (new_row a port) up
+rising_learned Same rows a port up = rising_with_row rows (new_row a port) up
 rising_learned Full rows a port up = up
 rising_learned Memory rows a port up = up
 
-pub young_learned : (l : Learnt) (rows : List Row) (a : Mac) (port : ℕ) → IsYoung rows → IsYoung (learned l rows a port)
-young_learned New rows a port young = young_with_row rows (seen a port) (omega arith) young
-young_learned Moved rows a port young = young_with_row rows (seen a port) (omega arith) young
-young_learned Same rows a port young = young_with_row rows (seen a port) (omega arith) young
+pub young_learned : (l : Learnt) (rows : List Row) (a : Mac) (port : ℕ) → IsYoung rows → IsYoung (learned_rows l rows a port)
+young_learned New rows a port young = young_with_row rows (new_row a port) (omega arith) young
+young_learned Moved rows a port young = young_with_row rows (new_row a port) (omega arith) young
+young_learned Same rows a port young = young_with_row rows (new_row a port) (omega arith) young
 young_learned Full rows a port young = young
 young_learned Memory rows a port young = young
 
 -- a second later the addresses are the same
-aged_above : (x : Row) (xs : List Row) → AllByRecursion (λ s. mac_cmp x.address s.address ≡ Less) xs → AllByRecursion (λ s. mac_cmp x.address s.address ≡ Less) (map aged xs)
+aged_above : (x : Row) (xs : List Row) → AllByRecursion (λ s. mac_cmp x.address s.address ≡ Less) xs → AllByRecursion (λ s. mac_cmp x.address s.address ≡ Less) (map older_row xs)
 aged_above x [] h = tt
 aged_above x (y ∷ ys) h = (h.0, aged_above x ys h.1)
 
-rising_aged : (rows : List Row) → IsRising rows → IsRising (map aged rows)
+rising_aged : (rows : List Row) → IsRising rows → IsRising (map older_row rows)
 unfolding IsStrictlySortedBy
 rising_aged [] up = tt
 rising_aged (x ∷ xs) up = (aged_above x xs up.0, rising_aged xs up.1)
 
-pub rising_later : (limit : ℕ) (rows : List Row) → IsRising rows → IsRising (young_rows limit (map aged rows))
-rising_later limit rows up = IsStrictlySortedBy-filter _ _ (map aged rows) (rising_aged rows up)
+pub rising_later : (limit : ℕ) (rows : List Row) → IsRising rows → IsRising (young_rows limit (map older_row rows))
+rising_later limit rows up = IsStrictlySortedBy-filter _ _ (map older_row rows) (rising_aged rows up)
 
 -- and the rows that are left are young
 pub young_left : (limit : ℕ) (rows : List Row) → limit ≤ MAX_AGING_TIME → IsYoung (young_rows limit rows)
@@ -115,8 +115,8 @@ pub rising_kept : (p : Row → Bool) (rows : List Row) → IsRising rows → IsR
 rising_kept p rows up = IsStrictlySortedBy-filter _ p rows up
 
 -- a row that is seen again is a row that is seen now
-pub relearned : (known port : ℕ) (rows : List Row) (a : Mac) → learned (answer_on known port) rows a port ≡ with_row rows (seen a port)
-relearned known port rows a = elim (known == port) as (λ b. learned (cond b Same Moved) rows a port ≡ with_row rows (seen a port)) [ true ↦ refl | false ↦ refl ]
+pub relearned : (known port : ℕ) (rows : List Row) (a : Mac) → learned_rows (answer_on known port) rows a port ≡ with_row rows (new_row a port)
+relearned known port rows a = elim (known == port) as (λ b. learned_rows (cond b Same Moved) rows a port ≡ with_row rows (new_row a port)) [ true ↦ refl | false ↦ refl ]
 
-pub again : (row : Row) (a : Mac) (port : ℕ) → row.address ≡ a → seen_again row port ≡ seen a port
-again row a port e = ap (λ (m : Mac). seen m port) e
+pub again : (row : Row) (a : Mac) (port : ℕ) → row.address ≡ a → renewed_row row port ≡ new_row a port
+again row a port e = ap (λ (m : Mac). new_row m port) e

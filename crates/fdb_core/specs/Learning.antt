@@ -11,12 +11,12 @@ abbrev pub with_row : List Row → Row → List Row
 with_row rows row = rows_below rows row.address ++ row ∷ rows_above rows row.address
 
 -- a row of this port, seen just now
-abbrev pub seen : Mac → ℕ → Row
-seen address port = record { address = address; port = port; age = 0 }
+abbrev pub new_row : Mac → ℕ → Row
+new_row address port = record { address = address; port = port; age = 0 }
 
 -- a row after its address was seen on this port
-abbrev pub seen_again : Row → ℕ → Row
-seen_again row port = record row { port = port; age = 0 }
+abbrev pub renewed_row : Row → ℕ → Row
+renewed_row row port = record row { port = port; age = 0 }
 
 -- where an address is known on the first port, and is seen on the second
 abbrev pub answer_on : ℕ → ℕ → Learnt
@@ -32,9 +32,9 @@ abbrev pub answer : List Row → ℕ → Mac → ℕ → Learnt
 answer rows limit address port = answer_from (port_of rows address) rows limit port
 
 -- the rows after an answer
-abbrev pub learned : Learnt → List Row → Mac → ℕ → List Row
-learned New rows address port = with_row rows (seen address port)
-learned Moved rows address port = with_row rows (seen address port)
-learned Same rows address port = with_row rows (seen address port)
-learned Full rows address port = rows
-learned Memory rows address port = rows
+abbrev pub learned_rows : Learnt → List Row → Mac → ℕ → List Row
+learned_rows New rows address port = with_row rows (new_row address port)
+learned_rows Moved rows address port = with_row rows (new_row address port)
+learned_rows Same rows address port = with_row rows (new_row address port)
+learned_rows Full rows address port = rows
+learned_rows Memory rows address port = rows

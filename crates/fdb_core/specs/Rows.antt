@@ -38,8 +38,8 @@ next_after rows None = slice_get rows 0
 next_after rows (Some address) = slice_get (rows_above rows address) 0
 
 -- a row one second later
-abbrev pub aged : Row → Row
-aged r = record r { age = r.age + 1 }
+abbrev pub older_row : Row → Row
+older_row r = record r { age = r.age + 1 }
 
 -- the rows whose age is below the limit
 abbrev pub young_rows : ℕ → List Row → List Row

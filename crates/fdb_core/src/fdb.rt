@@ -8,7 +8,8 @@ use frame_core::Mac;
 use std::alloc::Global;
 use std::marker::Model;
 
-/// The table of learned addresses, seen as the list of its rows by rising address and the most rows that it may have.
+/// The table of learned addresses, seen as the list of its rows by rising address and the most rows
+/// that it may have.
 #[derive(Drop)]
 pub struct Fdb {
     rows: Vec<Row>,
@@ -26,8 +27,8 @@ impl Model for Fdb {
 }
 
 impl Fdb {
-    ghost use Rattle.fdb_core.specs.Rows.{aged, row_of, port_of, next_after, young_rows, other_rows};
-    ghost use Rattle.fdb_core.specs.Learning.{answer, learned, seen};
+    ghost use Rattle.fdb_core.specs.Rows.{older_row, row_of, port_of, next_after, young_rows, other_rows};
+    ghost use Rattle.fdb_core.specs.Learning.{answer, learned_rows, new_row};
     ghost use Rattle.fdb_core.specs.Table.{Table, IsTable};
     ghost use Rattle.fdb_core.specs.declared.learnt.Learnt.TheVariants.{New, Full, Memory};
 
@@ -48,20 +49,21 @@ impl Fdb {
         self.rows.len()
     }
 
-    /// Learns that a frame from the address came in on the port: its row is of this port and of age 0. Only a new address
-    /// takes memory, and that before anything changes.
+    /// Learns that a frame from the address came in on the port: its row is of this port and of age
+    /// 0. Only a new address takes memory, and that before anything changes.
     pub fn learn(&mut self, address: Mac, port: u16) -> Learnt
         // The whole list: a row of the address in its place, or nothing changed.
         ensures rows { self.new
-            ≡ record self.old { rows = learned result self.old.rows address port } }
+            ≡ record self.old { rows = learned_rows result self.old.rows address port } }
         // Which answer it is,
         ensures answer { result ≢ Memory →
             result ≡ answer self.old.rows self.old.limit address port }
         // and `Memory` only for a new address that has a place.
         ensures memory { result ≡ Memory → answer self.old.rows self.old.limit address port ≡ New }
-        // So the address has this row, where there is a place for it, and each other address the row that it had.
+        // So the address has this row, where there is a place for it, and each other address the
+        // row that it had.
         ensures own { result ≢ Full → result ≢ Memory →
-            row_of self.new.rows address ≡ Some (seen address port) }
+            row_of self.new.rows address ≡ Some (new_row address port) }
         ensures others { (other : Mac) → other ≢ address →
             row_of self.new.rows other ≡ row_of self.old.rows other }
     {
@@ -75,27 +77,32 @@ impl Fdb {
         rows::port_at(&self.rows, address)
     }
 
-    /// Lets one second pass: each row is a second older, and those whose age has come to the limit go.
+    /// Lets one second pass: each row is a second older, and those whose age has come to the limit
+    /// go (7.9.2).
     pub fn age(&mut self, limit: u32)
         requires least { MIN_AGING_TIME ≤ limit }
         requires most { limit ≤ MAX_AGING_TIME }
-        ensures { self.new ≡ record self.old { rows = young_rows limit (map aged self.old.rows) } }
+        ensures { self.new ≡ record self.old {
+          rows = young_rows limit (map older_row self.old.rows);
+        } }
     {
         rows::age_in(&mut self.rows, limit);
     }
 
-    /// Removes the rows of these ports, in one pass over the rows (7.9.2).
+    /// Removes the rows of these ports, in one pass over the rows (7.9).
     pub fn flush_ports(&mut self, ports: &[u16])
         ensures { self.new ≡ record self.old { rows = other_rows ports.now self.old.rows } }
     {
         rows::flush_in(&mut self.rows, ports);
     }
 
-    /// The row of the lowest address above this one, or of the lowest address of all. So the rows are walked from none on, each time
-    /// from the address of the row before.
+    /// The row of the lowest address above this one, or of the lowest address of all: for the
+    /// objects that show the learned addresses (RFC 4188 dot1dTpFdbTable). So the rows are walked
+    /// from none on, each time from the address of the row before.
     pub fn next_after(&self, after: Option<Mac>) -> Option<Row>
         ensures row { result ≡ next_after self.now.rows after }
-        // The rows are by rising address, each is younger than the longest aging time, and they are no more than the limit.
+        // The rows are by rising address, each is younger than the longest aging time, and they are
+        // no more than the limit.
         ensures table { IsTable self.now }
     {
         rows::row_after(&self.rows, after)

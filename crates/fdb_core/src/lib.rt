@@ -1,15 +1,18 @@
-//! The addresses that a bridge has learned: where each was seen last, and how long ago (IEEE 802.1D-2004, 7.9).
+//! The addresses that a bridge has learned: where each was seen last, and how long ago (IEEE
+//! 802.1D-2004, 7.9).
 //!
 //! # Entry points
-//! [`Fdb`] is seen as its rows by rising address and the most it may have: `learn`, `age`, `flush_ports`, and without
-//! change `find` and `next_after`. Only `learn` takes memory, and only for a new address that has a place.
+//! [`Fdb`] is seen as its rows by rising address and the most it may have: `learn`, `age`,
+//! `flush_ports`, and without change `find` and `next_after`. Only `learn` takes memory, and only
+//! for a new address that has a place.
 //!
 //! # Definitions
-//! `specs/Rows.antt`: filters of the whole list; `specs/Learning.antt`: what learning answers and leaves;
-//! `specs/Table.antt`: what holds of every table.
+//! `specs/Rows.antt`: filters of the whole list; `specs/Learning.antt`: what learning answers and
+//! leaves; `specs/Table.antt`: what holds of every table.
 //!
 //! # Laws
-//! In [`laws`]: the bounds of the aging time. On `next_after`: the table rises, is young and within its limit.
+//! In [`laws`]: the bounds of the aging time. On `next_after`: the table rises, is young and within
+//! its limit.
 //!
 //! # Not claimed
 //! That a growth succeeds.

@@ -1,8 +1,8 @@
-//! Rows by rising address, as plain lists.
+//! What the table does, over rows by rising address as plain lists (IEEE 802.1D-2004, 7.8 and 7.9).
 ghost use Rattle.std.specs.Prelude.{◌≡◌, ◌≢◌, ◌≤◌, ◌<◌, length, map, filter, slice_get, IfOk, IfErr};
 ghost use Rattle.fdb_core.specs.Places.{IsRowAt, IsGapAt};
-ghost use Rattle.fdb_core.specs.Rows.{IsRising, IsYoung, aged, row_of, port_of, next_after, young_rows, other_rows};
-ghost use Rattle.fdb_core.specs.Learning.{answer, learned, answer_on, seen_again};
+ghost use Rattle.fdb_core.specs.Rows.{IsRising, IsYoung, older_row, row_of, port_of, next_after, young_rows, other_rows};
+ghost use Rattle.fdb_core.specs.Learning.{answer, learned_rows, answer_on, renewed_row};
 ghost use Rattle.fdb_core.specs.declared.learnt.Learnt.TheVariants.{New, Memory};
 
 use crate::learnt::Learnt;
@@ -10,7 +10,7 @@ use crate::row::{MAX_AGING_TIME, Row};
 use frame_core::Mac;
 
 // Where the row of the address stands, or where it would.
-pub fn place_of(rows: &[Row], address: Mac) -> Result<usize, usize>
+fn place_of(rows: &[Row], address: Mac) -> Result<usize, usize>
     requires { IsRising rows.now }
     ensures found { IfOk result (λ place. IsRowAt rows.now address place) }
     ensures absent { IfErr result (λ place. IsGapAt rows.now address place) }
@@ -18,6 +18,7 @@ pub fn place_of(rows: &[Row], address: Mac) -> Result<usize, usize>
     rows.binary_search_by_key(&address, |row| row.address)
 }
 
+/// The port of the address's row, if it has one (7.9).
 pub fn port_at(rows: &[Row], address: Mac) -> Option<u16>
     requires { IsRising rows.now }
     ensures { result ≡ port_of rows.now address }
@@ -28,6 +29,7 @@ pub fn port_at(rows: &[Row], address: Mac) -> Option<u16>
     }
 }
 
+/// The row of the lowest address above this one, or of the lowest address of all.
 pub fn row_after(rows: &[Row], after: Option<Mac>) -> Option<Row>
     requires { IsRising rows.now }
     ensures { result ≡ next_after rows.now after }
@@ -44,7 +46,7 @@ pub fn row_after(rows: &[Row], after: Option<Mac>) -> Option<Row>
 
 // Makes the row young again, on this port.
 fn see_again(row: &mut Row, port: u16) -> Learnt
-    ensures row { row.new ≡ seen_again row.old port }
+    ensures row { row.new ≡ renewed_row row.old port }
     ensures answer { result ≡ answer_on row.old.port port }
 {
     let learnt = if row.port == port {
@@ -57,10 +59,12 @@ fn see_again(row: &mut Row, port: u16) -> Learnt
     learnt
 }
 
+/// Learns an address on a port (7.8): its row is of this port and of age 0, unless it has none and
+/// there is no place or no memory.
 pub fn learn_in(rows: &mut Vec<Row>, limit: usize, address: Mac, port: u16) -> Learnt
     requires rising { IsRising rows.old.items }
     requires few { length rows.old.items ≤ limit }
-    ensures rows { rows.new.items ≡ learned result rows.old.items address port }
+    ensures rows { rows.new.items ≡ learned_rows result rows.old.items address port }
     ensures answer { result ≢ Memory → result ≡ answer rows.old.items limit address port }
     ensures memory { result ≡ Memory → answer rows.old.items limit address port ≡ New }
     ensures few { length rows.new.items ≤ limit }
@@ -82,31 +86,36 @@ pub fn learn_in(rows: &mut Vec<Row>, limit: usize, address: Mac, port: u16) -> L
     }
 }
 
+// One second passes for a row (7.9.2).
 fn grow_older(row: &mut Row)
     requires { row.old.age < MAX_AGING_TIME }
-    ensures { row.new ≡ aged row.old }
+    ensures { row.new ≡ older_row row.old }
 {
     row.age += 1;
 }
 
+// One second passes for all rows (7.9.2).
 fn grow_all_older(rows: &mut [Row])
     requires { IsYoung rows.old }
-    ensures { rows.new ≡ map aged rows.old }
+    ensures { rows.new ≡ map older_row rows.old }
 {
     for row in rows.iter_mut() {
         grow_older(row);
     }
 }
 
+/// One second passes: each row is a second older, and those whose age has come to the limit go
+/// (7.9.2).
 pub fn age_in(rows: &mut Vec<Row>, limit: u32)
     requires { IsYoung rows.old.items }
-    ensures rows { rows.new.items ≡ young_rows limit (map aged rows.old.items) }
+    ensures rows { rows.new.items ≡ young_rows limit (map older_row rows.old.items) }
     ensures few { length rows.new.items ≤ length rows.old.items }
 {
     grow_all_older(rows);
     rows.retain(|row| row.age < limit);
 }
 
+/// Removes the rows of these ports (7.9).
 pub fn flush_in(rows: &mut Vec<Row>, ports: &[u16])
     ensures rows { rows.new.items ≡ other_rows ports.now rows.old.items }
     ensures few { length rows.new.items ≤ length rows.old.items }

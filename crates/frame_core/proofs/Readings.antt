@@ -10,7 +10,7 @@ use Rattle.byteorder.specs.Endian.{big_number}
 use Rattle.frame_core.specs.Octets.{number_at}
 use Rattle.frame_core.specs.Layout.{IsBridgeId, IsVector, AreTimes, IsConfig, IsRapid, HasKind, IsBpdu, role_number}
 use Rattle.frame_core.specs.Frames.{CarriesBpdu, IsFrame, IsFault}
-use Rattle.frame_core.specs.Reading.{bridge_id_at, vector_in, times_in, role_of, config_in, rapid_in, has_kind, is_config, is_notice, is_rapid, bpdu_in, content_of, has_llc, carried_in, addressed, to_bridges, is_to_bridges, frame_at}
+use Rattle.frame_core.specs.Reading.{bridge_id_at, vector_in, times_in, role_of, config_in, rapid_in, has_kind, is_config, is_notice, is_rapid, bpdu_in, content_of, has_llc, carried_in, frame_with, to_bridges, is_to_bridges, frame_at}
 use Rattle.frame_core.specs.declared.fault.FrameFault.{FrameFault}
 use Rattle.frame_core.specs.declared.fault.FrameFault.TheVariants.{Short, TooLong, BadBpdu}
 use Rattle.frame_core.specs.declared.mac.Mac.{Mac}
@@ -105,20 +105,20 @@ rapid_told octets =
     Decides-and (has_kind octets 36 2) (leb 2 (slice_index octets 2)) (kind_told octets 36 2) (Decides-le 2 (slice_index octets 2))
 
 -- what a reader of a BPDU answers
-SpellsBpdu : List ℕ → Option Bpdu → Type 0
-SpellsBpdu octets r = MatchOption r ((b : Bpdu) → ¬ IsBpdu octets b) (λ b. IsBpdu octets b)
+EncodesBpdu : List ℕ → Option Bpdu → Type 0
+EncodesBpdu octets r = MatchOption r ((b : Bpdu) → ¬ IsBpdu octets b) (λ b. IsBpdu octets b)
 
 no_bpdu : (octets : List ℕ) → is_config octets ≡ false → is_notice octets ≡ false → is_rapid octets ≡ false → (b : Bpdu) → ¬ IsBpdu octets b
 no_bpdu octets config notice rapid (Config c) h = not_from_Decides (is_config octets) (kind_told octets 35 0) config h.0
 no_bpdu octets config notice rapid TopologyChange h = not_from_Decides (is_notice octets) (kind_told octets 4 128) notice h
 no_bpdu octets config notice rapid (Rapid r) h = not_from_Decides (is_rapid octets) (rapid_told octets) rapid (h.0, h.1)
 
-bpdu_read : (octets : List ℕ) → SpellsBpdu octets (bpdu_in octets)
-unfolding bpdu_in SpellsBpdu
+bpdu_read : (octets : List ℕ) → EncodesBpdu octets (bpdu_in octets)
+unfolding bpdu_in EncodesBpdu
 bpdu_read octets =
-    cond_both (is_config octets) (Some (Config (config_in octets))) _ (SpellsBpdu octets) (λ e. ((kind_told octets 35 0).0 e, config_read octets)) (λ config.
-    cond_both (is_notice octets) (Some TopologyChange) _ (SpellsBpdu octets) (λ e. (kind_told octets 4 128).0 e) (λ notice.
-    cond_both (is_rapid octets) (Some (Rapid (rapid_in octets))) None (SpellsBpdu octets) (λ e. let h = (rapid_told octets).0 e in (h.0, h.1, rapid_read octets)) (λ rapid.
+    cond_both (is_config octets) (Some (Config (config_in octets))) _ (EncodesBpdu octets) (λ e. ((kind_told octets 35 0).0 e, config_read octets)) (λ config.
+    cond_both (is_notice octets) (Some TopologyChange) _ (EncodesBpdu octets) (λ e. (kind_told octets 4 128).0 e) (λ notice.
+    cond_both (is_rapid octets) (Some (Rapid (rapid_in octets))) None (EncodesBpdu octets) (λ e. let h = (rapid_told octets).0 e in (h.0, h.1, rapid_read octets)) (λ rapid.
     no_bpdu octets config notice rapid)))
 
 -- ---- frames
@@ -145,8 +145,8 @@ no_llc : (frame : List ℕ) → has_llc frame ≡ false → (b : Bpdu) → ¬ Ca
 no_llc frame e b h =
     not_from_Decides (has_llc frame) (llc_told frame) e (record { most = h.most; within = h.within; header = ap (take 3) h.content })
 
-content_read : (frame : List ℕ) (r : Option Bpdu) → HasLlc frame → SpellsBpdu (drop 3 (content_of frame)) r → CarriesWhat frame r
-unfolding SpellsBpdu CarriesWhat
+content_read : (frame : List ℕ) (r : Option Bpdu) → HasLlc frame → EncodesBpdu (drop 3 (content_of frame)) r → CarriesWhat frame r
+unfolding EncodesBpdu CarriesWhat
 content_read frame None llc none = λ b h.
     let same : h.octets ≡ drop 3 (content_of frame) = sym (ap (drop 3) h.content) in
     none b (subst (λ l. IsBpdu l b) same h.bpdu)
@@ -168,11 +168,11 @@ bridges_read : (octets : List ℕ) (r : Option Bpdu) → 14 ≤ length octets �
 unfolding CarriesWhat
 bridges_read octets None least most group none = refuses octets BadBpdu (least, most, group, none)
 bridges_read octets (Some b) least most group here =
-    reads_frame octets (addressed octets (Some b)) (record { least = least; most = most; destination = refl; source = refl; bpdu = (same_mac _ _ group, here) })
+    reads_frame octets (frame_with octets (Some b)) (record { least = least; most = most; destination = refl; source = refl; bpdu = (same_mac _ _ group, here) })
 
-other_read : (octets : List ℕ) → 14 ≤ length octets → length octets ≤ 1518 → is_to_bridges octets ≡ false → Reads octets (Ok (addressed octets None))
+other_read : (octets : List ℕ) → 14 ≤ length octets → length octets ≤ 1518 → is_to_bridges octets ≡ false → Reads octets (Ok (frame_with octets None))
 other_read octets least most other =
-    reads_frame octets (addressed octets None) (record {
+    reads_frame octets (frame_with octets None) (record {
       least = least;
       most = most;
       destination = refl;
@@ -185,7 +185,7 @@ unfolding frame_at
 frame_reads octets =
     cond_both (ltb (length octets) 14) (Err Short) _ (Reads octets) (λ e. refuses octets Short (ltb-true _ _ e)) (λ least.
     cond_both (ltb 1518 (length octets)) (Err TooLong) _ (Reads octets) (λ e. refuses octets TooLong (ltb-true _ _ e)) (λ most.
-    cond_both (is_to_bridges octets) (to_bridges octets (carried_in octets)) (Ok (addressed octets None)) (Reads octets) (λ group.
+    cond_both (is_to_bridges octets) (to_bridges octets (carried_in octets)) (Ok (frame_with octets None)) (Reads octets) (λ group.
     bridges_read octets (carried_in octets) (ltb-false _ _ least) (ltb-false _ _ most) ((bytes_eq-Decides (take 6 octets) BRIDGE_GROUP.0).0 group) (carried_read octets)) (λ other.
     other_read octets (ltb-false _ _ least) (ltb-false _ _ most) other)))
 

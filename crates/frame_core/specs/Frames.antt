@@ -8,12 +8,12 @@ use Rattle.frame_core.specs.declared.fault.FrameFault.{FrameFault}
 use Rattle.frame_core.specs.declared.fault.FrameFault.TheVariants.{Short, TooLong, BadBpdu}
 use Rattle.frame_core.specs.declared.mac.TheConstants.{BRIDGE_GROUP}
 use Rattle.frame_core.specs.declared.frame.TheConstants.{MIN_FRAME_LEN, MAX_FRAME_LEN}
-use Rattle.frame_core.specs.declared.layout.TheConstants.{LENGTH_MAX}
+use Rattle.frame_core.specs.declared.layout.TheConstants.{MAX_LENGTH}
 
 -- A frame whose length field counts at most 1,500 octets, all of them there. They are the LLC header of the spanning tree protocol, 42 42 03, and the octets of a BPDU. What stands behind them is not looked at.
 pub record CarriesBpdu (frame : List ℕ) (b : Bpdu) : Type 0 where
   pub octets : List ℕ
-  pub most : number_at frame 12 2 ≤ LENGTH_MAX
+  pub most : number_at frame 12 2 ≤ MAX_LENGTH
   pub within : MIN_FRAME_LEN + number_at frame 12 2 ≤ length frame
   pub content : take (number_at frame 12 2) (drop MIN_FRAME_LEN frame) ≡ 0x42 ∷ 0x42 ∷ 0x03 ∷ octets
   pub bpdu : IsBpdu octets b

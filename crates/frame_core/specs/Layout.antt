@@ -70,7 +70,7 @@ pub record HasKind (octets : List ℕ) (least kind : ℕ) : Type 0 where
   pub protocol : number_at octets 0 2 ≡ 0
   pub kind_is : slice_index octets 3 ≡ kind
 
--- Octets that spell a BPDU (9.3.4). Octets behind it are not looked at, nor is the version of the first two kinds.
+-- Octets that encode a BPDU (9.3.4). Octets behind it are not looked at, nor is the version of the first two kinds.
 abbrev pub IsBpdu : List ℕ → Bpdu → Type 0
 IsBpdu octets (Config c) = HasKind octets 35 0 × IsConfig octets c
 IsBpdu octets TopologyChange = HasKind octets 4 128

@@ -2,7 +2,7 @@
 use Rattle.std.specs.Prelude.{ℕ, ◌+◌, ◌/◌, ◌%◌, ◌==◌, ◌&&◌, Bool, nat_le, nat_lt, if◌then◌else◌, List, [], ◌∷◌, length, take, drop, slice_index, Option, Some, None, Result, Ok, Err}
 use Rattle.std.specs.Str.{bytes_eq}
 use Rattle.frame_core.specs.declared.frame.TheConstants.{MIN_FRAME_LEN, MAX_FRAME_LEN}
-use Rattle.frame_core.specs.declared.layout.TheConstants.{LENGTH_MAX}
+use Rattle.frame_core.specs.declared.layout.TheConstants.{MAX_LENGTH}
 use Rattle.frame_core.specs.Octets.{number_at, has_bit}
 use Rattle.frame_core.specs.declared.mac.Mac.{Mac}
 use Rattle.frame_core.specs.declared.mac.TheConstants.{BRIDGE_GROUP}
@@ -90,7 +90,7 @@ is_notice octets = has_kind octets 4 128
 abbrev pub is_rapid : List ℕ → Bool
 is_rapid octets = has_kind octets 36 2 && nat_le 2 (slice_index octets 2)
 
--- the BPDU that octets spell (9.3.4)
+-- the BPDU that octets encode (9.3.4)
 unfoldable pub bpdu_in : List ℕ → Option Bpdu
 bpdu_in octets =
     if is_config octets then Some (Config (config_in octets))
@@ -105,7 +105,7 @@ content_of frame = take (number_at frame 12 2) (drop MIN_FRAME_LEN frame)
 -- the length field counts at most 1,500 octets, all of them there, and they begin with the LLC header 42 42 03
 abbrev pub has_llc : List ℕ → Bool
 has_llc frame =
-    nat_le (number_at frame 12 2) LENGTH_MAX
+    nat_le (number_at frame 12 2) MAX_LENGTH
     && (nat_le (MIN_FRAME_LEN + number_at frame 12 2) (length frame) && bytes_eq (take 3 (content_of frame)) (0x42 ∷ 0x42 ∷ 0x03 ∷ []))
 
 -- the BPDU that a frame carries
@@ -113,13 +113,13 @@ unfoldable pub carried_in : List ℕ → Option Bpdu
 carried_in frame = if has_llc frame then bpdu_in (drop 3 (content_of frame)) else None
 
 -- the two addresses, and what else is read
-abbrev pub addressed : List ℕ → Option Bpdu → FrameIn
-addressed frame b = record { destination = mac_at frame 0; source = mac_at frame 6; bpdu = b }
+abbrev pub frame_with : List ℕ → Option Bpdu → FrameIn
+frame_with frame b = record { destination = mac_at frame 0; source = mac_at frame 6; bpdu = b }
 
 -- a frame to the bridges' group address, by the BPDU that it carries
 abbrev pub to_bridges : List ℕ → Option Bpdu → Result FrameIn FrameFault
 to_bridges frame None = Err BadBpdu
-to_bridges frame (Some b) = Ok (addressed frame (Some b))
+to_bridges frame (Some b) = Ok (frame_with frame (Some b))
 
 -- whether a frame goes to the bridges' group address
 abbrev pub is_to_bridges : List ℕ → Bool
@@ -131,4 +131,4 @@ frame_at octets =
     if nat_lt (length octets) MIN_FRAME_LEN then Err Short
     else if nat_lt MAX_FRAME_LEN (length octets) then Err TooLong
     else if is_to_bridges octets then to_bridges octets (carried_in octets)
-    else Ok (addressed octets None)
+    else Ok (frame_with octets None)

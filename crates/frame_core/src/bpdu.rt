@@ -13,7 +13,8 @@ pub struct BridgeId {
     pub address: Mac,
 }
 
-/// A priority vector (17.5): its parts are compared as unsigned numbers in this order, and lower vectors are better.
+/// A priority vector (17.5): its parts are compared as unsigned numbers in this order, and lower
+/// vectors are better.
 #[derive(Clone, Copy, Debug, Default, PartialEq, Eq, PartialOrd, Ord, Hash)]
 pub struct PriorityVector {
     /// The bridge that is taken for the root.
@@ -22,31 +23,40 @@ pub struct PriorityVector {
     pub cost: u32,
     /// The bridge that sends.
     pub bridge: BridgeId,
-    /// The port that sends: its priority in the highest four bits, its number in the low twelve (9.2.7).
+    /// The port that sends: its priority in the highest four bits, its number in the low twelve
+    /// (9.2.7).
     pub port: u16,
 }
 
 /// The times of a BPDU (9.2.8), each in units of 1/256 second.
 #[derive(Clone, Copy, Debug, Default, PartialEq, Eq, PartialOrd, Ord, Hash)]
 pub struct Times {
+    /// How old the information is.
     pub message_age: u16,
+    /// How old it may become.
     pub max_age: u16,
+    /// The time between regular messages.
     pub hello: u16,
+    /// The wait before learning, and again before forwarding.
     pub forward_delay: u16,
 }
 
 /// The role of the port that sends an RST BPDU (9.2.9).
 #[derive(Clone, Copy, Debug, PartialEq, Eq, PartialOrd, Ord, Hash)]
 pub enum PortRole {
+    /// No role that this bridge knows.
     Unknown,
+    /// A port that stands by.
     AlternateOrBackup,
+    /// The root port of its bridge.
     Root,
+    /// The port by which its network comes to the root.
     Designated,
 }
 
 impl PortRole {
     /// The role that two bits of the flags stand for.
-    pub fn from_number(number: u8) -> PortRole
+    pub(crate) fn from_number(number: u8) -> PortRole
         requires { number < 4 }
         ensures { role_number result ≡ number }
     {
@@ -59,7 +69,7 @@ impl PortRole {
     }
 
     /// The two bits of the flags that stand for the role.
-    pub fn number(self) -> u8
+    pub(crate) fn number(self) -> u8
         ensures { result ≡ role_number self }
     {
         match self {
@@ -80,11 +90,14 @@ pub struct Config {
     pub proposal: bool,
     /// The flag that acknowledges a topology change notification.
     pub acknowledge: bool,
+    /// The priority vector of the port that sends.
     pub vector: PriorityVector,
+    /// The times.
     pub times: Times,
 }
 
-/// What an RST BPDU says (9.3.3). Its bit of acknowledgment is not used: it is not looked at, and sent as 0.
+/// What an RST BPDU says (9.3.3). Its bit of acknowledgment is not used: it is not looked at, and
+/// sent as 0.
 #[derive(Clone, Copy, Debug, PartialEq, Eq, Hash)]
 pub struct Rapid {
     /// The flag of a topology change.
@@ -99,7 +112,9 @@ pub struct Rapid {
     pub forwarding: bool,
     /// The flag of an agreement.
     pub agreement: bool,
+    /// The priority vector of the port that sends.
     pub vector: PriorityVector,
+    /// The times.
     pub times: Times,
 }
 

@@ -1,16 +1,20 @@
-//! Ethernet frames and spanning tree BPDUs as octets: addresses, what a bridge reads of a frame, and the frames in
-//! which it sends its BPDUs (IEEE 802.1D-2004, clause 9; IEEE 802.3, 3.2). Nothing here takes memory.
+//! Ethernet frames and spanning tree BPDUs as octets: addresses, what a bridge reads of a frame,
+//! and the frames in which it sends its BPDUs (IEEE 802.1D-2004, clause 9; IEEE 802.3, 3.2).
+//! Nothing here takes memory.
 //!
 //! # Entry points
-//! [`read_frame`] reads a frame or says why not; [`write_bpdu`] writes the [`SENT_FRAME_LEN`] octets of one.
+//! [`read_frame`] reads a frame or says why not; [`write_bpdu`] writes the [`SENT_FRAME_LEN`]
+//! octets of one. In
+//! [`worked`] stand frames for tests.
 //!
 //! # Definitions
-//! `specs/Layout.antt`: where each field of a BPDU stands; `specs/Frames.antt`: frames and their faults;
-//! `specs/Reading.antt`: the same as a function; `specs/Sending.antt`: the octets that are sent.
+//! `specs/Layout.antt`: where each field of a BPDU stands; `specs/Frames.antt`: frames and their
+//! faults; `specs/Reading.antt`: the same as a function; `specs/Sending.antt`: the octets that are
+//! sent.
 //!
 //! # Laws
-//! In [`laws`]: a frame is one thing or one fault; the lengths and the group address are what they are. That what is
-//! written is read back is a clause of [`write_bpdu`].
+//! In [`laws`]: a frame is one thing or one fault; the lengths and the group address are what they
+//! are. That what is written is read back is a clause of [`write_bpdu`].
 //!
 //! # Not claimed
 //! Check sequences, which hardware adds and takes away; VLAN tags.
@@ -23,6 +27,7 @@ pub mod laws;
 mod layout;
 mod mac;
 mod reading;
+pub mod worked;
 mod writing;
 
 pub use bpdu::{Bpdu, BridgeId, Config, PortRole, PriorityVector, Rapid, Times};

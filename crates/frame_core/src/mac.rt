@@ -2,8 +2,8 @@
 ghost use Rattle.std.specs.Prelude.{◌≡◌};
 ghost use Rattle.frame_core.specs.Octets.{is_group, same_mac};
 
-/// An address of 48 bits, six octets in the order in which they are sent (IEEE 802.3, 3.2.3). Addresses are compared octet
-/// by octet.
+/// An address of 48 bits, six octets in the order in which they are sent (IEEE 802.3, 3.2.3).
+/// Addresses are compared octet by octet.
 #[derive(Clone, Copy, Debug, Default, PartialEq, Eq, PartialOrd, Ord, Hash)]
 pub struct Mac(pub [u8; 6]);
 

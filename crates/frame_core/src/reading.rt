@@ -9,7 +9,7 @@ use crate::bpdu::{Bpdu, BridgeId, Config, PortRole, PriorityVector, Rapid, Times
 use crate::fault::FrameFault;
 use crate::frame::{FrameIn, MAX_FRAME_LEN, MIN_FRAME_LEN};
 use crate::layout::{
-    ACKNOWLEDGE, AGREEMENT, CONFIG_LEN, CONFIG_TYPE, FORWARDING, LEARNING, LENGTH_MAX, NOTICE_LEN,
+    ACKNOWLEDGE, AGREEMENT, CONFIG_LEN, CONFIG_TYPE, FORWARDING, LEARNING, MAX_LENGTH, NOTICE_LEN,
     NOTICE_TYPE, PROPOSAL, RAPID_LEN, RAPID_TYPE, RAPID_VERSION, ROLE, SPANNING_TREE,
     SPANNING_TREE_LLC, TOPOLOGY_CHANGE,
 };
@@ -98,7 +98,7 @@ fn rapid_of(octets: &[u8]) -> Rapid
     }
 }
 
-// The BPDU that octets spell (9.3.4).
+// The BPDU that octets encode (9.3.4).
 fn bpdu_of(octets: &[u8]) -> Option<Bpdu>
     ensures { MatchOption result ((b : Bpdu) → ¬ IsBpdu octets.now b) (λ b. IsBpdu octets.now b) }
 {
@@ -124,22 +124,24 @@ fn carried_by(frame: &[u8]) -> Option<Bpdu>
         CarriesBpdu frame.now b) }
 {
     let len = usize::from(BigEndian::read_u16(&frame[12..]));
-    if len > LENGTH_MAX || frame.len() - MIN_FRAME_LEN < len {
+    if len > MAX_LENGTH || frame.len() - MIN_FRAME_LEN < len {
         return None;
     }
     let octets = frame[MIN_FRAME_LEN..MIN_FRAME_LEN + len].strip_prefix(&SPANNING_TREE_LLC)?;
     bpdu_of(octets)
 }
 
-/// What a bridge reads of a frame: its addresses, and where it goes to the bridges' group address the BPDU that it
-/// carries. Of a frame to any other address nothing but the addresses is looked at.
+/// What a bridge reads of a frame: its addresses, and where it goes to the bridges' group address
+/// the BPDU that it carries. Of a frame to any other address nothing but the addresses is looked
+/// at.
 ///
-/// The length field counts the octets of the BPDU and the three before them; what pads the frame is not looked at.
+/// The length field counts the octets of the BPDU and the three before them; what pads the frame is
+/// not looked at.
 ///
 /// # Errors
 ///
-/// `Short` below 14 octets, `TooLong` above 1,518, and `BadBpdu` for a frame to the bridges' group address that carries
-/// none.
+/// `Short` below 14 octets, `TooLong` above 1,518, and `BadBpdu` for a frame to the bridges' group
+/// address that carries none.
 pub fn read_frame(octets: &[u8]) -> Result<FrameIn, FrameFault>
     // What is read stands in the octets.
     ensures found { IfOk result (λ f. IsFrame octets.now f) }

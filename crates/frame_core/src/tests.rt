@@ -1,25 +1,11 @@
 //! Worked frames, to the octet.
+use crate::worked::{OWN, PROPOSES};
 use crate::*;
 
 mod vectors;
 
-// An RST BPDU of a designated port that proposes: flags 0E, and times of 0, 20, 2 and 15 seconds.
-const WORKED: [u8; 60] = [
-    0x01, 0x80, 0xC2, 0x00, 0x00, 0x00, 0x02, 0x00, 0x00, 0x00, 0x00, 0x0A, 0x00, 0x27, 0x42, 0x42,
-    0x03, 0x00, 0x00, 0x02, 0x02, 0x0E, 0x80, 0x00, 0x02, 0x00, 0x00, 0x00, 0x00, 0x0A, 0x00, 0x00,
-    0x00, 0x00, 0x80, 0x00, 0x02, 0x00, 0x00, 0x00, 0x00, 0x0A, 0x80, 0x01, 0x00, 0x00, 0x14, 0x00,
-    0x02, 0x00, 0x0F, 0x00, 0x00, 0x00, 0x00, 0x00, 0x00, 0x00, 0x00, 0x00,
-];
-
-// The same without its padding.
-const UNPADDED: [u8; 53] = [
-    0x01, 0x80, 0xC2, 0x00, 0x00, 0x00, 0x02, 0x00, 0x00, 0x00, 0x00, 0x0A, 0x00, 0x27, 0x42, 0x42,
-    0x03, 0x00, 0x00, 0x02, 0x02, 0x0E, 0x80, 0x00, 0x02, 0x00, 0x00, 0x00, 0x00, 0x0A, 0x00, 0x00,
-    0x00, 0x00, 0x80, 0x00, 0x02, 0x00, 0x00, 0x00, 0x00, 0x0A, 0x80, 0x01, 0x00, 0x00, 0x14, 0x00,
-    0x02, 0x00, 0x0F, 0x00, 0x00,
-];
-
-const OWN: Mac = Mac([0x02, 0x00, 0x00, 0x00, 0x00, 0x0A]);
+// How many octets the worked frame has without its padding.
+const UNPADDED: usize = 53;
 
 fn worked() -> Bpdu {
     let own = BridgeId {
@@ -72,27 +58,30 @@ fn an_identifier_is_eight_octets(rt: HostRuntime) {
 fn writes_the_worked_frame(rt: HostRuntime) {
     let mut frame = [0xFF; 60];
     assert_eq!(rt; write_bpdu(&worked(), OWN, &mut frame), 60);
-    assert_eq!(rt; frame, WORKED);
+    assert_eq!(rt; frame, PROPOSES);
 }
 
 #[test]
 fn reads_the_worked_frame_with_and_without_padding(rt: HostRuntime) {
-    assert_eq!(rt; read_frame(&WORKED), Ok(worked_frame()));
-    assert_eq!(rt; read_frame(&UNPADDED), Ok(worked_frame()));
+    assert_eq!(rt; read_frame(&PROPOSES), Ok(worked_frame()));
+    assert_eq!(rt; read_frame(&PROPOSES[..UNPADDED]), Ok(worked_frame()));
 }
 
 #[test]
 fn refuses_a_frame_without_its_last_octet(rt: HostRuntime) {
-    assert_eq!(rt; read_frame(&WORKED[..52]), Err(FrameFault::BadBpdu));
+    assert_eq!(rt; read_frame(&PROPOSES[..52]), Err(FrameFault::BadBpdu));
 }
 
 // What the worked frame without its padding and with another octet at one place is read as.
 fn changed(place: usize, octet: u8) -> Result<FrameIn, FrameFault> {
-    let mut frame = UNPADDED;
-    if place < 53 {
+    let mut frame = PROPOSES;
+    if place < UNPADDED {
         frame[place] = octet;
     }
-    read_frame(&frame)
+    match frame.get(..UNPADDED) {
+        Some(unpadded) => read_frame(unpadded),
+        None => Err(FrameFault::Short),
+    }
 }
 
 #[test]
@@ -122,7 +111,7 @@ fn reads_a_later_version(rt: HostRuntime) {
 #[test]
 fn refuses_too_few_and_too_many_octets(rt: HostRuntime) {
     assert_eq!(rt; read_frame(&[0x02, 0x00]), Err(FrameFault::Short));
-    assert_eq!(rt; read_frame(&WORKED[..13]), Err(FrameFault::Short));
+    assert_eq!(rt; read_frame(&PROPOSES[..13]), Err(FrameFault::Short));
     assert_eq!(rt; read_frame(&[0xFF; 1_519]), Err(FrameFault::TooLong));
 }
 

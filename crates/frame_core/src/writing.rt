@@ -26,12 +26,13 @@ fn put_bridge_id(out: &mut [u8], id: &BridgeId)
 }
 
 impl BridgeId {
-    /// The eight octets of the identifier: the priority, its higher octet first, and then the address (9.2.5).
+    /// The eight octets of the identifier: the priority, its higher octet first, and then the
+    /// address (9.2.5).
     pub fn octets(&self) -> [u8; 8]
         // Each octet,
         ensures octets { result ≡ bridge_id_octets self.now }
-        // and so what spells the identifier.
-        ensures spells { IsBridgeId result self.now }
+        // and so what encodes the identifier.
+        ensures encodes { IsBridgeId result self.now }
     {
         let mut octets = [0; 8];
         put_bridge_id(&mut octets, self);
@@ -215,9 +216,9 @@ fn put_header(out: &mut [u8], source: Mac, len: u16)
     put_llc(&mut out[12..], len);
 }
 
-/// Writes the frame in which a bridge of this address sends the BPDU: to the bridges' group address, with the length of
-/// the LLC header and the BPDU, and padded with 00. The answer is how many octets the frame has,
-/// always [`SENT_FRAME_LEN`].
+/// Writes the frame in which a bridge of this address sends the BPDU: to the bridges' group
+/// address, with the length of the LLC header and the BPDU, and padded with 00. The answer is how
+/// many octets the frame has, always [`SENT_FRAME_LEN`].
 pub fn write_bpdu(bpdu: &Bpdu, source: Mac, frame: &mut [u8; SENT_FRAME_LEN]) -> usize
     ensures len { result ≡ SENT_FRAME_LEN }
     // Each octet,

@@ -2,7 +2,7 @@
 use Rattle.std.proofs.Common.{◌≡◌, ◌≢◌, ℕ, ℤ, eqb, cond, List, [], ◌∷◌, ◌++◌, Ok, Err, refl, sym, ap, subst, ◌∙◌, append_assoc, inl, inr}
 use Rattle.std.proofs.lemmas.Bool.{eqb-true}
 use Rattle.std.proofs.lemmas.List.{append-nil}
-use Rattle.ber_core.specs.Spelling.{AreOctets, BeginsTlv}
+use Rattle.ber_core.specs.Encoding.{AreOctets, BeginsTlv}
 use Rattle.oid_core.specs.declared.fault.OidFault.{OidFault}
 use Rattle.oid_core.specs.declared.fault.OidFault.TheVariants as names
 use Rattle.message_core.specs.Tags as tags
@@ -37,12 +37,12 @@ long_by_name octets content rest e long = record { content = content; rest = res
 pub long_by_value : (octets content rest name value : List ℕ) → AreOctets octets → content_at tags.sequence octets ≡ Ok (content, rest) → nametlv_at content ≡ Ok (name, value) → HasLongValue value → HasLongBinding octets
 long_by_value octets content rest name value fits e n long =
     let f = (content_reads tags.sequence).found octets (content, rest) fits e in
-    let g = nametlv_reads.found content (name, value) (content_fits tags.sequence content f.front f.spelled f.front_fits) n in
+    let g = nametlv_reads.found content (name, value) (content_fits tags.sequence content f.front f.encoded f.front_fits) n in
     record {
       content = content;
       rest = rest;
       head = content_found tags.sequence octets (content, rest) e;
-      long = inr (record { octets = g.front; name = name; value = value; named = g.spelled; parts = g.joined; long = long });
+      long = inr (record { octets = g.front; name = name; value = value; named = g.encoded; parts = g.joined; long = long });
     }
 
 -- ---- bindings one after the other
@@ -70,7 +70,7 @@ one_read content bs rest b after so_far e =
     let f = binding_reads.found rest (b, after) so_far.fits e in
     record {
       front = so_far.front ++ f.front;
-      read = one_more so_far.front f.front bs b so_far.read f.spelled;
+      read = one_more so_far.front f.front bs b so_far.read f.encoded;
       parts = so_far.parts ∙ ap (λ (r : List ℕ). so_far.front ++ r) f.joined ∙ sym (append_assoc so_far.front f.front after);
       fits = f.rest_fits;
     }
@@ -99,9 +99,9 @@ grows_in_list content id one first two second three list after fits e1 e2 e3 e4 
       id = id;
       first = first;
       second = second;
-      id_is = f1.spelled;
-      first_is = f2.spelled;
-      second_is = f3.spelled;
+      id_is = f1.encoded;
+      first_is = f2.encoded;
+      second_is = f3.encoded;
       parts = f1.joined ∙ ap (λ (r : List ℕ). f1.front ++ r) (f2.joined ∙ ap (λ (r : List ℕ). f2.front ++ r) f3.joined);
       list = list;
       after = after;
@@ -112,14 +112,14 @@ grows_in_list content id one first two second three list after fits e1 e2 e3 e4 
 pub grows_in_request : (d : List ℕ) (h : Parts) (kind : Kind) → AreOctets d → head_at d ≡ Ok h → kind_of h.1 ≡ Ok kind → HasGrowingList h.2 → IsCause d Memory
 grows_in_request d h kind fits e k growing =
     let i = head_found d h fits e in
-    let pdu : BeginsTlv (i.pdu ++ h.3) h.1 h.2 h.3 = record { front = i.pdu; spelled = i.pdu_is; joined = refl } in (
+    let pdu : BeginsTlv (i.pdu ++ h.3) h.1 h.2 h.3 = record { front = i.pdu; encoded = i.pdu_is; joined = refl } in (
       i.short,
       inr (record {
         kind = kind;
         pdu = record {
           message = i.content;
           after = h.4;
-          head = record { front = i.front; spelled = i.framed; joined = i.joined };
+          head = record { front = i.front; encoded = i.framed; joined = i.joined };
           version = i.version;
           community = i.name;
           pdu = i.pdu ++ h.3;

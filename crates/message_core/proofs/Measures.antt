@@ -2,7 +2,7 @@
 use Rattle.std.proofs.Common.{◌≡◌, ◌↔◌, ℕ, ℤ, pos, suc, ◌+◌, ◌≤◌, ◌<◌, List, ◌++◌, length, refl, ap, arith, inl, inr}
 use Rattle.std.proofs.lemmas.Bool.{lt-ltb, cases_lt}
 use Rattle.std.proofs.lemmas.List.{length-append}
-use Rattle.ber_core.specs.Spelling.{canon_length, canon_tlv}
+use Rattle.ber_core.specs.Encoding.{canon_length, canon_tlv}
 use Rattle.ber_core.proofs.Lengths.{canon_1, canon_2}
 use Rattle.message_core.specs.Tags as tags
 use Rattle.message_core.specs.Canon.{canon_int, canon_bindings, canon_tail, canon_body, canon_inside, canon_message, canon_reply, answer_to}

@@ -1,9 +1,9 @@
--- No spelling is shorter than the shortest, and one that is no longer is the shortest.
+-- No encoding is shorter than the shortest, and one that is no longer is the shortest.
 use Rattle.std.proofs.Common.{◌≡◌, ℕ, ℤ, pos, ◌≤◌, List, [], ◌∷◌, ◌++◌, length, refl, ap, subst, ◌∙◌, arith, inl, inr}
 use Rattle.std.proofs.lemmas.List.{length-append}
 use Rattle.std.proofs.lemmas.Bool.{cases_lt, lt-ltb, le-ltb}
 use Rattle.std.proofs.lemmas.Int.Digits.{number_lt, length-digits_of-le}
-use Rattle.ber_core.specs.Spelling.{AreOctets, IsLength, IsTlv, canon_length, canon_tlv, canon_integer, canon_unsigned}
+use Rattle.ber_core.specs.Encoding.{AreOctets, IsLength, IsTlv, canon_length, canon_tlv, canon_integer, canon_unsigned}
 use Rattle.ber_core.proofs.Unsigned.{all_below}
 use Rattle.ber_core.proofs.Least.{no_shorter_integer, no_shorter_unsigned}
 use Rattle.ber_core.proofs.One.{one_shortest_tlv, one_integer, one_unsigned}

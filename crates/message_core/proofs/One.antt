@@ -1,4 +1,4 @@
--- No octets spell two things.
+-- No octets encode two things.
 use Rattle.std.proofs.Common.{◌≡◌, ℕ, ℤ, pos, negsuc, List, [], ◌∷◌, ◌++◌, length, get_or, Result, Ok, refl, sym, ap, ◌∙◌, arith}
 use Rattle.message_core.specs.Tags as tags
 use Rattle.message_core.specs.Status.{code_of}
@@ -10,7 +10,8 @@ use Rattle.message_core.specs.declared.binding.Binding.{Binding}
 use Rattle.message_core.specs.declared.request.Request.{Request}
 use Rattle.message_core.specs.declared.reply.Reply.{Reply}
 use Rattle.message_core.specs.Message.{IsNameTlv, IsValue, IsBinding, AreBindings, IsMessage, IsRequest, IsReply}
-use Rattle.message_core.specs.FirstFault.{◌>>=◌, any_at, content_at, integer_at, body_of}
+use Rattle.ber_core.specs.Reading.{◌>>=◌}
+use Rattle.message_core.specs.FirstFault.{any_at, content_at, integer_at, body_of}
 use Rattle.message_core.proofs.Readers.{ok_is, any_only, content_reads, integer_reads, nametlv_reads, value_reads, binding_reads, bindings_only}
 use Rattle.message_core.proofs.Requests.{alone, content_again, body_only, request_only}
 

@@ -2,8 +2,8 @@
 use Rattle.std.proofs.Common.{◌≡◌, ℕ, ℤ, pos, ◌+◌, ◌≤◌, ◌<◌, ◌^◌, List, [], ◌++◌, length, ap, arith, inl, inr, w32, of_z}
 use Rattle.std.specs.Int.{to_be_bytes}
 use Rattle.std.proofs.lemmas.List.{length-append}
-use Rattle.ber_core.specs.Spelling.{IsLength, canon_length, canon_tlv, canon_integer}
-use Rattle.ber_core.proofs.Canon.{canon_length_spells, shortest_len}
+use Rattle.ber_core.specs.Encoding.{IsLength, canon_length, canon_tlv, canon_integer}
+use Rattle.ber_core.proofs.Canon.{canon_length_encodes, shortest_len}
 use Rattle.message_core.specs.Tags as tags
 use Rattle.message_core.specs.Status.{code_of}
 use Rattle.message_core.specs.declared.limits.TheConstants.{MAX_COMMUNITY, MAX_REPLY}
@@ -17,7 +17,7 @@ length_short head n (inr long) = (let few = long.few in omega (arith, ap length 
 -- a tag and a length are at most six octets
 tlv_short : (tag : ℕ) (content : List ℕ) → length content < 2 ^ 32 → length (canon_tlv tag content) ≤ length content + 6
 unfolding canon_tlv
-tlv_short tag content fits = omega (arith, length_short (canon_length (length content)) (length content) (canon_length_spells (length content) fits), length-append (canon_length (length content)) content)
+tlv_short tag content fits = omega (arith, length_short (canon_length (length content)) (length content) (canon_length_encodes (length content) fits), length-append (canon_length (length content)) content)
 
 pub int_short : (z : ℤ) → length (canon_int z) ≤ 10
 unfolding canon_integer

@@ -2,7 +2,7 @@
 use Rattle.std.proofs.Common.{ℕ, ℤ, ◌+◌, ◌≤◌, ◌<◌, List, ◌++◌, length, arith, inl, inr}
 use Rattle.std.proofs.lemmas.Bool.{lt-ltb, le-ltb, cases_lt}
 use Rattle.std.proofs.lemmas.List.{length-append}
-use Rattle.ber_core.specs.Spelling.{canon_length, canon_tlv}
+use Rattle.ber_core.specs.Encoding.{canon_length, canon_tlv}
 use Rattle.oid_core.specs.Name.{canon_name}
 use Rattle.message_core.specs.Tags as tags
 use Rattle.message_core.specs.Status.{code_of}

@@ -1,6 +1,6 @@
 -- What the content of a number that is not negative gives, where it writes none.
 use Rattle.std.proofs.Common.{◌≡◌, ℕ, ℤ, pos, negsuc, ◌+◌, ◌^◌, true, false, ltb, eqb, cond, Bool, List, length, Result, Ok, Err, refl, ap, ◌∙◌}
-use Rattle.ber_core.specs.Spelling.{signed, IsUnsigned}
+use Rattle.ber_core.specs.Encoding.{twos_complement, IsUnsigned}
 use Rattle.message_core.specs.declared.cause.DropCause.{DropCause}
 use Rattle.message_core.specs.declared.cause.DropCause.TheVariants.{Malformed}
 use Rattle.message_core.specs.FirstFault.{natural_of, unsigned_of}
@@ -20,7 +20,7 @@ natural_only limit (negsuc n) = refl
 
 unsigned_faults : (width : ℕ) (content : List ℕ) → OnlyMalformed (unsigned_of width content)
 unfolding unsigned_of
-unsigned_faults width content = test_only (eqb (length content) 0) _ _ refl (test_only (ltb (width + 1) (length content)) _ _ refl (natural_only (256 ^ width) (signed content)))
+unsigned_faults width content = test_only (eqb (length content) 0) _ _ refl (test_only (ltb (width + 1) (length content)) _ _ refl (natural_only (256 ^ width) (twos_complement content)))
 
 fault_is : (r : Result ℕ DropCause) (e : DropCause) → OnlyMalformed r → r ≡ Err e → e ≡ Malformed
 fault_is (Ok n) e p is = absurd cc

@@ -1,15 +1,15 @@
 -- A datagram read from left to right, up to the first faulty place: the value and the octets left, or the cause. The grammar itself stands in `Message`.
-use Rattle.std.specs.Prelude.{◌≡◌, ◌≢◌, ℕ, zero, suc, ℤ, pos, negsuc, ◌+◌, ◌^◌, Bool, false, List, [], ◌∷◌, length, Result, Ok, Err, nat_lt, ◌==◌, if◌then◌else◌}
+use Rattle.std.specs.Prelude.{ℕ, zero, suc, ℤ, pos, negsuc, ◌+◌, ◌^◌, Bool, false, List, [], ◌∷◌, length, Result, Ok, Err, nat_lt, ◌==◌, if◌then◌else◌}
 use Rattle.ber_core.specs.declared.fault.BerFault.{BerFault}
-use Rattle.ber_core.specs.Spelling.{signed}
-use Rattle.ber_core.specs.Reading.{tlv_at}
+use Rattle.ber_core.specs.Encoding.{twos_complement}
+use Rattle.ber_core.specs.Reading.{◌>>=◌, tlv_at}
 use Rattle.oid_core.specs.declared.fault.OidFault.{OidFault}
 use Rattle.oid_core.specs.Reading.{name_at}
 use Rattle.message_core.specs.Cause.{cause_of}
 use Rattle.message_core.specs.Tags as tags
 use Rattle.message_core.specs.declared.limits.TheConstants.{MAX_REQUEST}
 use Rattle.message_core.specs.declared.cause.DropCause.{DropCause}
-use Rattle.message_core.specs.declared.cause.DropCause.TheVariants.{TooLong, Malformed, BadVersion, BadKind, Memory}
+use Rattle.message_core.specs.declared.cause.DropCause.TheVariants.{TooLong, Malformed, BadVersion, BadKind}
 use Rattle.message_core.specs.declared.request.Kind.{Kind}
 use Rattle.message_core.specs.declared.request.Kind.TheVariants.{Get, GetNext, Set, GetBulk}
 use Rattle.message_core.specs.declared.value.Value.{Value}
@@ -17,27 +17,17 @@ use Rattle.message_core.specs.declared.value.Value.TheVariants.{Integer, OctetSt
 use Rattle.message_core.specs.declared.binding.Binding.{Binding}
 use Rattle.message_core.specs.declared.request.Request.{Request}
 
-infixl 10 ◌>>=◌
-abbrev pub ◌>>=◌ : {A B : Type 0} → Result A DropCause → (A → Result B DropCause) → Result B DropCause
-(Ok x) >>= f = f x
-(Err e) >>= f = Err e
+abbrev pub or_malformed : {A : Type 0} → Result A BerFault → Result A DropCause
+or_malformed (Ok x) = Ok x
+or_malformed (Err e) = Err Malformed
 
--- what a function returned, seen by view, is what reading gives, unless memory ran out
-abbrev pub Gives : {X Y : Type 0} → (X → Y) → Result X DropCause → Result Y DropCause → Type 0
-Gives view (Ok x) read = read ≡ Ok (view x)
-Gives view (Err e) read = e ≢ Memory → read ≡ Err e
-
-abbrev pub malformed : {A : Type 0} → Result A BerFault → Result A DropCause
-malformed (Ok x) = Ok x
-malformed (Err e) = Err Malformed
-
-abbrev pub named : {A : Type 0} → Result A OidFault → Result A DropCause
-named (Ok x) = Ok x
-named (Err e) = Err (cause_of e)
+abbrev pub or_cause : {A : Type 0} → Result A OidFault → Result A DropCause
+or_cause (Ok x) = Ok x
+or_cause (Err e) = Err (cause_of e)
 
 -- the tag and the content at the front, and what comes after them
 unfoldable pub any_at : List ℕ → Result (ℕ × List ℕ × List ℕ) DropCause
-any_at octets = malformed (tlv_at octets)
+any_at octets = or_malformed (tlv_at octets)
 
 -- the content under this tag, and what comes after it
 unfoldable pub content_at : ℕ → List ℕ → Result (List ℕ × List ℕ) DropCause
@@ -46,7 +36,7 @@ content_at tag octets = do
   if t.0 == tag then Ok (t.1, t.2) else Err Malformed
 
 abbrev pub integer_of : List ℕ → Result ℤ DropCause
-integer_of content = if length content == 0 then Err Malformed else if nat_lt 4 (length content) then Err Malformed else Ok (signed content)
+integer_of content = if length content == 0 then Err Malformed else if nat_lt 4 (length content) then Err Malformed else Ok (twos_complement content)
 
 -- a number below the limit that is not negative
 abbrev pub natural_of : ℕ → ℤ → Result ℕ DropCause
@@ -58,7 +48,7 @@ unfoldable pub unsigned_of : ℕ → List ℕ → Result ℕ DropCause
 unsigned_of width content =
     if length content == 0 then Err Malformed
     else if nat_lt (width + 1) (length content) then Err Malformed
-    else natural_of (256 ^ width) (signed content)
+    else natural_of (256 ^ width) (twos_complement content)
 
 unfoldable pub integer_at : List ℕ → Result (ℤ × List ℕ) DropCause
 integer_at octets = do
@@ -69,7 +59,7 @@ integer_at octets = do
 unfoldable pub nametlv_at : List ℕ → Result (List ℕ × List ℕ) DropCause
 nametlv_at octets = do
   t ← content_at tags.object_identifier octets
-  n ← named (name_at t.0)
+  n ← or_cause (name_at t.0)
   Ok (n, t.1)
 
 -- nothing is left
@@ -106,7 +96,7 @@ value_of tag content =
     if tag == tags.integer then (integer_of content >>= λ z. Ok (Integer z))
     else if tag == tags.octet_string then Ok (OctetString content)
     else if tag == tags.null then empty_of content Null
-    else if tag == tags.object_identifier then (named (name_at content) >>= λ n. Ok (ObjectIdentifier n))
+    else if tag == tags.object_identifier then (or_cause (name_at content) >>= λ n. Ok (ObjectIdentifier n))
     else application_of tag content
 
 unfoldable pub value_at : List ℕ → Result (Value × List ℕ) DropCause

@@ -2,7 +2,7 @@
 use Rattle.std.specs.Prelude.{◌≡◌, ℕ, false, if◌then◌else◌, List, [], ◌∷◌, map, filter, find, Option, Some, None, IsTrue, AllPairs, All, Contains}
 use Rattle.std.specs.List.{AllByRecursion}
 use Rattle.oid_core.specs.Order.{name_lt, name_eq}
-use Rattle.message_core.specs.Spellable.{AreSpellable}
+use Rattle.message_core.specs.Encodable.{AreEncodable}
 use Rattle.message_core.specs.declared.value.Value.{Value}
 use Rattle.message_core.specs.declared.value.Value.TheVariants.{Integer, OctetString, Null, ObjectIdentifier, IpAddress, Counter32, Gauge32, TimeTicks, Opaque, Counter64, NoSuchObject, NoSuchInstance, EndOfMibView}
 use Rattle.message_core.specs.declared.binding.Binding.{Binding}
@@ -54,8 +54,8 @@ IsInstanceValue EndOfMibView = ⊥
 abbrev pub AreValued : List Binding → Type 0
 AreValued rows = AllByRecursion (λ row. IsInstanceValue row.value) rows
 
--- instances that can be served: their names rise, each can be spelled in a message, and none has an exception for its value
+-- instances that can be served: their names rise, each can be encoded in a message, and none has an exception for its value
 pub record IsServable (rows : List Binding) : Type 0 where
   pub rising : IsRising rows
-  pub spellable : AreSpellable rows
+  pub encodable : AreEncodable rows
   pub valued : AreValued rows

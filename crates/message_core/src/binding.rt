@@ -1,14 +1,14 @@
 //! A variable binding, and a list of them (RFC 3416, section 3).
 ghost use Rattle.std.specs.Prelude.{◌≡◌, ◌↔◌, [], ◌∷◌, ◌++◌, IsTrue, IsOk, IfOk, OnOk, OnErr};
 ghost use Rattle.message_core.specs.Inline.{IsInlineBinding};
-ghost use Rattle.message_core.specs.Spellable.{IsSpellableBinding};
+ghost use Rattle.message_core.specs.Encodable.{IsEncodableBinding};
 
 use crate::value::Value;
 use oid_core::Oid;
 use std::alloc::{AllocError, Global};
 use std::marker::Model;
 
-/// A name and its value: a VarBind of RFC 3416, section 3.
+/// A variable binding: a name and its value (VarBind of RFC 3416, section 3).
 #[derive(Drop)]
 pub struct Binding {
     /// The name of the variable.
@@ -28,15 +28,15 @@ impl Binding {
         Ok(Binding { name, value })
     }
 
-    /// Whether it has a spelling: whether its name and an OBJECT IDENTIFIER value begin as X.690, 8.19.4 asks.
-    pub fn is_spellable(&self) -> bool
-        ensures { IsTrue result ↔ IsSpellableBinding self.now }
+    /// Whether it has an encoding: whether its name and an OBJECT IDENTIFIER value begin as X.690, 8.19.4 asks.
+    pub fn is_encodable(&self) -> bool
+        ensures { IsTrue result ↔ IsEncodableBinding self.now }
     {
-        self.name.is_spellable() && self.value.is_spellable()
+        self.name.is_encodable() && self.value.is_encodable()
     }
 }
 
-/// The bindings of a message, in order.
+/// The variable bindings of a message, in order (VarBindList of RFC 3416, section 3).
 #[derive(Drop)]
 pub struct Bindings {
     items: Vec<Binding>,

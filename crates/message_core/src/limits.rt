@@ -1,4 +1,5 @@
 //! The limits of messages, in octets.
+
 /// The longest datagram that is read, in octets: 2,048.
 pub const MAX_REQUEST: usize = 2048;
 

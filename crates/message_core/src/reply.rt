@@ -14,6 +14,6 @@ pub struct Reply {
     pub index: i32,
     /// The community of the request that it answers.
     pub community: Octets,
-    /// The bindings.
+    /// The variable bindings.
     pub bindings: Bindings,
 }

@@ -1,8 +1,8 @@
 //! How many octets a binding and a reply have in their shortest encoding.
 ghost use Rattle.std.specs.Prelude.{◌≡◌, ◌≤◌, ◌<◌, ◌+◌, ◌↔◌, length, List, pos, MatchOption};
-ghost use Rattle.ber_core.specs.Spelling.{canon_tlv};
+ghost use Rattle.ber_core.specs.Encoding.{canon_tlv};
 ghost use Rattle.message_core.specs.Tags as tags;
-ghost use Rattle.message_core.specs.Spellable.{IsSpellableBinding};
+ghost use Rattle.message_core.specs.Encodable.{IsEncodableBinding};
 ghost use Rattle.message_core.specs.Canon.{canon_int, canon_binding, canon_bindings, canon_reply, answer_to};
 ghost use Rattle.message_core.specs.declared.binding.Binding.{Binding};
 
@@ -23,11 +23,11 @@ const VERSION: i32 = 1;
 // Room for an INTEGER of 32 bits.
 const INTEGER_ROOM: usize = 16;
 
-/// The octets of a binding's shortest spelling, where they are at most `most`; else there is no answer.
+/// The octets of a binding's shortest encoding, where they are at most `most`; else there is no answer.
 ///
-/// `most` is at most `MAX_REPLY`. Takes no memory. A name that cannot be spelled is the caller's to keep out.
+/// `most` is at most `MAX_REPLY`. Takes no memory. A name that cannot be encoded is the caller's to keep out.
 pub fn encoded_len(binding: &Binding, most: usize) -> Option<usize>
-    requires spellable { IsSpellableBinding binding.now }
+    requires encodable { IsEncodableBinding binding.now }
     requires most { most ≤ MAX_REPLY }
     ensures { MatchOption result (most < length (canon_binding binding.now)) (λ len.
         (len ≡ length (canon_binding binding.now)) × (len ≤ most)) }

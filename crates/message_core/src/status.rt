@@ -23,7 +23,7 @@ pub enum ErrorStatus {
     WrongType,
     /// The variable has no value of this length.
     WrongLength,
-    /// The value's octets do not spell it as its tag asks.
+    /// The value's octets do not encode it as its tag asks.
     WrongEncoding,
     /// The variable can never have this value.
     WrongValue,

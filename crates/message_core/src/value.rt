@@ -1,13 +1,13 @@
 //! A value of a variable binding (RFC 3416, section 3; RFC 2578, section 7.1).
 ghost use Rattle.std.specs.Prelude.{◌≡◌, ◌↔◌, IsTrue, IsOk, IfOk};
 ghost use Rattle.message_core.specs.Inline.{IsInlineValue};
-ghost use Rattle.message_core.specs.Spellable.{IsSpellableValue};
+ghost use Rattle.message_core.specs.Encodable.{IsEncodableValue};
 
 use crate::octets::Octets;
 use oid_core::Oid;
 use std::alloc::{AllocError, Global};
 
-/// What stands in a binding (RFC 3416, section 3, and RFC 2578, 7.1).
+/// What stands in a variable binding (RFC 3416, section 3, and RFC 2578, 7.1).
 #[derive(Drop)]
 pub enum Value {
     /// INTEGER, also called Integer32: tag 02.
@@ -61,12 +61,12 @@ impl Value {
         })
     }
 
-    /// Whether it has a spelling: each value has one but an OBJECT IDENTIFIER that does not begin as X.690, 8.19.4 asks.
-    pub fn is_spellable(&self) -> bool
-        ensures { IsTrue result ↔ IsSpellableValue self.now }
+    /// Whether it has an encoding: each value has one but an OBJECT IDENTIFIER that does not begin as X.690, 8.19.4 asks.
+    pub fn is_encodable(&self) -> bool
+        ensures { IsTrue result ↔ IsEncodableValue self.now }
     {
         match self {
-            Value::ObjectIdentifier(name) => name.is_spellable(),
+            Value::ObjectIdentifier(name) => name.is_encodable(),
             _ => true,
         }
     }

@@ -1,10 +1,10 @@
 //! Writes a reply in its shortest encoding (RFC 3417, section 8; X.690).
 ghost use Rattle.std.specs.Prelude.{◌≡◌, ◌<◌, ◌≤◌, ◌++◌, drop, length, IfOk, OnErr};
 ghost use Rattle.std.specs.List.{flat_map};
-ghost use Rattle.ber_core.specs.Spelling.{canon_tlv};
+ghost use Rattle.ber_core.specs.Encoding.{canon_tlv};
 ghost use Rattle.oid_core.specs.Name.{HasRoot, canon_name};
 ghost use Rattle.message_core.specs.Tags as tags;
-ghost use Rattle.message_core.specs.Spellable.{IsSpellableValue, IsSpellableBinding, AreSpellable};
+ghost use Rattle.message_core.specs.Encodable.{IsEncodableValue, IsEncodableBinding, AreEncodable};
 ghost use Rattle.message_core.specs.Canon.{canon_name_tlv, canon_value, canon_binding, canon_bindings, canon_tail, canon_body, canon_inside, canon_message, canon_reply, answer_to};
 ghost use Rattle.ber_core.specs.Writing.{Prepends};
 
@@ -35,7 +35,7 @@ struct Message<'a> {
     bindings: &'a [Binding],
 }
 
-#[tactic(auto, unfolding(ber_core::specs::Spelling::canon_tlv))]
+#[tactic(auto, unfolding(ber_core::specs::Encoding::canon_tlv))]
 fn put_oid(out: &mut Out<'_>, name: &Oid) -> Result<(), BerFault>
     requires { HasRoot name.now }
     ensures same_reference { out.new.room.ghost_name ≡ out.old.room.ghost_name }
@@ -48,7 +48,7 @@ fn put_oid(out: &mut Out<'_>, name: &Oid) -> Result<(), BerFault>
 }
 
 fn put_value(out: &mut Out<'_>, value: &Value) -> Result<(), BerFault>
-    requires { IsSpellableValue value.now }
+    requires { IsEncodableValue value.now }
     ensures same_reference { out.new.room.ghost_name ≡ out.old.room.ghost_name }
     ensures puts { Prepends out.old out.new result (canon_value value.now) }
 {
@@ -69,9 +69,12 @@ fn put_value(out: &mut Out<'_>, value: &Value) -> Result<(), BerFault>
     }
 }
 
-#[tactic(auto, unfolding(ber_core::specs::Spelling::canon_tlv, crate::specs::Canon::canon_binding))]
+/// Writes the shortest encoding of a variable binding (RFC 3416, section 3: VarBind) in front of what is written.
+///
+/// `NoRoom` where it does not fit. A name that cannot be encoded is the caller's to keep out.
+#[tactic(auto, unfolding(ber_core::specs::Encoding::canon_tlv, crate::specs::Canon::canon_binding))]
 pub fn put_binding(out: &mut Out<'_>, binding: &Binding) -> Result<(), BerFault>
-    requires { IsSpellableBinding binding.now }
+    requires { IsEncodableBinding binding.now }
     ensures same_reference { out.new.room.ghost_name ≡ out.old.room.ghost_name }
     ensures puts { Prepends out.old out.new result (canon_binding binding.now) }
 {
@@ -83,7 +86,7 @@ pub fn put_binding(out: &mut Out<'_>, binding: &Binding) -> Result<(), BerFault>
 }
 
 fn put_bindings(out: &mut Out<'_>, bindings: &[Binding]) -> Result<(), BerFault>
-    requires { AreSpellable bindings.now }
+    requires { AreEncodable bindings.now }
     ensures same_reference { out.new.room.ghost_name ≡ out.old.room.ghost_name }
     ensures puts { Prepends out.old out.new result (flat_map canon_binding bindings.now) }
 {
@@ -95,9 +98,9 @@ fn put_bindings(out: &mut Out<'_>, bindings: &[Binding]) -> Result<(), BerFault>
     Ok(())
 }
 
-#[tactic(auto, unfolding(ber_core::specs::Spelling::canon_tlv))]
+#[tactic(auto, unfolding(ber_core::specs::Encoding::canon_tlv))]
 fn put_list(out: &mut Out<'_>, bindings: &[Binding]) -> Result<(), BerFault>
-    requires { AreSpellable bindings.now }
+    requires { AreEncodable bindings.now }
     ensures same_reference { out.new.room.ghost_name ≡ out.old.room.ghost_name }
     ensures puts { Prepends out.old out.new result (canon_tlv tags.sequence
         (flat_map canon_binding bindings.now)) }
@@ -110,7 +113,7 @@ fn put_list(out: &mut Out<'_>, bindings: &[Binding]) -> Result<(), BerFault>
 
 #[tactic(auto, unfolding(crate::specs::Canon::canon_tail))]
 fn put_tail(out: &mut Out<'_>, second: i32, bindings: &[Binding]) -> Result<(), BerFault>
-    requires { AreSpellable bindings.now }
+    requires { AreEncodable bindings.now }
     ensures same_reference { out.new.room.ghost_name ≡ out.old.room.ghost_name }
     ensures puts { Prepends out.old out.new result (canon_tail second bindings.now) }
 {
@@ -120,7 +123,7 @@ fn put_tail(out: &mut Out<'_>, second: i32, bindings: &[Binding]) -> Result<(), 
 
 #[tactic(auto, unfolding(crate::specs::Canon::canon_body))]
 fn put_body(out: &mut Out<'_>, message: &Message<'_>) -> Result<(), BerFault>
-    requires { AreSpellable message.now.bindings.now }
+    requires { AreEncodable message.now.bindings.now }
     ensures same_reference { out.new.room.ghost_name ≡ out.old.room.ghost_name }
     ensures puts { let m = message.now in Prepends out.old out.new result
         (canon_body m.id m.first m.second m.bindings.now) }
@@ -130,9 +133,9 @@ fn put_body(out: &mut Out<'_>, message: &Message<'_>) -> Result<(), BerFault>
     out.put_i32(Tag(tag::INTEGER), message.id)
 }
 
-#[tactic(auto, unfolding(ber_core::specs::Spelling::canon_tlv))]
+#[tactic(auto, unfolding(ber_core::specs::Encoding::canon_tlv))]
 fn put_pdu(out: &mut Out<'_>, message: &Message<'_>) -> Result<(), BerFault>
-    requires { AreSpellable message.now.bindings.now }
+    requires { AreEncodable message.now.bindings.now }
     ensures same_reference { out.new.room.ghost_name ≡ out.old.room.ghost_name }
     ensures puts { let m = message.now in Prepends out.old out.new result (canon_tlv m.tag.0
         (canon_body m.id m.first m.second m.bindings.now)) }
@@ -145,7 +148,7 @@ fn put_pdu(out: &mut Out<'_>, message: &Message<'_>) -> Result<(), BerFault>
 
 #[tactic(auto, unfolding(crate::specs::Canon::canon_inside))]
 fn put_inside(out: &mut Out<'_>, message: &Message<'_>) -> Result<(), BerFault>
-    requires { AreSpellable message.now.bindings.now }
+    requires { AreEncodable message.now.bindings.now }
     ensures same_reference { out.new.room.ghost_name ≡ out.old.room.ghost_name }
     ensures puts { let m = message.now in Prepends out.old out.new result
         (canon_inside m.community.now m.tag.0 (canon_body m.id m.first m.second m.bindings.now)) }
@@ -155,9 +158,9 @@ fn put_inside(out: &mut Out<'_>, message: &Message<'_>) -> Result<(), BerFault>
     out.put_i32(Tag(tag::INTEGER), 1)
 }
 
-#[tactic(auto, unfolding(ber_core::specs::Spelling::canon_tlv, crate::specs::Canon::canon_message))]
+#[tactic(auto, unfolding(ber_core::specs::Encoding::canon_tlv, crate::specs::Canon::canon_message))]
 fn put_message(out: &mut Out<'_>, message: &Message<'_>) -> Result<(), BerFault>
-    requires { AreSpellable message.now.bindings.now }
+    requires { AreEncodable message.now.bindings.now }
     ensures same_reference { out.new.room.ghost_name ≡ out.old.room.ghost_name }
     ensures puts { let m = message.now in Prepends out.old out.new result
         (canon_message m.community.now m.tag.0 (canon_body m.id m.first m.second m.bindings.now)) }
@@ -170,7 +173,7 @@ fn put_message(out: &mut Out<'_>, message: &Message<'_>) -> Result<(), BerFault>
 
 /// Writes a message to the front of the buffer, and answers how long it is. A message that does not fit changes nothing.
 fn encode(message: &Message<'_>, buffer: &mut [u8; MAX_REPLY]) -> Result<usize, TooBig>
-    requires { AreSpellable message.now.bindings.now }
+    requires { AreEncodable message.now.bindings.now }
     ensures ok { let m = message.now in IfOk result (λ n.
         buffer.new ≡ canon_message m.community.now m.tag.0
         (canon_body m.id m.first m.second m.bindings.now) ++ drop n buffer.old) }
@@ -191,12 +194,14 @@ fn encode(message: &Message<'_>, buffer: &mut [u8; MAX_REPLY]) -> Result<usize, 
     Ok(len)
 }
 
-/// Writes the shortest spelling of a reply to the front of the buffer, and answers how long it is, at most `MAX_REPLY` octets.
+/// Writes the shortest encoding of a reply to the front of the buffer, and answers how long it is, at most `MAX_REPLY` octets.
+///
+/// For a reply that stands alone, as a manager's or a test's; an agent answers by [`encode_answer`], which borrows the request.
 ///
 /// What stands behind it stays. `TooBig` exactly where it is longer than `MAX_REPLY` octets; the buffer is then as before.
-/// Takes no memory. A name that cannot be spelled is the caller's to keep out (`Binding::is_spellable`).
+/// Takes no memory. A name that cannot be encoded is the caller's to keep out (`Binding::is_encodable`).
 pub fn encode_reply(reply: &Reply, buffer: &mut [u8; MAX_REPLY]) -> Result<usize, TooBig>
-    requires { AreSpellable reply.now.bindings }
+    requires { AreEncodable reply.now.bindings }
     ensures ok { IfOk result (λ n. buffer.new ≡ canon_reply reply.now ++ drop n buffer.old) }
     ensures len { IfOk result (λ n. (n ≡ length (canon_reply reply.now)) × (n ≤ MAX_REPLY)) }
     ensures too_big { OnErr result (MAX_REPLY < length (canon_reply reply.now)) }
@@ -213,10 +218,10 @@ pub fn encode_reply(reply: &Reply, buffer: &mut [u8; MAX_REPLY]) -> Result<usize
     encode(&message, buffer)
 }
 
-/// Writes the shortest spelling of the reply to a request that has this status, index and bindings, as `encode_reply` does.
+/// Writes the shortest encoding of the reply to a request that has this status, index and bindings, as `encode_reply` does.
 ///
 /// The request-id and the community are the request's (RFC 3416, section 4.2). Takes no memory and copies nothing.
-/// The caller owes that each binding has a spelling (`Binding::is_spellable`): its name, and an OBJECT IDENTIFIER value,
+/// The caller owes that each binding has an encoding (`Binding::is_encodable`): its name, and an OBJECT IDENTIFIER value,
 /// begin as X.690, 8.19.4 asks. `decode` gives only requests whose bindings have one.
 pub fn encode_answer(
     request: &Request,
@@ -225,7 +230,7 @@ pub fn encode_answer(
     bindings: &[Binding],
     buffer: &mut [u8; MAX_REPLY],
 ) -> Result<usize, TooBig>
-    requires { AreSpellable bindings.now }
+    requires { AreEncodable bindings.now }
     ensures ok { IfOk result (λ n.
         buffer.new ≡ canon_reply (answer_to request.now status index bindings.now)
         ++ drop n buffer.old) }

@@ -5,10 +5,10 @@ use Rattle.std.specs.Int.Digits.{digits_of}
 use Rattle.std.proofs.Math.Nat.{pow-suc}
 use Rattle.std.proofs.lemmas.List.{length-append, length-map}
 use Rattle.std.proofs.lemmas.Int.Digits.{number_lt, length-digits_of-le}
-use Rattle.oid_core.specs.Name.{flagged, IsCoded, AreCoded, packed, IsName, canon_coded, canon_name}
+use Rattle.oid_core.specs.Name.{group_octets, IsCoded, AreCoded, coded_numbers, IsName, canon_coded, canon_name}
 use Rattle.oid_core.proofs.Names.{name_only, ok_is}
 
-length-flagged : (groups : List ℕ) → length (flagged groups) ≡ length groups
+length-flagged : (groups : List ℕ) → length (group_octets groups) ≡ length groups
 length-flagged [] = refl
 length-flagged (g ∷ []) = refl
 length-flagged (g ∷ h ∷ groups) = omega (arith, length-flagged (h ∷ groups))
@@ -31,7 +31,7 @@ all_least octets (n ∷ ns) coded =
 
 pub no_shorter_name : (content name : List ℕ) → IsName content name → length (canon_name name) ≤ length content
 unfolding canon_name
-no_shorter_name content name n = all_least content (packed name) n.spelled
+no_shorter_name content name n = all_least content (coded_numbers name) n.encoded
 
 pub one_name : (content a b : List ℕ) → IsName content a → IsName content b → a ≡ b
 one_name content a b n m = ok_is a b (sym (name_only content a n) ∙ name_only content b m)

@@ -6,7 +6,7 @@ use Rattle.std.proofs.Math.Nat.{pow-suc, pow-le-pow_right, mul-le-mul_right}
 use Rattle.std.proofs.lemmas.Bool.{cases_lt}
 use Rattle.std.proofs.lemmas.Int.Digits.{number_lt, number_after_ge, length-digits_of-le, number_digits_of, all_below_base_digits_of, digits_of_step}
 use Rattle.ber_core.proofs.Digits.{same_digits}
-use Rattle.oid_core.specs.Name.{flagged, IsCoded, AreCoded, packed, IsName, canon_coded, canon_name}
+use Rattle.oid_core.specs.Name.{group_octets, IsCoded, AreCoded, coded_numbers, IsName, canon_coded, canon_name}
 use Rattle.oid_core.proofs.Canon.{flagged_of}
 
 spread : (n d p : ℕ) → (n * 128 + d) * p ≡ n * (p * 128) + d * p
@@ -39,7 +39,7 @@ own_digits first others n below leads value =
     ] in
     same_digits 128 (first ∷ others) (digits_of 128 n) len below (all_below_base_digits_of 128 n (omega arith)) (value ∙ sym (number_digits_of 128 n (omega arith)))
 
-one_by : (first : ℕ) (others : List ℕ) (n : ℕ) → AllBelowBase 128 (first ∷ others) → (1 ≤ length others → 0 < first) → number_from_digits 128 (first ∷ others) ≡ n → flagged (first ∷ others) ≡ canon_coded n
+one_by : (first : ℕ) (others : List ℕ) (n : ℕ) → AllBelowBase 128 (first ∷ others) → (1 ≤ length others → 0 < first) → number_from_digits 128 (first ∷ others) ≡ n → group_octets (first ∷ others) ≡ canon_coded n
 unfolding canon_coded
 one_by first [] n below leads value =
     let low = below.0 in
@@ -50,7 +50,7 @@ one_by first (d ∷ others) n below leads value =
     let own = own_digits first (d ∷ others) n below (leads (omega arith)) value in
     let positive : 0 < first = leads (omega arith) in
     let some : 0 < n = omega (arith, number_after_ge 128 ((0 * 128 + first) * 128 + d) others (omega arith), value, positive) in
-    ap flagged (own ∙ digits_of_step 128 n (omega arith) some) ∙ flagged_of (digits_of 128 (n / 128)) (n % 128)
+    ap group_octets (own ∙ digits_of_step 128 n (omega arith) some) ∙ flagged_of (digits_of 128 (n / 128)) (n % 128)
 
 one_coded : (front : List ℕ) (n : ℕ) → IsCoded front n → front ≡ canon_coded n
 one_coded front n c = c.parts ∙ one_by c.first c.others n (c.low, c.all_low) c.leads c.value
@@ -61,4 +61,4 @@ all_one octets (n ∷ ns) coded = coded.3 ∙ ap (λ (t : List ℕ). t ++ coded.
 
 pub one_content : (content name : List ℕ) → IsName content name → content ≡ canon_name name
 unfolding canon_name
-one_content content name i = all_one content (packed name) i.spelled
+one_content content name i = all_one content (coded_numbers name) i.encoded

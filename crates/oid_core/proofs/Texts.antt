@@ -17,7 +17,7 @@ use Rattle.oid_core.specs.declared.fault.OidFault.{OidFault}
 use Rattle.oid_core.specs.declared.fault.OidFault.TheVariants.{Memory, BadText, TooLong, BadContent, NoRoom}
 use Rattle.oid_core.specs.declared.limits.TheConstants.{INLINE_NUMBERS}
 use Rattle.oid_core.specs.Fault.{IsListFault}
-use Rattle.oid_core.specs.Text.{dotted, IsDotted, IsTextFault, pieces}
+use Rattle.oid_core.specs.Text.{dotted_text, IsDotted, IsTextFault, pieces}
 
 -- ---- one number
 
@@ -115,11 +115,11 @@ digits_first : (bs more : List ℕ) → AllDigits 10 bs → pieces (bs ++ 46 ∷
 digits_first [] more all = refl
 digits_first (b ∷ bs) more all = rw (not_dot b all.0) (ap (onto_first b) (digits_first bs more all.1))
 
-split_dotted : (name : List ℕ) → 1 ≤ length name → AllByRecursion (λ n. n < 2 ^ 32) name → pieces (dotted name) ≡ map decimal name
+split_dotted : (name : List ℕ) → 1 ≤ length name → AllByRecursion (λ n. n < 2 ^ 32) name → pieces (dotted_text name) ≡ map decimal name
 split_dotted [] some each = absurd (omega arith)
 split_dotted (n ∷ []) some each = digits_alone (decimal n) (digits_in n each.0).1
 split_dotted (n ∷ m ∷ ns) some each =
-    digits_first (decimal n) (dotted (m ∷ ns)) (digits_in n each.0).1 ∙ ap (λ (t : List (List ℕ)). decimal n ∷ t) (split_dotted (m ∷ ns) (omega arith) each.1)
+    digits_first (decimal n) (dotted_text (m ∷ ns)) (digits_in n each.0).1 ∙ ap (λ (t : List (List ℕ)). decimal n ∷ t) (split_dotted (m ∷ ns) (omega arith) each.1)
 
 pub pieces_dotted : (text name : List ℕ) → IsDotted text name → pieces text ≡ map decimal name
 pieces_dotted text name d = ap pieces d.parts ∙ split_dotted name d.some d.each
@@ -250,7 +250,7 @@ list_fault text numbers (Err NoRoom) d few h = absurd h
 abbrev pub pointed : ℕ → List ℕ
 pointed n = 46 ∷ decimal n
 
-dotted_points : (n : ℕ) (ns : List ℕ) → dotted (n ∷ ns) ≡ decimal n ++ flat_map pointed ns
+dotted_points : (n : ℕ) (ns : List ℕ) → dotted_text (n ∷ ns) ≡ decimal n ++ flat_map pointed ns
 dotted_points n [] = sym (append-nil (decimal n))
 dotted_points n (m ∷ ns) = ap (λ (t : List ℕ). decimal n ++ 46 ∷ t) (dotted_points m ns)
 
@@ -258,6 +258,6 @@ abbrev pub joined : List ℕ → List ℕ
 joined [] = []
 joined (n ∷ ns) = decimal n ++ flat_map pointed ns
 
-pub joined_dotted : (name : List ℕ) → joined name ≡ dotted name
+pub joined_dotted : (name : List ℕ) → joined name ≡ dotted_text name
 joined_dotted [] = refl
 joined_dotted (n ∷ ns) = sym (dotted_points n ns)

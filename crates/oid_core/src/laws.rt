@@ -1,19 +1,19 @@
 //! Laws of names. Each holds of all octets and numbers, and its function does nothing.
 ghost use Rattle.std.specs.Prelude.{◌≡◌, ◌≤◌, ◌↔◌, ◌⊎◌, ℕ, List, length, IsTrue, Ok, Err, Some, None};
 ghost use Rattle.oid_core.specs.declared.fault.OidFault.{OidFault};
-ghost use Rattle.ber_core.specs.Spelling.{AreOctets};
-ghost use Rattle.oid_core.specs.Name.{IsName, IsSpellable, canon_name};
+ghost use Rattle.ber_core.specs.Encoding.{AreOctets};
+ghost use Rattle.oid_core.specs.Name.{IsName, IsEncodable, canon_name};
 ghost use Rattle.oid_core.specs.Reading.{name_at};
 ghost use Rattle.oid_core.specs.Order.{IsBefore, IsPrefix, name_lt, name_eq, is_prefix};
 ghost use Rattle.oid_core.specs.Text.{IsDotted};
 ghost use Rattle.oid_core.specs.TextValue.{name_of_text};
 
 use crate::fault::OidFault;
-use crate::limits::{INLINE_NUMBERS, MOST_NUMBERS};
+use crate::limits::{INLINE_NUMBERS, MAX_NUMBERS};
 
 /// The shortest content of a name is one of its contents.
-pub fn name_is_spelled()
-    ensures { (name : List ℕ) → IsSpellable name → IsName (canon_name name) name }
+pub fn name_is_encoded()
+    ensures { (name : List ℕ) → IsEncodable name → IsName (canon_name name) name }
 {}
 
 /// No content of a name has fewer octets.
@@ -69,6 +69,6 @@ pub fn tests_tell()
 
 /// The limits of names: 128 sub-identifiers at most (RFC 2578, 3.5), of which 24 take no memory.
 pub fn limits_are()
-    ensures most { MOST_NUMBERS ≡ 128 }
+    ensures most { MAX_NUMBERS ≡ 128 }
     ensures inline { INLINE_NUMBERS ≡ 24 }
 {}

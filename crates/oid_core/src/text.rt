@@ -5,7 +5,7 @@ ghost use Rattle.std.specs.Option.{option_copied};
 ghost use Rattle.oid_core.specs.Text.{IsDotted, IsTextFault, pieces, pieces_left};
 
 use crate::fault::OidFault;
-use crate::limits::MOST_NUMBERS;
+use crate::limits::MAX_NUMBERS;
 use arrayvec::ArrayVec;
 
 /// The number that a text writes in decimal, with no sign and no leading zero.
@@ -32,7 +32,7 @@ fn first_piece(text: &str) -> (&str, Option<&str>)
 }
 
 /// The numbers of a dotted text, 1 to 128 of them. A text that is wrong anywhere is `BadText`, also where it is too long.
-pub fn numbers_of(text: &str) -> Result<ArrayVec<u32, MOST_NUMBERS>, OidFault>
+pub fn numbers_of(text: &str) -> Result<ArrayVec<u32, MAX_NUMBERS>, OidFault>
     ensures found { IfOk result (λ v. IsDotted text.now v.items) }
     ensures fault { IfErr result (λ f. IsTextFault text.now f) }
     ensures memory { IfErr result (λ f. f ≢ OidFault.Memory) }

@@ -1,6 +1,6 @@
 //! Writes the coded numbers of a name (X.690, 8.19.2 and 8.19.4).
 ghost use Rattle.std.specs.Prelude.{◌≡◌, length, OnOk, OnErr};
-ghost use Rattle.ber_core.specs.Writing.{written, Prepends, KeepsFront};
+ghost use Rattle.ber_core.specs.Writing.{written_octets, Prepends, KeepsFront};
 ghost use Rattle.oid_core.specs.Name.{HasRoot, canon_coded, canon_name};
 ghost use Rattle.oid_core.specs.Writing.{Extends};
 
@@ -12,7 +12,7 @@ fn put_coded(out: &mut Out<'_>, number: u64) -> Result<(), BerFault>
     ensures same_reference { out.new.room.ghost_name ≡ out.old.room.ghost_name }
     ensures puts { Prepends out.old out.new result (canon_coded number) }
     ensures front { OnOk result (KeepsFront out.old out.new) }
-    ensures behind { Extends (written out.old) (written out.new) }
+    ensures behind { Extends (written_octets out.old) (written_octets out.new) }
 {
     out.put_octets(&[(number % 128) as u8])?;
     let mut left = number / 128;
@@ -29,7 +29,7 @@ fn put_numbers(out: &mut Out<'_>, name: &[u32]) -> Result<(), BerFault>
     ensures same_reference { out.new.room.ghost_name ≡ out.old.room.ghost_name }
     ensures puts { Prepends out.old out.new result (canon_name name.now) }
     ensures front { OnOk result (KeepsFront out.old out.new) }
-    ensures behind { Extends (written out.old) (written out.new) }
+    ensures behind { Extends (written_octets out.old) (written_octets out.new) }
 {
     let mut i = name.len();
     while i > 2 {
@@ -41,7 +41,7 @@ fn put_numbers(out: &mut Out<'_>, name: &[u32]) -> Result<(), BerFault>
 
 /// Writes the shortest content of an OBJECT IDENTIFIER in front of what is written (X.690, 8.19).
 ///
-/// The caller owes that the name has a spelling: two sub-identifiers or more, of which the first is at most 2, and the
+/// The caller owes that the name has an encoding: two sub-identifiers or more, of which the first is at most 2, and the
 /// second at most 39 where the first is below 2 (X.690, 8.19.4). `NoRoom` where it does not fit, and then what is written
 /// is as it was; of the octets of the slice in front of it nothing is said then. A call that succeeds leaves those in front
 /// of what it wrote as they were.
@@ -50,7 +50,7 @@ pub fn put_name(out: &mut Out<'_>, name: &[u32]) -> Result<(), BerFault>
     ensures same_reference { out.new.room.ghost_name ≡ out.old.room.ghost_name }
     ensures puts { Prepends out.old out.new result (canon_name name.now) }
     ensures front { OnOk result (KeepsFront out.old out.new) }
-    ensures err { OnErr result (written out.new ≡ written out.old) }
+    ensures err { OnErr result (written_octets out.new ≡ written_octets out.old) }
 {
     let mark = out.len();
     let put = put_numbers(out, name);

@@ -4,3 +4,4 @@ pub mod SaidLemmas
 pub mod Utf8
 pub mod Begins
 pub mod Taking
+pub mod VacmFaults

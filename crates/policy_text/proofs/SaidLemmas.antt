@@ -6,26 +6,27 @@ use Rattle.std.proofs.lemmas.Bool.{cases_Bool, cases_lt, le-leb, lt-leb, leb-tru
 use Rattle.std.proofs.lemmas.List.Folds.{list_all_at}
 use Rattle.std.proofs.lemmas.List.FromFn.{length-range_with_len, get_or-range_with_len}
 use Rattle.std.proofs.lemmas.Option.{slice_get_within}
-use Rattle.oid_core.specs.declared.limits.TheConstants.{MOST_NUMBERS}
+use Rattle.oid_core.specs.declared.limits.TheConstants.{MAX_NUMBERS}
 use Rattle.oid_core.specs.TextValue.{name_of_text, all_of}
 use Rattle.oid_core.proofs.TextValues.{dotted_read, read_dotted, none_dotted}
 use Rattle.toml.specs.Data.{Data, Members, as_table, as_str}
-use Rattle.vacm_core.specs.declared.fault.PolicyFault.{PolicyFault}
-use Rattle.vacm_core.specs.declared.fault.PolicyFault.TheVariants.{Memory, Duplicate as SameKey, BadLength, BadField}
-use Rattle.vacm_core.specs.declared.fault.PolicyTable.{PolicyTable}
-use Rattle.vacm_core.specs.declared.fault.PolicyTable.TheVariants.{Groups, Access, Families, Contexts, Communities}
+use Rattle.community_core.specs.declared.fault.PolicyFault.{PolicyFault}
+use Rattle.community_core.specs.declared.fault.PolicyFault.TheVariants.{Memory}
+use Rattle.community_core.specs.declared.fault.PolicyTable.{PolicyTable}
+use Rattle.community_core.specs.declared.fault.PolicyTable.TheVariants.{Groups, Access, Families, Contexts, Communities}
+use Rattle.vacm_core.specs.declared.fault.VacmTable.{VacmTable}
+use Rattle.vacm_core.specs.declared.fault.VacmTable.TheVariants as vacm
 use Rattle.vacm_core.specs.declared.fault.Wrong.{Wrong}
-use Rattle.vacm_core.specs.declared.fault.Wrong.TheVariants.{Length, Field, Duplicate}
 use Rattle.vacm_core.specs.declared.written.WrittenFamily.{WrittenFamily}
 use Rattle.vacm_core.specs.Rules.{Rules, wrong_of, wrong_at, IsFirstWrong, AreRight}
-use Rattle.vacm_core.specs.Faults.{IsFault, IsFirstIn}
+use Rattle.vacm_core.specs.Faults.{IsFirstIn}
 use Rattle.vacm_core.specs.Rows.{group_rules, access_rules, family_rules, context_rules}
 use Rattle.policy_text.specs.declared.policies.PolicyRows.{PolicyRows}
 use Rattle.policy_text.specs.declared.rows.FamilyTexts.{FamilyTexts}
 use Rattle.community_core.specs.Communities.{PolicyTables, community_rules}
 use Rattle.policy_text.specs.Reading.{AreRows, IsFirstUnread, group_says, group_of, access_says, access_of, family_says, family_members, texts_say, parts_say, subtree_says, mask_of, context_says, community_says, community_of}
 use Rattle.policy_text.specs.Policies.{Arrays, arrays_of, AreRowsOf, IsUnreadOf, IsUnread, IsPolicyFault, ArePolicyRowsRight, IsPolicy, IsWrongPolicy, policy_tables}
-use Rattle.policy_text.specs.Said.{subtree_of, family_with, family_of_texts, family_of, rows_of, is_right, are_rows_right, if_right, policy_said}
+use Rattle.policy_text.specs.Said.{subtree_of, family_with, family_of_texts, family_of, rows_of, is_right, are_rows_right, if_right, policy_of_members}
 
 -- ---- what a step found
 
@@ -84,20 +85,20 @@ by_function f = record { row = λ d r e. sym e; none = λ d e. sym e; said = λ 
 -- ---- families
 
 subtree_told : (text name : List ℕ) → subtree_says text (Some name) → subtree_of text ≡ Some name
-subtree_told text name h = rw (dotted_read text name h.0, le-leb (length name) MOST_NUMBERS h.1)
+subtree_told text name h = rw (dotted_read text name h.0, le-leb (length name) MAX_NUMBERS h.1)
 
 subtree_none : (text : List ℕ) → subtree_says text None → subtree_of text ≡ None
 subtree_none text (inl none) = rw (none_dotted text none (name_of_text text) refl)
-subtree_none text (inr long) = rw (dotted_read text long.0 long.1, lt-leb (length long.0) MOST_NUMBERS long.2)
+subtree_none text (inr long) = rw (dotted_read text long.0 long.1, lt-leb (length long.0) MAX_NUMBERS long.2)
 
 subtree_said : (text name : List ℕ) → subtree_of text ≡ Some name → subtree_says text (Some name)
 subtree_said text name e =
     let b = bound _ (name_of_text text) name e in
-    elim (cases_Bool (leb (length b.0) MOST_NUMBERS)) [
+    elim (cases_Bool (leb (length b.0) MAX_NUMBERS)) [
       | inl few ↦
           let h = rw few at b.2 in
           let same : b.0 ≡ name = cc in
-          rw (← same) (read_dotted text b.0 b.1, leb-true (length b.0) MOST_NUMBERS few)
+          rw (← same) (read_dotted text b.0 b.1, leb-true (length b.0) MAX_NUMBERS few)
       | inr many ↦ absurd (let h = rw many at b.2 in cc)
     ]
 
@@ -256,21 +257,14 @@ rows_false rows h =
     one_false (is_right group_rules rows.vacm.groups) (is_right access_rules rows.vacm.access) (is_right family_rules rows.vacm.families)
     (is_right context_rules rows.vacm.contexts) (is_right community_rules rows.communities) h
 
-first_in : (table : PolicyTable) (rows : PolicyRows) (n : ℕ) (wrong : Wrong) → IsFirstIn table rows.vacm n wrong → are_rows_right rows ≡ false
-first_in Groups rows n wrong h = rows_false rows (inl (first_told group_rules rows.vacm.groups n wrong h))
-first_in Access rows n wrong h = rows_false rows (inr (inl (first_told access_rules rows.vacm.access n wrong h)))
-first_in Families rows n wrong h = rows_false rows (inr (inr (inl (first_told family_rules rows.vacm.families n wrong h))))
-first_in Contexts rows n wrong h = rows_false rows (inr (inr (inr (inl (first_told context_rules rows.vacm.contexts n wrong h)))))
-first_in Communities rows n wrong h = absurd h
-
-vacm_wrong : (rows : PolicyRows) (e : PolicyFault) → IsFault rows.vacm e → are_rows_right rows ≡ false
-vacm_wrong rows Memory h = absurd h
-vacm_wrong rows (BadLength table n) h = first_in table rows n Length h.1
-vacm_wrong rows (BadField table n) h = first_in table rows n Field h.1
-vacm_wrong rows (SameKey table n) h = first_in table rows n Duplicate h.1
+first_in : (table : VacmTable) (rows : PolicyRows) (n : ℕ) (wrong : Wrong) → IsFirstIn table rows.vacm n wrong → are_rows_right rows ≡ false
+first_in vacm.Groups rows n wrong h = rows_false rows (inl (first_told group_rules rows.vacm.groups n wrong h))
+first_in vacm.Access rows n wrong h = rows_false rows (inr (inl (first_told access_rules rows.vacm.access n wrong h)))
+first_in vacm.Families rows n wrong h = rows_false rows (inr (inr (inl (first_told family_rules rows.vacm.families n wrong h))))
+first_in vacm.Contexts rows n wrong h = rows_false rows (inr (inr (inr (inl (first_told context_rules rows.vacm.contexts n wrong h)))))
 
 rows_wrong : (rows : PolicyRows) (e : PolicyFault) → IsPolicyFault rows e → are_rows_right rows ≡ false
-rows_wrong rows e (inl h) = vacm_wrong rows e h
+rows_wrong rows e (inl h) = first_in h.table rows h.place h.wrong h.first
 rows_wrong rows e (inr h) = rows_false rows (inr (inr (inr (inr (first_told community_rules rows.communities h.1.place h.1.wrong h.1.first)))))
 
 all_right : (rows : PolicyRows) → are_rows_right rows ≡ true → ArePolicyRowsRight rows
@@ -290,21 +284,21 @@ all_right rows h =
 
 -- ---- the policy
 
-pub policy_told : (ms : Members) (policy : PolicyTables) → IsPolicy ms policy → policy_said ms ≡ Some policy
-unfolding policy_said
+pub policy_told : (ms : Members) (policy : PolicyTables) → IsPolicy ms policy → policy_of_members ms ≡ Some policy
+unfolding policy_of_members
 policy_told ms policy h =
     rw (h.said.are, rows_told h.said.arrays h.rows h.said.say, rows_right h.rows h.right) (ap (λ p. Some p) (sym h.is))
 
-pub unread_told : (ms : Members) (e : PolicyFault) → IsUnread ms e → policy_said ms ≡ None
-unfolding policy_said
+pub unread_told : (ms : Members) (e : PolicyFault) → IsUnread ms e → policy_of_members ms ≡ None
+unfolding policy_of_members
 unread_told ms e (inl h) = rw h.0
 unread_told ms e (inr h) = rw (h.1, rows_none h.0 e h.2)
 
-pub wrong_policy_told : (ms : Members) (e : PolicyFault) → IsWrongPolicy ms e → policy_said ms ≡ None
-unfolding policy_said
+pub wrong_policy_told : (ms : Members) (e : PolicyFault) → IsWrongPolicy ms e → policy_of_members ms ≡ None
+unfolding policy_of_members
 wrong_policy_told ms e h = rw (h.said.are, rows_told h.said.arrays h.rows h.said.say, rows_wrong h.rows e h.fault)
 
-pub refused_told : (ms : Members) (e : PolicyFault) → IsUnread ms e ⊎ IsWrongPolicy ms e → policy_said ms ≡ None
+pub refused_told : (ms : Members) (e : PolicyFault) → IsUnread ms e ⊎ IsWrongPolicy ms e → policy_of_members ms ≡ None
 refused_told ms e (inl h) = unread_told ms e h
 refused_told ms e (inr h) = wrong_policy_told ms e h
 
@@ -315,8 +309,8 @@ right_only rows policy e =
       | inr wrong ↦ absurd (let h = rw wrong at e in cc)
     ]
 
-pub said_policy : (ms : Members) (policy : PolicyTables) → policy_said ms ≡ Some policy → IsPolicy ms policy
-unfolding policy_said
+pub said_policy : (ms : Members) (policy : PolicyTables) → policy_of_members ms ≡ Some policy → IsPolicy ms policy
+unfolding policy_of_members
 said_policy ms policy e =
     let r = bound if_right (option_and_then rows_of (arrays_of ms)) policy e in
     let a = bound rows_of (arrays_of ms) r.0 r.1 in
@@ -329,10 +323,10 @@ said_policy ms policy e =
     }
 
 -- what a call that gives the policy, or refuses the table, tells
-pub said_if : (ms : Members) (r : Result PolicyTables PolicyFault) → IfOk r (λ p. IsPolicy ms p) → IfOk r (λ p. policy_said ms ≡ Some p)
+pub said_if : (ms : Members) (r : Result PolicyTables PolicyFault) → IfOk r (λ p. IsPolicy ms p) → IfOk r (λ p. policy_of_members ms ≡ Some p)
 said_if ms (Ok p) h = policy_told ms p h
 said_if ms (Err e) h = tt
 
-pub refused_if : (ms : Members) (r : Result PolicyTables PolicyFault) → IfErr r (λ e. e ≢ Memory → IsUnread ms e ⊎ IsWrongPolicy ms e) → IfErr r (λ e. e ≢ Memory → policy_said ms ≡ None)
+pub refused_if : (ms : Members) (r : Result PolicyTables PolicyFault) → IfErr r (λ e. e ≢ Memory → IsUnread ms e ⊎ IsWrongPolicy ms e) → IfErr r (λ e. e ≢ Memory → policy_of_members ms ≡ None)
 refused_if ms (Ok p) h = tt
 refused_if ms (Err e) h = λ other. refused_told ms e (h other)

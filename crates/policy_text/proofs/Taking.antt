@@ -2,10 +2,10 @@
 use Rattle.std.proofs.Common.{◌≡◌, List, [], ◌∷◌, Option, Some, Result, Ok, Err, inl, inr}
 use Rattle.std.specs.Prelude.{IfErr}
 use Rattle.toml.specs.Data.{Data, Members}
-use Rattle.vacm_core.specs.declared.fault.PolicyFault.{PolicyFault}
-use Rattle.vacm_core.specs.declared.fault.PolicyFault.TheVariants.{Memory}
-use Rattle.vacm_core.specs.declared.fault.PolicyTable.{PolicyTable}
-use Rattle.vacm_core.specs.declared.fault.PolicyTable.TheVariants.{Groups, Access, Families, Contexts, Communities}
+use Rattle.community_core.specs.declared.fault.PolicyFault.{PolicyFault}
+use Rattle.community_core.specs.declared.fault.PolicyFault.TheVariants.{Memory}
+use Rattle.vacm_core.specs.declared.fault.VacmTable.{VacmTable}
+use Rattle.vacm_core.specs.declared.fault.VacmTable.TheVariants.{Groups, Access, Families, Contexts}
 use Rattle.vacm_core.specs.Rules.{Rules, BeginsRight}
 use Rattle.vacm_core.specs.Faults.{BeginsRightIn}
 use Rattle.vacm_core.specs.Rows.{group_rules, access_rules, family_rules, context_rules}
@@ -21,7 +21,7 @@ begins rules says typed law ds [] are right = absurd right
 begins rules says typed law [] (w ∷ ws) are right = absurd are
 begins rules says typed law (d ∷ ds) (w ∷ ws) are right = law d w are.0
 
-checks_take : (a : Arrays) (rows : PolicyRows) → AreRowsOf a rows → (table : PolicyTable) → BeginsRightIn table rows.vacm → TakesMemoryOf a
+checks_take : (a : Arrays) (rows : PolicyRows) → AreRowsOf a rows → (table : VacmTable) → BeginsRightIn table rows.vacm → TakesMemoryOf a
 checks_take a rows say Groups b = inl (begins group_rules group_says IsGroup group_typed a.groups rows.vacm.groups say.groups b)
 checks_take a rows say Access b =
     inr (inl ((rows.vacm.groups, say.groups), begins access_rules access_says IsAccess access_typed a.access rows.vacm.access say.access b))
@@ -29,7 +29,6 @@ checks_take a rows say Families b =
     inr (inr (inl ((rows.vacm.groups, say.groups), (rows.vacm.access, say.access), begins family_rules family_says IsFamily family_typed a.families rows.vacm.families say.families b)))
 checks_take a rows say Contexts b =
     inr (inr (inr (inl ((rows.vacm.groups, say.groups), (rows.vacm.access, say.access), (rows.vacm.families, say.families), begins context_rules context_says IsContext context_typed a.contexts rows.vacm.contexts say.contexts b))))
-checks_take a rows say Communities b = absurd b
 
 rows_take : (a : Arrays) (rows : PolicyRows) → AreRowsOf a rows → RowsTakeMemory rows → TakesMemoryOf a
 rows_take a rows say (inl t) = checks_take a rows say t.table t.begins

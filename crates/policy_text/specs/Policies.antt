@@ -1,14 +1,17 @@
 -- What a TOML table says as a policy, and its first fault.
 use Rattle.std.specs.Prelude.{◌≡◌, ◌⊎◌, ◌==◌, if◌then◌else◌, codes, List, map, Option, Some, None}
 use Rattle.toml.specs.Data.{Data, Members}
-use Rattle.vacm_core.specs.declared.fault.PolicyFault.{PolicyFault}
-use Rattle.vacm_core.specs.declared.fault.PolicyFault.TheVariants.{BadField}
-use Rattle.vacm_core.specs.declared.fault.PolicyTable.TheVariants.{Groups, Access, Families, Contexts, Communities}
-use Rattle.vacm_core.specs.Rules.{AreRight, IsFirstFault, BeginsRight}
-use Rattle.vacm_core.specs.Faults.{AreAllRight, IsFault, TakesMemory as ChecksTakeMemory}
+use Rattle.toml.specs.View.{view}
+use Rattle.community_core.specs.declared.fault.PolicyFault.{PolicyFault}
+use Rattle.community_core.specs.declared.fault.PolicyFault.TheVariants.{BadField}
+use Rattle.community_core.specs.declared.fault.PolicyTable.TheVariants.{Groups, Access, Families, Contexts, Communities}
+use Rattle.vacm_core.specs.Rules.{AreRight, BeginsRight}
+use Rattle.vacm_core.specs.Faults.{AreAllRight, TakesMemory as ChecksTakeMemory}
 use Rattle.vacm_core.specs.Tables.{tables_of}
+use Rattle.policy_text.specs.declared.policies.PolicyArrays.{PolicyArrays}
 use Rattle.policy_text.specs.declared.policies.PolicyRows.{PolicyRows}
 use Rattle.community_core.specs.Communities.{PolicyTables, community_rules, community_row}
+use Rattle.community_core.specs.Faults.{IsVacmFault, IsCommunityFault}
 use Rattle.policy_text.specs.Keys.{key_count, array_at}
 use Rattle.policy_text.specs.Reading.{AreRows, IsFirstUnread, BeginsTyped, group_says, access_says, family_says, context_says, community_says, IsGroup, IsAccess, IsFamily, IsContext, IsCommunity, ◌>=>◌}
 
@@ -23,6 +26,12 @@ pub record Arrays : Type 0 where
 abbrev pub arrays : List Data → List Data → List Data → List Data → List Data → Arrays
 arrays groups access families contexts communities =
     record { groups = groups; access = access; families = families; contexts = contexts; communities = communities }
+
+-- the arrays of a policy as they are held
+abbrev pub arrays_in : PolicyArrays → Arrays
+arrays_in a =
+    arrays (map view a.groups.now.items) (map view a.access.now.items) (map view a.families.now.items)
+    (map view a.contexts.now.items) (map view a.communities.now.items)
 
 abbrev pub array_keys : Members → Option Arrays
 array_keys ms =
@@ -90,7 +99,7 @@ RowsTakeMemory rows = ChecksTakeMemory rows.vacm ⊎ (AreAllRight rows.vacm × B
 
 -- the first fault of rows that were read
 abbrev pub IsPolicyFault : PolicyRows → PolicyFault → Type 0
-IsPolicyFault rows e = IsFault rows.vacm e ⊎ (AreAllRight rows.vacm × IsFirstFault community_rules Communities rows.communities e)
+IsPolicyFault rows e = IsVacmFault rows.vacm e ⊎ (AreAllRight rows.vacm × IsCommunityFault rows.communities e)
 
 -- the policy that rows stand for
 abbrev pub policy_tables : PolicyRows → PolicyTables

@@ -3,13 +3,13 @@ use Rattle.std.specs.Prelude.{◌≡◌, ◌⊎◌, ℕ, ◌≤◌, ◌==◌, if
 use Rattle.std.specs.Result.{result_ok}
 use Rattle.std.specs.List.{AllZip}
 use Rattle.hex.specs.Hex.{decode_of}
-use Rattle.oid_core.specs.declared.limits.TheConstants.{MOST_NUMBERS}
+use Rattle.oid_core.specs.declared.limits.TheConstants.{MAX_NUMBERS}
 use Rattle.oid_core.specs.Text.{IsDotted, IsTextFault}
 use Rattle.oid_core.specs.declared.fault.OidFault.TheVariants.{BadText, TooLong}
 use Rattle.toml.specs.Data.{Data, Members, as_table, as_str}
-use Rattle.vacm_core.specs.declared.fault.PolicyFault.{PolicyFault}
-use Rattle.vacm_core.specs.declared.fault.PolicyFault.TheVariants.{BadField}
-use Rattle.vacm_core.specs.declared.fault.PolicyTable.{PolicyTable}
+use Rattle.community_core.specs.declared.fault.PolicyFault.{PolicyFault}
+use Rattle.community_core.specs.declared.fault.PolicyFault.TheVariants.{BadField}
+use Rattle.community_core.specs.declared.fault.PolicyTable.{PolicyTable}
 use Rattle.vacm_core.specs.declared.written.WrittenGroup.{WrittenGroup}
 use Rattle.vacm_core.specs.declared.written.WrittenAccess.{WrittenAccess}
 use Rattle.vacm_core.specs.declared.written.WrittenFamily.{WrittenFamily}
@@ -105,9 +105,9 @@ family_members ms = if key_count ms == 4 then family_keys ms else None
 abbrev pub mask_of : List ℕ → Option (List ℕ)
 mask_of text = result_ok (decode_of text)
 
--- the name of at most MOST_NUMBERS sub-identifiers that a dotted text is
+-- the name of at most MAX_NUMBERS sub-identifiers that a dotted text is
 abbrev pub subtree_says : List ℕ → Option (List ℕ) → Type 0
-subtree_says text (Some name) = IsDotted text name × (length name ≤ MOST_NUMBERS)
+subtree_says text (Some name) = IsDotted text name × (length name ≤ MAX_NUMBERS)
 subtree_says text None = IsTextFault text BadText ⊎ IsTextFault text TooLong
 
 abbrev pub parts_say : FamilyTexts → Option (List ℕ) → Option WrittenFamily → Type 0

@@ -1,7 +1,7 @@
 -- The policy that a TOML table says, as a function: each value read as its row, and nothing wrong with any row.
 use Rattle.std.specs.Prelude.{ℕ, ◌&&◌, Bool, nat_le, is_none, length, if◌then◌else◌, List, Option, Some, None}
 use Rattle.std.specs.List.{list_all, range_with_len}
-use Rattle.oid_core.specs.declared.limits.TheConstants.{MOST_NUMBERS}
+use Rattle.oid_core.specs.declared.limits.TheConstants.{MAX_NUMBERS}
 use Rattle.oid_core.specs.TextValue.{name_of_text, all_of}
 use Rattle.toml.specs.Data.{Data, Members, as_table, as_str}
 use Rattle.vacm_core.specs.declared.written.WrittenFamily.{WrittenFamily}
@@ -13,9 +13,9 @@ use Rattle.community_core.specs.Communities.{PolicyTables, community_rules}
 use Rattle.policy_text.specs.Reading.{◌>=>◌, group_of, access_of, community_of, family_members, mask_of}
 use Rattle.policy_text.specs.Policies.{Arrays, arrays_of, policy_tables}
 
--- the name of at most MOST_NUMBERS sub-identifiers that a dotted text is
+-- the name of at most MAX_NUMBERS sub-identifiers that a dotted text is
 abbrev pub subtree_of : List ℕ → Option (List ℕ)
-subtree_of text = name_of_text text >=> (λ name. if nat_le (length name) MOST_NUMBERS then Some name else None)
+subtree_of text = name_of_text text >=> (λ name. if nat_le (length name) MAX_NUMBERS then Some name else None)
 
 abbrev pub family_with : FamilyTexts → List ℕ → Option WrittenFamily
 family_with t mask =
@@ -49,5 +49,5 @@ are_rows_right rows =
 abbrev pub if_right : PolicyRows → Option PolicyTables
 if_right rows = if are_rows_right rows then Some (policy_tables rows) else None
 
-unfoldable pub policy_said : Members → Option PolicyTables
-policy_said ms = arrays_of ms >=> rows_of >=> if_right
+unfoldable pub policy_of_members : Members → Option PolicyTables
+policy_of_members ms = arrays_of ms >=> rows_of >=> if_right

@@ -5,7 +5,7 @@ use Rattle.toml.specs.Data.{Members}
 use Rattle.toml.specs.Parse.{parse_document}
 use Rattle.community_core.specs.Communities.{PolicyTables}
 use Rattle.policy_text.specs.Reading.{◌>=>◌}
-use Rattle.policy_text.specs.Said.{policy_said}
+use Rattle.policy_text.specs.Said.{policy_of_members}
 
 -- the text that octets are: themselves, where they are UTF-8 (RFC 3629, section 3)
 abbrev pub text_of : List ℕ → Option (List ℕ)
@@ -17,4 +17,4 @@ document_in octets = text_of octets >=> parse_document
 
 -- UTF-8 and a TOML document, which says a policy
 unfoldable pub policy_in : List ℕ → Option PolicyTables
-policy_in octets = document_in octets >=> policy_said
+policy_in octets = document_in octets >=> policy_of_members

@@ -22,7 +22,7 @@ mod policies;
 mod rows;
 
 pub use octets::{policy_in, text_of};
-pub use policies::{PolicyRows, has_policy_keys, policy_of, policy_rows};
+pub use policies::{has_policy_keys, policy_of};
 
 #[cfg(test)]
 mod tests;

@@ -2,14 +2,13 @@
 ghost use Rattle.std.specs.Prelude.{◌≡◌, IsSome, IfOk, OnErr, option_map};
 ghost use Rattle.toml.specs.Parse.{parse_document};
 ghost use Rattle.toml.specs.View.{table_view};
-ghost use Rattle.policy_text.specs.Said.{policy_said};
+ghost use Rattle.policy_text.specs.Said.{policy_of_members};
 ghost use Rattle.policy_text.specs.Texts.{text_of, policy_in};
 
 use crate::policies::policy_of;
-use community_core::Policy;
+use community_core::{Policy, PolicyFault};
 use std::alloc::{AllocError, Global};
 use toml::Table;
-use vacm_core::PolicyFault;
 
 /// The text that octets are: themselves, where they are UTF-8 (RFC 3629, section 3).
 pub fn text_of(octets: &[u8]) -> Option<&str>
@@ -39,7 +38,7 @@ fn table_of(alloc: Global, text: &str) -> Result<Option<Table>, AllocError>
 
 // The policy that a table says, if it says one.
 fn policy_said(alloc: Global, table: &Table) -> Result<Option<Policy>, AllocError>
-    ensures { IfOk result (λ policy. policy ≡ policy_said (table_view table.now)) }
+    ensures { IfOk result (λ policy. policy ≡ policy_of_members (table_view table.now)) }
 {
     match policy_of(alloc, table) {
         Ok(policy) => Ok(Some(policy)),

@@ -1,15 +1,15 @@
 //! Reads a policy from a TOML table.
-ghost use Rattle.std.specs.Prelude.{◌≡◌, ◌≢◌, ◌⊎◌, IfOk, IfErr, OnOk, map, is_some, Some, None};
-ghost use Rattle.toml.specs.View.{table_view, view};
-ghost use Rattle.policy_text.specs.Policies.{arrays, arrays_of, AreRowsOf, IsUnreadOf, SaysRows, IsUnread, TakesMemoryOf, TakesMemory, RowsTakeMemory, IsPolicyFault, policy_tables, ArePolicyRowsRight, IsPolicy, IsWrongPolicy};
-ghost use Rattle.policy_text.specs.Said.{policy_said};
+ghost use Rattle.std.specs.Prelude.{◌≡◌, ◌≢◌, ◌⊎◌, IfOk, IfErr, OnOk, option_map, is_some, Some, None};
+ghost use Rattle.toml.specs.View.{table_view};
+ghost use Rattle.policy_text.specs.Policies.{arrays_in, arrays_of, AreRowsOf, IsUnreadOf, SaysRows, IsUnread, TakesMemoryOf, TakesMemory, RowsTakeMemory, IsPolicyFault, policy_tables, ArePolicyRowsRight, IsPolicy, IsWrongPolicy};
+ghost use Rattle.policy_text.specs.Said.{policy_of_members};
 
 use crate::keys::{array_at, key_count};
 use crate::rows::read_rows;
-use community_core::{Policy, WrittenCommunity};
+use community_core::{Policy, PolicyFault, PolicyTable, WrittenCommunity};
 use std::alloc::Global;
 use toml::{Table, Value};
-use vacm_core::{PolicyFault, PolicyTable, Rows, Vacm, VacmRows};
+use vacm_core::{Rows, Vacm, VacmRows};
 
 /// The rows of a policy as they are written.
 #[derive(Drop)]
@@ -20,30 +20,57 @@ pub struct PolicyRows {
     pub vacm: VacmRows,
 }
 
-// Reads the rows of the five arrays, or names the first value that is no row.
-fn read_arrays(
-    alloc: Global,
-    groups: &Vec<Value>,
-    access: &Vec<Value>,
-    families: &Vec<Value>,
-    contexts: &Vec<Value>,
-    communities: &Vec<Value>,
-) -> Result<PolicyRows, PolicyFault>
-    ensures rows { IfOk result (λ rows.
-        AreRowsOf (arrays (map view groups.now.items) (map view access.now.items)
-        (map view families.now.items) (map view contexts.now.items) (map view communities.now.items)) rows) }
-    ensures fault { IfErr result (λ e. e ≢ PolicyFault.Memory →
-        IsUnreadOf (arrays (map view groups.now.items) (map view access.now.items)
-        (map view families.now.items) (map view contexts.now.items) (map view communities.now.items)) e) }
-    ensures memory { IfErr result (λ e. e ≡ PolicyFault.Memory →
-        TakesMemoryOf (arrays (map view groups.now.items) (map view access.now.items)
-        (map view families.now.items) (map view contexts.now.items) (map view communities.now.items))) }
+/// The five arrays of a policy.
+#[derive(Drop)]
+struct PolicyArrays<'a> {
+    groups: &'a Vec<Value>,
+    access: &'a Vec<Value>,
+    families: &'a Vec<Value>,
+    contexts: &'a Vec<Value>,
+    communities: &'a Vec<Value>,
+}
+
+// The arrays of a table of exactly the keys of a policy, each an array.
+fn policy_arrays(table: &Table) -> Option<PolicyArrays<'_>>
+    ensures { option_map arrays_in result ≡ arrays_of (table_view table.now) }
 {
-    let groups = read_rows(alloc, PolicyTable::Groups, groups)?;
-    let access = read_rows(alloc, PolicyTable::Access, access)?;
-    let families = read_rows(alloc, PolicyTable::Families, families)?;
-    let contexts = read_rows(alloc, PolicyTable::Contexts, contexts)?;
-    let communities = read_rows(alloc, PolicyTable::Communities, communities)?;
+    if key_count(table) != 5 {
+        return None;
+    }
+    let groups = array_at(table, "group")?;
+    let access = array_at(table, "access")?;
+    let families = array_at(table, "family")?;
+    let contexts = array_at(table, "contexts")?;
+    let communities = array_at(table, "community")?;
+    Some(PolicyArrays {
+        groups,
+        access,
+        families,
+        contexts,
+        communities,
+    })
+}
+
+/// Whether a table has exactly the keys of a policy, `contexts`, `community`, `group`, `access` and `family`, each an array.
+pub fn has_policy_keys(table: &Table) -> bool
+    ensures { result ≡ is_some (arrays_of (table_view table.now)) }
+{
+    policy_arrays(table).is_some()
+}
+
+// Reads the rows of the arrays, or names the first value that is no row.
+fn read_arrays(alloc: Global, arrays: &PolicyArrays<'_>) -> Result<PolicyRows, PolicyFault>
+    ensures rows { IfOk result (λ rows. AreRowsOf (arrays_in arrays.now) rows) }
+    ensures fault { IfErr result (λ e. e ≢ PolicyFault.Memory →
+        IsUnreadOf (arrays_in arrays.now) e) }
+    ensures memory { IfErr result (λ e. e ≡ PolicyFault.Memory →
+        TakesMemoryOf (arrays_in arrays.now)) }
+{
+    let groups = read_rows(alloc, PolicyTable::Groups, arrays.groups)?;
+    let access = read_rows(alloc, PolicyTable::Access, arrays.access)?;
+    let families = read_rows(alloc, PolicyTable::Families, arrays.families)?;
+    let contexts = read_rows(alloc, PolicyTable::Contexts, arrays.contexts)?;
+    let communities = read_rows(alloc, PolicyTable::Communities, arrays.communities)?;
     Ok(PolicyRows {
         communities,
         vacm: VacmRows {
@@ -55,32 +82,6 @@ fn read_arrays(
     })
 }
 
-/// Whether a table has exactly the keys of a policy, `contexts`, `community`, `group`, `access` and `family`, each an array.
-pub fn has_policy_keys(table: &Table) -> bool
-    ensures { result ≡ is_some (arrays_of (table_view table.now)) }
-{
-    let keys = key_count(table);
-    if keys != 5 {
-        return false;
-    }
-    let Some(_groups) = array_at(table, "group") else {
-        return false;
-    };
-    let Some(_access) = array_at(table, "access") else {
-        return false;
-    };
-    let Some(_families) = array_at(table, "family") else {
-        return false;
-    };
-    let Some(_contexts) = array_at(table, "contexts") else {
-        return false;
-    };
-    let Some(_communities) = array_at(table, "community") else {
-        return false;
-    };
-    true
-}
-
 /// The rows that a table says, of any lengths and fields.
 ///
 /// # Errors
@@ -89,32 +90,16 @@ pub fn has_policy_keys(table: &Table) -> bool
 /// `access` and `family`, each an array; else `BadField` of the first value that is no row, in the
 /// order groups, access, families, contexts, communities; `Memory` where a growth was refused: the table has the five
 /// arrays, the values of those before some array are rows, and that has a first value that has a row's keys and types.
-pub fn policy_rows(alloc: Global, table: &Table) -> Result<PolicyRows, PolicyFault>
+fn policy_rows(alloc: Global, table: &Table) -> Result<PolicyRows, PolicyFault>
     ensures rows { IfOk result (λ rows. SaysRows (table_view table.now) rows) }
     ensures fault { IfErr result (λ e. e ≢ PolicyFault.Memory → IsUnread (table_view table.now) e) }
     ensures memory { IfErr result (λ e. e ≡ PolicyFault.Memory →
         TakesMemory (table_view table.now)) }
 {
-    let unread = PolicyFault::BadField(PolicyTable::Contexts, 0);
-    if key_count(table) != 5 {
-        return Err(unread);
+    match policy_arrays(table) {
+        Some(arrays) => read_arrays(alloc, &arrays),
+        None => Err(PolicyFault::BadField(PolicyTable::Contexts, 0)),
     }
-    let Some(groups) = array_at(table, "group") else {
-        return Err(unread);
-    };
-    let Some(access) = array_at(table, "access") else {
-        return Err(unread);
-    };
-    let Some(families) = array_at(table, "family") else {
-        return Err(unread);
-    };
-    let Some(contexts) = array_at(table, "contexts") else {
-        return Err(unread);
-    };
-    let Some(communities) = array_at(table, "community") else {
-        return Err(unread);
-    };
-    read_arrays(alloc, groups, access, families, contexts, communities)
 }
 
 // The policy of rows as they are written.
@@ -132,9 +117,11 @@ fn policy_of_rows(alloc: Global, rows: PolicyRows) -> Result<Policy, PolicyFault
 ///
 /// # Errors
 ///
-/// First the faults of the keys and of the types, as [`policy_rows`] names them; then the first row
-/// whose length, field or key is wrong, as [`Vacm::new`] and [`Policy::new`] name it; `Memory` where
-/// a growth was refused, which comes only where [`policy_rows`] may lack memory.
+/// First the faults of the keys and of the types: `BadField(Contexts, 0)` where the table has not exactly the keys
+/// `contexts`, `community`, `group`, `access` and `family`, each an array; else `BadField` of the first value that is no row,
+/// in the order groups, access, families, contexts, communities. Then the first row whose length, field or key is wrong, as
+/// [`Vacm::new`] and [`Policy::new`] name it. `Memory` where a growth was refused: the table has the five arrays, the values of
+/// those before some array are rows, and that has a first value that has a row's keys and types.
 pub fn policy_of(alloc: Global, table: &Table) -> Result<Policy, PolicyFault>
     ensures policy { IfOk result (λ p. IsPolicy (table_view table.now) p) }
     ensures fault { IfErr result (λ e. e ≢ PolicyFault.Memory → IsUnread (table_view table.now) e ⊎
@@ -142,9 +129,9 @@ pub fn policy_of(alloc: Global, table: &Table) -> Result<Policy, PolicyFault>
     ensures memory { IfErr result (λ e. e ≡ PolicyFault.Memory →
         TakesMemory (table_view table.now)) }
     // The same as a function of the table: its policy, or none.
-    ensures said { IfOk result (λ p. policy_said (table_view table.now) ≡ Some p) }
+    ensures said { IfOk result (λ p. policy_of_members (table_view table.now) ≡ Some p) }
     ensures refused { IfErr result (λ e. e ≢ PolicyFault.Memory →
-        policy_said (table_view table.now) ≡ None) }
+        policy_of_members (table_view table.now) ≡ None) }
 {
     let rows = policy_rows(alloc, table)?;
     policy_of_rows(alloc, rows)

@@ -7,14 +7,12 @@ ghost use Rattle.policy_text.specs.Typed.{context_typed, group_typed, access_typ
 ghost use Rattle.policy_text.specs.Reading.{IsFirstUnread, BeginsTyped, AreRows, IsContext, IsGroup, IsAccess, IsFamily, IsCommunity, context_says, group_says, group_of, group_members, access_says, access_of, access_members, family_says, family_members, parts_say, texts_say, mask_of, subtree_says, community_says, community_of, community_members};
 
 use crate::keys::{bool_at, integer_at, key_count, string_at};
-use community_core::WrittenCommunity;
+use community_core::{PolicyFault, PolicyTable, WrittenCommunity};
 use hex::FromHexError;
 use oid_core::{Oid, OidFault};
 use std::alloc::{AllocError, Global};
 use toml::{Table, Value};
-use vacm_core::{
-    Octets, PolicyFault, PolicyTable, Rows, Text, WrittenAccess, WrittenFamily, WrittenGroup,
-};
+use vacm_core::{Octets, Rows, Text, WrittenAccess, WrittenFamily, WrittenGroup};
 
 /// A row of a table, as it is written.
 pub trait Read: Sized + Drop {
@@ -124,6 +122,7 @@ impl Read for WrittenAccess {
     }
 }
 
+// One step for each of the eight keys.
 fn read_access(alloc: Global, table: &Table) -> Result<Option<WrittenAccess>, AllocError>
     ensures row { IfOk result (λ row. row ≡ access_members (table_view table.now)) }
     ensures memory { OnErr result (IsSome (access_members (table_view table.now))) }

@@ -1,9 +1,9 @@
 use super::*;
-use community_core::Policy;
+use community_core::{Policy, PolicyFault, PolicyTable};
 use oid_core::Oid;
 use std::alloc::Global;
 use std::test::Fail;
-use vacm_core::{FamilyAnswer, Name, PolicyFault, PolicyTable};
+use vacm_core::{FamilyAnswer, Name};
 
 const BUILT_IN: &str = "
 contexts = []

@@ -13,15 +13,15 @@ use Rattle.rstp_rules.specs.declared.row.Line.{Line}
 use Rattle.rstp_rules.specs.declared.row.Row.{Row}
 use Rattle.rstp_rules.specs.declared.row.Timing.{Timing}
 use Rattle.rstp_rules.specs.declared.settled.SettledPort.{SettledPort}
-use Rattle.rstp_rules.specs.declared.config.PortConfig.{PortConfig}
+use Rattle.rstp_settings.specs.declared.config.PortConfig.{PortConfig}
 use Rattle.rstp_settings.specs.Table.{Table}
 use Rattle.rstp_rules.specs.Lines.{line_of}
 use Rattle.rstp_rules.specs.Ports.{is_designated, is_root_or_designated, is_discarding}
-use Rattle.rstp_rules.specs.Roles.{expired}
-use Rattle.rstp_rules.specs.Restarts.{restarted, switched, linked, is_renewed, renewed, edged, settled_anew}
-use Rattle.rstp_rules.specs.Arrivals.{is_superior, marked, recorded, offered, answered, by_role, taken, received, acknowledged, told}
-use Rattle.rstp_rules.specs.Ticks.{ticked}
-use Rattle.rstp_rules.specs.Transitions.{started, spread}
+use Rattle.rstp_rules.specs.Roles.{after_expiry}
+use Rattle.rstp_rules.specs.Restarts.{after_restart, after_switch, after_link, is_renewed, after_renewal, after_edge_setting, after_settling}
+use Rattle.rstp_rules.specs.Arrivals.{is_superior, after_mark, after_record, after_offer, after_answer, after_rapid, after_message, after_reception, after_acknowledgment, after_change_notice}
+use Rattle.rstp_rules.specs.Ticks.{after_tick}
+use Rattle.rstp_rules.specs.Transitions.{with_change_started, with_change_spread}
 use Rattle.rstp_core.proofs.Keeps.{IsStill}
 
 -- It is port n, with configuration c and settled values w, under the settings s; it was in the state st at the start of the event.
@@ -68,57 +68,57 @@ Fresh-same s w n c st r q h k = record {
 }
 
 -- the ages, and a tick
-pub expired-same : (r : Row) → Same r (expired r)
+pub expired-same : (r : Row) → Same r (after_expiry r)
 expired-same r = Same-if _ r _ r (record { line = refl; was = refl; role = refl; state = refl; link = refl; flushed = λ e. e }) (same r)
 
-pub ticked-same : (r : Row) → Same r (ticked r)
+pub ticked-same : (r : Row) → Same r (after_tick r)
 ticked-same r = record { line = refl; was = refl; role = refl; state = refl; link = refl; flushed = λ e. e }
 
 -- a message
-marked-same : (b : Bool) (r : Row) → Same r (marked b r)
+marked-same : (b : Bool) (r : Row) → Same r (after_mark b r)
 marked-same b r = record { line = refl; was = refl; role = refl; state = refl; link = refl; flushed = λ e. e }
 
 abbrev answering : Row → Row
 answering r = record r { port = record r.port { pending = true } }
 
-offered-same : (v : PriorityVector) (t : Times) (p : Bool) (r : Row) → Same r (offered v t p r)
-offered-same v t p r = Same-if (is_superior v r) r (recorded v t p r) (cond (is_designated r.port.role) (answering r) r) (record { line = refl; was = refl; role = refl; state = refl; link = refl; flushed = λ e. e }) (Same-if (is_designated r.port.role) r (answering r) r (record { line = refl; was = refl; role = refl; state = refl; link = refl; flushed = λ e. e }) (same r))
+offered-same : (v : PriorityVector) (t : Times) (p : Bool) (r : Row) → Same r (after_offer v t p r)
+offered-same v t p r = Same-if (is_superior v r) r (after_record v t p r) (cond (is_designated r.port.role) (answering r) r) (record { line = refl; was = refl; role = refl; state = refl; link = refl; flushed = λ e. e }) (Same-if (is_designated r.port.role) r (answering r) r (record { line = refl; was = refl; role = refl; state = refl; link = refl; flushed = λ e. e }) (same r))
 
-answered-same : (v : PriorityVector) (a : Bool) (r : Row) → Same r (answered v a r)
+answered-same : (v : PriorityVector) (a : Bool) (r : Row) → Same r (after_answer v a r)
 answered-same v a r = Same-if _ r _ r (record { line = refl; was = refl; role = refl; state = refl; link = refl; flushed = λ e. e }) (same r)
 
-by_role-same : (o : PortRole) (v : PriorityVector) (t : Times) (p a : Bool) (r : Row) → Same r (by_role o v t p a r)
+by_role-same : (o : PortRole) (v : PriorityVector) (t : Times) (p a : Bool) (r : Row) → Same r (after_rapid o v t p a r)
 by_role-same said.Unknown v t p a r = same r
 by_role-same said.AlternateOrBackup v t p a r = answered-same v a r
 by_role-same said.Root v t p a r = answered-same v a r
 by_role-same said.Designated v t p a r = offered-same v t p r
 
-taken-same : (rstp : Bool) (b : Bpdu) (r : Row) → Same r (taken rstp b r)
+taken-same : (rstp : Bool) (b : Bpdu) (r : Row) → Same r (after_message rstp b r)
 taken-same rstp TopologyChange r = marked-same false r
-taken-same rstp (Config m) r = Same-trans r (marked false r) _ (marked-same false r) (offered-same m.vector m.times (m.proposal && rstp) (marked false r))
-taken-same rstp (Rapid m) r = Same-trans r (marked true r) _ (marked-same true r) (by_role-same m.role m.vector m.times (m.proposal && rstp) (m.agreement && rstp) (marked true r))
+taken-same rstp (Config m) r = Same-trans r (after_mark false r) _ (marked-same false r) (offered-same m.vector m.times (m.proposal && rstp) (after_mark false r))
+taken-same rstp (Rapid m) r = Same-trans r (after_mark true r) _ (marked-same true r) (by_role-same m.role m.vector m.times (m.proposal && rstp) (m.agreement && rstp) (after_mark true r))
 
-pub received-same : (own : BridgeId) (rstp : Bool) (n : ℕ) (b : Bpdu) (r : Row) → Same r (received own rstp n b r)
+pub received-same : (own : BridgeId) (rstp : Bool) (n : ℕ) (b : Bpdu) (r : Row) → Same r (after_reception own rstp n b r)
 received-same own rstp n b r = Same-if _ r _ r (taken-same rstp b r) (same r)
 
-acknowledged-same : (b : Bpdu) (r : Row) → Same r (acknowledged b r)
+acknowledged-same : (b : Bpdu) (r : Row) → Same r (after_acknowledgment b r)
 acknowledged-same TopologyChange r = Same-if _ r _ r (record { line = refl; was = refl; role = refl; state = refl; link = refl; flushed = λ e. e }) (same r)
 acknowledged-same (Config m) r = Same-if _ r _ r (record { line = refl; was = refl; role = refl; state = refl; link = refl; flushed = λ e. e }) (same r)
 acknowledged-same (Rapid m) r = same r
 
-started-same : (t : Timing) (r : Row) → Same r (started t r)
+started-same : (t : Timing) (r : Row) → Same r (with_change_started t r)
 started-same t r = Same-if _ r _ r (record { line = refl; was = refl; role = refl; state = refl; link = refl; flushed = λ e. e }) (same r)
 
-spread-same : (t : Timing) (r : Row) → Same r (spread t r)
+spread-same : (t : Timing) (r : Row) → Same r (with_change_spread t r)
 spread-same t r =
     let h = started-same t r in
     Same-if _ r _ r (record { line = h.line; was = h.was; role = h.role; state = h.state; link = h.link; flushed = λ _. refl }) (same r)
 
-pub told-same : (t : Timing) (own : BridgeId) (n : ℕ) (b : Bpdu) (change : Bool) (r : Row) → Same r (told t own n b change r)
+pub told-same : (t : Timing) (own : BridgeId) (n : ℕ) (b : Bpdu) (change : Bool) (r : Row) → Same r (after_change_notice t own n b change r)
 told-same t own n b change r = Same-if _ r _ _ (Same-if _ r _ r (acknowledged-same b r) (same r)) (Same-if _ r _ r (spread-same t r) (same r))
 
 -- a restart
-restarted-fresh : (s : Table) (w : SettledPort) (n : ℕ) (c : PortConfig) (st : State) (r : Row) → r.line ≡ line_of s w n c r.port.link → IsFresh s w n c st (restarted r)
+restarted-fresh : (s : Table) (w : SettledPort) (n : ℕ) (c : PortConfig) (st : State) (r : Row) → r.line ≡ line_of s w n c r.port.link → IsFresh s w n c st (after_restart r)
 restarted-fresh s w n c st r line = record {
   line = line;
   was = refl;
@@ -136,8 +136,8 @@ on_is : (s : Table) (w : SettledPort) (n : ℕ) (c : PortConfig) (r : Row) → r
 on_is s w n c r line = ap (λ (l : Line). l.on) line ∙ ap (λ (b : Bool). b && r.port.link) (sym (ap (λ (l : Line). l.enabled) line))
 
 -- a link
-pub linked-fresh : (s : Table) (w : SettledPort) (n : ℕ) (c : PortConfig) (st : State) (m : ℕ) (up : Bool) (r : Row) → IsFresh s w n c st r → IsFresh s w n c st (linked m up r)
-linked-fresh s w n c st m up r h = Fresh-if s w n c st _ (switched up r) r (λ _. switch) (λ _. h) where
+pub linked-fresh : (s : Table) (w : SettledPort) (n : ℕ) (c : PortConfig) (st : State) (m : ℕ) (up : Bool) (r : Row) → IsFresh s w n c st r → IsFresh s w n c st (after_link m up r)
+linked-fresh s w n c st m up r h = Fresh-if s w n c st _ (after_switch up r) r (λ _. switch) (λ _. h) where
   line : record r.line { on = r.line.enabled && up } ≡ line_of s w n c up
   line = ap (λ (l : Line). record l { on = l.enabled && up }) h.line
 
@@ -147,7 +147,7 @@ linked-fresh s w n c st m up r h = Fresh-if s w n c st _ (switched up r) r (λ _
   stays : r.line.enabled ≡ false → IsFresh s w n c st (record r { line = record r.line { on = r.line.enabled && up }; port = record r.port { link = up } })
   stays not_so = record { line = line; was = h.was; still = h.still; off = λ _. h.off (disabled not_so); left = h.left }
 
-  switch : IsFresh s w n c st (switched up r)
+  switch : IsFresh s w n c st (after_switch up r)
   switch = Fresh-if s w n c st r.line.enabled _ _ (λ _. restarted-fresh s w n c st (record r { line = record r.line { on = r.line.enabled && up }; port = record r.port { link = up } }) line) (λ not_so. stays not_so)
 
 -- settling
@@ -159,12 +159,12 @@ kept true true false w h i = cc
 kept false true false true h i = cc
 kept false true false false h i = refl
 
-pub settled-fresh : (s : Table) (w : SettledPort) (n : ℕ) (c : PortConfig) (st : State) (v : Bool) (r : Row) → r.line ≡ line_of s w n c r.port.link → r.was.role ≡ r.port.role → IsStill r → ((r.line.was_enabled && r.port.link) ≡ false → r.port.role ≡ Disabled) → (is_discarding st ≡ false → is_root_or_designated r.port.role ≡ true) → IsFresh s w n c st (settled_anew v r)
+pub settled-fresh : (s : Table) (w : SettledPort) (n : ℕ) (c : PortConfig) (st : State) (v : Bool) (r : Row) → r.line ≡ line_of s w n c r.port.link → r.was.role ≡ r.port.role → IsStill r → ((r.line.was_enabled && r.port.link) ≡ false → r.port.role ≡ Disabled) → (is_discarding st ≡ false → is_root_or_designated r.port.role ≡ true) → IsFresh s w n c st (after_settling v r)
 settled-fresh s w n c st v r line was still off left =
-    let new = renewed v r in
-    Fresh-same s w n c st new (settled_anew v r) anew (Same-trans new (edged new) _ (Same-if _ new _ new (record { line = refl; was = refl; role = refl; state = refl; link = refl; flushed = λ i. i }) (same new)) (Same-if _ (edged new) _ (edged new) (record { line = refl; was = refl; role = refl; state = refl; link = refl; flushed = λ i. i }) (same (edged new)))) where
-      anew : IsFresh s w n c st (renewed v r)
-      anew = Fresh-if s w n c st (is_renewed v r) (restarted r) r (λ _. restarted-fresh s w n c st r line) (λ not_so. record {
+    let new = after_renewal v r in
+    Fresh-same s w n c st new (after_settling v r) anew (Same-trans new (after_edge_setting new) _ (Same-if _ new _ new (record { line = refl; was = refl; role = refl; state = refl; link = refl; flushed = λ i. i }) (same new)) (Same-if _ (after_edge_setting new) _ (after_edge_setting new) (record { line = refl; was = refl; role = refl; state = refl; link = refl; flushed = λ i. i }) (same (after_edge_setting new)))) where
+      anew : IsFresh s w n c st (after_renewal v r)
+      anew = Fresh-if s w n c st (is_renewed v r) (after_restart r) r (λ _. restarted-fresh s w n c st r line) (λ not_so. record {
         line = line;
         was = was;
         still = still;

@@ -13,10 +13,10 @@ use Rattle.rstp_rules.specs.declared.row.Best.{Best}
 use Rattle.rstp_rules.specs.declared.row.Context.{Context}
 use Rattle.rstp_rules.specs.Lines.{timers_of, times_in_force, context_of}
 use Rattle.rstp_rules.specs.Roles.{beats, candidate, candidates, own_best, IsBest}
-use Rattle.rstp_rules.specs.Sends.{bpdu_of, sent, flushed_ports}
-use Rattle.rstp_core.specs.Passes.{chosen, ready}
+use Rattle.rstp_rules.specs.Sends.{bpdu_of, after_sending, flushed_ports}
+use Rattle.rstp_core.specs.Passes.{rows_with_roles, ready}
 use Rattle.rstp_core.specs.Tree.{Tree, ports_of, has_change, facts_after, Ends, Ticks, Arrives, Links, Settles}
-use Rattle.rstp_core.specs.Steps.{is_unbeaten, unbeaten, root_of, Step, Event, event_own, fresh_rows, event_root, roled_rows, event_context, ready_rows, left_rows, tree_after, step_of, tick_event, arrival_event, link_event, settling_event, tick_step, arrival_step, link_step, settling_step, IsStep}
+use Rattle.rstp_core.specs.Steps.{is_unbeaten, best_candidate, root_of, Step, Event, event_own, fresh_rows, event_root, roled_rows, event_context, ready_rows, left_rows, tree_after, step_of, tick_event, arrival_event, link_event, settling_event, tick_step, arrival_step, link_step, settling_step, IsStep}
 use Rattle.rstp_core.specs.declared.rstp.Outcome.{Outcome}
 use Rattle.rstp_core.proofs.Bests.{IsBest-unique, IsBest-best_of}
 
@@ -51,7 +51,7 @@ only_best bs b best = λ k d h e.
     IsBest-unique bs a b (record { one = (k, h, get_or_default bs k a d h); least = any_none (λ c. beats c a) bs (not_true (list_any (λ c. beats c a) bs) e) }) best
 
 -- the candidate that none beats is the least element
-unbeaten_is : (none : Best) (bs : List Best) (b : Best) → IsBest bs b → unbeaten none bs ≡ b
+unbeaten_is : (none : Best) (bs : List Best) (b : Best) → IsBest bs b → best_candidate none bs ≡ b
 unbeaten_is none bs b best =
     ap (λ (o : Option Best). unwrap_or o none) (find_only (is_unbeaten bs) bs b best.one.0 best.one.1 best.one.2 (ap not (list_any_none (λ c. beats c b) bs best.least)) (only_best bs b best))
 
@@ -60,19 +60,19 @@ root_is : (e : Event) (b : Best) → IsBest (candidates (event_own e) (fresh_row
 unfolding event_root root_of
 root_is e b best = unbeaten_is (own_best (event_own e)) (candidates (event_own e) (fresh_rows e)) b best
 
-context_is : (e : Event) (c : Context) → event_root e ≡ c.root → c ≡ context_of e.settings (event_own e) c.root e.was (times_in_force (timers_of e.settings) (chosen (event_own e) c.root (fresh_rows e))) → event_context e ≡ c
+context_is : (e : Event) (c : Context) → event_root e ≡ c.root → c ≡ context_of e.settings (event_own e) c.root e.was (times_in_force (timers_of e.settings) (rows_with_roles (event_own e) c.root (fresh_rows e))) → event_context e ≡ c
 unfolding event_context roled_rows
 context_is e c r q =
-    ap (λ (b : Best). context_of e.settings (event_own e) b e.was (times_in_force (timers_of e.settings) (chosen (event_own e) b (fresh_rows e)))) r ∙ sym q
+    ap (λ (b : Best). context_of e.settings (event_own e) b e.was (times_in_force (timers_of e.settings) (rows_with_roles (event_own e) b (fresh_rows e)))) r ∙ sym q
 
-ready_is : (e : Event) (c : Context) → event_root e ≡ c.root → event_context e ≡ c → ready_rows e ≡ ready e.tick c (chosen (event_own e) c.root (fresh_rows e))
+ready_is : (e : Event) (c : Context) → event_root e ≡ c.root → event_context e ≡ c → ready_rows e ≡ ready e.tick c (rows_with_roles (event_own e) c.root (fresh_rows e))
 unfolding ready_rows roled_rows
 ready_is e c r q =
-    ap (λ (x : Context). ready e.tick x (chosen (event_own e) (event_root e) (fresh_rows e))) q ∙ ap (λ (b : Best). ready e.tick c (chosen (event_own e) b (fresh_rows e))) r
+    ap (λ (x : Context). ready e.tick x (rows_with_roles (event_own e) (event_root e) (fresh_rows e))) q ∙ ap (λ (b : Best). ready e.tick c (rows_with_roles (event_own e) b (fresh_rows e))) r
 
-left_is : (e : Event) (c : Context) (rows : List Row) → event_context e ≡ c → ready_rows e ≡ rows → left_rows e ≡ map (sent c) rows
+left_is : (e : Event) (c : Context) (rows : List Row) → event_context e ≡ c → ready_rows e ≡ rows → left_rows e ≡ map (after_sending c) rows
 unfolding left_rows
-left_is e c rows q h = ap (λ (x : Context). map (sent x) (ready_rows e)) q ∙ ap (map (sent c)) h
+left_is e c rows q h = ap (λ (x : Context). map (after_sending x) (ready_rows e)) q ∙ ap (map (after_sending c)) h
 
 bpdus_is : (e : Event) (c : Context) (rows : List Row) → event_context e ≡ c → ready_rows e ≡ rows → map (bpdu_of (event_context e)) (ready_rows e) ≡ map (bpdu_of c) rows
 bpdus_is e c rows q h = ap (λ (x : Context). map (bpdu_of x) (ready_rows e)) q ∙ ap (map (bpdu_of c)) h
@@ -95,7 +95,7 @@ ends_step e u out h =
     let c = h.context in
     let root : event_root e ≡ c.root = root_is e c.root h.concludes.root in
     let context : event_context e ≡ c = context_is e c root h.concludes.context in
-    let rows = ready e.tick c (chosen (event_own e) c.root (fresh_rows e)) in
+    let rows = ready e.tick c (rows_with_roles (event_own e) c.root (fresh_rows e)) in
     let sends : ready_rows e ≡ rows = ready_is e c root context in
     let left : left_rows e ≡ h.left = left_is e c rows context sends ∙ sym h.concludes.rows in
     let tree : tree_after e ≡ u = tree_is e c h.left context left ∙ sym h.tree in

@@ -5,11 +5,11 @@ use Rattle.frame_core.specs.declared.mac.Mac.{Mac}
 use Rattle.frame_core.specs.declared.bpdu.BridgeId.{BridgeId}
 use Rattle.frame_core.specs.declared.bpdu.Bpdu.{Bpdu}
 use Rattle.frame_core.specs.declared.bpdu.Times.{Times}
-use Rattle.rstp_settings.specs.Table.{Table, get, spent, spent_values, no_values, port_at as values_at}
+use Rattle.rstp_settings.specs.Table.{Table, get, without_migration_checks, without_migration_check, no_values, port_at as values_at}
 use Rattle.rstp_settings.specs.declared.key.PortValues.{PortValues}
 use Rattle.rstp_settings.specs.declared.key.Key.TheVariants as key
 use Rattle.rstp_settings.specs.declared.key.PortKey.TheVariants as port
-use Rattle.rstp_rules.specs.declared.config.PortConfig.{PortConfig}
+use Rattle.rstp_settings.specs.declared.config.PortConfig.{PortConfig}
 use Rattle.rstp_rules.specs.declared.port.Port.{Port}
 use Rattle.rstp_rules.specs.declared.port.Role.TheVariants.{Disabled}
 use Rattle.rstp_rules.specs.declared.port.State.{State}
@@ -20,17 +20,18 @@ use Rattle.rstp_rules.specs.declared.row.Context.{Context}
 use Rattle.rstp_rules.specs.declared.settled.SettledPort.{SettledPort}
 use Rattle.rstp_rules.specs.Ports.{is_root_or_designated, is_discarding}
 use Rattle.rstp_rules.specs.Vectors.{port_id}
-use Rattle.rstp_rules.specs.Lines.{own_id, row_of, enabled_by, edge_by, settled_port_of, rstp_version, times_in_force, no_config}
-use Rattle.rstp_rules.specs.Roles.{expired, with_role}
-use Rattle.rstp_rules.specs.Restarts.{linked, settled_anew}
-use Rattle.rstp_rules.specs.Arrivals.{arrived, received, received_all}
-use Rattle.rstp_rules.specs.Ticks.{ticked}
-use Rattle.rstp_rules.specs.Transitions.{turned}
+use Rattle.rstp_rules.specs.Lines.{own_id, row_of, enabled_by, edge_by, settled_port_of, rstp_version, times_in_force}
+use Rattle.rstp_settings.specs.Config.{no_config}
+use Rattle.rstp_rules.specs.Roles.{after_expiry, with_role}
+use Rattle.rstp_rules.specs.Restarts.{after_link, after_settling}
+use Rattle.rstp_rules.specs.Arrivals.{after_arrival, after_reception, after_receptions}
+use Rattle.rstp_rules.specs.Ticks.{after_tick}
+use Rattle.rstp_rules.specs.Transitions.{after_first_transitions}
 use Rattle.rstp_rules.specs.Turns.{no_row}
-use Rattle.rstp_rules.specs.Sends.{sent}
+use Rattle.rstp_rules.specs.Sends.{after_sending}
 use Rattle.rstp_core.specs.declared.rstp.Outcome.{Outcome}
 use Rattle.rstp_core.specs.Settled.{SettledValues, settled_of, settled_port}
-use Rattle.rstp_core.specs.Passes.{chosen, ready}
+use Rattle.rstp_core.specs.Passes.{rows_with_roles, ready}
 use Rattle.rstp_core.specs.Tree.{Tree, rows_of, has_other_version, Ends}
 use Rattle.rstp_core.specs.Runs.{Happening, Happens, event_by}
 use Rattle.rstp_core.specs.Runs.Happening.{Tick, Link, Message, Settle}
@@ -103,7 +104,7 @@ pub record Alike (v r : Table) : Type 0 where
 pub alike : (v : Table) → Alike v v
 alike v = record { own = λ x. refl; enabled = λ n. refl; id = λ n. refl; edge = λ n. refl; cost = λ n. refl }
 
-pub spent_alike : (v : Table) → Alike v (spent v)
+pub spent_alike : (v : Table) → Alike v (without_migration_checks v)
 spent_alike v = record {
   own = λ x. refl;
   enabled = λ n. ap (λ (p : PortValues). eqb p.enable 1) (spent_at n);
@@ -111,8 +112,8 @@ spent_alike v = record {
   edge = λ n. ap (λ (p : PortValues). eqb p.edge 1) (spent_at n);
   cost = λ n. ap (λ (p : PortValues). p.cost) (spent_at n);
 } where
-  spent_at : (n : ℕ) → values_at (spent v) n ≡ spent_values (values_at v n)
-  spent_at n = at_default spent_values v.ports (n - 1) no_values
+  spent_at : (n : ℕ) → values_at (without_migration_checks v) n ≡ without_migration_check (values_at v n)
+  spent_at n = at_default without_migration_check v.ports (n - 1) no_values
 
 -- An event under the settings v, from t to u, which leaves the settings r.
 pub record IsEvent (v r : Table) (t u : Tree) (out : Outcome) : Type 0 where
@@ -128,31 +129,31 @@ pub record IsEvent (v r : Table) (t u : Tree) (out : Outcome) : Type 0 where
   pub alike : Alike v r
 
 -- the row at a place after the states, and once all is sent
-done_ready : (tick : Bool) (own : BridgeId) (root : Best) (c : Context) (rows : List Row) (k : ℕ) (s : Table) (w : SettledPort) (n : ℕ) (p : PortConfig) (st : State) → k < length rows → IsFresh s w n p st (get_or rows k no_row) → IsDone s w n p st own root (expired (get_or rows k no_row)) (get_or (ready tick c (chosen own root (map expired rows))) k no_row)
+done_ready : (tick : Bool) (own : BridgeId) (root : Best) (c : Context) (rows : List Row) (k : ℕ) (s : Table) (w : SettledPort) (n : ℕ) (p : PortConfig) (st : State) → k < length rows → IsFresh s w n p st (get_or rows k no_row) → IsDone s w n p st own root (after_expiry (get_or rows k no_row)) (get_or (ready tick c (rows_with_roles own root (map after_expiry rows))) k no_row)
 done_ready tick own root c rows k s w n p st h f =
-    let a = expired (get_or rows k no_row) in
-    let aged = map expired rows in
-    let ch = chosen own root aged in
-    let la : length aged ≡ length rows = length-map rows expired in
+    let a = after_expiry (get_or rows k no_row) in
+    let aged = map after_expiry rows in
+    let ch = rows_with_roles own root aged in
+    let la : length aged ≡ length rows = length-map rows after_expiry in
     let lc : length ch ≡ length aged = length-map aged (with_role own root) in
-    let lt : length (map (turned c) ch) ≡ length ch = length-map ch (turned c) in
+    let lt : length (map (after_first_transitions c) ch) ≡ length ch = length-map ch (after_first_transitions c) in
     let ha : k < length aged = omega (arith, h, la) in
     let hc : k < length ch = omega (arith, ha, lc) in
-    let ht : k < length (map (turned c) ch) = omega (arith, hc, lt) in
-    let e1 : get_or aged k no_row ≡ a = get_or-map expired rows k no_row no_row h in
+    let ht : k < length (map (after_first_transitions c) ch) = omega (arith, hc, lt) in
+    let e1 : get_or aged k no_row ≡ a = get_or-map after_expiry rows k no_row no_row h in
     let e2 : get_or ch k no_row ≡ with_role own root (get_or aged k no_row) = get_or-map (with_role own root) aged k no_row no_row ha in
-    let e3 : get_or (map (turned c) ch) k no_row ≡ turned c (get_or ch k no_row) = get_or-map (turned c) ch k no_row no_row hc in
-    let at : get_or (map (turned c) ch) k no_row ≡ turned c (with_role own root a) = e3 ∙ ap (turned c) (e2 ∙ ap (with_role own root) e1) in
+    let e3 : get_or (map (after_first_transitions c) ch) k no_row ≡ after_first_transitions c (get_or ch k no_row) = get_or-map (after_first_transitions c) ch k no_row no_row hc in
+    let at : get_or (map (after_first_transitions c) ch) k no_row ≡ after_first_transitions c (with_role own root a) = e3 ∙ ap (after_first_transitions c) (e2 ∙ ap (with_role own root) e1) in
     let fresh : IsFresh s w n p st a = Fresh-same s w n p st (get_or rows k no_row) a f (expired-same (get_or rows k no_row)) in
-    let done : IsDone s w n p st own root a (turned c (with_role own root a)) = turned-done s w n p st own root c a fresh in
-    let here : IsDone s w n p st own root a (get_or (map (turned c) ch) k no_row) = subst (λ (q : Row). IsDone s w n p st own root a q) (sym at) done in
+    let done : IsDone s w n p st own root a (after_first_transitions c (with_role own root a)) = turned-done s w n p st own root c a fresh in
+    let here : IsDone s w n p st own root a (get_or (map (after_first_transitions c) ch) k no_row) = subst (λ (q : Row). IsDone s w n p st own root a q) (sym at) done in
     Done-keeps s w n p st own root a _ _ here ((keep-ready tick c ch).at k ht)
 
-length_ready : (tick : Bool) (own : BridgeId) (root : Best) (c : Context) (rows : List Row) → length (ready tick c (chosen own root (map expired rows))) ≡ length rows
+length_ready : (tick : Bool) (own : BridgeId) (root : Best) (c : Context) (rows : List Row) → length (ready tick c (rows_with_roles own root (map after_expiry rows))) ≡ length rows
 length_ready tick own root c rows =
-    let aged = map expired rows in
-    let ch = chosen own root aged in
-    (keep-ready tick c ch).same ∙ (length-map ch (turned c) ∙ (length-map aged (with_role own root) ∙ length-map rows expired))
+    let aged = map after_expiry rows in
+    let ch = rows_with_roles own root aged in
+    (keep-ready tick c ch).same ∙ (length-map ch (after_first_transitions c) ∙ (length-map aged (with_role own root) ∙ length-map rows after_expiry))
 
 -- what an event leaves at a place
 pub record IsLeft (v : Table) (t u : Tree) (out : Outcome) (own : BridgeId) (root : Best) (a : Row) (k : ℕ) : Type 0 where
@@ -161,12 +162,12 @@ pub record IsLeft (v : Table) (t u : Tree) (out : Outcome) (own : BridgeId) (roo
   pub port : get_or u.ports k no_row.port ≡ row.port
   pub flushed : is_discarding (get_or t.ports k no_row.port).state ≡ false → is_root_or_designated row.port.role ≡ false → Contains out.flushed.items (1 + k)
 
-pub Left-at : (v r : Table) (t u : Tree) (out : Outcome) (e : IsEvent v r t u out) (k : ℕ) → k < length t.ports → IsLeft v t u out (own_id v e.base.address) e.ends.context.root (expired (get_or e.rows k no_row)) k
+pub Left-at : (v r : Table) (t u : Tree) (out : Outcome) (e : IsEvent v r t u out) (k : ℕ) → k < length t.ports → IsLeft v t u out (own_id v e.base.address) e.ends.context.root (after_expiry (get_or e.rows k no_row)) k
 Left-at v r t u out e k h =
     let c = e.ends.context in
     let own = own_id v e.base.address in
     let rows = e.rows in
-    let rd = ready e.tick c (chosen own c.root (map expired rows)) in
+    let rd = ready e.tick c (rows_with_roles own c.root (map after_expiry rows)) in
     let n = 1 + k in
     let w = settled_port t.settled n in
     let p = get_or t.config k no_config in
@@ -174,12 +175,12 @@ Left-at v r t u out e k h =
     let hr : k < length rows = omega (arith, h, e.part.same) in
     let lr : length rd ≡ length rows = length_ready e.tick own c.root c rows in
     let hd : k < length rd = omega (arith, hr, lr) in
-    let a = expired (get_or rows k no_row) in
+    let a = after_expiry (get_or rows k no_row) in
     let one : IsDone v w n p st own c.root a (get_or rd k no_row) = done_ready e.tick own c.root c rows k v w n p st hr (e.part.fresh k h) in
     let kept = (keep-sent c rd).at k hd in
-    let last = get_or (map (sent c) rd) k no_row in
+    let last = get_or (map (after_sending c) rd) k no_row in
     let left = e.ends.left in
-    let hl : k < length left = omega (arith, hd, length-map rd (sent c), ap length e.ends.concludes.rows) in
+    let hl : k < length left = omega (arith, hd, length-map rd (after_sending c), ap length e.ends.concludes.rows) in
     let ports : get_or u.ports k no_row.port ≡ (get_or left k no_row).port = ap (λ (x : Tree). get_or x.ports k no_row.port) e.ends.tree ∙ get_or-map (λ (q : Row). q.port) left k no_row no_row.port hl in
     record {
       row = last;
@@ -213,20 +214,20 @@ settled_enabled v n = ap (λ (p : SettledPort). p.enabled) (at_default settled_p
 pub was_enabled : (s : Table) (t : Tree) → t.settled ≡ settled_of s → (n : ℕ) → (settled_port t.settled n).enabled ≡ enabled_by s n
 was_enabled s t settled n = ap (λ (w : SettledValues). (settled_port w n).enabled) settled ∙ settled_enabled s n
 
-settled_ports : (ps : List PortValues) → map settled_port_of ps ≡ map settled_port_of (map spent_values ps)
+settled_ports : (ps : List PortValues) → map settled_port_of ps ≡ map settled_port_of (map without_migration_check ps)
 settled_ports [] = refl
 settled_ports (p ∷ ps) = ap (λ (ws : List SettledPort). settled_port_of p ∷ ws) (settled_ports ps)
 
-settled_spent : (v : Table) → settled_of v ≡ settled_of (spent v)
+settled_spent : (v : Table) → settled_of v ≡ settled_of (without_migration_checks v)
 settled_spent v = ap (λ (ws : List SettledPort). record (settled_of v) { ports = ws }) (settled_ports v.ports)
 
 -- each happening is an event
-arrival_part : (s : Table) (t : Tree) (n : ℕ) (b : Bpdu) → length t.config ≡ length t.ports → ((k : ℕ) → k < length t.ports → IsFreshAt s t k (row_at s t k)) → OwnPart s t (arrived s (own_id s t.address) n b (rows_of s t))
-unfolding arrived
+arrival_part : (s : Table) (t : Tree) (n : ℕ) (b : Bpdu) → length t.config ≡ length t.ports → ((k : ℕ) → k < length t.ports → IsFreshAt s t k (row_at s t k)) → OwnPart s t (after_arrival s (own_id s t.address) n b (rows_of s t))
+unfolding after_arrival
 arrival_part s t n b each h =
     let own = own_id s t.address in
-    let heard = received_all own (rstp_version s) n b (rows_of s t) in
-    part_again s t _ heard (part_map s t (received own (rstp_version s) n b) each (λ k i. Fresh-same _ _ _ _ _ (row_at s t k) _ (h k i) (received-same own (rstp_version s) n b (row_at s t k)))) (λ k r i. Fresh-same _ _ _ _ _ r _ i (told-same _ own n b _ r))
+    let heard = after_receptions own (rstp_version s) n b (rows_of s t) in
+    part_again s t _ heard (part_map s t (after_reception own (rstp_version s) n b) each (λ k i. Fresh-same _ _ _ _ _ (row_at s t k) _ (h k i) (received-same own (rstp_version s) n b (row_at s t k)))) (λ k r i. Fresh-same _ _ _ _ _ r _ i (told-same _ own n b _ r))
 
 -- the own part of each event
 pub own_part : (s : Table) (t : Tree) → IsReady s t → (h : Happening) → OwnPart (event_by h s t).settings t (event_by h s t).rows
@@ -235,10 +236,10 @@ own_part s t ready h = by h where
   start k b = begins s (settled_port t.settled (1 + k)) (1 + k) (get_or t.config k no_config) (get_or t.ports k no_row.port) (ready.calm k b)
 
   by : (h : Happening) → OwnPart (event_by h s t).settings t (event_by h s t).rows
-  by Tick = part_map s t ticked ready.configured (λ k b. Fresh-same _ _ _ _ _ (row_at s t k) _ (start k b) (ticked-same (row_at s t k)))
-  by (Link n up) = part_map s t (linked n up) ready.configured (λ k b. linked-fresh _ _ _ _ _ n up (row_at s t k) (start k b))
+  by Tick = part_map s t after_tick ready.configured (λ k b. Fresh-same _ _ _ _ _ (row_at s t k) _ (start k b) (ticked-same (row_at s t k)))
+  by (Link n up) = part_map s t (after_link n up) ready.configured (λ k b. linked-fresh _ _ _ _ _ n up (row_at s t k) (start k b))
   by (Message n b) = arrival_part s t n b ready.configured start
-  by (Settle v) = part_map v t (settled_anew (has_other_version v t.settled)) ready.configured (λ k b.
+  by (Settle v) = part_map v t (after_settling (has_other_version v t.settled)) ready.configured (λ k b.
       let p = get_or t.ports k no_row.port in
       let calm = ready.calm k b in
       settled-fresh v (settled_port t.settled (1 + k)) (1 + k) (get_or t.config k no_config) p.state (has_other_version v t.settled) (row_at v t k) refl refl calm.still (λ i. calm.off (ap (λ x. x && p.link) (sym (was_enabled s t ready.settled (1 + k))) ∙ i)) (λ f. learns (enabled_by s (1 + k)) p calm f))
@@ -272,7 +273,7 @@ event_of s t ready h r u out = by h where
     subst (λ (x : Table). IsEvent v x t u out) (sym e.0) (record {
       tick = false;
       was = times_in_force t.settled.timers (rows_of v t);
-      rows = map (settled_anew (has_other_version v t.settled)) (rows_of v t);
+      rows = map (after_settling (has_other_version v t.settled)) (rows_of v t);
       base = record t { settled = settled_of v };
       part = own_part s t ready (Settle v);
       ends = e.1;
@@ -287,5 +288,5 @@ pub same_length : (v r : Table) (t u : Tree) (out : Outcome) → (e : IsEvent v 
 same_length v r t u out e =
     let c = e.ends.context in
     let own = own_id v e.base.address in
-    let rd = ready e.tick c (chosen own c.root (map expired e.rows)) in
-    ap (λ (x : Tree). length x.ports) e.ends.tree ∙ (length-map e.ends.left (λ (q : Row). q.port) ∙ (ap length e.ends.concludes.rows ∙ (length-map rd (sent c) ∙ (length_ready e.tick own c.root c e.rows ∙ e.part.same))))
+    let rd = ready e.tick c (rows_with_roles own c.root (map after_expiry e.rows)) in
+    ap (λ (x : Tree). length x.ports) e.ends.tree ∙ (length-map e.ends.left (λ (q : Row). q.port) ∙ (ap length e.ends.concludes.rows ∙ (length-map rd (after_sending c) ∙ (length_ready e.tick own c.root c e.rows ∙ e.part.same))))

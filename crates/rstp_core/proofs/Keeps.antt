@@ -7,10 +7,10 @@ use Rattle.rstp_rules.specs.declared.row.Row.{Row}
 use Rattle.rstp_rules.specs.declared.row.Context.{Context}
 use Rattle.rstp_rules.specs.declared.row.Timing.{Timing}
 use Rattle.rstp_rules.specs.Ports.{is_root, is_designated, is_root_or_designated, is_discarding}
-use Rattle.rstp_rules.specs.Ticks.{greeted}
-use Rattle.rstp_rules.specs.Transitions.{blocked, delayed, retired, disagreed, rested, announced, turned, synced, advanced, started, spread, counted}
-use Rattle.rstp_rules.specs.Turns.{spread_but, begun}
-use Rattle.rstp_rules.specs.Sends.{sent}
+use Rattle.rstp_rules.specs.Ticks.{after_hello_step}
+use Rattle.rstp_rules.specs.Transitions.{after_blocking, after_delay, after_root_role, after_role_change, after_discarding, after_announcement, after_first_transitions, after_synchronization, after_advance, with_change_started, with_change_spread, with_transition_counted}
+use Rattle.rstp_rules.specs.Turns.{with_change_spread_but, after_begin}
+use Rattle.rstp_rules.specs.Sends.{after_sending}
 
 -- A port that is neither root nor designated is discarding.
 abbrev pub IsStill : Row → Type 0
@@ -56,30 +56,30 @@ Keeps-same r q l o i v k f s = record {
   still = λ h e. s ∙ h (ap is_root_or_designated (sym o) ∙ e);
 }
 
-pub delayed-keeps : (c : Context) (r : Row) → Keeps r (delayed c r)
+pub delayed-keeps : (c : Context) (r : Row) → Keeps r (after_delay c r)
 delayed-keeps c r = Keeps-if _ r _ r (λ _. Keeps-same r _ refl refl refl refl refl refl refl) (Keeps-refl r)
 
-pub retired-keeps : (c : Context) (r : Row) → Keeps r (retired c r)
+pub retired-keeps : (c : Context) (r : Row) → Keeps r (after_root_role c r)
 retired-keeps c r = Keeps-if _ r _ r (λ _. Keeps-same r _ refl refl refl refl refl refl refl) (Keeps-refl r)
 
-pub disagreed-keeps : (r : Row) → Keeps r (disagreed r)
+pub disagreed-keeps : (r : Row) → Keeps r (after_role_change r)
 disagreed-keeps r = Keeps-if _ r _ r (λ _. Keeps-same r _ refl refl refl refl refl refl refl) (Keeps-refl r)
 
-pub rested-keeps : (r : Row) → Keeps r (rested r)
+pub rested-keeps : (r : Row) → Keeps r (after_discarding r)
 rested-keeps r = Keeps-if _ r _ r (λ _. Keeps-same r _ refl refl refl refl refl refl refl) (Keeps-refl r)
 
-pub announced-keeps : (c : Context) (r : Row) → Keeps r (announced c r)
+pub announced-keeps : (c : Context) (r : Row) → Keeps r (after_announcement c r)
 announced-keeps c r = Keeps-if _ r _ r (λ _. Keeps-same r _ refl refl refl refl refl refl refl) (Keeps-refl r)
 
 -- c after a and b
-pub turned-keeps : (c : Context) (r : Row) → Keeps (blocked r) (turned c r)
+pub turned-keeps : (c : Context) (r : Row) → Keeps (after_blocking r) (after_first_transitions c r)
 turned-keeps c r =
-    let r1 = blocked r in
-    let r2 = delayed c r1 in
-    let r3 = retired c r2 in
-    let r4 = disagreed r3 in
-    let r5 = rested r4 in
-    Keeps-trans r1 r2 (announced c r5) (delayed-keeps c r1) (Keeps-trans r2 r3 (announced c r5) (retired-keeps c r2) (Keeps-trans r3 r4 (announced c r5) (disagreed-keeps r3) (Keeps-trans r4 r5 (announced c r5) (rested-keeps r4) (announced-keeps c r5))))
+    let r1 = after_blocking r in
+    let r2 = after_delay c r1 in
+    let r3 = after_root_role c r2 in
+    let r4 = after_role_change r3 in
+    let r5 = after_discarding r4 in
+    Keeps-trans r1 r2 (after_announcement c r5) (delayed-keeps c r1) (Keeps-trans r2 r3 (after_announcement c r5) (retired-keeps c r2) (Keeps-trans r3 r4 (after_announcement c r5) (disagreed-keeps r3) (Keeps-trans r4 r5 (after_announcement c r5) (rested-keeps r4) (announced-keeps c r5))))
 
 abbrev agreeing : Row → Row
 agreeing r = record r { port = record r.port { agree = true; pending = true } }
@@ -87,7 +87,7 @@ agreeing r = record r { port = record r.port { agree = true; pending = true } }
 abbrev waiting : Context → Row → Row
 waiting c r = record r { port = record r.port { state = Discarding; forward_while = c.timing.forward_delay; recent_root_while = 0; pending = true } }
 
-pub synced-keeps : (c : Context) (r : Row) → Keeps r (synced c r)
+pub synced-keeps : (c : Context) (r : Row) → Keeps r (after_synchronization c r)
 synced-keeps c r =
     Keeps-if (is_root r.port.role) r (agreeing r) (cond (is_designated r.port.role && not r.port.edge && not r.port.agreed && not (is_discarding r.port.state)) (waiting c r) r) (λ _. Keeps-same r (agreeing r) refl refl refl refl refl refl refl) (Keeps-if (is_designated r.port.role && not r.port.edge && not r.port.agreed && not (is_discarding r.port.state)) r (waiting c r) r (λ _. record { line = refl; role = refl; info = refl; vector = refl; link = refl; flushed = λ e. e; still = λ _ _. refl }) (Keeps-refl r))
 
@@ -117,29 +117,29 @@ Keeps-active r q l o i v k f a = record {
   still = λ h e. let clash : true ≡ false = sym a ∙ (ap is_root_or_designated (sym o) ∙ e) in cc;
 }
 
-pub advanced-keeps : (c : Context) (clear : Bool) (r : Row) → Keeps r (advanced c clear r)
+pub advanced-keeps : (c : Context) (clear : Bool) (r : Row) → Keeps r (after_advance c clear r)
 advanced-keeps c clear r =
     Keeps-if _ r _ _ (λ e. Keeps-active r _ refl refl refl refl refl refl (active c.timing.rstp_version clear (r.port.edge || r.port.agreed) r.port.role e)) (Keeps-if _ r _ r (λ e. Keeps-active r _ refl refl refl refl refl refl (first_of_both (is_root_or_designated r.port.role) _ e)) (Keeps-refl r))
 
-pub started-keeps : (t : Timing) (r : Row) → Keeps r (started t r)
+pub started-keeps : (t : Timing) (r : Row) → Keeps r (with_change_started t r)
 started-keeps t r = Keeps-if _ r _ r (λ _. Keeps-same r _ refl refl refl refl refl refl refl) (Keeps-refl r)
 
 Keeps-flush : (r q : Row) → Keeps r q → Keeps r (record q { flushed = true })
 Keeps-flush r q h = record { line = h.line; role = h.role; info = h.info; vector = h.vector; link = h.link; flushed = λ _. refl; still = h.still }
 
-pub spread-keeps : (t : Timing) (r : Row) → Keeps r (spread t r)
-spread-keeps t r = Keeps-if _ r _ r (λ _. Keeps-flush r (started t r) (started-keeps t r)) (Keeps-refl r)
+pub spread-keeps : (t : Timing) (r : Row) → Keeps r (with_change_spread t r)
+spread-keeps t r = Keeps-if _ r _ r (λ _. Keeps-flush r (with_change_started t r) (started-keeps t r)) (Keeps-refl r)
 
-pub spread_but-keeps : (t : Timing) (n : ℕ) (r : Row) → Keeps r (spread_but t n r)
+pub spread_but-keeps : (t : Timing) (n : ℕ) (r : Row) → Keeps r (with_change_spread_but t n r)
 spread_but-keeps t n r = Keeps-if _ r r _ (λ _. Keeps-refl r) (spread-keeps t r)
 
-pub begun-keeps : (t : Timing) (r : Row) → Keeps r (begun t r)
+pub begun-keeps : (t : Timing) (r : Row) → Keeps r (after_begin t r)
 begun-keeps t r =
-    let one = Keeps-same r (counted r) refl refl refl refl refl refl refl in
-    Keeps-if _ r (counted r) _ (λ _. one) (Keeps-trans r (counted r) (started t (counted r)) one (started-keeps t (counted r)))
+    let one = Keeps-same r (with_transition_counted r) refl refl refl refl refl refl refl in
+    Keeps-if _ r (with_transition_counted r) _ (λ _. one) (Keeps-trans r (with_transition_counted r) (with_change_started t (with_transition_counted r)) one (started-keeps t (with_transition_counted r)))
 
-pub greeted-keeps : (t : Timing) (r : Row) → Keeps r (greeted t r)
+pub greeted-keeps : (t : Timing) (r : Row) → Keeps r (after_hello_step t r)
 greeted-keeps t r = Keeps-if _ r _ r (λ _. Keeps-same r _ refl refl refl refl refl refl refl) (Keeps-refl r)
 
-pub sent-keeps : (c : Context) (r : Row) → Keeps r (sent c r)
+pub sent-keeps : (c : Context) (r : Row) → Keeps r (after_sending c r)
 sent-keeps c r = Keeps-if _ r _ _ (λ _. Keeps-same r _ refl refl refl refl refl refl refl) (Keeps-if _ r r _ (λ _. Keeps-refl r) (Keeps-same r _ refl refl refl refl refl refl refl))

@@ -9,7 +9,7 @@ use Rattle.frame_core.specs.declared.bpdu.BridgeId.{BridgeId}
 use Rattle.frame_core.specs.declared.bpdu.Times.{Times}
 use Rattle.rstp_settings.specs.Table.{Table, opening, opening_port as opening_values, no_values}
 use Rattle.rstp_settings.specs.declared.key.PortValues.{PortValues}
-use Rattle.rstp_rules.specs.declared.config.PortConfig.{PortConfig}
+use Rattle.rstp_settings.specs.declared.config.PortConfig.{PortConfig}
 use Rattle.rstp_rules.specs.declared.port.Info.TheVariants.{Mine}
 use Rattle.rstp_rules.specs.declared.port.Port.{Port}
 use Rattle.rstp_rules.specs.declared.port.Role.TheVariants.{Disabled}
@@ -20,11 +20,12 @@ use Rattle.rstp_rules.specs.declared.row.Line.{Line}
 use Rattle.rstp_rules.specs.declared.row.Best.{Best}
 use Rattle.rstp_rules.specs.Ports.{is_root_or_designated, is_discarding}
 use Rattle.rstp_rules.specs.Vectors.{port_id}
-use Rattle.rstp_rules.specs.Lines.{own_id, enabled_by, cost_in_use, set_times, timers_of, no_config}
-use Rattle.rstp_rules.specs.Roles.{expired, with_role, candidate, candidates, own_best, beats, IsBest}
+use Rattle.rstp_rules.specs.Lines.{own_id, enabled_by, set_times, timers_of}
+use Rattle.rstp_settings.specs.Config.{cost_in_use, no_config}
+use Rattle.rstp_rules.specs.Roles.{after_expiry, with_role, candidate, candidates, own_best, beats, IsBest}
 use Rattle.rstp_rules.specs.Turns.{no_row}
 use Rattle.rstp_core.specs.declared.rstp.Outcome.{Outcome}
-use Rattle.rstp_core.specs.Passes.{chosen}
+use Rattle.rstp_core.specs.Passes.{rows_with_roles}
 use Rattle.rstp_core.specs.Tree.{Tree, rows_of, opening_port_of, opening_ports, opening_tree}
 use Rattle.rstp_core.specs.Runs.{Happening, Happens}
 use Rattle.rstp_core.specs.Legal.{MayLearn, IsLegal}
@@ -82,7 +83,7 @@ record AreRoled (s : Table) (t : Tree) : Type 0 where
   chosen : (k : ℕ) → k < length t.ports → with_role (own_id s t.address) t.facts.root (row_at s t k) ≡ row_at s t k
   still : (k : ℕ) → k < length t.ports → is_root_or_designated (get_or t.ports k no_row.port).role ≡ false → (get_or t.ports k no_row.port).state ≡ Discarding
 
-roled_list : (s : Table) (t : Tree) → length t.config ≡ length t.ports → AreRoled s t → chosen (own_id s t.address) t.facts.root (rows_of s t) ≡ rows_of s t
+roled_list : (s : Table) (t : Tree) → length t.config ≡ length t.ports → AreRoled s t → rows_with_roles (own_id s t.address) t.facts.root (rows_of s t) ≡ rows_of s t
 roled_list s t each h =
     let own = own_id s t.address in
     let best = t.facts.root in
@@ -143,21 +144,21 @@ next_offer own row q h =
     offer-keeps own row q h.on h.cost h.id (ap (λ (p : Port). p.info) h.port) (ap (λ (p : Port). p.vector) h.port)
 
 -- the candidates after an event
-offer_less : (v r : Table) (t u : Tree) (out : Outcome) (e : IsEvent v r t u out) → length u.config ≡ length u.ports → OfferLess (own_id v e.base.address) e.ends.context.root (map expired e.rows) (rows_of r u)
+offer_less : (v r : Table) (t u : Tree) (out : Outcome) (e : IsEvent v r t u out) → length u.config ≡ length u.ports → OfferLess (own_id v e.base.address) e.ends.context.root (map after_expiry e.rows) (rows_of r u)
 offer_less v r t u out e each = record { same = same; less = less; root = root } where
-  same : length (rows_of r u) ≡ length (map expired e.rows)
-  same = omega (arith, rows_are r u each, same_length v r t u out e, length-map e.rows expired, e.part.same)
+  same : length (rows_of r u) ≡ length (map after_expiry e.rows)
+  same = omega (arith, rows_are r u each, same_length v r t u out e, length-map e.rows after_expiry, e.part.same)
 
-  within : (k : ℕ) → k < length (map expired e.rows) → k < length t.ports
-  within k b = omega (arith, b, length-map e.rows expired, e.part.same)
+  within : (k : ℕ) → k < length (map after_expiry e.rows) → k < length t.ports
+  within k b = omega (arith, b, length-map e.rows after_expiry, e.part.same)
 
-  old_is : (k : ℕ) → k < length (map expired e.rows) → get_or (map expired e.rows) k no_row ≡ expired (get_or e.rows k no_row)
-  old_is k b = get_or-map expired e.rows k no_row no_row (omega (arith, b, length-map e.rows expired))
+  old_is : (k : ℕ) → k < length (map after_expiry e.rows) → get_or (map after_expiry e.rows) k no_row ≡ after_expiry (get_or e.rows k no_row)
+  old_is k b = get_or-map after_expiry e.rows k no_row no_row (omega (arith, b, length-map e.rows after_expiry))
 
   new_is : (k : ℕ) → k < length t.ports → get_or (rows_of r u) k no_row ≡ row_at r u k
   new_is k b = row_is r u each k (omega (arith, b, same_length v r t u out e))
 
-  less : (k : ℕ) → k < length (map expired e.rows) → (candidate (own_id v e.base.address) (get_or (rows_of r u) k no_row) ≡ None) ⊎ (candidate (own_id v e.base.address) (get_or (rows_of r u) k no_row) ≡ candidate (own_id v e.base.address) (get_or (map expired e.rows) k no_row))
+  less : (k : ℕ) → k < length (map after_expiry e.rows) → (candidate (own_id v e.base.address) (get_or (rows_of r u) k no_row) ≡ None) ⊎ (candidate (own_id v e.base.address) (get_or (rows_of r u) k no_row) ≡ candidate (own_id v e.base.address) (get_or (map after_expiry e.rows) k no_row))
   less k b =
       let own = own_id v e.base.address in
       let here = within k b in
@@ -168,7 +169,7 @@ offer_less v r t u out e each = record { same = same; less = less; root = root }
         | inr x ↦ inr (now ∙ (x ∙ sym (ap (candidate own) (old_is k b))))
       ]
 
-  root : (k : ℕ) → k < length (map expired e.rows) → candidate (own_id v e.base.address) (get_or (map expired e.rows) k no_row) ≡ Some e.ends.context.root → candidate (own_id v e.base.address) (get_or (rows_of r u) k no_row) ≡ Some e.ends.context.root
+  root : (k : ℕ) → k < length (map after_expiry e.rows) → candidate (own_id v e.base.address) (get_or (map after_expiry e.rows) k no_row) ≡ Some e.ends.context.root → candidate (own_id v e.base.address) (get_or (rows_of r u) k no_row) ≡ Some e.ends.context.root
   root k b x =
       let own = own_id v e.base.address in
       let here = within k b in
@@ -194,7 +195,7 @@ legal_after s t v r u out h e = record {
   own = e.alike.own u.address ∙ ap (λ (x : Tree). own_id v x.address) e.ends.tree
 
   root : IsBest (candidates (own_id r u.address) (rows_of r u)) u.facts.root
-  root = subst (λ (x : BridgeId). IsBest (candidates x (rows_of r u)) u.facts.root) (sym own) (subst (λ (x : Best). IsBest (candidates (own_id v e.base.address) (rows_of r u)) x) (sym facts) (best_stays (own_id v e.base.address) e.ends.context.root (map expired e.rows) (rows_of r u) (offer_less v r t u out e each) e.ends.concludes.root))
+  root = subst (λ (x : BridgeId). IsBest (candidates x (rows_of r u)) u.facts.root) (sym own) (subst (λ (x : Best). IsBest (candidates (own_id v e.base.address) (rows_of r u)) x) (sym facts) (best_stays (own_id v e.base.address) e.ends.context.root (map after_expiry e.rows) (rows_of r u) (offer_less v r t u out e each) e.ends.concludes.root))
 
   roled : AreRoled r u
   roled = record {

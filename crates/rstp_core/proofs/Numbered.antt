@@ -6,10 +6,10 @@ use Rattle.rstp_rules.specs.declared.row.Row.{Row}
 use Rattle.rstp_rules.specs.declared.row.Line.{Line}
 use Rattle.rstp_rules.specs.declared.row.Best.{Best}
 use Rattle.rstp_rules.specs.declared.row.Context.{Context}
-use Rattle.rstp_rules.specs.Roles.{expired, with_role}
-use Rattle.rstp_rules.specs.Transitions.{blocked, turned}
+use Rattle.rstp_rules.specs.Roles.{after_expiry, with_role}
+use Rattle.rstp_rules.specs.Transitions.{after_blocking, after_first_transitions}
 use Rattle.rstp_rules.specs.Turns.{no_row, AreDistinct}
-use Rattle.rstp_core.specs.Passes.{chosen, advanced_rows, moved_at_once, greeted_all, ready}
+use Rattle.rstp_core.specs.Passes.{rows_with_roles, before_turns, after_turns_at_once, after_hello_steps, ready}
 use Rattle.rstp_core.specs.Tree.{Tree, rows_of}
 use Rattle.rstp_core.specs.Steps.{event_own, fresh_rows, event_root, roled_rows, event_context, ready_rows}
 use Rattle.rstp_core.specs.Runs.{Happening, event_by}
@@ -44,34 +44,34 @@ fixed_if : (b : Bool) (r x y : Row) → IsFixed r x → IsFixed r y → IsFixed 
 fixed_if true r x y h i = h
 fixed_if false r x y h i = i
 
-pub fixed_expired : (r : Row) → IsFixed r (expired r)
+pub fixed_expired : (r : Row) → IsFixed r (after_expiry r)
 fixed_expired r = let h = expired-same r in record { line = h.line; link = h.link; flushed = h.flushed }
 
 fixed_role : (own : BridgeId) (root : Best) (r : Row) → IsFixed r (with_role own root r)
 fixed_role own root r = subst (IsFixed r) (sym (with_role-is own root r)) (record { line = refl; link = refl; flushed = λ e. e })
 
-fixed_turned : (c : Context) (r : Row) → IsFixed r (turned c r)
+fixed_turned : (c : Context) (r : Row) → IsFixed r (after_first_transitions c r)
 fixed_turned c r =
-    fixed_next r (blocked r) (turned c r) (fixed_if _ r _ r (record { line = refl; link = refl; flushed = λ _. refl }) (fixed r)) (fixed_keeps (blocked r) (turned c r) (turned-keeps c r))
+    fixed_next r (after_blocking r) (after_first_transitions c r) (fixed_if _ r _ r (record { line = refl; link = refl; flushed = λ _. refl }) (fixed r)) (fixed_keeps (after_blocking r) (after_first_transitions c r) (turned-keeps c r))
 
 all_keep : (xs ys : List Row) → AllHold Keeps xs ys → AllHold IsFixed xs ys
 all_keep xs ys h = record { same = h.same; at = λ k b. fixed_keeps (get_or xs k no_row) (get_or ys k no_row) (h.at k b) }
 
 -- the rows with their roles, as the turns begin, and ready to send
-pub fixed_chosen : (own : BridgeId) (root : Best) (rows : List Row) → AllHold IsFixed rows (chosen own root (map expired rows))
+pub fixed_chosen : (own : BridgeId) (root : Best) (rows : List Row) → AllHold IsFixed rows (rows_with_roles own root (map after_expiry rows))
 fixed_chosen own root rows =
-    let aged = map expired rows in
-    hold-trans IsFixed fixed_held rows aged (chosen own root aged) (hold-map IsFixed expired rows fixed_expired) (hold-map IsFixed (with_role own root) aged (fixed_role own root))
+    let aged = map after_expiry rows in
+    hold-trans IsFixed fixed_held rows aged (rows_with_roles own root aged) (hold-map IsFixed after_expiry rows fixed_expired) (hold-map IsFixed (with_role own root) aged (fixed_role own root))
 
-fixed_advanced : (c : Context) (rows : List Row) → AllHold IsFixed rows (advanced_rows c rows)
+fixed_advanced : (c : Context) (rows : List Row) → AllHold IsFixed rows (before_turns c rows)
 fixed_advanced c rows =
-    let begun = map (turned c) rows in
-    hold-trans IsFixed fixed_held rows begun (advanced_rows c rows) (hold-map IsFixed (turned c) rows (fixed_turned c)) (all_keep begun (advanced_rows c rows) (keep-advanced c rows))
+    let begun = map (after_first_transitions c) rows in
+    hold-trans IsFixed fixed_held rows begun (before_turns c rows) (hold-map IsFixed (after_first_transitions c) rows (fixed_turned c)) (all_keep begun (before_turns c rows) (keep-advanced c rows))
 
 pub fixed_ready : (tick : Bool) (c : Context) (rows : List Row) → AllHold IsFixed rows (ready tick c rows)
 fixed_ready tick c rows =
-    let begun = map (turned c) rows in
-    hold-trans IsFixed fixed_held rows begun (ready tick c rows) (hold-map IsFixed (turned c) rows (fixed_turned c)) (all_keep begun (ready tick c rows) (keep-ready tick c rows))
+    let begun = map (after_first_transitions c) rows in
+    hold-trans IsFixed fixed_held rows begun (ready tick c rows) (hold-map IsFixed (after_first_transitions c) rows (fixed_turned c)) (all_keep begun (ready tick c rows) (keep-ready tick c rows))
 
 pub numbered : (xs ys : List Row) → AllHold IsFixed xs ys → AreNumbered xs → AreNumbered ys
 numbered xs ys h n = λ k b.
@@ -96,22 +96,22 @@ unfolding roled_rows
 roled_numbered h s t legal =
     let e = event_by h s t in
     let part : OwnPart e.settings t e.rows = own_part s t (legal_ready s t legal) h in
-    numbered e.rows (chosen (event_own e) (event_root e) (fresh_rows e)) (fixed_chosen (event_own e) (event_root e) e.rows) (own_numbered e.settings t e.rows part)
+    numbered e.rows (rows_with_roles (event_own e) (event_root e) (fresh_rows e)) (fixed_chosen (event_own e) (event_root e) e.rows) (own_numbered e.settings t e.rows part)
 
 -- as the turns are taken
-pub turns_numbered : (h : Happening) (s : Table) (t : Tree) → IsLegal s t → (let e = event_by h s t in AreNumbered (advanced_rows (event_context e) (roled_rows e)))
+pub turns_numbered : (h : Happening) (s : Table) (t : Tree) → IsLegal s t → (let e = event_by h s t in AreNumbered (before_turns (event_context e) (roled_rows e)))
 turns_numbered h s t legal =
     let e = event_by h s t in
-    numbered (roled_rows e) (advanced_rows (event_context e) (roled_rows e)) (fixed_advanced (event_context e) (roled_rows e)) (roled_numbered h s t legal)
+    numbered (roled_rows e) (before_turns (event_context e) (roled_rows e)) (fixed_advanced (event_context e) (roled_rows e)) (roled_numbered h s t legal)
 
 -- so no two are of one port
 distinct_of : (rows : List Row) → AreNumbered rows → AreDistinct rows
 distinct_of rows n = λ i j h k e. omega (arith, n i h, n j k, e)
 
-pub event_turns : (h : Happening) (s : Table) (t : Tree) → IsLegal s t → (let e = event_by h s t in ready_rows e ≡ greeted_all e.tick (event_context e) (moved_at_once (event_context e) (roled_rows e)))
+pub event_turns : (h : Happening) (s : Table) (t : Tree) → IsLegal s t → (let e = event_by h s t in ready_rows e ≡ after_hello_steps e.tick (event_context e) (after_turns_at_once (event_context e) (roled_rows e)))
 unfolding ready_rows
 event_turns h s t legal =
     let e = event_by h s t in
     let c = event_context e in
-    let rows = advanced_rows c (roled_rows e) in
-    ap (greeted_all e.tick c) (turns_closed c.timing rows (distinct_of rows (turns_numbered h s t legal)))
+    let rows = before_turns c (roled_rows e) in
+    ap (after_hello_steps e.tick c) (turns_closed c.timing rows (distinct_of rows (turns_numbered h s t legal)))

@@ -7,20 +7,21 @@ use Rattle.std.proofs.lemmas.List.Elements.{All-contains, All-cons, All-head}
 use Rattle.std.proofs.lemmas.Bool.Decides.{eqb_tells}
 use Rattle.frame_core.specs.declared.bpdu.BridgeId.{BridgeId}
 use Rattle.rstp_settings.specs.Table.{Table}
-use Rattle.rstp_rules.specs.declared.config.PortConfig.{PortConfig}
+use Rattle.rstp_settings.specs.declared.config.PortConfig.{PortConfig}
 use Rattle.rstp_rules.specs.declared.port.Port.{Port}
 use Rattle.rstp_rules.specs.declared.row.Row.{Row}
 use Rattle.rstp_rules.specs.declared.row.Best.{Best}
 use Rattle.rstp_rules.specs.declared.row.Context.{Context}
 use Rattle.rstp_rules.specs.declared.row.Timing.{Timing}
-use Rattle.rstp_rules.specs.Lines.{row_of, no_config}
+use Rattle.rstp_rules.specs.Lines.{row_of}
+use Rattle.rstp_settings.specs.Config.{no_config}
 use Rattle.rstp_rules.specs.Roles.{candidate, candidates, own_best, beats, IsBest}
-use Rattle.rstp_rules.specs.Transitions.{turned, synced, synced_all, advanced, advanced_all, no_recent_root}
-use Rattle.rstp_rules.specs.Turns.{no_row, spread_but, begun, turn_at, first_turns, turns}
-use Rattle.rstp_rules.specs.Ticks.{greeted}
-use Rattle.rstp_rules.specs.Sends.{sent}
+use Rattle.rstp_rules.specs.Transitions.{after_first_transitions, after_synchronization, after_synchronizations, after_advance, after_advances, no_recent_root}
+use Rattle.rstp_rules.specs.Turns.{no_row, with_change_spread_but, after_begin, turn_at, first_turns, turns}
+use Rattle.rstp_rules.specs.Ticks.{after_hello_step}
+use Rattle.rstp_rules.specs.Sends.{after_sending}
 use Rattle.rstp_core.specs.Settled.{SettledValues, settled_port}
-use Rattle.rstp_core.specs.Passes.{advanced_rows, greeted_all, ready}
+use Rattle.rstp_core.specs.Passes.{before_turns, after_hello_steps, ready}
 use Rattle.rstp_core.specs.Tree.{rows_from}
 use Rattle.rstp_core.proofs.Keeps.{Keeps, Keeps-refl, Keeps-trans, synced-keeps, advanced-keeps, spread_but-keeps, begun-keeps, greeted-keeps, sent-keeps}
 
@@ -70,24 +71,24 @@ hold-if R false xs ys zs h i = i
 -- what each turn holds
 pub record HoldsTurns (R : Row → Row → Type 0) (t : Timing) : Type 0 where
   pub held : IsHeld R
-  pub begins : (r : Row) → R r (begun t r)
-  pub spreads : (n : ℕ) (r : Row) → R r (spread_but t n r)
+  pub begins : (r : Row) → R r (after_begin t r)
+  pub spreads : (n : ℕ) (r : Row) → R r (with_change_spread_but t n r)
 
-hold-set : (R : Row → Row → Type 0) (t : Timing) → HoldsTurns R t → (xs : List Row) (k : ℕ) → AllHold R xs (set xs k (begun t (get_or xs k no_row)))
-hold-set R t h xs k = record { same = length-set xs k (begun t (get_or xs k no_row)); at = at } where
-  at : (i : ℕ) → i < length xs → R (get_or xs i no_row) (get_or (set xs k (begun t (get_or xs k no_row))) i no_row)
+hold-set : (R : Row → Row → Type 0) (t : Timing) → HoldsTurns R t → (xs : List Row) (k : ℕ) → AllHold R xs (set xs k (after_begin t (get_or xs k no_row)))
+hold-set R t h xs k = record { same = length-set xs k (after_begin t (get_or xs k no_row)); at = at } where
+  at : (i : ℕ) → i < length xs → R (get_or xs i no_row) (get_or (set xs k (after_begin t (get_or xs k no_row))) i no_row)
   at i b = elim (eqb_tells i k) [
-    | inl e ↦ subst (λ (m : ℕ). R (get_or xs i no_row) (get_or (set xs m (begun t (get_or xs m no_row))) i no_row)) e.1 here
-    | inr d ↦ subst (R (get_or xs i no_row)) (sym (get_or-set_other xs k i (begun t (get_or xs k no_row)) no_row d.1)) (h.held.still (get_or xs i no_row))
+    | inl e ↦ subst (λ (m : ℕ). R (get_or xs i no_row) (get_or (set xs m (after_begin t (get_or xs m no_row))) i no_row)) e.1 here
+    | inr d ↦ subst (R (get_or xs i no_row)) (sym (get_or-set_other xs k i (after_begin t (get_or xs k no_row)) no_row d.1)) (h.held.still (get_or xs i no_row))
   ] where
-    here : R (get_or xs i no_row) (get_or (set xs i (begun t (get_or xs i no_row))) i no_row)
-    here = subst (R (get_or xs i no_row)) (sym (get_or-set_same xs i (begun t (get_or xs i no_row)) no_row b)) (h.begins (get_or xs i no_row))
+    here : R (get_or xs i no_row) (get_or (set xs i (after_begin t (get_or xs i no_row))) i no_row)
+    here = subst (R (get_or xs i no_row)) (sym (get_or-set_same xs i (after_begin t (get_or xs i no_row)) no_row b)) (h.begins (get_or xs i no_row))
 
 hold-turn : (R : Row → Row → Type 0) (t : Timing) → HoldsTurns R t → (xs : List Row) (k : ℕ) → AllHold R xs (turn_at t xs k)
 hold-turn R t h xs k =
     let r = get_or xs k no_row in
-    let one = set xs k (begun t r) in
-    hold-if R _ xs _ xs (hold-if R _ xs one _ (hold-set R t h xs k) (hold-trans R h.held xs one (map (spread_but t r.line.number) one) (hold-set R t h xs k) (hold-map R (spread_but t r.line.number) one (h.spreads r.line.number)))) (hold-refl R h.held xs)
+    let one = set xs k (after_begin t r) in
+    hold-if R _ xs _ xs (hold-if R _ xs one _ (hold-set R t h xs k) (hold-trans R h.held xs one (map (with_change_spread_but t r.line.number) one) (hold-set R t h xs k) (hold-map R (with_change_spread_but t r.line.number) one (h.spreads r.line.number)))) (hold-refl R h.held xs)
 
 pub hold-turns : (R : Row → Row → Type 0) (t : Timing) → HoldsTurns R t → (n : ℕ) (xs : List Row) → AllHold R xs (first_turns t n xs)
 hold-turns R t h zero xs = hold-refl R h.held xs
@@ -104,27 +105,27 @@ keep-turns : (t : Timing) → HoldsTurns Keeps t
 keep-turns t = record { held = kept; begins = begun-keeps t; spreads = spread_but-keeps t }
 
 -- the states: d and e
-pub keep-advanced : (c : Context) (rows : List Row) → AllKeep (map (turned c) rows) (advanced_rows c rows)
+pub keep-advanced : (c : Context) (rows : List Row) → AllKeep (map (after_first_transitions c) rows) (before_turns c rows)
 keep-advanced c rows =
-    let a = map (turned c) rows in
-    let b = synced_all c a in
-    let d = advanced_all c b in
-    let one : AllKeep a b = hold-if Keeps _ a (map (synced c) a) a (hold-map Keeps (synced c) a (synced-keeps c)) (hold-refl Keeps kept a) in
-    let two : AllKeep b d = hold-map Keeps (advanced c (no_recent_root b)) b (advanced-keeps c (no_recent_root b)) in
+    let a = map (after_first_transitions c) rows in
+    let b = after_synchronizations c a in
+    let d = after_advances c b in
+    let one : AllKeep a b = hold-if Keeps _ a (map (after_synchronization c) a) a (hold-map Keeps (after_synchronization c) a (synced-keeps c)) (hold-refl Keeps kept a) in
+    let two : AllKeep b d = hold-map Keeps (after_advance c (no_recent_root b)) b (advanced-keeps c (no_recent_root b)) in
     hold-trans Keeps kept a b d one two
 
 -- f, and the hello step
-pub keep-ready : (tick : Bool) (c : Context) (rows : List Row) → AllKeep (map (turned c) rows) (ready tick c rows)
+pub keep-ready : (tick : Bool) (c : Context) (rows : List Row) → AllKeep (map (after_first_transitions c) rows) (ready tick c rows)
 keep-ready tick c rows =
-    let a = map (turned c) rows in
-    let d = advanced_rows c rows in
+    let a = map (after_first_transitions c) rows in
+    let d = before_turns c rows in
     let e = turns c.timing d in
     let three : AllKeep d e = hold-turns Keeps c.timing (keep-turns c.timing) (length d) d in
-    let four : AllKeep e (greeted_all tick c e) = hold-if Keeps tick e (map (greeted c.timing) e) e (hold-map Keeps (greeted c.timing) e (greeted-keeps c.timing)) (hold-refl Keeps kept e) in
-    hold-trans Keeps kept a d (greeted_all tick c e) (keep-advanced c rows) (hold-trans Keeps kept d e (greeted_all tick c e) three four)
+    let four : AllKeep e (after_hello_steps tick c e) = hold-if Keeps tick e (map (after_hello_step c.timing) e) e (hold-map Keeps (after_hello_step c.timing) e (greeted-keeps c.timing)) (hold-refl Keeps kept e) in
+    hold-trans Keeps kept a d (after_hello_steps tick c e) (keep-advanced c rows) (hold-trans Keeps kept d e (after_hello_steps tick c e) three four)
 
-pub keep-sent : (c : Context) (rows : List Row) → AllKeep rows (map (sent c) rows)
-keep-sent c rows = hold-map Keeps (sent c) rows (sent-keeps c)
+pub keep-sent : (c : Context) (rows : List Row) → AllKeep rows (map (after_sending c) rows)
+keep-sent c rows = hold-map Keeps (after_sending c) rows (sent-keeps c)
 
 some_none : (b : Best) → Some b ≡ None → ⊥
 some_none b e = cc

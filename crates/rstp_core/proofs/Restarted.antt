@@ -20,17 +20,17 @@ use Rattle.rstp_rules.specs.declared.row.Timing.{Timing}
 use Rattle.rstp_rules.specs.Ports.{is_received, is_root, is_designated, is_root_or_designated, is_alternate_or_backup, is_discarding, next_state}
 use Rattle.rstp_rules.specs.Vectors.{same_vector, same_times}
 use Rattle.rstp_rules.specs.Lines.{own_id, enabled_by, edge_by, rstp_version, seconds}
-use Rattle.rstp_rules.specs.Roles.{expired, with_role, designated}
-use Rattle.rstp_rules.specs.Restarts.{restarted, switched, linked, is_renewed, renewed, edged, settled_anew}
-use Rattle.rstp_rules.specs.Ticks.{greeted}
-use Rattle.rstp_rules.specs.Transitions.{has_changed_role, blocked, delayed, retired, disagreed, rested, announced, turned, synced, synced_all, is_quick, advanced, no_recent_root, change_time, started, counted}
-use Rattle.rstp_rules.specs.Turns.{no_row, spread_but, begun, turns}
-use Rattle.rstp_rules.specs.Sends.{sends_rapid, due, sends, sent}
+use Rattle.rstp_rules.specs.Roles.{after_expiry, with_role, with_designated_vector}
+use Rattle.rstp_rules.specs.Restarts.{after_restart, after_switch, after_link, is_renewed, after_renewal, after_edge_setting, after_settling}
+use Rattle.rstp_rules.specs.Ticks.{after_hello_step}
+use Rattle.rstp_rules.specs.Transitions.{has_changed_role, after_blocking, after_delay, after_root_role, after_role_change, after_discarding, after_announcement, after_first_transitions, after_synchronization, after_synchronizations, is_quick, after_advance, no_recent_root, change_time, with_change_started, with_transition_counted}
+use Rattle.rstp_rules.specs.Turns.{no_row, with_change_spread_but, after_begin, turns}
+use Rattle.rstp_rules.specs.Sends.{sends_rapid, message_due, sends, after_sending}
 use Rattle.rstp_core.specs.declared.rstp.Outcome.{Outcome}
 use Rattle.rstp_core.specs.Settled.{SettledValues, settled_of}
-use Rattle.rstp_core.specs.Passes.{chosen, advanced_rows, greeted_all, ready}
-use Rattle.rstp_core.specs.Tree.{Tree, rows_of, has_other_version, Ends}
-use Rattle.rstp_core.specs.Runs.{Happening, Happens, IsPort, Restarts, IsAnew, version_of}
+use Rattle.rstp_core.specs.Passes.{rows_with_roles, before_turns, after_hello_steps, ready}
+use Rattle.rstp_core.specs.Tree.{HasPort, Tree, rows_of, has_other_version, Ends}
+use Rattle.rstp_core.specs.Runs.{Happening, Happens, Restarts, IsAnew, version_of}
 use Rattle.rstp_core.specs.Runs.Happening.{Tick, Link, Message, Settle}
 use Rattle.rstp_core.specs.Legal.{IsLegal, AreNumbered}
 use Rattle.rstp_core.proofs.Places.{AllHold, IsHeld, HoldsTurns, hold-refl, hold-trans, hold-map, hold-if, hold-turns, contains_flushed}
@@ -49,14 +49,14 @@ record IsFirst (e : Bool) (r : Row) : Type 0 where
   edge : r.port.edge ≡ e
   flushed : r.flushed ≡ true
 
-restarted_first : (r : Row) → IsFirst r.line.edge (restarted r)
+restarted_first : (r : Row) → IsFirst r.line.edge (after_restart r)
 restarted_first r = record { info = refl; was = refl; state = refl; agreed = refl; edge = refl; flushed = refl }
 
 first_if : (e b : Bool) (x y : Row) → IsFirst e x → IsFirst e y → IsFirst e (cond b x y)
 first_if e true x y h i = h
 first_if e false x y h i = i
 
-expired_first : (e : Bool) (r : Row) → IsFirst e r → IsFirst e (expired r)
+expired_first : (e : Bool) (r : Row) → IsFirst e r → IsFirst e (after_expiry r)
 expired_first e r h =
     let x : Row = record r { port = record r.port { info = Mine } } in
     first_if e (is_received r.port.info && eqb r.port.info_while 0) x r (record { info = refl; was = h.was; state = h.state; agreed = h.agreed; edge = h.edge; flushed = h.flushed }) h
@@ -76,7 +76,7 @@ taken_second false false x y z h i = cc
 
 role_new : (own : BridgeId) (root : Best) (e : Bool) (r : Row) → r.line.on ≡ true → IsFirst e r → IsNew e (with_role own root r)
 role_new own root e r on h =
-    let is : with_role own root r ≡ designated own root r = taken_second (not r.line.on) (not (is_received r.port.info)) _ (designated own root r) _ (ap not on) (ap (λ (i : Info). not (is_received i)) h.info) in
+    let is : with_role own root r ≡ with_designated_vector own root r = taken_second (not r.line.on) (not (is_received r.port.info)) _ (with_designated_vector own root r) _ (ap not on) (ap (λ (i : Info). not (is_received i)) h.info) in
     subst (IsNew e) (sym is) (record { role = refl; was = h.was; state = h.state; agreed = h.agreed; edge = h.edge })
 
 -- It waits.
@@ -96,48 +96,48 @@ first_of : (b : Bool) (x y : Row) → b ≡ true → cond b x y ≡ x
 first_of true x y h = refl
 first_of false x y h = cc
 
-blocked_new : (e : Bool) (r : Row) → IsNew e r → IsNew e (blocked r)
+blocked_new : (e : Bool) (r : Row) → IsNew e r → IsNew e (after_blocking r)
 blocked_new e r h =
     let x : Row = record r { port = record r.port { state = Discarding; forward_while = 0; change_while = 0 }; flushed = true } in
     new_if e (is_alternate_or_backup r.port.role && has_changed_role r) x r (record { role = h.role; was = h.was; state = refl; agreed = h.agreed; edge = h.edge }) h
 
-delayed_waiting : (c : Context) (e : Bool) (r : Row) → IsNew e r → IsWaiting c e (delayed c r)
+delayed_waiting : (c : Context) (e : Bool) (r : Row) → IsNew e r → IsWaiting c e (after_delay c r)
 delayed_waiting c e r h =
     let test : (is_root_or_designated r.port.role && not (is_root_or_designated r.was.role) && is_discarding r.port.state) ≡ true = λ i. is_root_or_designated (h.role i) && not (is_root_or_designated (h.was i)) && is_discarding (h.state i) in
     let x : Row = record r { port = record r.port { forward_while = c.timing.forward_delay } } in
     subst (IsWaiting c e) (sym (first_of (is_root_or_designated r.port.role && not (is_root_or_designated r.was.role) && is_discarding r.port.state) x r test)) (record { new = record { role = h.role; was = h.was; state = h.state; agreed = h.agreed; edge = h.edge }; delay = refl })
 
-retired_waiting : (c : Context) (e : Bool) (r : Row) → IsWaiting c e r → IsWaiting c e (retired c r)
+retired_waiting : (c : Context) (e : Bool) (r : Row) → IsWaiting c e r → IsWaiting c e (after_root_role c r)
 retired_waiting c e r h =
     let x : Row = record r { port = record r.port { recent_root_while = c.timing.forward_delay } } in
     waiting_if c e (is_root r.was.role && is_designated r.port.role && not (is_discarding r.port.state)) x r (record { new = record { role = h.new.role; was = h.new.was; state = h.new.state; agreed = h.new.agreed; edge = h.new.edge }; delay = h.delay }) h
 
-disagreed_waiting : (c : Context) (e : Bool) (r : Row) → IsWaiting c e r → IsWaiting c e (disagreed r)
+disagreed_waiting : (c : Context) (e : Bool) (r : Row) → IsWaiting c e r → IsWaiting c e (after_role_change r)
 disagreed_waiting c e r h =
     let x : Row = record r { port = record r.port { agreed = false; agree = false } } in
     waiting_if c e (has_changed_role r) x r (record { new = record { role = h.new.role; was = h.new.was; state = h.new.state; agreed = refl; edge = h.new.edge }; delay = h.delay }) h
 
-rested_waiting : (c : Context) (e : Bool) (r : Row) → IsWaiting c e r → IsWaiting c e (rested r)
+rested_waiting : (c : Context) (e : Bool) (r : Row) → IsWaiting c e r → IsWaiting c e (after_discarding r)
 rested_waiting c e r h =
     let x : Row = record r { port = record r.port { recent_root_while = 0 } } in
     waiting_if c e (is_discarding r.port.state) x r (record { new = record { role = h.new.role; was = h.new.was; state = h.new.state; agreed = h.new.agreed; edge = h.new.edge }; delay = h.delay }) h
 
-announced_waiting : (c : Context) (e : Bool) (r : Row) → IsWaiting c e r → IsWaiting c e (announced c r)
+announced_waiting : (c : Context) (e : Bool) (r : Row) → IsWaiting c e r → IsWaiting c e (after_announcement c r)
 announced_waiting c e r h =
     let same = same_vector r.was.vector r.port.vector in
     let x : Row = record r { port = record r.port { pending = true; agreed = r.port.agreed && same } } in
     waiting_if c e (is_designated r.port.role && (has_changed_role r || not same || not (same_times c.was_times c.times))) x r (record { new = record { role = h.new.role; was = h.new.was; state = h.new.state; agreed = ap (λ (b : Bool). b && same) h.new.agreed; edge = h.new.edge }; delay = h.delay }) h
 
-turned_waiting : (c : Context) (e : Bool) (r : Row) → IsNew e r → IsWaiting c e (turned c r)
+turned_waiting : (c : Context) (e : Bool) (r : Row) → IsNew e r → IsWaiting c e (after_first_transitions c r)
 turned_waiting c e r h =
-    let r1 = blocked r in
-    let r2 = delayed c r1 in
-    let r3 = retired c r2 in
-    let r4 = disagreed r3 in
-    let r5 = rested r4 in
+    let r1 = after_blocking r in
+    let r2 = after_delay c r1 in
+    let r3 = after_root_role c r2 in
+    let r4 = after_role_change r3 in
+    let r5 = after_discarding r4 in
     announced_waiting c e r5 (rested_waiting c e r4 (disagreed_waiting c e r3 (retired_waiting c e r2 (delayed_waiting c e r1 (blocked_new e r h)))))
 
-synced_waiting : (c : Context) (e : Bool) (r : Row) → IsWaiting c e r → IsWaiting c e (synced c r)
+synced_waiting : (c : Context) (e : Bool) (r : Row) → IsWaiting c e r → IsWaiting c e (after_synchronization c r)
 synced_waiting c e r h =
     let x : Row = record r { port = record r.port { agree = true; pending = true } } in
     let y : Row = record r { port = record r.port { state = Discarding; forward_while = c.timing.forward_delay; recent_root_while = 0; pending = true } } in
@@ -157,13 +157,13 @@ started_if false true a b r e h i = cc
 not_over : (n : ℕ) → 1 ≤ n → eqb n 0 ≡ false
 not_over n h = elim (eqb_tells n 0) [ inl e ↦ absurd (omega (arith, e.1, h)) | inr d ↦ d.0 ]
 
-advanced_started : (c : Context) (e clear : Bool) (r : Row) → 1 ≤ c.timing.forward_delay → IsWaiting c e r → IsStarted (cond (c.timing.rstp_version && e) Forwarding Discarding) (advanced c clear r)
+advanced_started : (c : Context) (e clear : Bool) (r : Row) → 1 ≤ c.timing.forward_delay → IsWaiting c e r → IsStarted (cond (c.timing.rstp_version && e) Forwarding Discarding) (after_advance c clear r)
 advanced_started c e clear r long h =
     let quick : is_quick c clear r ≡ (c.timing.rstp_version && e) = (λ i. c.timing.rstp_version && (is_root (h.new.role i) && clear || is_designated (h.new.role i) && (h.new.edge i || h.new.agreed i))) ∙ ap (λ (b : Bool). c.timing.rstp_version && b) (or_false e) in
     let waits : (is_root_or_designated r.port.role && eqb r.port.forward_while 0) ≡ false = (λ i. is_root_or_designated (h.new.role i) && eqb (h.delay i) 0) ∙ not_over c.timing.forward_delay long in
     let x : Row = record r { port = record r.port { state = Forwarding } } in
     let y : Row = record r { port = record r.port { state = next_state r.port.state; forward_while = cond (is_discarding r.port.state) c.timing.forward_delay 0 } } in
-    subst (λ (q : Bool). IsStarted (cond q Forwarding Discarding) (advanced c clear r)) quick (started_if (is_quick c clear r) (is_root_or_designated r.port.role && eqb r.port.forward_while 0) x y r waits (record { role = h.new.role; state = refl }) (record { role = h.new.role; state = h.new.state }))
+    subst (λ (q : Bool). IsStarted (cond q Forwarding Discarding) (after_advance c clear r)) quick (started_if (is_quick c clear r) (is_root_or_designated r.port.role && eqb r.port.forward_while 0) x y r waits (record { role = h.new.role; state = refl }) (record { role = h.new.role; state = h.new.state }))
 
 -- What the rest of the event leaves as it is.
 record Stays (r q : Row) : Type 0 where
@@ -180,33 +180,33 @@ stays_if : (b : Bool) (r x y : Row) → Stays r x → Stays r y → Stays r (con
 stays_if true r x y h i = h
 stays_if false r x y h i = i
 
-stays_started : (t : Timing) (r : Row) → Stays r (started t r)
+stays_started : (t : Timing) (r : Row) → Stays r (with_change_started t r)
 stays_started t r =
     let x : Row = record r { port = record r.port { change_while = change_time t r; pending = true } } in
     stays_if (eqb r.port.change_while 0) r x r (record { role = refl; state = refl }) (stays r)
 
-stays_spread : (t : Timing) (n : ℕ) (r : Row) → Stays r (spread_but t n r)
+stays_spread : (t : Timing) (n : ℕ) (r : Row) → Stays r (with_change_spread_but t n r)
 stays_spread t n r =
     let h = stays_started t r in
-    let x : Row = record (started t r) { flushed = true } in
+    let x : Row = record (with_change_started t r) { flushed = true } in
     let hears = r.line.on && is_root_or_designated r.port.role && not r.port.edge in
     stays_if (eqb r.line.number n) r r (cond hears x r) (stays r) (stays_if hears r x r (record { role = h.role; state = h.state }) (stays r))
 
-stays_begun : (t : Timing) (r : Row) → Stays r (begun t r)
+stays_begun : (t : Timing) (r : Row) → Stays r (after_begin t r)
 stays_begun t r =
-    let one : Stays r (counted r) = record { role = refl; state = refl } in
-    stays_if r.port.edge r (counted r) (started t (counted r)) one (stays_next r (counted r) (started t (counted r)) one (stays_started t (counted r)))
+    let one : Stays r (with_transition_counted r) = record { role = refl; state = refl } in
+    stays_if r.port.edge r (with_transition_counted r) (with_change_started t (with_transition_counted r)) one (stays_next r (with_transition_counted r) (with_change_started t (with_transition_counted r)) one (stays_started t (with_transition_counted r)))
 
-stays_greeted : (t : Timing) (r : Row) → Stays r (greeted t r)
+stays_greeted : (t : Timing) (r : Row) → Stays r (after_hello_step t r)
 stays_greeted t r =
     let x : Row = record r { port = record r.port { hello_when = t.hello; pending = r.port.pending || is_designated r.port.role || nat_lt 0 r.port.change_while } } in
     stays_if (is_root_or_designated r.port.role && eqb r.port.hello_when 0) r x r (record { role = refl; state = refl }) (stays r)
 
-stays_sent : (c : Context) (r : Row) → Stays r (sent c r)
+stays_sent : (c : Context) (r : Row) → Stays r (after_sending c r)
 stays_sent c r =
     let x : Row = record r { port = record r.port { sent_count = r.port.sent_count + 1; pending = false; acknowledge = r.port.acknowledge && not (is_designated r.port.role && not (sends_rapid c.timing r)) } } in
     let y : Row = record r { port = record r.port { pending = false } } in
-    stays_if (sends c r) r x (cond (is_some (due c r)) r y) (record { role = refl; state = refl }) (stays_if (is_some (due c r)) r r y (stays r) (record { role = refl; state = refl }))
+    stays_if (sends c r) r x (cond (is_some (message_due c r)) r y) (record { role = refl; state = refl }) (stays_if (is_some (message_due c r)) r r y (stays r) (record { role = refl; state = refl }))
 
 stays_held : IsHeld Stays
 stays_held = record { still = stays; next = stays_next }
@@ -215,15 +215,15 @@ stays_turns : (t : Timing) → HoldsTurns Stays t
 stays_turns t = record { held = stays_held; begins = stays_begun t; spreads = stays_spread t }
 
 -- from the fifth step to the end of the event
-stays_ready : (tick : Bool) (c : Context) (rows : List Row) → AllHold Stays (advanced_rows c rows) (map (sent c) (ready tick c rows))
+stays_ready : (tick : Bool) (c : Context) (rows : List Row) → AllHold Stays (before_turns c rows) (map (after_sending c) (ready tick c rows))
 stays_ready tick c rows =
-    let d = advanced_rows c rows in
+    let d = before_turns c rows in
     let e = turns c.timing d in
-    let g = greeted_all tick c e in
+    let g = after_hello_steps tick c e in
     let one : AllHold Stays d e = hold-turns Stays c.timing (stays_turns c.timing) (length d) d in
-    let two : AllHold Stays e g = hold-if Stays tick e (map (greeted c.timing) e) e (hold-map Stays (greeted c.timing) e (stays_greeted c.timing)) (hold-refl Stays stays_held e) in
-    let three : AllHold Stays g (map (sent c) g) = hold-map Stays (sent c) g (stays_sent c) in
-    hold-trans Stays stays_held d e (map (sent c) g) one (hold-trans Stays stays_held e g (map (sent c) g) two three)
+    let two : AllHold Stays e g = hold-if Stays tick e (map (after_hello_step c.timing) e) e (hold-map Stays (after_hello_step c.timing) e (stays_greeted c.timing)) (hold-refl Stays stays_held e) in
+    let three : AllHold Stays g (map (after_sending c) g) = hold-map Stays (after_sending c) g (stays_sent c) in
+    hold-trans Stays stays_held d e (map (after_sending c) g) one (hold-trans Stays stays_held e g (map (after_sending c) g) two three)
 
 -- the row at a place of a pass
 at_map : (P Q : Row → Type 0) (f : Row → Row) (xs : List Row) (k : ℕ) → k < length xs → ((r : Row) → P r → Q (f r)) → P (get_or xs k no_row) → Q (get_or (map f xs) k no_row)
@@ -234,22 +234,22 @@ at_if P true xs ys k h i = h
 at_if P false xs ys k h i = i
 
 -- its state, once all is sent
-started_at : (tick : Bool) (c : Context) (rows : List Row) (e : Bool) (k : ℕ) → k < length rows → 1 ≤ c.timing.forward_delay → IsNew e (get_or rows k no_row) → IsStarted (cond (c.timing.rstp_version && e) Forwarding Discarding) (get_or (map (sent c) (ready tick c rows)) k no_row)
+started_at : (tick : Bool) (c : Context) (rows : List Row) (e : Bool) (k : ℕ) → k < length rows → 1 ≤ c.timing.forward_delay → IsNew e (get_or rows k no_row) → IsStarted (cond (c.timing.rstp_version && e) Forwarding Discarding) (get_or (map (after_sending c) (ready tick c rows)) k no_row)
 started_at tick c rows e k b long h =
-    let a = map (turned c) rows in
-    let s = synced_all c a in
-    let d = advanced_rows c rows in
+    let a = map (after_first_transitions c) rows in
+    let s = after_synchronizations c a in
+    let d = before_turns c rows in
     let st = cond (c.timing.rstp_version && e) Forwarding Discarding in
-    let la : k < length a = omega (arith, b, length-map rows (turned c)) in
+    let la : k < length a = omega (arith, b, length-map rows (after_first_transitions c)) in
     let ls : k < length s = same_if _ a k la in
-    let ld : k < length d = omega (arith, ls, length-map s (advanced c (no_recent_root s))) in
-    let one : IsWaiting c e (get_or a k no_row) = at_map (IsNew e) (IsWaiting c e) (turned c) rows k b (turned_waiting c e) h in
-    let two : IsWaiting c e (get_or s k no_row) = at_if (IsWaiting c e) _ (map (synced c) a) a k (at_map (IsWaiting c e) (IsWaiting c e) (synced c) a k la (synced_waiting c e) one) one in
-    let three : IsStarted st (get_or d k no_row) = at_map (IsWaiting c e) (IsStarted st) (advanced c (no_recent_root s)) s k ls (λ r w. advanced_started c e (no_recent_root s) r long w) two in
+    let ld : k < length d = omega (arith, ls, length-map s (after_advance c (no_recent_root s))) in
+    let one : IsWaiting c e (get_or a k no_row) = at_map (IsNew e) (IsWaiting c e) (after_first_transitions c) rows k b (turned_waiting c e) h in
+    let two : IsWaiting c e (get_or s k no_row) = at_if (IsWaiting c e) _ (map (after_synchronization c) a) a k (at_map (IsWaiting c e) (IsWaiting c e) (after_synchronization c) a k la (synced_waiting c e) one) one in
+    let three : IsStarted st (get_or d k no_row) = at_map (IsWaiting c e) (IsStarted st) (after_advance c (no_recent_root s)) s k ls (λ r w. advanced_started c e (no_recent_root s) r long w) two in
     let last = (stays_ready tick c rows).at k ld in
     record { role = last.role ∙ three.role; state = last.state ∙ three.state } where
-      same_if : (t : Bool) (xs : List Row) (k : ℕ) → k < length xs → k < length (cond t (map (synced c) xs) xs)
-      same_if true xs k b = omega (arith, b, length-map xs (synced c))
+      same_if : (t : Bool) (xs : List Row) (k : ℕ) → k < length xs → k < length (cond t (map (after_synchronization c) xs) xs)
+      same_if true xs k b = omega (arith, b, length-map xs (after_synchronization c))
       same_if false xs k b = b
 
 -- What an event leaves of a port that starts anew, which is row r once the event has done its own part.
@@ -266,27 +266,27 @@ left_anew v tick was rows base u out k b number ends first =
     let c = ends.context in
     let own = own_id v base.address in
     let r = get_or rows k no_row in
-    let aged = map expired rows in
-    let ch = chosen own c.root aged in
+    let aged = map after_expiry rows in
+    let ch = rows_with_roles own c.root aged in
     let rd = ready tick c ch in
-    let last = map (sent c) rd in
-    let begun : AllHold IsFixed rows ch = fixed_chosen own c.root rows in
-    let all : AllHold IsFixed rows rd = hold-trans IsFixed fixed_held rows ch rd begun (fixed_ready tick c ch) in
-    let done : AllHold IsFixed rows last = hold-trans IsFixed fixed_held rows rd last all (hold-map IsFixed (sent c) rd (λ q. fixed_keeps q (sent c q) (sent-keeps c q))) in
+    let last = map (after_sending c) rd in
+    let after_begin : AllHold IsFixed rows ch = fixed_chosen own c.root rows in
+    let all : AllHold IsFixed rows rd = hold-trans IsFixed fixed_held rows ch rd after_begin (fixed_ready tick c ch) in
+    let done : AllHold IsFixed rows last = hold-trans IsFixed fixed_held rows rd last all (hold-map IsFixed (after_sending c) rd (λ q. fixed_keeps q (after_sending c q) (sent-keeps c q))) in
     let hd : k < length rd = omega (arith, b, all.same) in
     let hl : k < length ends.left = omega (arith, b, done.same, ap length ends.concludes.rows) in
     let port : get_or u.ports k no_row.port ≡ (get_or last k no_row).port = ap (λ (x : Tree). get_or x.ports k no_row.port) ends.tree ∙ (get_or-map (λ (q : Row). q.port) ends.left k no_row no_row.port hl ∙ ap (λ (rs : List Row). (get_or rs k no_row).port) ends.concludes.rows) in
     let place : (get_or rd k no_row).line.number ≡ 1 + k = omega (arith, numbered rows rd all number k hd) in
     let long : 1 ≤ c.timing.forward_delay = subst (λ (x : Context). 1 ≤ x.timing.forward_delay) (sym ends.concludes.context) (second_at_least _) in
     let version : c.timing.rstp_version ≡ rstp_version v = ap (λ (x : Context). x.timing.rstp_version) ends.concludes.context in
-    let lc : k < length ch = omega (arith, b, begun.same) in
+    let lc : k < length ch = omega (arith, b, after_begin.same) in
     record {
       flushed = subst (λ (ns : List ℕ). Contains ns (1 + k)) (sym ends.concludes.flushed) (contains_flushed rd k (1 + k) hd place ((all.at k b).flushed first.flushed));
       link = ap (λ (p : Port). p.link) port ∙ (done.at k b).link;
       started = λ on.
-          let la : k < length aged = omega (arith, b, length-map rows expired) in
-          let a : IsFirst r.line.edge (get_or aged k no_row) = at_map (IsFirst r.line.edge) (IsFirst r.line.edge) expired rows k b (expired_first r.line.edge) first in
-          let on_still : (get_or aged k no_row).line.on ≡ true = ap (λ (l : Line). l.on) ((hold-map IsFixed expired rows fixed_expired).at k b).line ∙ on in
+          let la : k < length aged = omega (arith, b, length-map rows after_expiry) in
+          let a : IsFirst r.line.edge (get_or aged k no_row) = at_map (IsFirst r.line.edge) (IsFirst r.line.edge) after_expiry rows k b (expired_first r.line.edge) first in
+          let on_still : (get_or aged k no_row).line.on ≡ true = ap (λ (l : Line). l.on) ((hold-map IsFixed after_expiry rows fixed_expired).at k b).line ∙ on in
           let is : get_or ch k no_row ≡ with_role own c.root (get_or aged k no_row) = get_or-map (with_role own c.root) aged k no_row no_row la in
           let new : IsNew r.line.edge (get_or ch k no_row) = subst (IsNew r.line.edge) (sym is) (role_new own c.root r.line.edge (get_or aged k no_row) on_still a) in
           let st : IsStarted (cond (c.timing.rstp_version && r.line.edge) Forwarding Discarding) (get_or last k no_row) = started_at tick c ch r.line.edge k lc long new in (
@@ -341,11 +341,11 @@ differ true false h = refl
 differ false true h = refl
 differ false false h = absurd (h refl)
 
-linked_first : (n : ℕ) (up : Bool) (q : Row) → q.line.number ≡ n → q.line.enabled ≡ true → q.port.link ≢ up → (let p = linked n up q in IsFirst p.line.edge p)
+linked_first : (n : ℕ) (up : Bool) (q : Row) → q.line.number ≡ n → q.line.enabled ≡ true → q.port.link ≢ up → (let p = after_link n up q in IsFirst p.line.edge p)
 linked_first n up q number enabled link =
     let s = record q { line = record q.line { on = q.line.enabled && up }; port = record q.port { link = up } } in
     let test : (eqb q.line.number n && not (cond up q.port.link (not q.port.link))) ≡ true = (λ i. eqb (number i) n && differ up q.port.link link i) ∙ ap (λ (b : Bool). b && true) (same_number n) in
-    let is : linked n up q ≡ restarted s = first_of _ (switched up q) q test ∙ first_of q.line.enabled (restarted s) s enabled in
+    let is : after_link n up q ≡ after_restart s = first_of _ (after_switch up q) q test ∙ first_of q.line.enabled (after_restart s) s enabled in
     subst (λ (p : Row). IsFirst p.line.edge p) (sym is) (restarted_first s)
 
 -- what settling finds
@@ -359,24 +359,24 @@ first_both : (b : Bool) (x y : Row) → IsFirst x.line.edge x → IsFirst y.line
 first_both true x y h i = h
 first_both false x y h i = i
 
-settled_first : (v : Bool) (q : Row) → is_renewed v q ≡ true → (let p = settled_anew v q in IsFirst p.line.edge p)
+settled_first : (v : Bool) (q : Row) → is_renewed v q ≡ true → (let p = after_settling v q in IsFirst p.line.edge p)
 settled_first v q test =
-    let x = renewed v q in
-    let y = edged x in
-    let one : IsFirst x.line.edge x = subst (λ (p : Row). IsFirst p.line.edge p) (sym (first_of (is_renewed v q) (restarted q) q test)) (restarted_first q) in
+    let x = after_renewal v q in
+    let y = after_edge_setting x in
+    let one : IsFirst x.line.edge x = subst (λ (p : Row). IsFirst p.line.edge p) (sym (first_of (is_renewed v q) (after_restart q) q test)) (restarted_first q) in
     let x1 : Row = record x { port = record x.port { edge = x.line.edge } } in
     let y1 : Row = record y { port = record y.port { send_rstp = true } } in
     let two : IsFirst y.line.edge y = first_both (cond x.line.edge (not x.line.was_edge) x.line.was_edge) x1 x (record { info = one.info; was = one.was; state = one.state; agreed = one.agreed; edge = refl; flushed = one.flushed }) one in
     first_both y.line.migrate y1 y (record { info = two.info; was = two.was; state = two.state; agreed = two.agreed; edge = two.edge; flushed = two.flushed }) two
 
 -- a port that starts anew loses its learned rows
-pub restarts_flush : (s r : Table) (t u : Tree) (h : Happening) (out : Outcome) → IsLegal s t → Happens h s t r u out → (n : ℕ) → IsPort t n → Restarts h s t n → Contains out.flushed.items n × IsAnew r u n
+pub restarts_flush : (s r : Table) (t u : Tree) (h : Happening) (out : Outcome) → IsLegal s t → Happens h s t r u out → (n : ℕ) → HasPort t n → Restarts h s t n → Contains out.flushed.items n × IsAnew r u n
 restarts_flush s r t u h out legal happens n port restarts = to (by h happens restarts) where
   at : 1 + (n - 1) ≡ n
-  at = omega (arith, port.first)
+  at = omega (arith, port.0)
 
   within : n - 1 < length t.ports
-  within = omega (arith, port.first, port.last)
+  within = omega (arith, port.0, port.1)
 
   after : IsLegal r u
   after = happening_legal h s r t u out legal happens
@@ -411,7 +411,7 @@ restarts_flush s r t u h out legal happens n port restarts = to (by h happens re
   by (Link m up) e x =
       let number : 1 + (n - 1) ≡ m = at ∙ sym x.0 in
       let enabled : enabled_by s (1 + (n - 1)) ≡ true = ap (enabled_by s) at ∙ x.1 in
-      finish s r _ _ _ t t u out (n - 1) within (own_part s t ready_of (Link m up)) (subst (Alike s) (sym e.0) (alike s)) (ap rstp_version e.0) e.1 (first s (linked m up) (linked_first m up (row_at s t (n - 1)) number enabled x.2)) after there
+      finish s r _ _ _ t t u out (n - 1) within (own_part s t ready_of (Link m up)) (subst (Alike s) (sym e.0) (alike s)) (ap rstp_version e.0) e.1 (first s (after_link m up) (linked_first m up (row_at s t (n - 1)) number enabled x.2)) after there
   by (Settle v) e x =
       let other = has_other_version v t.settled in
       let q = row_at v t (n - 1) in
@@ -422,4 +422,4 @@ restarts_flush s r t u h out legal happens n port restarts = to (by h happens re
             let now : q.line.enabled ≡ enabled_by v n = ap (enabled_by v) at in
             (λ i. other || (d.0 i && cond (now i) (not (was i)) (was i))) ∙ (ap (λ (b : Bool). other || b) (changed (enabled_by v n) (enabled_by s n) d.1) ∙ or_true other)
       ] in
-      finish v r _ _ _ t (record t { settled = settled_of v }) u out (n - 1) within (own_part s t ready_of (Settle v)) (subst (Alike v) (sym e.0) (spent_alike v)) (ap rstp_version e.0) e.1 (first v (settled_anew other) (settled_first other q found)) after there
+      finish v r _ _ _ t (record t { settled = settled_of v }) u out (n - 1) within (own_part s t ready_of (Settle v)) (subst (Alike v) (sym e.0) (spent_alike v)) (ap rstp_version e.0) e.1 (first v (after_settling other) (settled_first other q found)) after there

@@ -6,7 +6,7 @@ use Rattle.std.proofs.lemmas.Bool.Decides.{eqb_tells}
 use Rattle.frame_core.specs.declared.bpdu.BridgeId.{BridgeId}
 use Rattle.frame_core.specs.declared.bpdu.PriorityVector.{PriorityVector}
 use Rattle.rstp_settings.specs.Table.{Table}
-use Rattle.rstp_rules.specs.declared.config.PortConfig.{PortConfig}
+use Rattle.rstp_settings.specs.declared.config.PortConfig.{PortConfig}
 use Rattle.rstp_rules.specs.declared.settled.SettledPort.{SettledPort}
 use Rattle.rstp_rules.specs.declared.port.Info.{Info}
 use Rattle.rstp_rules.specs.declared.port.Info.TheVariants.{Mine, Received}
@@ -23,7 +23,7 @@ use Rattle.rstp_rules.specs.Lines.{line_of}
 use Rattle.rstp_rules.specs.Vectors.{vector_cmp}
 use Rattle.frame_core.specs.Octets.{same_mac}
 use Rattle.rstp_rules.specs.Roles.{with_role}
-use Rattle.rstp_rules.specs.Transitions.{has_changed_role, blocked, turned}
+use Rattle.rstp_rules.specs.Transitions.{has_changed_role, after_blocking, after_first_transitions}
 use Rattle.rstp_core.proofs.Keeps.{IsStill, Keeps, turned-keeps}
 use Rattle.rstp_core.proofs.Fresh.{IsFresh}
 
@@ -247,7 +247,7 @@ Done-if : (s : Table) (w : SettledPort) (n : ℕ) (c : PortConfig) (st : State) 
 Done-if s w n c st own best a true x y h i = h refl
 Done-if s w n c st own best a false x y h i = i refl
 
-blocked-done : (s : Table) (w : SettledPort) (n : ℕ) (c : PortConfig) (st : State) (own : BridgeId) (best : Best) (a r : Row) → IsFresh s w n c st a → Roles own best a r → IsDone s w n c st own best a (blocked r)
+blocked-done : (s : Table) (w : SettledPort) (n : ℕ) (c : PortConfig) (st : State) (own : BridgeId) (best : Best) (a r : Row) → IsFresh s w n c st a → Roles own best a r → IsDone s w n c st own best a (after_blocking r)
 blocked-done s w n c st own best a r f h =
     Done-if s w n c st own best a _ _ r (λ _. record { line = line; still = λ _. refl; chosen = chosen-keeps own best r _ h.chosen refl refl refl refl refl; less = h.less; root = h.root; left = λ _ _. refl }) (λ not_so. record { line = line; still = λ i. still not_so i; chosen = h.chosen; less = h.less; root = h.root; left = λ k i. left not_so k i }) where
       line : r.line ≡ line_of s w n c r.port.link
@@ -273,7 +273,7 @@ blocked-done s w n c st own best a r f h =
       ]
 
 -- from the event's own part to the states
-pub turned-done : (s : Table) (w : SettledPort) (n : ℕ) (p : PortConfig) (st : State) (own : BridgeId) (best : Best) (c : Context) (a : Row) → IsFresh s w n p st a → IsDone s w n p st own best a (turned c (with_role own best a))
+pub turned-done : (s : Table) (w : SettledPort) (n : ℕ) (p : PortConfig) (st : State) (own : BridgeId) (best : Best) (c : Context) (a : Row) → IsFresh s w n p st a → IsDone s w n p st own best a (after_first_transitions c (with_role own best a))
 turned-done s w n p st own best c a f =
     let r = with_role own best a in
-    Done-keeps s w n p st own best a (blocked r) (turned c r) (blocked-done s w n p st own best a r f (with_role-roles own best a)) (turned-keeps c r)
+    Done-keeps s w n p st own best a (after_blocking r) (after_first_transitions c r) (blocked-done s w n p st own best a r f (with_role-roles own best a)) (turned-keeps c r)

@@ -3,7 +3,7 @@ use Rattle.std.proofs.Common.{◌≡◌, ℕ, ◌+◌, ◌-◌, ◌<◌, ◌≤�
 use Rattle.std.proofs.lemmas.List.Elements.{All-get_or}
 use Rattle.frame_core.specs.declared.mac.Mac.{Mac}
 use Rattle.rstp_settings.specs.Table.{Table, opening}
-use Rattle.rstp_rules.specs.declared.config.PortConfig.{PortConfig}
+use Rattle.rstp_settings.specs.declared.config.PortConfig.{PortConfig}
 use Rattle.rstp_rules.specs.Ports.{is_root_or_designated, is_discarding, is_forwarding}
 use Rattle.rstp_rules.specs.Lines.{enabled_by}
 use Rattle.rstp_rules.specs.declared.port.State.{State}

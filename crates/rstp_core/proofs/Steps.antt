@@ -2,7 +2,7 @@ use Rattle.std.proofs.Math.Numerals.{one-add}
 use Rattle.rstp_settings.specs.Table.{Table}
 use Rattle.rstp_rules.specs.declared.port.Port.{Port}
 use Rattle.rstp_rules.specs.declared.row.Row.{Row}
-use Rattle.rstp_rules.specs.declared.config.PortConfig.{PortConfig}
+use Rattle.rstp_settings.specs.declared.config.PortConfig.{PortConfig}
 use Rattle.rstp_rules.specs.Lines.{row_of}
 use Rattle.rstp_core.specs.Settled.{SettledValues, settled_port}
 use Rattle.rstp_core.specs.Tree.{rows_from}

@@ -22,7 +22,8 @@ use Rattle.rstp_rules.specs.declared.row.Best.{Best}
 use Rattle.rstp_rules.specs.Ports.{is_received, is_root_or_designated}
 use Rattle.rstp_rules.specs.Vectors.{port_number, bridge_cmp}
 use Rattle.frame_core.specs.Octets.{same_mac}
-use Rattle.rstp_rules.specs.Lines.{own_id, cost_in_use, no_config}
+use Rattle.rstp_rules.specs.Lines.{own_id}
+use Rattle.rstp_settings.specs.Config.{cost_in_use, no_config}
 use Rattle.rstp_rules.specs.Roles.{candidate, candidates, own_best, beats}
 use Rattle.rstp_rules.specs.Turns.{no_row}
 use Rattle.rstp_core.specs.declared.rstp.Outcome.{Outcome}
@@ -76,7 +77,7 @@ record IsRootAt (s : Table) (t : Tree) (k : ℕ) : Type 0 where
 root_at : (s : Table) (t : Tree) → IsLegal s t → (n : ℕ) → IsRootPort t n → IsRootAt s t (n - 1)
 root_at s t h n p =
     let k = n - 1 in
-    let within : k < length t.ports = omega (arith, p.port.first, p.port.last) in
+    let within : k < length t.ports = omega (arith, p.has_port.0, p.has_port.1) in
     let q = row_at s t k in
     let own = own_id s t.address in
     let best = t.facts.root in
@@ -91,7 +92,7 @@ one_root_port s t h small m n p q =
     let one = root_at s t h m p in
     let two = root_at s t h n q in
     let same : 1 + (m - 1) ≡ 1 + (n - 1) = same_place _ _ _ _ _ one.receiver two.receiver (omega (arith, one.within, small)) (omega (arith, two.within, small)) in
-    omega (arith, same, p.port.first, q.port.first)
+    omega (arith, same, p.has_port.0, q.has_port.0)
 
 -- what a row offers
 record IsOffer (own : BridgeId) (r : Row) (b : Best) : Type 0 where
@@ -151,7 +152,7 @@ offered_root s t h k o =
     let role = sym (row_role own best q (row_chosen s t h k o.within)) ∙ choice-first q.line.on _ _ _ (own_vector own best q.line.id) q.port.info q.port.vector o.offered.on o.offered.received first in
     let place : (1 + k) - 1 ≡ k = omega arith in
     record {
-      port = record { first = omega arith; last = omega (arith, o.within) };
+      has_port = (omega arith, omega (arith, o.within));
       root = ap (λ (i : ℕ). (get_or t.ports i no_row.port).role) place ∙ role;
     }
 
@@ -212,7 +213,7 @@ pub leaving_flushes : (s r : Table) (t u : Tree) (h : Happening) (out : Outcome)
 leaving_flushes s r t u h out legal happens n leaves =
     let event = event_of s t (legal_ready s t legal) h r u out happens in
     let k = n - 1 in
-    let here : k < length t.ports = omega (arith, leaves.port.first, leaves.port.last) in
+    let here : k < length t.ports = omega (arith, leaves.has_port.0, leaves.has_port.1) in
     let left = Left-at event.0 r t u out event.1 k here in
-    let at : 1 + k ≡ n = omega (arith, leaves.port.first) in
+    let at : 1 + k ≡ n = omega (arith, leaves.has_port.0) in
     subst (λ (m : ℕ). Contains out.flushed.items m) at (left.flushed leaves.learned (ap (λ (p : Port). is_root_or_designated p.role) (sym left.port) ∙ leaves.now))

@@ -7,8 +7,8 @@ use Rattle.std.proofs.lemmas.Bool.Decides.{eqb_tells}
 use Rattle.rstp_rules.specs.declared.row.Row.{Row}
 use Rattle.rstp_rules.specs.declared.row.Timing.{Timing}
 use Rattle.rstp_rules.specs.Ports.{is_root_or_designated}
-use Rattle.rstp_rules.specs.Transitions.{has_begun, counted, started, spread, change_time}
-use Rattle.rstp_rules.specs.Turns.{no_row, spread_but, begun, turn_at, first_turns, turns, starts_change, another_starts, told_of_changes, AreDistinct}
+use Rattle.rstp_rules.specs.Transitions.{has_begun, with_transition_counted, with_change_started, with_change_spread, change_time}
+use Rattle.rstp_rules.specs.Turns.{no_row, with_change_spread_but, after_begin, turn_at, first_turns, turns, starts_change, another_starts, with_changes_told, AreDistinct}
 
 -- conditions
 if_const : {X Y : Type 0} (f : X → Y) (b : Bool) (x y : X) (v : Y) → f x ≡ v → f y ≡ v → f (cond b x y) ≡ v
@@ -49,83 +49,83 @@ start t r = record r { port = record r.port { change_while = change_time t r; pe
 abbrev hears : Row → Bool
 hears r = r.line.on && is_root_or_designated r.port.role && not r.port.edge
 
-turned_start : (t : Timing) (r : Row) → IsTurned r (started t r)
+turned_start : (t : Timing) (r : Row) → IsTurned r (with_change_started t r)
 turned_start t r = turned_if _ r (start t r) r (record { number = refl; begins = refl; edge = refl; hears = refl }) (turned_refl r)
 
-turned_spread : (t : Timing) (r : Row) → IsTurned r (spread t r)
+turned_spread : (t : Timing) (r : Row) → IsTurned r (with_change_spread t r)
 turned_spread t r =
     let h = turned_start t r in
-    turned_if _ r (flush (started t r)) r (record { number = h.number; begins = h.begins; edge = h.edge; hears = h.hears }) (turned_refl r)
+    turned_if _ r (flush (with_change_started t r)) r (record { number = h.number; begins = h.begins; edge = h.edge; hears = h.hears }) (turned_refl r)
 
-turned_begun : (t : Timing) (r : Row) → IsTurned r (begun t r)
+turned_begun : (t : Timing) (r : Row) → IsTurned r (after_begin t r)
 turned_begun t r =
-    let h = turned_start t (counted r) in
-    turned_if _ r (counted r) (started t (counted r)) (record { number = refl; begins = refl; edge = refl; hears = refl }) (record { number = h.number; begins = h.begins; edge = h.edge; hears = h.hears })
+    let h = turned_start t (with_transition_counted r) in
+    turned_if _ r (with_transition_counted r) (with_change_started t (with_transition_counted r)) (record { number = refl; begins = refl; edge = refl; hears = refl }) (record { number = h.number; begins = h.begins; edge = h.edge; hears = h.hears })
 
 -- a change that starts twice starts once
-started_twice : (t : Timing) (r : Row) (z : Bool) → eqb r.port.change_while 0 ≡ z → started t (started t r) ≡ started t r
+started_twice : (t : Timing) (r : Row) (z : Bool) → eqb r.port.change_while 0 ≡ z → with_change_started t (with_change_started t r) ≡ with_change_started t r
 started_twice t r true e =
-    let one : started t r ≡ start t r = ap (λ b. cond b (start t r) r) e in
-    ap (started t) one ∙ (if_same (eqb (change_time t r) 0) (start t r) ∙ sym one)
+    let one : with_change_started t r ≡ start t r = ap (λ b. cond b (start t r) r) e in
+    ap (with_change_started t) one ∙ (if_same (eqb (change_time t r) 0) (start t r) ∙ sym one)
 started_twice t r false e =
-    let one : started t r ≡ r = ap (λ b. cond b (start t r) r) e in
-    ap (started t) one
+    let one : with_change_started t r ≡ r = ap (λ b. cond b (start t r) r) e in
+    ap (with_change_started t) one
 
 -- starting, counting and flushing in any order
-started_flush : (t : Timing) (r : Row) → started t (flush r) ≡ flush (started t r)
+started_flush : (t : Timing) (r : Row) → with_change_started t (flush r) ≡ flush (with_change_started t r)
 started_flush t r = sym (if_push flush (eqb r.port.change_while 0) (start t r) r)
 
-counted_started : (t : Timing) (r : Row) → counted (started t r) ≡ started t (counted r)
-counted_started t r = if_push counted (eqb r.port.change_while 0) (start t r) r
+counted_started : (t : Timing) (r : Row) → with_transition_counted (with_change_started t r) ≡ with_change_started t (with_transition_counted r)
+counted_started t r = if_push with_transition_counted (eqb r.port.change_while 0) (start t r) r
 
-spread_if : (t : Timing) (r : Row) (h : Bool) → hears r ≡ h → spread t r ≡ cond h (flush (started t r)) r
-spread_if t r h e = ap (λ b. cond b (flush (started t r)) r) e
+spread_if : (t : Timing) (r : Row) (h : Bool) → hears r ≡ h → with_change_spread t r ≡ cond h (flush (with_change_started t r)) r
+spread_if t r h e = ap (λ b. cond b (flush (with_change_started t r)) r) e
 
 -- a change that is told twice is told once
-spread_twice : (t : Timing) (r : Row) (h : Bool) → hears r ≡ h → spread t (spread t r) ≡ spread t r
-spread_twice t r false e = ap (spread t) (spread_if t r false e)
+spread_twice : (t : Timing) (r : Row) (h : Bool) → hears r ≡ h → with_change_spread t (with_change_spread t r) ≡ with_change_spread t r
+spread_twice t r false e = ap (with_change_spread t) (spread_if t r false e)
 spread_twice t r true e =
-    let y = flush (started t r) in
-    let one : spread t r ≡ y = spread_if t r true e in
+    let y = flush (with_change_started t r) in
+    let one : with_change_spread t r ≡ y = spread_if t r true e in
     let heard : hears y ≡ true = (turned_start t r).hears ∙ e in
-    let two : spread t y ≡ flush (started t y) = spread_if t y true heard in
-    ap (spread t) one ∙ (two ∙ (ap flush (started_flush t (started t r) ∙ ap flush (started_twice t r (eqb r.port.change_while 0) refl)) ∙ sym one))
+    let two : with_change_spread t y ≡ flush (with_change_started t y) = spread_if t y true heard in
+    ap (with_change_spread t) one ∙ (two ∙ (ap flush (started_flush t (with_change_started t r) ∙ ap flush (started_twice t r (eqb r.port.change_while 0) refl)) ∙ sym one))
 
 abbrev begun_by : Timing → Bool → Row → Row
-begun_by t edge r = cond edge (counted r) (started t (counted r))
+begun_by t edge r = cond edge (with_transition_counted r) (with_change_started t (with_transition_counted r))
 
 -- a port that is told of a change and then begins to forward is as one that begins and is then told
-begun_told : (t : Timing) (r : Row) (edge : Bool) → r.port.edge ≡ edge → hears r ≡ true → begun t (flush (started t r)) ≡ flush (started t (begun_by t edge r))
+begun_told : (t : Timing) (r : Row) (edge : Bool) → r.port.edge ≡ edge → hears r ≡ true → after_begin t (flush (with_change_started t r)) ≡ flush (with_change_started t (begun_by t edge r))
 begun_told t r true e h =
-    let y = flush (started t r) in
+    let y = flush (with_change_started t r) in
     let at : y.port.edge ≡ true = (turned_start t r).edge ∙ e in
     ap (λ b. begun_by t b y) at ∙ ap flush (counted_started t r)
 begun_told t r false e h =
-    let y = flush (started t r) in
+    let y = flush (with_change_started t r) in
     let at : y.port.edge ≡ false = (turned_start t r).edge ∙ e in
-    ap (λ b. begun_by t b y) at ∙ (ap (started t) (ap flush (counted_started t r)) ∙ started_flush t (started t (counted r)))
+    ap (λ b. begun_by t b y) at ∙ (ap (with_change_started t) (ap flush (counted_started t r)) ∙ started_flush t (with_change_started t (with_transition_counted r)))
 
-begun_spread : (t : Timing) (r : Row) (h : Bool) → hears r ≡ h → begun t (spread t r) ≡ spread t (begun t r)
+begun_spread : (t : Timing) (r : Row) (h : Bool) → hears r ≡ h → after_begin t (with_change_spread t r) ≡ with_change_spread t (after_begin t r)
 begun_spread t r false e =
-    ap (begun t) (spread_if t r false e) ∙ sym (spread_if t (begun t r) false ((turned_begun t r).hears ∙ e))
+    ap (after_begin t) (spread_if t r false e) ∙ sym (spread_if t (after_begin t r) false ((turned_begun t r).hears ∙ e))
 begun_spread t r true e =
-    ap (begun t) (spread_if t r true e) ∙ (begun_told t r r.port.edge refl e ∙ sym (spread_if t (begun t r) true ((turned_begun t r).hears ∙ e)))
+    ap (after_begin t) (spread_if t r true e) ∙ (begun_told t r r.port.edge refl e ∙ sym (spread_if t (after_begin t r) true ((turned_begun t r).hears ∙ e)))
 
 -- A port after some turns: its own is among them or not, and so is that of another port that starts a change.
 abbrev stage : Timing → Bool → Bool → Row → Row
-stage t own another r = cond another (spread t (cond own (begun t r) r)) (cond own (begun t r) r)
+stage t own another r = cond another (with_change_spread t (cond own (after_begin t r) r)) (cond own (after_begin t r) r)
 
 turned_stage : (t : Timing) (own another : Bool) (r : Row) → IsTurned r (stage t own another r)
 turned_stage t own another r =
-    let x = cond own (begun t r) r in
-    let h = turned_if own r (begun t r) r (turned_begun t r) (turned_refl r) in
-    turned_if another r (spread t x) x (turned_trans r x (spread t x) h (turned_spread t x)) h
+    let x = cond own (after_begin t r) r in
+    let h = turned_if own r (after_begin t r) r (turned_begun t r) (turned_refl r) in
+    turned_if another r (with_change_spread t x) x (turned_trans r x (with_change_spread t x) h (turned_spread t x)) h
 
-stage_told : (t : Timing) (own another : Bool) (r : Row) → spread t (stage t own another r) ≡ stage t own true r
+stage_told : (t : Timing) (own another : Bool) (r : Row) → with_change_spread t (stage t own another r) ≡ stage t own true r
 stage_told t own false r = refl
-stage_told t own true r = let x = cond own (begun t r) r in spread_twice t x (hears x) refl
+stage_told t own true r = let x = cond own (after_begin t r) r in spread_twice t x (hears x) refl
 
-stage_begun : (t : Timing) (another : Bool) (r : Row) → begun t (stage t false another r) ≡ stage t true another r
+stage_begun : (t : Timing) (another : Bool) (r : Row) → after_begin t (stage t false another r) ≡ stage t true another r
 stage_begun t false r = refl
 stage_begun t true r = begun_spread t r (hears r) refl
 
@@ -212,16 +212,16 @@ stays t xs n k h begins calm =
     λ i. stage t (own i) (sym (quiet xs r n h calm) i) r
 
 -- the port whose turn it is begins to forward
-begins_here : (t : Timing) (xs : List Row) (k : ℕ) → k < length xs → has_begun (get_or xs k no_row) ≡ true → begun t (staged t xs k k) ≡ staged t xs (suc k) k
+begins_here : (t : Timing) (xs : List Row) (k : ℕ) → k < length xs → has_begun (get_or xs k no_row) ≡ true → after_begin t (staged t xs k k) ≡ staged t xs (suc k) k
 begins_here t xs k h b =
     let r = get_or xs k no_row in
     let before : took (has_begun r) k k ≡ false = took_none (has_begun r) k k (omega arith) in
     let after : true ≡ took (has_begun r) k (suc k) = sym (took_here (has_begun r) k ∙ b) in
     let another = list_any (other r) (take k xs) in
-    ap (λ (o : Bool). begun t (stage t o another r)) before ∙ (stage_begun t another r ∙ (λ i. stage t (after i) (sym (quiet xs r k h (not_itself r)) i) r))
+    ap (λ (o : Bool). after_begin t (stage t o another r)) before ∙ (stage_begun t another r ∙ (λ i. stage t (after i) (sym (quiet xs r k h (not_itself r)) i) r))
 
 -- another port is told
-told_there : (t : Timing) (xs : List Row) (n k : ℕ) → n < length xs → n ≢ k → other (get_or xs k no_row) (get_or xs n no_row) ≡ true → spread t (staged t xs n k) ≡ staged t xs (suc n) k
+told_there : (t : Timing) (xs : List Row) (n k : ℕ) → n < length xs → n ≢ k → other (get_or xs k no_row) (get_or xs n no_row) ≡ true → with_change_spread t (staged t xs n k) ≡ staged t xs (suc n) k
 told_there t xs n k h d starts =
     let r = get_or xs k no_row in
     let now : true ≡ list_any (other r) (take (suc n) xs) = sym (one_more xs r n h ∙ (ap (λ (b : Bool). list_any (other r) (take n xs) || b) starts ∙ or_true (list_any (other r) (take n xs)))) in
@@ -245,61 +245,61 @@ turn_staged t xs ys n distinct h s = by (has_begun x) (x.port.edge) refl refl wh
     r = get_or ys n no_row
 
     one : List Row
-    one = set ys n (begun t (get_or ys n no_row))
+    one = set ys n (after_begin t (get_or ys n no_row))
 
     kept : IsTurned (get_or xs n no_row) (get_or ys n no_row)
     kept = staged_turned t xs ys n n s h
 
-    turned : turn_at t ys n ≡ cond b (cond e (set ys n (begun t (get_or ys n no_row))) (map (spread_but t (get_or ys n no_row).line.number) (set ys n (begun t (get_or ys n no_row))))) ys
-    turned = λ i. cond ((kept.begins ∙ hb) i) (cond ((kept.edge ∙ he) i) (set ys n (begun t (get_or ys n no_row))) (map (spread_but t (get_or ys n no_row).line.number) (set ys n (begun t (get_or ys n no_row))))) ys
+    turned : turn_at t ys n ≡ cond b (cond e (set ys n (after_begin t (get_or ys n no_row))) (map (with_change_spread_but t (get_or ys n no_row).line.number) (set ys n (after_begin t (get_or ys n no_row))))) ys
+    turned = λ i. cond ((kept.begins ∙ hb) i) (cond ((kept.edge ∙ he) i) (set ys n (after_begin t (get_or ys n no_row))) (map (with_change_spread_but t (get_or ys n no_row).line.number) (set ys n (after_begin t (get_or ys n no_row))))) ys
 
     within : n < length ys
     within = omega (arith, h, s.same)
 
-    here : get_or (set ys n (begun t (get_or ys n no_row))) n no_row ≡ begun t (get_or ys n no_row)
-    here = get_or-set_same ys n (begun t (get_or ys n no_row)) no_row within
+    here : get_or (set ys n (after_begin t (get_or ys n no_row))) n no_row ≡ after_begin t (get_or ys n no_row)
+    here = get_or-set_same ys n (after_begin t (get_or ys n no_row)) no_row within
 
-    begun_at : has_begun (get_or xs n no_row) ≡ true → begun t (get_or ys n no_row) ≡ staged t xs (suc n) n
-    begun_at begins = ap (begun t) (s.at n h) ∙ begins_here t xs n h begins
+    begun_at : has_begun (get_or xs n no_row) ≡ true → after_begin t (get_or ys n no_row) ≡ staged t xs (suc n) n
+    begun_at begins = ap (after_begin t) (s.at n h) ∙ begins_here t xs n h begins
 
-    set_at : has_begun (get_or xs n no_row) ≡ true → (k : ℕ) → k < length xs → (n ≢ k → get_or ys k no_row ≡ staged t xs (suc n) k) → get_or (set ys n (begun t (get_or ys n no_row))) k no_row ≡ staged t xs (suc n) k
+    set_at : has_begun (get_or xs n no_row) ≡ true → (k : ℕ) → k < length xs → (n ≢ k → get_or ys k no_row ≡ staged t xs (suc n) k) → get_or (set ys n (after_begin t (get_or ys n no_row))) k no_row ≡ staged t xs (suc n) k
     set_at begins k b there = elim (eqb_tells n k) [
-      | inl q ↦ subst (λ (m : ℕ). get_or (set ys n (begun t (get_or ys n no_row))) m no_row ≡ staged t xs (suc n) m) q.1 (here ∙ begun_at begins)
-      | inr d ↦ get_or-set_other ys n k (begun t (get_or ys n no_row)) no_row (λ q. d.1 (sym q)) ∙ there d.1
+      | inl q ↦ subst (λ (m : ℕ). get_or (set ys n (after_begin t (get_or ys n no_row))) m no_row ≡ staged t xs (suc n) m) q.1 (here ∙ begun_at begins)
+      | inr d ↦ get_or-set_other ys n k (after_begin t (get_or ys n no_row)) no_row (λ q. d.1 (sym q)) ∙ there d.1
     ]
 
-    spread_at : has_begun (get_or xs n no_row) ≡ true → (get_or xs n no_row).port.edge ≡ false → (k : ℕ) → k < length xs → spread_but t (get_or ys n no_row).line.number (get_or (set ys n (begun t (get_or ys n no_row))) k no_row) ≡ staged t xs (suc n) k
+    spread_at : has_begun (get_or xs n no_row) ≡ true → (get_or xs n no_row).port.edge ≡ false → (k : ℕ) → k < length xs → with_change_spread_but t (get_or ys n no_row).line.number (get_or (set ys n (after_begin t (get_or ys n no_row))) k no_row) ≡ staged t xs (suc n) k
     spread_at begins edge k b = elim (eqb_tells n k) [
-      | inl q ↦ subst (λ (m : ℕ). spread_but t (get_or ys n no_row).line.number (get_or (set ys n (begun t (get_or ys n no_row))) m no_row) ≡ staged t xs (suc n) m) q.1 itself
-      | inr d ↦ ap (spread_but t (get_or ys n no_row).line.number) (get_or-set_other ys n k (begun t (get_or ys n no_row)) no_row (λ q. d.1 (sym q))) ∙ another d.1
+      | inl q ↦ subst (λ (m : ℕ). with_change_spread_but t (get_or ys n no_row).line.number (get_or (set ys n (after_begin t (get_or ys n no_row))) m no_row) ≡ staged t xs (suc n) m) q.1 itself
+      | inr d ↦ ap (with_change_spread_but t (get_or ys n no_row).line.number) (get_or-set_other ys n k (after_begin t (get_or ys n no_row)) no_row (λ q. d.1 (sym q))) ∙ another d.1
     ] where
-      itself : spread_but t (get_or ys n no_row).line.number (get_or (set ys n (begun t (get_or ys n no_row))) n no_row) ≡ staged t xs (suc n) n
+      itself : with_change_spread_but t (get_or ys n no_row).line.number (get_or (set ys n (after_begin t (get_or ys n no_row))) n no_row) ≡ staged t xs (suc n) n
       itself =
-          let y = begun t (get_or ys n no_row) in
+          let y = after_begin t (get_or ys n no_row) in
           let number : eqb y.line.number (get_or ys n no_row).line.number ≡ true = ap (λ (m : ℕ). eqb m (get_or ys n no_row).line.number) (turned_begun t (get_or ys n no_row)).number ∙ same_number (get_or ys n no_row).line.number in
-          ap (spread_but t (get_or ys n no_row).line.number) here ∙ (ap (λ (c : Bool). cond c y (spread t y)) number ∙ begun_at begins)
+          ap (with_change_spread_but t (get_or ys n no_row).line.number) here ∙ (ap (λ (c : Bool). cond c y (with_change_spread t y)) number ∙ begun_at begins)
 
       starts : n ≢ k → other (get_or xs k no_row) (get_or xs n no_row) ≡ true
       starts d = λ i. not (differ xs distinct n k h b d i) && (begins i && not (edge i))
 
-      another : n ≢ k → spread_but t (get_or ys n no_row).line.number (get_or ys k no_row) ≡ staged t xs (suc n) k
+      another : n ≢ k → with_change_spread_but t (get_or ys n no_row).line.number (get_or ys k no_row) ≡ staged t xs (suc n) k
       another d =
           let y = get_or ys k no_row in
           let number : eqb y.line.number (get_or ys n no_row).line.number ≡ false = (λ i. eqb ((staged_turned t xs ys n k s b).number i) (kept.number i)) ∙ differ xs distinct k n b h (λ q. d (sym q)) in
-          ap (λ (c : Bool). cond c y (spread t y)) number ∙ (ap (spread t) (s.at k b) ∙ told_there t xs n k h d (starts d))
+          ap (λ (c : Bool). cond c y (with_change_spread t y)) number ∙ (ap (with_change_spread t) (s.at k b) ∙ told_there t xs n k h d (starts d))
 
-    cases : (b e : Bool) → has_begun (get_or xs n no_row) ≡ b → (get_or xs n no_row).port.edge ≡ e → IsStaged t xs (cond b (cond e (set ys n (begun t (get_or ys n no_row))) (map (spread_but t (get_or ys n no_row).line.number) (set ys n (begun t (get_or ys n no_row))))) ys) (suc n)
+    cases : (b e : Bool) → has_begun (get_or xs n no_row) ≡ b → (get_or xs n no_row).port.edge ≡ e → IsStaged t xs (cond b (cond e (set ys n (after_begin t (get_or ys n no_row))) (map (with_change_spread_but t (get_or ys n no_row).line.number) (set ys n (after_begin t (get_or ys n no_row))))) ys) (suc n)
     cases false e hb he = record {
       same = s.same;
       at = λ k b. s.at k b ∙ stays t xs n k h (λ q. ap (λ (m : ℕ). has_begun (get_or xs m no_row)) (sym q) ∙ hb) (ap (λ (c : Bool). not (eqb (get_or xs n no_row).line.number (get_or xs k no_row).line.number) && (c && not (get_or xs n no_row).port.edge)) hb ∙ and_false (not (eqb (get_or xs n no_row).line.number (get_or xs k no_row).line.number)));
     }
     cases true true hb he = record {
-      same = length-set ys n (begun t (get_or ys n no_row)) ∙ s.same;
+      same = length-set ys n (after_begin t (get_or ys n no_row)) ∙ s.same;
       at = λ k b. set_at hb k b (λ d. s.at k b ∙ stays t xs n k h (λ q. absurd (d q)) ((λ i. not (eqb (get_or xs n no_row).line.number (get_or xs k no_row).line.number) && (hb i && not (he i))) ∙ and_false (not (eqb (get_or xs n no_row).line.number (get_or xs k no_row).line.number))));
     }
     cases true false hb he = record {
-      same = length-map (set ys n (begun t (get_or ys n no_row))) (spread_but t (get_or ys n no_row).line.number) ∙ (length-set ys n (begun t (get_or ys n no_row)) ∙ s.same);
-      at = λ k b. get_or-map (spread_but t (get_or ys n no_row).line.number) (set ys n (begun t (get_or ys n no_row))) k no_row no_row (omega (arith, b, s.same, length-set ys n (begun t (get_or ys n no_row)))) ∙ spread_at hb he k b;
+      same = length-map (set ys n (after_begin t (get_or ys n no_row))) (with_change_spread_but t (get_or ys n no_row).line.number) ∙ (length-set ys n (after_begin t (get_or ys n no_row)) ∙ s.same);
+      at = λ k b. get_or-map (with_change_spread_but t (get_or ys n no_row).line.number) (set ys n (after_begin t (get_or ys n no_row))) k no_row no_row (omega (arith, b, s.same, length-set ys n (after_begin t (get_or ys n no_row)))) ∙ spread_at hb he k b;
     }
 
 first_staged : (t : Timing) (xs : List Row) → AreDistinct xs → (n : ℕ) → n ≤ length xs → IsStaged t xs (first_turns t n xs) n
@@ -312,9 +312,9 @@ first_staged t xs distinct (suc n) h =
     turn_staged t xs (first_turns t n xs) n distinct (omega (arith, h)) (first_staged t xs distinct n (omega (arith, h)))
 
 -- all turns
-pub turns_closed : (t : Timing) (rows : List Row) → AreDistinct rows → turns t rows ≡ map (λ r. told_of_changes t (another_starts rows r) r) rows
+pub turns_closed : (t : Timing) (rows : List Row) → AreDistinct rows → turns t rows ≡ map (λ r. with_changes_told t (another_starts rows r) r) rows
 turns_closed t xs distinct =
-    let f : Row → Row = λ r. told_of_changes t (another_starts xs r) r in
+    let f : Row → Row = λ r. with_changes_told t (another_starts xs r) r in
     let s = first_staged t xs distinct (length xs) (omega arith) in
     ext_get_or no_row (turns t xs) (map f xs) (s.same ∙ sym (length-map xs f)) (λ k b.
     let within : k < length xs = omega (arith, b, s.same) in

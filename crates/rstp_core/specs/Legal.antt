@@ -7,7 +7,7 @@ use Rattle.rstp_rules.specs.Lines.{own_id}
 use Rattle.rstp_rules.specs.Roles.{candidates, own_best, IsBest}
 use Rattle.rstp_rules.specs.Turns.{no_row}
 use Rattle.rstp_core.specs.Settled.{settled_of}
-use Rattle.rstp_core.specs.Passes.{chosen}
+use Rattle.rstp_core.specs.Passes.{rows_with_roles}
 use Rattle.rstp_core.specs.Tree.{Tree, rows_of}
 
 -- A port that learns or forwards is on, and is a root or designated port (IEEE 802.1D-2004 7.4, 17.29, 17.30).
@@ -22,7 +22,7 @@ MayLearn r = is_discarding r.port.state ≡ false → IsActive r
 -- port has the information, the role and the vector that it gives: choosing the roles again changes nothing.
 pub record HasRoles (s : Table) (t : Tree) : Type 0 where
   pub root : IsBest (candidates (own_id s t.address) (rows_of s t)) t.facts.root
-  pub ports : chosen (own_id s t.address) t.facts.root (rows_of s t) ≡ rows_of s t
+  pub ports : rows_with_roles (own_id s t.address) t.facts.root (rows_of s t) ≡ rows_of s t
 
 -- Each port has a configuration; what was settled is the settings; the roles are those of the whole tree; and only active
 -- ports learn or forward.

@@ -5,30 +5,30 @@ use Rattle.rstp_rules.specs.declared.row.Row.{Row}
 use Rattle.rstp_rules.specs.declared.row.Best.{Best}
 use Rattle.rstp_rules.specs.declared.row.Context.{Context}
 use Rattle.rstp_rules.specs.Roles.{with_role}
-use Rattle.rstp_rules.specs.Transitions.{turned, synced_all, advanced_all}
-use Rattle.rstp_rules.specs.Turns.{turns, another_starts, told_of_changes}
-use Rattle.rstp_rules.specs.Ticks.{greeted}
+use Rattle.rstp_rules.specs.Transitions.{after_first_transitions, after_synchronizations, after_advances}
+use Rattle.rstp_rules.specs.Turns.{turns, another_starts, with_changes_told}
+use Rattle.rstp_rules.specs.Ticks.{after_hello_step}
 
 -- The roles under a root vector.
-abbrev pub chosen : BridgeId → Best → List Row → List Row
-chosen own root rows = map (with_role own root) rows
+abbrev pub rows_with_roles : BridgeId → Best → List Row → List Row
+rows_with_roles own root rows = map (with_role own root) rows
 
 -- The first five of the six steps in which the states follow from the roles.
-abbrev pub advanced_rows : Context → List Row → List Row
-advanced_rows c rows = advanced_all c (synced_all c (map (turned c) rows))
+abbrev pub before_turns : Context → List Row → List Row
+before_turns c rows = after_advances c (after_synchronizations c (map (after_first_transitions c) rows))
 
 -- The sixth: the ports that became forwarding take their turns.
-abbrev pub moved : Context → List Row → List Row
-moved c rows = turns c.timing (advanced_rows c rows)
+abbrev pub after_turns : Context → List Row → List Row
+after_turns c rows = turns c.timing (before_turns c rows)
 
 -- The same, where all turns are one change of each port.
-abbrev pub moved_at_once : Context → List Row → List Row
-moved_at_once c rows = let before = advanced_rows c rows in map (λ r. told_of_changes c.timing (another_starts before r) r) before
+abbrev pub after_turns_at_once : Context → List Row → List Row
+after_turns_at_once c rows = let before = before_turns c rows in map (λ r. with_changes_told c.timing (another_starts before r) r) before
 
 -- The hello step, on a tick.
-abbrev pub greeted_all : Bool → Context → List Row → List Row
-greeted_all tick c rows = if tick then map (greeted c.timing) rows else rows
+abbrev pub after_hello_steps : Bool → Context → List Row → List Row
+after_hello_steps tick c rows = if tick then map (after_hello_step c.timing) rows else rows
 
 -- The rows ready to send.
 abbrev pub ready : Bool → Context → List Row → List Row
-ready tick c rows = greeted_all tick c (moved c rows)
+ready tick c rows = after_hello_steps tick c (after_turns c rows)

@@ -1,5 +1,5 @@
 -- What is kept of the settings when they are settled, by which the next settling finds what has changed.
-use Rattle.std.specs.Prelude.{ℕ, ◌-◌, ◌≤◌, List, map, slice_index_or}
+use Rattle.std.specs.Prelude.{ℕ, ◌-◌, List, map, slice_index_or}
 use Rattle.rstp_settings.specs.Table.{Table, get}
 use Rattle.rstp_settings.specs.declared.key.Key.TheVariants as key
 use Rattle.rstp_settings.specs.declared.key.BridgeKey.TheVariants as bridge
@@ -16,12 +16,6 @@ pub record SettledValues : Type 0 where
 abbrev pub settled_of : Table → SettledValues
 settled_of s = record { version = get s (key.Bridge bridge.Version); timers = timers_of s; ports = map settled_port_of s.ports }
 
--- What is kept of port n.
+-- What is kept of a port.
 abbrev pub settled_port : SettledValues → ℕ → SettledPort
-settled_port w n = slice_index_or w.ports (n - 1) no_settled_port
-
--- The three times are in their ranges.
-pub record AreTimers (m : Timers) : Type 0 where
-  pub max_age : m.max_age ≤ 4000
-  pub hello : m.hello ≤ 4000
-  pub forward_delay : m.forward_delay ≤ 4000
+settled_port w port = slice_index_or w.ports (port - 1) no_settled_port

@@ -11,13 +11,13 @@ use Rattle.rstp_rules.specs.declared.row.Row.{Row}
 use Rattle.rstp_rules.specs.declared.row.Best.{Best}
 use Rattle.rstp_rules.specs.declared.row.Context.{Context}
 use Rattle.rstp_rules.specs.Lines.{own_id, timers_of, times_in_force, context_of}
-use Rattle.rstp_rules.specs.Roles.{beats, expired, candidates, own_best}
-use Rattle.rstp_rules.specs.Restarts.{linked, settled_anew}
-use Rattle.rstp_rules.specs.Arrivals.{arrived}
-use Rattle.rstp_rules.specs.Ticks.{ticked}
-use Rattle.rstp_rules.specs.Sends.{bpdu_of, sent, flushed_ports}
+use Rattle.rstp_rules.specs.Roles.{beats, after_expiry, candidates, own_best}
+use Rattle.rstp_rules.specs.Restarts.{after_link, after_settling}
+use Rattle.rstp_rules.specs.Arrivals.{after_arrival}
+use Rattle.rstp_rules.specs.Ticks.{after_tick}
+use Rattle.rstp_rules.specs.Sends.{bpdu_of, after_sending, flushed_ports}
 use Rattle.rstp_core.specs.Settled.{settled_of}
-use Rattle.rstp_core.specs.Passes.{chosen, ready}
+use Rattle.rstp_core.specs.Passes.{rows_with_roles, ready}
 use Rattle.rstp_core.specs.Tree.{Tree, rows_of, ports_of, has_change, facts_after, times_before, has_other_version}
 use Rattle.rstp_core.specs.declared.rstp.Outcome.{Outcome}
 
@@ -35,12 +35,12 @@ step_to u out = record { tree = u; bpdus = out.bpdus.items; flushed = out.flushe
 abbrev pub is_unbeaten : List Best → Best → Bool
 is_unbeaten bs b = not (list_any (λ c. beats c b) bs)
 
-abbrev pub unbeaten : Best → List Best → Best
-unbeaten none bs = unwrap_or (find (is_unbeaten bs) bs) none
+abbrev pub best_candidate : Best → List Best → Best
+best_candidate none bs = unwrap_or (find (is_unbeaten bs) bs) none
 
 -- The root vector of these rows.
 unfoldable pub root_of : BridgeId → List Row → Best
-root_of own rows = unbeaten (own_best own) (candidates own rows)
+root_of own rows = best_candidate (own_best own) (candidates own rows)
 
 -- An event under way: whether it is a tick, the rows that its own part left of a tree, and the times that the times in force
 -- are measured against: those in force before it under the settings; in settling, under the settled values.
@@ -56,14 +56,14 @@ abbrev pub event_own : Event → BridgeId
 event_own e = own_id e.settings e.tree.address
 
 abbrev pub fresh_rows : Event → List Row
-fresh_rows e = map expired e.rows
+fresh_rows e = map after_expiry e.rows
 
 unfoldable pub event_root : Event → Best
 event_root e = root_of (event_own e) (fresh_rows e)
 
 -- The rows with their roles, and what then holds for all ports.
 unfoldable pub roled_rows : Event → List Row
-roled_rows e = chosen (event_own e) (event_root e) (fresh_rows e)
+roled_rows e = rows_with_roles (event_own e) (event_root e) (fresh_rows e)
 
 unfoldable pub event_context : Event → Context
 event_context e = context_of e.settings (event_own e) (event_root e) e.was (times_in_force (timers_of e.settings) (roled_rows e))
@@ -73,7 +73,7 @@ unfoldable pub ready_rows : Event → List Row
 ready_rows e = ready e.tick (event_context e) (roled_rows e)
 
 unfoldable pub left_rows : Event → List Row
-left_rows e = map (sent (event_context e)) (ready_rows e)
+left_rows e = map (after_sending (event_context e)) (ready_rows e)
 
 -- What the event leaves of the tree.
 unfoldable pub tree_after : Event → Tree
@@ -85,15 +85,15 @@ tree_after e = record e.tree {
 unfoldable pub step_of : Event → Step
 step_of e = record { tree = tree_after e; bpdus = map (bpdu_of (event_context e)) (ready_rows e); flushed = flushed_ports (ready_rows e) }
 
--- A tick of one second, a BPDU at port n, the link of port n up or down, and settling the settings.
+-- A tick of one second, a BPDU at a port, the link of a port up or down, and settling the settings.
 abbrev pub tick_event : Table → Tree → Event
-tick_event s t = record { settings = s; tree = t; tick = true; was = times_before s t; rows = map ticked (rows_of s t) }
+tick_event s t = record { settings = s; tree = t; tick = true; was = times_before s t; rows = map after_tick (rows_of s t) }
 
 abbrev pub arrival_event : Table → ℕ → Bpdu → Tree → Event
-arrival_event s n b t = record { settings = s; tree = t; tick = false; was = times_before s t; rows = arrived s (own_id s t.address) n b (rows_of s t) }
+arrival_event s port b t = record { settings = s; tree = t; tick = false; was = times_before s t; rows = after_arrival s (own_id s t.address) port b (rows_of s t) }
 
 abbrev pub link_event : Table → ℕ → Bool → Tree → Event
-link_event s n up t = record { settings = s; tree = t; tick = false; was = times_before s t; rows = map (linked n up) (rows_of s t) }
+link_event s port up t = record { settings = s; tree = t; tick = false; was = times_before s t; rows = map (after_link port up) (rows_of s t) }
 
 abbrev pub settling_event : Table → Tree → Event
 settling_event s t = record {
@@ -101,17 +101,17 @@ settling_event s t = record {
   tree = record t { settled = settled_of s };
   tick = false;
   was = times_in_force t.settled.timers (rows_of s t);
-  rows = map (settled_anew (has_other_version s t.settled)) (rows_of s t);
+  rows = map (after_settling (has_other_version s t.settled)) (rows_of s t);
 }
 
 unfoldable pub tick_step : Table → Tree → Step
 tick_step s t = step_of (tick_event s t)
 
 unfoldable pub arrival_step : Table → ℕ → Bpdu → Tree → Step
-arrival_step s n b t = step_of (arrival_event s n b t)
+arrival_step s port b t = step_of (arrival_event s port b t)
 
 unfoldable pub link_step : Table → ℕ → Bool → Tree → Step
-link_step s n up t = step_of (link_event s n up t)
+link_step s port up t = step_of (link_event s port up t)
 
 unfoldable pub settling_step : Table → Tree → Step
 settling_step s t = step_of (settling_event s t)

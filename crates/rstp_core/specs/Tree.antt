@@ -6,22 +6,23 @@ use Rattle.frame_core.specs.declared.mac.Mac.{Mac}
 use Rattle.frame_core.specs.declared.bpdu.BridgeId.{BridgeId}
 use Rattle.frame_core.specs.declared.bpdu.Times.{Times}
 use Rattle.frame_core.specs.declared.bpdu.Bpdu.{Bpdu}
-use Rattle.rstp_settings.specs.Table.{Table, opening}
-use Rattle.rstp_rules.specs.declared.config.PortConfig.{PortConfig}
+use Rattle.rstp_settings.specs.Table.{Table, IsPortOf, opening}
+use Rattle.rstp_settings.specs.declared.config.PortConfig.{PortConfig}
 use Rattle.rstp_rules.specs.declared.port.Port.{Port}
 use Rattle.rstp_rules.specs.declared.row.Row.{Row}
 use Rattle.rstp_rules.specs.declared.row.Context.{Context}
 use Rattle.rstp_rules.specs.Vectors.{port_id}
 use Rattle.rstp_rules.specs.Ports.{opening_port}
-use Rattle.rstp_rules.specs.Lines.{own_id, row_of, timers_of, set_times, times_in_force, context_of, no_config}
-use Rattle.rstp_rules.specs.Roles.{expired, candidates, own_best, IsBest}
-use Rattle.rstp_rules.specs.Restarts.{linked, settled_anew}
-use Rattle.rstp_rules.specs.Arrivals.{arrived}
-use Rattle.rstp_rules.specs.Ticks.{ticked}
+use Rattle.rstp_rules.specs.Lines.{own_id, row_of, timers_of, set_times, times_in_force, context_of}
+use Rattle.rstp_settings.specs.Config.{no_config}
+use Rattle.rstp_rules.specs.Roles.{after_expiry, candidates, own_best, IsBest}
+use Rattle.rstp_rules.specs.Restarts.{after_link, after_settling}
+use Rattle.rstp_rules.specs.Arrivals.{after_arrival}
+use Rattle.rstp_rules.specs.Ticks.{after_tick}
 use Rattle.rstp_rules.specs.Turns.{no_row}
-use Rattle.rstp_rules.specs.Sends.{bpdu_of, sent, flushed_ports}
+use Rattle.rstp_rules.specs.Sends.{bpdu_of, after_sending, flushed_ports}
 use Rattle.rstp_core.specs.Settled.{SettledValues, settled_of, settled_port}
-use Rattle.rstp_core.specs.Passes.{chosen, ready}
+use Rattle.rstp_core.specs.Passes.{rows_with_roles, ready}
 use Rattle.rstp_core.specs.declared.facts.BridgeFacts.{BridgeFacts}
 use Rattle.rstp_core.specs.declared.rstp.Outcome.{Outcome}
 
@@ -33,19 +34,23 @@ pub record Tree : Type 0 where
   pub facts : BridgeFacts
   pub settled : SettledValues
 
--- Port n, from 1.
+-- Whether it has a port: ports are numbered from 1.
+abbrev pub HasPort : Tree → ℕ → Type 0
+HasPort t port = IsPortOf (length t.ports) port
+
+-- What a port holds.
 abbrev pub port_at : Tree → ℕ → Port
-port_at t n = slice_index_or t.ports (n - 1) no_row.port
+port_at t port = slice_index_or t.ports (port - 1) no_row.port
 
--- What is fixed of port n.
+-- What is configured of a port.
 abbrev pub config_at : Tree → ℕ → PortConfig
-config_at t n = slice_index_or t.config (n - 1) no_config
+config_at t port = slice_index_or t.config (port - 1) no_config
 
--- The rows of all ports, from port n on, as an event begins under the settings s, where w is what was settled.
+-- The rows of all ports, from this port on, as an event begins under the settings s, where w is what was settled.
 abbrev pub rows_from : Table → SettledValues → ℕ → List PortConfig → List Port → List Row
-rows_from s w n [] ports = []
-rows_from s w n (c ∷ configs) [] = []
-rows_from s w n (c ∷ configs) (p ∷ ports) = row_of s (settled_port w n) n c p ∷ rows_from s w (n + 1) configs ports
+rows_from s w port [] ports = []
+rows_from s w port (c ∷ configs) [] = []
+rows_from s w port (c ∷ configs) (p ∷ ports) = row_of s (settled_port w port) port c p ∷ rows_from s w (port + 1) configs ports
 
 abbrev pub rows_of : Table → Tree → List Row
 rows_of s t = rows_from s t.settled 1 t.config t.ports
@@ -78,11 +83,11 @@ facts_after tick c had has f = record {
 -- longer; the root vector is a least element; the roles; the times in force; the states; on a tick the hello step;
 -- and what is sent.
 pub record Concludes (s : Table) (own : BridgeId) (tick : Bool) (was : Times) (old : List Row) (c : Context) (new : List Row) (out : Outcome) : Type 0 where
-  pub root : IsBest (candidates own (map expired old)) c.root
-  pub context : c ≡ context_of s own c.root was (times_in_force (timers_of s) (chosen own c.root (map expired old)))
-  pub rows : new ≡ map (sent c) (ready tick c (chosen own c.root (map expired old)))
-  pub bpdus : out.bpdus.items ≡ map (bpdu_of c) (ready tick c (chosen own c.root (map expired old)))
-  pub flushed : out.flushed.items ≡ flushed_ports (ready tick c (chosen own c.root (map expired old)))
+  pub root : IsBest (candidates own (map after_expiry old)) c.root
+  pub context : c ≡ context_of s own c.root was (times_in_force (timers_of s) (rows_with_roles own c.root (map after_expiry old)))
+  pub rows : new ≡ map (after_sending c) (ready tick c (rows_with_roles own c.root (map after_expiry old)))
+  pub bpdus : out.bpdus.items ≡ map (bpdu_of c) (ready tick c (rows_with_roles own c.root (map after_expiry old)))
+  pub flushed : out.flushed.items ≡ flushed_ports (ready tick c (rows_with_roles own c.root (map after_expiry old)))
 
 -- What an event leaves of the tree and gives, where its own part left these rows.
 pub record Ends (s : Table) (tick : Bool) (was : Times) (rows : List Row) (t u : Tree) (out : Outcome) : Type 0 where
@@ -100,15 +105,15 @@ times_before s t = times_in_force (timers_of s) (rows_of s t)
 
 -- A tick of one second.
 abbrev pub Ticks : Table → Tree → Tree → Outcome → Type 0
-Ticks s t u out = Ends s true (times_before s t) (map ticked (rows_of s t)) t u out
+Ticks s t u out = Ends s true (times_before s t) (map after_tick (rows_of s t)) t u out
 
--- A BPDU at port n.
+-- A BPDU at a port.
 abbrev pub Arrives : Table → ℕ → Bpdu → Tree → Tree → Outcome → Type 0
-Arrives s n b t u out = Ends s false (times_before s t) (arrived s (own_id s t.address) n b (rows_of s t)) t u out
+Arrives s port b t u out = Ends s false (times_before s t) (after_arrival s (own_id s t.address) port b (rows_of s t)) t u out
 
--- The link of port n is up, or down.
+-- The link of a port is up, or down.
 abbrev pub Links : Table → ℕ → Bool → Tree → Tree → Outcome → Type 0
-Links s n up t u out = Ends s false (times_before s t) (map (linked n up) (rows_of s t)) t u out
+Links s port up t u out = Ends s false (times_before s t) (map (after_link port up) (rows_of s t)) t u out
 
 -- Settling finds that the version is another.
 abbrev pub has_other_version : Table → SettledValues → Bool
@@ -118,11 +123,11 @@ has_other_version s w = not ((settled_of s).version == w.version)
 -- before; vectors against the event's start.
 abbrev pub Settles : Table → Tree → Tree → Outcome → Type 0
 Settles s t u out =
-    Ends s false (times_in_force t.settled.timers (rows_of s t)) (map (settled_anew (has_other_version s t.settled)) (rows_of s t)) (record t { settled = settled_of s }) u out
+    Ends s false (times_in_force t.settled.timers (rows_of s t)) (map (after_settling (has_other_version s t.settled)) (rows_of s t)) (record t { settled = settled_of s }) u out
 
 -- The opening: all links down, the opening settings settled, this bridge root. Each port holds its designated vector.
 abbrev pub opening_port_of : BridgeId → Times → ℕ → Port
-opening_port_of own times n = opening_port (record { root = own; cost = 0; bridge = own; port = port_id 128 n }) times
+opening_port_of own times port = opening_port (record { root = own; cost = 0; bridge = own; port = port_id 128 port }) times
 
 abbrev pub opening_ports : BridgeId → Times → ℕ → List Port
 opening_ports own times zero = []

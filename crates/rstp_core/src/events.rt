@@ -1,8 +1,9 @@
-//! The passes that each event makes over the ports, in their order (IEEE 802.1D-2004 17.21.25, 17.26, 17.29 to 17.31).
+//! The passes that each event makes over the ports, in their order (IEEE 802.1D-2004 17.21.25,
+//! 17.26, 17.29 to 17.31).
 ghost use Rattle.std.specs.Prelude.{◌≡◌, length, ◌≤◌};
 ghost use Rattle.rstp_rules.specs.Lines.{IsSmall};
-ghost use Rattle.rstp_rules.specs.Arrivals.{arrived};
-ghost use Rattle.rstp_core.specs.Passes.{moved};
+ghost use Rattle.rstp_rules.specs.Arrivals.{after_arrival};
+ghost use Rattle.rstp_core.specs.Passes.{after_turns};
 ghost use Rattle.rstp_core.specs.Tree.{rows_from, has_change, Concludes};
 
 use crate::rstp::Outcome;
@@ -10,10 +11,10 @@ use crate::settled::Settled;
 use crate::{loops, roles, turns};
 use arrayvec::ArrayVec;
 use frame_core::{Bpdu, BridgeId, Times};
-use rstp_rules::config::PortConfig;
 use rstp_rules::lines;
 use rstp_rules::port::Port;
 use rstp_rules::row::{Context, Row};
+use rstp_settings::config::PortConfig;
 use rstp_settings::settings::{MAX_PORTS, Settings};
 
 /// The rows of all ports as an event begins.
@@ -32,9 +33,9 @@ pub fn begin_all(
 {
     let mut rows = ArrayVec::new();
     for i in 0..ports.len() {
-        let number = i as u16 + 1;
-        let settled = settled.port(number);
-        rows.push(Row::begin(settings, settled, number, &config[i], ports[i]));
+        let port = i as u16 + 1;
+        let settled = settled.port(port);
+        rows.push(Row::begin(settings, settled, port, &config[i], ports[i]));
     }
     rows
 }
@@ -46,19 +47,21 @@ pub fn has_changes(ports: &[Port]) -> bool
     ports.iter().any(|port| port.change_while > 0)
 }
 
-/// A message at port `number`: what it tells the port, and then the topology change.
-pub fn arrive_all(settings: &Settings, own: BridgeId, number: u16, bpdu: &Bpdu, rows: &mut [Row])
-    ensures { rows.new ≡ arrived settings.now own number bpdu.now rows.old }
+/// A message at port `port`: what it tells the port, and then the topology change (17.21.8,
+/// 17.21.17, 17.21.18, 17.23).
+pub fn arrive_all(settings: &Settings, own: BridgeId, port: u16, bpdu: &Bpdu, rows: &mut [Row])
+    ensures { rows.new ≡ after_arrival settings.now own port bpdu.now rows.old }
 {
-    loops::receive_all(own, lines::has_rstp_version(settings), number, bpdu, rows);
+    loops::receive_all(own, lines::has_rstp_version(settings), port, bpdu, rows);
     let times = lines::find_times(lines::timers(settings), rows);
     let timing = lines::make_timing(settings, &times);
-    loops::tell_all(&timing, own, number, bpdu, rows);
+    loops::tell_all(&timing, own, port, bpdu, rows);
 }
 
+// The states, by the roles (17.29 to 17.31).
 fn move_all(context: &Context, rows: &mut [Row])
     requires { IsSmall context.now.timing }
-    ensures { rows.new ≡ moved context.now rows.old }
+    ensures { rows.new ≡ after_turns context.now rows.old }
 {
     loops::turn_all(context, rows);
     loops::synchronize_all(context, rows);
@@ -66,7 +69,8 @@ fn move_all(context: &Context, rows: &mut [Row])
     turns::take_turns(&context.timing, rows);
 }
 
-/// The end of each event: roles, states, messages. `was_times` are the times in force before it.
+/// The end of each event: roles, states, messages; on a tick the hello step (17.21.25, 17.26, 17.29
+/// to 17.31). `was_times` are the times in force before it.
 pub fn conclude(
     settings: &Settings,
     own: BridgeId,

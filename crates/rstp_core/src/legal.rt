@@ -1,17 +1,17 @@
-//! Laws of legal settings and trees: of what holds between events, where each change of settings has been settled. The opening is
-//! legal and each event keeps it, so that these hold after every run, also after one that begins later. Each function does nothing:
-//! its contract is the law.
+//! Laws of legal settings and trees: of what holds between events, where each change of settings
+//! has been settled. The opening is legal and each event keeps it, so that these hold after every
+//! run, also after one that begins later. Each function does nothing: its contract is the law.
 ghost use Rattle.std.specs.Prelude.{◌≡◌, ◌≢◌, ◌≤◌, ◌↔◌, ℕ, List, length, Contains};
 ghost use Rattle.frame_core.specs.declared.mac.Mac.{Mac};
 ghost use Rattle.rstp_settings.specs.Table.{Table, opening};
-ghost use Rattle.rstp_rules.specs.declared.config.PortConfig.{PortConfig};
+ghost use Rattle.rstp_settings.specs.declared.config.PortConfig.{PortConfig};
 ghost use Rattle.rstp_rules.specs.Vectors.{port_number};
 ghost use Rattle.rstp_rules.specs.Lines.{own_id};
 ghost use Rattle.rstp_core.specs.declared.rstp.Outcome.{Outcome};
-ghost use Rattle.rstp_core.specs.Tree.{Tree, port_at, rows_of, opening_tree};
-ghost use Rattle.rstp_core.specs.Passes.{advanced_rows, moved_at_once, greeted_all};
+ghost use Rattle.rstp_core.specs.Tree.{Tree, HasPort, port_at, rows_of, opening_tree};
+ghost use Rattle.rstp_core.specs.Passes.{before_turns, after_turns_at_once, after_hello_steps};
 ghost use Rattle.rstp_core.specs.Steps.{event_context, roled_rows, ready_rows};
-ghost use Rattle.rstp_core.specs.Runs.{Happening, Happens, Leads, event_by, IsPort, IsRootPort, LeavesActivity, Restarts, IsAnew};
+ghost use Rattle.rstp_core.specs.Runs.{Happening, Happens, Leads, event_by, IsRootPort, LeavesActivity, Restarts, IsAnew};
 ghost use Rattle.rstp_core.specs.Legal.{IsLegal, AreNumbered, IsRootBridge, IsSameBridge};
 
 use rstp_settings::settings::MAX_PORTS;
@@ -42,22 +42,24 @@ pub fn runs_keep_the_bridge()
 /// Of at most [`MAX_PORTS`] ports at most one is the root port.
 pub fn root_port_is_one()
     ensures { (s : Table) (t : Tree) → IsLegal s t → length t.ports ≤ MAX_PORTS
-        → (m n : ℕ) → IsRootPort t m → IsRootPort t n → m ≡ n }
+        → (other port : ℕ) → IsRootPort t other → IsRootPort t port → other ≡ port }
 {}
 
-/// The address in the bridge identifier of a root port's vector is another bridge's, with at most [`MAX_PORTS`] ports.
+/// The address in the bridge identifier of a root port's vector is another bridge's, with at most
+/// [`MAX_PORTS`] ports.
 pub fn root_port_hears_another()
     ensures { (s : Table) (t : Tree) → IsLegal s t → length t.ports ≤ MAX_PORTS
-        → (n : ℕ) → IsRootPort t n → (port_at t n).vector.bridge.address ≢ t.address }
+        → (port : ℕ) → IsRootPort t port → (port_at t port).vector.bridge.address ≢ t.address }
 {}
 
 /// There is no root port exactly where the root vector is this bridge's own.
 pub fn no_root_port_at_the_root()
     ensures { (s : Table) (t : Tree) → IsLegal s t →
-        ((n : ℕ) → ¬ IsRootPort t n) ↔ IsRootBridge s t }
+        ((port : ℕ) → ¬ IsRootPort t port) ↔ IsRootBridge s t }
 {}
 
-/// The root vector is this bridge's own exactly where the root is this bridge's whole identifier, priority and address.
+/// The root vector is this bridge's own exactly where the root is this bridge's whole identifier,
+/// priority and address.
 pub fn root_is_this_bridge()
     ensures { (s : Table) (t : Tree) → IsLegal s t
         → (t.facts.root.vector.root ≡ own_id s t.address) ↔ IsRootBridge s t }
@@ -69,34 +71,38 @@ pub fn root_port_is_0_at_the_root()
         → (port_number t.facts.root.receiver ≡ 0) ↔ IsRootBridge s t }
 {}
 
-/// A port that learned or forwarded and is now disabled, alternate or backup loses its learned rows in that event.
+/// A port that learned or forwarded and is now disabled, alternate or backup loses its learned rows
+/// in that event.
 pub fn leaving_activity_flushes()
     ensures { (h : Happening) (s r : Table) (t u : Tree) (out : Outcome) → IsLegal s t →
         Happens h s t r u out
-        → (n : ℕ) → LeavesActivity t u n → Contains out.flushed.items n }
+        → (port : ℕ) → LeavesActivity t u port → Contains out.flushed.items port }
 {}
 
-/// The rows of the ports are of port 1, port 2, .., in this order: as an event begins, and as its turns are taken.
+/// The rows of the ports are of port 1, port 2, .., in this order: as an event begins, and as its
+/// turns are taken.
 pub fn rows_are_numbered()
     ensures begun { (s : Table) (t : Tree) → IsLegal s t → AreNumbered (rows_of s t) }
     ensures turns { (h : Happening) (s : Table) (t : Tree) → IsLegal s t
-        → let e = event_by h s t in AreNumbered (advanced_rows (event_context e) (roled_rows e)) }
+        → let e = event_by h s t in AreNumbered (before_turns (event_context e) (roled_rows e)) }
 {}
 
-/// In each event the turns in ascending order come to one change of each port (17.31): `ready_rows` is what the event makes of the
-/// rows before it sends.
+/// In each event the turns in ascending order come to one change of each port (17.31): `ready_rows`
+/// is what the event makes of the rows before it sends.
 pub fn turns_of_an_event_are_one_change()
     ensures { (h : Happening) (s : Table) (t : Tree) → IsLegal s t → let e = event_by h s t in
-        ready_rows e ≡ greeted_all e.tick (event_context e) (moved_at_once (event_context e) (roled_rows e)) }
+        let c = event_context e in
+        ready_rows e ≡ after_hello_steps e.tick c (after_turns_at_once c (roled_rows e)) }
 {}
 
-/// A port that starts anew loses its learned rows in that event, even where it is designated again, or forwards, at the event's end:
-/// so it does where the version changes. What it then is follows from whether it is on, the version and its edge setting alone.
+/// A port that starts anew loses its learned rows in that event, even where it is designated again,
+/// or forwards, at the event's end: so it does where the version changes. What it then is follows
+/// from whether it is on, the version and its edge setting alone.
 pub fn starting_anew_flushes()
     ensures flushed { (h : Happening) (s r : Table) (t u : Tree) (out : Outcome) → IsLegal s t →
         Happens h s t r u out
-        → (n : ℕ) → IsPort t n → Restarts h s t n → Contains out.flushed.items n }
+        → (port : ℕ) → HasPort t port → Restarts h s t port → Contains out.flushed.items port }
     ensures anew { (h : Happening) (s r : Table) (t u : Tree) (out : Outcome) → IsLegal s t →
         Happens h s t r u out
-        → (n : ℕ) → IsPort t n → Restarts h s t n → IsAnew r u n }
+        → (port : ℕ) → HasPort t port → Restarts h s t port → IsAnew r u port }
 {}

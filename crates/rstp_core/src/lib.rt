@@ -1,18 +1,19 @@
-//! The Rapid Spanning Tree Protocol of a bridge (IEEE 802.1D-2004 clause 17, in the profile of docs/PROFILE.md): what
-//! each event does to all its ports, what they send, and whose learned addresses go. Nothing here takes memory.
+//! The Rapid Spanning Tree Protocol of a bridge (IEEE 802.1D-2004 clause 17, in the profile of
+//! docs/PROFILE.md): what each event does to all its ports, what they send, and whose learned
+//! addresses go. Nothing here takes memory.
 //!
 //! # Entry points
-//! [`Rstp`] with `on_bpdu`, `tick`, `link` and `settle`, each with its [`Outcome`]; `role`, `state`, `facts`,
-//! `bridge_facts`, `copy`.
+//! [`Rstp`] with `on_bpdu`, `tick`, `link` and `settle`, each with its [`Outcome`]; `role`,
+//! `state`, `facts`, `bridge_facts`, `copy`.
 //!
 //! # Definitions
-//! `specs/Tree.antt`: the tree and the four events as relations; `specs/Steps.antt`: the same as functions;
-//! `specs/Runs.antt`: lists of events; `specs/Legal.antt`: what every event keeps.
+//! `specs/Tree.antt`: the tree and the four events as relations; `specs/Steps.antt`: the same as
+//! functions; `specs/Runs.antt`: lists of events; `specs/Legal.antt`: what every event keeps.
 //!
 //! # Laws
-//! In [`laws`]: roles of the whole tree, one root port, which ports forward or learn, whose rows go, what a port is that
-//! started anew, topology changes as one change of each port, over every list of events. In [`legal`]: the same of every
-//! legal tree.
+//! In [`laws`]: roles of the whole tree, one root port, which ports forward or learn, whose rows
+//! go, what a port is that started anew, topology changes as one change of each port, over every
+//! list of events. In [`legal`]: the same of every legal tree.
 //!
 //! # Not claimed
 //! Convergence of several bridges.
@@ -30,10 +31,10 @@ mod turns;
 
 pub use facts::BridgeFacts;
 pub use rstp::{Outcome, Rstp};
-pub use rstp_rules::config::{BridgeConfig, IFINDEX_MAX, IfIndex, PortConfig};
 pub use rstp_rules::port::{Info, Port, Role, State};
 pub use rstp_rules::row::Best;
 pub use rstp_rules::settled::{SettledPort, Timers};
+pub use rstp_settings::config::{BridgeConfig, IfIndex, MAX_IFINDEX, PortConfig};
 pub use rstp_settings::key::{BridgeKey, Key, PortKey};
 pub use rstp_settings::settings::{MAX_PORTS, Settings};
 pub use settled::Settled;

@@ -4,7 +4,8 @@ ghost use Rattle.rstp_rules.specs.Roles.{candidates, IsBest};
 use frame_core::BridgeId;
 use rstp_rules::row::{Best, Row};
 
-/// The root vector (IEEE 802.1D-2004 17.21.25): the best of the bridge's own and what the ports offer.
+/// The root vector (IEEE 802.1D-2004 17.21.25): the best of the bridge's own and what the ports
+/// offer.
 pub fn root_of(own: BridgeId, rows: &[Row]) -> Best
     ensures { IsBest (candidates own rows.now) result }
 {

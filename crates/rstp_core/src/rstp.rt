@@ -1,17 +1,19 @@
 //! The spanning tree of a bridge, one event at a time (IEEE 802.1D-2004 clause 17).
 ghost use Rattle.std.specs.Prelude.{◌≡◌, ◌≤◌, length};
-ghost use Rattle.rstp_core.specs.Tree.{port_at, config_at, rows_of, opening_port_of, opening_ports, opening_tree, Ends, Ticks, Arrives, Links, Settles};
-ghost use Rattle.rstp_settings.specs.Table.{spent};
+ghost use Rattle.rstp_core.specs.Tree.{HasPort, port_at, config_at, rows_of, opening_port_of, opening_ports, opening_tree, Ends, Ticks, Arrives, Links, Settles};
+ghost use Rattle.rstp_settings.specs.Table.{without_migration_checks};
+ghost use Rattle.rstp_rules.specs.Lines.{AreTimers, times_in_force};
 
 use crate::facts::BridgeFacts;
 use crate::settled::Settled;
 use crate::{events, loops};
 use arrayvec::ArrayVec;
 use frame_core::{Bpdu, BridgeId, Mac, PriorityVector, Times};
-use rstp_rules::config::{BridgeConfig, PortConfig};
 use rstp_rules::lines;
 use rstp_rules::port::{Port, Role, State};
 use rstp_rules::row::{Best, Row};
+use rstp_rules::settled::Timers;
+use rstp_settings::config::{BridgeConfig, PortConfig};
 use rstp_settings::copies::copied;
 use rstp_settings::settings::{MAX_PORTS, Settings};
 use std::marker::Model;
@@ -25,8 +27,15 @@ pub struct Outcome {
     pub flushed: ArrayVec<u16, MAX_PORTS>,
 }
 
-/// The spanning tree of a bridge. Ports are numbered from 1. Settings have as many ports as the bridge,
-/// and a change of settings is followed by `settle`.
+// An event under way: the rows of all ports, and the times in force before it.
+#[derive(Drop)]
+struct Started {
+    rows: ArrayVec<Row, MAX_PORTS>,
+    was_times: Times,
+}
+
+/// The spanning tree of a bridge. Ports are numbered from 1. Settings have as many ports as the
+/// bridge, and a change of settings is followed by `settle`.
 #[derive(Drop)]
 pub struct Rstp {
     address: Mac,
@@ -53,19 +62,22 @@ impl Model for Rstp {
     ghost invariant = { λ r. IsTree r.config.items r.ports.items r.settled };
 }
 
-fn opening_port(own: BridgeId, times: Times, number: u16) -> Port
-    requires { number ≤ MAX_PORTS }
-    ensures { result ≡ opening_port_of own times number }
+// Port `port` at the opening: it holds the vector of a designated port under this bridge as root
+// (17.19.21).
+fn opening_port(own: BridgeId, times: Times, port: u16) -> Port
+    requires { port ≤ MAX_PORTS }
+    ensures { result ≡ opening_port_of own times port }
 {
     let vector = PriorityVector {
         root: own,
         cost: 0,
         bridge: own,
-        port: 256 * 128 + number,
+        port: 256 * 128 + port,
     };
     Port::opening(vector, times)
 }
 
+// So many of them, from port 1 on.
 fn opening_ports(own: BridgeId, times: Times, count: usize) -> ArrayVec<Port, MAX_PORTS>
     requires { count ≤ MAX_PORTS }
     ensures ports { result.items ≡ opening_ports own times count }
@@ -79,7 +91,8 @@ fn opening_ports(own: BridgeId, times: Times, count: usize) -> ArrayVec<Port, MA
 }
 
 impl Rstp {
-    /// The spanning tree of a bridge under the opening settings, with all its links down.
+    /// The spanning tree of a bridge under the opening settings, with all its links down (17.18,
+    /// 17.24).
     pub fn new(config: &BridgeConfig) -> Self
         ensures tree { result ≡ opening_tree config.now.address config.now.ports.items }
         ensures ports { length result.ports ≡ length config.now.ports.items }
@@ -102,7 +115,8 @@ impl Rstp {
         }
     }
 
-    /// The same spanning tree. It takes no memory.
+    /// The same spanning tree, for the copy of a bridge that is compared with it or restored from.
+    /// It takes no memory.
     pub fn copy(&self) -> Self
         ensures { result ≡ self.now }
     {
@@ -130,50 +144,46 @@ impl Rstp {
         self.address
     }
 
-    /// What is fixed of port `number`.
-    pub fn config(&self, number: u16) -> &PortConfig
-        requires first { 1 ≤ number }
-        requires last { number ≤ length self.now.ports }
-        ensures { result.now ≡ config_at self.now number }
+    /// What is configured of port `port`.
+    pub fn config(&self, port: u16) -> &PortConfig
+        requires { HasPort self.now port }
+        ensures { result.now ≡ config_at self.now port }
     {
-        &self.config[number as usize - 1]
+        &self.config[port as usize - 1]
     }
 
-    /// What port `number` holds.
-    pub fn facts(&self, number: u16) -> &Port
-        requires first { 1 ≤ number }
-        requires last { number ≤ length self.now.ports }
-        ensures { result.now ≡ port_at self.now number }
+    /// What port `port` holds (17.19).
+    pub fn facts(&self, port: u16) -> &Port
+        requires { HasPort self.now port }
+        ensures { result.now ≡ port_at self.now port }
     {
-        &self.ports[number as usize - 1]
+        &self.ports[port as usize - 1]
     }
 
-    /// The role of port `number`.
-    pub fn role(&self, number: u16) -> Role
-        requires first { 1 ≤ number }
-        requires last { number ≤ length self.now.ports }
-        ensures { result ≡ (port_at self.now number).role }
+    /// The role of port `port` (17.7).
+    pub fn role(&self, port: u16) -> Role
+        requires { HasPort self.now port }
+        ensures { result ≡ (port_at self.now port).role }
     {
-        self.facts(number).role
+        self.facts(port).role
     }
 
-    /// The state of port `number`.
-    pub fn state(&self, number: u16) -> State
-        requires first { 1 ≤ number }
-        requires last { number ≤ length self.now.ports }
-        ensures { result ≡ (port_at self.now number).state }
+    /// The state of port `port` (7.4).
+    pub fn state(&self, port: u16) -> State
+        requires { HasPort self.now port }
+        ensures { result ≡ (port_at self.now port).state }
     {
-        self.facts(number).state
+        self.facts(port).state
     }
 
-    /// The root, the times in force, and the counts of topology changes.
+    /// The root, the times in force, and the counts of topology changes (17.18, 14.8.1.1).
     pub fn bridge_facts(&self) -> &BridgeFacts
         ensures { result.now ≡ self.now.facts }
     {
         &self.facts
     }
 
-    /// The settled values, of as many ports.
+    /// The settled values, of as many ports: for a flat copy of the bridge.
     pub fn settled(&self) -> &Settled
         ensures value { result.now ≡ self.now.settled }
         ensures ports { length result.now.ports ≡ length self.now.ports }
@@ -181,16 +191,23 @@ impl Rstp {
         &self.settled
     }
 
-    fn begin(&self, settings: &Settings) -> ArrayVec<Row, MAX_PORTS>
-        requires { length settings.now.ports ≡ length self.now.ports }
-        ensures rows { result.items ≡ rows_of settings.now self.now }
-        ensures count { length result.items ≡ length self.now.ports }
+    // An event begins; the times in force before it are by these times of the settings (17.18.7).
+    fn begin(&self, settings: &Settings, timers: Timers) -> Started
+        requires ports { length settings.now.ports ≡ length self.now.ports }
+        requires timers { AreTimers timers }
+        ensures rows { result.rows.items ≡ rows_of settings.now self.now }
+        ensures was_times { result.was_times
+            ≡ times_in_force timers (rows_of settings.now self.now) }
+        ensures count { length result.rows.items ≡ length self.now.ports }
     {
         let config = self.config.as_slice();
-        events::begin_all(settings, &self.settled, config, self.ports.as_slice())
+        let rows = events::begin_all(settings, &self.settled, config, self.ports.as_slice());
+        let was_times = lines::find_times(timers, rows.as_slice());
+        Started { rows, was_times }
     }
 
-    // From the rows that an event's own part left; `was_times` are the times in force before it.
+    // An event ends, from the rows that its own part left; `was_times` are the times in force
+    // before it (17.21.25, 17.26, 17.29 to 17.31).
     fn end(
         &mut self,
         settings: &Settings,
@@ -212,72 +229,67 @@ impl Rstp {
         outcome
     }
 
-    /// A BPDU comes by port `number`.
-    pub fn on_bpdu(&mut self, number: u16, bpdu: &Bpdu, settings: &Settings) -> Outcome
-        requires first { 1 ≤ number }
-        requires last { number ≤ length self.old.ports }
+    /// A BPDU comes by port `port` (17.21.8, 17.23).
+    pub fn on_bpdu(&mut self, port: u16, bpdu: &Bpdu, settings: &Settings) -> Outcome
+        requires port { HasPort self.old port }
         requires settings { length settings.now.ports ≡ length self.old.ports }
-        ensures event { Arrives settings.now number bpdu.now self.old self.new result }
+        ensures event { Arrives settings.now port bpdu.now self.old self.new result }
         ensures ports { length self.new.ports ≡ length self.old.ports }
         ensures bpdus { length result.bpdus.items ≡ length self.old.ports }
     {
-        let mut begun = self.begin(settings);
-        let rows = begun.as_mut_slice();
-        let was_times = lines::find_times(lines::timers(settings), rows);
+        let mut event = self.begin(settings, lines::timers(settings));
+        let rows = event.rows.as_mut_slice();
         let own = lines::own_bridge_id(settings, self.address);
-        events::arrive_all(settings, own, number, bpdu, rows);
-        self.end(settings, false, was_times, rows)
+        events::arrive_all(settings, own, port, bpdu, rows);
+        self.end(settings, false, event.was_times, rows)
     }
 
-    /// One second passes.
+    /// One second passes (17.22).
     pub fn tick(&mut self, settings: &Settings) -> Outcome
         requires { length settings.now.ports ≡ length self.old.ports }
         ensures event { Ticks settings.now self.old self.new result }
         ensures ports { length self.new.ports ≡ length self.old.ports }
         ensures bpdus { length result.bpdus.items ≡ length self.old.ports }
     {
-        let mut begun = self.begin(settings);
-        let rows = begun.as_mut_slice();
-        let was_times = lines::find_times(lines::timers(settings), rows);
+        let mut event = self.begin(settings, lines::timers(settings));
+        let rows = event.rows.as_mut_slice();
         loops::tick_all(rows);
-        self.end(settings, true, was_times, rows)
+        self.end(settings, true, event.was_times, rows)
     }
 
-    /// The link of port `number` is up, or down. One that repeats the link's state changes nothing by
-    /// itself.
-    pub fn link(&mut self, number: u16, up: bool, settings: &Settings) -> Outcome
-        requires first { 1 ≤ number }
-        requires last { number ≤ length self.old.ports }
+    /// The link of port `port` is up, or down (17.19.18). One that repeats the link's state
+    /// changes nothing by itself.
+    pub fn link(&mut self, port: u16, up: bool, settings: &Settings) -> Outcome
+        requires port { HasPort self.old port }
         requires settings { length settings.now.ports ≡ length self.old.ports }
-        ensures event { Links settings.now number up self.old self.new result }
+        ensures event { Links settings.now port up self.old self.new result }
         ensures ports { length self.new.ports ≡ length self.old.ports }
         ensures bpdus { length result.bpdus.items ≡ length self.old.ports }
     {
-        let mut begun = self.begin(settings);
-        let rows = begun.as_mut_slice();
-        let was_times = lines::find_times(lines::timers(settings), rows);
-        loops::link_all(number, up, rows);
-        self.end(settings, false, was_times, rows)
+        let mut event = self.begin(settings, lines::timers(settings));
+        let rows = event.rows.as_mut_slice();
+        loops::link_all(port, up, rows);
+        self.end(settings, false, event.was_times, rows)
     }
 
-    /// Settles changed settings: every port starts anew where the version changed, and a port whose link is up where its enabling
-    /// changed; a changed edge setting takes effect, protocol migration checks are done and spent, and what was settled is kept for
+    /// Settles changed settings (17.13, 17.19.13): every port starts anew where the version
+    /// changed, and a port whose link is up where its enabling changed; a changed edge setting
+    /// takes effect, protocol migration checks are done and spent, and what was settled is kept for
     /// the next settling.
     pub fn settle(&mut self, settings: &mut Settings) -> Outcome
         requires { length settings.old.ports ≡ length self.old.ports }
         ensures event { Settles settings.old self.old self.new result }
         ensures ports { length self.new.ports ≡ length self.old.ports }
         ensures bpdus { length result.bpdus.items ≡ length self.old.ports }
-        ensures settings { settings.new ≡ spent settings.old }
+        ensures settings { settings.new ≡ without_migration_checks settings.old }
         ensures count { length settings.new.ports ≡ length settings.old.ports }
     {
-        let mut begun = self.begin(settings);
-        let rows = begun.as_mut_slice();
-        let was_times = lines::find_times(self.settled.timers(), rows);
+        let mut event = self.begin(settings, self.settled.timers());
+        let rows = event.rows.as_mut_slice();
         let settled = Settled::of(settings);
         loops::settle_all(settled.version() != self.settled.version(), rows);
         self.settled = settled;
-        let outcome = self.end(settings, false, was_times, rows);
+        let outcome = self.end(settings, false, event.was_times, rows);
         settings.spend();
         outcome
     }

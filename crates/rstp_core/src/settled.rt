@@ -1,6 +1,7 @@
 //! What is kept of the settings when they are settled.
-ghost use Rattle.std.specs.Prelude.{◌≡◌, ◌≤◌, length, map};
-ghost use Rattle.rstp_rules.specs.Lines.{settled_port_of};
+ghost use Rattle.std.specs.Prelude.{◌≡◌, length, map};
+ghost use Rattle.rstp_settings.specs.Table.{IsPortOf};
+ghost use Rattle.rstp_rules.specs.Lines.{AreTimers, settled_port_of};
 ghost use Rattle.rstp_core.specs.Settled.{settled_of, settled_port};
 
 use arrayvec::ArrayVec;
@@ -11,9 +12,9 @@ use rstp_settings::key::{BridgeKey, Key};
 use rstp_settings::settings::{MAX_PORTS, Settings};
 use std::marker::Model;
 
-/// What is kept of the settings when they are settled: the version, the three times, and for each port
-/// whether it is enabled and whether it is set to be at the edge. The next settling finds by it what has
-/// changed.
+/// What is kept of the settings when they are settled: the version, the three times, and for each
+/// port whether it is enabled and whether it is set to be at the edge. The next settling finds by
+/// it what has changed.
 #[derive(Drop)]
 pub struct Settled {
     version: u32,
@@ -22,7 +23,8 @@ pub struct Settled {
 }
 
 impl Model for Settled {
-    ghost use Rattle.rstp_core.specs.Settled.{SettledValues, AreTimers};
+    ghost use Rattle.rstp_rules.specs.Lines.{AreTimers};
+    ghost use Rattle.rstp_core.specs.Settled.{SettledValues};
 
     ghost Value = { SettledValues };
 
@@ -31,15 +33,16 @@ impl Model for Settled {
     ghost invariant = { λ s. AreTimers s.timers };
 }
 
+// What is kept of each port.
 fn settled_ports(settings: &Settings) -> ArrayVec<SettledPort, MAX_PORTS>
     ensures { result.items ≡ map settled_port_of settings.now.ports }
 {
     let mut ports = ArrayVec::new();
     for i in 0..settings.ports() {
-        let number = i as u16 + 1;
+        let port = i as u16 + 1;
         ports.push(SettledPort {
-            enabled: lines::is_enabled(settings, number),
-            edge: lines::is_set_edge(settings, number),
+            enabled: lines::is_enabled(settings, port),
+            edge: lines::is_set_edge(settings, port),
         });
     }
     ports
@@ -79,19 +82,16 @@ impl Settled {
     /// The three times, in 1/100 s.
     pub fn timers(&self) -> Timers
         ensures value { result ≡ self.now.timers }
-        ensures max_age { result.max_age ≤ 4000 }
-        ensures hello { result.hello ≤ 4000 }
-        ensures forward_delay { result.forward_delay ≤ 4000 }
+        ensures range { AreTimers result }
     {
         self.timers
     }
 
-    /// What is kept of port `number`.
-    pub fn port(&self, number: u16) -> SettledPort
-        requires first { 1 ≤ number }
-        requires last { number ≤ length self.now.ports }
-        ensures { result ≡ settled_port self.now number }
+    /// What is kept of port `port`.
+    pub fn port(&self, port: u16) -> SettledPort
+        requires { IsPortOf (length self.now.ports) port }
+        ensures { result ≡ settled_port self.now port }
     {
-        self.ports[number as usize - 1]
+        self.ports[port as usize - 1]
     }
 }

@@ -1,19 +1,21 @@
 //! The turns of the ports that became forwarding (IEEE 802.1D-2004 17.31).
 ghost use Rattle.std.specs.Prelude.{◌≡◌, ◌<◌, map, length};
 ghost use Rattle.rstp_rules.specs.Lines.{IsSmall};
-ghost use Rattle.rstp_rules.specs.Turns.{spread_but, turn_at, turns};
+ghost use Rattle.rstp_rules.specs.Turns.{with_change_spread_but, turn_at, turns};
 
 use rstp_rules::row::{Row, Timing};
 
-fn spread_others(timing: &Timing, number: u16, rows: &mut [Row])
+// The other ports tell the change too (17.21.18).
+fn spread_others(timing: &Timing, port: u16, rows: &mut [Row])
     requires { IsSmall timing.now }
-    ensures { rows.new ≡ map (spread_but timing.now number) rows.old }
+    ensures { rows.new ≡ map (with_change_spread_but timing.now port) rows.old }
 {
     for row in rows.iter_mut() {
-        row.spread_but(timing, number);
+        row.spread_but(timing, port);
     }
 }
 
+// The turn of the row at this place (17.31).
 fn take_turn(timing: &Timing, rows: &mut [Row], at: usize)
     requires small { IsSmall timing.now }
     requires at { at < length rows.old }
@@ -28,7 +30,8 @@ fn take_turn(timing: &Timing, rows: &mut [Row], at: usize)
     }
 }
 
-/// Each port that became forwarding starts a topology change, in ascending order (IEEE 802.1D-2004 17.31).
+/// Each port that became forwarding starts a topology change, in ascending order (IEEE 802.1D-2004
+/// 17.31).
 pub fn take_turns(timing: &Timing, rows: &mut [Row])
     requires { IsSmall timing.now }
     ensures { rows.new ≡ turns timing.now rows.old }

@@ -18,7 +18,7 @@ use Rattle.rstp_rules.specs.Ports.{is_received, is_root, is_designated, is_root_
 use Rattle.rstp_rules.specs.Vectors.{vector_cmp, same_vector, same_times, same_sender, port_number, info_time}
 use Rattle.frame_core.specs.Octets.{same_mac}
 use Rattle.rstp_rules.specs.Lines.{rstp_version, timers_of, times_in_force, timing_of}
-use Rattle.rstp_rules.specs.Transitions.{spread}
+use Rattle.rstp_rules.specs.Transitions.{with_change_spread}
 
 -- The sender of the vector is the port itself.
 abbrev pub is_own : BridgeId → Row → PriorityVector → Bool
@@ -31,8 +31,8 @@ is_taken own (Config m) r = r.line.on && not (is_own own r m.vector)
 is_taken own (Rapid m) r = r.line.on && not (is_own own r m.vector)
 
 -- 17.21.22, 17.23. Each message that is taken: the port is at no edge, and Config and TCN make it send no RST, RST make it send them.
-abbrev pub marked : Bool → Row → Row
-marked rapid r = record r { port = record r.port { edge = false; send_rstp = rapid } }
+abbrev pub after_mark : Bool → Row → Row
+after_mark rapid r = record r { port = record r.port { edge = false; send_rstp = rapid } }
 
 -- 17.6, 17.21.8. A vector is taken where it is better, or where the port that sent the recorded one sends again.
 abbrev pub is_superior : PriorityVector → Row → Bool
@@ -40,8 +40,8 @@ is_superior v r = is_lt (vector_cmp v r.port.vector) || (is_received r.port.info
 
 -- 17.21.1, 17.21.11 to 17.21.13, 17.21.23. It is recorded with its times and its age; what differs is not agreed; a
 -- proposal is noted.
-abbrev pub recorded : PriorityVector → Times → Bool → Row → Row
-recorded v t proposal r =
+abbrev pub after_record : PriorityVector → Times → Bool → Row → Row
+after_record v t proposal r =
     let same = same_vector v r.port.vector && same_times t r.port.times in
     record r {
       port = record r.port {
@@ -56,62 +56,62 @@ recorded v t proposal r =
     }
 
 -- A message of a designated port: its vector is recorded, or else a designated port answers it.
-abbrev pub offered : PriorityVector → Times → Bool → Row → Row
-offered v t proposal r =
-    if is_superior v r then recorded v t proposal r
+abbrev pub after_offer : PriorityVector → Times → Bool → Row → Row
+after_offer v t proposal r =
+    if is_superior v r then after_record v t proposal r
     else (if is_designated r.port.role then record r { port = record r.port { pending = true } } else r)
 
 -- 17.21.9. A message of a root, alternate or backup port to a designated port that it does not beat: agreed
 -- where it agrees over a point to point link.
-abbrev pub answered : PriorityVector → Bool → Row → Row
-answered v agreement r = if is_designated r.port.role && not (is_lt (vector_cmp v r.port.vector))
+abbrev pub after_answer : PriorityVector → Bool → Row → Row
+after_answer v agreement r = if is_designated r.port.role && not (is_lt (vector_cmp v r.port.vector))
     then record r { port = record r.port { agreed = agreement && r.line.point_to_point } }
     else r
 
 -- 17.21.8. By the role that an RST message tells. One of unknown role does nothing here.
-abbrev pub by_role : PortRole → PriorityVector → Times → Bool → Bool → Row → Row
-by_role said.Unknown v t proposal agreement r = r
-by_role said.AlternateOrBackup v t proposal agreement r = answered v agreement r
-by_role said.Root v t proposal agreement r = answered v agreement r
-by_role said.Designated v t proposal agreement r = offered v t proposal r
+abbrev pub after_rapid : PortRole → PriorityVector → Times → Bool → Bool → Row → Row
+after_rapid said.Unknown v t proposal agreement r = r
+after_rapid said.AlternateOrBackup v t proposal agreement r = after_answer v agreement r
+after_rapid said.Root v t proposal agreement r = after_answer v agreement r
+after_rapid said.Designated v t proposal agreement r = after_offer v t proposal r
 
 -- A message that is taken. Under version 0 the proposal and agreement flags are read as 0.
-abbrev pub taken : Bool → Bpdu → Row → Row
-taken rstp TopologyChange r = marked false r
-taken rstp (Config m) r = offered m.vector m.times (m.proposal && rstp) (marked false r)
-taken rstp (Rapid m) r = by_role m.role m.vector m.times (m.proposal && rstp) (m.agreement && rstp) (marked true r)
+abbrev pub after_message : Bool → Bpdu → Row → Row
+after_message rstp TopologyChange r = after_mark false r
+after_message rstp (Config m) r = after_offer m.vector m.times (m.proposal && rstp) (after_mark false r)
+after_message rstp (Rapid m) r = after_rapid m.role m.vector m.times (m.proposal && rstp) (m.agreement && rstp) (after_mark true r)
 
--- A message at port n, as far as that port is concerned.
-abbrev pub received : BridgeId → Bool → ℕ → Bpdu → Row → Row
-received own rstp n b r = if r.line.number == n && is_taken own b r then taken rstp b r else r
+-- A message at a port, as far as that port is concerned.
+abbrev pub after_reception : BridgeId → Bool → ℕ → Bpdu → Row → Row
+after_reception own rstp port b r = if r.line.number == port && is_taken own b r then after_message rstp b r else r
 
--- 17.21.17. Whether the message at port n tells the other ports of a topology change: with its flag, or as a TCN,
+-- 17.21.17. Whether the message at a port tells the other ports of a topology change: with its flag, or as a TCN,
 -- on a root or designated port.
 abbrev pub spreads : BridgeId → ℕ → Bpdu → Row → Bool
-spreads own n b r = r.line.number == n && is_taken own b r && is_root_or_designated r.port.role && tells_change b
+spreads own port b r = r.line.number == port && is_taken own b r && is_root_or_designated r.port.role && tells_change b
 
 -- 17.21.17. What it tells the port itself of a topology change: an acknowledgment to the root port, which need
 -- not tell any longer; a notification to a designated port, which acknowledges it.
-abbrev pub acknowledged : Bpdu → Row → Row
-acknowledged TopologyChange r = if is_designated r.port.role then record r { port = record r.port { acknowledge = true; pending = true } } else r
-acknowledged (Config m) r = if m.acknowledge && is_root r.port.role then record r { port = record r.port { change_while = 0 } } else r
-acknowledged (Rapid m) r = r
+abbrev pub after_acknowledgment : Bpdu → Row → Row
+after_acknowledgment TopologyChange r = if is_designated r.port.role then record r { port = record r.port { acknowledge = true; pending = true } } else r
+after_acknowledgment (Config m) r = if m.acknowledge && is_root r.port.role then record r { port = record r.port { change_while = 0 } } else r
+after_acknowledgment (Rapid m) r = r
 
--- A message at port n: the topology change, where `change` says that it tells one.
-abbrev pub told : Timing → BridgeId → ℕ → Bpdu → Bool → Row → Row
-told t own n b change r =
-    if r.line.number == n then (if is_taken own b r then acknowledged b r else r)
-    else (if change then spread t r else r)
+-- A message at a port: the topology change, where `change` says that it tells one.
+abbrev pub after_change_notice : Timing → BridgeId → ℕ → Bpdu → Bool → Row → Row
+after_change_notice t own port b change r =
+    if r.line.number == port then (if is_taken own b r then after_acknowledgment b r else r)
+    else (if change then with_change_spread t r else r)
 
-abbrev pub told_all : Timing → BridgeId → ℕ → Bpdu → List Row → List Row
-told_all t own n b rows = map (told t own n b (list_any (spreads own n b) rows)) rows
+abbrev pub after_change_notices : Timing → BridgeId → ℕ → Bpdu → List Row → List Row
+after_change_notices t own port b rows = map (after_change_notice t own port b (list_any (spreads own port b) rows)) rows
 
-abbrev pub received_all : BridgeId → Bool → ℕ → Bpdu → List Row → List Row
-received_all own rstp n b rows = map (received own rstp n b) rows
+abbrev pub after_receptions : BridgeId → Bool → ℕ → Bpdu → List Row → List Row
+after_receptions own rstp port b rows = map (after_reception own rstp port b) rows
 
--- A message at port n: first what it tells the port, then the topology change, with the times in force then.
+-- A message at a port: first what it tells the port, then the topology change, with the times in force then.
 -- Roles are as they were before the event.
-unfoldable pub arrived : Table → BridgeId → ℕ → Bpdu → List Row → List Row
-arrived s own n b rows =
-    let heard = received_all own (rstp_version s) n b rows in
-    told_all (timing_of s (times_in_force (timers_of s) heard)) own n b heard
+unfoldable pub after_arrival : Table → BridgeId → ℕ → Bpdu → List Row → List Row
+after_arrival s own port b rows =
+    let heard = after_receptions own (rstp_version s) port b rows in
+    after_change_notices (timing_of s (times_in_force (timers_of s) heard)) own port b heard

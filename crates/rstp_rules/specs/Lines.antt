@@ -1,17 +1,18 @@
--- What the settings come to: for a port (IEEE 802.1D-2004 6.4.3, 9.2.5, 9.2.7, 17.14), and as times in
+-- What the settings come to: for a port (IEEE 802.1D-2004 9.2.5, 9.2.7, 17.14), and as times in
 -- force (17.18.4, 17.18.7, 17.20.6 to 17.20.8).
-use Rattle.std.specs.Prelude.{ℕ, ◌+◌, ◌*◌, ◌/◌, ◌≤◌, Bool, false, ◌&&◌, ◌||◌, if◌then◌else◌, ◌==◌, min, max, List, Option, Some, None}
+use Rattle.std.specs.Prelude.{ℕ, ◌+◌, ◌*◌, ◌/◌, ◌≤◌, Bool, false, ◌&&◌, if◌then◌else◌, ◌==◌, min, max, List, Option, Some, None}
 use Rattle.std.specs.List.{find}
 use Rattle.frame_core.specs.declared.mac.Mac.{Mac}
 use Rattle.frame_core.specs.declared.bpdu.BridgeId.{BridgeId}
 use Rattle.frame_core.specs.declared.bpdu.Times.{Times}
 use Rattle.rstp_settings.specs.Table.{Table, get}
 use Rattle.rstp_settings.specs.declared.key.PortValues.{PortValues}
-use Rattle.rstp_settings.specs.declared.key.TheConstants.{VERSION_RSTP, PORT_ENABLED, EDGE_TRUE, MIGRATION_CHECK, POINT_TO_POINT_TRUE, POINT_TO_POINT_AUTO}
+use Rattle.rstp_settings.specs.declared.key.TheConstants.{VERSION_RSTP, PORT_ENABLED, EDGE_TRUE, MIGRATION_CHECK}
 use Rattle.rstp_settings.specs.declared.key.Key.TheVariants as key
 use Rattle.rstp_settings.specs.declared.key.BridgeKey.TheVariants as bridge
-use Rattle.rstp_settings.specs.declared.key.PortKey.TheVariants as port
-use Rattle.rstp_rules.specs.declared.config.PortConfig.{PortConfig}
+use Rattle.rstp_settings.specs.declared.key.PortKey.TheVariants as port_key
+use Rattle.rstp_settings.specs.declared.config.PortConfig.{PortConfig}
+use Rattle.rstp_settings.specs.Config.{cost_in_use, is_point_to_point}
 use Rattle.rstp_rules.specs.declared.port.Port.{Port}
 use Rattle.rstp_rules.specs.declared.row.Line.{Line}
 use Rattle.rstp_rules.specs.declared.row.Row.{Row}
@@ -31,45 +32,33 @@ own_id s address = record { priority = get s (key.Bridge bridge.Priority); addre
 abbrev pub rstp_version : Table → Bool
 rstp_version s = get s (key.Bridge bridge.Version) == VERSION_RSTP
 
--- The default cost of a speed in Mb/s (17.14).
-abbrev pub default_cost : ℕ → ℕ
-default_cost speed = if speed == 10 then 2000000 else (if speed == 100 then 200000 else 20000)
-
--- The cost in use is the setting, or where that is 0 the default.
-abbrev pub cost_in_use : ℕ → ℕ → ℕ
-cost_in_use setting speed = if setting == 0 then default_cost speed else setting
-
--- 6.4.3. Forced true, forced false, or by full duplex.
-abbrev pub is_point_to_point : ℕ → Bool → Bool
-is_point_to_point setting full = setting == POINT_TO_POINT_TRUE || (setting == POINT_TO_POINT_AUTO && full)
-
 -- Whether a port is enabled by its setting.
 abbrev pub enabled_by : Table → ℕ → Bool
-enabled_by s n = get s (key.Port n port.Enable) == PORT_ENABLED
+enabled_by s port = get s (key.Port port port_key.Enable) == PORT_ENABLED
 
 -- Whether a port is set to be at the edge.
 abbrev pub edge_by : Table → ℕ → Bool
-edge_by s n = get s (key.Port n port.Edge) == EDGE_TRUE
+edge_by s port = get s (key.Port port port_key.Edge) == EDGE_TRUE
 
--- Port n under the settings s, where w are its settled values. It is on where it is enabled and its link is up.
+-- A port under the settings s, where w are its settled values. It is on where it is enabled and its link is up.
 abbrev pub line_of : Table → SettledPort → ℕ → PortConfig → Bool → Line
-line_of s w n c link = record {
-  number = n;
-  id = port_id (get s (key.Port n port.Priority)) n;
-  cost = cost_in_use (get s (key.Port n port.Cost)) c.speed;
-  enabled = enabled_by s n;
-  on = enabled_by s n && link;
-  point_to_point = is_point_to_point (get s (key.Port n port.PointToPoint)) c.full;
-  edge = edge_by s n;
-  migrate = get s (key.Port n port.Migrate) == MIGRATION_CHECK;
+line_of s w port c link = record {
+  number = port;
+  id = port_id (get s (key.Port port port_key.Priority)) port;
+  cost = cost_in_use (get s (key.Port port port_key.Cost)) c.speed;
+  enabled = enabled_by s port;
+  on = enabled_by s port && link;
+  point_to_point = is_point_to_point (get s (key.Port port port_key.PointToPoint)) c.full;
+  edge = edge_by s port;
+  migrate = get s (key.Port port port_key.Migrate) == MIGRATION_CHECK;
   was_enabled = w.enabled;
   was_edge = w.edge;
 }
 
--- The row of port n as an event begins.
+-- The row of a port as an event begins.
 abbrev pub row_of : Table → SettledPort → ℕ → PortConfig → Port → Row
-row_of s w n c p = record {
-  line = line_of s w n c p.link;
+row_of s w port c p = record {
+  line = line_of s w port c p.link;
   was = record { role = p.role; state = p.state; vector = p.vector };
   port = p;
   proposed = false;
@@ -90,6 +79,12 @@ timers_of s = record {
   hello = get s (key.Bridge bridge.Hello);
   forward_delay = get s (key.Bridge bridge.ForwardDelay);
 }
+
+-- Times of settings are at most 40 seconds (17.14).
+pub record AreTimers (m : Timers) : Type 0 where
+  pub max_age : m.max_age ≤ 4000
+  pub hello : m.hello ≤ 4000
+  pub forward_delay : m.forward_delay ≤ 4000
 
 -- The settings as times, with message age 0.
 abbrev pub set_times : Timers → Times
@@ -125,9 +120,6 @@ abbrev pub settled_port_of : PortValues → SettledPort
 settled_port_of p = record { enabled = p.enable == PORT_ENABLED; edge = p.edge == EDGE_TRUE }
 
 -- Where there is no port.
-abbrev pub no_config : PortConfig
-no_config = record { ifindex = 0; speed = 0; full = false }
-
 abbrev pub no_settled_port : SettledPort
 no_settled_port = record { enabled = false; edge = false }
 

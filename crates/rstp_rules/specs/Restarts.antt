@@ -8,8 +8,8 @@ use Rattle.rstp_rules.specs.declared.port.State.TheVariants.{Discarding}
 
 -- A restart: the port's own information, no role, discarding, no counts, RST messages, edge as set, no other
 -- flag; its learned rows go. Its role and state before the roles are chosen are these.
-abbrev pub restarted : Row → Row
-restarted r = record r {
+abbrev pub after_restart : Row → Row
+after_restart r = record r {
   was = record r.was { role = Disabled; state = Discarding };
   port = record r.port {
     info = Mine;
@@ -32,30 +32,30 @@ restarted r = record r {
 }
 
 -- A link that changes: the port goes on or off where it is enabled, and starts anew then.
-abbrev pub switched : Bool → Row → Row
-switched up r =
+abbrev pub after_switch : Bool → Row → Row
+after_switch up r =
     let s = record r { line = record r.line { on = r.line.enabled && up }; port = record r.port { link = up } } in
-    if r.line.enabled then restarted s else s
+    if r.line.enabled then after_restart s else s
 
--- A link event at port n. One that repeats the link's state changes nothing.
-abbrev pub linked : ℕ → Bool → Row → Row
-linked n up r = if r.line.number == n && not (if up then r.port.link else not r.port.link) then switched up r else r
+-- A link event at a port. One that repeats the link's state changes nothing.
+abbrev pub after_link : ℕ → Bool → Row → Row
+after_link port up r = if r.line.number == port && not (if up then r.port.link else not r.port.link) then after_switch up r else r
 
 -- Settling finds the version changed, or the port gone on or off by its setting.
 abbrev pub is_renewed : Bool → Row → Bool
 is_renewed version_changed r = version_changed || (r.port.link && (if r.line.enabled then not r.line.was_enabled else r.line.was_enabled))
 
-abbrev pub renewed : Bool → Row → Row
-renewed version_changed r = if is_renewed version_changed r then restarted r else r
+abbrev pub after_renewal : Bool → Row → Row
+after_renewal version_changed r = if is_renewed version_changed r then after_restart r else r
 
 -- Settling finds the edge setting changed.
-abbrev pub edged : Row → Row
-edged r = if (if r.line.edge then not r.line.was_edge else r.line.was_edge) then record r { port = record r.port { edge = r.line.edge } } else r
+abbrev pub after_edge_setting : Row → Row
+after_edge_setting r = if (if r.line.edge then not r.line.was_edge else r.line.was_edge) then record r { port = record r.port { edge = r.line.edge } } else r
 
 -- 17.19.13. A protocol migration check makes the port send RST messages.
-abbrev pub migrated : Row → Row
-migrated r = if r.line.migrate then record r { port = record r.port { send_rstp = true } } else r
+abbrev pub after_migration_check : Row → Row
+after_migration_check r = if r.line.migrate then record r { port = record r.port { send_rstp = true } } else r
 
 -- What settling does to a port.
-abbrev pub settled_anew : Bool → Row → Row
-settled_anew version_changed r = migrated (edged (renewed version_changed r))
+abbrev pub after_settling : Bool → Row → Row
+after_settling version_changed r = after_migration_check (after_edge_setting (after_renewal version_changed r))

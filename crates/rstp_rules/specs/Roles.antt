@@ -22,8 +22,8 @@ abbrev pub beats : Best → Best → Bool
 beats a b = is_lt (best_cmp a b)
 
 -- 17.21.23, 17.27. A received vector whose time is over is received no longer.
-abbrev pub expired : Row → Row
-expired r = if is_received r.port.info && r.port.info_while == 0
+abbrev pub after_expiry : Row → Row
+after_expiry r = if is_received r.port.info && r.port.info_while == 0
     then record r { port = record r.port { info = Mine } }
     else r
 
@@ -56,8 +56,8 @@ abbrev pub designated_vector : BridgeId → Best → Line → PriorityVector
 designated_vector own root l = record { root = root.vector.root; cost = root.vector.cost; bridge = own; port = l.id }
 
 -- A port that is not received holds its designated vector.
-abbrev pub designated : BridgeId → Best → Row → Row
-designated own root r = record r { port = record r.port { info = Mine; role = Designated; vector = designated_vector own root r.line } }
+abbrev pub with_designated_vector : BridgeId → Best → Row → Row
+with_designated_vector own root r = record r { port = record r.port { info = Mine; role = Designated; vector = designated_vector own root r.line } }
 
 -- 17.21.25. The role of a port: disabled where it is off; designated where its vector is its own; root where the
 -- root vector came by it; designated where its designated vector is better than its vector; backup where its
@@ -65,8 +65,8 @@ designated own root r = record r { port = record r.port { info = Mine; role = De
 abbrev pub with_role : BridgeId → Best → Row → Row
 with_role own root r =
     if not r.line.on then record r { port = record r.port { role = Disabled; vector = designated_vector own root r.line } }
-    else (if not (is_received r.port.info) then designated own root r
+    else (if not (is_received r.port.info) then with_designated_vector own root r
     else (if root.receiver == r.line.id then record r { port = record r.port { role = Root } }
-    else (if is_lt (vector_cmp (designated_vector own root r.line) r.port.vector) then designated own root r
+    else (if is_lt (vector_cmp (designated_vector own root r.line) r.port.vector) then with_designated_vector own root r
     else (if same_mac r.port.vector.bridge.address own.address then record r { port = record r.port { role = Backup } }
     else record r { port = record r.port { role = Alternate } }))))

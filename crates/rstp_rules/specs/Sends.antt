@@ -28,19 +28,19 @@ config_of c r = record {
   times = c.times;
 }
 
-abbrev pub said : Role → PortRole
-said Disabled = told.Unknown
-said Designated = told.Designated
-said Root = told.Root
-said Alternate = told.AlternateOrBackup
-said Backup = told.AlternateOrBackup
+abbrev pub role_in_bpdu : Role → PortRole
+role_in_bpdu Disabled = told.Unknown
+role_in_bpdu Designated = told.Designated
+role_in_bpdu Root = told.Root
+role_in_bpdu Alternate = told.AlternateOrBackup
+role_in_bpdu Backup = told.AlternateOrBackup
 
 -- 17.21.20. An RST message.
 abbrev pub rapid_of : Context → Row → RapidBody
 rapid_of c r = record {
   topology_change = nat_lt 0 r.port.change_while;
   proposal = is_designated r.port.role && not (is_forwarding r.port.state) && not r.port.edge;
-  role = said r.port.role;
+  role = role_in_bpdu r.port.role;
   learning = not (is_discarding r.port.state);
   forwarding = is_forwarding r.port.state;
   agreement = is_root r.port.role && r.port.agree;
@@ -50,23 +50,23 @@ rapid_of c r = record {
 
 -- What a port has to send, whether or not it may now: a designated port RST or Config; a root port RST, or a TCN
 -- while it tells a topology change; other ports nothing.
-abbrev pub due : Context → Row → Option Bpdu
-due c r =
+abbrev pub message_due : Context → Row → Option Bpdu
+message_due c r =
     if is_designated r.port.role then (if sends_rapid c.timing r then Some (Rapid (rapid_of c r)) else Some (Config (config_of c r)))
     else (if is_root r.port.role then (if sends_rapid c.timing r then Some (Rapid (rapid_of c r)) else (if nat_lt 0 r.port.change_while then Some TopologyChange else None))
     else None)
 
 -- A pending port sends where it has sent fewer than the hold count.
 abbrev pub sends : Context → Row → Bool
-sends c r = r.port.pending && is_some (due c r) && nat_lt r.port.sent_count c.hold_count
+sends c r = r.port.pending && is_some (message_due c r) && nat_lt r.port.sent_count c.hold_count
 
 abbrev pub bpdu_of : Context → Row → Option Bpdu
-bpdu_of c r = if sends c r then due c r else None
+bpdu_of c r = if sends c r then message_due c r else None
 
 -- What sending leaves: one more is sent and nothing is pending; a Config message has told its acknowledgment.
 -- Where nothing is to be sent, nothing is pending.
-abbrev pub sent : Context → Row → Row
-sent c r =
+abbrev pub after_sending : Context → Row → Row
+after_sending c r =
     if sends c r then record r {
       port = record r.port {
         sent_count = r.port.sent_count + 1;
@@ -74,7 +74,7 @@ sent c r =
         acknowledge = r.port.acknowledge && not (is_designated r.port.role && not (sends_rapid c.timing r));
       };
     }
-    else (if is_some (due c r) then r
+    else (if is_some (message_due c r) then r
     else record r { port = record r.port { pending = false } })
 
 -- The numbers of the ports whose learned rows go.

@@ -5,8 +5,8 @@ use Rattle.rstp_rules.specs.declared.row.Timing.{Timing}
 use Rattle.rstp_rules.specs.Ports.{is_root_or_designated, is_designated}
 
 -- 17.22. A tick lowers by one each count that is above 0.
-abbrev pub ticked : Row → Row
-ticked r = record r {
+abbrev pub after_tick : Row → Row
+after_tick r = record r {
   port = record r.port {
     info_while = r.port.info_while - 1;
     forward_while = r.port.forward_while - 1;
@@ -19,7 +19,7 @@ ticked r = record r {
 
 -- 17.26. The hello step: a root or designated port whose hello time is over starts it again; a designated one, or
 -- a root port that tells a topology change, has something to send.
-abbrev pub greeted : Timing → Row → Row
-greeted t r = if is_root_or_designated r.port.role && r.port.hello_when == 0
+abbrev pub after_hello_step : Timing → Row → Row
+after_hello_step t r = if is_root_or_designated r.port.role && r.port.hello_when == 0
     then record r { port = record r.port { hello_when = t.hello; pending = r.port.pending || is_designated r.port.role || nat_lt 0 r.port.change_while } }
     else r

@@ -15,61 +15,61 @@ abbrev pub has_changed_role : Row → Bool
 has_changed_role r = not (same_role r.was.role r.port.role)
 
 -- a. A port whose role became alternate or backup: discarding; no wait, no topology change; its learned rows go.
-abbrev pub blocked : Row → Row
-blocked r = if is_alternate_or_backup r.port.role && has_changed_role r
+abbrev pub after_blocking : Row → Row
+after_blocking r = if is_alternate_or_backup r.port.role && has_changed_role r
     then record r { port = record r.port { state = Discarding; forward_while = 0; change_while = 0 }; flushed = true }
     else r
 
 -- b. A discarding port that became root or designated, and was neither, waits the forward delay.
-abbrev pub delayed : Context → Row → Row
-delayed c r = if is_root_or_designated r.port.role && not (is_root_or_designated r.was.role) && is_discarding r.port.state
+abbrev pub after_delay : Context → Row → Row
+after_delay c r = if is_root_or_designated r.port.role && not (is_root_or_designated r.was.role) && is_discarding r.port.state
     then record r { port = record r.port { forward_while = c.timing.forward_delay } }
     else r
 
 -- b. From root to designated while not discarding: a recent root.
-abbrev pub retired : Context → Row → Row
-retired c r = if is_root r.was.role && is_designated r.port.role && not (is_discarding r.port.state)
+abbrev pub after_root_role : Context → Row → Row
+after_root_role c r = if is_root r.was.role && is_designated r.port.role && not (is_discarding r.port.state)
     then record r { port = record r.port { recent_root_while = c.timing.forward_delay } }
     else r
 
 -- b. A changed role has no agreement.
-abbrev pub disagreed : Row → Row
-disagreed r = if has_changed_role r
+abbrev pub after_role_change : Row → Row
+after_role_change r = if has_changed_role r
     then record r { port = record r.port { agreed = false; agree = false } }
     else r
 
 -- b. A discarding port is no recent root.
-abbrev pub rested : Row → Row
-rested r = if is_discarding r.port.state
+abbrev pub after_discarding : Row → Row
+after_discarding r = if is_discarding r.port.state
     then record r { port = record r.port { recent_root_while = 0 } }
     else r
 
 -- c. A designated port whose role, vector or times in force changed in this event has something to send. A changed
 -- vector is not agreed.
-abbrev pub announced : Context → Row → Row
-announced c r = if is_designated r.port.role && (has_changed_role r || not (same_vector r.was.vector r.port.vector) || not (same_times c.was_times c.times))
+abbrev pub after_announcement : Context → Row → Row
+after_announcement c r = if is_designated r.port.role && (has_changed_role r || not (same_vector r.was.vector r.port.vector) || not (same_times c.was_times c.times))
     then record r { port = record r.port { pending = true; agreed = r.port.agreed && same_vector r.was.vector r.port.vector } }
     else r
 
 -- a to c, each of which looks at one port.
-abbrev pub turned : Context → Row → Row
-turned c r = announced c (rested (disagreed (retired c (delayed c (blocked r)))))
+abbrev pub after_first_transitions : Context → Row → Row
+after_first_transitions c r = after_announcement c (after_discarding (after_role_change (after_root_role c (after_delay c (after_blocking r)))))
 
 -- d. A proposal was noted on the port that is now root.
-abbrev pub proposed_to_root : List Row → Bool
-proposed_to_root rows = list_any (λ r. is_root r.port.role && r.proposed) rows
+abbrev pub has_proposal : List Row → Bool
+has_proposal rows = list_any (λ r. is_root r.port.role && r.proposed) rows
 
 -- d. Each designated port that is not edge, not agreed and not discarding becomes discarding, and the root port agrees.
-abbrev pub synced : Context → Row → Row
-synced c r = if is_root r.port.role
+abbrev pub after_synchronization : Context → Row → Row
+after_synchronization c r = if is_root r.port.role
     then record r { port = record r.port { agree = true; pending = true } }
     else (if is_designated r.port.role && not r.port.edge && not r.port.agreed && not (is_discarding r.port.state)
     then record r { port = record r.port { state = Discarding; forward_while = c.timing.forward_delay; recent_root_while = 0; pending = true } }
     else r)
 
 -- d. Under version 2.
-abbrev pub synced_all : Context → List Row → List Row
-synced_all c rows = if c.timing.rstp_version && proposed_to_root rows then map (synced c) rows else rows
+abbrev pub after_synchronizations : Context → List Row → List Row
+after_synchronizations c rows = if c.timing.rstp_version && has_proposal rows then map (after_synchronization c) rows else rows
 
 -- e. No port but the root port is a recent root.
 abbrev pub no_recent_root : List Row → Bool
@@ -81,15 +81,15 @@ abbrev pub is_quick : Context → Bool → Row → Bool
 is_quick c clear r = c.timing.rstp_version && (is_root r.port.role && clear || is_designated r.port.role && (r.port.edge || r.port.agreed))
 
 -- e. Any other root or designated port whose wait is over takes the next state, and waits again before it forwards.
-abbrev pub advanced : Context → Bool → Row → Row
-advanced c clear r = if is_quick c clear r
+abbrev pub after_advance : Context → Bool → Row → Row
+after_advance c clear r = if is_quick c clear r
     then record r { port = record r.port { state = Forwarding } }
     else (if is_root_or_designated r.port.role && r.port.forward_while == 0
     then record r { port = record r.port { state = next_state r.port.state; forward_while = (if is_discarding r.port.state then c.timing.forward_delay else 0) } }
     else r)
 
-abbrev pub advanced_all : Context → List Row → List Row
-advanced_all c rows = map (advanced c (no_recent_root rows)) rows
+abbrev pub after_advances : Context → List Row → List Row
+after_advances c rows = map (after_advance c (no_recent_root rows)) rows
 
 -- f. A port became forwarding.
 abbrev pub has_begun : Row → Bool
@@ -101,18 +101,18 @@ abbrev pub change_time : Timing → Row → ℕ
 change_time t r = if sends_rapid t r then t.hello + 1 else t.max_age + t.forward_delay
 
 -- 17.21.7. A port starts to tell a topology change, unless it does already.
-abbrev pub started : Timing → Row → Row
-started t r = if r.port.change_while == 0
+abbrev pub with_change_started : Timing → Row → Row
+with_change_started t r = if r.port.change_while == 0
     then record r { port = record r.port { change_while = change_time t r; pending = true } }
     else r
 
 -- 17.21.18. Another port tells the change too, and its learned rows go: one that is on, root or designated, and
 -- not at the edge.
-abbrev pub spread : Timing → Row → Row
-spread t r = if r.line.on && is_root_or_designated r.port.role && not r.port.edge
-    then record (started t r) { flushed = true }
+abbrev pub with_change_spread : Timing → Row → Row
+with_change_spread t r = if r.line.on && is_root_or_designated r.port.role && not r.port.edge
+    then record (with_change_started t r) { flushed = true }
     else r
 
 -- f. Its forward transitions rise by one.
-abbrev pub counted : Row → Row
-counted r = record r { port = record r.port { forward_transitions = (r.port.forward_transitions + 1) % 2 ^ 32 } }
+abbrev pub with_transition_counted : Row → Row
+with_transition_counted r = record r { port = record r.port { forward_transitions = (r.port.forward_transitions + 1) % 2 ^ 32 } }

@@ -9,7 +9,7 @@ use Rattle.rstp_rules.specs.declared.port.State.TheVariants.{Discarding}
 use Rattle.rstp_rules.specs.declared.row.Row.{Row}
 use Rattle.rstp_rules.specs.declared.row.Timing.{Timing}
 use Rattle.rstp_rules.specs.Ports.{opening_port}
-use Rattle.rstp_rules.specs.Transitions.{has_begun, counted, started, spread}
+use Rattle.rstp_rules.specs.Transitions.{has_begun, with_transition_counted, with_change_started, with_change_spread}
 
 -- where there is no port
 abbrev pub no_bridge : BridgeId
@@ -28,18 +28,18 @@ no_row = record {
 }
 
 -- The other ports.
-abbrev pub spread_but : Timing → ℕ → Row → Row
-spread_but t n r = if r.line.number == n then r else spread t r
+abbrev pub with_change_spread_but : Timing → ℕ → Row → Row
+with_change_spread_but t port r = if r.line.number == port then r else with_change_spread t r
 
 -- A port that became forwarding: its transitions rise by one, and where it is not at the edge it starts to tell.
-abbrev pub begun : Timing → Row → Row
-begun t r = if r.port.edge then counted r else started t (counted r)
+abbrev pub after_begin : Timing → Row → Row
+after_begin t r = if r.port.edge then with_transition_counted r else with_change_started t (with_transition_counted r)
 
 -- The turn of row k: where it became forwarding and is not at the edge, the other ports tell it too.
 abbrev pub turn_at : Timing → List Row → ℕ → List Row
 turn_at t rows k = let r = slice_index_or rows k no_row in
     if has_begun r
-    then (if r.port.edge then slice_set rows k (begun t r) else map (spread_but t r.line.number) (slice_set rows k (begun t r)))
+    then (if r.port.edge then slice_set rows k (after_begin t r) else map (with_change_spread_but t r.line.number) (slice_set rows k (after_begin t r)))
     else rows
 
 -- The turns of the first n rows, in ascending order.
@@ -58,10 +58,10 @@ abbrev pub another_starts : List Row → Row → Bool
 another_starts rows r = list_any (λ q. not (q.line.number == r.line.number) && starts_change q) rows
 
 -- What becomes of a port: it begins to forward; and where another port starts a change, it tells that too.
-abbrev pub told_of_changes : Timing → Bool → Row → Row
-told_of_changes t another r =
-    let own = if has_begun r then begun t r else r in
-    if another then spread t own else own
+abbrev pub with_changes_told : Timing → Bool → Row → Row
+with_changes_told t another r =
+    let own = if has_begun r then after_begin t r else r in
+    if another then with_change_spread t own else own
 
 -- No two rows are of one port.
 abbrev pub AreDistinct : List Row → Type 0

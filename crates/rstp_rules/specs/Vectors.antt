@@ -9,7 +9,7 @@ use Rattle.frame_core.specs.declared.bpdu.Times.{Times}
 
 -- 9.2.7. A port id is 256 x port priority + number; its number is in the low twelve bits.
 abbrev pub port_id : ℕ → ℕ → ℕ
-port_id priority n = 256 * priority + n
+port_id priority port = 256 * priority + port
 
 abbrev pub port_number : ℕ → ℕ
 port_number id = id % 4096

@@ -1,7 +1,8 @@
-//! A BPDU that arrives (IEEE 802.1D-2004 17.21.1, 17.21.8 to 17.21.18, 17.23, 17.27).
+//! A BPDU that arrives (IEEE 802.1D-2004 17.21.1, 17.21.8, 17.21.9, 17.21.11 to 17.21.13, 17.21.17,
+//! 17.21.18, 17.21.22, 17.23, 17.27).
 ghost use Rattle.std.specs.Prelude.{◌≡◌, ◌&&◌};
 ghost use Rattle.rstp_rules.specs.Lines.{IsSmall};
-ghost use Rattle.rstp_rules.specs.Arrivals.{is_own, is_taken, marked, is_superior, recorded, offered, answered, by_role, taken, received, spreads, acknowledged, told};
+ghost use Rattle.rstp_rules.specs.Arrivals.{is_own, is_taken, after_mark, is_superior, after_record, after_offer, after_answer, after_rapid, after_message, after_reception, spreads, after_acknowledgment, after_change_notice};
 
 use crate::bpdus::has_topology_change;
 use crate::port::Info;
@@ -12,6 +13,7 @@ use crate::vector::{
 use frame_core::{Bpdu, BridgeId, PortRole, PriorityVector, Rapid, Times};
 
 impl Row {
+    // Whether the port itself sent the vector.
     fn is_own(&self, own: BridgeId, vector: &PriorityVector) -> bool
         ensures { result ≡ is_own own self.now vector.now }
     {
@@ -19,6 +21,8 @@ impl Row {
             && number_of_port(vector.port) == number_of_port(self.line.id)
     }
 
+    // Whether a message is not ignored: the port is on, and a Configuration or RST BPDU is not its
+    // own (9.3.4, 17.23).
     fn is_taken(&self, own: BridgeId, bpdu: &Bpdu) -> bool
         ensures { result ≡ is_taken own bpdu.now self.now }
     {
@@ -29,13 +33,15 @@ impl Row {
         }
     }
 
+    // Notes which messages the neighbour sends (17.21.22, 17.23).
     fn mark(&mut self, rapid: bool)
-        ensures { self.new ≡ marked rapid self.old }
+        ensures { self.new ≡ after_mark rapid self.old }
     {
         self.port.edge = false;
         self.port.send_rstp = rapid;
     }
 
+    // Whether a vector is better, or of the port that sent the recorded one (17.6, 17.21.8).
     fn is_superior(&self, vector: &PriorityVector) -> bool
         ensures { result ≡ is_superior vector.now self.now }
     {
@@ -43,8 +49,10 @@ impl Row {
             || self.port.info.is_received() && is_same_sender(vector, &self.port.vector)
     }
 
+    // Records a vector with its times, its age and its proposal (17.21.1, 17.21.11 to 17.21.13,
+    // 17.21.23).
     fn record(&mut self, vector: &PriorityVector, times: &Times, proposal: bool)
-        ensures { self.new ≡ recorded vector.now times.now proposal self.old }
+        ensures { self.new ≡ after_record vector.now times.now proposal self.old }
     {
         let same = is_same_vector(vector, &self.port.vector)
             && is_same_times(times, &self.port.times);
@@ -58,8 +66,9 @@ impl Row {
         self.proposed = proposal;
     }
 
+    // The message of a designated port (17.21.8).
     fn offer(&mut self, vector: &PriorityVector, times: &Times, proposal: bool)
-        ensures { self.new ≡ offered vector.now times.now proposal self.old }
+        ensures { self.new ≡ after_offer vector.now times.now proposal self.old }
     {
         if self.is_superior(vector) {
             self.record(vector, times, proposal);
@@ -68,16 +77,18 @@ impl Row {
         }
     }
 
+    // The message of a root, alternate or backup port to a designated port (17.21.9).
     fn answer(&mut self, vector: &PriorityVector, agreement: bool)
-        ensures { self.new ≡ answered vector.now agreement self.old }
+        ensures { self.new ≡ after_answer vector.now agreement self.old }
     {
         if self.port.role.is_designated() && !is_better(vector, &self.port.vector) {
             self.port.agreed = agreement && self.line.point_to_point;
         }
     }
 
+    // An RST BPDU, by the role that it tells (17.21.8).
     fn take_rapid(&mut self, message: &Rapid, rstp: bool)
-        ensures { self.new ≡ by_role message.now.role message.now.vector message.now.times
+        ensures { self.new ≡ after_rapid message.now.role message.now.vector message.now.times
             (message.now.proposal && rstp) (message.now.agreement && rstp) self.old }
     {
         match message.role {
@@ -91,8 +102,9 @@ impl Row {
         }
     }
 
+    // A message that is not ignored; `rstp` says that the version is 2 (17.21.8, 17.21.22).
     fn take(&mut self, rstp: bool, bpdu: &Bpdu)
-        ensures { self.new ≡ taken rstp bpdu.now self.old }
+        ensures { self.new ≡ after_message rstp bpdu.now self.old }
     {
         match bpdu {
             Bpdu::TopologyChange => self.mark(false),
@@ -107,27 +119,29 @@ impl Row {
         }
     }
 
-    /// A message at port `number`, as far as that port is concerned; `rstp` says that the version is 2.
-    pub fn receive(&mut self, own: BridgeId, rstp: bool, number: u16, bpdu: &Bpdu)
-        ensures { self.new ≡ received own rstp number bpdu.now self.old }
+    /// A message at port `port`, as far as that port is concerned; `rstp` says that the version
+    /// is 2 (17.21.8, 17.23).
+    pub fn receive(&mut self, own: BridgeId, rstp: bool, port: u16, bpdu: &Bpdu)
+        ensures { self.new ≡ after_reception own rstp port bpdu.now self.old }
     {
-        if self.line.number == number && self.is_taken(own, bpdu) {
+        if self.line.number == port && self.is_taken(own, bpdu) {
             self.take(rstp, bpdu);
         }
     }
 
-    /// Whether a message at port `number` tells the other ports of a topology change.
-    pub fn spreads(&self, own: BridgeId, number: u16, bpdu: &Bpdu) -> bool
-        ensures { result ≡ spreads own number bpdu.now self.now }
+    /// Whether a message at port `port` tells the other ports of a topology change (17.21.17).
+    pub fn spreads(&self, own: BridgeId, port: u16, bpdu: &Bpdu) -> bool
+        ensures { result ≡ spreads own port bpdu.now self.now }
     {
-        self.line.number == number
+        self.line.number == port
             && self.is_taken(own, bpdu)
             && self.port.role.is_root_or_designated()
             && has_topology_change(bpdu)
     }
 
+    // What a message tells the port itself of a topology change (17.21.17).
     fn acknowledge(&mut self, bpdu: &Bpdu)
-        ensures { self.new ≡ acknowledged bpdu.now self.old }
+        ensures { self.new ≡ after_acknowledgment bpdu.now self.old }
     {
         match bpdu {
             Bpdu::TopologyChange => {
@@ -145,19 +159,20 @@ impl Row {
         }
     }
 
-    /// The topology change of a message at port `number`, where `change` says that it tells one.
+    /// The topology change of a message at port `port`, where `change` says that it tells one
+    /// (17.21.17, 17.21.18).
     pub fn hear_change(
         &mut self,
         timing: &Timing,
         own: BridgeId,
-        number: u16,
+        port: u16,
         bpdu: &Bpdu,
         change: bool,
     )
         requires { IsSmall timing.now }
-        ensures { self.new ≡ told timing.now own number bpdu.now change self.old }
+        ensures { self.new ≡ after_change_notice timing.now own port bpdu.now change self.old }
     {
-        if self.line.number == number {
+        if self.line.number == port {
             if self.is_taken(own, bpdu) {
                 self.acknowledge(bpdu);
             }

@@ -1,13 +1,19 @@
-//! The rules of the Rapid Spanning Tree Protocol for one port (IEEE 802.1D-2004 clause 17, in the profile of
-//! docs/PROFILE.md): the types of a port, and one small function for each rule, which is proved equal to the rule's
-//! definition. What all ports do together is in `rstp_core`.
+//! The rules of the Rapid Spanning Tree Protocol for one port (IEEE 802.1D-2004 clause 17, in the
+//! profile of docs/PROFILE.md): the types of a port, and one small function for each rule, which is
+//! proved equal to the rule's definition. What all ports do together is in `rstp_core`.
 //!
 //! # Entry points
-//! One module a subject: [`vector`], [`roles`], [`restarts`], [`arrivals`], [`ticks`], [`transitions`], [`sends`]; the
-//! types in [`port`], [`row`], [`config`], [`lines`]. Nothing here takes memory.
+//! The types in [`port`], [`row`] and [`settled`]; their rules, as methods, one module a subject;
+//! and what the settings come to in [`lines`], a port's number in [`vector`]. Nothing here takes
+//! memory.
 //!
 //! # Definitions
-//! `specs/`, a file a subject, named as the modules are.
+//! `specs/`, a file a subject: `Vectors.antt`, identifiers, vectors and their order; `Ports.antt`,
+//! words for information, role and state; `Bpdus.antt`, what a BPDU tells of a topology change;
+//! `Lines.antt`, what the settings come to and the times in force; `Roles.antt`, the root vector
+//! and the roles; `Restarts.antt`, a port that starts anew and settling; `Arrivals.antt`, a BPDU
+//! that arrives; `Ticks.antt`, a tick; `Transitions.antt`, states by roles; `Turns.antt`, ports
+//! that became forwarding; `Sends.antt`, what is sent.
 //!
 //! # Laws
 //! None: `rstp_core` has them.
@@ -16,16 +22,15 @@
 //! Conformance to the full text of clause 17.
 #![tactic(auto)]
 
-pub mod arrivals;
-pub mod bpdus;
-pub mod config;
+mod arrivals;
+mod bpdus;
 pub mod lines;
 pub mod port;
-pub mod restarts;
-pub mod roles;
+mod restarts;
+mod roles;
 pub mod row;
-pub mod sends;
+mod sends;
 pub mod settled;
-pub mod ticks;
-pub mod transitions;
+mod ticks;
+mod transitions;
 pub mod vector;

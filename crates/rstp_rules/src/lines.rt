@@ -1,18 +1,19 @@
-//! What the settings come to for a port, and the times in force (IEEE 802.1D-2004 6.4.3, 9.2.5, 9.2.7, 17.14).
+//! What the settings come to for a port, and the times in force (IEEE 802.1D-2004 9.2.5, 9.2.7,
+//! 17.14, 17.18.4, 17.18.7, 17.20.6 to 17.20.8).
 ghost use Rattle.std.specs.Prelude.{◌≡◌, ◌≤◌, length};
 ghost use Rattle.std.specs.List.{find};
 ghost use Rattle.std.specs.Option.{option_copied};
+ghost use Rattle.rstp_settings.specs.Table.{IsPortOf};
 ghost use Rattle.rstp_rules.specs.Ports.{is_root};
-ghost use Rattle.rstp_rules.specs.Lines.{IsSmall, own_id, rstp_version, default_cost, cost_in_use, is_point_to_point, enabled_by, edge_by, line_of, row_of, seconds, in_256ths, timers_of, set_times, times_in_force, timing_of, context_of};
+ghost use Rattle.rstp_rules.specs.Lines.{IsSmall, own_id, rstp_version, enabled_by, edge_by, line_of, row_of, seconds, in_256ths, timers_of, AreTimers, set_times, times_in_force, timing_of, context_of};
 
-use crate::config::PortConfig;
 use crate::port::Port;
 use crate::row::{Before, Best, Context, Line, Row, Timing};
 use crate::settled::{SettledPort, Timers};
 use frame_core::{BridgeId, Mac, Times};
+use rstp_settings::config::PortConfig;
 use rstp_settings::key::{
-    BridgeKey, EDGE_TRUE, Key, MIGRATION_CHECK, POINT_TO_POINT_AUTO, POINT_TO_POINT_TRUE,
-    PORT_ENABLED, PortKey, VERSION_RSTP,
+    BridgeKey, EDGE_TRUE, Key, MIGRATION_CHECK, PORT_ENABLED, PortKey, VERSION_RSTP,
 };
 use rstp_settings::settings::{MAX_PORTS, Settings};
 
@@ -33,74 +34,48 @@ pub fn has_rstp_version(settings: &Settings) -> bool
     settings.get(Key::Bridge(BridgeKey::Version)) == VERSION_RSTP
 }
 
-/// Whether a port is enabled by its setting.
-pub fn is_enabled(settings: &Settings, number: u16) -> bool
-    requires first { 1 ≤ number }
-    requires last { number ≤ length settings.now.ports }
-    ensures { result ≡ enabled_by settings.now number }
+/// Whether a port is enabled by its setting (RFC 4188 dot1dStpPortEnable).
+pub fn is_enabled(settings: &Settings, port: u16) -> bool
+    requires { IsPortOf (length settings.now.ports) port }
+    ensures { result ≡ enabled_by settings.now port }
 {
-    settings.get(Key::Port(number, PortKey::Enable)) == PORT_ENABLED
+    settings.get(Key::Port(port, PortKey::Enable)) == PORT_ENABLED
 }
 
-/// Whether a port is set to be at the edge.
-pub fn is_set_edge(settings: &Settings, number: u16) -> bool
-    requires first { 1 ≤ number }
-    requires last { number ≤ length settings.now.ports }
-    ensures { result ≡ edge_by settings.now number }
+/// Whether a port is set to be at the edge (17.13.1).
+pub fn is_set_edge(settings: &Settings, port: u16) -> bool
+    requires { IsPortOf (length settings.now.ports) port }
+    ensures { result ≡ edge_by settings.now port }
 {
-    settings.get(Key::Port(number, PortKey::Edge)) == EDGE_TRUE
+    settings.get(Key::Port(port, PortKey::Edge)) == EDGE_TRUE
 }
 
-impl PortConfig {
-    /// The default path cost of the port's speed (17.14).
-    pub fn default_cost(&self) -> u32
-        ensures { result ≡ default_cost self.now.speed }
+impl Line {
+    // What the settings of port `port` and its link come to (6.4.3, 9.2.7, 17.14).
+    fn of(
+        settings: &Settings,
+        settled: SettledPort,
+        port: u16,
+        config: &PortConfig,
+        link: bool,
+    ) -> Self
+        requires port { IsPortOf (length settings.now.ports) port }
+        requires small { port ≤ MAX_PORTS }
+        ensures { result ≡ line_of settings.now settled port config.now link }
     {
-        match self.speed {
-            10 => 2_000_000,
-            100 => 200_000,
-            _ => 20_000,
-        }
-    }
-
-    /// The path cost in use, where `setting` is the cost setting: 0 asks for the default cost.
-    pub fn cost_in_use(&self, setting: u32) -> u32
-        ensures { result ≡ cost_in_use setting self.now.speed }
-    {
-        if setting == 0 {
-            self.default_cost()
-        } else {
-            setting
-        }
-    }
-
-    /// Whether the port's link is point to point, where `setting` is the setting of that name (6.4.3).
-    pub fn is_point_to_point(&self, setting: u32) -> bool
-        ensures { result ≡ is_point_to_point setting self.now.full }
-    {
-        setting == POINT_TO_POINT_TRUE || setting == POINT_TO_POINT_AUTO && self.full
-    }
-
-    /// What the settings of port `number` and its link come to.
-    pub fn line(&self, settings: &Settings, settled: SettledPort, number: u16, link: bool) -> Line
-        requires first { 1 ≤ number }
-        requires last { number ≤ length settings.now.ports }
-        requires small { number ≤ MAX_PORTS }
-        ensures { result ≡ line_of settings.now settled number self.now link }
-    {
-        let enabled = is_enabled(settings, number);
+        let enabled = is_enabled(settings, port);
         Line {
-            number,
-            id: 256 * settings.get(Key::Port(number, PortKey::Priority)) as u16 + number,
-            cost: self.cost_in_use(settings.get(Key::Port(number, PortKey::Cost))),
+            number: port,
+            id: 256 * settings.get(Key::Port(port, PortKey::Priority)) as u16 + port,
+            cost: config.cost_in_use(settings.get(Key::Port(port, PortKey::Cost))),
             enabled,
             on: enabled && link,
-            point_to_point: self.is_point_to_point(settings.get(Key::Port(
-                number,
+            point_to_point: config.is_point_to_point(settings.get(Key::Port(
+                port,
                 PortKey::PointToPoint,
             ))),
-            edge: is_set_edge(settings, number),
-            migrate: settings.get(Key::Port(number, PortKey::Migrate)) == MIGRATION_CHECK,
+            edge: is_set_edge(settings, port),
+            migrate: settings.get(Key::Port(port, PortKey::Migrate)) == MIGRATION_CHECK,
             was_enabled: settled.enabled,
             was_edge: settled.edge,
         }
@@ -108,41 +83,41 @@ impl PortConfig {
 }
 
 impl Row {
-    /// The row of port `number` as an event begins.
+    /// The row of port `port` as an event begins.
     pub fn begin(
         settings: &Settings,
         settled: SettledPort,
-        number: u16,
+        port: u16,
         config: &PortConfig,
-        port: Port,
+        held: Port,
     ) -> Self
-        requires first { 1 ≤ number }
-        requires last { number ≤ length settings.now.ports }
-        requires small { number ≤ MAX_PORTS }
-        ensures { result ≡ row_of settings.now settled number config.now port }
+        requires port { IsPortOf (length settings.now.ports) port }
+        requires small { port ≤ MAX_PORTS }
+        ensures { result ≡ row_of settings.now settled port config.now held }
     {
         Row {
-            line: config.line(settings, settled, number, port.link),
+            line: Line::of(settings, settled, port, config, held.link),
             was: Before {
-                role: port.role,
-                state: port.state,
-                vector: port.vector,
+                role: held.role,
+                state: held.state,
+                vector: held.vector,
             },
-            port,
+            port: held,
             proposed: false,
             flushed: false,
         }
     }
 }
 
-/// A time in 1/256 s as seconds, rounded up and at least 1.
-pub fn in_seconds(time: u16) -> u16
+// A time in 1/256 s as seconds, rounded up and at least 1.
+fn in_seconds(time: u16) -> u16
     ensures value { result ≡ seconds time }
     ensures small { result ≤ 256 }
 {
     time.div_ceil(256).max(1)
 }
 
+// A time in 1/100 s in 1/256 s, rounded down.
 fn from_hundredths(time: u32) -> u16
     requires { time ≤ 4000 }
     ensures { result ≡ in_256ths time }
@@ -150,12 +125,10 @@ fn from_hundredths(time: u32) -> u16
     (time * 256 / 100) as u16
 }
 
-/// The three times of the settings.
+/// The three times of the settings (17.14).
 pub fn timers(settings: &Settings) -> Timers
     ensures value { result ≡ timers_of settings.now }
-    ensures max_age { result.max_age ≤ 4000 }
-    ensures hello { result.hello ≤ 4000 }
-    ensures forward_delay { result.forward_delay ≤ 4000 }
+    ensures range { AreTimers result }
 {
     Timers {
         max_age: settings.get(Key::Bridge(BridgeKey::MaxAge)),
@@ -164,11 +137,9 @@ pub fn timers(settings: &Settings) -> Timers
     }
 }
 
-/// The times of the settings with message age 0.
+/// The times of the settings with message age 0 (17.18.4).
 pub fn times_set(timers: Timers) -> Times
-    requires max_age { timers.max_age ≤ 4000 }
-    requires hello { timers.hello ≤ 4000 }
-    requires forward_delay { timers.forward_delay ≤ 4000 }
+    requires { AreTimers timers }
     ensures { result ≡ set_times timers }
 {
     Times {
@@ -179,18 +150,17 @@ pub fn times_set(timers: Timers) -> Times
     }
 }
 
-/// The row of the root port, if there is one.
+// The row of the root port, if there is one.
 fn root_row(rows: &[Row]) -> Option<&Row>
     ensures { option_copied result ≡ find (λ r. is_root r.port.role) rows.now }
 {
     rows.iter().find(|row| row.port.role.is_root())
 }
 
-/// The times in force, where `timers` are those of the settings.
+/// The times in force, where `timers` are those of the settings: the root port's a second later, or
+/// those set (17.18.7, 17.21.25).
 pub fn find_times(timers: Timers, rows: &[Row]) -> Times
-    requires max_age { timers.max_age ≤ 4000 }
-    requires hello { timers.hello ≤ 4000 }
-    requires forward_delay { timers.forward_delay ≤ 4000 }
+    requires { AreTimers timers }
     ensures { result ≡ times_in_force timers rows.now }
 {
     match root_row(rows) {
@@ -203,7 +173,7 @@ pub fn find_times(timers: Timers, rows: &[Row]) -> Times
     }
 }
 
-/// The version, and these times in seconds.
+/// The version, and these times in seconds (17.20.6 to 17.20.8, 17.20.11).
 pub fn make_timing(settings: &Settings, times: &Times) -> Timing
     ensures value { result ≡ timing_of settings.now times.now }
     ensures small { IsSmall result }
@@ -216,7 +186,7 @@ pub fn make_timing(settings: &Settings, times: &Times) -> Timing
     }
 }
 
-/// What holds for all ports under a root.
+/// What holds for all ports in an event under a root (17.18).
 pub fn make_context(
     settings: &Settings,
     own: BridgeId,

@@ -1,4 +1,5 @@
-//! A port of the spanning tree: information, role, state, timers (IEEE 802.1D-2004 7.4, 17.17, 17.19).
+//! A port of the spanning tree: information, role, state, timers (IEEE 802.1D-2004 7.4, 17.17,
+//! 17.19).
 ghost use Rattle.std.specs.Prelude.{◌≡◌};
 ghost use Rattle.rstp_rules.specs.Ports.{is_received, is_root_or_designated, is_alternate_or_backup, is_root, is_designated, is_discarding, is_forwarding, next_state, opening_port};
 
@@ -14,38 +15,50 @@ pub enum Info {
     Received,
 }
 
-/// A port's role (17.7).
+/// A port's role (IEEE 802.1D-2004 17.7).
 #[derive(Clone, Copy, Debug, Default, PartialEq, Eq)]
 pub enum Role {
+    /// Off, by its setting or its link.
     #[default]
     Disabled,
+    /// The port by which its network comes to the root.
     Designated,
+    /// The port by which this bridge comes to the root.
     Root,
+    /// It stands by for the root port.
     Alternate,
+    /// It stands by for another port of this bridge.
     Backup,
 }
 
-/// A port's state (7.4).
+/// A port's state (IEEE 802.1D-2004 7.4).
 #[derive(Clone, Copy, Debug, Default, PartialEq, Eq)]
 pub enum State {
+    /// It neither learns nor forwards.
     #[default]
     Discarding,
+    /// It learns and does not forward yet.
     Learning,
+    /// It learns and forwards.
     Forwarding,
 }
 
-/// What a port holds between events. Counts are in ticks of one second (17.17), and count down to 0.
+/// What a port holds between events. Counts are in ticks of one second (17.17), and count down to
+/// 0.
 #[derive(Clone, Copy, Debug, PartialEq, Eq)]
 pub struct Port {
     /// Whether its link is up.
     pub link: bool,
+    /// Where its vector comes from (infoIs).
     pub info: Info,
     /// The port priority vector (17.19.21).
     pub vector: PriorityVector,
-    /// The times of the last message that was recorded, at first those of the opening; of no effect where the information is the
-    /// port's own (17.19.22).
+    /// The times of the last message that was recorded, at first those of the opening; of no effect
+    /// where the information is the port's own (17.19.22).
     pub times: Times,
+    /// Its role (17.7).
     pub role: Role,
+    /// Its state (7.4).
     pub state: State,
     /// How long the received vector is kept (rcvdInfoWhile).
     pub info_while: u16,
@@ -76,7 +89,8 @@ pub struct Port {
 }
 
 impl Info {
-    pub fn is_received(self) -> bool
+    /// Whether the information was received (17.19.10).
+    pub(crate) fn is_received(self) -> bool
         ensures { result ≡ is_received self }
     {
         matches!(self, Info::Received)
@@ -84,25 +98,29 @@ impl Info {
 }
 
 impl Role {
-    pub fn is_root_or_designated(self) -> bool
+    /// Whether this is the role of a port that may come to forward (17.7).
+    pub(crate) fn is_root_or_designated(self) -> bool
         ensures { result ≡ is_root_or_designated self }
     {
         matches!(self, Role::Root | Role::Designated)
     }
 
-    pub fn is_alternate_or_backup(self) -> bool
+    /// Whether this is the role of a port that stands by (17.7).
+    pub(crate) fn is_alternate_or_backup(self) -> bool
         ensures { result ≡ is_alternate_or_backup self }
     {
         matches!(self, Role::Alternate | Role::Backup)
     }
 
+    /// Whether this is the role of the root port (17.7).
     pub fn is_root(self) -> bool
         ensures { result ≡ is_root self }
     {
         matches!(self, Role::Root)
     }
 
-    pub fn is_designated(self) -> bool
+    /// Whether this is the role of a designated port (17.7).
+    pub(crate) fn is_designated(self) -> bool
         ensures { result ≡ is_designated self }
     {
         matches!(self, Role::Designated)
@@ -110,20 +128,22 @@ impl Role {
 }
 
 impl State {
+    /// Whether a port of this state neither learns nor forwards (7.4).
     pub fn is_discarding(self) -> bool
         ensures { result ≡ is_discarding self }
     {
         matches!(self, State::Discarding)
     }
 
+    /// Whether a port of this state forwards (7.4).
     pub fn is_forwarding(self) -> bool
         ensures { result ≡ is_forwarding self }
     {
         matches!(self, State::Forwarding)
     }
 
-    /// The state that follows when the wait is over.
-    pub fn next(self) -> State
+    /// The state that follows when the wait is over (17.29.2, 17.29.3).
+    pub(crate) fn next(self) -> State
         ensures { result ≡ next_state self }
     {
         match self {
@@ -135,7 +155,8 @@ impl State {
 }
 
 impl Port {
-    /// A port at the opening: as after a restart with its link down, with this vector and these times.
+    /// A port at the opening: as after a restart with its link down, with this vector and these
+    /// times (17.24).
     pub fn opening(vector: PriorityVector, times: Times) -> Self
         ensures { result ≡ opening_port vector times }
     {
@@ -164,6 +185,7 @@ impl Port {
 }
 
 impl Default for Port {
+    /// What stands in places that no port has.
     fn default() -> Self {
         let nobody = BridgeId {
             priority: 0,

@@ -1,14 +1,15 @@
-//! A port that starts anew, a link that changes, settled settings (IEEE 802.1D-2004 17.24, 17.25, 17.29.1).
+//! A port that starts anew, a link that changes, settled settings (IEEE 802.1D-2004 17.19.13,
+//! 17.24, 17.25, 17.29.1).
 ghost use Rattle.std.specs.Prelude.{◌≡◌};
-ghost use Rattle.rstp_rules.specs.Restarts.{restarted, switched, linked, is_renewed, settled_anew};
+ghost use Rattle.rstp_rules.specs.Restarts.{after_restart, after_switch, after_link, is_renewed, after_settling};
 
 use crate::port::{Info, Role, State};
 use crate::row::Row;
 
 impl Row {
-    /// The port starts anew; its learned rows go.
-    pub fn restart(&mut self)
-        ensures { self.new ≡ restarted self.old }
+    // The port starts anew; its learned rows go (17.24, 17.25, 17.29.1).
+    fn restart(&mut self)
+        ensures { self.new ≡ after_restart self.old }
     {
         self.was.role = Role::Disabled;
         self.was.state = State::Discarding;
@@ -31,8 +32,9 @@ impl Row {
         self.flushed = true;
     }
 
+    // The link changes: a port that is enabled goes on or off, and starts anew (17.19.18, 17.25).
     fn switch(&mut self, up: bool)
-        ensures { self.new ≡ switched up self.old }
+        ensures { self.new ≡ after_switch up self.old }
     {
         self.line.on = self.line.enabled && up;
         self.port.link = up;
@@ -41,24 +43,25 @@ impl Row {
         }
     }
 
-    /// The link of port `number` goes up or down, or stays as it is.
-    pub fn link(&mut self, number: u16, up: bool)
-        ensures { self.new ≡ linked number up self.old }
+    /// The link of port `port` goes up or down, or stays as it is (17.19.18).
+    pub fn link(&mut self, port: u16, up: bool)
+        ensures { self.new ≡ after_link port up self.old }
     {
-        if self.line.number == number && self.port.link != up {
+        if self.line.number == port && self.port.link != up {
             self.switch(up);
         }
     }
 
+    // Whether settling makes the port start anew (17.13, 17.25).
     fn is_renewed(&self, version_changed: bool) -> bool
         ensures { result ≡ is_renewed version_changed self.now }
     {
         version_changed || self.port.link && self.line.enabled != self.line.was_enabled
     }
 
-    /// What settling the settings does to the port.
+    /// What settling the settings does to the port (17.13, 17.19.13).
     pub fn settle(&mut self, version_changed: bool)
-        ensures { self.new ≡ settled_anew version_changed self.old }
+        ensures { self.new ≡ after_settling version_changed self.old }
     {
         if self.is_renewed(version_changed) {
             self.restart();

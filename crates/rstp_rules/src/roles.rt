@@ -1,6 +1,7 @@
-//! The root vector and the roles of ports (IEEE 802.1D-2004 17.6, 17.21.25, 17.28).
+//! The root vector and the roles of ports (IEEE 802.1D-2004 17.6, 17.19.4, 17.21.23, 17.21.25,
+//! 17.27, 17.28).
 ghost use Rattle.std.specs.Prelude.{◌≡◌};
-ghost use Rattle.rstp_rules.specs.Roles.{best_cmp, beats, expired, own_best, candidate, or_better, designated_vector, designated, with_role};
+ghost use Rattle.rstp_rules.specs.Roles.{beats, after_expiry, own_best, candidate, or_better, designated_vector, with_designated_vector, with_role};
 
 use crate::port::{Info, Role};
 use crate::row::{Best, Line, Row};
@@ -23,14 +24,15 @@ impl Best {
         }
     }
 
-    /// Whether this is better than the other. Where the vectors are equal the receiving port decides.
-    pub fn beats(&self, other: &Best) -> bool
+    // Whether this is better than the other. Where the vectors are equal the receiving port decides
+    // (17.6).
+    fn beats(&self, other: &Best) -> bool
         ensures { result ≡ beats self.now other.now }
     {
         self.cmp(other).is_lt()
     }
 
-    /// The better of this and what a port may offer.
+    /// The better of this and what a port may offer (17.6).
     pub fn or_better(self, other: Option<Best>) -> Best
         ensures { result ≡ or_better self other }
     {
@@ -41,7 +43,7 @@ impl Best {
     }
 
     /// The vector of a designated port under this root (17.19.4).
-    pub fn designated(&self, own: BridgeId, line: &Line) -> PriorityVector
+    pub(crate) fn designated(&self, own: BridgeId, line: &Line) -> PriorityVector
         ensures { result ≡ designated_vector own self.now line.now }
     {
         PriorityVector {
@@ -54,16 +56,17 @@ impl Best {
 }
 
 impl Row {
-    /// A received vector whose time is over is received no longer.
+    /// A received vector whose time is over is received no longer (17.21.23, 17.27).
     pub fn expire(&mut self)
-        ensures { self.new ≡ expired self.old }
+        ensures { self.new ≡ after_expiry self.old }
     {
         if self.port.info.is_received() && self.port.info_while == 0 {
             self.port.info = Info::Mine;
         }
     }
 
-    /// What the port offers for the root vector.
+    /// What the port offers for the root vector: a received vector of another bridge, with the
+    /// port's cost added (17.21.25).
     pub fn candidate(&self, own: BridgeId) -> Option<Best>
         ensures { result ≡ candidate own self.now }
     {
@@ -82,8 +85,9 @@ impl Row {
         }
     }
 
+    // The port is designated, and holds its designated vector (17.19.4, 17.21.25).
     fn designate(&mut self, own: BridgeId, root: &Best)
-        ensures { self.new ≡ designated own root.now self.old }
+        ensures { self.new ≡ with_designated_vector own root.now self.old }
     {
         self.port.info = Info::Mine;
         self.port.role = Role::Designated;

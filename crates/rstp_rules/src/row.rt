@@ -7,19 +7,19 @@ use frame_core::{BridgeId, PriorityVector, Times};
 pub struct Line {
     /// The port's number, from 1.
     pub number: u16,
-    /// Its port identifier.
+    /// Its port identifier (9.2.7).
     pub id: u16,
-    /// Its path cost in use.
+    /// Its path cost in use (17.14).
     pub cost: u32,
     /// Whether it is enabled by its setting.
     pub enabled: bool,
     /// Whether it is enabled and its link is up.
     pub on: bool,
-    /// Whether its link is point to point.
+    /// Whether its link is point to point (6.4.3).
     pub point_to_point: bool,
-    /// Its edge setting.
+    /// Its edge setting (17.13.1).
     pub edge: bool,
-    /// Whether a protocol migration check is asked for.
+    /// Whether a protocol migration check is asked for (17.19.13).
     pub migrate: bool,
     /// Whether it was enabled when the settings were last settled.
     pub was_enabled: bool,
@@ -30,7 +30,9 @@ pub struct Line {
 /// What a port was before the roles are chosen anew: at the start of the event, or just restarted.
 #[derive(Clone, Copy, Debug)]
 pub struct Before {
+    /// The role.
     pub role: Role,
+    /// The state.
     pub state: State,
     /// The vector at the start of the event.
     pub vector: PriorityVector,
@@ -39,8 +41,11 @@ pub struct Before {
 /// A port in the course of an event.
 #[derive(Clone, Copy, Debug)]
 pub struct Row {
+    /// What its settings, its link and its number come to.
     pub line: Line,
+    /// What it was before.
     pub was: Before,
+    /// What it holds.
     pub port: Port,
     /// Whether a proposal was noted in this event.
     pub proposed: bool,
@@ -48,9 +53,10 @@ pub struct Row {
     pub flushed: bool,
 }
 
-/// A root vector, and the port by which it came.
+/// A root vector, and the port by which it came (IEEE 802.1D-2004 17.6, 17.18.6).
 #[derive(Clone, Copy, Debug, PartialEq, Eq, PartialOrd, Ord)]
 pub struct Best {
+    /// The vector, with the cost of the path to the root.
     pub vector: PriorityVector,
     /// The receiving port's identifier; 0, which is no port's, for the bridge's own vector.
     pub receiver: u16,
@@ -61,8 +67,11 @@ pub struct Best {
 pub struct Timing {
     /// Whether the version is 2 (IEEE 802.1D-2004 17.20.11 rstpVersion).
     pub rstp_version: bool,
+    /// How long a message is kept at most.
     pub max_age: u16,
+    /// The time between regular messages.
     pub hello: u16,
+    /// The wait before learning, and again before forwarding.
     pub forward_delay: u16,
 }
 
@@ -71,17 +80,20 @@ pub struct Timing {
 pub struct Context {
     /// This bridge's identifier.
     pub own: BridgeId,
+    /// The root vector.
     pub root: Best,
     /// The times in force at the start of the event.
     pub was_times: Times,
-    /// The times in force.
+    /// The times in force (17.18.7).
     pub times: Times,
+    /// The version, and the same times in seconds.
     pub timing: Timing,
-    /// How many messages a port may send in a row.
+    /// How many messages a port may send in a row (17.13.12).
     pub hold_count: u16,
 }
 
 impl Default for Row {
+    /// What stands in places that no port has.
     fn default() -> Self {
         let port = Port::default();
         Row {

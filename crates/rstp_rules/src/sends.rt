@@ -1,15 +1,15 @@
 //! What a port sends (IEEE 802.1D-2004 17.21.19 to 17.21.21, 17.26).
 ghost use Rattle.std.specs.Prelude.{◌≡◌};
-ghost use Rattle.rstp_rules.specs.Sends.{said, sends_rapid, config_of, rapid_of, due, sends, bpdu_of, sent};
+ghost use Rattle.rstp_rules.specs.Sends.{role_in_bpdu, sends_rapid, config_of, rapid_of, message_due, sends, bpdu_of, after_sending};
 
 use crate::port::Role;
 use crate::row::{Context, Row, Timing};
 use frame_core::{Bpdu, Config, PortRole, Rapid};
 
 impl Role {
-    /// What an RST message says of the role (IEEE 802.1D-2004 9.2.9).
-    pub fn said(self) -> PortRole
-        ensures { result ≡ said self }
+    // What an RST message says of the role (9.2.9, 17.21.20).
+    fn said(self) -> PortRole
+        ensures { result ≡ role_in_bpdu self }
     {
         match self {
             Role::Disabled => PortRole::Unknown,
@@ -22,12 +22,13 @@ impl Role {
 
 impl Row {
     /// Whether the port sends RST messages (17.19.38, 17.20.11).
-    pub fn sends_rapid(&self, timing: &Timing) -> bool
+    pub(crate) fn sends_rapid(&self, timing: &Timing) -> bool
         ensures { result ≡ sends_rapid timing.now self.now }
     {
         timing.rstp_version && self.port.send_rstp
     }
 
+    // The Configuration message of the port (17.21.19).
     fn config(&self, context: &Context) -> Config
         ensures { result ≡ config_of context.now self.now }
     {
@@ -40,6 +41,7 @@ impl Row {
         }
     }
 
+    // The RST message of the port (17.21.20).
     fn rapid(&self, context: &Context) -> Rapid
         ensures { result ≡ rapid_of context.now self.now }
     {
@@ -57,8 +59,9 @@ impl Row {
         }
     }
 
+    // What the port has to send, whether or not it may now (17.21.19 to 17.21.21, 17.26).
     fn due(&self, context: &Context) -> Option<Bpdu>
-        ensures { result ≡ due context.now self.now }
+        ensures { result ≡ message_due context.now self.now }
     {
         let rapid = self.sends_rapid(&context.timing);
         if self.port.role.is_designated() {
@@ -83,7 +86,7 @@ impl Row {
     /// What the port sends now, if anything (17.26).
     pub fn send(&mut self, context: &Context) -> Option<Bpdu>
         ensures bpdu { result ≡ bpdu_of context.now self.old }
-        ensures port { self.new ≡ sent context.now self.old }
+        ensures port { self.new ≡ after_sending context.now self.old }
     {
         let due = self.due(context);
         if due.is_none() {

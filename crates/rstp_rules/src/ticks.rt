@@ -1,13 +1,13 @@
 //! A tick of one second (IEEE 802.1D-2004 17.17, 17.22, 17.26).
 ghost use Rattle.std.specs.Prelude.{◌≡◌};
-ghost use Rattle.rstp_rules.specs.Ticks.{ticked, greeted};
+ghost use Rattle.rstp_rules.specs.Ticks.{after_tick, after_hello_step};
 
 use crate::row::{Row, Timing};
 
 impl Row {
     /// One second passes (IEEE 802.1D-2004 17.22): each count above 0 falls by one.
     pub fn tick(&mut self)
-        ensures { self.new ≡ ticked self.old }
+        ensures { self.new ≡ after_tick self.old }
     {
         let port = &mut self.port;
         port.info_while = port.info_while.saturating_sub(1);
@@ -20,7 +20,7 @@ impl Row {
 
     /// The hello step of a tick (17.26).
     pub fn greet(&mut self, timing: &Timing)
-        ensures { self.new ≡ greeted timing.now self.old }
+        ensures { self.new ≡ after_hello_step timing.now self.old }
     {
         if self.port.role.is_root_or_designated() && self.port.hello_when == 0 {
             self.port.hello_when = timing.hello;

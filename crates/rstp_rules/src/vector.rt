@@ -13,22 +13,22 @@ pub fn number_of_port(id: u16) -> u16
 }
 
 /// Whether the first vector is better than the other (17.6).
-pub fn is_better(vector: &PriorityVector, other: &PriorityVector) -> bool
+pub(crate) fn is_better(vector: &PriorityVector, other: &PriorityVector) -> bool
     ensures { result ≡ is_lt (vector_cmp vector.now other.now) }
 {
     vector.cmp(other).is_lt()
 }
 
-/// Whether two vectors are one.
-pub fn is_same_vector(vector: &PriorityVector, other: &PriorityVector) -> bool
+/// Whether two vectors are one (17.5).
+pub(crate) fn is_same_vector(vector: &PriorityVector, other: &PriorityVector) -> bool
     ensures { result ≡ same_vector vector.now other.now }
 {
     *vector == *other
 }
 
-/// Whether the same port sent both vectors: by the address in the bridge identifier and the number in
-/// the port identifier.
-pub fn is_same_sender(vector: &PriorityVector, other: &PriorityVector) -> bool
+/// Whether the same port sent both vectors: by the address in the bridge identifier and the number
+/// in the port identifier (17.6).
+pub(crate) fn is_same_sender(vector: &PriorityVector, other: &PriorityVector) -> bool
     ensures { result ≡ same_sender vector.now other.now }
 {
     vector.bridge.address.is_same(other.bridge.address)
@@ -36,14 +36,14 @@ pub fn is_same_sender(vector: &PriorityVector, other: &PriorityVector) -> bool
 }
 
 /// Whether all four times are the same.
-pub fn is_same_times(times: &Times, other: &Times) -> bool
+pub(crate) fn is_same_times(times: &Times, other: &Times) -> bool
     ensures { result ≡ same_times times.now other.now }
 {
     *times == *other
 }
 
 /// For how many ticks a vector with these times is kept (17.21.23).
-pub fn info_time_of(times: &Times) -> u16
+pub(crate) fn info_time_of(times: &Times) -> u16
     ensures { result ≡ info_time times.now }
 {
     if u32::from(times.message_age) + 256 > u32::from(times.max_age) {

@@ -14,7 +14,7 @@ use Rattle.rstp_settings.specs.declared.key.Key.TheVariants.{Bridge, Port}
 use Rattle.rstp_settings.specs.declared.key.BridgeValues.{BridgeValues}
 use Rattle.rstp_settings.specs.declared.key.PortValues.{PortValues}
 use Rattle.rstp_settings.specs.Values.{bridge_value, with_bridge_value, port_value, with_port_value, IsBridgeRange, IsPortRange, same_bridge_key, same_port_key}
-use Rattle.rstp_settings.specs.Table.{Table, no_values, port_at, HasKey, get, put, IsInRange, IsValid, same_key, spent, spent_values}
+use Rattle.rstp_settings.specs.Table.{Table, no_values, port_at, HasKey, get, put, IsInRange, IsValid, same_key, without_migration_checks, without_migration_check}
 
 -- what the slice of an ArrayVec leaves, where it has the length that it had
 pub refill_same : {X : Type 0} (xs ws : List X) → length ws ≡ length xs → refill (length xs) xs ws ≡ ws
@@ -119,16 +119,16 @@ IsValid-put t k v valid has fits l there =
       chosen true e = subst (λ (j : Key). IsInRange j v) (same_key-is k l e) fits
       chosen false e = valid l (HasKey-put t k l v there)
 
-spent_in_range : (p : PortValues) (k : PortKey) → IsPortRange k (port_value p k) → IsPortRange k (port_value (spent_values p) k)
+spent_in_range : (p : PortValues) (k : PortKey) → IsPortRange k (port_value p k) → IsPortRange k (port_value (without_migration_check p) k)
 spent_in_range p port.Migrate h = omega arith
 spent_in_range p k h = h
 
-pub IsValid-spent : (t : Table) → IsValid t → IsValid (spent t)
+pub IsValid-spent : (t : Table) → IsValid t → IsValid (without_migration_checks t)
 IsValid-spent t valid (Bridge k) h = valid (Bridge k) tt
 IsValid-spent t valid (Port n k) h =
-    let few : n ≤ length t.ports = omega (arith, h.1, length-map t.ports spent_values) in
+    let few : n ≤ length t.ports = omega (arith, h.1, length-map t.ports without_migration_check) in
     let there : n - 1 < length t.ports = omega (arith, h.0) in
-    rw (get_or-map spent_values t.ports (n - 1) no_values no_values there) (spent_in_range (port_at t n) k (valid (Port n k) (h.0, few)))
+    rw (get_or-map without_migration_check t.ports (n - 1) no_values no_values there) (spent_in_range (port_at t n) k (valid (Port n k) (h.0, few)))
 
 -- puts of two different settings
 with_bridge_values-comm : (b : BridgeValues) (k l : BridgeKey) (v w : ℕ) → same_bridge_key k l ≡ false → with_bridge_value (with_bridge_value b k v) l w ≡ with_bridge_value (with_bridge_value b l w) k v

@@ -1,4 +1,7 @@
-//! The settings of a bridge and its ports: keys, values, ranges (RFC 4188, RFC 4318; IEEE 802.1D-2004 17.13, 17.14).
+//! The settings of a bridge and its ports: keys, values, ranges (RFC 4188, RFC 4318; IEEE
+//! 802.1D-2004 17.13, 17.14). Of the numbers that stand for a value, those that no rule compares
+//! with are there for the objects that read and write settings.
+
 /// A setting of the bridge as a whole.
 #[derive(Clone, Copy, Debug, PartialEq, Eq)]
 pub enum BridgeKey {
@@ -14,7 +17,8 @@ pub enum BridgeKey {
     Version,
     /// Transmit hold count (17.13.12): 1 to 10 BPDUs, at first 6.
     HoldCount,
-    /// Ageing time of learned addresses in seconds (7.9.2): [`MIN_AGING`] to [`MAX_AGING`], at first 300.
+    /// Ageing time of learned addresses in seconds (7.9.2): [`MIN_AGING`] to [`MAX_AGING`], at
+    /// first 300.
     Aging,
 }
 
@@ -25,7 +29,8 @@ pub enum PortKey {
     Priority,
     /// Administrative state (RFC 4188 dot1dStpPortEnable): 1 is enabled, 2 is disabled, at first 1.
     Enable,
-    /// Path cost (17.14): 0 to 200000000, where 0 is the default cost of the port's speed, at first 0.
+    /// Path cost (17.14): 0 to 200000000, where 0 is the default cost of the port's speed, at first
+    /// 0.
     Cost,
     /// Protocol migration check (17.19.13): 1 asks for it, 0 is none, at first 0.
     Migrate,

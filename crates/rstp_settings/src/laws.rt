@@ -1,5 +1,4 @@
-//! Laws of settings as a finite map. Each holds of all settings, and its function does nothing.
-// Laws of the settings as a finite map. Each function does nothing: its contract is the law.
+//! Laws of the settings as a finite map. Each function does nothing: its contract is the law.
 ghost use Rattle.std.specs.Prelude.{◌≡◌, ◌≢◌, ℕ, if◌then◌else◌, length};
 ghost use Rattle.rstp_settings.specs.Table.{Table, get, put, HasKey, same_key};
 ghost use Rattle.rstp_settings.specs.declared.key.Key.{Key};
@@ -39,10 +38,12 @@ pub fn port_limit_is_32()
     ensures { MAX_PORTS ≡ 32 }
 {}
 
-/// Force protocol version is 0 for STP compatible and 2 for RSTP (IEEE 802.1D-2004 17.13.4; RFC 4318 dot1dStpVersion). A port is
-/// enabled by 1 and disabled by 2 (RFC 4188 dot1dStpPortEnable). A protocol migration check is asked for by 1, which is its TruthValue
-/// true (RFC 4318 dot1dStpPortProtocolMigration). Admin edge port is 1 for true and 2 for false (dot1dStpPortAdminEdgePort). Admin
-/// point to point is 0 for forceTrue, 1 for forceFalse and 2 for auto (dot1dStpPortAdminPointToPoint).
+/// Force protocol version is 0 for STP compatible and 2 for RSTP (IEEE 802.1D-2004 17.13.4; RFC
+/// 4318 dot1dStpVersion). A port is enabled by 1 and disabled by 2 (RFC 4188 dot1dStpPortEnable). A
+/// protocol migration check is asked for by 1, which is its TruthValue true (RFC 4318
+/// dot1dStpPortProtocolMigration). Admin edge port is 1 for true and 2 for false
+/// (dot1dStpPortAdminEdgePort). Admin point to point is 0 for forceTrue, 1 for forceFalse and 2 for
+/// auto (dot1dStpPortAdminPointToPoint).
 pub fn values_are_fixed()
     ensures version_stp { VERSION_STP ≡ 0 }
     ensures version_rstp { VERSION_RSTP ≡ 2 }

@@ -1,20 +1,26 @@
-//! The settings of a bridge that runs the Rapid Spanning Tree Protocol (IEEE 802.1D-2004 17.13 and 17.14), read and
-//! written by key as a finite map from keys to numbers.
+//! The settings of a bridge that runs the Rapid Spanning Tree Protocol (IEEE 802.1D-2004 17.13 and
+//! 17.14), read and written by key as a finite map from keys to numbers; and what is configured of
+//! the bridge and its ports, which no setting changes.
 //!
 //! # Entry points
-//! [`settings::Settings`] with `get` and `put` by [`key::Key`], and `copy`. Nothing here takes memory.
+//! [`settings::Settings`] with `get` and `put` by [`key::Key`], and `copy`; [`config::PortConfig`],
+//! its interface number [`config::IfIndex`], and [`config::BridgeConfig`]. Nothing here takes
+//! memory.
 //!
 //! # Definitions
-//! `specs/Table.antt`: the map; `specs/Values.antt`: ranges and steps.
+//! `specs/Table.antt`: the map; `specs/Values.antt`: ranges and steps; `specs/Config.antt`: what a
+//! port's settings come to by its configuration.
 //!
 //! # Laws
-//! In [`laws`]: get after put, put back restores, puts of two keys commute, settings that agree on every key are equal; the
-//! numbers that stand for values, and the bounds of the ageing time, are what they are.
+//! In [`laws`]: get after put, put back restores, puts of two keys commute, settings that agree on
+//! every key are equal; the numbers that stand for values, and the bounds of the ageing time, are
+//! what they are.
 //!
 //! # Not claimed
 //! That the three timers fit together: that is looked at where a Set assigns them.
 #![tactic(auto)]
 
+pub mod config;
 pub mod copies;
 pub mod key;
 pub mod laws;

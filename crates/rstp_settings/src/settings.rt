@@ -1,6 +1,6 @@
 //! The settings of a bridge as a finite map.
-ghost use Rattle.std.specs.Prelude.{◌≡◌, ◌≤◌, ◌<◌, ◌+◌, length, replicate, map};
-ghost use Rattle.rstp_settings.specs.Table.{get, put, HasKey, IsInRange, opening, opening_port, spent, spent_values};
+ghost use Rattle.std.specs.Prelude.{◌≡◌, ◌≤◌, ◌<◌, length, replicate, map};
+ghost use Rattle.rstp_settings.specs.Table.{get, put, HasKey, IsInRange, opening, opening_port, without_migration_checks, without_migration_check};
 ghost use Rattle.rstp_settings.specs.Values.{bridge_value, with_bridge_value, port_value, with_port_value};
 
 use crate::copies::copied;
@@ -29,6 +29,7 @@ impl Model for Settings {
     ghost invariant = { λ s. IsValid (record { bridge = s.bridge; ports = s.ports.items }) };
 }
 
+// The settings of so many ports at the opening (17.14).
 fn opening_values(ports: usize) -> ArrayVec<PortValues, MAX_PORTS>
     requires { ports ≤ MAX_PORTS }
     ensures { result.items ≡ replicate ports opening_port }
@@ -47,8 +48,9 @@ fn opening_values(ports: usize) -> ArrayVec<PortValues, MAX_PORTS>
     values
 }
 
+// Puts each protocol migration check to 0 (17.19.13).
 fn spend_all(values: &mut [PortValues])
-    ensures { values.new ≡ map spent_values values.old }
+    ensures { values.new ≡ map without_migration_check values.old }
 {
     for value in values.iter_mut() {
         value.migrate = 0;
@@ -133,7 +135,8 @@ impl Settings {
         }
     }
 
-    /// The same settings. It takes no memory.
+    /// The same settings, for the copy of a bridge that is compared with it or restored from. It
+    /// takes no memory.
     pub fn copy(&self) -> Self
         ensures { result ≡ self.now }
     {
@@ -145,7 +148,7 @@ impl Settings {
 
     /// Puts each protocol migration check to 0, and changes no other setting.
     pub fn spend(&mut self)
-        ensures spent { self.new ≡ spent self.old }
+        ensures spent { self.new ≡ without_migration_checks self.old }
         ensures ports { length self.new.ports ≡ length self.old.ports }
     {
         spend_all(self.ports.as_mut_slice());
@@ -167,7 +170,7 @@ impl Settings {
     {
         match key {
             Key::Bridge(key) => self.bridge.get(key),
-            Key::Port(number, key) => self.ports[number as usize - 1].get(key),
+            Key::Port(port, key) => self.ports[port as usize - 1].get(key),
         }
     }
 
@@ -182,7 +185,7 @@ impl Settings {
         let before = self.get(key);
         match key {
             Key::Bridge(key) => self.bridge.put(key, value),
-            Key::Port(number, key) => self.ports[number as usize - 1].put(key, value),
+            Key::Port(port, key) => self.ports[port as usize - 1].put(key, value),
         }
         before
     }

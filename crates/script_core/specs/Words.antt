@@ -26,10 +26,10 @@ value_on n (d ∷ ds) = value_on (n * 10 + (d - 48)) ds
 abbrev pub number_of : ℕ → List ℕ → Option ℕ
 number_of most word = if is_number word && nat_le (value_on 0 word) most then Some (value_on 0 word) else None
 
-abbrev pub decoded : Result (List ℕ) FromHexError → Option (List ℕ)
-decoded (Ok octets) = Some octets
-decoded (Err e) = None
+abbrev pub octets_or_none : Result (List ℕ) FromHexError → Option (List ℕ)
+octets_or_none (Ok octets) = Some octets
+octets_or_none (Err e) = None
 
 -- the octets that a text writes in hexadecimal, if it writes some
 abbrev pub octets_of : List ℕ → Option (List ℕ)
-octets_of text = decoded (decode_of text)
+octets_of text = octets_or_none (decode_of text)

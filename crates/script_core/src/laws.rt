@@ -6,7 +6,7 @@ ghost use Rattle.script_core.specs.Words.{octets_of};
 
 use crate::run::MAX_READS;
 
-/// A run makes at most 4,294,967,295 reads.
+/// `MAX_READS`, the most reads of one run, is 4,294,967,295.
 pub fn limits_are_fixed()
     ensures reads { MAX_READS ≡ 4294967295 }
 {}

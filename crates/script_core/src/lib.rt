@@ -11,7 +11,8 @@
 //! In [`laws`]: each text has its lines; hexadecimal is read back.
 //!
 //! # Not claimed
-//! When a read or a write fails; how many octets one read gives; how many reads are made.
+//! When a read or a write fails; how many octets one read gives; how many reads are made, and that what one of
+//! them gives is answered, written and flushed before the next; how much memory a run holds.
 #![tactic(auto)]
 
 mod fault;

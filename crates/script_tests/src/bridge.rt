@@ -54,14 +54,12 @@ fn refuses_a_long_frame(rt: HostRuntime) -> Result<(), Fail> {
     Ok(())
 }
 
-// The BPDU that port 1 sends as designated port of the root, with these flags.
-fn designated(alloc: Global, flags: &str) -> Result<String, Fail> {
-    let mut line = String::from_str(alloc, "bpdu 1 0180C200000002000000000A002742420300000202")?;
-    line.push_str(flags)?;
-    line.push_str(
-        "800002000000000A00000000800002000000000A80010000140002000F000000000000000000\n",
-    )?;
-    Ok(line)
+// The BPDU that a port sends as designated port of the root, with these flags.
+fn designated(alloc: Global, port: u8, flags: &str) -> Result<String, Fail> {
+    Ok(format!(in alloc;
+        "bpdu {port} 0180C200000002000000000A002742420300000202{flags}\
+         800002000000000A00000000800002000000000A80{port:02X}0000140002000F000000000000000000\n"
+    )?)
 }
 
 // Each second second a BPDU goes out, and after the forward delay the port is learning.
@@ -69,9 +67,9 @@ fn designated(alloc: Global, flags: &str) -> Result<String, Fail> {
 fn sends_each_hello_time(rt: HostRuntime) -> Result<(), Fail> {
     let mut want = String::from_str(rt.alloc(), "")?;
     for _ in 0..8 {
-        want.push_str(&designated(rt.alloc(), "0E")?)?;
+        want.push_str(&designated(rt.alloc(), 1, "0E")?)?;
     }
-    want.push_str(&designated(rt.alloc(), "1E")?)?;
+    want.push_str(&designated(rt.alloc(), 1, "1E")?)?;
     assert_said(&rt, built_in(rt.alloc())?, "link 1 up\ntick 15\n", &want)
 }
 
@@ -83,7 +81,7 @@ fn forgets_a_silent_root(rt: HostRuntime) -> Result<(), Fail> {
     for _ in 0..2 {
         want.push_str(ROOT_PORT)?;
     }
-    want.push_str(&designated(rt.alloc(), "3C")?)?;
+    want.push_str(&designated(rt.alloc(), 1, "3C")?)?;
     let mut script = String::from_str(rt.alloc(), "link 1 up\nframe 1 ")?;
     script.push_str(BETTER)?;
     script.push_str("\ntick 6\n")?;
@@ -105,11 +103,9 @@ fn forwards_what_it_has_learned(rt: HostRuntime) -> Result<(), Fail> {
         put_edge(&mut bridge, port);
     }
     bridge.settle();
-    let mut want = designated(rt.alloc(), "3C")?;
-    want.push_str(
-        "bpdu 2 0180C200000002000000000A0027424203000002023C800002000000000A00000000800002000000000A80020000140002000F000000000000000000\n\
-                   forward 2\nforward 1\nforward -\nforward -\n",
-    )?;
+    let mut want = designated(rt.alloc(), 1, "3C")?;
+    want.push_str(&designated(rt.alloc(), 2, "3C")?)?;
+    want.push_str("forward 2\nforward 1\nforward -\nforward -\n")?;
     let out = said_beside(
         rt.alloc(),
         built_in(rt.alloc())?,

@@ -1,61 +1,39 @@
-//! Get, Set and requests of no names.
-use crate::support::{assert_answers, repeated, root, said_over, said_to};
-use std::alloc::Global;
+//! Get, Set and requests of no names (RFC 3416, 4.2.1 and 4.2.5).
+use crate::message::Held::{Integer, NoInstance, NoObject, Null, Octets};
+use crate::message::{Message, bulk, failed, get, many, next, of, reply, set};
+use crate::rows::{assert_rows, replied};
+use crate::support::{
+    ADDRESS, BRIDGE_ADDRESS, GET, PORTS, PRIORITY, ROOT_NAME, TWO_PORTS, assert_answers, built_in,
+    root,
+};
 use std::test::Fail;
 
+// The same Get, as other encoders wrote it.
 #[test]
 fn answers_a_get(rt: HostRuntime) -> Result<(), Fail> {
     assert_answers(
         &rt,
         &[
+            ("the shortest lengths", GET, TWO_PORTS),
             (
-                "request 302702010104067075626C6963A01A020101020100020100300F300D06092B06010201110102000500",
-                "reply 302802010104067075626C6963A21B0201010201000201003010300E06092B0601020111010200020102",
-            ),
-            (
+                "a length in the long form",
                 "request 3082002702010104067075626C6963A01A020101020100020100300F300D06092B06010201110102000500",
-                "reply 302802010104067075626C6963A21B0201010201000201003010300E06092B0601020111010200020102",
+                TWO_PORTS,
             ),
             (
+                "an error-status, which means nothing",
                 "request 302702010104067075626C6963A01A020101020105020100300F300D06092B06010201110102000500",
-                "reply 302802010104067075626C6963A21B0201010201000201003010300E06092B0601020111010200020102",
+                TWO_PORTS,
             ),
             (
+                "an id of four octets",
                 "request 302A02010104067075626C6963A01D020400000001020100020100300F300D06092B06010201110102000500",
-                "reply 302802010104067075626C6963A21B0201010201000201003010300E06092B0601020111010200020102",
+                TWO_PORTS,
             ),
             (
+                "small letters",
                 "request 302702010104067075626c6963a01a020101020100020100300f300d06092b06010201110102000500",
-                "reply 302802010104067075626C6963A21B0201010201000201003010300E06092B0601020111010200020102",
-            ),
-        ],
-    )
-}
-
-#[test]
-fn fails_what_is_not_built(rt: HostRuntime) -> Result<(), Fail> {
-    assert_answers(
-        &rt,
-        &[
-            (
-                "request 3028020101040561646D696EA31C0201010201000201003011300F06092B060102011102020002021000",
-                "reply 3028020101040561646D696EA21C0201010201050201003011300F06092B060102011102020002021000",
-            ),
-            (
-                "request 301802010104067075626C6963A00B0201010201030201043000",
-                "reply 301802010104067075626C6963A20B0201010201000201003000",
-            ),
-            (
-                "request 301802010104067075626C6963A10B0201010201030201043000",
-                "reply 301802010104067075626C6963A20B0201010201000201003000",
-            ),
-            (
-                "request 301802010104067075626C6963A30B0201010201030201043000",
-                "reply 301802010104067075626C6963A20B0201010201000201003000",
-            ),
-            (
-                "request 301802010104067075626C6963A50B0201010201030201043000",
-                "reply 301802010104067075626C6963A20B0201010201000201003000",
+                TWO_PORTS,
             ),
         ],
     )
@@ -63,49 +41,87 @@ fn fails_what_is_not_built(rt: HostRuntime) -> Result<(), Fail> {
 
 #[test]
 fn tells_what_is_missing(rt: HostRuntime) -> Result<(), Fail> {
-    assert_answers(
+    assert_rows(
         &rt,
-        &[(
-            "request 306202010104067075626C6963A0550202FF7F0201000201003049300D06092B06010201110102010500300C06082B060102011101020500300D06092B06010201110109000500300C06082B060102010101000500300D06092B06010201110101000500",
-            "reply 306802010104067075626C6963A25B0202FF7F020100020100304F300D06092B06010201110102018100300C06082B060102011101028100300D06092B06010201110109008000300C06082B060102010101008000301306092B0601020111010100040602000000000A",
+        built_in(rt.alloc())?,
+        "",
+        &[replied(
+            "no such instance, an object's own name, no such object, another group, an instance",
+            Message {
+                id: -129,
+                ..get(&[
+                    ("1.3.6.1.2.1.17.1.2.1", Null),
+                    ("1.3.6.1.2.1.17.1.2", Null),
+                    ("1.3.6.1.2.1.17.1.9.0", Null),
+                    ("1.3.6.1.2.1.1.1.0", Null),
+                    (ADDRESS, Null),
+                ])
+            },
+            Message {
+                id: -129,
+                ..reply(&[
+                    ("1.3.6.1.2.1.17.1.2.1", NoInstance),
+                    ("1.3.6.1.2.1.17.1.2", NoInstance),
+                    ("1.3.6.1.2.1.17.1.9.0", NoObject),
+                    ("1.3.6.1.2.1.1.1.0", NoObject),
+                    (ADDRESS, Octets(BRIDGE_ADDRESS)),
+                ])
+            },
         )],
     )
 }
 
-// A Get of 100 times 1.3.6.1.2.1.17.1.2.0, whose reply would have more than 1,472 octets.
-fn hundred_names(alloc: Global) -> Result<Vec<u8>, Fail> {
-    let mut line = Vec::from_slice(
-        alloc,
-        b"request 308205F802010104067075626C6963A08205E9020101020100020100308205DC",
-    )?;
-    for _ in 0..100 {
-        line.extend_from_slice(b"300D06092B06010201110102000500")?;
-    }
-    line.push(b'\n')?;
-    Ok(line)
+#[test]
+fn answers_no_names_with_none(rt: HostRuntime) -> Result<(), Fail> {
+    let none = reply(&[]);
+    let numbers = |message| Message {
+        first: 3,
+        second: 4,
+        ..message
+    };
+    assert_rows(
+        &rt,
+        built_in(rt.alloc())?,
+        "",
+        &[
+            replied("a Get", numbers(get(&[])), none),
+            replied("a GetNext", numbers(next(&[])), none),
+            replied("a Set", numbers(set(&[])), none),
+            replied("a GetBulk", bulk(3, 4, &[]), none),
+        ],
+    )
 }
 
+#[test]
+fn fails_a_set(rt: HostRuntime) -> Result<(), Fail> {
+    assert_rows(
+        &rt,
+        built_in(rt.alloc())?,
+        "",
+        &[replied(
+            "genErr, since nothing can be written",
+            of("admin", set(&[(PRIORITY, Integer(4096))])),
+            of("admin", failed(5, &[(PRIORITY, Integer(4096))])),
+        )],
+    )
+}
+
+// A hundred names and the end of a binding each are within a request; their values are not within a reply.
 #[test]
 fn answers_by_the_size_rule(rt: HostRuntime) -> Result<(), Fail> {
-    let script = hundred_names(rt.alloc())?;
-    assert_eq!(rt;
-        said_to(rt.alloc(), &script)?.as_slice(),
-        b"reply 301802010104067075626C6963A20B0201010201010201003000\n".as_slice()
-    );
-    Ok(())
-}
-
-#[test]
-fn answers_a_get_that_is_too_big(rt: HostRuntime) -> Result<(), Fail> {
-    let script = repeated(
-        rt.alloc(),
-        "request 308205F802010104067075626C6963A08205E9020101020100020100308205DC",
-        100,
-        "300D06092B06010201110205000500",
+    let too_big = failed(1, &[]);
+    let ports = many(rt.alloc(), 100, (PORTS, Null))?;
+    assert_rows(
+        &rt,
+        built_in(rt.alloc())?,
+        "",
+        &[replied("a hundred counts of ports", get(&ports), too_big)],
     )?;
-    assert_eq!(rt;
-        said_over(rt.alloc(), root(rt.alloc())?, &script)?.as_slice(),
-        b"reply 301802010104067075626C6963A20B0201010201010201003000\n".as_slice()
-    );
-    Ok(())
+    let roots = many(rt.alloc(), 100, (ROOT_NAME, Null))?;
+    assert_rows(
+        &rt,
+        root(rt.alloc())?,
+        "",
+        &[replied("a hundred roots", get(&roots), too_big)],
+    )
 }

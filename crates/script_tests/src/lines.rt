@@ -1,6 +1,8 @@
 //! Lines that are none, and datagrams that give no request.
-use crate::support::{GET, assert_answers, said_to};
-use std::alloc::Global;
+use crate::message::Held::Null;
+use crate::message::{Message, Pdu, get, of};
+use crate::rows::line_with;
+use crate::support::{GET, PORTS, assert_answers, assert_said, built_in, repeated, said_to};
 use std::test::Fail;
 
 #[test]
@@ -9,51 +11,33 @@ fn drops_what_is_no_request(rt: HostRuntime) -> Result<(), Fail> {
         &rt,
         &[
             (
-                "request 302702010104067075626C696BA01A020101020100020100300F300D06092B06010201110102000500",
-                "drop UnknownCommunity",
-            ),
-            (
+                "version 1",
                 "request 302702010004067075626C6963A01A020101020100020100300F300D06092B06010201110102000500",
                 "drop BadVersion",
             ),
             (
+                "version 1, and a PDU of another type",
                 "request 302702010004067075626C6963A61A020101020100020100300F300D06092B06010201110102000500",
                 "drop BadVersion",
             ),
+            ("no octets", "request ", "drop Malformed"),
             (
-                "request 302702010104067075626C6963A21A020101020100020100300F300D06092B06010201110102000500",
-                "drop BadKind",
-            ),
-            (
-                "request 302702010104067075626C6963A41A020101020100020100300F300D06092B06010201110102000500",
-                "drop BadKind",
-            ),
-            (
-                "request 302702010104067075626C6963A61A020101020100020100300F300D06092B06010201110102000500",
-                "drop BadKind",
-            ),
-            (
-                "request 302702010104067075626C6963A71A020101020100020100300F300D06092B06010201110102000500",
-                "drop BadKind",
-            ),
-            (
-                "request 302702010104067075626C6963A81A020101020100020100300F300D06092B06010201110102000500",
-                "drop BadKind",
-            ),
-            ("request ", "drop Malformed"),
-            (
+                "a length of no form",
                 "request 308002010104067075626C6963A01A020101020100020100300F300D06092B06010201110102000500",
                 "drop Malformed",
             ),
             (
+                "an octet that is left over",
                 "request 302702010104067075626C6963A01A020101020100020100300F300D06092B0601020111010200050000",
                 "drop Malformed",
             ),
             (
+                "a PDU past the end",
                 "request 302702010104067075626C6963A21B020101020100020100300F300D06092B06010201110102000500",
                 "drop Malformed",
             ),
             (
+                "a number that begins with an idle octet",
                 "request 302702010104067075626C6963A01A020101020100020100300F300D06092B80010201110102000500",
                 "drop Malformed",
             ),
@@ -62,40 +46,66 @@ fn drops_what_is_no_request(rt: HostRuntime) -> Result<(), Fail> {
 }
 
 #[test]
+fn drops_a_pdu_that_is_no_request(rt: HostRuntime) -> Result<(), Fail> {
+    for pdu in [
+        Pdu::Response,
+        Pdu::TrapOfVersion1,
+        Pdu::Inform,
+        Pdu::Trap,
+        Pdu::Report,
+    ] {
+        let message = Message {
+            pdu,
+            ..get(&[(PORTS, Null)])
+        };
+        let line = line_with(rt.alloc(), "request", &message)?;
+        assert_said(&rt, built_in(rt.alloc())?, &line, "drop BadKind\n")?;
+    }
+    Ok(())
+}
+
+#[test]
+fn drops_an_unknown_community(rt: HostRuntime) -> Result<(), Fail> {
+    let message = of("publik", get(&[(PORTS, Null)]));
+    let line = line_with(rt.alloc(), "request", &message)?;
+    assert_said(&rt, built_in(rt.alloc())?, &line, "drop UnknownCommunity\n")
+}
+
+#[test]
 fn takes_other_lines_for_bad(rt: HostRuntime) -> Result<(), Fail> {
-    assert_answers(
-        &rt,
-        &[
-            ("", "badline"),
-            ("request", "badline"),
-            (" request 00", "badline"),
-            ("request 0", "badline"),
-            ("request 0G", "badline"),
-            ("request  00", "badline"),
-            ("Request 00", "badline"),
-            ("request 00 ", "badline"),
-            ("request 00\r", "badline"),
-            ("tick", "badline"),
-            ("tick 0", "badline"),
-            ("tick 01", "badline"),
-            ("tick 100001", "badline"),
-            ("tick 1 ", "badline"),
-            ("link 3 up", "badline"),
-            ("link 0 up", "badline"),
-            ("link 1 on", "badline"),
-            ("link 1", "badline"),
-            ("frame 1", "badline"),
-            ("frame 3 FFFFFFFFFFFF0200000001010800", "badline"),
-            ("frame 3 ", "badline"),
-            ("frame 1 020", "badline"),
-            ("audit", "badline"),
-            ("audit ON", "badline"),
-            ("counts ", "badline"),
-            ("end", "badline"),
-            ("policy ", "badline"),
-            ("count\u{E9}s", "badline"),
-        ],
-    )
+    for line in [
+        "",
+        "request",
+        " request 00",
+        "request 0",
+        "request 0G",
+        "request  00",
+        "Request 00",
+        "request 00 ",
+        "request 00\r",
+        "tick",
+        "tick 0",
+        "tick 01",
+        "tick 100001",
+        "tick 1 ",
+        "link 3 up",
+        "link 0 up",
+        "link 1 on",
+        "link 1",
+        "frame 1",
+        "frame 3 FFFFFFFFFFFF0200000001010800",
+        "frame 3 ",
+        "frame 1 020",
+        "audit",
+        "audit ON",
+        "counts ",
+        "end",
+        "policy ",
+        "count\u{E9}s",
+    ] {
+        assert_answers(&rt, &[(line, line, "badline")])?;
+    }
+    Ok(())
 }
 
 #[test]
@@ -112,20 +122,10 @@ fn drops_what_ends_early(rt: HostRuntime) -> Result<(), Fail> {
     Ok(())
 }
 
-// A line of so many octets 30.
-fn request_of(alloc: Global, octets: usize) -> Result<Vec<u8>, Fail> {
-    let mut line = Vec::from_slice(alloc, b"request ")?;
-    for _ in 0..octets {
-        line.extend_from_slice(b"30")?;
-    }
-    line.push(b'\n')?;
-    Ok(line)
-}
-
 #[test]
 fn drops_what_is_too_long(rt: HostRuntime) -> Result<(), Fail> {
     for (octets, said) in [(2048usize, "drop Malformed\n"), (2049, "drop TooLong\n")] {
-        let script = request_of(rt.alloc(), octets)?;
+        let script = repeated(rt.alloc(), "request ", octets, "30")?;
         assert_eq!(rt; said_to(rt.alloc(), &script)?.as_slice(), said.as_bytes());
     }
     Ok(())

@@ -2,7 +2,6 @@ pub mod Agrees
 pub mod Bests
 pub mod Decided
 pub mod Right
-pub mod Orders
 pub mod Sound
 pub mod Ties
 pub mod Again

@@ -8,10 +8,9 @@ use Rattle.std.proofs.lemmas.Option.{slice_get_past}
 use Rattle.std.proofs.Math.Seq.{take-append_seam}
 use Rattle.vacm_core.specs.declared.fault.Wrong.{Wrong}
 use Rattle.vacm_core.specs.declared.fault.Wrong.TheVariants.{Duplicate}
-use Rattle.vacm_core.specs.declared.fault.PolicyFault.{PolicyFault}
-use Rattle.vacm_core.specs.declared.fault.PolicyFault.TheVariants.{Memory}
-use Rattle.vacm_core.specs.declared.fault.PolicyTable.{PolicyTable}
-use Rattle.vacm_core.specs.Rules.{Rules, has_earlier, wrong_of, wrong_at, AreRight, IsFirstWrong, IsFirstFault, BeginsRight, fault_of, row_behind}
+use Rattle.vacm_core.specs.declared.fault.TableFault.{TableFault}
+use Rattle.vacm_core.specs.declared.fault.TableFault.TheVariants.{Memory, Row}
+use Rattle.vacm_core.specs.Rules.{Rules, has_earlier, wrong_of, wrong_at, AreRight, IsFirstWrong, IsFirstFault, BeginsRight, row_behind}
 
 get_front : {W : Type 0} (xs ys : List W) (k : ℕ) → k < length xs → slice_get (xs ++ ys) k ≡ slice_get xs k
 get_front [] ys k h = absurd (omega arith)
@@ -91,7 +90,7 @@ module _ {W R : Type 0} (rules : Rules W R) where
   pub read_err : (rows : List R) (earlier : List W) (w : W) (wrong : Wrong) → rows ≡ map rules.row_of earlier → row_behind rules rows w ≡ Err wrong → wrong_of rules earlier w ≡ Some wrong
   read_err rows earlier w wrong e h = err_parts (wrong_of rules earlier w) (rules.row_of w) wrong (sym (behind_is rows earlier w e) ∙ h)
 
-if_memory : {X : Type 0} (result : Result X PolicyFault) (P : Type 0) → P → IfErr result (λ e. e ≡ Memory → P)
+if_memory : {X T : Type 0} (result : Result X (TableFault T)) (P : Type 0) → P → IfErr result (λ e. e ≡ Memory → P)
 if_memory (Ok x) P p = tt
 if_memory (Err e) P p = λ _. p
 
@@ -114,18 +113,18 @@ module _ {W R : Type 0} (rules : Rules W R) (written yielded rest after : List W
         right = right_more rules yielded w g.right parts.0;
       }
 
-  pub going_fault : (table : PolicyTable) (n : ℕ) (wrong : Wrong) (fault : PolicyFault) → Going rules written yielded rest left rows → rest ≡ w ∷ after → front ≡ rows → Err wrong ≡ row_behind rules front w → n ≡ length rows → fault ≡ fault_of wrong table n → IsFirstFault rules table written fault
+  pub going_fault : {T : Type 0} (table : T) (n : ℕ) (wrong : Wrong) (fault : TableFault T) → Going rules written yielded rest left rows → rest ≡ w ∷ after → front ≡ rows → Err wrong ≡ row_behind rules front w → n ≡ length rows → fault ≡ Row table n wrong → IsFirstFault rules table written fault
   going_fault table n wrong fault g next same read len is =
       let same_len : n ≡ length yielded = len ∙ ap length g.rows_are ∙ length-map yielded rules.row_of in
       record {
         place = length yielded;
         wrong = wrong;
-        is = is ∙ ap (fault_of wrong table) same_len;
+        is = is ∙ ap (λ (k : ℕ). Row table k wrong) same_len;
         first = first_wrong rules written yielded w after wrong (g.all ∙ ap (λ (l : List W). yielded ++ l) next) g.right (read_err rules front yielded w wrong (same ∙ g.rows_are) (sym read));
       }
 
   -- the first row is kept where one is
-  pub going_begins : {X : Type 0} (row : R) (result : Result X PolicyFault) → Going rules written yielded rest left rows → rest ≡ w ∷ after → front ≡ rows → Ok row ≡ row_behind rules front w → IfErr result (λ e. e ≡ Memory → BeginsRight rules written)
+  pub going_begins : {X T : Type 0} (row : R) (result : Result X (TableFault T)) → Going rules written yielded rest left rows → rest ≡ w ∷ after → front ≡ rows → Ok row ≡ row_behind rules front w → IfErr result (λ e. e ≡ Memory → BeginsRight rules written)
   going_begins row result g next same read =
       let nothing = read_ok rules front yielded w row (same ∙ g.rows_are) (sym read) in
       let begins = begins_right rules yielded w after g.right nothing.0 in

@@ -6,7 +6,7 @@ use Rattle.std.proofs.lemmas.List.{get_or-take, get_or-map, length-take-le, leng
 use Rattle.std.proofs.lemmas.List.Folds.{list_any_at}
 use Rattle.std.proofs.lemmas.Option.{get_or_from_slice_get}
 use Rattle.vacm_core.specs.declared.fault.Wrong.TheVariants.{Length, Field, Duplicate}
-use Rattle.vacm_core.specs.declared.limits.TheConstants.{MODEL_MAX}
+use Rattle.vacm_core.specs.declared.limits.TheConstants.{MAX_MODEL}
 use Rattle.vacm_core.specs.declared.tables.AccessRow.{AccessRow}
 use Rattle.vacm_core.specs.declared.tables.FamilyRow.{FamilyRow}
 use Rattle.vacm_core.specs.declared.tables.GroupRow.{GroupRow}
@@ -96,19 +96,19 @@ level_kept AuthPriv = refl
 
 group_kept : (w : WrittenGroup) → group_lengths w ≡ true → group_fields w ≡ true → is_well_formed group_rules (written_group (group_row w)) ≡ true
 group_kept w l f =
-    let second = and_true (is_between 1 MODEL_MAX w.model && is_plain w.name) (is_plain w.group) f in
-    let first = and_true (is_between 1 MODEL_MAX w.model) (is_plain w.name) second.0 in
-    rw (l, between_kept 1 MODEL_MAX w.model first.0, first.1, second.1) refl
+    let second = and_true (is_between 1 MAX_MODEL w.model && is_plain w.name) (is_plain w.group) f in
+    let first = and_true (is_between 1 MAX_MODEL w.model) (is_plain w.name) second.0 in
+    rw (l, between_kept 1 MAX_MODEL w.model first.0, first.1, second.1) refl
 
 access_kept : (w : WrittenAccess) → access_lengths w ≡ true → access_fields w ≡ true → is_well_formed access_rules (written_access (access_row w)) ≡ true
 access_kept w l f =
-    let g = and_true (is_between 0 MODEL_MAX w.model && is_between 1 3 w.level && is_plain w.group && is_plain w.prefix && is_plain w.read && is_plain w.write) (is_plain w.notify) f in
-    let e = and_true (is_between 0 MODEL_MAX w.model && is_between 1 3 w.level && is_plain w.group && is_plain w.prefix && is_plain w.read) (is_plain w.write) g.0 in
-    let d = and_true (is_between 0 MODEL_MAX w.model && is_between 1 3 w.level && is_plain w.group && is_plain w.prefix) (is_plain w.read) e.0 in
-    let b = and_true (is_between 0 MODEL_MAX w.model && is_between 1 3 w.level && is_plain w.group) (is_plain w.prefix) d.0 in
-    let a = and_true (is_between 0 MODEL_MAX w.model && is_between 1 3 w.level) (is_plain w.group) b.0 in
-    let m = and_true (is_between 0 MODEL_MAX w.model) (is_between 1 3 w.level) a.0 in
-    rw (l, between_kept 0 MODEL_MAX w.model m.0, level_kept (level_of (natural w.level)), a.1, b.1, d.1, e.1, g.1) refl
+    let g = and_true (is_between 0 MAX_MODEL w.model && is_between 1 3 w.level && is_plain w.group && is_plain w.prefix && is_plain w.read && is_plain w.write) (is_plain w.notify) f in
+    let e = and_true (is_between 0 MAX_MODEL w.model && is_between 1 3 w.level && is_plain w.group && is_plain w.prefix && is_plain w.read) (is_plain w.write) g.0 in
+    let d = and_true (is_between 0 MAX_MODEL w.model && is_between 1 3 w.level && is_plain w.group && is_plain w.prefix) (is_plain w.read) e.0 in
+    let b = and_true (is_between 0 MAX_MODEL w.model && is_between 1 3 w.level && is_plain w.group) (is_plain w.prefix) d.0 in
+    let a = and_true (is_between 0 MAX_MODEL w.model && is_between 1 3 w.level) (is_plain w.group) b.0 in
+    let m = and_true (is_between 0 MAX_MODEL w.model) (is_between 1 3 w.level) a.0 in
+    rw (l, between_kept 0 MAX_MODEL w.model m.0, level_kept (level_of (natural w.level)), a.1, b.1, d.1, e.1, g.1) refl
 
 family_kept : (w : WrittenFamily) → family_lengths w ≡ true → family_fields w ≡ true → is_well_formed family_rules (written_family (family_row w)) ≡ true
 family_kept w l f = rw (l, f) refl

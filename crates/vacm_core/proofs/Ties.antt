@@ -20,7 +20,7 @@ use Rattle.vacm_core.specs.Rows.{same_access, same_family}
 use Rattle.vacm_core.specs.Tables.{KeysDiffer}
 use Rattle.vacm_core.specs.Families.{agrees_from, matches, family_cmp, family_beats}
 use Rattle.vacm_core.specs.Access.{candidate, access_cmp, access_beats}
-use Rattle.vacm_core.proofs.Orders.{family_total, access_total}
+use Rattle.vacm_core.specs.Orders.{family_total, access_total}
 use Rattle.vacm_core.proofs.Sound.{and_true}
 
 -- two rows that pass and do not beat each other have one key

@@ -7,4 +7,4 @@ pub mod Tables
 pub mod Best
 pub mod Families
 pub mod Access
-pub mod Names
+pub mod Orders

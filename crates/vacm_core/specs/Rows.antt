@@ -2,7 +2,7 @@
 -- that it stands for, and its key.
 use Rattle.std.specs.Prelude.{ℕ, ℤ, pos, negsuc, ◌+◌, ◌==◌, Bool, false, ◌&&◌, if◌then◌else◌, List, length, nat_le, nat_eq, bytes_eq}
 use Rattle.std.specs.Cmp.Lexicographic.{pointwise}
-use Rattle.vacm_core.specs.declared.limits.TheConstants.{NAME_MAX, MASK_MAX, FAMILY_MAX, MODEL_MAX}
+use Rattle.vacm_core.specs.declared.limits.TheConstants.{MAX_NAME, MAX_MASK, MAX_FAMILY, MAX_MODEL}
 use Rattle.vacm_core.specs.declared.tables.GroupRow.{GroupRow}
 use Rattle.vacm_core.specs.declared.tables.AccessRow.{AccessRow}
 use Rattle.vacm_core.specs.declared.tables.FamilyRow.{FamilyRow}
@@ -30,10 +30,10 @@ level_of n = if n == 1 then NoAuthNoPriv else (if n == 2 then AuthNoPriv else Au
 -- ---- vacmSecurityToGroupTable, under (model, security name)
 
 abbrev pub group_lengths : WrittenGroup → Bool
-group_lengths w = has_length 1 NAME_MAX w.name && has_length 1 NAME_MAX w.group
+group_lengths w = has_length 1 MAX_NAME w.name && has_length 1 MAX_NAME w.group
 
 abbrev pub group_fields : WrittenGroup → Bool
-group_fields w = is_between 1 MODEL_MAX w.model && is_plain w.name && is_plain w.group
+group_fields w = is_between 1 MAX_MODEL w.model && is_plain w.name && is_plain w.group
 
 abbrev pub group_row : WrittenGroup → GroupRow
 group_row w = record { model = natural w.model; name = w.name; group = w.group }
@@ -45,12 +45,12 @@ same_group a b = (a.model == b.model) && bytes_eq a.name b.name
 
 abbrev pub access_lengths : WrittenAccess → Bool
 access_lengths w =
-    has_length 1 NAME_MAX w.group && has_length 0 NAME_MAX w.prefix && has_length 0 NAME_MAX w.read
-    && has_length 0 NAME_MAX w.write && has_length 0 NAME_MAX w.notify
+    has_length 1 MAX_NAME w.group && has_length 0 MAX_NAME w.prefix && has_length 0 MAX_NAME w.read
+    && has_length 0 MAX_NAME w.write && has_length 0 MAX_NAME w.notify
 
 abbrev pub access_fields : WrittenAccess → Bool
 access_fields w =
-    is_between 0 MODEL_MAX w.model && is_between 1 3 w.level && is_plain w.group && is_plain w.prefix
+    is_between 0 MAX_MODEL w.model && is_between 1 3 w.level && is_plain w.group && is_plain w.prefix
     && is_plain w.read && is_plain w.write && is_plain w.notify
 
 abbrev pub access_row : WrittenAccess → AccessRow
@@ -74,8 +74,8 @@ same_access a b =
 
 abbrev pub family_lengths : WrittenFamily → Bool
 family_lengths w =
-    has_length 1 NAME_MAX w.view && nat_le (length w.mask) MASK_MAX
-    && nat_le (length w.view + length w.subtree) FAMILY_MAX
+    has_length 1 MAX_NAME w.view && nat_le (length w.mask) MAX_MASK
+    && nat_le (length w.view + length w.subtree) MAX_FAMILY
 
 abbrev pub family_fields : WrittenFamily → Bool
 family_fields w = is_plain w.view
@@ -89,7 +89,7 @@ same_family a b = bytes_eq a.view b.view && pointwise nat_eq a.subtree b.subtree
 -- ---- vacmContextTable; contexts may be equal
 
 abbrev pub context_lengths : List ℕ → Bool
-context_lengths w = has_length 0 NAME_MAX w
+context_lengths w = has_length 0 MAX_NAME w
 
 -- ---- the rules of each table
 

@@ -1,9 +1,8 @@
 -- What is wrong with the rows of a table, and which row is the first at fault.
 use Rattle.std.specs.Prelude.{◌≡◌, ℕ, ◌<◌, Bool, if◌then◌else◌, List, [], ◌∷◌, take, Option, Some, None, slice_get, option_and_then, Result, Ok, Err}
 use Rattle.std.specs.List.{list_any}
-use Rattle.vacm_core.specs.declared.fault.PolicyFault.{PolicyFault}
-use Rattle.vacm_core.specs.declared.fault.PolicyFault.TheVariants.{Duplicate as SameKey, BadLength, BadField}
-use Rattle.vacm_core.specs.declared.fault.PolicyTable.{PolicyTable}
+use Rattle.vacm_core.specs.declared.fault.TableFault.{TableFault}
+use Rattle.vacm_core.specs.declared.fault.TableFault.TheVariants.{Row}
 use Rattle.vacm_core.specs.declared.fault.Wrong.{Wrong}
 use Rattle.vacm_core.specs.declared.fault.Wrong.TheVariants.{Length, Field, Duplicate}
 
@@ -48,16 +47,11 @@ abbrev pub BeginsRight : {W R : Type 0} → Rules W R → List W → Type 0
 BeginsRight rules [] = ⊥
 BeginsRight rules (w ∷ ws) = wrong_of rules [] w ≡ None
 
-abbrev pub fault_of : Wrong → PolicyTable → ℕ → PolicyFault
-fault_of Length table row = BadLength table row
-fault_of Field table row = BadField table row
-fault_of Duplicate table row = SameKey table row
-
 -- this fault names the first row at fault
-pub record IsFirstFault {W R : Type 0} (rules : Rules W R) (table : PolicyTable) (rows : List W) (fault : PolicyFault) : Type 0 where
+pub record IsFirstFault {W R T : Type 0} (rules : Rules W R) (table : T) (rows : List W) (fault : TableFault T) : Type 0 where
   pub place : ℕ
   pub wrong : Wrong
-  pub is : fault ≡ fault_of wrong table place
+  pub is : fault ≡ Row table place wrong
   pub first : IsFirstWrong rules rows place wrong
 
 -- the row that a written row stands for, or what is wrong with it by itself

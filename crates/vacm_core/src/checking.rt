@@ -4,7 +4,7 @@ ghost use Rattle.std.specs.List.{list_any};
 ghost use Rattle.vacm_core.specs.declared.fault.Wrong.{Wrong};
 ghost use Rattle.vacm_core.specs.Rules.{rules_of, by_itself, row_behind, AreRight, IsFirstFault, BeginsRight};
 
-use crate::fault::{PolicyFault, PolicyTable, Wrong};
+use crate::fault::{TableFault, Wrong};
 use crate::rows::Rows;
 use std::alloc::Global;
 
@@ -79,27 +79,26 @@ fn read_behind<W: Written>(rows: &[W::Row], written: W) -> Result<W::Row, Wrong>
 ///
 /// # Errors
 ///
-/// `BadLength`, `BadField` or `Duplicate` with the table and the number of the row, counted from 0;
-/// `Memory` where a growth was refused: each row that is kept takes memory, so there is a first row and nothing is wrong
-/// with it.
-pub fn checked_rows<W: Written>(
+/// `Row` with the table, the number of the row, counted from 0, and what is wrong with it; `Memory` where a growth was refused:
+/// each row that is kept takes memory, so there is a first row and nothing is wrong with it.
+pub fn checked_rows<W: Written, T: Copy>(
     alloc: Global,
-    table: PolicyTable,
+    table: T,
     written: Rows<W>,
-) -> Result<Rows<W::Row>, PolicyFault>
+) -> Result<Rows<W::Row>, TableFault<T>>
     ensures rows { IfOk result (λ rows. rows ≡ map W.row_of written) }
     ensures right { OnOk result (AreRight
         (rules_of W.lengths W.fields W.row_of W.same_key) written) }
-    ensures fault { IfErr result (λ e. e ≢ PolicyFault.Memory →
+    ensures fault { IfErr result (λ e. e ≢ TableFault.Memory →
         IsFirstFault (rules_of W.lengths W.fields W.row_of W.same_key) table written e) }
-    ensures memory { IfErr result (λ e. e ≡ PolicyFault.Memory →
+    ensures memory { IfErr result (λ e. e ≡ TableFault.Memory →
         BeginsRight (rules_of W.lengths W.fields W.row_of W.same_key) written) }
 {
     let mut rows = Vec::new(alloc);
     for row in written.into_vec() {
         match read_behind::<W>(rows.as_slice(), row) {
             Ok(row) => rows.push(row)?,
-            Err(wrong) => return Err(wrong.at(table, rows.len())),
+            Err(wrong) => return Err(TableFault::Row(table, rows.len(), wrong)),
         }
     }
     Ok(Rows::new(rows))

@@ -1,11 +1,11 @@
-//! Which row decides, by a scan of each table that keeps the best row so far.
-ghost use Rattle.std.specs.Prelude.{◌≡◌, ◌<◌, ◌&&◌, length, option_map, find, bytes_eq};
+//! Which row of each table decides (RFC 3415, section 3.2).
+ghost use Rattle.std.specs.Prelude.{◌≡◌, ◌<◌, length, option_map, find, bytes_eq};
 ghost use Rattle.std.specs.List.{list_any};
 ghost use Rattle.std.specs.Option.{ForSome};
-ghost use Rattle.vacm_core.specs.Best.{takes_over};
 ghost use Rattle.vacm_core.specs.Families.{mask_bit, agrees_at, agrees_from, matches, family_beats, deciding_family};
 ghost use Rattle.vacm_core.specs.Access.{is_known, is_of, fits_context, candidate, access_beats, deciding_access, has_view, view_of};
 
+use crate::contest::{Contest, deciding_row};
 use crate::name::Name;
 use crate::tables::{AccessRow, FamilyRow, GroupRow};
 use crate::verdict::{Ask, ViewType};
@@ -41,47 +41,38 @@ fn agrees_at(mask: &[u8], k: usize, part: u32, name: &[u32]) -> bool
     }
 }
 
-/// Whether a family row is of this view, and its family has this name.
-fn matches(row: &FamilyRow, view: &Name, name: &[u32]) -> bool
-    ensures { result ≡ matches view.now name.now row.now }
-{
-    row.view.is(view) && agrees(row.mask.as_slice(), row.subtree.as_slice(), name)
+/// Which family row of a view decides on a name (RFC 3415, vacmViewTreeFamilyTable): of those whose family has the name, the
+/// one with the longest subtree, and of equal lengths the lexicographically greatest.
+#[derive(Drop)]
+struct FamilyContest<'a> {
+    view: &'a Name,
+    name: &'a [u32],
 }
 
-/// Whether a family row comes before another: the longer subtree, and of equal lengths the greater.
-fn family_beats(row: &FamilyRow, other: &FamilyRow) -> bool
-    ensures { result ≡ family_beats row.now other.now }
-{
-    let subtree = row.subtree.as_slice();
-    let other = other.subtree.as_slice();
-    other
-        .len()
-        .cmp(&subtree.len())
-        .then(other.cmp(subtree))
-        .is_lt()
-}
+impl<'a> Contest for FamilyContest<'a> {
+    ghost use Rattle.vacm_core.specs.Orders.{family_order};
 
-fn family_takes_over(rows: &[FamilyRow], best: Option<usize>, row: &FamilyRow) -> bool
-    requires { ForSome best (λ b. b < length rows.now) }
-    ensures { result ≡ takes_over family_beats rows.now best row.now }
-{
-    match best {
-        Some(best) => family_beats(row, &rows[best]),
-        None => true,
+    type Row = FamilyRow;
+
+    ghost passes = { λ c. matches c.view.now c.name.now };
+
+    ghost beats = { λ c. family_beats };
+
+    ghost ranks = { λ c. family_order };
+
+    fn passes(&self, row: &FamilyRow) -> bool {
+        row.view.is(self.view) && agrees(row.mask.as_slice(), row.subtree.as_slice(), self.name)
     }
-}
 
-fn family_is_better(
-    rows: &[FamilyRow],
-    best: Option<usize>,
-    row: &FamilyRow,
-    view: &Name,
-    name: &[u32],
-) -> bool
-    requires { ForSome best (λ b. b < length rows.now) }
-    ensures { result ≡ (matches view.now name.now row.now && takes_over family_beats rows.now best row.now) }
-{
-    matches(row, view, name) && family_takes_over(rows, best, row)
+    fn beats(&self, row: &FamilyRow, other: &FamilyRow) -> bool {
+        let subtree = row.subtree.as_slice();
+        let other = other.subtree.as_slice();
+        other
+            .len()
+            .cmp(&subtree.len())
+            .then(other.cmp(subtree))
+            .is_lt()
+    }
 }
 
 /// The number of the family row of a view that decides on a name.
@@ -89,13 +80,7 @@ pub fn deciding_family(rows: &[FamilyRow], view: &Name, name: &[u32]) -> Option<
     ensures place { result ≡ deciding_family rows.now view.now name.now }
     ensures within { ForSome result (λ n. n < length rows.now) }
 {
-    let mut best = None;
-    for (n, row) in rows.iter().enumerate() {
-        if family_is_better(rows, best, row, view, name) {
-            best = Some(n);
-        }
-    }
-    best
+    deciding_row(&FamilyContest { view, name }, rows)
 }
 
 /// Whether a context is known.
@@ -130,57 +115,47 @@ fn fits_context(row: &AccessRow, context: &Name) -> bool
     }
 }
 
-/// Whether an access row is for what is asked, by this group.
-fn is_candidate(row: &AccessRow, ask: &Ask, group: &Name) -> bool
-    ensures { result ≡ candidate ask.now group.now row.now }
-{
-    row.group.is(group)
-        && fits_context(row, &ask.context)
-        && (row.model == ask.model || row.model == 0)
-        && row.level.number() <= ask.level.number()
+/// Which access row decides on what is asked by a group (RFC 3415, vacmAccessTable): of the candidates, in turn by the asked
+/// model, the whole context name as prefix, the longer prefix and the higher level.
+#[derive(Drop)]
+struct AccessContest<'a> {
+    ask: &'a Ask,
+    group: &'a Name,
 }
 
-/// Whether an access row comes before another: in turn by the asked model, the whole context name as
-/// prefix, the longer prefix and the higher level.
-fn access_beats(row: &AccessRow, other: &AccessRow, ask: &Ask) -> bool
-    ensures { result ≡ access_beats ask.now row.now other.now }
-{
-    let model = (other.model == ask.model).cmp(&(row.model == ask.model));
-    let whole = other
-        .prefix
-        .is(&ask.context)
-        .cmp(&row.prefix.is(&ask.context));
-    let longest = other
-        .prefix
-        .as_bytes()
-        .len()
-        .cmp(&row.prefix.as_bytes().len());
-    let highest = other.level.number().cmp(&row.level.number());
-    model.then(whole).then(longest).then(highest).is_lt()
-}
+impl<'a> Contest for AccessContest<'a> {
+    ghost use Rattle.vacm_core.specs.Orders.{access_order};
 
-fn access_takes_over(rows: &[AccessRow], best: Option<usize>, row: &AccessRow, ask: &Ask) -> bool
-    requires { ForSome best (λ b. b < length rows.now) }
-    ensures { result ≡ takes_over (access_beats ask.now) rows.now best row.now }
-{
-    match best {
-        Some(best) => access_beats(row, &rows[best], ask),
-        None => true,
+    type Row = AccessRow;
+
+    ghost passes = { λ c. candidate c.ask.now c.group.now };
+
+    ghost beats = { λ c. access_beats c.ask.now };
+
+    ghost ranks = { λ c. access_order c.ask.now };
+
+    fn passes(&self, row: &AccessRow) -> bool {
+        row.group.is(self.group)
+            && fits_context(row, &self.ask.context)
+            && (row.model == self.ask.model || row.model == 0)
+            && row.level.number() <= self.ask.level.number()
     }
-}
 
-fn access_is_better(
-    rows: &[AccessRow],
-    best: Option<usize>,
-    row: &AccessRow,
-    ask: &Ask,
-    group: &Name,
-) -> bool
-    requires { ForSome best (λ b. b < length rows.now) }
-    ensures { result ≡ (candidate ask.now group.now row.now && takes_over
-        (access_beats ask.now) rows.now best row.now) }
-{
-    is_candidate(row, ask, group) && access_takes_over(rows, best, row, ask)
+    fn beats(&self, row: &AccessRow, other: &AccessRow) -> bool {
+        let ask = self.ask;
+        let model = (other.model == ask.model).cmp(&(row.model == ask.model));
+        let whole = other
+            .prefix
+            .is(&ask.context)
+            .cmp(&row.prefix.is(&ask.context));
+        let longest = other
+            .prefix
+            .as_bytes()
+            .len()
+            .cmp(&row.prefix.as_bytes().len());
+        let highest = other.level.number().cmp(&row.level.number());
+        model.then(whole).then(longest).then(highest).is_lt()
+    }
 }
 
 /// The number of the access row that decides.
@@ -188,13 +163,7 @@ pub fn deciding_access(rows: &[AccessRow], ask: &Ask, group: &Name) -> Option<us
     ensures place { result ≡ deciding_access rows.now ask.now group.now }
     ensures within { ForSome result (λ n. n < length rows.now) }
 {
-    let mut best = None;
-    for (n, row) in rows.iter().enumerate() {
-        if access_is_better(rows, best, row, ask, group) {
-            best = Some(n);
-        }
-    }
-    best
+    deciding_row(&AccessContest { ask, group }, rows)
 }
 
 /// The view of an access row that is asked for.

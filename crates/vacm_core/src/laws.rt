@@ -1,7 +1,7 @@
 //! What follows from the definitions alone.
 ghost use Rattle.std.specs.Prelude.{◌≡◌, ◌↔◌, ◌+◌, ◌<◌, ◌≤◌, ℕ, List, true, false, Some, None, length, slice_index};
 ghost use Rattle.std.specs.List.{list_any};
-ghost use Rattle.oid_core.specs.declared.limits.TheConstants.{MOST_NUMBERS};
+ghost use Rattle.oid_core.specs.declared.limits.TheConstants.{MAX_NUMBERS};
 ghost use Rattle.vacm_core.specs.declared.tables.AccessRow.{AccessRow};
 ghost use Rattle.vacm_core.specs.declared.tables.FamilyRow.{FamilyRow};
 ghost use Rattle.vacm_core.specs.declared.verdict.Ask.{Ask};
@@ -9,7 +9,7 @@ ghost use Rattle.vacm_core.specs.Best.{IsUnbeatenAt};
 ghost use Rattle.vacm_core.specs.Access.{candidate, access_beats, deciding_access};
 ghost use Rattle.vacm_core.specs.Families.{mask_bit, agrees_from, matches, family_beats, deciding_family};
 
-use crate::limits::{FAMILY_MAX, MASK_MAX, MODEL_MAX, NAME_MAX};
+use crate::limits::{MAX_FAMILY, MAX_MASK, MAX_MODEL, MAX_NAME};
 
 /// A subtree agrees with a name under a mask exactly where the name is at least as long and equal to
 /// the subtree wherever the mask's bit is 1 (RFC 3415, vacmViewTreeFamilyMask).
@@ -46,9 +46,9 @@ pub fn some_family_row_decides()
 /// the view's name and its octets, and the length of the subtree and its sub-identifiers, which are to be 128 at most
 /// (RFC 2578, section 3.5).
 pub fn limits()
-    ensures name { NAME_MAX ≡ 32 }
-    ensures mask { MASK_MAX ≡ 16 }
-    ensures family { FAMILY_MAX ≡ 114 }
-    ensures instance { 12 + 1 + 1 + FAMILY_MAX ≡ MOST_NUMBERS }
-    ensures model { MODEL_MAX ≡ 2147483647 }
+    ensures name { MAX_NAME ≡ 32 }
+    ensures mask { MAX_MASK ≡ 16 }
+    ensures family { MAX_FAMILY ≡ 114 }
+    ensures instance { 12 + 1 + 1 + MAX_FAMILY ≡ MAX_NUMBERS }
+    ensures model { MAX_MODEL ≡ 2147483647 }
 {}

@@ -4,21 +4,25 @@
 //! # Entry points
 //! `Vacm::new` takes the written rows or names the first fault; `Vacm::decide` is the verdict on a request up to its
 //! names, `Vacm::in_view` the answer on a name. Each names its row. None of these but `new` takes memory.
+//! [`checked_rows`] checks a table of any rows that are [`Written`], and [`deciding_row`] finds the row that decides a
+//! [`Contest`]; `community_core` uses both.
 //!
 //! # Definitions
 //! `specs/Access.antt`: which access rows may decide and which beats which; `specs/Families.antt`: which families have
-//! a name; `specs/Best.antt`: the row that no row beats; `specs/Faults.antt`, `specs/Rules.antt`: lengths, fields and
+//! a name; `specs/Best.antt`, `specs/Orders.antt`: the row that no row beats; `specs/Faults.antt`, `specs/Rules.antt`: lengths, fields and
 //! keys of rows, the first fault, and where checking the rows takes memory.
 //!
 //! # Laws
-//! In [`laws`] and `Vacm::one_row_decides`: a row decides wherever one fits, and only one; kept rows break no rule; the
-//! limits are what they are.
+//! In [`laws`]: a row decides wherever one fits; the limits are what they are. On the type, since they hold of kept rows
+//! alone, by its invariant: `Vacm::one_row_decides`, only one row decides, and `Vacm::rows_are_right`, kept rows break no
+//! rule.
 //!
 //! # Not claimed
 //! How long a decision takes: it looks at each row.
 #![tactic(auto)]
 
 mod checking;
+mod contest;
 mod deciding;
 mod fault;
 pub mod laws;
@@ -33,8 +37,9 @@ mod verdict;
 mod written;
 
 pub use checking::{Written, checked_rows};
-pub use fault::{PolicyFault, PolicyTable, Wrong};
-pub use limits::{FAMILY_MAX, MASK_MAX, MODEL_MAX, NAME_MAX};
+pub use contest::{Contest, deciding_row};
+pub use fault::{TableFault, VacmTable, Wrong};
+pub use limits::{MAX_FAMILY, MAX_MASK, MAX_MODEL, MAX_NAME};
 pub use name::{Mask, Name};
 pub use rows::Rows;
 pub use tables::{AccessRow, FamilyRow, GroupRow, Level};

@@ -1,25 +1,25 @@
 //! Names of at most 32 octets, and masks of at most 16: what the tables keep, in place.
 ghost use Rattle.std.specs.Prelude.{◌≡◌, ◌≤◌, ◌==◌, ℕ, List, [], length, bytes_eq, if◌then◌else◌, nat_le};
 
-use crate::limits::{MASK_MAX, NAME_MAX};
+use crate::limits::{MAX_MASK, MAX_NAME};
 use arrayvec::{ArrayString, ArrayVec};
 use std::marker::Model;
 
-/// A name of at most [`NAME_MAX`] octets, which lie in the value itself.
+/// A name of at most [`MAX_NAME`] octets, which lie in the value itself.
 #[derive(Drop)]
 pub struct Name {
-    text: ArrayString<NAME_MAX>,
+    text: ArrayString<MAX_NAME>,
 }
 
 impl Model for Name {
     ghost use Rattle.std.specs.Prelude.{◌≤◌, ℕ, List, length};
-    ghost use Rattle.vacm_core.specs.declared.limits.TheConstants.{NAME_MAX};
+    ghost use Rattle.vacm_core.specs.declared.limits.TheConstants.{MAX_NAME};
 
     ghost Value = { List ℕ };
 
     ghost view = { λ n. n.text.bytes };
 
-    ghost invariant = { λ n. length n.text.bytes ≤ NAME_MAX };
+    ghost invariant = { λ n. length n.text.bytes ≤ MAX_NAME };
 }
 
 impl Name {
@@ -32,20 +32,20 @@ impl Name {
         }
     }
 
-    /// The name that a text is, if it is of at most [`NAME_MAX`] octets.
+    /// The name that a text is, if it is of at most [`MAX_NAME`] octets.
     pub fn from_str(text: &str) -> Option<Name>
-        ensures { result ≡ (if nat_le (length text.now) NAME_MAX then Some text.now else None) }
+        ensures { result ≡ (if nat_le (length text.now) MAX_NAME then Some text.now else None) }
     {
-        if text.len() <= NAME_MAX {
+        if text.len() <= MAX_NAME {
             Some(Name::of(text))
         } else {
             None
         }
     }
 
-    /// The name that a text of at most [`NAME_MAX`] octets is.
+    /// The name that a text of at most [`MAX_NAME`] octets is.
     pub fn of(text: &str) -> Name
-        requires { length text.now ≤ NAME_MAX }
+        requires { length text.now ≤ MAX_NAME }
         ensures { result ≡ text.now }
     {
         let mut name = ArrayString::new();
@@ -63,7 +63,7 @@ impl Name {
     /// The text of the name.
     pub fn as_str(&self) -> &str
         ensures value { result.now ≡ self.now }
-        ensures short { length self.now ≤ NAME_MAX }
+        ensures short { length self.now ≤ MAX_NAME }
     {
         self.text.as_str()
     }
@@ -71,7 +71,7 @@ impl Name {
     /// The octets of the name.
     pub fn as_bytes(&self) -> &[u8]
         ensures value { result.now ≡ self.now }
-        ensures short { length self.now ≤ NAME_MAX }
+        ensures short { length self.now ≤ MAX_NAME }
     {
         self.text.as_str().as_bytes()
     }
@@ -91,27 +91,27 @@ impl Name {
     }
 }
 
-/// A mask of at most [`MASK_MAX`] octets, which lie in the value itself.
+/// A mask of at most [`MAX_MASK`] octets, which lie in the value itself.
 #[derive(Drop)]
 pub struct Mask {
-    octets: ArrayVec<u8, MASK_MAX>,
+    octets: ArrayVec<u8, MAX_MASK>,
 }
 
 impl Model for Mask {
     ghost use Rattle.std.specs.Prelude.{◌≤◌, ℕ, List, length};
-    ghost use Rattle.vacm_core.specs.declared.limits.TheConstants.{MASK_MAX};
+    ghost use Rattle.vacm_core.specs.declared.limits.TheConstants.{MAX_MASK};
 
     ghost Value = { List ℕ };
 
     ghost view = { λ m. m.octets.items };
 
-    ghost invariant = { λ m. length m.octets.items ≤ MASK_MAX };
+    ghost invariant = { λ m. length m.octets.items ≤ MAX_MASK };
 }
 
 impl Mask {
-    /// The mask of at most [`MASK_MAX`] octets.
+    /// The mask of at most [`MAX_MASK`] octets.
     pub fn of(octets: &[u8]) -> Mask
-        requires { length octets.now ≤ MASK_MAX }
+        requires { length octets.now ≤ MAX_MASK }
         ensures { result ≡ octets.now }
     {
         let mut mask = ArrayVec::new();
@@ -124,7 +124,7 @@ impl Mask {
     /// The octets of the mask.
     pub fn as_slice(&self) -> &[u8]
         ensures value { result.now ≡ self.now }
-        ensures short { length self.now ≤ MASK_MAX }
+        ensures short { length self.now ≤ MAX_MASK }
     {
         self.octets.as_slice()
     }

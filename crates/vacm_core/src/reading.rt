@@ -5,7 +5,7 @@ ghost use Rattle.vacm_core.specs.Texts.{has_length, is_plain};
 ghost use Rattle.vacm_core.specs.Rows.{natural, is_between, level_of, group_lengths, group_fields, group_row, same_group, access_lengths, access_fields, access_row, same_access, family_lengths, family_fields, family_row, same_family, context_lengths};
 
 use crate::checking::Written;
-use crate::limits::{FAMILY_MAX, MASK_MAX, MODEL_MAX, NAME_MAX};
+use crate::limits::{MAX_FAMILY, MAX_MASK, MAX_MODEL, MAX_NAME};
 use crate::name::{Mask, Name};
 use crate::tables::{AccessRow, FamilyRow, GroupRow, Level};
 use crate::text::Text;
@@ -18,9 +18,9 @@ fn is_between(least: u32, most: u32, number: i64) -> bool
     i64::from(least) <= number && number <= i64::from(most)
 }
 
-/// A number of 0 to [`MODEL_MAX`].
+/// A number of 0 to [`MAX_MODEL`].
 fn natural(number: i64) -> u32
-    requires { is_between 0 MODEL_MAX number ≡ true }
+    requires { is_between 0 MAX_MODEL number ≡ true }
     ensures { result ≡ natural number }
 {
     number as u32
@@ -49,11 +49,11 @@ impl Written for WrittenGroup {
     ghost same_key = { same_group };
 
     fn has_right_lengths(&self) -> bool {
-        self.name.has_length(1, NAME_MAX) && self.group.has_length(1, NAME_MAX)
+        self.name.has_length(1, MAX_NAME) && self.group.has_length(1, MAX_NAME)
     }
 
     fn has_right_fields(&self) -> bool {
-        is_between(1, MODEL_MAX, self.model) && self.name.is_plain() && self.group.is_plain()
+        is_between(1, MAX_MODEL, self.model) && self.name.is_plain() && self.group.is_plain()
     }
 
     fn into_row(self) -> GroupRow {
@@ -81,15 +81,15 @@ impl Written for WrittenAccess {
     ghost same_key = { same_access };
 
     fn has_right_lengths(&self) -> bool {
-        self.group.has_length(1, NAME_MAX)
-            && self.prefix.has_length(0, NAME_MAX)
-            && self.read.has_length(0, NAME_MAX)
-            && self.write.has_length(0, NAME_MAX)
-            && self.notify.has_length(0, NAME_MAX)
+        self.group.has_length(1, MAX_NAME)
+            && self.prefix.has_length(0, MAX_NAME)
+            && self.read.has_length(0, MAX_NAME)
+            && self.write.has_length(0, MAX_NAME)
+            && self.notify.has_length(0, MAX_NAME)
     }
 
     fn has_right_fields(&self) -> bool {
-        is_between(0, MODEL_MAX, self.model)
+        is_between(0, MAX_MODEL, self.model)
             && is_between(1, 3, self.level)
             && self.group.is_plain()
             && self.prefix.is_plain()
@@ -131,9 +131,9 @@ impl Written for WrittenFamily {
     ghost same_key = { same_family };
 
     fn has_right_lengths(&self) -> bool {
-        self.view.has_length(1, NAME_MAX)
-            && self.mask.as_slice().len() <= MASK_MAX
-            && self.view.as_str().len() + self.subtree.as_slice().len() <= FAMILY_MAX
+        self.view.has_length(1, MAX_NAME)
+            && self.mask.as_slice().len() <= MAX_MASK
+            && self.view.as_str().len() + self.subtree.as_slice().len() <= MAX_FAMILY
     }
 
     fn has_right_fields(&self) -> bool {
@@ -166,7 +166,7 @@ impl Written for Text {
     ghost same_key = { λ a b. false };
 
     fn has_right_lengths(&self) -> bool {
-        self.has_length(0, NAME_MAX)
+        self.has_length(0, MAX_NAME)
     }
 
     fn has_right_fields(&self) -> bool {

@@ -32,7 +32,7 @@ impl Level {
 /// A row of vacmSecurityToGroupTable: the group of a security name under a model.
 #[derive(Drop)]
 pub struct GroupRow {
-    /// The security model, 1 to [`MODEL_MAX`](crate::MODEL_MAX).
+    /// The security model, 1 to [`MAX_MODEL`](crate::MAX_MODEL).
     pub model: u32,
     /// The security name, 1 to 32 octets.
     pub name: Name,

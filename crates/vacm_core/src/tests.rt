@@ -139,7 +139,7 @@ fn other_ports_match_no_family(rt: HostRuntime) -> Result<(), Fail> {
 fn fault_of_families(
     alloc: Global,
     families: Vec<WrittenFamily>,
-) -> Result<Option<PolicyFault>, Fail> {
+) -> Result<Option<TableFault<VacmTable>>, Fail> {
     let rows = tables(alloc, Vec::new(alloc), Vec::new(alloc), families)?;
     Ok(Vacm::new(alloc, rows).err())
 }
@@ -151,7 +151,7 @@ fn masks_have_at_most_16_octets(rt: HostRuntime) -> Result<(), Fail> {
     let fault = fault_of_families(alloc, families)?;
     assert_eq!(rt;
         fault,
-        Some(PolicyFault::BadLength(PolicyTable::Families, 0))
+        Some(TableFault::Row(VacmTable::Families, 0, Wrong::Length))
     );
     Ok(())
 }
@@ -164,7 +164,7 @@ fn the_later_row_is_the_duplicate(rt: HostRuntime) -> Result<(), Fail> {
     let fault = fault_of_families(alloc, Vec::from_array(alloc, [first, second])?)?;
     assert_eq!(rt;
         fault,
-        Some(PolicyFault::Duplicate(PolicyTable::Families, 1))
+        Some(TableFault::Row(VacmTable::Families, 1, Wrong::Duplicate))
     );
     Ok(())
 }
@@ -176,7 +176,10 @@ fn a_length_comes_before_a_later_field(rt: HostRuntime) -> Result<(), Fail> {
     let groups = Vec::from_array(alloc, [long, group(alloc, "a b")?])?;
     let rows = tables(alloc, groups, Vec::new(alloc), Vec::new(alloc))?;
     let fault = Vacm::new(alloc, rows).err();
-    assert_eq!(rt; fault, Some(PolicyFault::BadLength(PolicyTable::Groups, 0)));
+    assert_eq!(rt;
+        fault,
+        Some(TableFault::Row(VacmTable::Groups, 0, Wrong::Length))
+    );
     Ok(())
 }
 

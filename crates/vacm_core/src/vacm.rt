@@ -3,8 +3,8 @@ ghost use Rattle.std.specs.Prelude.{◌≡◌, ◌≢◌, ◌<◌, ◌≤◌, �
 
 use crate::checking::checked_rows;
 use crate::deciding;
-use crate::fault::{PolicyFault, PolicyTable};
-use crate::limits::FAMILY_MAX;
+use crate::fault::{TableFault, VacmTable};
+use crate::limits::MAX_FAMILY;
 use crate::name::Name;
 use crate::rows::Rows;
 use crate::tables::{AccessRow, FamilyRow, GroupRow};
@@ -50,16 +50,16 @@ impl Vacm {
     /// table row by row from 0, and in each row its lengths, then its fields, then its key;
     /// `Memory` where a growth was refused: nothing is wrong with the tables before some table, and that has a first row,
     /// with which nothing is wrong.
-    pub fn new(alloc: Global, rows: VacmRows) -> Result<Vacm, PolicyFault>
+    pub fn new(alloc: Global, rows: VacmRows) -> Result<Vacm, TableFault<VacmTable>>
         ensures tables { IfOk result (λ v. v ≡ tables_of rows) }
         ensures right { OnOk result (AreAllRight rows) }
-        ensures fault { IfErr result (λ e. e ≢ PolicyFault.Memory → IsFault rows e) }
-        ensures memory { IfErr result (λ e. e ≡ PolicyFault.Memory → TakesMemory rows) }
+        ensures fault { IfErr result (λ e. e ≢ TableFault.Memory → IsFault rows e) }
+        ensures memory { IfErr result (λ e. e ≡ TableFault.Memory → TakesMemory rows) }
     {
-        let groups = checked_rows(alloc, PolicyTable::Groups, rows.groups)?;
-        let access = checked_rows(alloc, PolicyTable::Access, rows.access)?;
-        let families = checked_rows(alloc, PolicyTable::Families, rows.families)?;
-        let contexts = checked_rows(alloc, PolicyTable::Contexts, rows.contexts)?;
+        let groups = checked_rows(alloc, VacmTable::Groups, rows.groups)?;
+        let access = checked_rows(alloc, VacmTable::Access, rows.access)?;
+        let families = checked_rows(alloc, VacmTable::Families, rows.families)?;
+        let contexts = checked_rows(alloc, VacmTable::Contexts, rows.contexts)?;
         Ok(Vacm {
             groups,
             access,
@@ -165,7 +165,7 @@ impl Vacm {
     pub fn family_row(&self, n: usize) -> &FamilyRow
         requires { n < length self.now.families }
         ensures row { slice_get self.now.families n ≡ Some result.now }
-        ensures short { length result.now.view + length result.now.subtree ≤ FAMILY_MAX }
+        ensures short { length result.now.view + length result.now.subtree ≤ MAX_FAMILY }
     {
         &self.families.as_slice()[n]
     }

@@ -1,5 +1,6 @@
-//! Frames that another program built, and a second one took apart: the Configuration BPDUs, the RST BPDUs and the
-//! notification were built by scapy, and tshark's dissector read the same fields of each.
+//! Frames that another program built, and a second one took apart: the Configuration BPDUs, the RST
+//! BPDUs and the notification were built by scapy, and tshark's dissector read the same fields of
+//! each. A test is a pair of them, octets and fields in full: over forty lines.
 use crate::*;
 use std::process::Abort;
 

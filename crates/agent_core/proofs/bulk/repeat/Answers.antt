@@ -52,7 +52,7 @@ loop-i-preserved g c =
           (c.in_ok-names.ensures ∙ ap names_of row);
       room = search rules;
       work = omega (arith, c.loop-i.invariant.work, c.in_ok-repeat_once.ensures.whole_work whole);
-      rooted = subst (AllByRecursion HasRoot) (sym c.in_ok-names.ensures) (rooted c.last-row.result.now c.last-row.ensures.spellable);
+      rooted = subst (AllByRecursion HasRoot) (sym c.in_ok-names.ensures) (rooted c.last-row.result.now c.last-row.ensures.encodable);
     }
 
 pub returns-clause-filled : goal.returns-clause-filled

@@ -1,7 +1,7 @@
 use Rattle.std.proofs.Common.{◌∙◌, ◌++◌, ℕ, ◌-◌, ap, sym, subst, List, length, take, drop}
 use Rattle.std.specs.List.{AllByRecursion}
 use Rattle.oid_core.specs.Name.{HasRoot}
-use Rattle.message_core.specs.Spellable.{IsSpellableBinding}
+use Rattle.message_core.specs.Encodable.{IsEncodableBinding}
 use Rattle.message_core.specs.declared.binding.Binding.{Binding}
 use Rattle.message_core.specs.Instances.{names_of}
 use Rattle.agent_core.specs.Reading.{visible}
@@ -12,7 +12,7 @@ use Rattle.agent_core.proofs.bulk.send_list.Goals as goal
 pub repeat_once-requires : goal.repeat_once-requires
 repeat_once-requires g c =
     subst (AllByRecursion HasRoot) (sym (c.as_slice.ensures.value ∙ c.in_ok-first.ensures))
-    (rooted (take c.args.once c.args.asked.now) (all_take IsSpellableBinding c.args.asked.now c.args.once c.requires.spellable))
+    (rooted (take c.args.once c.args.asked.now) (all_take IsEncodableBinding c.args.asked.now c.args.once c.requires.encodable))
 
 pub returns-then-not-branch-clause-filled : goal.returns-then-not-branch-clause-filled
 returns-then-not-branch-clause-filled g c =
@@ -26,7 +26,7 @@ repeat-requires g c =
     let last : ℕ = length c.args.asked.now - c.args.once in
     subst (AllByRecursion HasRoot) (sym c.in_ok-columns.ensures)
     (rooted (take last (drop c.args.once c.args.asked.now))
-    (all_take IsSpellableBinding (drop c.args.once c.args.asked.now) last (all_drop IsSpellableBinding c.args.asked.now c.args.once c.requires.spellable)))
+    (all_take IsEncodableBinding (drop c.args.once c.args.asked.now) last (all_drop IsEncodableBinding c.args.asked.now c.args.once c.requires.encodable)))
 
 pub returns-clause-filled : goal.returns-clause-filled
 returns-clause-filled g c =

@@ -1,7 +1,7 @@
 use Rattle.std.proofs.Common.{◌≡◌, ◌≤◌, ◌+◌, length, find}
 use Rattle.message_core.specs.Instances.{next_of}
 use Rattle.agent_core.specs.Reading.{visible}
-use Rattle.agent_core.specs.Looking.{hidden, most_looks}
+use Rattle.agent_core.specs.Looking.{hidden_count, most_looks}
 use Rattle.agent_core.proofs.Rest.{from}
 use Rattle.agent_core.proofs.reading.next_shown.Given as goal
 
@@ -12,7 +12,7 @@ invariant-loop-found g l =
     let rows = g.S.Source.instances l.source in
     record {
       answer : next_of (visible shows rows) l.name ≡ find (λ row. shows row.name) (from rows l.found);
-      work : l.steps + hidden shows (from rows l.found) ≤ l.fn.steps + most_looks shows rows;
+      work : l.steps + hidden_count shows (from rows l.found) ≤ l.fn.steps + most_looks shows rows;
     }
 
 abbrev pub decreases-loop-found : goal.decreases-loop-found

@@ -1,8 +1,8 @@
 use Rattle.std.proofs.Common.{◌≡◌, ◌++◌, take}
 use Rattle.std.specs.List.{flat_map}
-use Rattle.agent_script.specs.Actions.{spaced}
+use Rattle.agent_script.specs.Actions.{space_and_number}
 use Rattle.agent_script.proofs.saying.say_numbers.Given as goal
 
 -- what was there, and the numbers so far
 abbrev pub invariant-loop-number : goal.invariant-loop-number
-invariant-loop-number l = l.out.items ≡ l.initial.out.items ++ flat_map spaced (take l.number-index l.numbers)
+invariant-loop-number l = l.out.items ≡ l.initial.out.items ++ flat_map space_and_number (take l.number-index l.numbers)

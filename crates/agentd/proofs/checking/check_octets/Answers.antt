@@ -10,5 +10,5 @@ returns g c =
           (right_told _ c.args.octets.now w.in-Ok.field-0 _ _ _ w.in-Ok.ensures.configuration w.tell.ensures)
       | in-Err w ↦
           checked_as _ _ _ _ _ _ _ w.writer-is w.result-is
-          (wrong_told _ c.args.octets.now w.in-Err.fault _ _ _ w.in-Err.ensures.fault w.tell_fault.ensures)
+          (wrong_told _ c.args.octets.now w.in-Err.fault _ _ _ (w.in-Err.ensures.fault, w.in-Err.ensures.memory) w.tell_fault.ensures)
     ]

@@ -1,7 +1,8 @@
 use Rattle.vacm_core.proofs.Decided.{none_where_none_passes, some_is_unbeaten}
 use Rattle.vacm_core.proofs.Ties.{one_only}
 use Rattle.community_core.specs.Communities.{has_name, same_index, index_before}
-use Rattle.community_core.proofs.Indexes.{index_order, index_ties}
+use Rattle.community_core.specs.Orders.{index_order}
+use Rattle.community_core.proofs.Indexes.{index_ties}
 use Rattle.community_core.proofs.laws.some_community_decides.Goals as goal
 
 pub returns-clause-none : goal.returns-clause-none

@@ -1,6 +1,6 @@
 use Rattle.std.proofs.Common.{◌∙◌, ap, length, arith, FitsSigned, w32, rules}
 use Rattle.std.proofs.lemmas.Int.{to_z-of_z}
-use Rattle.ber_core.specs.Spelling.{canon_tlv}
+use Rattle.ber_core.specs.Encoding.{canon_tlv}
 use Rattle.message_core.specs.Tags as tags
 use Rattle.message_core.proofs.Measures.{room_tells}
 use Rattle.message_core.proofs.sizes.bindings_room.Goals as goal

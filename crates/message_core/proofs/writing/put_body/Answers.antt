@@ -1,6 +1,6 @@
 use Rattle.std.proofs.Common.{◌++◌, ◌∙◌, FitsSigned, w32, rules}
 use Rattle.std.proofs.lemmas.Int.{to_z-of_z}
-use Rattle.ber_core.specs.Writing.{written}
+use Rattle.ber_core.specs.Writing.{written_octets}
 use Rattle.ber_core.proofs.Puts.{prepends_then, written_then}
 use Rattle.message_core.specs.Canon.{canon_int, canon_tail, canon_body}
 use Rattle.message_core.proofs.writing.put_body.Goals as goal
@@ -17,4 +17,4 @@ returns-clause-puts c =
     let two = simp to_z-of_z at c.in_ok-put_i32.ensures.puts in
     let three = simp to_z-of_z at c.put_i32-2.ensures.puts in
     prepends_then old c.put_i32.new.self c.put_i32-2.new.self c.put_i32-2.result (canon_int m.first ++ canon_tail m.second m.bindings.now) (canon_int m.id)
-    (written_then (written old) (written c.put_tail.new.out) (written c.put_i32.new.self) (canon_tail m.second m.bindings.now) (canon_int m.first) one.0 two.0) (two.1 ∙ one.1) three
+    (written_then (written_octets old) (written_octets c.put_tail.new.out) (written_octets c.put_i32.new.self) (canon_tail m.second m.bindings.now) (canon_int m.first) one.0 two.0) (two.1 ∙ one.1) three

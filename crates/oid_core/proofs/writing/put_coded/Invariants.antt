@@ -1,16 +1,16 @@
 use Rattle.std.proofs.Common.{◌≡◌, ◌+◌, ◌++◌, map}
 use Rattle.std.specs.Int.Digits.{digits_of}
-use Rattle.ber_core.specs.Writing.{written, capacity, KeepsFront}
+use Rattle.ber_core.specs.Writing.{written_octets, capacity, KeepsFront}
 use Rattle.oid_core.specs.Name.{canon_coded}
 use Rattle.oid_core.specs.Writing.{Extends}
 use Rattle.oid_core.proofs.writing.put_coded.Given as goal
 
 abbrev pub invariant-loop-left : goal.invariant-loop-left
 invariant-loop-left l = record {
-  all : canon_coded l.number ++ written l.fn.out ≡ map (λ d. 128 + d) (digits_of 128 l.left) ++ written l.out;
+  all : canon_coded l.number ++ written_octets l.fn.out ≡ map (λ d. 128 + d) (digits_of 128 l.left) ++ written_octets l.out;
   room : capacity l.out ≡ capacity l.fn.out;
   front : KeepsFront l.fn.out l.out;
-  behind : Extends (written l.fn.out) (written l.out);
+  behind : Extends (written_octets l.fn.out) (written_octets l.out);
   same : l.out.room.ghost_name ≡ l.fn.out.room.ghost_name;
 }
 

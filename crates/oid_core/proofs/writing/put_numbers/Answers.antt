@@ -2,9 +2,9 @@ use Rattle.std.proofs.Common.{◌≡◌, List, ℕ, ◌-◌, ◌++◌, ◌∙◌
 use Rattle.std.specs.List.{flat_map}
 use Rattle.std.proofs.lemmas.Result.{err_from_is_err_and}
 use Rattle.std.proofs.lemmas.List.{take_all}
-use Rattle.ber_core.specs.Writing.{written, capacity}
+use Rattle.ber_core.specs.Writing.{written_octets, capacity}
 use Rattle.ber_core.proofs.Puts.{front_then}
-use Rattle.oid_core.specs.Name.{packed, canon_coded, canon_name}
+use Rattle.oid_core.specs.Name.{coded_numbers, canon_coded, canon_name}
 use Rattle.oid_core.proofs.Written.{root_len, last_number, no_room, extends_then}
 use Rattle.oid_core.proofs.writing.put_numbers.Goals as goal
 
@@ -24,8 +24,8 @@ pub returns-in_err-put_coded-clause-puts : goal.returns-in_err-put_coded-clause-
 returns-in_err-put_coded-clause-puts c =
     let p = err_from_is_err_and c.from_residual.result c.from_residual.ensures.1 in
     let h = c.in_err-put_coded.ensures.puts in
-    let full = no_room (canon_name c.args.name.now ++ written c.args.out.now) (written c.loop-i.out) (flat_map canon_coded (packed (take (c.loop-i.i - 1) c.args.name.now))) (canon_coded (get_or c.args.name.now (c.loop-i.i - 1) 0)) (capacity c.loop-i.out)
-    (c.loop-i.invariant.all ∙ ap (λ (t : List ℕ). t ++ written c.loop-i.out) (last_number c.args.name.now c.loop-i.i (omega arith) c.loop-i.invariant.high)) (rw (← c.from.ensures) h.1) in
+    let full = no_room (canon_name c.args.name.now ++ written_octets c.args.out.now) (written_octets c.loop-i.out) (flat_map canon_coded (coded_numbers (take (c.loop-i.i - 1) c.args.name.now))) (canon_coded (get_or c.args.name.now (c.loop-i.i - 1) 0)) (capacity c.loop-i.out)
+    (c.loop-i.invariant.all ∙ ap (λ (t : List ℕ). t ++ written_octets c.loop-i.out) (last_number c.args.name.now c.loop-i.i (omega arith) c.loop-i.invariant.high)) (rw (← c.from.ensures) h.1) in
     rw (p.1, p.2) (h.0, omega (arith, full, c.loop-i.invariant.room), h.2 ∙ c.loop-i.invariant.room)
 
 pub returns-in_err-put_coded-clause-behind : goal.returns-in_err-put_coded-clause-behind
@@ -43,12 +43,12 @@ loop-i-preserved c =
     let h = c.in_ok-put_coded.ensures.puts in
     let name = c.args.name.now in
     let i = c.loop-i.i in
-    let before = flat_map canon_coded (packed (take (i - 1) name)) in
+    let before = flat_map canon_coded (coded_numbers (take (i - 1) name)) in
     let number = canon_coded (get_or name (i - 1) 0) in
-    let put : written c.put_coded.new.out ≡ number ++ written c.loop-i.out = rw (← c.from.ensures) h.0 in
+    let put : written_octets c.put_coded.new.out ≡ number ++ written_octets c.loop-i.out = rw (← c.from.ensures) h.0 in
     record {
-      all = c.loop-i.invariant.all ∙ ap (λ (t : List ℕ). t ++ written c.loop-i.out) (last_number name i (omega arith) c.loop-i.invariant.high)
-          ∙ append_assoc before number (written c.loop-i.out) ∙ ap (λ (t : List ℕ). before ++ t) (sym put);
+      all = c.loop-i.invariant.all ∙ ap (λ (t : List ℕ). t ++ written_octets c.loop-i.out) (last_number name i (omega arith) c.loop-i.invariant.high)
+          ∙ append_assoc before number (written_octets c.loop-i.out) ∙ ap (λ (t : List ℕ). before ++ t) (sym put);
       room = h.1 ∙ c.loop-i.invariant.room;
       front = front_then c.args.out.now c.loop-i.out c.put_coded.new.out (Ok _) (canon_coded c.from.result) h c.loop-i.invariant.front c.in_ok-put_coded.ensures.front;
       behind = extends_then _ _ _ c.loop-i.invariant.behind c.in_ok-put_coded.ensures.behind;

@@ -2,7 +2,7 @@ use Rattle.std.proofs.Common.{inl, rules, ◌≢◌, ◌⊎◌}
 use Rattle.std.specs.Prelude.{IfOk, IfErr}
 use Rattle.std.proofs.lemmas.Result.{err_from_is_err_and}
 use Rattle.toml.specs.View.{table_view}
-use Rattle.vacm_core.specs.declared.fault.PolicyFault.TheVariants.{Memory}
+use Rattle.community_core.specs.declared.fault.PolicyFault.TheVariants.{Memory}
 use Rattle.policy_text.specs.Policies.{IsUnread, IsPolicy, IsWrongPolicy}
 use Rattle.policy_text.proofs.SaidLemmas.{unread_told, said_if, refused_if}
 use Rattle.policy_text.proofs.Taking.{memory_by}

@@ -1,7 +1,7 @@
 use Rattle.std.proofs.Common.{arith}
-use Rattle.rstp_rules.specs.Roles.{expired}
+use Rattle.rstp_rules.specs.Roles.{after_expiry}
 use Rattle.rstp_core.proofs.Steps.{map_step}
 use Rattle.rstp_core.proofs.loops.expire_all.Goals as goal
 
 pub loop-row-preserved : goal.loop-row-preserved
-loop-row-preserved c = map_step (expired) _ _ _ _ _ (omega arith) c.loop-row.auto.rows c.loop-row.invariant c.expire.ensures
+loop-row-preserved c = map_step (after_expiry) _ _ _ _ _ (omega arith) c.loop-row.auto.rows c.loop-row.invariant c.expire.ensures

@@ -1,11 +1,11 @@
 use Rattle.std.proofs.Common.{arith, ◌∙◌}
-use Rattle.rstp_rules.specs.Sends.{bpdu_of, sent}
+use Rattle.rstp_rules.specs.Sends.{bpdu_of, after_sending}
 use Rattle.rstp_core.proofs.Steps.{map_step, out_step}
 use Rattle.rstp_core.proofs.loops.send_all.Goals as goal
 
 pub loop-row-preserved : goal.loop-row-preserved
 loop-row-preserved c =
-    let f = sent c.args.context.now in
+    let f = after_sending c.args.context.now in
     let g = bpdu_of c.args.context.now in
     record {
       rows = map_step f _ _ _ _ _ (omega arith) c.loop-row.auto.rows c.loop-row.invariant.rows c.send.ensures.port;

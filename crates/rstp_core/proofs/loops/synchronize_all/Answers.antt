@@ -1,7 +1,7 @@
 use Rattle.std.proofs.Common.{arith}
-use Rattle.rstp_rules.specs.Transitions.{synced}
+use Rattle.rstp_rules.specs.Transitions.{after_synchronization}
 use Rattle.rstp_core.proofs.Steps.{map_step}
 use Rattle.rstp_core.proofs.loops.synchronize_all.Goals as goal
 
 pub loop-row-preserved : goal.loop-row-preserved
-loop-row-preserved c = map_step (synced c.args.context.now) _ _ _ _ _ (omega arith) c.loop-row.auto.rows c.loop-row.invariant c.synchronize.ensures
+loop-row-preserved c = map_step (after_synchronization c.args.context.now) _ _ _ _ _ (omega arith) c.loop-row.auto.rows c.loop-row.invariant c.synchronize.ensures

@@ -1,7 +1,7 @@
 use Rattle.std.proofs.Common.{arith}
-use Rattle.rstp_rules.specs.Ticks.{ticked}
+use Rattle.rstp_rules.specs.Ticks.{after_tick}
 use Rattle.rstp_core.proofs.Steps.{map_step}
 use Rattle.rstp_core.proofs.loops.tick_all.Goals as goal
 
 pub loop-row-preserved : goal.loop-row-preserved
-loop-row-preserved c = map_step (ticked) _ _ _ _ _ (omega arith) c.loop-row.auto.rows c.loop-row.invariant c.tick.ensures
+loop-row-preserved c = map_step (after_tick) _ _ _ _ _ (omega arith) c.loop-row.auto.rows c.loop-row.invariant c.tick.ensures

@@ -1,6 +1,6 @@
 use Rattle.std.proofs.Common.{◌≡◌, ◌++◌, map, take, drop}
-use Rattle.rstp_rules.specs.Ticks.{ticked}
+use Rattle.rstp_rules.specs.Ticks.{after_tick}
 use Rattle.rstp_core.proofs.loops.tick_all.Given as goal
 
 abbrev pub invariant-loop-row : goal.invariant-loop-row
-invariant-loop-row l = l.rows ≡ map (ticked) (take l.row-index l.fn.rows) ++ drop l.row-index l.fn.rows
+invariant-loop-row l = l.rows ≡ map (after_tick) (take l.row-index l.fn.rows) ++ drop l.row-index l.fn.rows

@@ -1,4 +1,4 @@
-use Rattle.std.proofs.Common.{arith}
+use Rattle.std.proofs.Common.{arith, refl}
 use Rattle.vacm_core.specs.Rules.{rules_of}
 use Rattle.vacm_core.proofs.Right.{going_more, going_fault, going_begins}
 use Rattle.vacm_core.proofs.checking.checked_rows.Goals as goal
@@ -16,8 +16,8 @@ returns-in-Err-clause-fault g c other =
     let w = g.W.Written in
     let rules = rules_of w.lengths w.fields w.row_of w.same_key in
     going_fault rules c.args.written c.loop-row.yielded c.loop-row.row-iterator.rest.items c.next.new.self.rest.items c.loop-row.row-iterator.rest.len
-    c.loop-row.rows.items c.as_slice.result.now c.in-Some.row c.args.table c.len.result c.in-Err.wrong c.at.result
-    c.loop-row.invariant c.in-Some.ensures.steps.0 c.as_slice.ensures.value c.in-Err.ensures (omega (arith, c.len.ensures, c.loop-row.rows.ok)) c.at.ensures
+    c.loop-row.rows.items c.as_slice.result.now c.in-Some.row c.args.table c.len.result c.in-Err.wrong _
+    c.loop-row.invariant c.in-Some.ensures.steps.0 c.as_slice.ensures.value c.in-Err.ensures (omega (arith, c.len.ensures, c.loop-row.rows.ok)) refl
 
 pub returns-in_err-push-in-Ok-clause-memory : goal.returns-in_err-push-in-Ok-clause-memory
 returns-in_err-push-in-Ok-clause-memory g c =

@@ -1,6 +1,6 @@
 use Rattle.vacm_core.specs.Access.{candidate}
 use Rattle.vacm_core.proofs.Decided.{none_where_none_passes, some_is_unbeaten}
-use Rattle.vacm_core.proofs.Orders.{access_order}
+use Rattle.vacm_core.specs.Orders.{access_order}
 use Rattle.vacm_core.proofs.laws.some_access_row_decides.Goals as goal
 
 pub returns-clause-none : goal.returns-clause-none

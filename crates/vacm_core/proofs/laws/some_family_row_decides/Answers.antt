@@ -1,6 +1,6 @@
 use Rattle.vacm_core.specs.Families.{matches}
 use Rattle.vacm_core.proofs.Decided.{none_where_none_passes, some_is_unbeaten}
-use Rattle.vacm_core.proofs.Orders.{family_order}
+use Rattle.vacm_core.specs.Orders.{family_order}
 use Rattle.vacm_core.proofs.laws.some_family_row_decides.Goals as goal
 
 pub returns-clause-none : goal.returns-clause-none

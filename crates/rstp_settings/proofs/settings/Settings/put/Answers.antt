@@ -14,6 +14,6 @@ pub invariant_of-self-in-Port : goal.invariant_of-self-in-Port
 invariant_of-self-in-Port c =
     let t : Table = record { bridge = c.self.inside.bridge; ports = c.self.inside.ports.items } in
     let has = rw (← c.self.view_is, c.in-Port.is) at c.requires.key in
-    let valid = IsValid-put t (Port c.in-Port.number c.in-Port.key) c.args.value c.self.invariant has (rw c.in-Port.is at c.requires.value) in
-    let same : length (slice_set c.deref_mut.result.now (c.in-Port.number - 1) c.put-in-Port.new.self) ≡ length c.self.inside.ports.items = length-set _ _ _ ∙ ap length c.deref_mut.ensures.value in
+    let valid = IsValid-put t (Port c.in-Port.port c.in-Port.key) c.args.value c.self.invariant has (rw c.in-Port.is at c.requires.value) in
+    let same : length (slice_set c.deref_mut.result.now (c.in-Port.port - 1) c.put-in-Port.new.self) ≡ length c.self.inside.ports.items = length-set _ _ _ ∙ ap length c.deref_mut.ensures.value in
     rw (refill_same _ _ same, c.put-in-Port.ensures, c.deref_mut.ensures.value) valid

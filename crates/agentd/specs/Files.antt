@@ -1,0 +1,19 @@
+-- Why the octets of a file were not had.
+use Rattle.std.specs.Prelude.{◌≡◌, ℕ, List, Result, Ok, Err, IfErr, Vec}
+use Rattle.std.specs.declared.alloc.Global.{Global}
+use Rattle.agentd.specs.declared.files.NotRead.{NotRead}
+use Rattle.agentd.specs.declared.files.NotRead.TheVariants.{Memory, Unreadable}
+
+-- what names a file names this one
+abbrev pub IsNotRead : List ℕ → NotRead → Type 0
+IsNotRead file Memory = Unit {0}
+IsNotRead file (Unreadable name) = name.now ≡ file
+
+-- octets were read, or none of this file
+abbrev pub IsReadOf : List ℕ → Result (List ℕ) NotRead → Type 0
+IsReadOf file read = IfErr read (λ why. IsNotRead file why)
+
+-- the octets alone
+abbrev pub read_view : Result (Vec ℕ Global) NotRead → Result (List ℕ) NotRead
+read_view (Ok octets) = Ok octets.items
+read_view (Err why) = Err why

@@ -1,0 +1,86 @@
+-- What the words of a command line ask for.
+use Rattle.std.specs.Prelude.{ℕ, codes, if◌then◌else◌, List, [], ◌∷◌, Result, Ok, Err}
+use Rattle.std.specs.Str.{bytes_eq}
+use Rattle.agentd.specs.declared.words.Asked.{Asked}
+use Rattle.agentd.specs.declared.words.Asked.TheVariants.{BuiltIn, Script, Check, Help, Version}
+use Rattle.agentd.specs.declared.words.Wrong.{Wrong}
+use Rattle.agentd.specs.declared.words.Wrong.TheVariants.{Unexpected, Missing}
+use Rattle.agentd.specs.declared.words.Doing.{Doing}
+use Rattle.agentd.specs.declared.words.Doing.TheVariants.{Script as RunsScript, Check as ChecksFile}
+
+pub data Asking : Type 0 where
+  -- the script by the built-in configuration
+  built_in : Asking
+  -- `script --config FILE`: the script by the configuration of this file
+  script : (file : List ℕ) → Asking
+  -- `check --config FILE`: whether this file is a configuration
+  check : (file : List ℕ) → Asking
+  -- `--help`, alone or behind `script` or `check`
+  help : Asking
+  -- `--version`
+  version : Asking
+
+pub data Mistake : Type 0 where
+  -- this word is the first that may not stand where it does
+  unexpected : (word : List ℕ) → Mistake
+  -- the words end where `--config`, or the file behind it, is to stand
+  missing : Mistake
+
+abbrev pub asking_with_file : Doing → List ℕ → Asking
+asking_with_file RunsScript file = script file
+asking_with_file ChecksFile file = check file
+
+-- the one word behind `--config`
+abbrev pub file_behind : List (List ℕ) → Result (List ℕ) Mistake
+file_behind [] = Err missing
+file_behind (file ∷ []) = Ok file
+file_behind (file ∷ (extra ∷ more)) = Err (unexpected extra)
+
+-- no word stands behind this
+abbrev pub alone : Asking → List (List ℕ) → Result Asking Mistake
+alone asked [] = Ok asked
+alone asked (extra ∷ more) = Err (unexpected extra)
+
+abbrev pub asking_with_file_in : Doing → Result (List ℕ) Mistake → Result Asking Mistake
+asking_with_file_in doing (Ok file) = Ok (asking_with_file doing file)
+asking_with_file_in doing (Err mistake) = Err mistake
+
+-- the words behind `script` or `check`
+abbrev pub file_asking : Doing → List (List ℕ) → Result Asking Mistake
+file_asking doing [] = Err missing
+file_asking doing (option ∷ more) =
+    if bytes_eq option (codes "--config") then asking_with_file_in doing (file_behind more)
+    else if bytes_eq option (codes "--help") then alone help more
+    else Err (unexpected option)
+
+-- a first word, with those behind it
+abbrev pub asking_with : List ℕ → List (List ℕ) → Result Asking Mistake
+asking_with word more =
+    if bytes_eq word (codes "script") then file_asking RunsScript more
+    else if bytes_eq word (codes "check") then file_asking ChecksFile more
+    else if bytes_eq word (codes "--help") then alone help more
+    else if bytes_eq word (codes "--version") then alone version more
+    else Err (unexpected word)
+
+-- What the words of a command line ask for, its name first.
+abbrev pub asking_of : List (List ℕ) → Result Asking Mistake
+asking_of [] = Ok built_in
+asking_of (name ∷ []) = Ok built_in
+asking_of (name ∷ (word ∷ more)) = asking_with word more
+
+-- ---- what the code's answers stand for
+
+abbrev pub asked_view : Asked → Asking
+asked_view BuiltIn = built_in
+asked_view (Script file) = script file.now
+asked_view (Check file) = check file.now
+asked_view Help = help
+asked_view Version = version
+
+abbrev pub wrong_view : Wrong → Mistake
+wrong_view (Unexpected word) = unexpected word.now
+wrong_view Missing = missing
+
+abbrev pub asking_view : Result Asked Wrong → Result Asking Mistake
+asking_view (Ok asked) = Ok (asked_view asked)
+asking_view (Err wrong) = Err (wrong_view wrong)

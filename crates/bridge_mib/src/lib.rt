@@ -1,0 +1,20 @@
+//! The managed objects of BRIDGE-MIB (RFC 4188) that show a bridge.
+//!
+//! # Entry points
+//! [`BaseScalar`], [`BasePortColumn`]: dot1dBase; [`StpScalar`], [`StpPortColumn`]: dot1dStp;
+//! [`TpScalar`], [`TpPortColumn`]: dot1dTp. Each is made by `new` of a descriptor, and
+//! is a `MibObject`: it shows its row, whatever was asked of it before.
+//!
+//! # Definitions
+//! What each object shows stands in `setphase_core`: `specs/Columns.antt`, and the objects' names in
+//! `specs/Names.antt`.
+#![tactic(auto)]
+
+mod base;
+mod stp;
+mod tp;
+pub mod values;
+
+pub use base::{BasePortColumn, BaseScalar};
+pub use stp::{StpPortColumn, StpScalar};
+pub use tp::{TpPortColumn, TpScalar};

@@ -1,0 +1,12 @@
+pub mod Puts
+pub mod Below
+pub mod Ordered
+pub mod Places
+pub mod Searches
+pub mod Found
+pub mod Next
+pub mod Values
+pub mod Rising
+pub mod Served
+pub mod Indexes
+pub mod Opened

@@ -1,0 +1,147 @@
+-- The binary search for the place behind a name, and how many turns it takes.
+use Rattle.std.proofs.Common.{◌≡◌, ℕ, zero, suc, ◌+◌, ◌-◌, ◌*◌, ◌/◌, ◌^◌, ◌<◌, ◌≤◌, Bool, true, false, List, [], ◌∷◌, length, refl, ap, subst, ◌∙◌, arith, Some, None, inl, inr, add-one, find}
+use Rattle.std.proofs.Math.Nat.{mul-le-mul_left, pow-succ'}
+use Rattle.oid_core.specs.Order.{name_lt, is_prefix}
+use Rattle.oid_core.proofs.OrderLaws.{name_lt-trans}
+use Rattle.setphase_core.specs.Searching.{prefix_at, IsPlaceBehind, IsOwnerPlace}
+use Rattle.setphase_core.proofs.Below.{begun_lt, begun_not_lt, begun_apart, begun_apart_back, below_itself_lt}
+use Rattle.setphase_core.proofs.Ordered.{AreOrdered, ordered_at}
+use Rattle.std.proofs.lemmas.Bool.Decides.{eqb_tells, leb_tells}
+
+-- what stands between the turns: the place is from `low` to `high`, and `turns` turns have left so
+-- little
+pub record IsSearched (prefixes : List (List ℕ)) (name : List ℕ) (low high turns : ℕ) : Type 0 where
+  pub order : low ≤ high
+  pub within : high ≤ length prefixes
+  pub before : (k : ℕ) → k < low → name_lt name (prefix_at prefixes k) ≡ false
+  pub behind : (k : ℕ) → high ≤ k → k < length prefixes → name_lt name (prefix_at prefixes k) ≡ true
+  pub left : 2 ^ turns * (high - low) ≤ length prefixes
+  pub work : 2 ^ turns ≤ 2 * length prefixes + 1
+
+pub search_begins : (prefixes : List (List ℕ)) (name : List ℕ) → IsSearched prefixes name 0 (length prefixes) 0
+search_begins prefixes name = record {
+  order = omega arith;
+  within = omega arith;
+  before = λ k h. absurd (omega arith);
+  behind = λ k h l. absurd (omega arith);
+  left = omega arith;
+  work = omega arith;
+}
+
+-- half of what is left, after one turn more
+halved : (power left half n : ℕ) → power * left ≤ n → 2 * half ≤ left → 2 * power * half ≤ n
+halved power left half n h k = omega (arith, mul-le-mul_left power k, h, mul_swap power half)
+  where
+    mul_swap : (p e : ℕ) → 2 * p * e ≡ p * (2 * e)
+    mul_swap p e = grind arith
+
+doubled : (power left n : ℕ) → power * left ≤ n → 1 ≤ left → 2 * power ≤ 2 * n + 1
+doubled power left n h k = omega (arith, mul-le-mul_left power k, h)
+
+power_more : (turns : ℕ) → 2 ^ (turns + 1) ≡ 2 * 2 ^ turns
+power_more turns = ap (λ n. 2 ^ n) (add-one turns) ∙ pow-succ' 2 turns
+
+-- a name below a lower one is below the higher one
+later : (prefixes : List (List ℕ)) (name : List ℕ) (i k : ℕ) → AreOrdered prefixes → i < length prefixes → i ≤ k → k < length prefixes →
+    name_lt name (prefix_at prefixes i) ≡ true → name_lt name (prefix_at prefixes k) ≡ true
+later prefixes name i k ordered within low high h = elim (eqb_tells i k) [
+  | inl e ↦ subst (λ n. name_lt name (prefix_at prefixes n) ≡ true) e.1 h
+  | inr e ↦ name_lt-trans name (prefix_at prefixes i) (prefix_at prefixes k) h (below_itself_lt (prefix_at prefixes i) (prefix_at prefixes k) (ordered_at prefixes i k ordered (omega (arith, low, e.1)) high))
+]
+
+earlier : (prefixes : List (List ℕ)) (name : List ℕ) (i k : ℕ) (b : Bool) → AreOrdered prefixes → i < length prefixes → k ≤ i →
+    name_lt name (prefix_at prefixes i) ≡ false → name_lt name (prefix_at prefixes k) ≡ b → b ≡ false
+earlier prefixes name i k true ordered within low h is = let lt = later prefixes name k i ordered (omega arith) low within is in absurd (cc)
+earlier prefixes name i k false ordered within low h is = refl
+
+pub search_left : (prefixes : List (List ℕ)) (name : List ℕ) (low high middle turns : ℕ) → AreOrdered prefixes → IsSearched prefixes name low high turns → low < high →
+    middle ≡ low + (high - low) / 2 → name_lt name (prefix_at prefixes middle) ≡ true → IsSearched prefixes name low middle (turns + 1)
+search_left prefixes name low high middle turns ordered s lt is below =
+    let half : 2 * (middle - low) ≤ high - low = omega (arith, is) in
+    let under : middle < high = omega (arith, is, lt) in
+    record {
+      order = omega (arith, is);
+      within = omega (arith, under, s.within);
+      before = s.before;
+      behind = λ k h l. later prefixes name middle k ordered (omega (arith, under, s.within)) h l below;
+      left = rw (power_more turns) (halved (2 ^ turns) (high - low) (middle - low) (length prefixes) s.left half);
+      work = rw (power_more turns) (doubled (2 ^ turns) (high - low) (length prefixes) s.left (omega (arith, lt)));
+    }
+
+pub search_right : (prefixes : List (List ℕ)) (name : List ℕ) (low high middle turns : ℕ) → AreOrdered prefixes → IsSearched prefixes name low high turns → low < high →
+    middle ≡ low + (high - low) / 2 → name_lt name (prefix_at prefixes middle) ≡ false → IsSearched prefixes name (middle + 1) high (turns + 1)
+search_right prefixes name low high middle turns ordered s lt is below =
+    let half : 2 * (high - (middle + 1)) ≤ high - low = omega (arith, is) in
+    let under : middle < high = omega (arith, is, lt) in
+    record {
+      order = omega (arith, under);
+      within = s.within;
+      before = λ k h. earlier prefixes name middle k _ ordered (omega (arith, under, s.within)) (omega (arith, h)) below refl;
+      behind = s.behind;
+      left = rw (power_more turns) (halved (2 ^ turns) (high - low) (high - (middle + 1)) (length prefixes) s.left half);
+      work = rw (power_more turns) (doubled (2 ^ turns) (high - low) (length prefixes) s.left (omega (arith, lt)));
+    }
+
+pub search_ends : (prefixes : List (List ℕ)) (name : List ℕ) (low high turns : ℕ) → IsSearched prefixes name low high turns → high ≤ low → IsPlaceBehind prefixes name low
+search_ends prefixes name low high turns s h =
+    let same : high ≡ low = omega (arith, h, s.order) in
+    record {
+      within = omega (arith, same, s.within);
+      before = s.before;
+      behind = λ k l m. s.behind k (omega (arith, same, l)) m;
+    }
+
+-- ---- the owner is in front of that place, or there is none
+
+pub owner_found : (prefixes : List (List ℕ)) (name : List ℕ) (i : ℕ) → AreOrdered prefixes → i < length prefixes → is_prefix (prefix_at prefixes i) name ≡ true → IsOwnerPlace prefixes name (Some i)
+owner_found prefixes name i ordered within begun = (
+  within,
+  begun,
+  λ k h ne. elim (leb_tells (suc k) i) [
+    | inl s ↦ begun_apart_back (prefix_at prefixes k) (prefix_at prefixes i) name _ (ordered_at prefixes k i ordered (omega (arith, s.1)) within) begun refl
+    | inr s ↦ begun_apart (prefix_at prefixes i) (prefix_at prefixes k) name _ (ordered_at prefixes i k ordered (omega (arith, s.1, ne)) h) begun refl
+  ],
+)
+
+-- none of those from the place on begins the name
+not_behind : (prefixes : List (List ℕ)) (name : List ℕ) (k : ℕ) (b : Bool) → name_lt name (prefix_at prefixes k) ≡ true → is_prefix (prefix_at prefixes k) name ≡ b → b ≡ false
+not_behind prefixes name k true h is = let not = begun_not_lt (prefix_at prefixes k) name is in absurd (cc)
+not_behind prefixes name k false h is = refl
+
+-- nor does one in front of the last that is not greater
+not_before : (prefixes : List (List ℕ)) (name : List ℕ) (i k : ℕ) (b : Bool) → AreOrdered prefixes → k < i → i < length prefixes → name_lt name (prefix_at prefixes i) ≡ false →
+    is_prefix (prefix_at prefixes k) name ≡ b → b ≡ false
+not_before prefixes name i k true ordered lt within h is =
+    let up = begun_lt (prefix_at prefixes k) (prefix_at prefixes i) name (ordered_at prefixes k i ordered lt within) is in absurd (cc)
+not_before prefixes name i k false ordered lt within h is = refl
+
+pub early_not_begun : (prefixes : List (List ℕ)) (name : List ℕ) (place k : ℕ) → AreOrdered prefixes → IsPlaceBehind prefixes name place → k + 1 < place → is_prefix (prefix_at prefixes k) name ≡ false
+early_not_begun prefixes name place k ordered p lt =
+    not_before prefixes name (place - 1) k _ ordered (omega (arith, lt)) (omega (arith, lt, p.within)) (p.before (place - 1) (omega (arith, lt))) refl
+
+pub owner_missing : (prefixes : List (List ℕ)) (name : List ℕ) (place : ℕ) → AreOrdered prefixes → IsPlaceBehind prefixes name place →
+    (0 < place → is_prefix (prefix_at prefixes (place - 1)) name ≡ false) → IsOwnerPlace prefixes name None
+owner_missing prefixes name place ordered p last k h = elim (leb_tells place k) [
+  | inl s ↦ not_behind prefixes name k _ (p.behind k s.1 h) refl
+  | inr s ↦ elim (eqb_tells (k + 1) place) [
+    | inl e ↦ subst (λ n. is_prefix (prefix_at prefixes n) name ≡ false) (omega (arith, e.1)) (last (omega (arith, e.1)))
+    | inr e ↦ early_not_begun prefixes name place k ordered p (omega (arith, s.1, e.1))
+  ]
+]
+
+-- what the loop keeps
+pub record IsCounted (prefixes : List (List ℕ)) (name : List ℕ) (low high before steps : ℕ) : Type 0 where
+  pub forward : before ≤ steps
+  pub searched : IsSearched prefixes name low high (steps - before)
+
+-- ---- the search of the owner in the definition finds what stands at the place
+
+pub owner_none : (prefixes : List (List ℕ)) (name : List ℕ) → IsOwnerPlace prefixes name None → find (λ p. is_prefix p name) prefixes ≡ None
+owner_none [] name h = refl
+owner_none (p ∷ prefixes) name h = rw (h 0 (omega arith)) (owner_none prefixes name (λ k l. h (suc k) (omega (arith, l))))
+
+pub owner_some : (prefixes : List (List ℕ)) (name : List ℕ) (place : ℕ) → IsOwnerPlace prefixes name (Some place) → find (λ p. is_prefix p name) prefixes ≡ Some (prefix_at prefixes place)
+owner_some [] name place h = absurd (omega (arith, h.0))
+owner_some (p ∷ prefixes) name zero h = rw h.1 refl
+owner_some (p ∷ prefixes) name (suc place) h =
+    rw (h.2 0 (omega arith) (omega arith)) (owner_some prefixes name place (omega (arith, h.0), h.1, λ k l ne. h.2 (suc k) (omega (arith, l)) (omega (arith, ne))))

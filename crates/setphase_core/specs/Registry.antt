@@ -1,0 +1,58 @@
+-- What contracts see of a list of objects: their rows in order, and the instances that they show
+-- together.
+use Rattle.std.specs.Prelude.{ℕ, ◌+◌, ◌≤◌, if◌then◌else◌, IsTrue, List, [], ◌∷◌, ◌++◌, map, length, find, Option, Some, None, IfSome}
+use Rattle.std.specs.List.{AllByRecursion, flat_map}
+use Rattle.oid_core.specs.Order.{name_lt, is_prefix}
+use Rattle.oid_core.specs.declared.limits.TheConstants.{INLINE_NUMBERS, MAX_NUMBERS}
+use Rattle.message_core.specs.declared.binding.Binding.{Binding}
+use Rattle.setphase_core.specs.declared.world.World.{World}
+use Rattle.setphase_core.specs.declared.registry.RegistryFault.{RegistryFault}
+use Rattle.setphase_core.specs.declared.registry.RegistryFault.TheVariants.{Unsorted, Nested}
+use Rattle.setphase_core.specs.declared.limits.TheConstants.{MAX_INDEX}
+use Rattle.setphase_core.specs.Shown.{Shown}
+use Rattle.setphase_core.specs.Columns.{shown_by}
+use Rattle.setphase_core.specs.Objects.{ObjectRow, ObjectState}
+
+-- The rows of objects, which no call changes, and their names.
+abbrev pub rows_of : List ObjectState → List ObjectRow
+rows_of objects = map (λ o. o.row) objects
+
+abbrev pub prefixes_of : List ObjectRow → List (List ℕ)
+prefixes_of rows = map (λ row. row.prefix) rows
+
+-- What is wrong with the first pair of neighbours of which the first name is greater than the
+-- second, or begins it.
+abbrev pub first_fault : List ObjectRow → Option RegistryFault
+first_fault [] = None
+first_fault (row ∷ []) = None
+first_fault (row ∷ next ∷ rows) =
+    if name_lt next.prefix row.prefix then Some Unsorted
+    else (if is_prefix row.prefix next.prefix then Some Nested
+    else first_fault (next ∷ rows))
+
+-- The name of an object stands under 1.3, and is one behind which there is room for any index.
+pub record IsNamed (row : ObjectRow) : Type 0 where
+  pub root : IsTrue (is_prefix (1 ∷ 3 ∷ []) row.prefix)
+  pub most : length row.prefix + MAX_INDEX ≤ MAX_NUMBERS
+
+abbrev pub AreNamed : List ObjectRow → Type 0
+AreNamed rows = AllByRecursion IsNamed rows
+
+-- The name of the object whose name begins a name.
+abbrev pub owner_of : List ObjectRow → List ℕ → Option (List ℕ)
+owner_of rows name = find (λ prefix. is_prefix prefix name) (prefixes_of rows)
+
+-- The instances of one object under their whole names.
+abbrev pub under : List ℕ → Shown → Binding
+under prefix s = record { name = prefix ++ s.index; value = s.value }
+
+abbrev pub instances_under : ObjectRow → World → List Binding
+instances_under row w = map (under row.prefix) (shown_by row.column w)
+
+-- All instances that the objects show of a world.
+unfoldable pub instances : List ObjectRow → World → List Binding
+instances rows w = flat_map (λ row. instances_under row w) rows
+
+-- The instance that is found, if one is, has a name that takes no memory.
+abbrev pub HasShortName : Option Binding → Type 0
+HasShortName found = IfSome found (λ b. length b.name ≤ INLINE_NUMBERS)

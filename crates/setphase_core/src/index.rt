@@ -1,0 +1,73 @@
+//! The indexes of scalars and of tables of ports, as the objects that show them read and give them.
+ghost use Rattle.std.specs.Prelude.{◌≡◌, ◌≤◌, ℕ, [], ◌∷◌, if◌then◌else◌, Some, None, IfSome};
+ghost use Rattle.std.specs.Option.{option_copied, option_map};
+ghost use Rattle.message_core.specs.declared.value.Value.{Value as AnyValue};
+ghost use Rattle.setphase_core.specs.Shown.{scalar, by_port, value_at, index_after};
+ghost use Rattle.setphase_core.specs.Searching.{first_number};
+
+use crate::object::Index;
+use oid_core::same_name;
+use rstp_core::MAX_PORTS;
+
+// The index of one number.
+fn one_number(number: u32) -> Index
+    ensures { result.items ≡ number ∷ [] }
+{
+    let mut index = Index::new();
+    index.push(number);
+    index
+}
+
+/// Whether an index is that of a scalar's instance.
+pub fn is_scalar(at: &[u32]) -> bool
+    ensures { (v : AnyValue) → value_at (scalar v) at.now ≡ (if result then Some v else None) }
+{
+    same_name(&[0], at)
+}
+
+/// The index of a scalar's instance, where it comes after this one.
+pub fn scalar_after(after: Option<&[u32]>) -> Option<Index>
+    ensures { (v : AnyValue) → option_map (λ index. index.items) result
+        ≡ index_after (scalar v) (option_copied after.entry) }
+{
+    match after {
+        Some([_, ..]) => None,
+        _ => Some(one_number(0)),
+    }
+}
+
+/// The port whose index this is, among so many.
+pub fn port_at(ports: usize, at: &[u32]) -> Option<u16>
+    requires { ports ≤ MAX_PORTS }
+    ensures value { (f : ℕ → AnyValue) → value_at (by_port ports f) at.now ≡ option_map f result }
+    ensures range { IfSome result (λ n. (1 ≤ n) × (n ≤ ports)) }
+{
+    match at {
+        [n] if 1 <= *n && *n as usize <= ports => Some(*n as u16),
+        _ => None,
+    }
+}
+
+// The first number of an index, or 0 where there is none.
+fn first_number(index: Option<&[u32]>) -> u32
+    ensures { result ≡ first_number (option_copied index.entry) }
+{
+    match index {
+        None => 0,
+        Some(index) => index.first().copied().unwrap_or(0),
+    }
+}
+
+/// The first index of so many ports that comes after this one.
+pub fn port_after(ports: usize, after: Option<&[u32]>) -> Option<Index>
+    requires { ports ≤ MAX_PORTS }
+    ensures { (f : ℕ → AnyValue) → option_map (λ index. index.items) result
+        ≡ index_after (by_port ports f) (option_copied after.entry) }
+{
+    let last = first_number(after);
+    if (last as usize) < ports {
+        Some(one_number(last + 1))
+    } else {
+        None
+    }
+}

@@ -1,0 +1,72 @@
+//! Laws of worlds, of what they show, and of lists of objects. Each function does nothing: its
+//! contract is the law.
+ghost use Rattle.std.specs.Prelude.{◌≡◌, ◌≢◌, ℕ, if◌then◌else◌, List, length, None};
+ghost use Rattle.community_core.specs.Communities.{PolicyTables};
+ghost use Rattle.fdb_core.specs.Rows.{IsRising as AreRising};
+ghost use Rattle.message_core.specs.Instances.{IsRising};
+ghost use Rattle.rstp_settings.specs.Table.{Table};
+ghost use Rattle.setting_keys.specs.declared.SettingKey.{SettingKey};
+ghost use Rattle.setting_keys.specs.declared.SettingValue.{SettingValue};
+ghost use Rattle.setphase_core.specs.Settings.{setting, put, HasSetting, same_setting, with_settings};
+ghost use Rattle.setphase_core.specs.declared.world.World.{World};
+ghost use Rattle.setphase_core.specs.Objects.{ObjectRow};
+ghost use Rattle.setphase_core.specs.Names.{bridge_rows};
+ghost use Rattle.setphase_core.specs.Registry.{first_fault, AreNamed, instances};
+ghost use Rattle.setphase_core.specs.Opening.{opening_world, opening_instances};
+
+use crate::limits::{MAX_COST, MAX_INDEX, MAX_INFO, MAX_PATH_COST, MAX_SLOTS};
+
+/// A setting has the value that it was last given, and each other setting the one it had.
+pub fn setting_after_put()
+    ensures { (w : World) (k l : SettingKey) (v : SettingValue) → HasSetting w k → HasSetting w l
+        → setting (put w k v) l ≡ (if same_setting k l then v else setting w l) }
+{}
+
+/// The old value put back restores the world.
+pub fn put_back_restores()
+    ensures { (w : World) (k : SettingKey) (v : SettingValue) → HasSetting w k
+        → put (put w k v) k (setting w k) ≡ w }
+{}
+
+/// Two settings of different keys may be put in either order.
+pub fn puts_commute()
+    ensures { (w : World) (k l : SettingKey) (v u : SettingValue) → k ≢ l → HasSetting w k
+        → HasSetting w l → put (put w k v) l u ≡ put (put w l u) k v }
+{}
+
+/// Settings that agree on every key are equal.
+pub fn equal_on_every_key()
+    ensures { (w : World) (t : Table) → length t.ports ≡ length w.bridge.settings.ports
+        → ((k : SettingKey) → HasSetting w k → setting (with_settings w t) k ≡ setting w k)
+        → with_settings w t ≡ w }
+{}
+
+/// The names of the instances that objects show rise, for every list of objects that makes a
+/// registry.
+pub fn instances_rise()
+    ensures { (rows : List ObjectRow) (w : World) → first_fault rows ≡ None
+        → AreRising w.bridge.learned → IsRising (instances rows w) }
+{}
+
+/// The 51 objects of RFC 4188 and RFC 4318 in the order of their names make a registry.
+pub fn objects_are_accepted()
+    ensures count { length bridge_rows ≡ 51 }
+    ensures accepted { first_fault bridge_rows ≡ None }
+    ensures named { AreNamed bridge_rows }
+{}
+
+/// What they show of a bridge of two ports as it opens: 75 instances.
+pub fn opening_bridge_shows_75()
+    ensures count { length opening_instances ≡ 75 }
+    ensures instances { (policy : PolicyTables)
+        → instances bridge_rows (opening_world policy) ≡ opening_instances }
+{}
+
+/// The limits of objects and of what they show.
+pub fn limits_are_fixed()
+    ensures index { MAX_INDEX ≡ 8 }
+    ensures slots { MAX_SLOTS ≡ 64 }
+    ensures cost { MAX_COST ≡ 2147483647 }
+    ensures path_cost { MAX_PATH_COST ≡ 65535 }
+    ensures info { MAX_INFO ≡ 1500 }
+{}

@@ -1,0 +1,46 @@
+//! The world that an agent serves, its settings by key, and the managed objects that show it (RFC
+//! 4188, RFC 4318).
+//!
+//! # Entry points
+//! [`World`]: the bridge, the policy, and what was dropped, with `get_setting` and `put_setting` by
+//! key. [`MibObject`]: a managed object, with `prefix`, `read` and `next`; a boxed one is one too.
+//! [`Registry`]: objects by rising name, with `owner`, `owner_steps`, `read` and `next`; `known` hands
+//! on that what they show can be served. [`is_scalar`], [`scalar_after`], [`port_at`], [`port_after`]:
+//! the indexes of scalars and ports, for those who write objects.
+//!
+//! # Definitions
+//! `specs/Settings.antt`: the settings of a world as a finite map; `specs/Columns.antt`: what each
+//! object shows, row by row; `specs/Names.antt`: the objects' names; `specs/Shown.antt`: values by
+//! index; `specs/Objects.antt`: an object as plain data; `specs/Registry.antt`: the order of objects,
+//! and all their instances; `specs/Searching.antt`: where a name stands among those of objects;
+//! `specs/Opening.antt`: all that a bridge of two ports shows as it opens.
+//!
+//! # Laws
+//! In [`laws`]: the settings of a world are a finite map; the names of all instances rise, whatever
+//! the objects are; the 51 objects make a registry; they show 75 instances of a bridge of two ports.
+//!
+//! # Not claimed
+//! That changed settings are in force: `Bridge::settle` comes behind them. That the objects of a
+//! program are the 51.
+#![tactic(auto)]
+
+mod boxed;
+mod column;
+mod index;
+pub mod laws;
+mod limits;
+mod object;
+mod registry;
+mod search;
+mod walk;
+mod world;
+
+pub use column::{Base, BasePort, Column, ExtPort, Rapid, Stp, StpPort, Tp, TpFdb, TpPort};
+pub use index::{is_scalar, port_after, port_at, scalar_after};
+pub use limits::{MAX_COST, MAX_INDEX, MAX_INFO, MAX_PATH_COST, MAX_SLOTS};
+pub use object::{DeviceFault, Index, MibObject, Reservation, SetFault, Slot};
+pub use registry::{Registry, RegistryFault};
+pub use world::World;
+
+#[cfg(test)]
+mod tests;

@@ -1,0 +1,16 @@
+//! The limits of objects and of what they show.
+
+/// The most numbers that an index has.
+pub const MAX_INDEX: usize = 8;
+
+/// The most slots that an object reserves for one Set.
+pub const MAX_SLOTS: usize = 64;
+
+/// The greatest cost of a path that is shown: the greatest INTEGER (RFC 2578, 7.1.1).
+pub const MAX_COST: u32 = 2_147_483_647;
+
+/// The greatest dot1dStpPortPathCost (RFC 4188).
+pub const MAX_PATH_COST: u32 = 65_535;
+
+/// The most octets of a frame's information field, for every port (RFC 4188, dot1dTpPortMaxInfo).
+pub const MAX_INFO: u32 = 1_500;

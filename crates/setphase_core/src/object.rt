@@ -1,0 +1,95 @@
+//! A managed object, as the registry sees each of them.
+ghost use Rattle.std.specs.Prelude.{◌≡◌};
+ghost use Rattle.std.specs.Option.{option_copied, option_map};
+
+use crate::limits::MAX_INDEX;
+use crate::world::World;
+use arrayvec::ArrayVec;
+use message_core::Value;
+use setting_keys::{SettingKey, SettingValue};
+use std::alloc::Global;
+use thiserror::Error;
+
+/// What follows an object's name in the name of an instance (RFC 2578, 7.7).
+pub type Index = ArrayVec<u32, MAX_INDEX>;
+
+/// What a test reserves: a setting, what it is to get, and one of the object's places.
+#[derive(Clone, Copy, Debug, PartialEq, Eq)]
+pub struct Slot {
+    /// The setting.
+    pub key: SettingKey,
+    /// What it is to get.
+    pub value: SettingValue,
+    /// The place of the object at which this stands.
+    pub place: usize,
+}
+
+/// What stands at a place: a setting, what it is to get, and its old value once it got that.
+#[derive(Clone, Copy, Debug, PartialEq, Eq)]
+pub struct Reservation {
+    /// The setting.
+    pub key: SettingKey,
+    /// What it is to get.
+    pub value: SettingValue,
+    /// What it had, once it was committed.
+    pub old: Option<SettingValue>,
+}
+
+/// Why a variable cannot be set, in the order in which it is looked at (RFC 3416, 4.2.5).
+#[derive(Clone, Copy, Debug, PartialEq, Eq, Error)]
+pub enum SetFault {
+    /// The object, or the instance, is never written.
+    #[error("not writable")]
+    NotWritable,
+    /// The value's type is another.
+    #[error("wrong type")]
+    WrongType,
+    /// The value's length is one that the object never has.
+    #[error("wrong length")]
+    WrongLength,
+    /// The value is one that the object never has.
+    #[error("wrong value")]
+    WrongValue,
+    /// The instance can never be.
+    #[error("no creation")]
+    NoCreation,
+    /// The instance cannot be made now.
+    #[error("inconsistent name")]
+    InconsistentName,
+    /// The value does not fit the others now.
+    #[error("inconsistent value")]
+    InconsistentValue,
+    /// There is no room for it.
+    #[error("resource unavailable")]
+    ResourceUnavailable,
+}
+
+/// A device did not take a setting.
+#[derive(Clone, Copy, Debug, PartialEq, Eq, Error)]
+#[error("the device did not take the setting")]
+pub struct DeviceFault;
+
+/// A managed object: a name, and what it shows of a world by index. None of its calls changes what
+/// it shows of a given world.
+pub trait MibObject: Drop {
+    ghost use Rattle.setphase_core.specs.Objects.{ObjectState};
+    ghost use Rattle.setphase_core.specs.Columns.{shown_by};
+    ghost use Rattle.setphase_core.specs.Shown.{value_at, index_after};
+
+    // Its name and what it shows, what it has reserved, and how often its device has failed.
+    ghost state: { Self → ObjectState };
+
+    /// Its name.
+    fn prefix(&self) -> &[u32]
+        ensures { result.now ≡ (state self.now).row.prefix };
+
+    /// The value of the instance of this index, where there is one. It takes no memory.
+    fn read(&self, alloc: Global, world: &World, at: &[u32]) -> Option<Value>
+        ensures { result ≡ value_at (shown_by (state self.now).row.column world.now) at.now };
+
+    /// The first index after this one, or the first of all. It takes no memory.
+    fn next(&self, world: &World, after: Option<&[u32]>) -> Option<Index>
+        ensures { option_map (λ index. index.items) result
+            ≡ index_after (shown_by (state self.now).row.column world.now)
+            (option_copied after.entry) };
+}

@@ -1,0 +1,152 @@
+//! Objects in the order of their names.
+ghost use Rattle.std.specs.Prelude.{◌≡◌, ◌≤◌, ◌+◌, ◌-◌, ◌*◌, ◌^◌, length, map, Some, None, IfOk, IsOk, MatchResult};
+ghost use Rattle.std.specs.Option.{option_copied};
+ghost use Rattle.message_core.specs.Instances.{next_of, value_of, IsServable};
+ghost use Rattle.setphase_core.specs.Registry.{rows_of, first_fault, AreNamed, HasShortName, owner_of, instances};
+
+use crate::object::MibObject;
+use crate::search::{owner_name, place_behind, place_uncounted, value_before};
+use crate::walk::next_from;
+use crate::world::World;
+use message_core::{Binding, Value};
+use oid_core::{begins, precedes};
+use std::alloc::{AllocError, Global};
+use std::marker::{Brand, Model};
+use std::sync::ledger::{Blank, Ledger};
+use steps::Steps;
+use thiserror::Error;
+
+/// Why objects do not make a registry.
+#[derive(Clone, Copy, Debug, PartialEq, Eq, Error)]
+pub enum RegistryFault {
+    /// The name of an object is greater than the next one's.
+    #[error("the objects are not in the order of their names")]
+    Unsorted,
+    /// The name of an object is the next one's, or begins it.
+    #[error("the name of an object begins another's")]
+    Nested,
+}
+
+/// Managed objects by rising name, none of whose names begins another's. It is seen as the list of
+/// their states.
+#[derive(Drop)]
+pub struct Registry<O: MibObject> {
+    objects: Vec<O>,
+}
+
+impl<O: MibObject> Model for Registry<O> {
+    ghost use Rattle.std.specs.Prelude.{◌≡◌, List, map, None};
+    ghost use Rattle.setphase_core.specs.Objects.{ObjectState};
+    ghost use Rattle.setphase_core.specs.Registry.{rows_of, first_fault, AreNamed};
+
+    ghost Value = { List ObjectState };
+
+    ghost view = { λ r. map O.state r.objects.items };
+
+    ghost invariant = { λ r. (first_fault (rows_of (map O.state r.objects.items)) ≡ None) ×
+        AreNamed (rows_of (map O.state r.objects.items)) };
+}
+
+// What is wrong with the first pair of neighbours that is at fault.
+fn fault_of<O: MibObject>(objects: &[O]) -> Option<RegistryFault>
+    ensures { result ≡ first_fault (rows_of (map O.state objects.now)) }
+{
+    let Some((object, others)) = objects.split_first() else {
+        return None;
+    };
+    let Some(next) = others.first() else {
+        return None;
+    };
+    if precedes(next.prefix(), object.prefix()) {
+        Some(RegistryFault::Unsorted)
+    } else if begins(object.prefix(), next.prefix()) {
+        Some(RegistryFault::Nested)
+    } else {
+        fault_of(others)
+    }
+}
+
+impl<O: MibObject> Registry<O> {
+    /// The registry of these objects. It takes no memory, and a refused vector comes back whole.
+    ///
+    /// # Errors
+    /// By the first pair of neighbours that is at fault: `Unsorted` where the first name is greater
+    /// than the second, `Nested` where it begins it.
+    pub fn new(objects: Vec<O>) -> Result<Registry<O>, (RegistryFault, Vec<O>)>
+        requires { AreNamed (rows_of (map O.state objects.items)) }
+        ensures { MatchResult result
+            (λ r. (r ≡ map O.state objects.items) × (first_fault (rows_of r) ≡ None))
+            (λ e. (e.1 ≡ objects) ×
+            (first_fault (rows_of (map O.state objects.items)) ≡ Some e.0)) }
+    {
+        match fault_of(objects.as_slice()) {
+            None => Ok(Registry { objects }),
+            Some(fault) => Err((fault, objects)),
+        }
+    }
+
+    /// How many objects there are.
+    pub fn len(&self) -> usize
+        ensures { result ≡ length self.now }
+    {
+        self.objects.len()
+    }
+
+    /// Hands on that the names of the instances rise, and that each instance can be served,
+    /// whatever the objects and the world are; it does nothing.
+    pub fn known(&self, world: &World)
+        ensures { IsServable (instances (rows_of self.now) world.now) }
+    {
+        let _objects = self.objects.as_slice();
+        let _row = world.bridge.fdb().next_after(None);
+    }
+
+    /// The name of the object whose name begins a name, where there is one. It takes no memory.
+    pub fn owner(&self, name: &[u32]) -> Option<&[u32]>
+        ensures { option_copied result ≡ owner_of (rows_of self.now) name.now }
+    {
+        let objects = self.objects.as_slice();
+        let place = place_uncounted::<O, Brand>(objects, name, Blank::new(1));
+        owner_name(objects, name, place)
+    }
+
+    /// The same, and one step for each turn of the search: of n objects no more than s steps with
+    /// 2^s <= 2n + 1.
+    pub fn owner_steps<L: Ledger>(&self, name: &[u32], steps: &mut Steps<L>) -> Option<&[u32]>
+        ensures owner { option_copied result ≡ owner_of (rows_of self.now) name.now }
+        ensures forward { steps.old ≤ steps.new }
+        ensures work { 2 ^ (steps.new - steps.old) ≤ 2 * length self.now + 1 }
+    {
+        let objects = self.objects.as_slice();
+        let place = place_behind(objects, name, steps);
+        owner_name(objects, name, place)
+    }
+
+    /// The value of the instance of that name, where there is one. It takes no memory.
+    pub fn read(&self, alloc: Global, world: &World, name: &[u32]) -> Option<Value>
+        ensures { result ≡ value_of (instances (rows_of self.now) world.now) name.now }
+    {
+        let objects = self.objects.as_slice();
+        let place = place_uncounted::<O, Brand>(objects, name, Blank::new(1));
+        value_before(alloc, objects, world, name, place)
+    }
+
+    /// The first instance after a name, where there is one: the objects are asked for one successor
+    /// at a time. It takes memory only where the name of that instance has more than
+    /// `oid_core::INLINE_NUMBERS` numbers.
+    pub fn next(
+        &self,
+        alloc: Global,
+        world: &World,
+        name: &[u32],
+    ) -> Result<Option<Binding>, AllocError>
+        ensures found { IfOk result (λ found.
+            found ≡ next_of (instances (rows_of self.now) world.now) name.now) }
+        ensures inline { HasShortName (next_of (instances (rows_of self.now) world.now) name.now)
+            → IsOk result }
+    {
+        let objects = self.objects.as_slice();
+        let place = place_uncounted::<O, Brand>(objects, name, Blank::new(1));
+        next_from(alloc, objects, world, name, place)
+    }
+}
