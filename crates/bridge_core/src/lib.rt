@@ -33,6 +33,3 @@ mod opening;
 pub use bridge::{Bpdus, Bridge, Forwarding, MAX_LEARNED_ROWS};
 pub use facts::{Facts, PortFacts};
 pub use fault::BridgeFault;
-
-#[cfg(test)]
-mod tests;

@@ -27,6 +27,3 @@ mod rows;
 pub use fdb::Fdb;
 pub use learnt::Learnt;
 pub use row::{MAX_AGING_TIME, MIN_AGING_TIME, Row};
-
-#[cfg(test)]
-mod tests;

@@ -38,6 +38,3 @@ pub use rstp_settings::config::{BridgeConfig, IfIndex, MAX_IFINDEX, PortConfig};
 pub use rstp_settings::key::{BridgeKey, Key, PortKey};
 pub use rstp_settings::settings::{MAX_PORTS, Settings};
 pub use settled::Settled;
-
-#[cfg(test)]
-mod tests;

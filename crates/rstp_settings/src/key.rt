@@ -43,30 +43,45 @@ pub enum PortKey {
 /// The name of a setting. Ports are numbered from 1.
 #[derive(Clone, Copy, Debug, PartialEq, Eq)]
 pub enum Key {
+    /// A setting of the bridge as a whole.
     Bridge(BridgeKey),
+    /// A setting of the port of this number.
     Port(u16, PortKey),
 }
 
 /// The values of the bridge's settings, in the units of their keys.
 #[derive(Clone, Copy, Debug, PartialEq, Eq)]
 pub struct BridgeValues {
+    /// Bridge priority (17.14), a multiple of 4096.
     pub priority: u32,
+    /// Bridge max age (17.14) in 1/100 s.
     pub max_age: u32,
+    /// Bridge hello time (17.14) in 1/100 s.
     pub hello: u32,
+    /// Bridge forward delay (17.14) in 1/100 s.
     pub forward_delay: u32,
+    /// Force protocol version (17.13.4): [`VERSION_STP`] or [`VERSION_RSTP`].
     pub version: u32,
+    /// Transmit hold count (17.13.12) in BPDUs.
     pub hold_count: u32,
+    /// Ageing time of learned addresses (7.9.2) in seconds.
     pub aging: u32,
 }
 
 /// The values of a port's settings, in the units of their keys.
 #[derive(Clone, Copy, Debug, Default, PartialEq, Eq)]
 pub struct PortValues {
+    /// Port priority (17.14), a multiple of 16.
     pub priority: u32,
+    /// Administrative state (RFC 4188 dot1dStpPortEnable): [`PORT_ENABLED`] or [`PORT_DISABLED`].
     pub enable: u32,
+    /// Path cost (17.14), or 0 for the default cost of the port's speed.
     pub cost: u32,
+    /// Protocol migration check (17.19.13): [`MIGRATION_CHECK`], or 0.
     pub migrate: u32,
+    /// Admin edge port (17.13.1): [`EDGE_TRUE`] or [`EDGE_FALSE`].
     pub edge: u32,
+    /// Admin point to point MAC (6.4.3): 0 forces true, 1 forces false, 2 is automatic.
     pub point_to_point: u32,
 }
 

@@ -1,8 +1,8 @@
-// Rows worked by hand from IEEE 802.1D-2004 clauses 7, 9 and 17.
+//! Rows of a bridge, worked by hand from IEEE 802.1D-2004 clauses 7, 9 and 17.
 ghost use Rattle.std.specs.Prelude.{◌≡◌, IfOk};
 ghost use Rattle.bridge_core.specs.Bridge.{HasPort, port_count};
 
-use crate::{Bpdus, Bridge, BridgeFault, Forwarding};
+use bridge_core::{Bpdus, Bridge, BridgeFault, Forwarding};
 use frame_core::worked::{AGREES, BETTER, OWN, PROPOSES};
 use frame_core::{FrameIn, Mac, read_frame, write_bpdu};
 use rstp_core::{IfIndex, Key, PortConfig, PortKey, State};

@@ -1,5 +1,5 @@
 //! Addresses of every kind, a full table, ageing, flushing and a walk.
-use crate::*;
+use fdb_core::{Fdb, Learnt, Row};
 use frame_core::Mac;
 use std::process::Abort;
 

@@ -1,10 +1,10 @@
-// Rows worked by hand from IEEE 802.1D-2004 clauses 9 and 17.
+//! Rows of the spanning tree, worked by hand from IEEE 802.1D-2004 clauses 9 and 17.
 ghost use Rattle.std.specs.Prelude.{◌≡◌, ◌≤◌, length};
 
-use crate::{BridgeConfig, IfIndex, Outcome, PortConfig, Role, Rstp, State};
 use arrayvec::ArrayVec;
 use frame_core::worked::{AGREES, OWN, PROPOSES};
 use frame_core::{Bpdu, BridgeId, Config, Mac, PortRole, PriorityVector, Rapid, Times, write_bpdu};
+use rstp_core::{BridgeConfig, IfIndex, Outcome, PortConfig, Role, Rstp, State};
 use rstp_settings::key::{BridgeKey, Key, PortKey};
 use rstp_settings::settings::Settings;
 use std::test::Fail;
