@@ -4,7 +4,7 @@ ghost use Rattle.message_core.specs.Canon.{canon_reply};
 ghost use Rattle.message_core.specs.Encodable.{AreEncodable};
 ghost use Rattle.message_core.specs.declared.limits.TheConstants.{MAX_COMMUNITY};
 ghost use Rattle.vacm_core.specs.Families.{in_view};
-ghost use Rattle.agent_core.specs.Replies.{kind_reply, failure_reply, get_reply, next_reply, bulk_reply};
+ghost use Rattle.agent_core.specs.Replies.{kind_reply, failure_reply};
 ghost use Rattle.agent_core.specs.Answers.{IsSent, IsStep, drop_audit};
 
 use crate::answered::Answered;
@@ -148,110 +148,37 @@ fn send_allowed(
 {
     let vacm = world.policy().vacm();
     let view = PolicyView { vacm, view };
-    send_kind(alloc, world, &view, request, buffer)
+    send_kind::<PlainWorld, PolicyView, Brand>(alloc, world, &view, request, buffer, Blank::new(1))
 }
 
-// Answers a request by its kind.
-fn send_kind<S: Source, V: View>(
+// Answers a request by its kind, and counts nothing: the ledger is a new one.
+fn send_kind<S: Source, V: View, L: Ledger>(
     alloc: Global,
     source: &S,
     view: &V,
     request: &Request,
     buffer: &mut Buffer,
+    blank: Blank,
 ) -> Result<SentReply, AllocError>
     requires community { length request.now.community ≤ MAX_COMMUNITY }
     requires encodable { AreEncodable request.now.bindings }
+    requires name { blank.name ≡ L.name }
+    requires parts { blank.parts ≡ L.parts }
+    requires some { 0 < blank.parts }
     ensures sent { IfOk result (λ sent.
         IsSent (kind_reply (S.objects source.now) (V.shows view.now)
         (S.instances source.now) request.now request.now.kind) sent buffer.new) }
     ensures err { OnErr result (buffer.new ≡ buffer.old) }
     ensures takes { OnErr result (request.now.kind ≢ Kind.Set) }
 {
-    match request.kind {
-        Kind::Get => {
-            send_get::<S, V, Brand>(alloc, source, view, request, buffer, Blank::new(1))
-        }
-        Kind::GetNext => {
-            send_get_next::<S, V, Brand>(alloc, source, view, request, buffer, Blank::new(1))
-        }
-        Kind::GetBulk => {
-            send_get_bulk::<S, V, Brand>(alloc, source, view, request, buffer, Blank::new(1))
-        }
-        Kind::Set => Ok(buffer.put(request, ErrorStatus::GenErr, request.bindings.as_slice())),
-    }
-}
-
-// Answers a Get, and counts nothing: the ledger is a new one. It is a function of its own, as those of GetNext and GetBulk are,
-// since a ledger's name is a type parameter.
-fn send_get<S: Source, V: View, L: Ledger>(
-    alloc: Global,
-    source: &S,
-    view: &V,
-    request: &Request,
-    buffer: &mut Buffer,
-    blank: Blank,
-) -> Result<SentReply, AllocError>
-    requires community { length request.now.community ≤ MAX_COMMUNITY }
-    requires encodable { AreEncodable request.now.bindings }
-    requires name { blank.name ≡ L.name }
-    requires parts { blank.parts ≡ L.parts }
-    requires some { 0 < blank.parts }
-    ensures sent { IfOk result (λ sent.
-        IsSent (get_reply (S.objects source.now) (V.shows view.now)
-        (S.instances source.now) request.now) sent buffer.new) }
-    ensures err { OnErr result (buffer.new ≡ buffer.old) }
-{
     let mut steps: Steps<L> = Steps::new(blank);
+    let asked = request.bindings.as_slice();
     source.known();
-    let answers = get_all(alloc, source, view, request.bindings.as_slice(), &mut steps)?;
+    let answers = match request.kind {
+        Kind::Get => get_all(alloc, source, view, asked, &mut steps)?,
+        Kind::GetNext => get_next_all(alloc, source, view, asked, &mut steps)?,
+        Kind::GetBulk => get_bulk(alloc, source, view, request, &mut steps)?,
+        Kind::Set => return Ok(buffer.put(request, ErrorStatus::GenErr, asked)),
+    };
     Ok(buffer.put(request, ErrorStatus::NoError, answers.as_slice()))
-}
-
-// Answers a GetNext, and counts nothing: the ledger is a new one.
-fn send_get_next<S: Source, V: View, L: Ledger>(
-    alloc: Global,
-    source: &S,
-    view: &V,
-    request: &Request,
-    buffer: &mut Buffer,
-    blank: Blank,
-) -> Result<SentReply, AllocError>
-    requires community { length request.now.community ≤ MAX_COMMUNITY }
-    requires encodable { AreEncodable request.now.bindings }
-    requires name { blank.name ≡ L.name }
-    requires parts { blank.parts ≡ L.parts }
-    requires some { 0 < blank.parts }
-    ensures sent { IfOk result (λ sent.
-        IsSent (next_reply (V.shows view.now)
-        (S.instances source.now) request.now) sent buffer.new) }
-    ensures err { OnErr result (buffer.new ≡ buffer.old) }
-{
-    let mut steps: Steps<L> = Steps::new(blank);
-    source.known();
-    let answers = get_next_all(alloc, source, view, request.bindings.as_slice(), &mut steps)?;
-    Ok(buffer.put(request, ErrorStatus::NoError, answers.as_slice()))
-}
-
-// Answers a GetBulk, whose list fits, and counts nothing: the ledger is a new one.
-fn send_get_bulk<S: Source, V: View, L: Ledger>(
-    alloc: Global,
-    source: &S,
-    view: &V,
-    request: &Request,
-    buffer: &mut Buffer,
-    blank: Blank,
-) -> Result<SentReply, AllocError>
-    requires community { length request.now.community ≤ MAX_COMMUNITY }
-    requires encodable { AreEncodable request.now.bindings }
-    requires name { blank.name ≡ L.name }
-    requires parts { blank.parts ≡ L.parts }
-    requires some { 0 < blank.parts }
-    ensures sent { IfOk result (λ sent.
-        IsSent (bulk_reply (V.shows view.now)
-        (S.instances source.now) request.now) sent buffer.new) }
-    ensures err { OnErr result (buffer.new ≡ buffer.old) }
-{
-    let mut steps: Steps<L> = Steps::new(blank);
-    let sent = get_bulk(alloc, source, view, request, &mut steps)?;
-    Ok(buffer.put(request, ErrorStatus::NoError, sent.as_slice()))
 }

@@ -69,13 +69,13 @@ fn knows_object<S: Source, V: View, L: Ledger>(
         (object_of (S.objects source.now) name.now)) }
     ensures work { steps.new ≤ steps.old + most_looks (V.shows view.now) (S.instances source.now) }
 {
-    let Some(object) = source.object(name) else {
+    let Some(object) = source.object(alloc, name)? else {
         return Ok(false);
     };
     if shown {
         return Ok(true);
     }
-    shows_below(alloc, source, view, object, steps)
+    shows_below(alloc, source, view, &object, steps)
 }
 
 // What stands under a name that has no value.

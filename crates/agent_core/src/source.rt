@@ -1,6 +1,5 @@
 //! What requests are answered from, and what a view shows, as traits.
 ghost use Rattle.std.specs.Prelude.{◌≡◌, ◌+◌, IfOk};
-ghost use Rattle.std.specs.Option.{option_copied};
 
 use message_core::{Binding, Value};
 use oid_core::Oid;
@@ -40,9 +39,9 @@ pub trait Source {
     fn known(&self)
         ensures { IsSource (instances self.now) (objects self.now) };
 
-    /// The object whose name begins a name, where there is one; it has its name. Takes no memory.
-    fn object(&self, name: &Oid) -> Option<&Oid>
-        ensures { option_copied result ≡ object_of (objects self.now) name.now };
+    /// The name of the object whose name begins a name, where there is one. Only memory can fail.
+    fn object(&self, alloc: Global, name: &Oid) -> Result<Option<Oid>, AllocError>
+        ensures { IfOk result (λ found. found ≡ object_of (objects self.now) name.now) };
 
     /// A copy of the value under a name, where an instance has that name (RFC 3416, 4.2.1). Only memory can fail.
     fn get(&self, alloc: Global, name: &Oid) -> Result<Option<Value>, AllocError>

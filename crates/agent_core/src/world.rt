@@ -266,8 +266,14 @@ impl Source for PlainWorld {
         let _rows = self.instances.as_slice();
     }
 
-    fn object(&self, name: &Oid) -> Option<&Oid> {
-        object_in(self.objects.as_slice(), name)
+    fn object(&self, alloc: Global, name: &Oid) -> Result<Option<Oid>, AllocError> {
+        let Some(object) = object_in(self.objects.as_slice(), name) else {
+            return Ok(None);
+        };
+        let Ok(copy) = object.try_copy(alloc) else {
+            return Err(AllocError);
+        };
+        Ok(Some(copy))
     }
 
     fn get(&self, alloc: Global, name: &Oid) -> Result<Option<Value>, AllocError> {
