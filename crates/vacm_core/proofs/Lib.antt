@@ -5,3 +5,4 @@ pub mod Right
 pub mod Sound
 pub mod Ties
 pub mod Again
+pub mod HiddenNames

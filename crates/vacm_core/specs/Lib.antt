@@ -6,5 +6,6 @@ pub mod Faults
 pub mod Tables
 pub mod Best
 pub mod Families
+pub mod Hiding
 pub mod Access
 pub mod Orders

@@ -21,7 +21,7 @@ fn mask_bit(mask: &[u8], k: usize) -> bool
 }
 
 /// Whether a name is at least as long as a subtree, and equal to it wherever the mask's bit is 1.
-fn agrees(mask: &[u8], subtree: &[u32], name: &[u32]) -> bool
+pub fn agrees(mask: &[u8], subtree: &[u32], name: &[u32]) -> bool
     ensures { result ≡ agrees_from 0 mask.now subtree.now name.now }
 {
     for (k, part) in subtree.iter().enumerate() {
@@ -65,14 +65,21 @@ impl<'a> Contest for FamilyContest<'a> {
     }
 
     fn beats(&self, row: &FamilyRow, other: &FamilyRow) -> bool {
-        let subtree = row.subtree.as_slice();
-        let other = other.subtree.as_slice();
-        other
-            .len()
-            .cmp(&subtree.len())
-            .then(other.cmp(subtree))
-            .is_lt()
+        is_longer_or_greater(row, other)
     }
+}
+
+/// Whether the subtree of a row is longer than that of another, or of equal length and lexicographically greater.
+pub fn is_longer_or_greater(row: &FamilyRow, other: &FamilyRow) -> bool
+    ensures { result ≡ family_beats row.now other.now }
+{
+    let subtree = row.subtree.as_slice();
+    let other = other.subtree.as_slice();
+    other
+        .len()
+        .cmp(&subtree.len())
+        .then(other.cmp(subtree))
+        .is_lt()
 }
 
 /// The number of the family row of a view that decides on a name.

@@ -1,5 +1,5 @@
 //! What follows from the definitions alone.
-ghost use Rattle.std.specs.Prelude.{◌≡◌, ◌↔◌, ◌+◌, ◌<◌, ◌≤◌, ℕ, List, true, false, Some, None, length, slice_index};
+ghost use Rattle.std.specs.Prelude.{◌≡◌, ◌↔◌, ◌+◌, ◌++◌, ◌<◌, ◌≤◌, ℕ, List, true, false, Some, None, length, slice_index};
 ghost use Rattle.std.specs.List.{list_any};
 ghost use Rattle.oid_core.specs.declared.limits.TheConstants.{MAX_NUMBERS};
 ghost use Rattle.vacm_core.specs.declared.tables.AccessRow.{AccessRow};
@@ -8,6 +8,7 @@ ghost use Rattle.vacm_core.specs.declared.verdict.Ask.{Ask};
 ghost use Rattle.vacm_core.specs.Best.{IsUnbeatenAt};
 ghost use Rattle.vacm_core.specs.Access.{candidate, access_beats, deciding_access};
 ghost use Rattle.vacm_core.specs.Families.{mask_bit, agrees_from, matches, family_beats, deciding_family};
+ghost use Rattle.vacm_core.specs.Hiding.{may_match};
 
 use crate::limits::{MAX_FAMILY, MAX_MASK, MAX_MODEL, MAX_NAME};
 
@@ -39,6 +40,15 @@ pub fn some_family_row_decides()
     ensures some { (families : List FamilyRow) (view name : List ℕ) (n : ℕ) →
         deciding_family families view name ≡ Some n
         → IsUnbeatenAt (matches view name) family_beats families n }
+{}
+
+/// Of the names that a prefix begins, a family has some exactly where its row may match below the prefix, and all exactly
+/// where its row matches the prefix itself (RFC 3415, vacmViewTreeFamilyTable).
+pub fn families_below()
+    ensures some { (view prefix : List ℕ) (row : FamilyRow) → (may_match view prefix row ≡ true)
+        ↔ ((rest : List ℕ) × (matches view (prefix ++ rest) row ≡ true)) }
+    ensures all { (view prefix : List ℕ) (row : FamilyRow) → (matches view prefix row ≡ true)
+        ↔ ((rest : List ℕ) → matches view (prefix ++ rest) row ≡ true) }
 {}
 
 /// The limits: SnmpAdminString (SIZE(1..32)) and vacmViewTreeFamilyMask (SIZE (0..16)) of RFC 3415, SnmpSecurityModel

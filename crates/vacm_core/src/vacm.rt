@@ -1,8 +1,7 @@
 //! The tables of access control.
-ghost use Rattle.std.specs.Prelude.{◌≡◌, ◌≢◌, ◌<◌, ◌≤◌, ◌+◌, ℕ, List, length, IfOk, IfErr, OnOk, slice_get, Some};
+ghost use Rattle.std.specs.Prelude.{◌≡◌, ◌≢◌, ◌<◌, ◌≤◌, ◌+◌, ℕ, List, length, false, IsTrue, IfOk, IfErr, OnOk, slice_get, Some};
 
 use crate::checking::checked_rows;
-use crate::deciding;
 use crate::fault::{TableFault, VacmTable};
 use crate::limits::MAX_FAMILY;
 use crate::name::Name;
@@ -10,6 +9,7 @@ use crate::rows::Rows;
 use crate::tables::{AccessRow, FamilyRow, GroupRow};
 use crate::verdict::{Ask, FamilyAnswer, Verdict};
 use crate::written::VacmRows;
+use crate::{deciding, hiding};
 use oid_core::Oid;
 use std::alloc::Global;
 use std::marker::Model;
@@ -39,7 +39,9 @@ impl Vacm {
     ghost use Rattle.vacm_core.specs.Best.{IsUnbeatenAt};
     ghost use Rattle.vacm_core.specs.Tables.{tables_of, rows_of};
     ghost use Rattle.vacm_core.specs.Faults.{AreAllRight, IsFault, TakesMemory};
-    ghost use Rattle.vacm_core.specs.Families.{family_answer, by_type, matches, family_beats, NamesFamilyOf};
+    ghost use Rattle.vacm_core.specs.Families.{family_answer, in_view, by_type, matches, family_beats, NamesFamilyOf};
+    ghost use Rattle.vacm_core.specs.Hiding.{hides_all};
+    ghost use Rattle.oid_core.specs.Order.{is_prefix};
     ghost use Rattle.vacm_core.specs.Access.{verdict_of, by_access, by_view, deciding_access, candidate, access_beats, NamesRowOf};
 
     /// The tables that the written rows stand for.
@@ -116,6 +118,17 @@ impl Vacm {
             Some(n) => self.answer_of(n),
             None => FamilyAnswer::NoRow,
         }
+    }
+
+    /// Whether a view is seen to hide every name that begins so: no included row of it may match one of these names, or an
+    /// excluded row that matches them all comes before each that may (RFC 3415, vacmViewTreeFamilyTable). It may say no where all
+    /// are hidden all the same, as by several rows. It takes no memory, and goes over the rows twice.
+    pub fn hides_all(&self, view: &Name, prefix: &[u32]) -> bool
+        ensures answer { result ≡ hides_all self.now.families view.now prefix.now }
+        ensures hidden { IsTrue result → (name : List ℕ) → IsTrue (is_prefix prefix.now name)
+            → in_view self.now.families view.now name ≡ false }
+    {
+        hiding::hides_all(self.families.as_slice(), view, prefix)
     }
 
     // The answer of the family row of this number.
