@@ -27,6 +27,3 @@ mod shortest;
 pub use fault::BerFault;
 pub use out::Out;
 pub use reading::{Tag, read_i32, read_tlv, read_u32, read_u64};
-
-#[cfg(test)]
-mod tests;

@@ -1,0 +1,78 @@
+//! Replies, as others write them.
+use crate::datagrams::{ALL_TYPES, ERROR, EXCEPTIONS, REPLY};
+use message_core::{
+    Binding, Bindings, ErrorStatus, Octets, Reply, Value, decode, encode_answer, encode_reply,
+};
+use oid_core::Oid;
+use std::alloc::Global;
+use std::test::Fail;
+
+// What is written in answer to a response that is read as if it were a Get.
+fn echoed(
+    alloc: Global,
+    response: &[u8],
+    status: ErrorStatus,
+    index: i32,
+    buffer: &mut [u8; 1472],
+) -> Result<usize, Fail> {
+    let mut datagram = response.to_vec(alloc)?;
+    for octet in datagram.as_mut_slice() {
+        if *octet == 0xa2 {
+            *octet = 0xa0;
+        }
+    }
+    let request = decode(alloc, &datagram)?;
+    Ok(encode_answer(&request, status, index, request.bindings.as_slice(), buffer)?)
+}
+
+#[test]
+fn writes_each_type_as_others_do(rt: HostRuntime) -> Result<(), Fail> {
+    let mut buffer = [0; 1472];
+    let len = echoed(rt.alloc(), &ALL_TYPES, ErrorStatus::NoError, 0, &mut buffer)?;
+    assert_eq!(rt; buffer.get(..len), Some(ALL_TYPES.as_slice()));
+    Ok(())
+}
+
+#[test]
+fn writes_exceptions_as_others_do(rt: HostRuntime) -> Result<(), Fail> {
+    let mut buffer = [0; 1472];
+    let len = echoed(
+        rt.alloc(),
+        &EXCEPTIONS,
+        ErrorStatus::NoError,
+        0,
+        &mut buffer,
+    )?;
+    assert_eq!(rt; buffer.get(..len), Some(EXCEPTIONS.as_slice()));
+    Ok(())
+}
+
+#[test]
+fn writes_errors_as_others_do(rt: HostRuntime) -> Result<(), Fail> {
+    let mut buffer = [0; 1472];
+    let len = echoed(rt.alloc(), &ERROR, ErrorStatus::NotWritable, 1, &mut buffer)?;
+    assert_eq!(rt; buffer.get(..len), Some(ERROR.as_slice()));
+    Ok(())
+}
+
+#[test]
+fn writes_a_reply(rt: HostRuntime) -> Result<(), Fail> {
+    let name = Oid::from_slice(rt.alloc(), &[1, 3, 6, 1, 2, 1, 17, 1, 2, 0])?;
+    let mut bindings = Bindings::new(rt.alloc());
+    bindings.push(Binding {
+        name,
+        value: Value::Integer(2),
+    })?;
+    let community = Octets::from_slice(rt.alloc(), b"public")?;
+    let reply = Reply {
+        id: 1,
+        status: ErrorStatus::NoError,
+        index: 0,
+        community,
+        bindings,
+    };
+    let mut buffer = [0; 1472];
+    let len = encode_reply(&reply, &mut buffer)?;
+    assert_eq!(rt; buffer.get(..len), Some(REPLY.as_slice()));
+    Ok(())
+}
