@@ -36,6 +36,3 @@ pub use frame::{FrameIn, MAX_FRAME_LEN, MIN_FRAME_LEN, SENT_FRAME_LEN};
 pub use mac::{BRIDGE_GROUP, Mac};
 pub use reading::read_frame;
 pub use writing::write_bpdu;
-
-#[cfg(test)]
-mod tests;

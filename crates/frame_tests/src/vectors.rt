@@ -1,7 +1,10 @@
 //! Frames that another program built, and a second one took apart: the Configuration BPDUs, the RST
 //! BPDUs and the notification were built by scapy, and tshark's dissector read the same fields of
 //! each. A test is a pair of them, octets and fields in full: over forty lines.
-use crate::*;
+use frame_core::{
+    BRIDGE_GROUP, Bpdu, BridgeId, Config, FrameIn, Mac, PortRole, PriorityVector, Rapid, Times,
+    read_frame, write_bpdu,
+};
 use std::process::Abort;
 
 fn bridge(priority: u16, address: [u8; 6]) -> BridgeId {
