@@ -3,5 +3,6 @@ pub mod RowLemmas
 pub mod SaidLemmas
 pub mod Utf8
 pub mod Begins
+pub mod BlankLemmas
 pub mod Taking
 pub mod VacmFaults

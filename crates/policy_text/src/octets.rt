@@ -1,9 +1,11 @@
 //! Reads a policy from octets.
-ghost use Rattle.std.specs.Prelude.{◌≡◌, IsSome, IfOk, OnErr, option_map};
+ghost use Rattle.std.specs.Prelude.{◌≡◌, IfOk, OnErr, option_map};
+ghost use Rattle.toml.specs.Errors.{IsBlank};
 ghost use Rattle.toml.specs.Parse.{parse_document};
 ghost use Rattle.toml.specs.View.{table_view};
 ghost use Rattle.policy_text.specs.Said.{policy_of_members};
-ghost use Rattle.policy_text.specs.Texts.{text_of, policy_in};
+ghost use Rattle.policy_text.specs.Policies.{TakesMemory};
+ghost use Rattle.policy_text.specs.Texts.{text_of, HasContent, policy_in};
 
 use crate::policies::policy_of;
 use community_core::{Policy, PolicyFault};
@@ -20,9 +22,10 @@ pub fn text_of(octets: &[u8]) -> Option<&str>
     }
 }
 
-// The table that a text is.
+// The table that a text is. A blank text takes no memory.
 fn table_of(alloc: Global, text: &str) -> Result<Option<Table>, AllocError>
-    ensures { IfOk result (λ table. option_map table_view table ≡ parse_document text.now) }
+    ensures table { IfOk result (λ table. option_map table_view table ≡ parse_document text.now) }
+    ensures memory { OnErr result (¬ IsBlank text.now) }
 {
     match toml::table_from_str(alloc, text) {
         Ok(table) => Ok(Some(table)),
@@ -38,7 +41,8 @@ fn table_of(alloc: Global, text: &str) -> Result<Option<Table>, AllocError>
 
 // The policy that a table says, if it says one.
 fn policy_said(alloc: Global, table: &Table) -> Result<Option<Policy>, AllocError>
-    ensures { IfOk result (λ policy. policy ≡ policy_of_members (table_view table.now)) }
+    ensures policy { IfOk result (λ policy. policy ≡ policy_of_members (table_view table.now)) }
+    ensures memory { OnErr result (TakesMemory (table_view table.now)) }
 {
     match policy_of(alloc, table) {
         Ok(policy) => Ok(Some(policy)),
@@ -48,11 +52,14 @@ fn policy_said(alloc: Global, table: &Table) -> Result<Option<Policy>, AllocErro
 }
 
 /// The policy that octets are: UTF-8, and a TOML document, which says a policy as [`policy_of`] reads it. `None` for any other
-/// octets. Only memory can fail, and only of octets that are UTF-8.
+/// octets.
+///
+/// # Errors
+/// `AllocError` where there is no memory, which only octets that are UTF-8, and more than white space and comments, take.
 #[tactic(auto, unfolding(crate::specs::Texts::policy_in))]
 pub fn policy_in(alloc: Global, octets: &[u8]) -> Result<Option<Policy>, AllocError>
     ensures policy { IfOk result (λ policy. policy ≡ policy_in octets.now) }
-    ensures memory { OnErr result (IsSome (text_of octets.now)) }
+    ensures memory { OnErr result (HasContent octets.now) }
 {
     let Some(text) = text_of(octets) else {
         return Ok(None);
