@@ -1,5 +1,8 @@
 -- Why a run of the agent stopped, from why its engine did.
-use Rattle.std.proofs.Common.{◌≡◌, ◌≢◌, ◌⊎◌, inl, inr, refl}
+use Rattle.std.proofs.Common.{◌≡◌, ◌≢◌, refl}
+use Rattle.script_core.specs.Faults.{run_fault}
+use Rattle.script_core.specs.declared.fault.LineFault.{LineFault}
+use Rattle.script_core.specs.declared.fault.LineFault.TheVariants.{Memory as NoMemory, Stopped as IsStopped}
 use Rattle.script_core.specs.declared.fault.RunFault.{RunFault}
 use Rattle.script_core.specs.declared.fault.RunFault.TheVariants.{Input, Output, Memory, Stopped}
 use Rattle.agent_script.specs.Sessions.{fault_of}
@@ -16,11 +19,16 @@ output_of Output e = refl
 output_of Memory e = cc e
 output_of Stopped e = cc e
 
-pub memory_of : (fault : RunFault) → fault_of fault ≡ Memory → (fault ≡ Memory) ⊎ (fault ≡ Stopped)
+-- the engine stopped because a line, or the end, was given up
+pub record IsOfLine (fault : RunFault) : Type 0 where
+  pub line : LineFault
+  pub is : fault ≡ run_fault line
+
+pub memory_of : (fault : RunFault) → fault_of fault ≡ Memory → IsOfLine fault
 memory_of Input e = cc e
 memory_of Output e = cc e
-memory_of Memory e = inl refl
-memory_of Stopped e = inr refl
+memory_of Memory e = record { line = NoMemory; is = refl }
+memory_of Stopped e = record { line = IsStopped; is = refl }
 
 pub not_stopped : (fault : RunFault) → fault_of fault ≢ Stopped
 not_stopped Input e = cc e

@@ -1,5 +1,6 @@
 pub mod Faults
 pub mod Hexadecimal
+pub mod Memory
 pub mod Noting
 pub mod Outcomes
 pub mod Seconds

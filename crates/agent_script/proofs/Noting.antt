@@ -1,11 +1,12 @@
 -- The notes of the lines that a session answered.
-use Rattle.std.proofs.Common.{◌≡◌, ◌∙◌, inl, inr, ℕ, Bool, true, false, ◌&&◌, if◌then◌else◌, List, [], ◌∷◌, ◌++◌, ap, sym, refl, subst}
+use Rattle.std.proofs.Common.{◌≡◌, ◌∙◌, inl, inr, ℕ, ◌<◌, length, Bool, true, false, ◌&&◌, if◌then◌else◌, List, [], ◌∷◌, ◌++◌, Option, None, Some, IsSome, ap, sym, refl, subst, arith}
 use Rattle.script_core.specs.Lines.{lines_of}
-use Rattle.script_core.specs.Runs.{IsFrontOf, Says, SaysAll, SaysFirst, SaysSome, StopsBetween, GivesUp}
+use Rattle.script_core.specs.declared.fault.LineFault.{LineFault}
+use Rattle.script_core.specs.Runs.{IsFrontOf, Says, SaysAll, SaysFirst, SaysSome, StopsBetween, MayGiveUpEnd, GivesUpEnd, GivesUp}
 use Rattle.agent_script.specs.Notes.{is_nothing}
 use Rattle.agent_script.specs.State.{Agent}
-use Rattle.agent_script.specs.Script.{Noted, lines_in, lines_text, after_lines, line_text, end_text, AreMet, are_nothing, AreAnswered, IsSaid, IsSaidFirst, IsSaidSome, IsSaidBefore, IsGivenUp}
-use Rattle.agent_script.specs.Sessions.{Session, SaysToLine, SaysAtEnd}
+use Rattle.agent_script.specs.Script.{Noted, lines_in, lines_text, after_lines, line_text, end_text, end_text_in, AreMet, are_nothing, AreAnswered, IsSaid, IsSaidFirst, IsSaidSome, IsSaidBefore, IsEndGivenUp, IsGivenUp}
+use Rattle.agent_script.specs.Sessions.{Session, SaysToLine, SaysAtEnd, GivesUpLine, GivesUpEnd as EndIsGivenUp}
 use Rattle.agent_script.specs.declared.session.Run.{Run}
 use Rattle.agent_script.specs.declared.session.Run.TheVariants.{Whole, Short}
 
@@ -52,6 +53,25 @@ notes_of s t (line ∷ lines) text p =
 answered_of : (s t : Session) (lines : List (List ℕ)) (text : List ℕ) → Says SaysToLine s lines text t → AreAnswered s.agent lines text
 answered_of s t lines text p = let n = notes_of s t lines text p in record { noted = n.noted; each = n.each; met = n.met; text_is = n.text_is }
 
+-- where something is said at the end, a policy is open
+open_where_said : (lines : Option (List ℕ)) (said : List ℕ) → said ≡ end_text_in lines → 0 < length said → IsSome lines
+open_where_said None said e some = absurd (omega (arith, ap length e))
+open_where_said (Some lines) said e some = refl
+
+open_at_end : (s : Session) (fault : LineFault) → MayGiveUpEnd SaysAtEnd EndIsGivenUp s fault → IsSome s.agent.policy_lines
+open_at_end s fault (inl may) = may.is_open
+open_at_end s fault (inr may) = open_where_said s.agent.policy_lines may.1.said may.1.are_said.text may.1.some
+
+end_given_up_of : (s : Session) (fault : LineFault) (input rest text : List ℕ)
+    → GivesUpEnd SaysToLine SaysAtEnd EndIsGivenUp s fault input rest text → IsEndGivenUp s.agent input rest text
+end_given_up_of s fault input rest text p =
+    let n = notes_of s p.between (lines_of input) text p.says in
+    record {
+      read = p.read;
+      answered = record { noted = n.noted; each = n.each; met = n.met; text_is = n.text_is };
+      is_open = subst (λ (a : Agent). IsSome a.policy_lines) n.after (open_at_end p.between fault p.may);
+    }
+
 -- From the session that a run opens with, whose agent is this one.
 module _ (agent : Agent) (s : Session) (opened : s.agent ≡ agent) where
   answered_from : (t : Session) (lines : List (List ℕ)) (text : List ℕ) → Says SaysToLine s lines text t → AreAnswered agent lines text
@@ -92,8 +112,9 @@ module _ (agent : Agent) (s : Session) (opened : s.agent ≡ agent) where
     answered = answered_from t p.feeds.ended text p.feeds.says;
   }
 
-  pub given_up_of : (input rest text : List ℕ) → GivesUp SaysToLine s input rest text → IsGivenUp agent input rest text
-  given_up_of input rest text (inl p) = inl (record {
+  pub given_up_of : (fault : LineFault) (input rest text : List ℕ) → GivesUp SaysToLine SaysAtEnd GivesUpLine EndIsGivenUp s fault input rest text
+      → IsGivenUp agent input rest text
+  given_up_of fault input rest text (inl p) = inl (record {
     ended = p.feeds.ended;
     left = p.left;
     no_end = p.feeds.no_end;
@@ -101,4 +122,5 @@ module _ (agent : Agent) (s : Session) (opened : s.agent ≡ agent) where
     split = p.feeds.split;
     answered = answered_from p.between p.feeds.ended text p.feeds.says;
   })
-  given_up_of input rest text (inr p) = inr (record { read = p.read; answered = answered_from p.between (lines_of input) text p.says })
+  given_up_of fault input rest text (inr p) =
+      inr (subst (λ (a : Agent). IsEndGivenUp a input rest text) opened (end_given_up_of s fault input rest text p))

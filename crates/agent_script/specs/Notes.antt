@@ -1,5 +1,5 @@
 -- Which want of memory each line may meet.
-use Rattle.std.specs.Prelude.{◌≡◌, ℕ, IsSome, Bool, true, false, codes, List, Option, Some, None, Result, Ok, Err}
+use Rattle.std.specs.Prelude.{◌≡◌, ℕ, Bool, true, false, codes, List, Option, Some, None, Result, Ok, Err}
 use Rattle.std.specs.Str.{bytes_eq}
 use Rattle.message_core.specs.Message.{IsCause}
 use Rattle.message_core.specs.FirstFault.{request_at}
@@ -9,7 +9,7 @@ use Rattle.message_core.specs.declared.request.Request.{Request}
 use Rattle.frame_core.specs.declared.frame.FrameIn.{FrameIn}
 use Rattle.frame_core.specs.declared.fault.FrameFault.{FrameFault}
 use Rattle.frame_core.specs.Reading.{frame_at}
-use Rattle.policy_text.specs.Texts.{text_of}
+use Rattle.policy_text.specs.Texts.{HasContent}
 use Rattle.bridge_core.specs.Bridge.{BridgeState, port_count}
 use Rattle.bridge_core.specs.Forwarding.{MayLackMemory}
 use Rattle.agent_core.specs.World.{World, shown_of}
@@ -108,13 +108,13 @@ MayMeetCommand s (Some policy) note = note ≡ Nothing
 MayMeetCommand s (Some (audit on)) note = note ≡ Nothing
 MayMeetCommand s (Some counts) note = note ≡ Nothing
 
--- The end of a policy of these lines: the policy may find none, where they are text.
+-- The end of a policy of these lines: the policy may find none, where they are a text that is not blank.
 abbrev pub MayMeetEnd : List ℕ → Note → Type 0
 MayMeetEnd lines Nothing = Unit {0}
 MayMeetEnd lines RequestNotRead = ⊥
 MayMeetEnd lines RequestNotAnswered = ⊥
 MayMeetEnd lines SourceNotLearned = ⊥
-MayMeetEnd lines PolicyNotRead = IsSome (text_of lines)
+MayMeetEnd lines PolicyNotRead = HasContent lines
 
 -- A line of a policy behind these lines: its end alone.
 abbrev pub MayMeetPolicyLine : List ℕ → List ℕ → Note → Type 0
@@ -127,3 +127,24 @@ MayMeetIn agent None line note = MayMeetCommand agent.system (command_of (port_c
 -- A line may meet this want of memory.
 unfoldable pub MayMeet : Agent → List ℕ → Note → Type 0
 MayMeet agent line note = MayMeetIn agent agent.policy_lines line note
+
+-- A command, or a line that is none, may be given up for want of memory: one that is read from hexadecimal, or to which something may be
+-- said. The other commands take none.
+abbrev pub MayGiveUpCommand : Option Command → Type 0
+MayGiveUpCommand None = Unit {0}
+MayGiveUpCommand (Some (request datagram)) = Unit {0}
+MayGiveUpCommand (Some (frame port octets)) = Unit {0}
+MayGiveUpCommand (Some (tick seconds)) = Unit {0}
+MayGiveUpCommand (Some (link port up)) = Unit {0}
+MayGiveUpCommand (Some policy) = ⊥
+MayGiveUpCommand (Some (audit on)) = ⊥
+MayGiveUpCommand (Some counts) = Unit {0}
+
+-- any line of a policy may, since the policy is kept
+abbrev pub MayGiveUpIn : Agent → Option (List ℕ) → List ℕ → Type 0
+MayGiveUpIn agent (Some lines) line = Unit {0}
+MayGiveUpIn agent None line = MayGiveUpCommand (command_of (port_count agent.system.bridge) line)
+
+-- A line that was read may be given up for want of memory.
+unfoldable pub MayGiveUp : Agent → List ℕ → Type 0
+MayGiveUp agent line = MayGiveUpIn agent agent.policy_lines line

@@ -1,5 +1,5 @@
 -- What the agent says to the lines of a script, and what they change.
-use Rattle.std.specs.Prelude.{◌≡◌, ◌⊎◌, ◌<◌, ℕ, Bool, codes, if◌then◌else◌, List, [], ◌∷◌, ◌++◌, All, length, map, Option, Some, None}
+use Rattle.std.specs.Prelude.{◌≡◌, ◌⊎◌, ◌<◌, ℕ, Bool, codes, if◌then◌else◌, List, [], ◌∷◌, ◌++◌, All, length, map, Option, Some, None, IsSome}
 use Rattle.std.specs.List.{flat_map, list_all}
 use Rattle.script_core.specs.Lines.{lines_of, with_end, HasNoEnd}
 use Rattle.agent_script.specs.Actions.{action_of, action_text, after_action}
@@ -106,10 +106,11 @@ pub record IsLineGivenUp (agent : Agent) (input rest text : List ℕ) : Type 0 w
   pub split : input ≡ flat_map with_end ended ++ (left ++ rest)
   pub answered : AreAnswered agent ended text
 
--- the end of the script is given up: the input was read to its end, and each of its lines is answered
+-- The end of the script is given up: the input was read to its end, each of its lines is answered, and a policy is open after them.
 pub record IsEndGivenUp (agent : Agent) (input rest text : List ℕ) : Type 0 where
   pub read : rest ≡ []
   pub answered : AreAnswered agent (lines_of input) text
+  pub is_open : IsSome (after_lines agent answered.noted).policy_lines
 
 abbrev pub IsGivenUp : Agent → List ℕ → List ℕ → List ℕ → Type 0
 IsGivenUp agent input rest text = IsLineGivenUp agent input rest text ⊎ IsEndGivenUp agent input rest text

@@ -7,7 +7,7 @@ ghost use Rattle.frame_core.specs.Reading.{frame_at};
 ghost use Rattle.agent_script.specs.CommandViews.{command_view};
 ghost use Rattle.agent_script.specs.Commands.{NamesPortOf};
 ghost use Rattle.agent_script.specs.State.{Agent as State, opening_agent};
-ghost use Rattle.agent_script.specs.Notes.{is_unread, MayMeetRequest, MayMeetDatagram, MayMeetFrame, MayMeetCommand, MayMeetEnd, MayMeetPolicyLine, MayMeet};
+ghost use Rattle.agent_script.specs.Notes.{is_unread, MayMeetRequest, MayMeetDatagram, MayMeetFrame, MayMeetCommand, MayMeetEnd, MayMeetPolicyLine, MayMeet, MayGiveUpCommand, MayGiveUp};
 ghost use Rattle.agent_script.specs.Actions.{request_action, datagram_action, frame_action, command_action, end_action, policy_action, action_text, after_action};
 ghost use Rattle.agent_script.specs.Script.{line_text, after_line, end_text, after_end};
 
@@ -62,7 +62,7 @@ impl Agent {
     }
 
     /// Answers a line, and tells what want of memory it met.
-    #[tactic(auto, unfolding(crate::specs::Actions::action_of, crate::specs::Notes::MayMeet))]
+    #[tactic(auto, using(crate::proofs::Memory::any_gives_up, crate::proofs::Memory::octets_give_up), unfolding(crate::specs::Actions::action_of, crate::specs::Notes::MayMeet, crate::specs::Notes::MayGiveUp))]
     pub fn line(
         &mut self,
         alloc: Global,
@@ -73,6 +73,7 @@ impl Agent {
         ensures said { IfOk result (λ note.
             out.new.items ≡ out.old.items ++ line_text self.old line.now note) }
         ensures after { IfOk result (λ note. self.new ≡ after_line self.old line.now note) }
+        ensures given_up { OnErr result (MayGiveUp self.old line.now) }
     {
         match self.policy_lines.take() {
             Some(lines) => self.policy_line(alloc, lines, line, out),
@@ -97,6 +98,7 @@ impl Agent {
     }
 
     // Answers a command, or a line that is none.
+    #[tactic(auto, using(crate::proofs::Memory::any_gives_up))]
     fn command(
         &mut self,
         alloc: Global,
@@ -114,6 +116,7 @@ impl Agent {
         ensures after { IfOk result (λ note.
             self.new ≡ after_action self.old (command_action
             (option_map command_view command) note)) }
+        ensures given_up { OnErr result (MayGiveUpCommand (option_map command_view command)) }
     {
         match command {
             None => out.extend_from_slice(b"badline\n")?,
@@ -242,7 +245,7 @@ impl Agent {
         Ok(Note::Nothing)
     }
 
-    // Takes the end of a policy. Lines that are no text are no policy, and take no memory.
+    // Takes the end of a policy. Lines that are no text, or a blank one, are no policy, and take no memory.
     fn end_policy(
         &mut self,
         alloc: Global,

@@ -4,7 +4,7 @@ ghost use Rattle.script_core.specs.Lines.{lines_of};
 ghost use Rattle.script_core.specs.Runs.{Reads, Writes, IsFrontOf};
 ghost use Rattle.agent_script.specs.State.{opening_agent};
 ghost use Rattle.agent_script.specs.Script.{IsSaid, IsSaidSome, IsSaidBefore, IsGivenUp};
-ghost use Rattle.agent_script.specs.Sessions.{Session as State, SaysToLine, SaysAtEnd, fault_of};
+ghost use Rattle.agent_script.specs.Sessions.{Session as State, SaysToLine, SaysAtEnd, GivesUpLine, GivesUpEnd, fault_of};
 
 use crate::agent::Agent;
 use agent_core::PlainWorld;
@@ -43,6 +43,10 @@ impl Session for AgentSession {
 
     ghost end_says = { SaysAtEnd };
 
+    ghost may_give_up_line = { GivesUpLine };
+
+    ghost may_give_up_end = { GivesUpEnd };
+
     fn line(&mut self, line: &[u8], out: &mut Vec<u8>) -> Result<(), LineFault> {
         let note = self.agent.line(self.alloc, line, out)?;
         self.is_whole = self.is_whole && note.is_nothing();
@@ -61,7 +65,7 @@ impl Session for AgentSession {
 /// `Input` where a read fails or the input has not ended after [`MAX_READS`](script_core::MAX_READS) of them: each line that had ended is
 /// answered. `Memory` where there is none for a line, for the lines of a policy or for what is said: where a line is given up, each line
 /// before it is answered, and it was read, in part at least; where the end of the script is given up, the input was read to its end,
-/// all its lines are answered, and `policy refused` is not written. `Output` where a write fails or takes nothing: a front of what was
+/// all its lines are answered, a policy is open after them, and `policy refused` is not written. `Output` where a write fails or takes nothing: a front of what was
 /// said is written.
 pub fn run_script<R: Read, W: Write>(
     alloc: Global,
@@ -79,7 +83,8 @@ pub fn run_script<R: Read, W: Write>(
         Reads (R.remaining reader.old) (R.remaining reader.new) (λ input rest.
         Writes (W.contents writer.old) (W.contents writer.new) (λ text.
         IsSaidBefore (opening_agent world bridge) input rest text))) }
-    // Where a line was given up, each line before it is answered, and it was read, in part at least.
+    // Where a line was given up, each line before it is answered, and it was read, in part at least. The end is given up only where a
+    // policy is open.
     ensures given_up { IfErr result (λ e. e ≡ RunFault.Memory →
         Reads (R.remaining reader.old) (R.remaining reader.new) (λ input rest.
         Writes (W.contents writer.old) (W.contents writer.new) (λ text.

@@ -3,7 +3,7 @@ use Rattle.std.proofs.Common.{◌≡◌, ◌≢◌, ◌⊎◌, inl, inr, ℕ, �
 use Rattle.std.proofs.lemmas.Bool.{cases_Bool, eqb-true}
 use Rattle.std.proofs.lemmas.List.Elements.{All-head, All-tail, All-cons, All-nil}
 use Rattle.std.specs.List.{flat_map}
-use Rattle.script_core.specs.Lines.{onto_first, lines_of, with_end, HasNoEnd, IsOpen, AreLines}
+use Rattle.script_core.specs.Lines.{onto_first, lines_of, first_line, with_end, HasNoEnd, IsOpen, AreLines}
 
 -- a line that ends is the first line
 pub lines_of-ended : (line rest : List ℕ) → HasNoEnd line → lines_of (line ++ (10 ∷ rest)) ≡ line ∷ lines_of rest
@@ -28,6 +28,29 @@ lines_of-behind (l ∷ ls) left h =
     let rest = lines_of-behind ls left (All-tail HasNoEnd l ls h) in
     let here = lines_of-ended l (flat_map with_end ls ++ left) (All-head HasNoEnd l ls h) in
     rw (append_assoc, append_assoc) (here ∙ ap (λ x. l ∷ x) rest)
+
+-- ---- the first line
+
+pub first_line-ended : (line rest : List ℕ) → HasNoEnd line → first_line (line ++ (10 ∷ rest)) ≡ line
+first_line-ended [] rest h = refl
+first_line-ended (b ∷ bs) rest h =
+    rw (ne_eqb b 10 (All-head (λ x. x ≢ 10) b bs h), first_line-ended bs rest (All-tail (λ x. x ≢ 10) b bs h))
+
+pub first_line-last : (line : List ℕ) → HasNoEnd line → first_line line ≡ line
+first_line-last [] h = refl
+first_line-last (b ∷ bs) h =
+    rw (ne_eqb b 10 (All-head (λ x. x ≢ 10) b bs h), first_line-last bs (All-tail (λ x. x ≢ 10) b bs h))
+
+-- a text whose first octet ends no line
+first_line-octet : (b : ℕ) (rest : List ℕ) → b ≢ 10 → 0 < length (first_line (b ∷ rest))
+first_line-octet b rest other = rw (ne_eqb b 10 other) (omega arith)
+
+-- a line has octets where one that ends no line stands behind its part
+pub first_line-some : (part : List ℕ) (octet : ℕ) (rest : List ℕ) → HasNoEnd part → octet ≢ 10
+    → 0 < length (first_line (part ++ (octet ∷ rest)))
+first_line-some [] octet rest h other = first_line-octet octet rest other
+first_line-some (b ∷ bs) octet rest h other =
+    first_line-octet b (bs ++ (octet ∷ rest)) (All-head (λ x. x ≢ 10) b bs h)
 
 -- ---- the only lines
 

@@ -1,22 +1,20 @@
 -- How what is said adds up, and how a reader's octets are followed.
-use Rattle.std.proofs.Common.{◌≡◌, ◌≢◌, ◌⊎◌, inl, inr, ◌<◌, length, ℕ, List, [], ◌∷◌, ◌++◌, Option, None, Some, IfSome, refl, ap, ◌∙◌, append_assoc, append-nil, length-append, sym, arith}
+use Rattle.std.proofs.Common.{◌≡◌, ◌≢◌, inl, inr, ◌<◌, length, ℕ, List, [], ◌∷◌, ◌++◌, Option, None, Some, IfSome, refl, ap, ◌∙◌, append_assoc, append-nil, length-append, sym, arith}
 use Rattle.std.proofs.KnownBytes.{Appends-nil, Appends-trans, Appends-kept}
 use Rattle.std.proofs.lemmas.List.Elements.{All-append, All-cons, All-nil}
 use Rattle.std.proofs.lemmas.List.Concat.{flat_map-append}
 use Rattle.std.specs.Io.KnownBytes.{Appends, Consumes, IsAtEnd, Keeps}
 use Rattle.std.specs.List.{flat_map}
-use Rattle.std.specs.Prelude.{Result, Ok, Err, IfErr, OnErr, OnOk, IsErrAnd}
-use Rattle.script_core.specs.Runs.{Adds, Writes, IsFrontOf, Reads, Says, SaysAll, SaysFirst, SaysSome, Feeds, FeedsFirst, StopsBetween, GivesUpLine, GivesUpEnd, GivesUp}
-use Rattle.script_core.specs.declared.fault.RunFault.{RunFault}
-use Rattle.script_core.specs.declared.fault.RunFault.TheVariants.{Memory as RunMemory, Stopped as RunStopped, Output as RunOutput}
-use Rattle.script_core.specs.Lines.{lines_of, with_end, HasNoEnd}
-use Rattle.script_core.proofs.LinesLemmas.{lines_of-behind}
+use Rattle.std.specs.Prelude.{Result, Ok, Err, IfErr, OnOk, IsErrAnd}
+use Rattle.script_core.specs.Runs.{Adds, Writes, IsFrontOf, Reads, Says, SaysAll, SaysFirst, SaysSome, Feeds, FeedsFirst, StopsBetween, MayGiveUpLine, GivesUpLine, MayGiveUpEnd, GivesUpEnd, GivesUp}
+use Rattle.script_core.specs.declared.fault.RunFault.TheVariants.{Input as RunInput, Output as RunOutput}
+use Rattle.script_core.specs.declared.fault.LineFault.{LineFault}
+use Rattle.script_core.specs.declared.fault.LineFault.TheVariants.{Memory, Stopped}
+use Rattle.script_core.specs.Faults.{run_fault}
+use Rattle.script_core.specs.Lines.{lines_of, first_line, with_end, HasNoEnd}
+use Rattle.script_core.proofs.LinesLemmas.{lines_of-behind, first_line-last}
 
 -- what holds in any case holds of an error
-pub on_err : {T E : Type 0} {P : Type 0} (r : Result T E) → P → OnErr r P
-on_err (Ok x) p = tt
-on_err (Err e) p = p
-
 pub if_err : {T E : Type 0} (r : Result T E) (P : E → Type 0) → ((e : E) → P e) → IfErr r P
 if_err (Ok x) P f = tt
 if_err (Err e) P f = f e
@@ -34,15 +32,27 @@ pub if_err_known : {T E : Type 0} (r : Result T E) (K P : E → Type 0) → IsEr
 if_err_known (Ok x) K P known f = tt
 if_err_known (Err e) K P known f = f e known
 
--- who gives up a line did not fail to write
-pub not_output : (e : RunFault) → (e ≡ RunMemory) ⊎ (e ≡ RunStopped) → e ≢ RunOutput
-not_output e (inl same) other = cc
-not_output e (inr same) other = cc
+-- who gives up a line did not fail to write, nor to read
+pub not_output : (fault : LineFault) → RunOutput ≢ run_fault fault
+not_output Memory e = cc e
+not_output Stopped e = cc e
+
+pub not_input : (fault : LineFault) → RunInput ≢ run_fault fault
+not_input Memory e = cc e
+not_input Stopped e = cc e
+
+-- each fault stops a run in its own way
+pub same_fault : (f g : LineFault) → run_fault f ≡ run_fault g → f ≡ g
+same_fault Memory Memory e = refl
+same_fault Memory Stopped e = cc e
+same_fault Stopped Memory e = cc e
+same_fault Stopped Stopped e = refl
 
 -- what holds in each case
-pub on_either : {T E : Type 0} {A B C : Type 0} (r : Result T E) → OnOk r A → OnErr r B → (A → C) → (B → C) → C
+pub on_either : {T E : Type 0} {A : Type 0} {B : E → Type 0} {C : Type 0} (r : Result T E) → OnOk r A → IfErr r B
+    → (A → C) → ((e : E) → B e → C) → C
 on_either (Ok x) a b f g = f a
-on_either (Err e) a b f g = g b
+on_either (Err e) a b f g = g e b
 
 -- ---- what is added
 
@@ -210,48 +220,65 @@ module _ {X : Type 0} (line_says : X → List ℕ → List ℕ → X → Type 0)
 
   -- ---- what is given up
 
-  Feeds-gives_up_line : {a b : X} {octets left rest s t : List ℕ} → Feeds line_says a octets b left s → GivesUpLine line_says b left rest t
-      → GivesUpLine line_says a octets rest (s ++ t)
-  Feeds-gives_up_line p q = record { between = q.between; left = q.left; some = q.some; feeds = Feeds-more p q.feeds }
+  module _ (may_line : X → List ℕ → LineFault → Type 0) {fault : LineFault} where
+    Feeds-gives_up_line : {a b : X} {octets left rest s t : List ℕ} → Feeds line_says a octets b left s
+        → GivesUpLine line_says may_line b fault left rest t → GivesUpLine line_says may_line a fault octets rest (s ++ t)
+    Feeds-gives_up_line p q = record { between = q.between; left = q.left; some = q.some; feeds = Feeds-more p q.feeds; may = q.may }
 
-  Feeds-gives_up_end : {a b : X} {octets left rest s t : List ℕ} → Feeds line_says a octets b left s → GivesUpEnd line_says b left rest t
-      → GivesUpEnd line_says a octets rest (s ++ t)
-  Feeds-gives_up_end {a} {b} {octets} {left} {rest} {s} {t} p q = record {
-    between = q.between;
-    read = q.read;
-    says = rw (Feeds-lines p) (Says-append p.ended (lines_of left) a b q.between s t p.says q.says);
-  }
+    -- the line whose part this is, and more of which was read
+    pub GivesUpLine-within : {a b : X} {octets rest s : List ℕ} (part more : List ℕ) → 0 < length more
+        → MayGiveUpLine line_says may_line b (first_line (part ++ more)) fault
+        → Feeds line_says a octets b (part ++ (more ++ rest)) s → GivesUpLine line_says may_line a fault octets rest s
+    GivesUpLine-within {a} {b} part more some may p =
+        record { between = b; left = part ++ more; some = omega (arith, length-append part more); feeds = rw append_assoc p; may = may }
 
-  pub Feeds-gives_up : {a b : X} {octets left rest s t : List ℕ} → Feeds line_says a octets b left s → GivesUp line_says b left rest t
-      → GivesUp line_says a octets rest (s ++ t)
-  Feeds-gives_up p (inl q) = inl (Feeds-gives_up_line p q)
-  Feeds-gives_up p (inr q) = inr (Feeds-gives_up_end p q)
+    pub GivesUpLine-first : {a : X} {octets rest s : List ℕ} → GivesUpLine line_says may_line a fault octets rest s → FeedsFirst line_says a octets s
+    GivesUpLine-first {a} {octets} {rest} {s} p = record { between = p.between; left = p.left ++ rest; feeds = p.feeds }
 
-  -- a line that is given up stands behind those that were answered
-  pub GivesUpLine-left : {a : X} {octets rest s : List ℕ} (b : X) (left : List ℕ) → 0 < length left
-      → Feeds line_says a octets b (left ++ rest) s → GivesUpLine line_says a octets rest s
-  GivesUpLine-left {a} {octets} {rest} {s} b left some p = record { between = b; left = left; some = some; feeds = p }
+  module _ (end_says : X → List ℕ → X → Type 0) (may_line : X → List ℕ → LineFault → Type 0) (may_end : X → LineFault → Type 0) {fault : LineFault} where
+    Feeds-gives_up_end : {a b : X} {octets left rest s t : List ℕ} → Feeds line_says a octets b left s
+        → GivesUpEnd line_says end_says may_end b fault left rest t → GivesUpEnd line_says end_says may_end a fault octets rest (s ++ t)
+    Feeds-gives_up_end {a} {b} {octets} {left} {rest} {s} {t} p q = record {
+      between = q.between;
+      read = q.read;
+      says = rw (Feeds-lines p) (Says-append p.ended (lines_of left) a b q.between s t p.says q.says);
+      may = q.may;
+    }
 
-  -- the line whose part this is, and more of which was read
-  pub GivesUpLine-within : {a b : X} {octets rest s : List ℕ} (part more : List ℕ) → 0 < length more
-      → Feeds line_says a octets b (part ++ (more ++ rest)) s → GivesUpLine line_says a octets rest s
-  GivesUpLine-within {a} {b} part more some p =
-      GivesUpLine-left b (part ++ more) (omega (arith, length-append part more)) (rw append_assoc p)
+    Feeds-gives_up : {a b : X} {octets left rest s t : List ℕ} → Feeds line_says a octets b left s
+        → GivesUp line_says end_says may_line may_end b fault left rest t → GivesUp line_says end_says may_line may_end a fault octets rest (s ++ t)
+    Feeds-gives_up p (inl q) = inl (Feeds-gives_up_line may_line p q)
+    Feeds-gives_up p (inr q) = inr (Feeds-gives_up_end p q)
 
-  -- the last line is given up
-  pub GivesUp-last : {a : X} {line : List ℕ} → 0 < length line → GivesUp line_says a line [] []
-  GivesUp-last {a} {line} some = inl (GivesUpLine-left a line some (rw append-nil Feeds-none))
+    -- the last line is given up
+    pub GivesUp-last : {a : X} {line : List ℕ} → HasNoEnd line → 0 < length line → MayGiveUpLine line_says may_line a line fault
+        → GivesUp line_says end_says may_line may_end a fault line [] []
+    GivesUp-last {a} {line} no_end some may =
+        inl (record { between = a; left = line; some = some; feeds = rw append-nil Feeds-none; may = rw (first_line-last line no_end) may })
 
-  -- the end is given up
-  pub GivesUp-end : {a : X} {octets s : List ℕ} (b : X) → Says line_says a (lines_of octets) s b → GivesUp line_says a octets [] s
-  GivesUp-end {a} {octets} {s} b p = inr (record { between = b; read = refl; says = p })
+    -- the end is given up
+    pub GivesUp-end : {a : X} {octets s : List ℕ} (b : X) → MayGiveUpEnd end_says may_end b fault → Says line_says a (lines_of octets) s b
+        → GivesUp line_says end_says may_line may_end a fault octets [] s
+    GivesUp-end {a} {octets} {s} b may p = inr (record { between = b; read = refl; says = p; may = may })
 
-  pub GivesUpLine-first : {a : X} {octets rest s : List ℕ} → GivesUpLine line_says a octets rest s → FeedsFirst line_says a octets s
-  GivesUpLine-first {a} {octets} {rest} {s} p = record { between = p.between; left = p.left ++ rest; feeds = p.feeds }
+    pub GivesUp-says : {a : X} {octets rest s : List ℕ} → GivesUp line_says end_says may_line may_end a fault octets rest s
+        → SaysFirst line_says a (lines_of octets) s
+    GivesUp-says (inl p) = FeedsFirst-says (GivesUpLine-first may_line p)
+    GivesUp-says (inr p) = SaysFirst-all _ p.between _ _ p.says
 
-  pub GivesUp-says : {a : X} {octets rest s : List ℕ} → GivesUp line_says a octets rest s → SaysFirst line_says a (lines_of octets) s
-  GivesUp-says (inl p) = FeedsFirst-says (GivesUpLine-first p)
-  GivesUp-says (inr p) = SaysFirst-all _ p.between _ _ p.says
+    -- where all was read, and a line of the rest, or the end, is given up
+    pub Writes-gives_up : {old now new : Option (List ℕ)} {a b : X} {input : List ℕ} (part : List ℕ)
+        → Writes old now (λ text. Feeds line_says a input b (part ++ []) text)
+        → Writes now new (λ text. GivesUp line_says end_says may_line may_end b fault part [] text)
+        → Writes old new (λ text. GivesUp line_says end_says may_line may_end a fault input [] text)
+    Writes-gives_up part p q = Writes-more _ p q (λ s t f g. Feeds-gives_up (rw append-nil at f) g)
+
+    -- where more was read, and a line of it is given up
+    pub Writes-gives_up_line : {old now new : Option (List ℕ)} {a b : X} {input left rest : List ℕ}
+        → Writes old now (λ text. Feeds line_says a input b left text)
+        → Writes now new (λ text. GivesUpLine line_says may_line b fault left rest text)
+        → Writes old new (λ text. GivesUp line_says end_says may_line may_end a fault input rest text)
+    Writes-gives_up_line p q = Writes-more _ p q (λ s t f g. inl (Feeds-gives_up_line may_line f g))
 
   -- what was said to some of the lines that are left
   pub Feeds-says_some : (end_says : X → List ℕ → X → Type 0) {a b : X} {octets left s t : List ℕ} → Feeds line_says a octets b left s
@@ -278,13 +305,6 @@ module _ {X : Type 0} (line_says : X → List ℕ → List ℕ → X → Type 0)
       → Writes old new (λ text. SaysAll line_says end_says a (lines_of input) text c)
   Writes-all end_says part p q = Writes-more _ p q (λ s t f g. Feeds-says-all end_says (rw append-nil at f) g)
 
-  -- where all was read, and a line of the rest, or the end, is given up
-  pub Writes-gives_up : {old now new : Option (List ℕ)} {a b : X} {input : List ℕ} (part : List ℕ)
-      → Writes old now (λ text. Feeds line_says a input b (part ++ []) text)
-      → Writes now new (λ text. GivesUp line_says b part [] text)
-      → Writes old new (λ text. GivesUp line_says a input [] text)
-  Writes-gives_up part p q = Writes-more _ p q (λ s t f g. Feeds-gives_up (rw append-nil at f) g)
-
   -- where all was read, and a write of what is said to the rest fails
   pub Writes-part : (end_says : X → List ℕ → X → Type 0) {old now new : Option (List ℕ)} {a b : X} {input : List ℕ} (part : List ℕ)
       → Writes old now (λ text. Feeds line_says a input b (part ++ []) text)
@@ -292,13 +312,6 @@ module _ {X : Type 0} (line_says : X → List ℕ → List ℕ → X → Type 0)
       → Writes old new (λ text. IsFrontOf (λ whole. SaysSome line_says end_says a (lines_of input) whole) text)
   Writes-part end_says part p q =
       Writes-more _ p q (λ s t f g. IsFrontOf-behind _ s g (λ u some. Feeds-says_some end_says (rw append-nil at f) some))
-
-  -- where more was read, and a line of it is given up
-  pub Writes-gives_up_line : {old now new : Option (List ℕ)} {a b : X} {input left rest : List ℕ}
-      → Writes old now (λ text. Feeds line_says a input b left text)
-      → Writes now new (λ text. GivesUpLine line_says b left rest text)
-      → Writes old new (λ text. GivesUp line_says a input rest text)
-  Writes-gives_up_line p q = Writes-more _ p q (λ s t f g. inl (Feeds-gives_up_line f g))
 
   -- where more was read, and a write of what is said to it fails
   pub Writes-front : (end_says : X → List ℕ → X → Type 0) {old now new : Option (List ℕ)} {a b : X} {input left : List ℕ}

@@ -12,6 +12,11 @@ abbrev pub lines_of : List ℕ → List (List ℕ)
 lines_of [] = []
 lines_of (b ∷ bs) = if b == 10 then [] ∷ lines_of bs else onto_first b (lines_of bs)
 
+-- the octets before the first end of a line, or all where there is none
+abbrev pub first_line : List ℕ → List ℕ
+first_line [] = []
+first_line (b ∷ bs) = if b == 10 then [] else b ∷ first_line bs
+
 -- a line and its end
 abbrev pub with_end : List ℕ → List ℕ
 with_end line = line ++ (10 ∷ [])

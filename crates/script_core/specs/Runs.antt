@@ -2,7 +2,9 @@
 use Rattle.std.specs.Prelude.{◌≡◌, ◌⊎◌, ◌<◌, ℕ, List, [], ◌∷◌, ◌++◌, All, length, Option, None, Some}
 use Rattle.std.specs.List.{flat_map}
 use Rattle.std.specs.Io.KnownBytes.{Appends}
-use Rattle.script_core.specs.Lines.{lines_of, with_end, HasNoEnd}
+use Rattle.script_core.specs.Lines.{lines_of, first_line, with_end, HasNoEnd}
+use Rattle.script_core.specs.declared.fault.LineFault.{LineFault}
+use Rattle.script_core.specs.declared.fault.LineFault.TheVariants.{Memory}
 
 -- octets were added, and this holds of them
 pub record Adds (old new : List ℕ) (P : List ℕ → Type 0) : Type 0 where
@@ -30,8 +32,22 @@ Reads None new P = Unit {0}
 Reads (Some input) None P = ⊥
 Reads (Some input) (Some rest) P = P input rest
 
+-- a session may say octets, and be something after them
+pub record SaysSomething {X : Type 0} (says : List ℕ → X → Type 0) : Type 0 where
+  pub said : List ℕ
+  pub now : X
+  pub some : 0 < length said
+  pub are_said : says said now
+
+-- The end of a script may be given up: the session may do so, or there may be no memory for what is said at it.
+abbrev pub MayGiveUpEnd : {X : Type 0} → (X → List ℕ → X → Type 0) → (X → LineFault → Type 0)
+    → X → LineFault → Type 0
+MayGiveUpEnd end_says may_give_up_end session fault =
+    may_give_up_end session fault ⊎ ((fault ≡ Memory) × SaysSomething (end_says session))
+
 -- A session is asked line by line. `line_says before line said now` tells that the session `before` may say this to the line, and be
--- `now` after it; `end_says before said now` tells the same of the end of the script.
+-- `now` after it; `end_says before said now` tells the same of the end of the script. `may_give_up_line before line fault` tells that it
+-- may give up this line for this fault, and `may_give_up_end before fault` the same of the end.
 module _ {X : Type 0} (line_says : X → List ℕ → List ℕ → X → Type 0) where
   -- a line was answered, and what follows holds of the session after it and of the rest of the text
   pub record Answered (follows : X → List ℕ → Type 0) (before : X) (line text : List ℕ) : Type 0 where
@@ -83,22 +99,36 @@ module _ {X : Type 0} (line_says : X → List ℕ → List ℕ → X → Type 0)
     pub no_end : HasNoEnd part
     pub feeds : Feeds before input now (part ++ rest) text
 
+  -- A line may be given up: the session may do so, or there may be no memory, to hold a line that has octets or for what is said to it.
+  abbrev pub MayGiveUpLine : (X → List ℕ → LineFault → Type 0) → X → List ℕ → LineFault → Type 0
+  MayGiveUpLine may_give_up_line session line fault =
+      may_give_up_line session line fault
+      ⊎ ((fault ≡ Memory) × ((0 < length line) ⊎ SaysSomething (line_says session line)))
+
   -- A line was given up: of an input, `rest` was not read; each line before the one that is given up had ended and was answered, and no
-  -- other was; and of that line, which stands at the front of `left`, at least one octet was read.
-  pub record GivesUpLine (before : X) (input rest text : List ℕ) : Type 0 where
+  -- other was; of that line, which stands at the front of `left`, at least one octet was read, and it may be given up.
+  pub record GivesUpLine (may_give_up_line : X → List ℕ → LineFault → Type 0)
+      (before : X) (fault : LineFault) (input rest text : List ℕ) : Type 0 where
     pub between : X
     pub left : List ℕ
     pub some : 0 < length left
     pub feeds : Feeds before input between (left ++ rest) text
+    pub may : MayGiveUpLine may_give_up_line between (first_line left) fault
 
-  -- the end of the script was given up: the input was read to its end, and each of its lines was answered
-  pub record GivesUpEnd (before : X) (input rest text : List ℕ) : Type 0 where
+  -- the end of the script was given up: the input was read to its end, each of its lines was answered, and the end may be given up
+  pub record GivesUpEnd (end_says : X → List ℕ → X → Type 0)
+      (may_give_up_end : X → LineFault → Type 0)
+      (before : X) (fault : LineFault) (input rest text : List ℕ) : Type 0 where
     pub between : X
     pub read : rest ≡ []
     pub says : Says before (lines_of input) text between
+    pub may : MayGiveUpEnd end_says may_give_up_end between fault
 
-  abbrev pub GivesUp : X → List ℕ → List ℕ → List ℕ → Type 0
-  GivesUp before input rest text = GivesUpLine before input rest text ⊎ GivesUpEnd before input rest text
+  abbrev pub GivesUp : (X → List ℕ → X → Type 0) → (X → List ℕ → LineFault → Type 0)
+      → (X → LineFault → Type 0) → X → LineFault → List ℕ → List ℕ → List ℕ → Type 0
+  GivesUp end_says may_give_up_line may_give_up_end before fault input rest text =
+      GivesUpLine may_give_up_line before fault input rest text
+      ⊎ GivesUpEnd end_says may_give_up_end before fault input rest text
 
   -- what was said to the first of these lines, or to all of them and to the end of the script
   abbrev pub SaysSome : (X → List ℕ → X → Type 0) → X → List (List ℕ) → List ℕ → Type 0

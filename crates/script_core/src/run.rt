@@ -1,9 +1,11 @@
 //! Runs a script, a read at a time.
-ghost use Rattle.std.specs.Prelude.{◌≡◌, ◌≢◌, ◌⊎◌, ◌<◌, ℕ, List, [], ◌∷◌, ◌++◌, All, IfSome, IfErr, OnOk, OnErr, length};
+ghost use Rattle.std.specs.Prelude.{◌≡◌, ◌≢◌, ◌<◌, ℕ, List, [], ◌∷◌, ◌++◌, All, IfSome, IfErr, OnOk, OnErr, length};
 ghost use Rattle.std.specs.Io.{ReadsAtMost};
 ghost use Rattle.std.specs.Io.KnownBytes.{Appends, ReadConsumes};
-ghost use Rattle.script_core.specs.Lines.{lines_of, HasNoEnd};
-ghost use Rattle.script_core.specs.Runs.{Adds, Writes, IsFrontOf, Reads, Says, SaysAll, SaysSome, Feeds, FeedsFirst, StopsBetween, GivesUpLine, GivesUp};
+ghost use Rattle.script_core.specs.Lines.{lines_of, first_line, HasNoEnd};
+ghost use Rattle.script_core.specs.Runs.{Adds, Writes, IsFrontOf, Reads, Says, SaysAll, SaysSome, Feeds, FeedsFirst, StopsBetween, MayGiveUpLine, GivesUpLine, MayGiveUpEnd, GivesUp};
+ghost use Rattle.script_core.specs.Faults.{run_fault};
+ghost use Rattle.script_core.specs.declared.fault.LineFault.{LineFault};
 
 use crate::fault::{LineFault, RunFault};
 use crate::session::Session;
@@ -37,6 +39,8 @@ fn finish_line<S: Session>(session: &mut S, buffers: &mut Buffers) -> Result<(),
         S.line_says session.old buffers.old.line.items said session.new)) }
     ensures empty { OnOk result (buffers.new.line.items ≡ []) }
     ensures same { OnErr result (buffers.new.out.items ≡ buffers.old.out.items) }
+    ensures given_up { IfErr result (λ fault.
+        MayGiveUpLine S.line_says S.may_give_up_line session.old buffers.old.line.items fault) }
 {
     buffers.said.clear();
     session.line(buffers.line.as_slice(), &mut buffers.said)?;
@@ -57,6 +61,9 @@ fn feed_octet<S: Session>(
         Feeds S.line_says session.old (buffers.old.line.items ++ (octet ∷ rest)) session.new (buffers.new.line.items ++ rest) said)) }
     ensures part { OnOk result (HasNoEnd buffers.new.line.items) }
     ensures same { OnErr result (buffers.new.out.items ≡ buffers.old.out.items) }
+    ensures given_up { IfErr result (λ fault. (text rest : List ℕ) → text ≡ octet ∷ rest →
+        MayGiveUpLine S.line_says S.may_give_up_line session.old
+        (first_line (buffers.old.line.items ++ text)) fault) }
 {
     if octet == LINE_END {
         finish_line(session, buffers)?;
@@ -73,9 +80,10 @@ fn feed<S: Session>(session: &mut S, buffers: &mut Buffers, chunk: &[u8]) -> Res
         Adds buffers.old.out.items buffers.new.out.items (λ said.
         Feeds S.line_says session.old (buffers.old.line.items ++ (chunk.now ++ rest)) session.new (buffers.new.line.items ++ rest) said)) }
     ensures part { OnOk result (HasNoEnd buffers.new.line.items) }
-    ensures given_up { OnErr result ((rest : List ℕ) →
+    ensures given_up { IfErr result (λ fault. (rest : List ℕ) →
         Adds buffers.old.out.items buffers.new.out.items (λ said.
-        GivesUpLine S.line_says session.old (buffers.old.line.items ++ (chunk.now ++ rest)) rest said)) }
+        GivesUpLine S.line_says S.may_give_up_line session.old fault
+        (buffers.old.line.items ++ (chunk.now ++ rest)) rest said)) }
 {
     for octet in chunk {
         feed_octet(session, buffers, *octet)?;
@@ -88,6 +96,8 @@ fn end_session<S: Session>(session: &mut S, buffers: &mut Buffers) -> Result<(),
     ensures said { OnOk result (Adds buffers.old.out.items buffers.new.out.items (λ said.
         S.end_says session.old said session.new)) }
     ensures same { OnErr result (buffers.new.out.items ≡ buffers.old.out.items) }
+    ensures given_up { IfErr result (λ fault.
+        MayGiveUpEnd S.end_says S.may_give_up_end session.old fault) }
 {
     buffers.said.clear();
     session.end(&mut buffers.said)?;
@@ -102,6 +112,8 @@ fn finish_last_line<S: Session>(session: &mut S, buffers: &mut Buffers) -> Resul
         Says S.line_says session.old (lines_of buffers.old.line.items) said session.new)) }
     ensures same { OnErr result (buffers.new.out.items ≡ buffers.old.out.items) }
     ensures some { OnErr result (0 < length buffers.old.line.items) }
+    ensures given_up { IfErr result (λ fault.
+        MayGiveUpLine S.line_says S.may_give_up_line session.old buffers.old.line.items fault) }
 {
     if buffers.line.is_empty() {
         return Ok(());
@@ -115,8 +127,10 @@ fn finish<S: Session>(session: &mut S, buffers: &mut Buffers) -> Result<(), Line
     requires { HasNoEnd buffers.old.line.items }
     ensures said { OnOk result (Adds buffers.old.out.items buffers.new.out.items (λ said.
         SaysAll S.line_says S.end_says session.old (lines_of buffers.old.line.items) said session.new)) }
-    ensures given_up { OnErr result (Adds buffers.old.out.items buffers.new.out.items (λ said.
-        GivesUp S.line_says session.old buffers.old.line.items [] said)) }
+    ensures given_up { IfErr result (λ fault.
+        Adds buffers.old.out.items buffers.new.out.items (λ said.
+        GivesUp S.line_says S.end_says S.may_give_up_line S.may_give_up_end session.old fault
+        buffers.old.line.items [] said)) }
 {
     finish_last_line(session, buffers)?;
     end_session(session, buffers)?;
@@ -168,9 +182,10 @@ fn serve<S: Session, W: Write>(
         Feeds S.line_says session.old (buffers.old.line.items ++ (chunk.now ++ rest)) session.new (buffers.new.line.items ++ rest) text)) }
     ensures part { OnOk result (HasNoEnd buffers.new.line.items) }
     ensures empty { OnOk result (buffers.new.out.items ≡ []) }
-    ensures given_up { IfErr result (λ e. e ≢ RunFault.Output → (rest : List ℕ) →
-        Writes (W.contents writer.old) (W.contents writer.new) (λ text.
-        GivesUpLine S.line_says session.old (buffers.old.line.items ++ (chunk.now ++ rest)) rest text)) }
+    ensures given_up { IfErr result (λ e. (fault : LineFault) → e ≡ run_fault fault →
+        (rest : List ℕ) → Writes (W.contents writer.old) (W.contents writer.new) (λ text.
+        GivesUpLine S.line_says S.may_give_up_line session.old fault
+        (buffers.old.line.items ++ (chunk.now ++ rest)) rest text)) }
     ensures output { IfErr result (λ e. e ≡ RunFault.Output → (rest : List ℕ) →
         Writes (W.contents writer.old) (W.contents writer.new) (λ text. IsFrontOf (λ whole.
         FeedsFirst S.line_says session.old (buffers.old.line.items ++ (chunk.now ++ rest)) whole) text)) }
@@ -192,9 +207,10 @@ fn close<S: Session, W: Write>(
     requires empty { buffers.old.out.items ≡ [] }
     ensures written { OnOk result (Writes (W.contents writer.old) (W.contents writer.new) (λ text.
         SaysAll S.line_says S.end_says session.old (lines_of buffers.old.line.items) text session.new)) }
-    ensures given_up { IfErr result (λ e. e ≢ RunFault.Output →
+    ensures given_up { IfErr result (λ e. (fault : LineFault) → e ≡ run_fault fault →
         Writes (W.contents writer.old) (W.contents writer.new) (λ text.
-        GivesUp S.line_says session.old buffers.old.line.items [] text)) }
+        GivesUp S.line_says S.end_says S.may_give_up_line S.may_give_up_end session.old fault
+        buffers.old.line.items [] text)) }
     ensures output { IfErr result (λ e. e ≡ RunFault.Output →
         Writes (W.contents writer.old) (W.contents writer.new) (λ text.
         IsFrontOf (λ whole. SaysSome S.line_says S.end_says session.old (lines_of buffers.old.line.items) whole) text)) }
@@ -216,9 +232,10 @@ fn close<S: Session, W: Write>(
 ///
 /// `Input` where a read fails or the reads run out: each line that had ended is answered, and what
 /// it says is written. `Memory` and `Stopped` where a line, or the end of the script, is given up:
-/// what is said to each line before it is written, and it was read, in part at least. `Output` where a
-/// write fails or takes nothing: a front of what was said is written. A write that was interrupted is
-/// made again; a read that was interrupted has failed.
+/// what is said to each line before it is written, and it was read, in part at least. It is `Stopped`
+/// only where the session may end the run. `Output` where a write fails or takes nothing: a front of
+/// what was said is written. A write that was interrupted is made again; a read that was interrupted
+/// has failed.
 pub fn run_script<S: Session, R: Read, W: Write>(
     alloc: Global,
     session: &mut S,
@@ -234,39 +251,13 @@ pub fn run_script<S: Session, R: Read, W: Write>(
         Reads (R.remaining reader.old) (R.remaining reader.new) (λ input rest.
         Writes (W.contents writer.old) (W.contents writer.new) (λ text.
         StopsBetween S.line_says session.old session.new input rest text))) }
-    // Where a line was given up, each line before it was answered, and it was read, in part at least.
-    ensures given_up { IfErr result (λ e. (e ≡ RunFault.Memory) ⊎ (e ≡ RunFault.Stopped) →
+    // Where a line, or the end, was given up, each line before it was answered, and it may be given up so.
+    ensures given_up { IfErr result (λ e. (fault : LineFault) → e ≡ run_fault fault →
         Reads (R.remaining reader.old) (R.remaining reader.new) (λ input rest.
         Writes (W.contents writer.old) (W.contents writer.new) (λ text.
-        GivesUp S.line_says session.old input rest text))) }
+        GivesUp S.line_says S.end_says S.may_give_up_line S.may_give_up_end session.old fault
+        input rest text))) }
     // Where a write failed, what is written is a front of what was said to the first lines of the input, or to all of it.
-    ensures output { IfErr result (λ e. e ≡ RunFault.Output →
-        IfSome (R.remaining reader.old) (λ input.
-        Writes (W.contents writer.old) (W.contents writer.new) (λ text. IsFrontOf (λ whole.
-        SaysSome S.line_says S.end_says session.old (lines_of input) whole) text))) }
-{
-    run_within(alloc, MAX_READS, session, reader, writer)
-}
-
-// Runs a script with no more than so many reads.
-pub(crate) fn run_within<S: Session, R: Read, W: Write>(
-    alloc: Global,
-    most_reads: u32,
-    session: &mut S,
-    reader: &mut R,
-    writer: &mut W,
-) -> Result<(), RunFault>
-    ensures written { OnOk result (IfSome (R.remaining reader.old) (λ input.
-        Writes (W.contents writer.old) (W.contents writer.new) (λ text.
-        SaysAll S.line_says S.end_says session.old (lines_of input) text session.new))) }
-    ensures input { IfErr result (λ e. e ≡ RunFault.Input →
-        Reads (R.remaining reader.old) (R.remaining reader.new) (λ input rest.
-        Writes (W.contents writer.old) (W.contents writer.new) (λ text.
-        StopsBetween S.line_says session.old session.new input rest text))) }
-    ensures given_up { IfErr result (λ e. (e ≡ RunFault.Memory) ⊎ (e ≡ RunFault.Stopped) →
-        Reads (R.remaining reader.old) (R.remaining reader.new) (λ input rest.
-        Writes (W.contents writer.old) (W.contents writer.new) (λ text.
-        GivesUp S.line_says session.old input rest text))) }
     ensures output { IfErr result (λ e. e ≡ RunFault.Output →
         IfSome (R.remaining reader.old) (λ input.
         Writes (W.contents writer.old) (W.contents writer.new) (λ text. IsFrontOf (λ whole.
@@ -278,7 +269,7 @@ pub(crate) fn run_within<S: Session, R: Read, W: Write>(
         out: Vec::new(alloc),
     };
     let mut chunk = [0u8; READ_SIZE];
-    for _ in 0..most_reads {
+    for _ in 0..MAX_READS {
         match read_octets(reader, &mut chunk)? {
             0 => return close(session, &mut buffers, writer),
             n => serve(session, &mut buffers, &chunk[..n], writer)?,

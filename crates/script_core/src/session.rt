@@ -1,6 +1,7 @@
 //! What answers the lines of a script.
-ghost use Rattle.std.specs.Prelude.{ℕ, List, OnOk};
+ghost use Rattle.std.specs.Prelude.{ℕ, List, OnOk, IfErr};
 ghost use Rattle.script_core.specs.Runs.{Adds};
+ghost use Rattle.script_core.specs.declared.fault.LineFault.{LineFault};
 
 use crate::fault::LineFault;
 
@@ -15,14 +16,22 @@ pub trait Session {
     // From a session, at the end of the script, this may be said, and the session is this after it.
     ghost end_says: { Self → List ℕ → Self → Type 0 };
 
+    // From a session, this line may be given up for this fault.
+    ghost may_give_up_line: { Self → List ℕ → LineFault → Type 0 };
+
+    // From a session, the end of the script may be given up for this fault.
+    ghost may_give_up_end: { Self → LineFault → Type 0 };
+
     /// Appends to `out` what is said to one line, which is given without its end. After an error
     /// the run stops, and what `out` then holds is dropped.
     fn line(&mut self, line: &[u8], out: &mut Vec<u8>) -> Result<(), LineFault>
         ensures said { OnOk result (Adds out.old.items out.new.items (λ said.
-            line_says self.old line.now said self.new)) };
+            line_says self.old line.now said self.new)) }
+        ensures given_up { IfErr result (λ fault. may_give_up_line self.old line.now fault) };
 
-    /// Appends to `out` what is said at the end of the script.
+    /// Appends to `out` what is said at the end of the script. After an error the run stops.
     fn end(&mut self, out: &mut Vec<u8>) -> Result<(), LineFault>
         ensures said { OnOk result (Adds out.old.items out.new.items (λ said.
-            end_says self.old said self.new)) };
+            end_says self.old said self.new)) }
+        ensures given_up { IfErr result (λ fault. may_give_up_end self.old fault) };
 }

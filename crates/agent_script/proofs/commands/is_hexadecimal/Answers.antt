@@ -1,4 +1,4 @@
-use Rattle.std.proofs.Common.{◌≡◌, ◌%◌, ◌==◌, ◌&&◌, length, true, refl}
+use Rattle.std.proofs.Common.{refl}
 use Rattle.agent_script.proofs.Hexadecimal.{is_hexadecimal}
 use Rattle.agent_script.proofs.commands.is_hexadecimal.Goals as goal
 

@@ -11,8 +11,9 @@ returns-clause-input g c = λ failed.
 
 pub returns-clause-given_up : goal.returns-clause-given_up
 returns-clause-given_up g c = λ given_up.
-    Reads-weaker _ _ _ _ (c.in-Err.ensures.given_up (memory_of _ (sym c.fault_of.ensures ∙ given_up)))
-    (λ input rest written. Writes-weaker _ written (λ text p. given_up_of _ _ c.new.ensures _ _ _ p))
+    let why = memory_of _ (sym c.fault_of.ensures ∙ given_up) in
+    Reads-weaker _ _ _ _ (c.in-Err.ensures.given_up why.line why.is)
+    (λ input rest written. Writes-weaker _ written (λ text p. given_up_of _ _ c.new.ensures _ _ _ _ p))
 
 pub returns-clause-output : goal.returns-clause-output
 returns-clause-output g c = λ failed.

@@ -1,6 +1,6 @@
 use Rattle.std.proofs.Common.{◌≡◌, ℕ, ◌<◌, List, [], ◌++◌, ◌+◌, refl, length, drop, length-drop, arith}
 use Rattle.std.proofs.lemmas.Grind.{common_steps}
-use Rattle.script_core.proofs.RunsLemmas.{on_err, Adds-same, Adds-more, Adds-weaker, Feeds-none, Feeds-then, GivesUpLine-within}
+use Rattle.script_core.proofs.RunsLemmas.{if_err_known, Adds-same, Adds-more, Adds-weaker, Feeds-none, Feeds-then, GivesUpLine-within}
 use Rattle.script_core.proofs.run.feed.Goals as goal
 
 pub loop-octet-init : goal.loop-octet-init
@@ -8,11 +8,13 @@ loop-octet-init g c = record { part = c.requires; feeds = λ (rest : List ℕ). 
 
 pub returns-in_err-feed_octet-clause-given_up : goal.returns-in_err-feed_octet-clause-given_up
 returns-in_err-feed_octet-clause-given_up g c =
-    on_err c.from_residual.result
-    (λ (rest : List ℕ).
+    if_err_known c.from_residual.result _ _ c.from_residual.ensures.1
+    (λ e made (rest : List ℕ).
     let same : c.feed_octet.new.buffers.out.items ≡ c.loop-octet.buffers.out.items = c.in_err-feed_octet.ensures.same in
-    let some : 0 < length (drop c.loop-octet.octet-index c.args.chunk.now) = simp length-drop (omega arith) in
-    rw same (Adds-weaker _ (c.loop-octet.invariant.feeds rest) (λ s p. GivesUpLine-within _ _ _ some p)))
+    let left = drop c.loop-octet.octet-index c.args.chunk.now in
+    let some : 0 < length left = simp length-drop (omega arith) in
+    let may = c.in_err-feed_octet.ensures.given_up left (drop (c.loop-octet.octet-index + 1) c.args.chunk.now) (grind (arith, common_steps)) in
+    rw (made, same) (Adds-weaker _ (c.loop-octet.invariant.feeds rest) (λ s p. GivesUpLine-within _ _ _ left some may p)))
 
 pub loop-octet-preserved : goal.loop-octet-preserved
 loop-octet-preserved g c = record {

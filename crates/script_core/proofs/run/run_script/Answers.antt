@@ -1,9 +1,9 @@
-use Rattle.std.proofs.Common.{◌≡◌, ℕ, List, [], arith, rules}
+use Rattle.std.proofs.Common.{◌≡◌, ◌∙◌, sym, ℕ, List, [], arith, rules}
 use Rattle.script_core.specs.Runs.{Feeds, Writes}
 use Rattle.std.proofs.lemmas.Result.{IfErr-weaker}
 use Rattle.std.proofs.KnownBytes.{Keeps-refl}
-use Rattle.script_core.proofs.RunsLemmas.{if_err_known, not_output, on_ok_weaker, Reads-same, Reads-more, Reads-kept, Reads-input, Reads-end, Reads-close, Writes-none, Writes-more, Writes-weaker, Writes-all, Writes-gives_up, Writes-gives_up_line, Writes-part, Writes-front, Feeds-none, Feeds-more, Feeds-stop}
-use Rattle.script_core.proofs.run.run_within.Goals as goal
+use Rattle.script_core.proofs.RunsLemmas.{if_err_known, not_input, on_ok_weaker, Reads-same, Reads-more, Reads-kept, Reads-input, Reads-end, Reads-close, Writes-none, Writes-more, Writes-weaker, Writes-all, Writes-gives_up, Writes-gives_up_line, Writes-part, Writes-front, Feeds-none, Feeds-more, Feeds-stop}
+use Rattle.script_core.proofs.run.run_script.Goals as goal
 
 pub loop-init : goal.loop-init
 loop-init g c = record {
@@ -27,10 +27,10 @@ returns-in-0-clause-written g c =
 pub returns-in-0-clause-given_up : goal.returns-in-0-clause-given_up
 returns-in-0-clause-given_up g c =
     IfErr-weaker c.close.result _ _
-    (λ e given_up stopped.
+    (λ e given_up fault stopped.
     let none : c.in_ok-n.n ≡ 0 = c.in-0.is in
     Reads-close _ _ _ _ _ c.loop.invariant.stands (rw none at c.in_ok-n.ensures.bytes.0) (c.in_ok-n.ensures.bytes.1 none (omega arith))
-    (λ input stands. Writes-gives_up _ _ stands (given_up (not_output e stopped))))
+    (λ input stands. Writes-gives_up _ _ _ _ _ stands (given_up fault stopped)))
     c.close.ensures.given_up
 
 pub returns-in-0-clause-output : goal.returns-in-0-clause-output
@@ -45,10 +45,18 @@ returns-in-0-clause-output g c =
 pub returns-in_err-serve-in_default-clause-given_up : goal.returns-in_err-serve-in_default-clause-given_up
 returns-in_err-serve-in_default-clause-given_up g c =
     if_err_known c.from_residual-in_err-serve-in_default.result _ _ c.from_residual-in_err-serve-in_default.ensures.1
-    (λ e made stopped.
-    let given_up = c.in_err-serve-in_default.ensures.given_up (not_output _ (rw made at stopped)) in
+    (λ e made fault stopped.
+    let given_up = c.in_err-serve-in_default.ensures.given_up fault (rw made at stopped) in
     Reads-more _ _ _ _ _ _ c.loop.invariant.stands c.in_ok-n.ensures.bytes.0
-    (λ input rest stands. Writes-gives_up_line _ stands (given_up rest)))
+    (λ input rest stands. Writes-gives_up_line _ _ _ _ stands (given_up rest)))
+
+pub returns-in_err-n-clause-given_up : goal.returns-in_err-n-clause-given_up
+returns-in_err-n-clause-given_up g c =
+    if_err_known c.from_residual.result _ _ c.from_residual.ensures.1
+    (λ e made fault stopped. absurd (not_input fault (sym (made ∙ c.in_err-n.ensures.input) ∙ stopped)))
+
+pub returns-clause-given_up : goal.returns-clause-given_up
+returns-clause-given_up g c = λ fault stopped. absurd (not_input fault stopped)
 
 pub returns-in_err-serve-in_default-clause-output : goal.returns-in_err-serve-in_default-clause-output
 returns-in_err-serve-in_default-clause-output g c =

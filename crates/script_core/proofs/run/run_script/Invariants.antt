@@ -1,7 +1,7 @@
 use Rattle.std.proofs.Common.{◌≡◌, [], ◌++◌}
 use Rattle.script_core.specs.Lines.{HasNoEnd}
 use Rattle.script_core.specs.Runs.{Feeds, Reads, Writes}
-use Rattle.script_core.proofs.run.run_within.Given as goal
+use Rattle.script_core.proofs.run.run_script.Given as goal
 
 -- what was read so far is answered and written, but for the line that has no end yet
 abbrev pub invariant-loop : goal.invariant-loop
