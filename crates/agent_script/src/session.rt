@@ -9,7 +9,7 @@ ghost use Rattle.agent_script.specs.Sessions.{Session as State, SaysToLine, Says
 use crate::agent::Agent;
 use agent_core::PlainWorld;
 use bridge_core::Bridge;
-use script_core::{LineFault, RunFault, Session};
+use script_core::{LineFault, MAX_READS, RunFault, Session};
 use std::alloc::Global;
 use std::io::{Read, Write};
 use std::marker::Model;
@@ -102,7 +102,7 @@ pub fn run_script<R: Read, W: Write>(
         agent: Agent::new(world, bridge),
         is_whole: true,
     };
-    match script_core::run_script(alloc, &mut session, reader, writer) {
+    match script_core::run_script(alloc, MAX_READS, &mut session, reader, writer) {
         Ok(()) => Ok(session.run()),
         Err(fault) => Err(fault_of(fault)),
     }

@@ -1,6 +1,6 @@
 //! Scripts over octets in memory.
 use crate::support::{Counted, Narrow, Shouter, Slow};
-use script_core::{RunFault, run_script};
+use script_core::{MAX_READS, RunFault, run_script};
 use std::alloc::Global;
 use std::test::Fail;
 
@@ -16,7 +16,7 @@ fn answers_each_line(rt: HostRuntime) -> Result<(), Fail> {
     for (input, want) in rows {
         let mut reader = input;
         let mut out = Vec::new(rt.alloc());
-        let result = run_script(rt.alloc(), &mut Shouter, &mut reader, &mut out);
+        let result = run_script(rt.alloc(), MAX_READS, &mut Shouter, &mut reader, &mut out);
         assert_eq!(rt; result, Ok(()));
         assert_eq!(rt; out.as_slice(), want);
     }
@@ -27,7 +27,7 @@ fn answers_each_line(rt: HostRuntime) -> Result<(), Fail> {
 fn stops_where_the_session_does(rt: HostRuntime) {
     let mut reader = b"a\nstop\nb\n".as_slice();
     let mut out = Vec::new(rt.alloc());
-    let result = run_script(rt.alloc(), &mut Shouter, &mut reader, &mut out);
+    let result = run_script(rt.alloc(), MAX_READS, &mut Shouter, &mut reader, &mut out);
     assert_eq!(rt; result, Err(RunFault::Stopped));
     assert_eq!(rt; out.as_slice(), b"a!\n".as_slice());
 }
@@ -57,6 +57,7 @@ fn writes_and_flushes_once_a_read(rt: HostRuntime) {
     let mut writer = counted_writer(rt.alloc(), 9);
     let result = run_script(
         rt.alloc(),
+        MAX_READS,
         &mut Shouter,
         &mut slow_reader(false),
         &mut writer,
@@ -71,10 +72,21 @@ fn writes_and_flushes_once_a_read(rt: HostRuntime) {
 }
 
 #[test]
+fn reads_no_more_often_than_it_may(rt: HostRuntime) {
+    let mut reader = slow_reader(false);
+    let mut writer = counted_writer(rt.alloc(), 9);
+    let result = run_script(rt.alloc(), 3, &mut Shouter, &mut reader, &mut writer);
+    assert_eq!(rt; result, Err(RunFault::Input));
+    assert_eq!(rt; reader.reads, 3);
+    assert_eq!(rt; writer.octets.as_slice(), b"a!\nb!\ncd!\ne!\n".as_slice());
+}
+
+#[test]
 fn fails_with_its_input(rt: HostRuntime) {
     let mut writer = counted_writer(rt.alloc(), 9);
     let result = run_script(
         rt.alloc(),
+        MAX_READS,
         &mut Shouter,
         &mut slow_reader(true),
         &mut writer,
@@ -88,6 +100,7 @@ fn fails_with_its_output(rt: HostRuntime) {
     let mut writer = counted_writer(rt.alloc(), 1);
     let result = run_script(
         rt.alloc(),
+        MAX_READS,
         &mut Shouter,
         &mut slow_reader(false),
         &mut writer,
@@ -104,7 +117,7 @@ fn narrowly(alloc: Global, room: usize) -> (Result<(), RunFault>, Narrow) {
         octets: Vec::new(alloc),
     };
     let mut reader = b"a\nb\n".as_slice();
-    let result = run_script(alloc, &mut Shouter, &mut reader, &mut writer);
+    let result = run_script(alloc, MAX_READS, &mut Shouter, &mut reader, &mut writer);
     (result, writer)
 }
 
@@ -138,7 +151,7 @@ fn reads_octet_by_octet(rt: HostRuntime) -> Result<(), Fail> {
         reads: 0,
     };
     let mut out = Vec::new(rt.alloc());
-    let result = run_script(rt.alloc(), &mut Shouter, &mut reader, &mut out);
+    let result = run_script(rt.alloc(), MAX_READS, &mut Shouter, &mut reader, &mut out);
     assert_eq!(rt; result, Ok(()));
     assert_eq!(rt; reader.reads, 4_001);
     assert_eq!(rt; out.as_slice(), want.as_slice());

@@ -17,7 +17,7 @@ pub enum LineFault {
 /// Why a run stopped before the end of its script.
 #[derive(Clone, Copy, Debug, PartialEq, Eq)]
 pub enum RunFault {
-    /// A read failed, or the input has not ended after [`MAX_READS`](crate::MAX_READS) of them.
+    /// A read failed, or the input has not ended after as many as may be made.
     Input,
     /// A write failed, or took nothing.
     Output,

@@ -13,7 +13,7 @@ use crate::writing::write_octets;
 use std::alloc::Global;
 use std::io::{Read, Write};
 
-/// The most reads of one run.
+/// The most reads of one run of a program.
 pub const MAX_READS: u32 = u32::MAX;
 
 /// The octet that ends a line.
@@ -225,8 +225,8 @@ fn close<S: Session, W: Write>(
 /// Runs a script to the end of its input.
 ///
 /// Each line ends at octet 0A or at the end of the input. What the lines of one read say is written
-/// and flushed before the next read. No more than [`MAX_READS`] reads are made, and what the run holds
-/// does not grow with the number of lines.
+/// and flushed before the next read. No more than `most_reads` reads are made, which programs give as
+/// [`MAX_READS`], and what the run holds does not grow with the number of lines.
 ///
 /// # Errors
 ///
@@ -238,6 +238,7 @@ fn close<S: Session, W: Write>(
 /// has failed.
 pub fn run_script<S: Session, R: Read, W: Write>(
     alloc: Global,
+    most_reads: u32,
     session: &mut S,
     reader: &mut R,
     writer: &mut W,
@@ -269,7 +270,7 @@ pub fn run_script<S: Session, R: Read, W: Write>(
         out: Vec::new(alloc),
     };
     let mut chunk = [0u8; READ_SIZE];
-    for _ in 0..MAX_READS {
+    for _ in 0..most_reads {
         match read_octets(reader, &mut chunk)? {
             0 => return close(session, &mut buffers, writer),
             n => serve(session, &mut buffers, &chunk[..n], writer)?,
