@@ -24,6 +24,3 @@ pub use audit::Audit;
 pub use denied::{Denied, DeniedBindings};
 pub use keys::FamilyKey;
 pub use line::{audit_line, write_audit};
-
-#[cfg(test)]
-mod tests;

@@ -1,21 +1,12 @@
 //! Why a datagram is dropped: the first fault from the left.
 use crate::datagrams::{GET, SET_COUNTER32, SET_GAUGE32, SET_INTEGER, TWO_NAMES};
 use crate::long_datagrams::{LONG_COMMUNITY, LONG_OCTET_STRING};
+use crate::support::cause_with;
 use message_core::{DropCause, decode};
-use std::alloc::Global;
 use std::test::Fail;
 
-// A Get with one octet changed, and what becomes of it.
-fn changed(alloc: Global, place: usize, octet: u8) -> Option<DropCause> {
-    let mut datagram = GET;
-    if let Some(found) = datagram.get_mut(place) {
-        *found = octet;
-    }
-    decode(alloc, &datagram).err()
-}
-
 #[test]
-fn names_the_first_fault(rt: HostRuntime) {
+fn names_the_fault_of_one_octet(rt: HostRuntime) -> Result<(), Fail> {
     let rows = [
         (20, 0x05, None),
         (4, 0x00, Some(DropCause::BadVersion)),
@@ -34,105 +25,24 @@ fn names_the_first_fault(rt: HostRuntime) {
         (40, 0x01, Some(DropCause::Malformed)),
     ];
     for (place, octet, want) in rows {
-        assert_eq!(rt;
-            changed(rt.alloc(), place, octet),
-            want,
-            "octet {place} is {octet}"
-        );
-    }
-}
-
-#[test]
-fn version_comes_before_kind(rt: HostRuntime) {
-    let mut datagram = GET;
-    datagram[4] = 0;
-    datagram[13] = 0xa6;
-    assert_eq!(rt;
-        decode(rt.alloc(), &datagram).err(),
-        Some(DropCause::BadVersion)
-    );
-}
-
-#[test]
-fn refuses_each_front(rt: HostRuntime) {
-    for len in 0..GET.len() {
-        assert_eq!(rt;
-            decode(rt.alloc(), &GET[..len]).err(),
-            Some(DropCause::Malformed),
-            "{len} octets"
-        );
-    }
-}
-
-#[test]
-fn refuses_what_comes_after(rt: HostRuntime) -> Result<(), Fail> {
-    let mut more = GET.to_vec(rt.alloc())?;
-    more.push(0)?;
-    assert_eq!(rt; decode(rt.alloc(), &more).err(), Some(DropCause::Malformed));
-    assert_eq!(rt;
-        decode(rt.alloc(), &[0; 2048]).err(),
-        Some(DropCause::Malformed)
-    );
-    assert_eq!(rt;
-        decode(rt.alloc(), &[0; 2049]).err(),
-        Some(DropCause::TooLong)
-    );
-    Ok(())
-}
-
-// What becomes of a Set whose value is put under another tag.
-fn retagged(alloc: Global, set: &[u8], tag: u8) -> Result<Option<DropCause>, Fail> {
-    let mut datagram = set.to_vec(alloc)?;
-    if let Some(found) = datagram.get_mut(37) {
-        *found = tag;
-    }
-    Ok(decode(alloc, &datagram).err())
-}
-
-#[test]
-fn refuses_values_of_wrong_content(rt: HostRuntime) -> Result<(), Fail> {
-    let rows = [
-        // an IpAddress of 3 octets and of 5
-        (SET_GAUGE32.as_slice(), 0x40),
-        (SET_COUNTER32.as_slice(), 0x40),
-        // NULL and the exceptions with content
-        (SET_INTEGER.as_slice(), 0x05),
-        (SET_INTEGER.as_slice(), 0x80),
-        (SET_INTEGER.as_slice(), 0x81),
-        (SET_INTEGER.as_slice(), 0x82),
-        // a tag of no value
-        (SET_INTEGER.as_slice(), 0x45),
-    ];
-    for (set, tag) in rows {
-        assert_eq!(rt;
-            retagged(rt.alloc(), set, tag)?,
-            Some(DropCause::Malformed),
-            "tag {tag}"
-        );
+        let cause = cause_with(rt.alloc(), &GET, &[(place, octet)], &[])?;
+        assert_eq!(rt; cause, want, "octet {place} is {octet}");
     }
     Ok(())
 }
 
-// What drops a datagram in which these octets are others, and which has some more behind it.
-fn cause_with(
-    alloc: Global,
-    datagram: &[u8],
-    changes: &[(usize, u8)],
-    end: &[u8],
-) -> Result<Option<DropCause>, Fail> {
-    let mut other = datagram.to_vec(alloc)?;
-    for (place, octet) in changes {
-        if let Some(found) = other.get_mut(*place) {
-            *found = *octet;
-        }
-    }
-    other.extend_from_slice(end)?;
-    Ok(decode(alloc, &other).err())
-}
-
 #[test]
-fn growth_excuses_no_later_fault(rt: HostRuntime) -> Result<(), Fail> {
-    let rows: [(&[u8], &[(usize, u8)], &[u8], Option<DropCause>); 6] = [
+fn names_the_first_fault(rt: HostRuntime) -> Result<(), Fail> {
+    let rows: [(&[u8], &[(usize, u8)], &[u8], Option<DropCause>); 8] = [
+        // another version, and behind it another kind
+        (
+            &GET,
+            &[(4, 0), (13, 0xa6)],
+            &[],
+            Some(DropCause::BadVersion),
+        ),
+        // an octet behind the message
+        (&GET, &[], &[0], Some(DropCause::Malformed)),
         (&TWO_NAMES, &[], &[], None),
         // behind a community of 25 octets the tag of a Response, and a PDU past the end
         (
@@ -160,6 +70,48 @@ fn growth_excuses_no_later_fault(rt: HostRuntime) -> Result<(), Fail> {
     ];
     for (datagram, changes, end, cause) in rows {
         assert_eq!(rt; cause_with(rt.alloc(), datagram, changes, end)?, cause);
+    }
+    Ok(())
+}
+
+#[test]
+fn refuses_each_front(rt: HostRuntime) {
+    for len in 0..GET.len() {
+        assert_eq!(rt;
+            decode(rt.alloc(), &GET[..len]).err(),
+            Some(DropCause::Malformed),
+            "{len} octets"
+        );
+    }
+}
+
+#[test]
+fn refuses_2049_octets(rt: HostRuntime) {
+    for (datagram, cause) in [
+        ([0; 2048].as_slice(), DropCause::Malformed),
+        ([0; 2049].as_slice(), DropCause::TooLong),
+    ] {
+        assert_eq!(rt; decode(rt.alloc(), datagram).err(), Some(cause));
+    }
+}
+
+#[test]
+fn refuses_values_of_wrong_content(rt: HostRuntime) -> Result<(), Fail> {
+    let rows = [
+        // an IpAddress of 3 octets and of 5
+        (SET_GAUGE32.as_slice(), 0x40),
+        (SET_COUNTER32.as_slice(), 0x40),
+        // NULL and the exceptions with content
+        (SET_INTEGER.as_slice(), 0x05),
+        (SET_INTEGER.as_slice(), 0x80),
+        (SET_INTEGER.as_slice(), 0x81),
+        (SET_INTEGER.as_slice(), 0x82),
+        // a tag of no value
+        (SET_INTEGER.as_slice(), 0x45),
+    ];
+    for (set, tag) in rows {
+        let cause = cause_with(rt.alloc(), set, &[(37, tag)], &[])?;
+        assert_eq!(rt; cause, Some(DropCause::Malformed), "tag {tag}");
     }
     Ok(())
 }

@@ -26,32 +26,16 @@ fn echoed(
 }
 
 #[test]
-fn writes_each_type_as_others_do(rt: HostRuntime) -> Result<(), Fail> {
-    let mut buffer = [0; 1472];
-    let len = echoed(rt.alloc(), &ALL_TYPES, ErrorStatus::NoError, 0, &mut buffer)?;
-    assert_eq!(rt; buffer.get(..len), Some(ALL_TYPES.as_slice()));
-    Ok(())
-}
-
-#[test]
-fn writes_exceptions_as_others_do(rt: HostRuntime) -> Result<(), Fail> {
-    let mut buffer = [0; 1472];
-    let len = echoed(
-        rt.alloc(),
-        &EXCEPTIONS,
-        ErrorStatus::NoError,
-        0,
-        &mut buffer,
-    )?;
-    assert_eq!(rt; buffer.get(..len), Some(EXCEPTIONS.as_slice()));
-    Ok(())
-}
-
-#[test]
-fn writes_errors_as_others_do(rt: HostRuntime) -> Result<(), Fail> {
-    let mut buffer = [0; 1472];
-    let len = echoed(rt.alloc(), &ERROR, ErrorStatus::NotWritable, 1, &mut buffer)?;
-    assert_eq!(rt; buffer.get(..len), Some(ERROR.as_slice()));
+fn writes_as_others_do(rt: HostRuntime) -> Result<(), Fail> {
+    for (response, status, index) in [
+        (ALL_TYPES.as_slice(), ErrorStatus::NoError, 0),
+        (EXCEPTIONS.as_slice(), ErrorStatus::NoError, 0),
+        (ERROR.as_slice(), ErrorStatus::NotWritable, 1),
+    ] {
+        let mut buffer = [0; 1472];
+        let len = echoed(rt.alloc(), response, status, index, &mut buffer)?;
+        assert_eq!(rt; buffer.get(..len), Some(response));
+    }
     Ok(())
 }
 

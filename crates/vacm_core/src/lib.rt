@@ -50,6 +50,3 @@ pub use text::{Octets, Text};
 pub use vacm::Vacm;
 pub use verdict::{Ask, FamilyAnswer, Verdict, ViewType};
 pub use written::{VacmRows, WrittenAccess, WrittenFamily, WrittenGroup};
-
-#[cfg(test)]
-mod tests;
