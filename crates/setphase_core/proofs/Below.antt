@@ -37,13 +37,13 @@ order_tells x y = elim (leb_tells (suc x) y) [
 lt_back : (x y : ℕ) → IsLess x y → nat_lt y x ≡ false
 lt_back x y h = let less : x < y = h.less in grind (arith, nat_tests, less)
 
-eq_back : (x y : ℕ) → IsLess x y → nat_eq y x ≡ false
+pub eq_back : (x y : ℕ) → IsLess x y → nat_eq y x ≡ false
 eq_back x y h = let less : x < y = h.less in grind (arith, nat_tests, less)
 
 lt_back_same : (x y : ℕ) → IsSame x y → nat_lt y x ≡ false
 lt_back_same x y h = let same : x ≡ y = h.same in grind (arith, nat_tests, same)
 
-eq_back_same : (x y : ℕ) → IsSame x y → nat_eq y x ≡ true
+pub eq_back_same : (x y : ℕ) → IsSame x y → nat_eq y x ≡ true
 eq_back_same x y h = let same : x ≡ y = h.same in grind (arith, nat_tests, same)
 
 pub less_then : (x y z : ℕ) → IsLess x y → IsLess y z → IsLess x z
@@ -69,7 +69,7 @@ below_from (x ∷ p) (y ∷ q) h k = elim (order_tells x y) [
 ]
 
 -- what one below the other says of the first numbers
-below_tells : (x y : ℕ) (p q : List ℕ) → is_below (x ∷ p) (y ∷ q) ≡ true → IsLess x y ⊎ (IsSame x y × (is_below p q ≡ true))
+pub below_tells : (x y : ℕ) (p q : List ℕ) → is_below (x ∷ p) (y ∷ q) ≡ true → IsLess x y ⊎ (IsSame x y × (is_below p q ≡ true))
 below_tells x y p q h = elim (order_tells x y) [
   | inl l ↦ inl l
   | inr (inl s) ↦ inr (s, rw (s.lt, s.eq) at h)

@@ -7,7 +7,7 @@ use Rattle.message_core.specs.declared.binding.Binding.{Binding}
 use Rattle.message_core.specs.declared.value.Value.{Value}
 use Rattle.message_core.specs.Instances.{value_of}
 use Rattle.setphase_core.specs.declared.world.World.{World}
-use Rattle.setphase_core.specs.Shown.{Shown, value_at}
+use Rattle.setphase_core.specs.Values.{IndexedValue, value_at}
 use Rattle.setphase_core.specs.Columns.{shown_by}
 use Rattle.setphase_core.specs.Objects.{ObjectRow}
 use Rattle.setphase_core.specs.Registry.{prefixes_of, under, instances_under, instances}
@@ -41,14 +41,14 @@ name_eq-prefix (x ∷ p) e (y ∷ n) = elim (nat_eq x y) as (λ b. cond b (name_
   | false ↦ refl
 ]
 
-value_of-under : (p n : List ℕ) (shown : List Shown) → value_of (map (under p) shown) n ≡ cond (is_prefix p n) (value_at shown (drop (length p) n)) None
+value_of-under : (p n : List ℕ) (shown : List IndexedValue) → value_of (map (under p) shown) n ≡ cond (is_prefix p n) (value_at shown (drop (length p) n)) None
 value_of-under p n [] = elim (is_prefix p n) as (λ b. ◌≡◌ {A = Option Value} None (cond b None None)) [ true ↦ refl | false ↦ refl ]
 value_of-under p n (s ∷ shown) =
     ap (λ b. cond b (Some s.value) (value_of (map (under p) shown) n)) (name_eq-prefix p s.index n)
     ∙ ap (λ r. cond (cond (is_prefix p n) (name_eq s.index (drop (length p) n)) false) (Some s.value) r) (value_of-under p n shown)
     ∙ split (is_prefix p n) (name_eq s.index (drop (length p) n)) (find (λ t. name_eq t.index (drop (length p) n)) shown)
   where
-    split : (a b : Bool) (x : Option Shown) → cond (cond a b false) (Some s.value) (cond a (option_map (λ t. t.value) x) None) ≡ cond a (option_map (λ t. t.value) (cond b (Some s) x)) None
+    split : (a b : Bool) (x : Option IndexedValue) → cond (cond a b false) (Some s.value) (cond a (option_map (λ t. t.value) x) None) ≡ cond a (option_map (λ t. t.value) (cond b (Some s) x)) None
     split true true x = refl
     split true false x = refl
     split false b x = refl

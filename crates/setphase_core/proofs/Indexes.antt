@@ -1,15 +1,15 @@
 -- What stands under the index of a scalar, and under that of a port; and which comes next.
 use Rattle.std.proofs.Common.{◌≡◌, ◌≢◌, ℕ, zero, suc, ◌+◌, ◌<◌, ◌≤◌, Bool, true, false, cond, nat_eq, nat_lt, List, [], ◌∷◌, map, find, refl, sym, ap, ◌∙◌, arith, Option, Some, None, option_map, ◌⊎◌, inl, inr, length, get_or}
+use Rattle.std.specs.Prelude.{slice_get, unwrap_or}
 use Rattle.std.proofs.lemmas.Bool.Decides.{eqb_tells, nat_tests}
 use Rattle.oid_core.specs.Order.{name_lt, name_eq}
 use Rattle.message_core.specs.declared.value.Value.{Value}
-use Rattle.setphase_core.specs.Searching.{first_number}
-use Rattle.setphase_core.specs.Shown.{Shown, scalar, by_port, numbers_from, value_at, index_after}
+use Rattle.setphase_core.specs.Values.{IndexedValue, scalar, by_port, numbers_from, value_at, index_after}
 
 pub scalar_value : (b : Bool) (at : List ℕ) (v : Value) → b ≡ name_eq (0 ∷ []) at → value_at (scalar v) at ≡ cond b (Some v) None
-scalar_value b at v e = ap (λ c. option_map (λ (s : Shown). s.value) (cond c (Some (record { index = 0 ∷ []; value = v })) None)) (sym e) ∙ pick b
+scalar_value b at v e = ap (λ c. option_map (λ (s : IndexedValue). s.value) (cond c (Some (record { index = 0 ∷ []; value = v })) None)) (sym e) ∙ pick b
   where
-    pick : (c : Bool) → option_map (λ (s : Shown). s.value) (cond c (Some (record { index = 0 ∷ []; value = v })) None) ≡ cond c (Some v) None
+    pick : (c : Bool) → option_map (λ (s : IndexedValue). s.value) (cond c (Some (record { index = 0 ∷ []; value = v })) None) ≡ cond c (Some v) None
     pick true = refl
     pick false = refl
 
@@ -17,7 +17,7 @@ pub scalar_last : (x : ℕ) (more : List ℕ) (v : Value) → None ≡ index_aft
 scalar_last x more v =
     let lt : nat_lt x 0 ≡ false = grind (arith, nat_tests) in
     let not : name_lt (x ∷ more) (0 ∷ []) ≡ false = rw lt (pick (nat_eq x 0)) in
-    sym (ap (λ b. option_map (λ (s : Shown). s.index) (cond b (Some (record { index = 0 ∷ []; value = v })) None)) not)
+    sym (ap (λ b. option_map (λ (s : IndexedValue). s.index) (cond b (Some (record { index = 0 ∷ []; value = v })) None)) not)
   where
     pick : (b : Bool) → cond b false false ≡ false
     pick true = refl
@@ -25,7 +25,7 @@ scalar_last x more v =
 
 -- ---- ports
 
-abbrev row_of : (ℕ → Value) → ℕ → Shown
+abbrev row_of : (ℕ → Value) → ℕ → IndexedValue
 row_of f n = record { index = n ∷ []; value = f n }
 
 none_eq : (at : List ℕ) (first count : ℕ) (f : ℕ → Value) → ((n : ℕ) → first ≤ n → n < first + count → name_eq (n ∷ []) at ≡ false) → find (λ s. name_eq s.index at) (map (row_of f) (numbers_from first count)) ≡ None
@@ -113,6 +113,10 @@ no_port f (Some a) = refl
 from_first : (ports : ℕ) (f : ℕ → Value) → 0 < ports → (index_after (by_port ports f) None ≡ Some (1 ∷ [])) × (index_after (by_port ports f) (Some []) ≡ Some (1 ∷ []))
 from_first zero f h = absurd (omega (arith, h))
 from_first (suc ports) f h = (refl, refl)
+
+-- the first number of an index, or 0 where there is none
+abbrev first_number : Option (List ℕ) → ℕ
+first_number after = unwrap_or (slice_get (unwrap_or after []) 0) 0
 
 pub port_after_is : (ports : ℕ) (f : ℕ → Value) (after : Option (List ℕ)) (last : ℕ) → last ≡ first_number after → last < ports → Some ((last + 1) ∷ []) ≡ index_after (by_port ports f) after
 port_after_is ports f None last e h = ap (λ n. Some ((n + 1) ∷ [])) e ∙ sym (from_first ports f (omega (arith, h))).0

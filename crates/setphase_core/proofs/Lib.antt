@@ -10,3 +10,4 @@ pub mod Rising
 pub mod Served
 pub mod Indexes
 pub mod Opened
+pub mod InUse

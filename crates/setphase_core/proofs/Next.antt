@@ -1,6 +1,7 @@
 -- The first instance behind a name, object by object.
 use Rattle.std.proofs.Common.{◌≡◌, ℕ, zero, suc, ◌+◌, ◌<◌, ◌≤◌, Bool, true, false, cond, nat_eq, nat_lt, List, [], ◌∷◌, ◌++◌, map, length, drop, find, refl, sym, ap, subst, ◌∙◌, arith, Option, Some, None, option_map, inl, inr, length-append, IfSome}
 use Rattle.std.specs.Option.{option_or}
+use Rattle.std.proofs.lemmas.List.{append_cancel_left}
 use Rattle.std.proofs.lemmas.List.Folds.{find-append}
 use Rattle.std.proofs.lemmas.Bool.Decides.{eqb_tells, nat_tests}
 use Rattle.oid_core.specs.Order.{name_lt, name_eq, is_prefix}
@@ -9,11 +10,11 @@ use Rattle.message_core.specs.declared.binding.Binding.{Binding}
 use Rattle.message_core.specs.declared.value.Value.{Value}
 use Rattle.message_core.specs.Instances.{next_of}
 use Rattle.setphase_core.specs.declared.world.World.{World}
-use Rattle.setphase_core.specs.Shown.{Shown, value_at, shown_after}
+use Rattle.setphase_core.specs.Values.{IndexedValue, value_at, first_after, index_after}
 use Rattle.setphase_core.specs.Columns.{shown_by}
 use Rattle.setphase_core.specs.Objects.{ObjectRow}
 use Rattle.setphase_core.specs.Registry.{prefixes_of, under, instances_under, instances}
-use Rattle.setphase_core.specs.Searching.{prefix_at, shown_behind, index_behind}
+use Rattle.setphase_core.specs.Searching.{prefix_at}
 use Rattle.setphase_core.proofs.Found.{instances-cons, instances-nil}
 
 name_lt-prefix : (p e n : List ℕ) → name_lt n (p ++ e) ≡ cond (is_prefix p n) (name_lt (drop (length p) n) e) (name_lt n p)
@@ -29,9 +30,9 @@ name_lt-prefix (x ∷ p) e (y ∷ n) = elim (eqb_tells x y) [
       rw (s.0, same) refl
 ]
 
-next-under : (p n : List ℕ) (shown : List Shown) →
+next-under : (p n : List ℕ) (shown : List IndexedValue) →
     next_of (map (under p) shown) n
-    ≡ option_map (under p) (cond (is_prefix p n) (shown_after shown (Some (drop (length p) n))) (cond (name_lt n p) (shown_after shown None) None))
+    ≡ option_map (under p) (cond (is_prefix p n) (first_after shown (Some (drop (length p) n))) (cond (name_lt n p) (first_after shown None) None))
 next-under p n [] = elim (is_prefix p n) as (λ b. ◌≡◌ {A = Option Binding} None (option_map (under p) (cond b None (cond (name_lt n p) None None)))) [
   | true ↦ refl
   | false ↦ elim (name_lt n p) as (λ b. ◌≡◌ {A = Option Binding} None (option_map (under p) (cond b None None))) [ true ↦ refl | false ↦ refl ]
@@ -39,9 +40,9 @@ next-under p n [] = elim (is_prefix p n) as (λ b. ◌≡◌ {A = Option Binding
 next-under p n (s ∷ shown) =
     ap (λ b. cond b (Some (under p s)) (next_of (map (under p) shown) n)) (name_lt-prefix p s.index n)
     ∙ ap (λ r. cond (cond (is_prefix p n) (name_lt (drop (length p) n) s.index) (name_lt n p)) (Some (under p s)) r) (next-under p n shown)
-    ∙ split (is_prefix p n) (name_lt n p) (name_lt (drop (length p) n) s.index) (find (λ t. name_lt (drop (length p) n) t.index) shown) (shown_after shown None)
+    ∙ split (is_prefix p n) (name_lt n p) (name_lt (drop (length p) n) s.index) (find (λ t. name_lt (drop (length p) n) t.index) shown) (first_after shown None)
   where
-    split : (a b c : Bool) (x y : Option Shown) →
+    split : (a b c : Bool) (x y : Option IndexedValue) →
         cond (cond a c b) (Some (under p s)) (option_map (under p) (cond a x (cond b y None)))
         ≡ option_map (under p) (cond a (cond c (Some s) x) (cond b (Some s) None))
     split true b true x y = refl
@@ -49,12 +50,23 @@ next-under p n (s ∷ shown) =
     split false true c x y = refl
     split false false c x y = refl
 
-pub next_behind : (row : ObjectRow) (w : World) (n : List ℕ) → next_of (instances_under row w) n ≡ option_map (under row.prefix) (shown_behind row w n)
+-- the first value of an object behind a name: behind what follows the object's name, where that
+-- begins the name; the first of all, where the object's name is greater; and else none
+abbrev first_behind : ObjectRow → World → List ℕ → Option IndexedValue
+first_behind row w name =
+    cond (is_prefix row.prefix name) (first_after (shown_by row.column w) (Some (drop (length row.prefix) name)))
+    (cond (name_lt name row.prefix) (first_after (shown_by row.column w) None) None)
+
+-- its index
+abbrev index_behind : ObjectRow → World → List ℕ → Option (List ℕ)
+index_behind row w name = option_map (λ s. s.index) (first_behind row w name)
+
+next_behind : (row : ObjectRow) (w : World) (n : List ℕ) → next_of (instances_under row w) n ≡ option_map (under row.prefix) (first_behind row w n)
 next_behind row w n = next-under row.prefix n (shown_by row.column w)
 
 -- ---- the value of the instance that is found is the one under its index
 
-found_passes : (t : Shown → Bool) (shown : List Shown) (s : Shown) → find t shown ≡ Some s → t s ≡ true
+found_passes : (t : IndexedValue → Bool) (shown : List IndexedValue) (s : IndexedValue) → find t shown ≡ Some s → t s ≡ true
 found_passes t [] s e = absurd (cc)
 found_passes t (x ∷ shown) s e = pick (t x) refl (found_passes t shown s) e
   where
@@ -62,7 +74,7 @@ found_passes t (x ∷ shown) s e = pick (t x) refl (found_passes t shown s) e
     pick true h more f = let same : x ≡ s = cc in ap t (sym same) ∙ h
     pick false h more f = more f
 
-first_of_index : (a : List ℕ) (shown : List Shown) (s : Shown) → find (λ t. name_lt a t.index) shown ≡ Some s → find (λ t. name_eq t.index s.index) shown ≡ Some s
+first_of_index : (a : List ℕ) (shown : List IndexedValue) (s : IndexedValue) → find (λ t. name_lt a t.index) shown ≡ Some s → find (λ t. name_eq t.index s.index) shown ≡ Some s
 first_of_index a [] s e = absurd (cc)
 first_of_index a (x ∷ shown) s e = pick (name_lt a x.index) (name_eq x.index s.index) refl refl (first_of_index a shown s) e
   where
@@ -73,7 +85,7 @@ first_of_index a (x ∷ shown) s e = pick (name_lt a x.index) (name_eq x.index s
     pick true true h k more f = f
     pick true false h k more f =
         let same : x ≡ s = cc in
-        let yes : name_eq x.index s.index ≡ true = ap (λ (t : Shown). name_eq x.index t.index) (sym same) ∙ eq_itself x.index in
+        let yes : name_eq x.index s.index ≡ true = ap (λ (t : IndexedValue). name_eq x.index t.index) (sym same) ∙ eq_itself x.index in
         absurd (cc)
     pick false true h k more f =
         let same : x.index ≡ s.index = eq_same x.index s.index k in
@@ -82,29 +94,21 @@ first_of_index a (x ∷ shown) s e = pick (name_lt a x.index) (name_eq x.index s
         absurd (cc)
     pick false false h k more f = more f
 
-first_of_all : (shown : List Shown) (s : Shown) → shown_after shown None ≡ Some s → find (λ t. name_eq t.index s.index) shown ≡ Some s
+first_of_all : (shown : List IndexedValue) (s : IndexedValue) → first_after shown None ≡ Some s → find (λ t. name_eq t.index s.index) shown ≡ Some s
 first_of_all [] s e = absurd (cc)
 first_of_all (x ∷ shown) s e =
     let same : x ≡ s = cc in
-    let yes : name_eq x.index s.index ≡ true = ap (λ (t : Shown). name_eq x.index t.index) (sym same) ∙ eq_itself x.index in
+    let yes : name_eq x.index s.index ≡ true = ap (λ (t : IndexedValue). name_eq x.index t.index) (sym same) ∙ eq_itself x.index in
     rw yes e
 
-value_behind : (row : ObjectRow) (w : World) (n : List ℕ) (s : Shown) → shown_behind row w n ≡ Some s → value_at (shown_by row.column w) s.index ≡ Some s.value
+value_behind : (row : ObjectRow) (w : World) (n : List ℕ) (s : IndexedValue) → first_behind row w n ≡ Some s → value_at (shown_by row.column w) s.index ≡ Some s.value
 value_behind row w n s e = ap (option_map (λ t. t.value)) (pick (is_prefix row.prefix n) (name_lt n row.prefix) e)
   where
-    pick : (a b : Bool) → cond a (shown_after (shown_by row.column w) (Some (drop (length row.prefix) n))) (cond b (shown_after (shown_by row.column w) None) None) ≡ Some s →
+    pick : (a b : Bool) → cond a (first_after (shown_by row.column w) (Some (drop (length row.prefix) n))) (cond b (first_after (shown_by row.column w) None) None) ≡ Some s →
         find (λ t. name_eq t.index s.index) (shown_by row.column w) ≡ Some s
     pick true b f = first_of_index (drop (length row.prefix) n) (shown_by row.column w) s f
     pick false true f = first_of_all (shown_by row.column w) s f
     pick false false f = absurd (cc)
-
--- an index is found, or none
-pub none_behind : (row : ObjectRow) (w : World) (n : List ℕ) → None ≡ index_behind row w n → None ≡ next_of (instances_under row w) n
-none_behind row w n e = sym (next_behind row w n ∙ pick (shown_behind row w n) e)
-  where
-    pick : (x : Option Shown) → None ≡ option_map (λ s. s.index) x → option_map (under row.prefix) x ≡ None
-    pick None f = refl
-    pick (Some s) f = absurd (cc)
 
 -- the instance that is found
 pub record IsBehind (row : ObjectRow) (w : World) (n index : List ℕ) : Type 0 where
@@ -112,10 +116,10 @@ pub record IsBehind (row : ObjectRow) (w : World) (n index : List ℕ) : Type 0 
   pub at : value_at (shown_by row.column w) index ≡ Some value
   pub next : next_of (instances_under row w) n ≡ Some (record { name = row.prefix ++ index; value = value })
 
-pub some_behind : (row : ObjectRow) (w : World) (n index : List ℕ) → Some index ≡ index_behind row w n → IsBehind row w n index
-some_behind row w n index e = pick (shown_behind row w n) refl e
+some_behind : (row : ObjectRow) (w : World) (n index : List ℕ) → Some index ≡ index_behind row w n → IsBehind row w n index
+some_behind row w n index e = pick (first_behind row w n) refl e
   where
-    pick : (x : Option Shown) → shown_behind row w n ≡ x → Some index ≡ option_map (λ s. s.index) x → IsBehind row w n index
+    pick : (x : Option IndexedValue) → first_behind row w n ≡ x → Some index ≡ option_map (λ s. s.index) x → IsBehind row w n index
     pick None g f = absurd (cc)
     pick (Some s) g f =
         let same : s.index ≡ index = cc in
@@ -124,6 +128,43 @@ some_behind row w n index e = pick (shown_behind row w n) refl e
           at = ap (value_at (shown_by row.column w)) (sym same) ∙ value_behind row w n s g;
           next = next_behind row w n ∙ ap (option_map (under row.prefix)) g ∙ ap (λ (i : List ℕ). Some (record { name = row.prefix ++ i; value = s.value })) same;
         }
+
+-- ---- an object's answer, by the whole name
+
+whole_name : {I : Type 0} (items : I → List ℕ) (row : ObjectRow) (w : World) (n : List ℕ) (found : Option I) → option_map items found ≡ index_behind row w n →
+    option_map (λ i. row.prefix ++ items i) found ≡ option_map (λ b. b.name) (next_of (instances_under row w) n)
+whole_name {I = I} items row w n found e = whole found (first_behind row w n) e ∙ sym (ap (option_map (λ b. b.name)) (next_behind row w n))
+  where
+    whole : (x : Option I) (y : Option IndexedValue) → option_map items x ≡ option_map (λ s. s.index) y → option_map (λ i. row.prefix ++ items i) x ≡ option_map (λ b. b.name) (option_map (under row.prefix) y)
+    whole None None f = refl
+    whole None (Some s) f = absurd (cc)
+    whole (Some i) None f = absurd (cc)
+    whole (Some i) (Some s) f = let same : items i ≡ s.index = cc in ap (λ (index : List ℕ). Some (row.prefix ++ index)) same
+
+pub name_begun : {I : Type 0} (items : I → List ℕ) (row : ObjectRow) (w : World) (n : List ℕ) (found : Option I) → is_prefix row.prefix n ≡ true →
+    option_map items found ≡ index_after (shown_by row.column w) (Some (drop (length row.prefix) n)) →
+    option_map (λ i. row.prefix ++ items i) found ≡ option_map (λ b. b.name) (next_of (instances_under row w) n)
+name_begun items row w n found h e = whole_name items row w n found (rw h e)
+
+pub name_before : {I : Type 0} (items : I → List ℕ) (row : ObjectRow) (w : World) (n : List ℕ) (found : Option I) → is_prefix row.prefix n ≡ false → name_lt n row.prefix ≡ true →
+    option_map items found ≡ index_after (shown_by row.column w) None →
+    option_map (λ i. row.prefix ++ items i) found ≡ option_map (λ b. b.name) (next_of (instances_under row w) n)
+name_before items row w n found h k e = whole_name items row w n found (rw (h, k) e)
+
+-- what that says of the instance
+pub named_some : (row : ObjectRow) (w : World) (n index : List ℕ) → Some (row.prefix ++ index) ≡ option_map (λ b. b.name) (next_of (instances_under row w) n) → IsBehind row w n index
+named_some row w n index e = some_behind row w n index (pick (first_behind row w n) (e ∙ ap (option_map (λ b. b.name)) (next_behind row w n)))
+  where
+    pick : (x : Option IndexedValue) → Some (row.prefix ++ index) ≡ option_map (λ b. b.name) (option_map (under row.prefix) x) → Some index ≡ option_map (λ s. s.index) x
+    pick None f = absurd (cc)
+    pick (Some s) f = let whole : row.prefix ++ index ≡ row.prefix ++ s.index = cc in ap Some (append_cancel_left row.prefix index s.index whole)
+
+pub named_none : (row : ObjectRow) (w : World) (n : List ℕ) → None ≡ option_map (λ b. b.name) (next_of (instances_under row w) n) → None ≡ next_of (instances_under row w) n
+named_none row w n e = pick (next_of (instances_under row w) n) e
+  where
+    pick : (x : Option Binding) → None ≡ option_map (λ b. b.name) x → None ≡ x
+    pick None f = refl
+    pick (Some b) f = absurd (cc)
 
 -- ---- several objects
 
@@ -135,10 +176,14 @@ pub next_past : (row : ObjectRow) (w : World) (n : List ℕ) → is_prefix row.p
 next_past row w n h k = next_behind row w n ∙ ap (option_map (under row.prefix)) (neither (is_prefix row.prefix n) (name_lt n row.prefix) h k)
   where
     neither : (a b : Bool) → a ≡ false → b ≡ false →
-        cond a (shown_after (shown_by row.column w) (Some (drop (length row.prefix) n))) (cond b (shown_after (shown_by row.column w) None) None) ≡ None
+        cond a (first_after (shown_by row.column w) (Some (drop (length row.prefix) n))) (cond b (first_after (shown_by row.column w) None) None) ≡ None
     neither true b e f = absurd (cc)
     neither false true e f = absurd (cc)
     neither false false e f = refl
+
+-- so such an object has no index there
+pub name_nowhere : (row : ObjectRow) (w : World) (n : List ℕ) → is_prefix row.prefix n ≡ false → name_lt n row.prefix ≡ false → None ≡ option_map (λ b. b.name) (next_of (instances_under row w) n)
+name_nowhere row w n h k = sym (ap (option_map (λ b. b.name)) (next_past row w n h k))
 
 pub next_drop : (rows : List ObjectRow) (w : World) (n : List ℕ) (s : ℕ) → ((k : ℕ) → k < s → is_prefix (prefix_at (prefixes_of rows) k) n ≡ false) → ((k : ℕ) → k < s → name_lt n (prefix_at (prefixes_of rows) k) ≡ false) → s ≤ length rows →
     next_of (instances (drop s rows) w) n ≡ next_of (instances rows w) n

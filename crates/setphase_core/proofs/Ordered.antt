@@ -1,12 +1,14 @@
 -- Names of objects that rise and do not begin one another: from neighbours to any two.
-use Rattle.std.proofs.Common.{◌≡◌, ℕ, zero, suc, ◌<◌, Bool, true, false, cond, List, [], ◌∷◌, length, refl, arith, Option, Some, None}
+use Rattle.std.proofs.Common.{◌≡◌, ℕ, zero, suc, ◌<◌, Bool, true, false, cond, List, [], ◌∷◌, length, nat_eq, refl, arith, Option, Some, None, IsTrue, inl, inr}
 use Rattle.std.specs.List.{AllByRecursion}
 use Rattle.oid_core.specs.Order.{name_lt, is_prefix}
 use Rattle.setphase_core.specs.declared.registry.RegistryFault.TheVariants.{Unsorted, Nested}
 use Rattle.setphase_core.specs.Objects.{ObjectRow}
-use Rattle.setphase_core.specs.Registry.{prefixes_of, first_fault}
+use Rattle.setphase_core.specs.Registry.{prefixes_of, first_fault, is_apart, AreApart}
 use Rattle.setphase_core.specs.Searching.{prefix_at}
-use Rattle.setphase_core.proofs.Below.{is_below, below_from, below_then}
+use Rattle.setphase_core.proofs.Below.{is_below, below_from, below_then, below_tells, eq_back, eq_back_same}
+use Rattle.std.proofs.lemmas.List.Kept.{AllPairs-cons}
+use Rattle.std.proofs.lemmas.List.Elements.{All-from_recursion}
 
 -- each is below all later ones
 abbrev pub AreOrdered : List (List ℕ) → Type 0
@@ -30,6 +32,29 @@ ordered_from (row ∷ next ∷ rows) e =
     let below : is_below row.prefix next.prefix ≡ true = below_from row.prefix next.prefix a.0 b.0 in
     let others : AreOrdered (prefixes_of (next ∷ rows)) = ordered_from (next ∷ rows) b.1 in
     ((below, all_above row.prefix next.prefix (prefixes_of rows) below others.0), others)
+
+-- ---- none begins another
+
+below_apart : (p q : List ℕ) → is_below p q ≡ true → is_apart p q ≡ true
+below_apart [] q h = absurd (cc)
+below_apart (x ∷ p) [] h = absurd (cc)
+below_apart (x ∷ p) (y ∷ q) h = elim (below_tells x y p q h) [
+  | inl l ↦ let eq : nat_eq y x ≡ false = eq_back x y l in rw (l.eq, eq) refl
+  | inr s ↦ let eq : nat_eq y x ≡ true = eq_back_same x y s.0 in rw (s.0.eq, eq) (below_apart p q s.1)
+]
+
+apart_all : (p : List ℕ) (ps : List (List ℕ)) → AllByRecursion (λ q. is_below p q ≡ true) ps → AllByRecursion (λ q. is_apart p q ≡ true) ps
+apart_all p [] h = tt
+apart_all p (q ∷ ps) h = (below_apart p q h.0, apart_all p ps h.1)
+
+ordered_apart : (ps : List (List ℕ)) → AreOrdered ps → AreApart ps
+ordered_apart [] h = λ i j d lt within. absurd (omega (arith, within))
+ordered_apart (p ∷ ps) h = AllPairs-cons (λ (a b : List ℕ). IsTrue (is_apart a b)) p ps (All-from_recursion (λ q. is_apart p q ≡ true) ps (apart_all p ps h.0)) (ordered_apart ps h.1)
+
+pub names_apart : (rows : List ObjectRow) → first_fault rows ≡ None → AreApart (prefixes_of rows)
+names_apart rows e = ordered_apart (prefixes_of rows) (ordered_from rows e)
+
+-- ---- places
 
 below_at : (p : List ℕ) (ps : List (List ℕ)) (k : ℕ) → AllByRecursion (λ q. is_below p q ≡ true) ps → k < length ps → is_below p (prefix_at ps k) ≡ true
 below_at p [] k h lt = absurd (omega arith)

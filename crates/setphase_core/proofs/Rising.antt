@@ -19,7 +19,7 @@ use Rattle.setphase_core.specs.declared.world.World.{World}
 use Rattle.setphase_core.specs.declared.column.Column.{Column}
 use Rattle.setphase_core.specs.declared.column.Column.TheVariants as column
 use Rattle.message_core.specs.declared.value.Value.{Value}
-use Rattle.setphase_core.specs.Shown.{Shown, numbers_from, by_address}
+use Rattle.setphase_core.specs.Values.{IndexedValue, numbers_from, by_address}
 use Rattle.setphase_core.specs.Columns.{shown_by}
 use Rattle.setphase_core.specs.Objects.{ObjectRow}
 use Rattle.setphase_core.specs.Registry.{prefixes_of, first_fault, under, instances_under, instances}
@@ -35,7 +35,7 @@ abbrev Rises : List Binding → Type 0
 Rises [] = Unit {0}
 Rises (x ∷ xs) = IsBelowAll x.name xs × Rises xs
 
-abbrev Climbs : List Shown → Type 0
+abbrev Climbs : List IndexedValue → Type 0
 Climbs [] = Unit {0}
 Climbs (s ∷ shown) = AllByRecursion (λ t. name_lt s.index t.index ≡ true) shown × Climbs shown
 
@@ -60,11 +60,11 @@ same_prefix (x ∷ p) a b =
     let eq : nat_eq x x ≡ true = grind (arith, nat_tests) in
     rw (lt, eq) (same_prefix p a b)
 
-below_under : (p i : List ℕ) (shown : List Shown) → AllByRecursion (λ t. name_lt i t.index ≡ true) shown → IsBelowAll (p ++ i) (map (under p) shown)
+below_under : (p i : List ℕ) (shown : List IndexedValue) → AllByRecursion (λ t. name_lt i t.index ≡ true) shown → IsBelowAll (p ++ i) (map (under p) shown)
 below_under p i [] h = tt
 below_under p i (t ∷ shown) h = (same_prefix p i t.index ∙ h.0, below_under p i shown h.1)
 
-rises_under : (p : List ℕ) (shown : List Shown) → Climbs shown → Rises (map (under p) shown)
+rises_under : (p : List ℕ) (shown : List IndexedValue) → Climbs shown → Rises (map (under p) shown)
 rises_under p [] h = tt
 rises_under p (s ∷ shown) h = (below_under p s.index shown h.0, rises_under p shown h.1)
 
@@ -72,7 +72,7 @@ number_lt : (m n : ℕ) → m < n → name_lt (m ∷ []) (n ∷ []) ≡ true
 number_lt m n h = let lt : nat_lt m n ≡ true = grind (arith, nat_tests, h) in rw lt refl
 
 below_ports : (m first count : ℕ) (f : ℕ → Value) → m < first →
-    AllByRecursion (λ (t : Shown). name_lt (m ∷ []) t.index ≡ true) (map (λ n. record { index = n ∷ []; value = f n }) (numbers_from first count))
+    AllByRecursion (λ (t : IndexedValue). name_lt (m ∷ []) t.index ≡ true) (map (λ n. record { index = n ∷ []; value = f n }) (numbers_from first count))
 below_ports m first zero f h = tt
 below_ports m first (suc count) f h = (number_lt m first h, below_ports m (first + 1) count f (omega (arith, h)))
 
@@ -81,7 +81,7 @@ ports_climb first zero f = tt
 ports_climb first (suc count) f = (below_ports first (first + 1) count f (omega arith), ports_climb (first + 1) count f)
 
 below_addresses : (r : Row) (rows : List Row) (f : Row → Value) → AllByRecursion (λ s. mac_cmp r.address s.address ≡ Less) rows →
-    AllByRecursion (λ (t : Shown). name_lt r.address.0 t.index ≡ true) (by_address rows f)
+    AllByRecursion (λ (t : IndexedValue). name_lt r.address.0 t.index ≡ true) (by_address rows f)
 below_addresses r [] f h = tt
 below_addresses r (s ∷ rows) f h = (sym (name_lt-cmp r.address.0 s.address.0 Less (sym h.0)), below_addresses r rows f h.1)
 
@@ -106,7 +106,7 @@ climbs (column.TpPort c) w h = ports_climb 1 (port_count w.bridge) _
 
 -- ---- several objects
 
-below_shown : (p i q : List ℕ) (shown : List Shown) → is_below p q ≡ true → IsBelowAll (p ++ i) (map (under q) shown)
+below_shown : (p i q : List ℕ) (shown : List IndexedValue) → is_below p q ≡ true → IsBelowAll (p ++ i) (map (under q) shown)
 below_shown p i q [] h = tt
 below_shown p i q (s ∷ shown) h = (below_lt p q i s.index h, below_shown p i q shown h)
 
@@ -116,7 +116,7 @@ below_others p i (row ∷ rows) w h =
     subst (IsBelowAll (p ++ i)) (sym (instances-cons row rows w))
     (all_append (λ y. name_lt (p ++ i) y.name ≡ true) (instances_under row w) (instances rows w) (below_shown p i row.prefix (shown_by row.column w) h.0) (below_others p i rows w h.1))
 
-all_below_others : (p : List ℕ) (shown : List Shown) (rows : List ObjectRow) (w : World) → AllByRecursion (λ q. is_below p q ≡ true) (prefixes_of rows) →
+all_below_others : (p : List ℕ) (shown : List IndexedValue) (rows : List ObjectRow) (w : World) → AllByRecursion (λ q. is_below p q ≡ true) (prefixes_of rows) →
     AllByRecursion (λ x. IsBelowAll x.name (instances rows w)) (map (under p) shown)
 all_below_others p [] rows w h = tt
 all_below_others p (s ∷ shown) rows w h = (below_others p s.index rows w h, all_below_others p shown rows w h)

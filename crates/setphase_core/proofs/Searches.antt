@@ -1,9 +1,9 @@
--- The binary search for the place behind a name, and how many turns it takes.
-use Rattle.std.proofs.Common.{◌≡◌, ℕ, zero, suc, ◌+◌, ◌-◌, ◌*◌, ◌/◌, ◌^◌, ◌<◌, ◌≤◌, Bool, true, false, List, [], ◌∷◌, length, refl, ap, subst, ◌∙◌, arith, Some, None, inl, inr, add-one, find}
+-- The binary search for the place of a name, and how many turns it takes.
+use Rattle.std.proofs.Common.{◌≡◌, ℕ, zero, suc, ◌+◌, ◌-◌, ◌*◌, ◌/◌, ◌^◌, ◌<◌, ◌≤◌, Bool, true, false, List, [], ◌∷◌, length, refl, ap, subst, ◌∙◌, arith, Some, None, Err, inl, inr, add-one, find}
 use Rattle.std.proofs.Math.Nat.{mul-le-mul_left, pow-succ'}
 use Rattle.oid_core.specs.Order.{name_lt, is_prefix}
 use Rattle.oid_core.proofs.OrderLaws.{name_lt-trans}
-use Rattle.setphase_core.specs.Searching.{prefix_at, IsPlaceBehind, IsOwnerPlace}
+use Rattle.setphase_core.specs.Searching.{prefix_at, IsPlaceBehind, IsOwnerPlace, IsPlace, IsStart}
 use Rattle.setphase_core.proofs.Below.{begun_lt, begun_not_lt, begun_apart, begun_apart_back, below_itself_lt}
 use Rattle.setphase_core.proofs.Ordered.{AreOrdered, ordered_at}
 use Rattle.std.proofs.lemmas.Bool.Decides.{eqb_tells, leb_tells}
@@ -15,6 +15,7 @@ pub record IsSearched (prefixes : List (List ℕ)) (name : List ℕ) (low high t
   pub within : high ≤ length prefixes
   pub before : (k : ℕ) → k < low → name_lt name (prefix_at prefixes k) ≡ false
   pub behind : (k : ℕ) → high ≤ k → k < length prefixes → name_lt name (prefix_at prefixes k) ≡ true
+  pub apart : 0 < low → is_prefix (prefix_at prefixes (low - 1)) name ≡ false
   pub left : 2 ^ turns * (high - low) ≤ length prefixes
   pub work : 2 ^ turns ≤ 2 * length prefixes + 1
 
@@ -24,6 +25,7 @@ search_begins prefixes name = record {
   within = omega arith;
   before = λ k h. absurd (omega arith);
   behind = λ k h l. absurd (omega arith);
+  apart = λ h. absurd (omega (arith, h));
   left = omega arith;
   work = omega arith;
 }
@@ -64,13 +66,14 @@ search_left prefixes name low high middle turns ordered s lt is below =
       within = omega (arith, under, s.within);
       before = s.before;
       behind = λ k h l. later prefixes name middle k ordered (omega (arith, under, s.within)) h l below;
+      apart = s.apart;
       left = rw (power_more turns) (halved (2 ^ turns) (high - low) (middle - low) (length prefixes) s.left half);
       work = rw (power_more turns) (doubled (2 ^ turns) (high - low) (length prefixes) s.left (omega (arith, lt)));
     }
 
 pub search_right : (prefixes : List (List ℕ)) (name : List ℕ) (low high middle turns : ℕ) → AreOrdered prefixes → IsSearched prefixes name low high turns → low < high →
-    middle ≡ low + (high - low) / 2 → name_lt name (prefix_at prefixes middle) ≡ false → IsSearched prefixes name (middle + 1) high (turns + 1)
-search_right prefixes name low high middle turns ordered s lt is below =
+    middle ≡ low + (high - low) / 2 → name_lt name (prefix_at prefixes middle) ≡ false → is_prefix (prefix_at prefixes middle) name ≡ false → IsSearched prefixes name (middle + 1) high (turns + 1)
+search_right prefixes name low high middle turns ordered s lt is below not_begun =
     let half : 2 * (high - (middle + 1)) ≤ high - low = omega (arith, is) in
     let under : middle < high = omega (arith, is, lt) in
     record {
@@ -78,18 +81,14 @@ search_right prefixes name low high middle turns ordered s lt is below =
       within = s.within;
       before = λ k h. earlier prefixes name middle k _ ordered (omega (arith, under, s.within)) (omega (arith, h)) below refl;
       behind = s.behind;
+      apart = λ h. subst (λ n. is_prefix (prefix_at prefixes n) name ≡ false) (omega arith) not_begun;
       left = rw (power_more turns) (halved (2 ^ turns) (high - low) (high - (middle + 1)) (length prefixes) s.left half);
       work = rw (power_more turns) (doubled (2 ^ turns) (high - low) (length prefixes) s.left (omega (arith, lt)));
     }
 
-pub search_ends : (prefixes : List (List ℕ)) (name : List ℕ) (low high turns : ℕ) → IsSearched prefixes name low high turns → high ≤ low → IsPlaceBehind prefixes name low
-search_ends prefixes name low high turns s h =
-    let same : high ≡ low = omega (arith, h, s.order) in
-    record {
-      within = omega (arith, same, s.within);
-      before = s.before;
-      behind = λ k l m. s.behind k (omega (arith, same, l)) m;
-    }
+-- what a turn that finds the owner has taken
+pub search_found : (prefixes : List (List ℕ)) (name : List ℕ) (low high turns : ℕ) → IsSearched prefixes name low high turns → low < high → 2 ^ (turns + 1) ≤ 2 * length prefixes + 1
+search_found prefixes name low high turns s lt = rw (power_more turns) (doubled (2 ^ turns) (high - low) (length prefixes) s.left (omega (arith, lt)))
 
 -- ---- the owner is in front of that place, or there is none
 
@@ -128,6 +127,32 @@ owner_missing prefixes name place ordered p last k h = elim (leb_tells place k) 
     | inr e ↦ early_not_begun prefixes name place k ordered p (omega (arith, s.1, e.1))
   ]
 ]
+
+pub search_ends : (prefixes : List (List ℕ)) (name : List ℕ) (low high turns : ℕ) → AreOrdered prefixes → IsSearched prefixes name low high turns → high ≤ low → IsPlace prefixes name (Err low)
+search_ends prefixes name low high turns ordered s h =
+    let same : high ≡ low = omega (arith, h, s.order) in
+    let behind : IsPlaceBehind prefixes name low = record {
+      within = omega (arith, same, s.within);
+      before = s.before;
+      behind = λ k l m. s.behind k (omega (arith, same, l)) m;
+    } in
+    (owner_missing prefixes name low ordered behind s.apart, behind)
+
+-- ---- the objects in front of it have nothing behind the name
+
+pub start_found : (prefixes : List (List ℕ)) (name : List ℕ) (place : ℕ) → AreOrdered prefixes → IsOwnerPlace prefixes name (Some place) → IsStart prefixes name place
+start_found prefixes name place ordered h = record {
+  within = omega (arith, h.0);
+  before = λ k lt. earlier prefixes name place k _ ordered h.0 (omega (arith, lt)) (begun_not_lt (prefix_at prefixes place) name h.1) refl;
+  apart = λ k lt. h.2 k (omega (arith, lt, h.0)) (λ e. absurd (omega (arith, e, lt)));
+}
+
+pub start_behind : (prefixes : List (List ℕ)) (name : List ℕ) (place : ℕ) → IsOwnerPlace prefixes name None → IsPlaceBehind prefixes name place → IsStart prefixes name place
+start_behind prefixes name place none p = record {
+  within = p.within;
+  before = p.before;
+  apart = λ k lt. none k (omega (arith, lt, p.within));
+}
 
 -- what the loop keeps
 pub record IsCounted (prefixes : List (List ℕ)) (name : List ℕ) (low high before steps : ℕ) : Type 0 where

@@ -33,7 +33,7 @@ use Rattle.setphase_core.specs.declared.column.TpPort.{TpPort}
 use Rattle.setphase_core.specs.declared.column.TpPort.TheVariants as tp_port
 use Rattle.setphase_core.specs.declared.column.Column.{Column}
 use Rattle.setphase_core.specs.declared.column.Column.TheVariants as column
-use Rattle.setphase_core.specs.Shown.{Shown, by_address, numbers_from}
+use Rattle.setphase_core.specs.Values.{IndexedValue, by_address, numbers_from}
 use Rattle.setphase_core.specs.Columns.{shown_by, base_value, base_port_value, stp_value, stp_port_value, rapid_value, ext_port_value, tp_value, tp_fdb_value, tp_port_value}
 use Rattle.setphase_core.specs.Objects.{ObjectRow}
 use Rattle.setphase_core.specs.Registry.{first_fault, AreNamed, under, instances_under, instances}
@@ -120,11 +120,11 @@ tp_port_served tp_port.InFrames b n = record { encodable = tt; valued = tt }
 tp_port_served tp_port.OutFrames b n = record { encodable = tt; valued = tt }
 tp_port_served tp_port.InDiscards b n = record { encodable = tt; valued = tt }
 
-ports_served : (first count : ℕ) (f : ℕ → Value) → ((n : ℕ) → IsServed (f n)) → AllByRecursion (λ (s : Shown). IsServed s.value) (map (λ n. record { index = n ∷ []; value = f n }) (numbers_from first count))
+ports_served : (first count : ℕ) (f : ℕ → Value) → ((n : ℕ) → IsServed (f n)) → AllByRecursion (λ (s : IndexedValue). IsServed s.value) (map (λ n. record { index = n ∷ []; value = f n }) (numbers_from first count))
 ports_served first zero f h = tt
 ports_served first (suc count) f h = (h first, ports_served (first + 1) count f h)
 
-addresses_served : (rows : List Row) (f : Row → Value) → ((r : Row) → IsServed (f r)) → AllByRecursion (λ (s : Shown). IsServed s.value) (by_address rows f)
+addresses_served : (rows : List Row) (f : Row → Value) → ((r : Row) → IsServed (f r)) → AllByRecursion (λ (s : IndexedValue). IsServed s.value) (by_address rows f)
 addresses_served [] f h = tt
 addresses_served (r ∷ rows) f h = (h r, addresses_served rows f h)
 
@@ -153,7 +153,7 @@ record IsServedBinding (b : Binding) : Type 0 where
   encodable : IsEncodableBinding b
   valued : IsInstanceValue b.value
 
-served_under : (p : List ℕ) (shown : List Shown) → is_prefix (1 ∷ 3 ∷ []) p ≡ true → AllByRecursion (λ s. IsServed s.value) shown → AllByRecursion IsServedBinding (map (under p) shown)
+served_under : (p : List ℕ) (shown : List IndexedValue) → is_prefix (1 ∷ 3 ∷ []) p ≡ true → AllByRecursion (λ s. IsServed s.value) shown → AllByRecursion IsServedBinding (map (under p) shown)
 served_under p [] h k = tt
 served_under p (s ∷ shown) h k = (
   record { encodable = record { name = root_under p s.index h; value = k.0.encodable }; valued = k.0.valued },

@@ -39,7 +39,7 @@ use Rattle.setphase_core.specs.declared.column.TpPort.{TpPort}
 use Rattle.setphase_core.specs.declared.column.TpPort.TheVariants as tp_port
 use Rattle.setphase_core.specs.declared.column.Column.{Column}
 use Rattle.setphase_core.specs.declared.column.Column.TheVariants as column
-use Rattle.setphase_core.specs.Shown.{Shown, scalar, by_port, by_address}
+use Rattle.setphase_core.specs.Values.{IndexedValue, scalar, by_port, by_address}
 
 -- ---- values
 
@@ -224,7 +224,7 @@ tp_port_value tp_port.InDiscards b n = Counter32 (port_facts_of b n).discards_in
 -- ---- all objects
 
 -- What a column shows of a world, by rising index.
-unfoldable pub shown_by : Column → World → List Shown
+unfoldable pub shown_by : Column → World → List IndexedValue
 shown_by (column.Base c) w = scalar (base_value c w.bridge)
 shown_by (column.BasePort c) w = by_port (port_count w.bridge) (base_port_value c w.bridge)
 shown_by (column.Stp c) w = scalar (stp_value c w.bridge)

@@ -1,8 +1,9 @@
 pub mod Settings
-pub mod Shown
+pub mod Values
 pub mod Columns
 pub mod Objects
 pub mod Names
 pub mod Searching
 pub mod Registry
 pub mod Opening
+pub mod InUse

@@ -1,6 +1,6 @@
 -- What contracts see of a list of objects: their rows in order, and the instances that they show
 -- together.
-use Rattle.std.specs.Prelude.{ℕ, ◌+◌, ◌≤◌, if◌then◌else◌, IsTrue, List, [], ◌∷◌, ◌++◌, map, length, find, Option, Some, None, IfSome}
+use Rattle.std.specs.Prelude.{ℕ, ◌+◌, ◌≤◌, Bool, not, ◌&&◌, if◌then◌else◌, IsTrue, AllPairs, List, [], ◌∷◌, ◌++◌, map, length, find, Option, Some, None, IfSome}
 use Rattle.std.specs.List.{AllByRecursion, flat_map}
 use Rattle.oid_core.specs.Order.{name_lt, is_prefix}
 use Rattle.oid_core.specs.declared.limits.TheConstants.{INLINE_NUMBERS, MAX_NUMBERS}
@@ -9,7 +9,7 @@ use Rattle.setphase_core.specs.declared.world.World.{World}
 use Rattle.setphase_core.specs.declared.registry.RegistryFault.{RegistryFault}
 use Rattle.setphase_core.specs.declared.registry.RegistryFault.TheVariants.{Unsorted, Nested}
 use Rattle.setphase_core.specs.declared.limits.TheConstants.{MAX_INDEX}
-use Rattle.setphase_core.specs.Shown.{Shown}
+use Rattle.setphase_core.specs.Values.{IndexedValue}
 use Rattle.setphase_core.specs.Columns.{shown_by}
 use Rattle.setphase_core.specs.Objects.{ObjectRow, ObjectState}
 
@@ -30,6 +30,14 @@ first_fault (row ∷ next ∷ rows) =
     else (if is_prefix row.prefix next.prefix then Some Nested
     else first_fault (next ∷ rows))
 
+-- Neither name begins the other.
+abbrev pub is_apart : List ℕ → List ℕ → Bool
+is_apart a b = not (is_prefix a b) && not (is_prefix b a)
+
+-- No name begins another.
+abbrev pub AreApart : List (List ℕ) → Type 0
+AreApart names = AllPairs (λ a b. IsTrue (is_apart a b)) names
+
 -- The name of an object stands under 1.3, and is one behind which there is room for any index.
 pub record IsNamed (row : ObjectRow) : Type 0 where
   pub root : IsTrue (is_prefix (1 ∷ 3 ∷ []) row.prefix)
@@ -43,7 +51,7 @@ abbrev pub owner_of : List ObjectRow → List ℕ → Option (List ℕ)
 owner_of rows name = find (λ prefix. is_prefix prefix name) (prefixes_of rows)
 
 -- The instances of one object under their whole names.
-abbrev pub under : List ℕ → Shown → Binding
+abbrev pub under : List ℕ → IndexedValue → Binding
 under prefix s = record { name = prefix ++ s.index; value = s.value }
 
 abbrev pub instances_under : ObjectRow → World → List Binding

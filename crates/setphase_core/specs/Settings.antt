@@ -22,8 +22,8 @@ abbrev pub put : World → SettingKey → SettingValue → World
 put w (Bridge k) (Number n) = record w { bridge = set_bridge k n w.bridge }
 
 -- A value that it may have.
-abbrev pub IsSettingRange : SettingKey → SettingValue → Type 0
-IsSettingRange (Bridge k) (Number n) = IsInRange k n
+abbrev pub IsSettingInRange : SettingKey → SettingValue → Type 0
+IsSettingInRange (Bridge k) (Number n) = IsInRange k n
 
 abbrev pub same_setting : SettingKey → SettingKey → Bool
 same_setting (Bridge k) (Bridge l) = same_key k l

@@ -1,9 +1,8 @@
 //! The indexes of scalars and of tables of ports, as the objects that show them read and give them.
-ghost use Rattle.std.specs.Prelude.{◌≡◌, ◌≤◌, ℕ, [], ◌∷◌, if◌then◌else◌, Some, None, IfSome};
+ghost use Rattle.std.specs.Prelude.{◌≡◌, ◌≤◌, ℕ, [], ◌∷◌, if◌then◌else◌, Some, None, IfSome, slice_get, unwrap_or};
 ghost use Rattle.std.specs.Option.{option_copied, option_map};
 ghost use Rattle.message_core.specs.declared.value.Value.{Value as AnyValue};
-ghost use Rattle.setphase_core.specs.Shown.{scalar, by_port, value_at, index_after};
-ghost use Rattle.setphase_core.specs.Searching.{first_number};
+ghost use Rattle.setphase_core.specs.Values.{scalar, by_port, value_at, index_after};
 
 use crate::object::Index;
 use oid_core::same_name;
@@ -50,7 +49,7 @@ pub fn port_at(ports: usize, at: &[u32]) -> Option<u16>
 
 // The first number of an index, or 0 where there is none.
 fn first_number(index: Option<&[u32]>) -> u32
-    ensures { result ≡ first_number (option_copied index.entry) }
+    ensures { result ≡ unwrap_or (slice_get (unwrap_or (option_copied index.entry) []) 0) 0 }
 {
     match index {
         None => 0,

@@ -1,6 +1,6 @@
 //! Laws of worlds, of what they show, and of lists of objects. Each function does nothing: its
 //! contract is the law.
-ghost use Rattle.std.specs.Prelude.{◌≡◌, ◌≢◌, ℕ, if◌then◌else◌, List, length, None};
+ghost use Rattle.std.specs.Prelude.{◌≡◌, ◌≢◌, ◌↔◌, ℕ, if◌then◌else◌, List, length, None, IsTrue};
 ghost use Rattle.community_core.specs.Communities.{PolicyTables};
 ghost use Rattle.fdb_core.specs.Rows.{IsRising as AreRising};
 ghost use Rattle.message_core.specs.Instances.{IsRising};
@@ -11,8 +11,9 @@ ghost use Rattle.setphase_core.specs.Settings.{setting, put, HasSetting, same_se
 ghost use Rattle.setphase_core.specs.declared.world.World.{World};
 ghost use Rattle.setphase_core.specs.Objects.{ObjectRow};
 ghost use Rattle.setphase_core.specs.Names.{bridge_rows};
-ghost use Rattle.setphase_core.specs.Registry.{first_fault, AreNamed, instances};
+ghost use Rattle.setphase_core.specs.Registry.{first_fault, prefixes_of, AreApart, AreNamed, instances};
 ghost use Rattle.setphase_core.specs.Opening.{opening_world, opening_instances};
+ghost use Rattle.setphase_core.specs.InUse.{world_in_use, instances_in_use};
 
 use crate::limits::{MAX_COST, MAX_INDEX, MAX_INFO, MAX_PATH_COST, MAX_SLOTS};
 
@@ -20,6 +21,28 @@ use crate::limits::{MAX_COST, MAX_INDEX, MAX_INFO, MAX_PATH_COST, MAX_SLOTS};
 pub fn setting_after_put()
     ensures { (w : World) (k l : SettingKey) (v : SettingValue) → HasSetting w k → HasSetting w l
         → setting (put w k v) l ≡ (if same_setting k l then v else setting w l) }
+{}
+
+/// Of two values put under one key the later one stands.
+pub fn put_twice()
+    ensures { (w : World) (k : SettingKey) (v u : SettingValue) → HasSetting w k
+        → put (put w k v) k u ≡ put w k u }
+{}
+
+/// The value that a setting has changes nothing where it is put again.
+pub fn put_again_changes_nothing()
+    ensures { (w : World) (k : SettingKey) → HasSetting w k → put w k (setting w k) ≡ w }
+{}
+
+/// A put makes no setting and takes none away.
+pub fn put_keeps_keys()
+    ensures { (w : World) (k l : SettingKey) (v : SettingValue)
+        → HasSetting (put w k v) l ↔ HasSetting w l }
+{}
+
+/// Two settings are the same where their keys are equal.
+pub fn same_where_equal()
+    ensures { (k l : SettingKey) → IsTrue (same_setting k l) ↔ (k ≡ l) }
 {}
 
 /// The old value put back restores the world.
@@ -41,6 +64,11 @@ pub fn equal_on_every_key()
         → with_settings w t ≡ w }
 {}
 
+/// Of the names of objects that make a registry none begins another.
+pub fn names_are_apart()
+    ensures { (rows : List ObjectRow) → first_fault rows ≡ None → AreApart (prefixes_of rows) }
+{}
+
 /// The names of the instances that objects show rise, for every list of objects that makes a
 /// registry.
 pub fn instances_rise()
@@ -60,6 +88,13 @@ pub fn opening_bridge_shows_75()
     ensures count { length opening_instances ≡ 75 }
     ensures instances { (policy : PolicyTables)
         → instances bridge_rows (opening_world policy) ≡ opening_instances }
+{}
+
+/// What they show of a bridge of four ports in use, no two of whose facts are alike: 135 instances.
+pub fn bridge_in_use_shows_135()
+    ensures count { length instances_in_use ≡ 135 }
+    ensures instances { (policy : PolicyTables)
+        → instances bridge_rows (world_in_use policy) ≡ instances_in_use }
 {}
 
 /// The limits of objects and of what they show.

@@ -4,24 +4,30 @@
 //! # Entry points
 //! [`World`]: the bridge, the policy, and what was dropped, with `get_setting` and `put_setting` by
 //! key. [`MibObject`]: a managed object, with `prefix`, `read` and `next`; a boxed one is one too.
-//! [`Registry`]: objects by rising name, with `owner`, `owner_steps`, `read` and `next`; `known` hands
-//! on that what they show can be served. [`is_scalar`], [`scalar_after`], [`port_at`], [`port_after`]:
-//! the indexes of scalars and ports, for those who write objects.
+//! [`Registry`]: objects by rising name, with `owner`, `owner_steps`, `read` and `next`; `known`
+//! hands on that no object's name begins another's and that what they show can be served.
+//! [`is_scalar`], [`scalar_after`], [`port_at`], [`port_after`]: the indexes of scalars and ports,
+//! for those who write objects.
 //!
 //! # Definitions
 //! `specs/Settings.antt`: the settings of a world as a finite map; `specs/Columns.antt`: what each
-//! object shows, row by row; `specs/Names.antt`: the objects' names; `specs/Shown.antt`: values by
-//! index; `specs/Objects.antt`: an object as plain data; `specs/Registry.antt`: the order of objects,
-//! and all their instances; `specs/Searching.antt`: where a name stands among those of objects;
-//! `specs/Opening.antt`: all that a bridge of two ports shows as it opens.
+//! object shows, row by row; `specs/Names.antt`: the objects' names; `specs/Values.antt`: values by
+//! index; `specs/Objects.antt`: an object as plain data; `specs/Registry.antt`: the order of
+//! objects, and all their instances; `specs/Searching.antt`: where a name stands among those of
+//! objects; `specs/Opening.antt`: all that a bridge of two ports shows as it opens;
+//! `specs/InUse.antt`: all that a bridge of four ports in use shows.
 //!
 //! # Laws
-//! In [`laws`]: the settings of a world are a finite map; the names of all instances rise, whatever
-//! the objects are; the 51 objects make a registry; they show 75 instances of a bridge of two ports.
+//! In [`laws`]: the settings of a world are a finite map; of the names of a registry's objects none
+//! begins another; the names of all instances rise, whatever the objects are, where the learned
+//! rows of the bridge are by rising address, as those of every `Bridge` are; the 51 objects make a
+//! registry; they show 75 instances of a bridge of two ports as it opens, and 135 of a bridge of
+//! four ports in use, no two of whose facts are alike.
 //!
 //! # Not claimed
 //! That changed settings are in force: `Bridge::settle` comes behind them. That the objects of a
-//! program are the 51.
+//! program are the 51. dot1dStaticTable (RFC 4188, 1.3.6.1.2.1.17.5) is left out: no address is
+//! configured, so it would have no rows.
 #![tactic(auto)]
 
 mod boxed;

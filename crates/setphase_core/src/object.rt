@@ -14,7 +14,7 @@ use thiserror::Error;
 pub type Index = ArrayVec<u32, MAX_INDEX>;
 
 /// What a test reserves: a setting, what it is to get, and one of the object's places.
-#[derive(Clone, Copy, Debug, PartialEq, Eq)]
+#[derive(Clone, Copy, Debug, Default, PartialEq, Eq)]
 pub struct Slot {
     /// The setting.
     pub key: SettingKey,
@@ -25,7 +25,7 @@ pub struct Slot {
 }
 
 /// What stands at a place: a setting, what it is to get, and its old value once it got that.
-#[derive(Clone, Copy, Debug, PartialEq, Eq)]
+#[derive(Clone, Copy, Debug, Default, PartialEq, Eq)]
 pub struct Reservation {
     /// The setting.
     pub key: SettingKey,
@@ -35,10 +35,13 @@ pub struct Reservation {
     pub old: Option<SettingValue>,
 }
 
-/// Why a variable cannot be set, in the order in which it is looked at (RFC 3416, 4.2.5).
+/// Why a variable cannot be set, in the order of the tests of RFC 3416, 4.2.5, where one object
+/// finds it. `NotWritable` stands at two of them, and here at the first: its second test, ahead of
+/// type, length and value, for an object that is never written, and its ninth, behind
+/// `InconsistentName`, for an instance that is there and is never written.
 #[derive(Clone, Copy, Debug, PartialEq, Eq, Error)]
 pub enum SetFault {
-    /// The object, or the instance, is never written.
+    /// The object, whatever the value, or the instance that is there, is never written.
     #[error("not writable")]
     NotWritable,
     /// The value's type is another.
@@ -74,7 +77,7 @@ pub struct DeviceFault;
 pub trait MibObject: Drop {
     ghost use Rattle.setphase_core.specs.Objects.{ObjectState};
     ghost use Rattle.setphase_core.specs.Columns.{shown_by};
-    ghost use Rattle.setphase_core.specs.Shown.{value_at, index_after};
+    ghost use Rattle.setphase_core.specs.Values.{value_at, index_after};
 
     // Its name and what it shows, what it has reserved, and how often its device has failed.
     ghost state: { Self → ObjectState };

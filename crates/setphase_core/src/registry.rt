@@ -2,10 +2,10 @@
 ghost use Rattle.std.specs.Prelude.{◌≡◌, ◌≤◌, ◌+◌, ◌-◌, ◌*◌, ◌^◌, length, map, Some, None, IfOk, IsOk, MatchResult};
 ghost use Rattle.std.specs.Option.{option_copied};
 ghost use Rattle.message_core.specs.Instances.{next_of, value_of, IsServable};
-ghost use Rattle.setphase_core.specs.Registry.{rows_of, first_fault, AreNamed, HasShortName, owner_of, instances};
+ghost use Rattle.setphase_core.specs.Registry.{rows_of, prefixes_of, first_fault, AreApart, AreNamed, HasShortName, owner_of, instances};
 
 use crate::object::MibObject;
-use crate::search::{owner_name, place_behind, place_uncounted, value_before};
+use crate::search::{owner_name, place_of, place_uncounted, start_of, value_there};
 use crate::walk::next_from;
 use crate::world::World;
 use message_core::{Binding, Value};
@@ -92,10 +92,13 @@ impl<O: MibObject> Registry<O> {
         self.objects.len()
     }
 
-    /// Hands on that the names of the instances rise, and that each instance can be served,
-    /// whatever the objects and the world are; it does nothing.
+    /// Hands on that the objects are in the order of their names, none of which begins another,
+    /// that the names of the instances rise, and that each instance can be served, whatever the
+    /// objects and the world are; it does nothing.
     pub fn known(&self, world: &World)
-        ensures { IsServable (instances (rows_of self.now) world.now) }
+        ensures ordered { first_fault (rows_of self.now) ≡ None }
+        ensures apart { AreApart (prefixes_of (rows_of self.now)) }
+        ensures servable { IsServable (instances (rows_of self.now) world.now) }
     {
         let _objects = self.objects.as_slice();
         let _row = world.bridge.fdb().next_after(None);
@@ -118,7 +121,7 @@ impl<O: MibObject> Registry<O> {
         ensures work { 2 ^ (steps.new - steps.old) ≤ 2 * length self.now + 1 }
     {
         let objects = self.objects.as_slice();
-        let place = place_behind(objects, name, steps);
+        let place = place_of(objects, name, steps);
         owner_name(objects, name, place)
     }
 
@@ -128,7 +131,7 @@ impl<O: MibObject> Registry<O> {
     {
         let objects = self.objects.as_slice();
         let place = place_uncounted::<O, Brand>(objects, name, Blank::new(1));
-        value_before(alloc, objects, world, name, place)
+        value_there(alloc, objects, world, name, place)
     }
 
     /// The first instance after a name, where there is one: the objects are asked for one successor
@@ -147,6 +150,6 @@ impl<O: MibObject> Registry<O> {
     {
         let objects = self.objects.as_slice();
         let place = place_uncounted::<O, Brand>(objects, name, Blank::new(1));
-        next_from(alloc, objects, world, name, place)
+        next_from(alloc, objects, world, name, start_of(objects, name, place))
     }
 }

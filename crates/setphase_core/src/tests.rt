@@ -1,7 +1,7 @@
 // Worlds and objects made by hand.
 ghost use Rattle.std.specs.Prelude.{◌≡◌, ◌≤◌, [], ◌∷◌, map};
 ghost use Rattle.bridge_core.specs.Bridge.{port_count};
-ghost use Rattle.setphase_core.specs.Shown.{scalar, by_port, value_at};
+ghost use Rattle.setphase_core.specs.Values.{scalar, by_port, value_at};
 ghost use Rattle.setphase_core.specs.Columns.{number};
 ghost use Rattle.setphase_core.specs.Registry.{rows_of, AreNamed};
 

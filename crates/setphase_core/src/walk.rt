@@ -3,10 +3,10 @@ ghost use Rattle.std.specs.Prelude.{◌≡◌, ◌≤◌, ◌+◌, ◌++◌, len
 ghost use Rattle.std.specs.Option.{option_map};
 ghost use Rattle.oid_core.specs.Order.{is_prefix};
 ghost use Rattle.message_core.specs.Instances.{next_of};
-ghost use Rattle.setphase_core.specs.Shown.{value_at};
+ghost use Rattle.setphase_core.specs.Values.{value_at};
 ghost use Rattle.setphase_core.specs.Columns.{shown_by};
-ghost use Rattle.setphase_core.specs.Registry.{rows_of, prefixes_of, first_fault, IsNamed, AreNamed, HasShortName, instances, instances_under};
-ghost use Rattle.setphase_core.specs.Searching.{IsPlaceBehind, index_behind};
+ghost use Rattle.setphase_core.specs.Registry.{rows_of, prefixes_of, IsNamed, AreNamed, HasShortName, instances, instances_under};
+ghost use Rattle.setphase_core.specs.Searching.{IsStart};
 
 use crate::limits::MAX_INDEX;
 use crate::object::{Index, MibObject};
@@ -16,23 +16,21 @@ use oid_core::{INLINE_NUMBERS, MAX_NUMBERS, Oid, begins, precedes};
 use smallvec::SmallVec;
 use std::alloc::{AllocError, Global};
 
-// The first instance behind a name, where so many names are not greater than it.
+// The first instance behind a name, by the place of the first object that may show it.
 pub fn next_from<O: MibObject>(
     alloc: Global,
     objects: &[O],
     world: &World,
     name: &[u32],
-    place: usize,
+    start: usize,
 ) -> Result<Option<Binding>, AllocError>
-    requires ordered { first_fault (rows_of (map O.state objects.now)) ≡ None }
     requires named { AreNamed (rows_of (map O.state objects.now)) }
-    requires place { IsPlaceBehind (prefixes_of (rows_of (map O.state objects.now))) name.now place }
+    requires start { IsStart (prefixes_of (rows_of (map O.state objects.now))) name.now start }
     ensures found { IfOk result (λ found.
         found ≡ next_of (instances (rows_of (map O.state objects.now)) world.now) name.now) }
-    ensures inline { HasShortName (next_of (instances (rows_of (map O.state objects.now)) world.now) name.now)
-        → IsOk result }
+    ensures inline { HasShortName (next_of (instances (rows_of (map O.state objects.now)) world.now)
+        name.now) → IsOk result }
 {
-    let start = place.saturating_sub(1);
     next_in(alloc, &objects[start..], world, name)
 }
 
@@ -46,8 +44,8 @@ fn next_in<O: MibObject>(
     requires { AreNamed (rows_of (map O.state objects.now)) }
     ensures found { IfOk result (λ found.
         found ≡ next_of (instances (rows_of (map O.state objects.now)) world.now) name.now) }
-    ensures inline { HasShortName (next_of (instances (rows_of (map O.state objects.now)) world.now) name.now)
-        → IsOk result }
+    ensures inline { HasShortName (next_of (instances (rows_of (map O.state objects.now)) world.now)
+        name.now) → IsOk result }
 {
     let Some((object, others)) = objects.split_first() else {
         return Ok(None);
@@ -68,8 +66,8 @@ fn next_under<O: MibObject>(
     requires { IsNamed (O.state object.now).row }
     ensures found { IfOk result (λ found.
         found ≡ next_of (instances_under (O.state object.now).row world.now) name.now) }
-    ensures inline { HasShortName (next_of (instances_under (O.state object.now).row world.now) name.now)
-        → IsOk result }
+    ensures inline { HasShortName (next_of (instances_under (O.state object.now).row world.now)
+        name.now) → IsOk result }
 {
     match index_under(object, world, name) {
         None => Ok(None),
@@ -79,8 +77,9 @@ fn next_under<O: MibObject>(
 
 // The index of the first instance of an object behind a name.
 fn index_under<O: MibObject>(object: &O, world: &World, name: &[u32]) -> Option<Index>
-    ensures { option_map (λ index. index.items) result
-        ≡ index_behind (O.state object.now).row world.now name.now }
+    ensures { let row = (O.state object.now).row in
+        option_map (λ index. row.prefix ++ index.items) result
+        ≡ option_map (λ b. b.name) (next_of (instances_under row world.now) name.now) }
 {
     let prefix = object.prefix();
     if begins(prefix, name) {
@@ -105,8 +104,8 @@ fn instance_of<O: MibObject>(
     ensures name { IfOk result (λ b. b.name ≡ (O.state object.now).row.prefix ++ index.now.items) }
     ensures value { IfOk result (λ b. Some b.value
         ≡ value_at (shown_by (O.state object.now).row.column world.now) index.now.items) }
-    ensures inline { length (O.state object.now).row.prefix + length index.now.items ≤ INLINE_NUMBERS
-        → IsOk result }
+    ensures inline { length (O.state object.now).row.prefix + length index.now.items
+        ≤ INLINE_NUMBERS → IsOk result }
 {
     let value = object.read(alloc, world, index.as_slice()).unwrap();
     let name = joined(alloc, object.prefix(), index.as_slice())?;

@@ -22,13 +22,13 @@ pub struct World {
 }
 
 impl World {
-    ghost use Rattle.setphase_core.specs.Settings.{setting, put, HasSetting, IsSettingRange};
+    ghost use Rattle.setphase_core.specs.Settings.{setting, put, HasSetting, IsSettingInRange};
 
     /// The value of a setting that there is.
     pub fn get_setting(&self, key: SettingKey) -> SettingValue
         requires { HasSetting self.now key }
         ensures value { result ≡ setting self.now key }
-        ensures in_range { IsSettingRange key result }
+        ensures in_range { IsSettingInRange key result }
     {
         match key {
             SettingKey::Bridge(key) => SettingValue::Number(self.bridge.get_setting(key)),
@@ -39,7 +39,7 @@ impl World {
     /// changes: the bridge is to be settled behind the last of several (`Bridge::settle`).
     pub fn put_setting(&mut self, key: SettingKey, value: SettingValue) -> SettingValue
         requires key { HasSetting self.old key }
-        requires value { IsSettingRange key value }
+        requires value { IsSettingInRange key value }
         ensures before { result ≡ setting self.old key }
         ensures after { self.new ≡ put self.old key value }
     {

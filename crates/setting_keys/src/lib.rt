@@ -8,7 +8,9 @@
 //! What a key's range is: that is said where the settings are kept.
 #![tactic(auto)]
 
-use rstp_settings::key::Key;
+ghost use Rattle.std.specs.Prelude.{◌≡◌};
+
+use rstp_settings::key::{BridgeKey, Key};
 
 /// The name of a setting.
 #[derive(Clone, Copy, Debug, PartialEq, Eq)]
@@ -17,9 +19,27 @@ pub enum SettingKey {
     Bridge(Key),
 }
 
-/// What a setting has.
+impl Default for SettingKey {
+    /// The bridge priority, which every world has.
+    fn default() -> SettingKey
+        ensures { result ≡ SettingKey.Bridge (Key.Bridge BridgeKey.Priority) }
+    {
+        SettingKey::Bridge(Key::Bridge(BridgeKey::Priority))
+    }
+}
+
+/// What a setting has, or is to get.
 #[derive(Clone, Copy, Debug, PartialEq, Eq)]
 pub enum SettingValue {
     /// A number, in the unit of its key.
     Number(u32),
+}
+
+impl Default for SettingValue {
+    /// The number 0, whatever the key.
+    fn default() -> SettingValue
+        ensures { result ≡ SettingValue.Number 0 }
+    {
+        SettingValue::Number(0)
+    }
 }

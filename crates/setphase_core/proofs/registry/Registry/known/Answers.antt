@@ -1,8 +1,12 @@
 use Rattle.std.proofs.Common.{subst, rules}
 use Rattle.fdb_core.specs.Rows.{IsRising}
 use Rattle.setphase_core.specs.Registry.{rows_of}
+use Rattle.setphase_core.proofs.Ordered.{names_apart}
 use Rattle.setphase_core.proofs.Served.{instances_servable}
 use Rattle.setphase_core.proofs.registry.Registry.known.Goals as goal
 
-pub returns : goal.returns
-returns g c = instances_servable (rows_of c.args.self.now) c.args.world.now (search rules) (search rules) (subst IsRising c.fdb.ensures.rows c.next_after-row.ensures.table.rising)
+pub returns-clause-apart : goal.returns-clause-apart
+returns-clause-apart g c = names_apart (rows_of c.args.self.now) (search rules)
+
+pub returns-clause-servable : goal.returns-clause-servable
+returns-clause-servable g c = instances_servable (rows_of c.args.self.now) c.args.world.now (search rules) (search rules) (subst IsRising c.fdb.ensures.rows c.next_after-row.ensures.table.rising)

@@ -7,12 +7,12 @@ use Rattle.oid_core.specs.Order.{name_lt, name_eq}
 use Rattle.message_core.specs.declared.value.Value.{Value}
 
 -- The value of one instance, and what follows the object's name in its name.
-pub record Shown : Type 0 where
+pub record IndexedValue : Type 0 where
   pub index : List ℕ
   pub value : Value
 
 -- The one instance of a scalar has index 0.
-abbrev pub scalar : Value → List Shown
+abbrev pub scalar : Value → List IndexedValue
 scalar v = record { index = 0 ∷ []; value = v } ∷ []
 
 -- So many numbers from the first on.
@@ -21,22 +21,22 @@ numbers_from first zero = []
 numbers_from first (suc count) = first ∷ numbers_from (first + 1) count
 
 -- The instances of a table of so many ports have the ports' numbers for index, from 1 on.
-abbrev pub by_port : ℕ → (ℕ → Value) → List Shown
+abbrev pub by_port : ℕ → (ℕ → Value) → List IndexedValue
 by_port count f = map (λ n. record { index = n ∷ []; value = f n }) (numbers_from 1 count)
 
 -- The instances of a table of learned addresses have the six octets of the address for index.
-abbrev pub by_address : List Row → (Row → Value) → List Shown
+abbrev pub by_address : List Row → (Row → Value) → List IndexedValue
 by_address rows f = map (λ r. record { index = r.address.0; value = f r }) rows
 
 -- The value under an index, if an instance has it.
-abbrev pub value_at : List Shown → List ℕ → Option Value
+abbrev pub value_at : List IndexedValue → List ℕ → Option Value
 value_at shown at = option_map (λ s. s.value) (find (λ s. name_eq s.index at) shown)
 
 -- The first instance after an index, or the first of all.
-abbrev pub shown_after : List Shown → Option (List ℕ) → Option Shown
-shown_after shown None = slice_get shown 0
-shown_after shown (Some after) = find (λ s. name_lt after s.index) shown
+abbrev pub first_after : List IndexedValue → Option (List ℕ) → Option IndexedValue
+first_after shown None = slice_get shown 0
+first_after shown (Some after) = find (λ s. name_lt after s.index) shown
 
 -- Its index.
-abbrev pub index_after : List Shown → Option (List ℕ) → Option (List ℕ)
-index_after shown after = option_map (λ s. s.index) (shown_after shown after)
+abbrev pub index_after : List IndexedValue → Option (List ℕ) → Option (List ℕ)
+index_after shown after = option_map (λ s. s.index) (first_after shown after)
