@@ -1,6 +1,6 @@
 -- What a bridge in use shows, all its instances: four ports of different speeds and states, other
--- settings than the opening ones, two learned addresses, and facts of which no two are alike, so
--- that no object can stand for another. What no object shows is as at the opening.
+-- settings than the opening ones, two learned addresses, and facts of which most differ from one
+-- another, so that few objects could stand for another. What no object shows is as at the opening.
 use Rattle.std.specs.Prelude.{ℕ, Bool, true, false, List, [], ◌∷◌, ◌++◌}
 use Rattle.frame_core.specs.declared.mac.Mac.{Mac}
 use Rattle.frame_core.specs.declared.bpdu.Times.{Times}

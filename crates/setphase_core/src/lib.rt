@@ -22,7 +22,7 @@
 //! begins another; the names of all instances rise, whatever the objects are, where the learned
 //! rows of the bridge are by rising address, as those of every `Bridge` are; the 51 objects make a
 //! registry; they show 75 instances of a bridge of two ports as it opens, and 135 of a bridge of
-//! four ports in use, no two of whose facts are alike.
+//! four ports in use, most of whose facts differ from one another.
 //!
 //! # Not claimed
 //! That changed settings are in force: `Bridge::settle` comes behind them. That the objects of a
