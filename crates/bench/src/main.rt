@@ -1,5 +1,17 @@
 //! Measurements in one process. Without words it prints their names, one a line; with a name it measures and prints
 //! figures. It has no contracts of its own: it is safe and ends.
+//!
+//! # Entry points
+//! The program, with no word or one.
+//!
+//! # Definitions
+//! None.
+//!
+//! # Laws
+//! None.
+//!
+//! # Not claimed
+//! Any figure.
 #![tactic(auto)]
 
 mod access;

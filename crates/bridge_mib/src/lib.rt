@@ -7,7 +7,13 @@
 //!
 //! # Definitions
 //! What each object shows stands in `setphase_core`: `specs/Columns.antt`, and the objects' names in
-//! `specs/Names.antt`.
+//! `specs/Names.antt`. [`values`] has the values of both modules, as `rstp_mib` uses them too.
+//!
+//! # Laws
+//! None: each object is its row.
+//!
+//! # Not claimed
+//! The columns of dot1dTpFdbTable, which are not there yet.
 #![tactic(auto)]
 
 mod base;

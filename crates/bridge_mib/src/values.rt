@@ -27,7 +27,7 @@ pub fn cost(n: u32) -> Value
     integer(n.min(MAX_COST))
 }
 
-/// 1/256 s as hundredths of a second, rounded down (RFC 4188, Timeout).
+/// 1/256 s as hundredths of a second, rounded down; RFC 4188 (Timeout) rounds up here.
 pub fn timeout(t: u16) -> Value
     ensures { result ≡ timeout t }
 {

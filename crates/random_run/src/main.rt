@@ -1,5 +1,17 @@
 //! Runs a script of thousands of random lines with ample memory, and judges whether each was answered in full. It finds what no
 //! contract can say: that there is an answer where there is memory. With the word `script` it prints the script and runs nothing.
+//!
+//! # Entry points
+//! The program, with no word or `script`.
+//!
+//! # Definitions
+//! `specs/Verdict.antt`: how a run is judged.
+//!
+//! # Laws
+//! None.
+//!
+//! # Not claimed
+//! Which lines the seed draws.
 #![tactic(auto)]
 
 mod counts;

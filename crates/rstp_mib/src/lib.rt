@@ -8,6 +8,12 @@
 //! # Definitions
 //! What each object shows stands in `setphase_core`: `specs/Columns.antt`, and the objects' names in
 //! `specs/Names.antt`.
+//!
+//! # Laws
+//! None: each object is its row.
+//!
+//! # Not claimed
+//! That a world's settings are in force.
 #![tactic(auto)]
 
 mod ports;

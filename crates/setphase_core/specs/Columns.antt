@@ -54,7 +54,7 @@ two_octets n = n / 256 ∷ n % 256 ∷ []
 abbrev pub bridge_id : BridgeId → List ℕ
 bridge_id id = two_octets id.priority ++ id.address.0
 
--- Timeout: 1/256 s in hundredths of a second, rounded down (RFC 4188).
+-- Timeout: 1/256 s in hundredths of a second, rounded down; RFC 4188 rounds up here.
 abbrev pub timeout : ℕ → Value
 timeout t = number (t * 100 / 256)
 

@@ -90,8 +90,8 @@ pub fn opening_bridge_shows_75()
         → instances bridge_rows (opening_world policy) ≡ opening_instances }
 {}
 
-/// What they show of a bridge of four ports in use, most of whose facts differ from one another: 135
-/// instances.
+/// What they show of a bridge of four ports, made by hand as if in use, most of whose facts differ
+/// from one another: 135 instances.
 pub fn bridge_in_use_shows_135()
     ensures count { length instances_in_use ≡ 135 }
     ensures instances { (policy : PolicyTables)

@@ -15,14 +15,14 @@
 //! index; `specs/Objects.antt`: an object as plain data; `specs/Registry.antt`: the order of
 //! objects, and all their instances; `specs/Searching.antt`: where a name stands among those of
 //! objects; `specs/Opening.antt`: all that a bridge of two ports shows as it opens;
-//! `specs/InUse.antt`: all that a bridge of four ports in use shows.
+//! `specs/InUse.antt`: all that a bridge of four ports shows, made by hand as if in use.
 //!
 //! # Laws
 //! In [`laws`]: the settings of a world are a finite map; of the names of a registry's objects none
 //! begins another; the names of all instances rise, whatever the objects are, where the learned
 //! rows of the bridge are by rising address, as those of every `Bridge` are; the 51 objects make a
 //! registry; they show 75 instances of a bridge of two ports as it opens, and 135 of a bridge of
-//! four ports in use, most of whose facts differ from one another.
+//! four ports, made by hand as if in use, most of whose facts differ from one another.
 //!
 //! # Not claimed
 //! That changed settings are in force: `Bridge::settle` comes behind them. That the objects of a

@@ -12,5 +12,5 @@ pub const MAX_COST: u32 = 2_147_483_647;
 /// The greatest dot1dStpPortPathCost (RFC 4188).
 pub const MAX_PATH_COST: u32 = 65_535;
 
-/// The most octets of a frame's information field, for every port (RFC 4188, dot1dTpPortMaxInfo).
+/// What dot1dTpPortMaxInfo shows, for every port (RFC 4188).
 pub const MAX_INFO: u32 = 1_500;

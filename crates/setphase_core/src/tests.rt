@@ -1,4 +1,4 @@
-// Worlds and objects made by hand.
+//! Worlds and objects made by hand.
 ghost use Rattle.std.specs.Prelude.{◌≡◌, ◌≤◌, [], ◌∷◌, map};
 ghost use Rattle.bridge_core.specs.Bridge.{port_count};
 ghost use Rattle.setphase_core.specs.Values.{scalar, by_port, value_at};

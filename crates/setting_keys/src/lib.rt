@@ -2,7 +2,14 @@
 //! those of a bridge.
 //!
 //! # Entry points
-//! [`SettingKey`], [`SettingValue`]: plain data. Nothing above counts on how many kinds there are.
+//! [`SettingKey`], [`SettingValue`]: plain data. Of what stands above, the world of `setphase_core`
+//! alone tells their kinds apart.
+//!
+//! # Definitions
+//! None.
+//!
+//! # Laws
+//! None.
 //!
 //! # Not claimed
 //! What a key's range is: that is said where the settings are kept.
