@@ -7,7 +7,6 @@ use std::alloc::Global;
 use std::io;
 use std::io::{Error, ErrorKind, Write};
 use std::time::Instant;
-use test_policies::{BRIDGE, READERS};
 use vacm_core::{Ask, Level, Name, Vacm, Verdict, ViewType};
 
 /// How often each is asked.
@@ -15,6 +14,28 @@ const TURNS: u32 = 20_000;
 
 /// How many family rows there are.
 const FAMILIES: [u32; 3] = [10, 100, 1_000];
+
+/// The rows but for the families: `public` may read the view `last`, whose family is the last row.
+const HEAD: &str = "contexts = []
+[[community]]
+index = \"p\"
+name = \"public\"
+security = \"public\"
+context = \"\"
+[[group]]
+model = 2
+name = \"public\"
+group = \"readers\"
+[[access]]
+group = \"readers\"
+prefix = \"\"
+model = 2
+level = 1
+exact = true
+read = \"last\"
+write = \"\"
+notify = \"\"
+";
 
 /// The policy of a text.
 pub fn policy_of(alloc: Global, text: &[u8]) -> io::Result<Policy> {
@@ -24,18 +45,19 @@ pub fn policy_of(alloc: Global, text: &[u8]) -> io::Result<Policy> {
     }
 }
 
-/// A policy of so many families, by which `public` may read all of the bridge: the families of the
-/// view `aside`, one a group of objects, and last the one of the view `bridge`.
+/// A policy of so many families: those of the view `bridge`, one a group of objects, and last the one of the view `last`, which is
+/// all of the bridge.
 pub fn policy_with(alloc: Global, families: u32) -> io::Result<Policy> {
-    let mut text = Vec::new(alloc);
-    write!(text, "contexts = []\n{READERS}read = \"bridge\"\n")?;
+    let mut text = Vec::from_slice(alloc, HEAD.as_bytes())?;
     for number in 1..families {
         writeln!(
             text,
-            "[[family]]\nview = \"aside\"\nsubtree = \"1.3.6.1.2.1.17.{number}\"\nmask = \"\"\nincluded = true"
+            "[[family]]\nview = \"bridge\"\nsubtree = \"1.3.6.1.2.1.17.{number}\"\nmask = \"\"\nincluded = true"
         )?;
     }
-    text.extend_from_slice(BRIDGE.as_bytes())?;
+    text.extend_from_slice(
+        b"[[family]]\nview = \"last\"\nsubtree = \"1.3.6.1.2.1.17\"\nmask = \"\"\nincluded = true\n",
+    )?;
     policy_of(alloc, &text)
 }
 
@@ -84,7 +106,7 @@ fn names(alloc: Global) -> io::Result<Vec<Oid>> {
 }
 
 fn measure_in_view(rt: &HostRuntime, vacm: &Vacm) -> io::Result<()> {
-    let view = name_of("aside")?;
+    let view = name_of("bridge")?;
     let names = names(rt.alloc())?;
     let start = Instant::now(rt)?;
     let mut included = 0u32;

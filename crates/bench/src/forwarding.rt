@@ -1,7 +1,6 @@
 //! Frames through a bridge, by 2 and 32 ports, among 10 and 1,024 learned addresses.
 use crate::print::print_turns;
 use bridge_core::Bridge;
-use frame_core::worked::OWN;
 use frame_core::{FrameIn, Mac};
 use rstp_core::{IfIndex, Key, PortConfig, PortKey};
 use std::alloc::Global;
@@ -18,6 +17,8 @@ const PORTS: [u16; 2] = [2, 32];
 
 /// How many addresses they have learned.
 const ROWS: [u32; 2] = [10, 1_024];
+
+const OWN: Mac = Mac([0x02, 0x00, 0x00, 0x00, 0x00, 0x0A]);
 
 const TO_ALL: Mac = Mac([0xFF; 6]);
 

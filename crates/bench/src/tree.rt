@@ -1,13 +1,11 @@
 //! The spanning tree.
 use crate::print::print_turns;
 use arrayvec::ArrayVec;
-use frame_core::worked::{BETTER, OWN};
-use frame_core::{Bpdu, FrameIn, read_frame};
+use frame_core::{Bpdu, BridgeId, Mac, PortRole, PriorityVector, Rapid, Times};
 use rstp_core::{BridgeConfig, IfIndex, PortConfig, Rstp};
 use rstp_settings::settings::{MAX_PORTS, Settings};
 use std::hint::black_box;
 use std::io;
-use std::io::{Error, ErrorKind};
 use std::time::Instant;
 
 /// How often each event happens.
@@ -26,22 +24,37 @@ fn bridge_of(ports: u16) -> BridgeConfig {
         });
     }
     BridgeConfig {
-        address: OWN,
+        address: Mac([0x02, 0x00, 0x00, 0x00, 0x00, 0x0A]),
         ports: list,
     }
 }
 
 // What a bridge with a better identifier sends.
-fn better_bpdu() -> io::Result<Bpdu> {
-    match read_frame(&BETTER) {
-        Ok(
-            FrameIn {
-                bpdu: Some(bpdu),
-                ..
-            },
-        ) => Ok(bpdu),
-        _ => Err(Error::from(ErrorKind::InvalidData)),
-    }
+fn better_bpdu() -> Bpdu {
+    let better = BridgeId {
+        priority: 0x1000,
+        address: Mac([0x02, 0x00, 0x00, 0x00, 0x00, 0x01]),
+    };
+    Bpdu::Rapid(Rapid {
+        topology_change: false,
+        proposal: true,
+        role: PortRole::Designated,
+        learning: false,
+        forwarding: false,
+        agreement: false,
+        vector: PriorityVector {
+            root: better,
+            cost: 0,
+            bridge: better,
+            port: 0x8002,
+        },
+        times: Times {
+            message_age: 0,
+            max_age: 0x1400,
+            hello: 0x0200,
+            forward_delay: 0x0F00,
+        },
+    })
 }
 
 // A bridge of so many ports with its links up.
@@ -57,7 +70,7 @@ fn linked(ports: u16, settings: &Settings) -> Rstp {
 
 /// Lets time pass, and hears a BPDU over and over, at 2, 8 and 32 ports.
 pub fn measure_tree(rt: &HostRuntime) -> io::Result<()> {
-    let bpdu = better_bpdu()?;
+    let bpdu = better_bpdu();
     for ports in PORTS {
         let settings = Settings::new(usize::from(ports).min(MAX_PORTS));
         let mut tree = linked(ports, &settings);

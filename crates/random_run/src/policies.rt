@@ -3,11 +3,14 @@ use crate::draws::Draws;
 use std::alloc::Global;
 use std::io;
 use std::io::Write;
-use test_policies::{READERS, WRITERS};
 
-/// The rows that each policy has beside those of `public` and `admin`: two communities more for the
-/// readers, one of them by another context, and what they may there.
-const OTHERS: &str = r#"[[community]]
+/// The rows that each policy has: who reads and writes, by which communities.
+const ROWS: &str = r#"[[community]]
+index = "a"
+name = "admin"
+security = "admin"
+context = ""
+[[community]]
 index = "e"
 name = "elsewhere"
 security = "public"
@@ -17,10 +20,32 @@ index = "l"
 name = "a community of more than twenty-four octets"
 security = "a-security-name-of-32-octets----"
 context = ""
+[[community]]
+index = "p"
+name = "public"
+security = "public"
+context = ""
+[[group]]
+model = 2
+name = "admin"
+group = "writers"
+[[group]]
+model = 2
+name = "public"
+group = "readers"
 [[group]]
 model = 2
 name = "a-security-name-of-32-octets----"
 group = "readers"
+[[access]]
+group = "readers"
+prefix = ""
+model = 2
+level = 1
+exact = true
+read = "bridge"
+write = ""
+notify = ""
 [[access]]
 group = "readers"
 prefix = "else"
@@ -28,6 +53,15 @@ model = 0
 level = 1
 exact = false
 read = "other"
+write = "bridge"
+notify = ""
+[[access]]
+group = "writers"
+prefix = ""
+model = 2
+level = 1
+exact = true
+read = "bridge"
 write = "bridge"
 notify = ""
 "#;
@@ -102,12 +136,8 @@ fn spoil(draws: &mut Draws, text: &mut Vec<u8>) -> io::Result<()> {
 
 /// A policy; one in three is made wrong.
 pub fn draw_policy(alloc: Global, draws: &mut Draws) -> io::Result<Vec<u8>> {
-    let contexts = draws.pick(&CONTEXTS);
-    let mut text = Vec::new(alloc);
-    write!(
-        text,
-        "{contexts}{READERS}read = \"bridge\"\n{WRITERS}{OTHERS}"
-    )?;
+    let mut text = Vec::from_slice(alloc, draws.pick(&CONTEXTS).as_bytes())?;
+    text.extend_from_slice(ROWS.as_bytes())?;
     text.extend_from_slice(
         b"[[family]]\nview = \"bridge\"\nsubtree = \"1.3.6.1.2.1.17.1\"\nmask = \"\"\nincluded = true\n",
     )?;
