@@ -1,3 +1,4 @@
+-- The order of vectors is total, so the best of candidates that none beats is the one that a pass keeps.
 use Rattle.std.proofs.Common.{◌≡◌, ℕ, ◌+◌, ◌<◌, ◌≤◌, false, List, [], ◌∷◌, length, take, get_or, refl, sym, ap, subst, ◌∙◌}
 use Rattle.std.specs.Cmp.{IsTotalOrder, IsStrictWeakOrder}
 use Rattle.std.specs.List.{filter_map, best_of}

@@ -1,3 +1,4 @@
+-- Loops that replace each element by what a rule makes of it leave the list of all of them.
 use Rattle.std.proofs.Math.Numerals.{one-add}
 use Rattle.rstp_settings.specs.Table.{Table}
 use Rattle.rstp_rules.specs.declared.port.Port.{Port}

@@ -1,3 +1,4 @@
+-- Each setting of the opening is in its range.
 use Rattle.std.proofs.Common.{◌≡◌, ℕ, ◌-◌, ◌<◌, ◌≤◌, List, length, get_or, replicate, refl, sym, ap, subst, inl, inr, arith, lit≤}
 use Rattle.rstp_settings.specs.declared.key.BridgeKey.TheVariants as bridge
 use Rattle.rstp_settings.specs.declared.key.PortKey.{PortKey}

@@ -1,3 +1,4 @@
+-- What a put leaves: the setting of its key is the new one, and every other as before.
 use Rattle.std.proofs.Common.{◌≡◌, ◌≢◌, ℕ, ◌+◌, ◌-◌, ◌<◌, ◌≤◌, Bool, true, false, cond, ◌&&◌, eqb, List, ◌++◌, map, take, drop, length, get_or, set, refl, sym, ap, subst, ◌∙◌, inl, inr, arith}
 use Rattle.std.proofs.lemmas.List.{get_or-set_same, get_or-set_other, set-get_or, length-set, set-set, length-map, get_or-map, get_or_default, set_comm, ext_get_or}
 use Rattle.std.proofs.lemmas.List.Edits.{map_over_more}

@@ -81,7 +81,8 @@ pub struct PortValues {
     pub migrate: u32,
     /// Admin edge port (17.13.1): [`EDGE_TRUE`] or [`EDGE_FALSE`].
     pub edge: u32,
-    /// Admin point to point MAC (6.4.3): 0 forces true, 1 forces false, 2 is automatic.
+    /// Admin point to point MAC (6.4.3): [`POINT_TO_POINT_TRUE`], [`POINT_TO_POINT_FALSE`] or
+    /// [`POINT_TO_POINT_AUTO`].
     pub point_to_point: u32,
 }
 

@@ -3,6 +3,15 @@
 //! # Entry points
 //! [`Steps`]: `new` is 0, `tick` is one more, and nothing else changes it. A caller that counts nothing makes it of
 //! `Blank::new(1)`.
+//!
+//! # Definitions
+//! None: contracts see a number.
+//!
+//! # Laws
+//! None.
+//!
+//! # Not claimed
+//! That a body counts each step that it takes: its own contract ties the count to what it does.
 #![tactic(auto)]
 
 ghost use Rattle.std.specs.Prelude.{◌≡◌, ◌+◌, ◌<◌};

@@ -29,9 +29,19 @@ impl Model for Vacm {
 
     ghost Value = { Tables };
 
-    ghost view = { λ v. record { groups = v.groups; access = v.access; families = v.families; contexts = v.contexts } };
+    ghost view = { λ v. record {
+      groups = v.groups;
+      access = v.access;
+      families = v.families;
+      contexts = v.contexts;
+    } };
 
-    ghost invariant = { λ v. IsSound (record { groups = v.groups; access = v.access; families = v.families; contexts = v.contexts }) };
+    ghost invariant = { λ v. IsSound (record {
+      groups = v.groups;
+      access = v.access;
+      families = v.families;
+      contexts = v.contexts;
+    }) };
 }
 
 impl Vacm {
