@@ -136,10 +136,13 @@ not_discarding Learning e = cc
 not_discarding Forwarding e = refl
 
 -- and so is each port by which a frame goes out
+pub bridge_goes : (b : BridgeState) → IsLegal b.settings b.tree → (p : ℕ) (f : FrameIn) (no_room : Bool) (q : ℕ) → Contains (frame_result b p f no_room).egress q → IsActive b q
+bridge_goes b legal p f no_room q h =
+    let goes = framed_goes b p f no_room q h in
+    bridge_active b legal q goes.has_port (not_discarding (port_of b q).state goes.to)
+
 pub run_goes : (a : Mac) (cs : List PortConfig) (events : List Event) (p : ℕ) (f : FrameIn) (no_room : Bool) (q : ℕ) → Contains (frame_result (run a cs events) p f no_room).egress q → IsActive (run a cs events) q
-run_goes a cs events p f no_room q h =
-    let goes = framed_goes (run a cs events) p f no_room q h in
-    run_active a cs events q goes.has_port (not_discarding (port_of (run a cs events) q).state goes.to)
+run_goes a cs events p f no_room q h = bridge_goes (run a cs events) (run_legal a cs events) p f no_room q h
 
 -- no root port is shown exactly where the root is this bridge
 pub bridge_root : (b : BridgeState) → IsLegal b.settings b.tree → port_count b ≤ MAX_PORTS → ((facts_of b).root_port ≡ 0) ↔ ((facts_of b).root ≡ own_id b.settings (address_of b))

@@ -184,10 +184,12 @@ pub fn learning_and_forwarding_ports_are_active()
         → IsActive (run a ports events) port }
 {}
 
-/// After any such list of events, a frame goes out only by ports that are on, each a root or
-/// designated port.
+/// A frame goes out only by ports that are on, each a root or designated port (7.7.1).
 pub fn frames_go_out_by_active_ports()
-    ensures { (a : Mac) (ports : List PortConfig) (events : List Event) (port : ℕ) (f : FrameIn)
+    ensures legal { (b : BridgeState) → IsLegal b.settings b.tree → (port : ℕ) (f : FrameIn)
+        (no_room : Bool) (out : ℕ) → Contains (frame_result b port f no_room).egress out
+        → IsActive b out }
+    ensures run { (a : Mac) (ports : List PortConfig) (events : List Event) (port : ℕ) (f : FrameIn)
         (no_room : Bool) (out : ℕ)
         → Contains (frame_result (run a ports events) port f no_room).egress out →
         IsActive (run a ports events) out }
@@ -203,6 +205,8 @@ pub fn root_port_is_0_at_the_root()
         length ports ≤ MAX_PORTS
         → ((facts_of (run a ports events)).root_port ≡ 0)
         ↔ ((facts_of (run a ports events)).root ≡ own_id (run a ports events).settings a) }
+    ensures legal_none { (b : BridgeState) → IsLegal b.settings b.tree → port_count b ≤ MAX_PORTS
+        → ((facts_of b).root_port ≡ 0) ↔ ((port : ℕ) → ¬ IsRootPort b.tree port) }
     ensures none { (a : Mac) (ports : List PortConfig) (events : List Event) →
         length ports ≤ MAX_PORTS
         → ((facts_of (run a ports events)).root_port ≡ 0) ↔ ((port : ℕ) →

@@ -1,6 +1,6 @@
 //! Why a datagram is dropped: the first fault from the left.
 use crate::datagrams::{GET, SET_COUNTER32, SET_GAUGE32, SET_INTEGER, TWO_NAMES};
-use crate::long_datagrams::{LONG_COMMUNITY, LONG_OCTET_STRING};
+use crate::long_datagrams::{LONG_COMMUNITY, LONG_NAME, LONG_OCTET_STRING};
 use crate::support::cause_with;
 use message_core::{DropCause, decode};
 use std::test::Fail;
@@ -33,7 +33,7 @@ fn names_the_fault_of_one_octet(rt: HostRuntime) -> Result<(), Fail> {
 
 #[test]
 fn names_the_first_fault(rt: HostRuntime) -> Result<(), Fail> {
-    let rows: [(&[u8], &[(usize, u8)], &[u8], Option<DropCause>); 8] = [
+    let rows: [(&[u8], &[(usize, u8)], &[u8], Option<DropCause>); 12] = [
         // another version, and behind it another kind
         (
             &GET,
@@ -55,6 +55,28 @@ fn names_the_first_fault(rt: HostRuntime) -> Result<(), Fail> {
             &LONG_COMMUNITY,
             &[(33, 0x1b)],
             &[],
+            Some(DropCause::Malformed),
+        ),
+        // behind a community of 25 octets a request-id that is no INTEGER
+        (
+            &LONG_COMMUNITY,
+            &[(34, 0x04)],
+            &[],
+            Some(DropCause::Malformed),
+        ),
+        // an octet behind the PDU, and one behind the list
+        (&GET, &[(1, 0x28)], &[0], Some(DropCause::Malformed)),
+        (
+            &GET,
+            &[(1, 0x28), (14, 0x1b)],
+            &[0],
+            Some(DropCause::Malformed),
+        ),
+        // behind a name of 26 numbers a NULL with content
+        (
+            &LONG_NAME,
+            &[(1, 0x38), (14, 0x2b), (25, 0x20), (27, 0x1e), (56, 0x01)],
+            &[0],
             Some(DropCause::Malformed),
         ),
         // behind a binding a value of no type, and one past the end
