@@ -5,7 +5,8 @@ use Rattle.std.proofs.lemmas.Bool.{ne_eqb, le-ltb}
 use Rattle.std.proofs.lemmas.List.{length-map}
 use Rattle.std.proofs.lemmas.List.Folds.{list_all-map}
 use Rattle.rstp_settings.specs.declared.settings.TheConstants.{MAX_PORTS}
-use Rattle.bridge_core.specs.Opening.{fault_of, is_speed}
+use Rattle.rstp_settings.specs.Config.{is_speed}
+use Rattle.bridge_core.specs.Opening.{fault_of}
 use Rattle.configuration.specs.declared.configuration.Configuration.{Configuration}
 use Rattle.configuration.specs.Bounds.{IsWithinBounds}
 use Rattle.configuration.specs.Configurations.{IsConfigurationIn}
