@@ -1,4 +1,5 @@
 -- What a line of a script asks for.
+use Rattle.rstp_settings.specs.Table.{IsPortOf}
 use Rattle.std.specs.Prelude.{ℕ, zero, suc, ◌≤◌, Bool, true, false, codes, if◌then◌else◌, List, Option, Some, None, option_map, option_and_then}
 use Rattle.std.specs.Str.{bytes_eq}
 use Rattle.script_core.specs.Words.{split_word, number_of, octets_of}
@@ -86,10 +87,7 @@ HasOctets (Some policy) = ⊥
 HasOctets (Some (audit on)) = ⊥
 HasOctets (Some counts) = ⊥
 
--- the port that a command names is one of so many
-abbrev pub IsPortOf : ℕ → ℕ → Type 0
-IsPortOf ports port = (1 ≤ port) × (port ≤ ports)
-
+-- the port that a command names, if it names one, is one of so many
 abbrev pub NamesPortOf : ℕ → Option Command → Type 0
 NamesPortOf ports None = Unit {0}
 NamesPortOf ports (Some (request datagram)) = Unit {0}

@@ -2,7 +2,8 @@
 ghost use Rattle.std.specs.Prelude.{◌≡◌, ◌≤◌, ℕ, is_some, IsSome, IfOk, IfSome, OnErr, option_map, option_and_then};
 ghost use Rattle.std.specs.List.{list_all};
 ghost use Rattle.hex.specs.Hex.{is_hex_digit};
-ghost use Rattle.agent_script.specs.Commands.{request, counting_of, switch_of, direction_of, IsPortOf, NamesPortOf, frame_with, link_with, command_with, command_alone, command_of, HasOctets};
+ghost use Rattle.rstp_settings.specs.Table.{IsPortOf};
+ghost use Rattle.agent_script.specs.Commands.{request, counting_of, switch_of, direction_of, NamesPortOf, frame_with, link_with, command_with, command_alone, command_of, HasOctets};
 ghost use Rattle.agent_script.specs.CommandViews.{command_view};
 ghost use Rattle.script_core.specs.Words.{split_word, octets_of};
 
@@ -210,7 +211,7 @@ fn read_port(ports: usize, word: &[u8]) -> Option<u16>
 // A number from 1 up to this.
 fn read_counting(word: &[u8], most: u32) -> Option<u32>
     ensures value { result ≡ counting_of most word.now }
-    ensures range { IfSome result (λ n. IsPortOf most n) }
+    ensures range { IfSome result (λ n. (1 ≤ n) × (n ≤ most)) }
 {
     match read_number(word, most) {
         Some(0) => None,

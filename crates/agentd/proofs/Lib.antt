@@ -2,3 +2,4 @@ pub mod FileLemmas
 pub mod FrontLemmas
 pub mod OpeningLemmas
 pub mod TellingLemmas
+pub mod WordLemmas

@@ -1,6 +1,8 @@
 -- How the program ends: its exit status, and what it says on standard error.
 use Rattle.std.specs.Prelude.{◌≡◌, ℕ, codes, List, [], ◌++◌, Option, Result, Ok, Err}
 use Rattle.std.specs.Io.KnownBytes.{Appends}
+use Rattle.std.specs.declared.io.ErrorKind.{ErrorKind}
+use Rattle.std.specs.declared.io.ErrorKind.TheVariants.{OutOfMemory}
 use Rattle.script_core.specs.declared.fault.RunFault.{RunFault}
 use Rattle.script_core.specs.declared.fault.RunFault.TheVariants.{Input as InputFailed, Output as OutputFailed, Memory as NoMemory, Stopped as Given}
 use Rattle.agent_script.specs.declared.session.Run.{Run}
@@ -57,6 +59,11 @@ failure_line failure = codes "agentd: " ++ (failure_words failure ++ (failure_na
 abbrev pub said_of : Result (Unit {0}) Failure → List ℕ
 said_of (Ok done) = []
 said_of (Err failure) = failure_line failure
+
+-- words that were not had, as a failure of the program: want of memory for them is not their fault
+abbrev pub words_failure : ErrorKind → Failure
+words_failure OutOfMemory = RunFailed
+words_failure kind = NotText
 
 -- a run that did not come to its end, as a failure of the program
 abbrev pub run_failure : RunFault → Failure

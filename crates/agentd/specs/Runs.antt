@@ -1,10 +1,10 @@
 -- What a run by the octets of a configuration promises.
-use Rattle.std.specs.Prelude.{◌≡◌, ◌≢◌, ℕ, List, Option, Result, Ok, Err, IfOk, IfErr, IfSome, IsSome}
+use Rattle.std.specs.Prelude.{◌≡◌, ◌≢◌, ℕ, List, Option, Result, Ok, Err, IfOk, IfErr, IfSome}
 use Rattle.script_core.specs.Lines.{lines_of}
 use Rattle.script_core.specs.Runs.{Reads, Writes, IsFrontOf}
 use Rattle.script_core.specs.declared.fault.RunFault.{RunFault}
 use Rattle.script_core.specs.declared.fault.RunFault.TheVariants.{Input, Output, Memory as NoMemory, Stopped as IsStopped}
-use Rattle.policy_text.specs.Texts.{text_of}
+use Rattle.policy_text.specs.Texts.{HasContent}
 use Rattle.agent_script.specs.Script.{IsSaid, IsSaidBefore, IsGivenUp, IsSaidSome}
 use Rattle.agent_script.specs.State.{Agent}
 use Rattle.agent_script.specs.declared.session.Run.{Run}
@@ -12,10 +12,10 @@ use Rattle.agentd.specs.declared.opening.NotRun.{NotRun}
 use Rattle.agentd.specs.declared.opening.NotRun.TheVariants.{Refused, Memory, Stopped}
 use Rattle.agentd.specs.Agents.{IsAgentOf, HasFault}
 
--- Octets were not opened for this reason: what is refused says no configuration, and only a text takes memory.
+-- Octets were not opened for this reason: what is refused says no configuration, and only a text that is not blank takes memory.
 abbrev pub IsNotOpened : List ℕ → NotRun → Type 0
 IsNotOpened octets Refused = HasFault octets
-IsNotOpened octets Memory = IsSome (text_of octets)
+IsNotOpened octets Memory = HasContent octets
 IsNotOpened octets (Stopped fault) = ⊥
 
 -- A reader that may tell which octets it has left, and a writer that may tell which it took.
@@ -57,9 +57,10 @@ module _ {I O : Type 0} (remaining : I → Option (List ℕ)) (contents : O → 
     pub is : IsAgentOf octets agent
     pub run : IsScriptRun agent reader reader' writer writer' went
 
-  -- What came of octets: a run; a refusal of what is no configuration; or, of a text, want of memory before anything was read.
+  -- What came of octets: a run; a refusal of what is no configuration; or, of a text that is not blank, want of memory before anything
+  -- was read.
   abbrev pub IsRunBy : List ℕ → I → I → O → O → Result Run NotRun → Type 0
   IsRunBy octets reader reader' writer writer' (Ok run) = HasRun octets reader reader' writer writer' (Ok run)
   IsRunBy octets reader reader' writer writer' (Err (Stopped fault)) = HasRun octets reader reader' writer writer' (Err fault)
   IsRunBy octets reader reader' writer writer' (Err Refused) = HasFault octets × IsUntouched reader reader' writer writer'
-  IsRunBy octets reader reader' writer writer' (Err Memory) = IsSome (text_of octets) × IsUntouched reader reader' writer writer'
+  IsRunBy octets reader reader' writer writer' (Err Memory) = HasContent octets × IsUntouched reader reader' writer writer'

@@ -1,7 +1,7 @@
 -- What is written of a text, and what a check tells of octets.
-use Rattle.std.specs.Prelude.{◌≡◌, ◌≢◌, ◌⊎◌, ℕ, codes, List, ◌++◌, Option, Result, Ok, Err, IsSome}
+use Rattle.std.specs.Prelude.{◌≡◌, ◌≢◌, ◌⊎◌, ℕ, codes, List, ◌++◌, Option, Result, Ok, Err}
 use Rattle.std.specs.Io.KnownBytes.{Appends}
-use Rattle.policy_text.specs.Texts.{text_of}
+use Rattle.policy_text.specs.Texts.{HasContent}
 use Rattle.configuration.specs.declared.configuration.Configuration.{Configuration}
 use Rattle.configuration.specs.declared.fault.ConfigurationFault.{ConfigurationFault}
 use Rattle.configuration.specs.declared.fault.ConfigurationFault.TheVariants.{Memory}
@@ -21,9 +21,10 @@ ok_text = codes "configuration ok\n"
 abbrev pub fault_text : ConfigurationFault → List ℕ
 fault_text fault = sentence fault ++ codes "\n"
 
--- this is the first fault of the octets, unless it is want of memory, which says of them only that they are a text
+-- this is the first fault of the octets, unless it is want of memory, which says of them only that they are a text that
+-- is not blank
 abbrev pub IsFaultFound : List ℕ → ConfigurationFault → Type 0
-IsFaultFound octets fault = (fault ≢ Memory → IsFaultIn octets fault) × (fault ≡ Memory → IsSome (text_of octets))
+IsFaultFound octets fault = (fault ≢ Memory → IsFaultIn octets fault) × (fault ≡ Memory → HasContent octets)
 
 -- A writer that may tell which octets it took.
 module _ {O : Type 0} (contents : O → Option (List ℕ)) where

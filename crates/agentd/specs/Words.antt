@@ -1,5 +1,6 @@
 -- What the words of a command line ask for.
-use Rattle.std.specs.Prelude.{ℕ, codes, if◌then◌else◌, List, [], ◌∷◌, Result, Ok, Err}
+use Rattle.std.specs.Prelude.{ℕ, ◌==◌, ◌||◌, Bool, codes, if◌then◌else◌, eqb, List, [], ◌∷◌, length, drop, Option, Some, None, Result, Ok, Err}
+use Rattle.std.specs.List.{starts_with}
 use Rattle.std.specs.Str.{bytes_eq}
 use Rattle.agentd.specs.declared.words.Asked.{Asked}
 use Rattle.agentd.specs.declared.words.Asked.TheVariants.{BuiltIn, Script, Check, Help, Version}
@@ -11,13 +12,13 @@ use Rattle.agentd.specs.declared.words.Doing.TheVariants.{Script as RunsScript, 
 pub data Asking : Type 0 where
   -- the script by the built-in configuration
   built_in : Asking
-  -- `script --config FILE`: the script by the configuration of this file
+  -- `script --config FILE` or `script --config=FILE`: the script by the configuration of this file
   script : (file : List ℕ) → Asking
-  -- `check --config FILE`: whether this file is a configuration
+  -- `check --config FILE` or `check --config=FILE`: whether this file is a configuration
   check : (file : List ℕ) → Asking
-  -- `--help`, alone or behind `script` or `check`
+  -- `--help` or `-h`, alone or behind `script` or `check`
   help : Asking
-  -- `--version`
+  -- `--version` or `-V`
   version : Asking
 
 pub data Mistake : Type 0 where
@@ -45,21 +46,36 @@ abbrev pub asking_with_file_in : Doing → Result (List ℕ) Mistake → Result 
 asking_with_file_in doing (Ok file) = Ok (asking_with_file doing file)
 asking_with_file_in doing (Err mistake) = Err mistake
 
+abbrev pub is_help : List ℕ → Bool
+is_help word = bytes_eq word (codes "--help") || bytes_eq word (codes "-h")
+
+abbrev pub is_version : List ℕ → Bool
+is_version word = bytes_eq word (codes "--version") || bytes_eq word (codes "-V")
+
+-- what stands behind this front in a word, if the word begins with it
+abbrev pub behind : List ℕ → List ℕ → Option (List ℕ)
+behind front word = if starts_with eqb word front then Some (drop (length front) word) else None
+
+-- the file in one word with its option, and the words behind that; a file without octets is missing
+abbrev pub asking_in_word : Doing → List ℕ → Option (List ℕ) → List (List ℕ) → Result Asking Mistake
+asking_in_word doing word None more = Err (unexpected word)
+asking_in_word doing word (Some file) more = if length file == 0 then Err missing else alone (asking_with_file doing file) more
+
 -- the words behind `script` or `check`
 abbrev pub file_asking : Doing → List (List ℕ) → Result Asking Mistake
 file_asking doing [] = Err missing
 file_asking doing (option ∷ more) =
     if bytes_eq option (codes "--config") then asking_with_file_in doing (file_behind more)
-    else if bytes_eq option (codes "--help") then alone help more
-    else Err (unexpected option)
+    else if is_help option then alone help more
+    else asking_in_word doing option (behind (codes "--config=") option) more
 
 -- a first word, with those behind it
 abbrev pub asking_with : List ℕ → List (List ℕ) → Result Asking Mistake
 asking_with word more =
     if bytes_eq word (codes "script") then file_asking RunsScript more
     else if bytes_eq word (codes "check") then file_asking ChecksFile more
-    else if bytes_eq word (codes "--help") then alone help more
-    else if bytes_eq word (codes "--version") then alone version more
+    else if is_help word then alone help more
+    else if is_version word then alone version more
     else Err (unexpected word)
 
 -- What the words of a command line ask for, its name first.

@@ -1,8 +1,9 @@
 //! Why the program ends with another status than 0.
 ghost use Rattle.std.specs.Prelude.{◌≡◌, ◌++◌, OnOk};
 ghost use Rattle.std.specs.Io.KnownBytes.{Appends};
+ghost use Rattle.std.specs.IoError.{error_kind};
 ghost use Rattle.agentd.specs.Telling.{IsTold};
-ghost use Rattle.agentd.specs.Endings.{failure_status, failure_words, failure_name, failure_line, failure_of, run_failure, read_failure, TakesFront, IsLineTaken};
+ghost use Rattle.agentd.specs.Endings.{failure_status, failure_words, failure_name, failure_line, failure_of, words_failure, run_failure, read_failure, TakesFront, IsLineTaken};
 
 use crate::files::NotRead;
 use crate::opening::NotRun;
@@ -37,6 +38,8 @@ pub enum Failure<'a> {
 }
 
 impl From<io::Error> for Failure<'_> {
+    ghost from_gives = { λ error failure. failure ≡ words_failure (error_kind error) };
+
     // Words that cannot be read are no text; want of memory for them is not their fault.
     fn from(error: io::Error) -> Self {
         match error.kind() {

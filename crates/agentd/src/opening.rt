@@ -77,7 +77,8 @@ fn read_configuration(alloc: Global, octets: &[u8]) -> Result<Configuration, Not
 /// and its ports.
 ///
 /// # Errors
-/// `Refused` only where the octets say no configuration; `Memory` only where they are a text.
+/// `Refused` only where the octets say no configuration; `Memory` only where they are a text of more
+/// than white space and comments.
 pub fn open(alloc: Global, octets: &[u8]) -> Result<Opened, NotRun>
     ensures agent { IfOk result (λ o. IsAgentOf octets.now (opening_agent o.world o.bridge)) }
     ensures fault { IfErr result (λ why. IsNotOpened octets.now why) }

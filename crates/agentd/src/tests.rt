@@ -183,6 +183,24 @@ fn takes_no_other_words(rt: HostRuntime) -> Result<(), Fail> {
             ["agentd", "--version", "now"].as_slice(),
             "unexpected word now\n",
         ),
+        (["agentd", "-V", "-h"].as_slice(), "unexpected word -h\n"),
+        (["agentd", "-v"].as_slice(), "unexpected word -v\n"),
+        (
+            ["agentd", "script", "--config="].as_slice(),
+            "--config FILE is missing\n",
+        ),
+        (
+            ["agentd", "check", "--config=", "a.toml"].as_slice(),
+            "--config FILE is missing\n",
+        ),
+        (
+            ["agentd", "check", "--config=a.toml", "b.toml"].as_slice(),
+            "unexpected word b.toml\n",
+        ),
+        (
+            ["agentd", "script", "--conf=a.toml"].as_slice(),
+            "unexpected word --conf=a.toml\n",
+        ),
     ] {
         let run = ran(&rt, words, GET)?;
         assert_eq!(rt; (run.status, run.out.is_empty()), (2, true));
@@ -191,23 +209,34 @@ fn takes_no_other_words(rt: HostRuntime) -> Result<(), Fail> {
     Ok(())
 }
 
+/// Lines of the help, whole.
+const HELP_LINES: [&str; 10] = [
+    "  agentd script --config FILE   runs it by the configuration in FILE, a TOML document",
+    "  agentd check --config FILE    tells whether FILE is a configuration, and if not, what would be right",
+    "--config=FILE in one word is the same as --config FILE.",
+    "                    badframe and the cause",
+    "  link P up         the link of port P goes up: the BPDUs that are sent",
+    "  link P down       the link of port P goes down: the same",
+    "  policy, end       the lines of TOML between them are the policy from there on: policy ok, or policy",
+    "  any other line    badline",
+    "Without words the built-in configuration runs: address 02000000000A, two ports, the communities public and admin.",
+    "Example: printf 'link 1 up\\ntick 2\\n' | agentd script --config agentd.toml",
+];
+
 #[test]
 fn tells_its_help(rt: HostRuntime) -> Result<(), Fail> {
     for words in [
         ["agentd", "--help"].as_slice(),
+        ["agentd", "-h"].as_slice(),
         ["agentd", "script", "--help"].as_slice(),
+        ["agentd", "script", "-h"].as_slice(),
         ["agentd", "check", "--help"].as_slice(),
+        ["agentd", "check", "-h"].as_slice(),
     ] {
         let run = ran(&rt, words, GET)?;
         let text = std::str::from_utf8(run.out.as_slice())?;
-        for told in [
-            "agentd script --config FILE",
-            "agentd check --config FILE",
-            "link P up         the link of port P goes up",
-            "Without words the built-in configuration runs: address 02000000000A",
-            "Example: printf 'link 1 up\\ntick 2\\n' | agentd script --config",
-        ] {
-            assert!(rt; text.contains(told), "{told}");
+        for told in HELP_LINES {
+            assert!(rt; text.lines().any(|line| line == told), "{told}");
         }
         assert_eq!(rt; (run.status, run.errors.is_empty()), (0, true));
     }
@@ -216,11 +245,13 @@ fn tells_its_help(rt: HostRuntime) -> Result<(), Fail> {
 
 #[test]
 fn tells_its_version(rt: HostRuntime) -> Result<(), Fail> {
-    let run = ran(&rt, &["agentd", "--version"], GET)?;
-    assert_eq!(rt;
-        (run.status, run.out.as_slice(), run.errors.as_slice()),
-        (0, b"agentd 0.1\n".as_slice(), b"".as_slice())
-    );
+    for word in ["--version", "-V"] {
+        let run = ran(&rt, &["agentd", word], GET)?;
+        assert_eq!(rt;
+            (run.status, run.out.as_slice(), run.errors.as_slice()),
+            (0, b"agentd 0.1\n".as_slice(), b"".as_slice())
+        );
+    }
     Ok(())
 }
 
@@ -261,6 +292,25 @@ fn runs_by_a_file(rt: HostRuntime) -> Result<(), Fail> {
         (run.status, run.out.as_slice(), run.errors.as_slice()),
         (0, REPLY, b"".as_slice())
     );
+    Ok(())
+}
+
+// FILE stands in one word with its option, or behind it.
+#[test]
+fn takes_a_file_in_one_word(rt: HostRuntime) -> Result<(), Fail> {
+    fs::write(&rt, "one_word.toml", OTHER.as_bytes())?;
+    let checked = ran(&rt, &["agentd", "check", "--config=one_word.toml"], GET)?;
+    let run = ran(
+        &rt,
+        &["agentd", "script", "--config=one_word.toml"],
+        OTHER_SCRIPT,
+    )?;
+    fs::remove_file(&rt, "one_word.toml")?;
+    assert_eq!(rt;
+        (checked.status, checked.out.as_slice()),
+        (0, b"configuration ok\n".as_slice())
+    );
+    assert_eq!(rt; (run.status, run.out.as_slice()), (0, OTHER_TEXT));
     Ok(())
 }
 

@@ -1,6 +1,6 @@
 //! What the words of the command line ask for.
-ghost use Rattle.std.specs.Prelude.{◌≡◌, map, string_bytes, Ok, Err, MatchResult};
-ghost use Rattle.agentd.specs.Words.{asking_with_file, file_behind, alone, file_asking, asking_with, asking_of, asked_view, wrong_view, asking_view};
+ghost use Rattle.std.specs.Prelude.{◌≡◌, map, option_map, codes, string_bytes, Ok, Err, MatchResult};
+ghost use Rattle.agentd.specs.Words.{asking_with_file, file_behind, alone, behind, asking_in_word, file_asking, asking_with, asking_of, asked_view, wrong_view, asking_view};
 
 /// What `agentd --help` tells.
 pub const HELP: &str = "An SNMPv2c agent of a bridge, driven by a script
@@ -9,17 +9,23 @@ Usage:
   agentd                        runs the script on standard input by the built-in configuration
   agentd script --config FILE   runs it by the configuration in FILE, a TOML document
   agentd check --config FILE    tells whether FILE is a configuration, and if not, what would be right
-  agentd --help                 tells this, as agentd script --help and agentd check --help do
-  agentd --version              tells the version
+  agentd --help                 tells this, as agentd script --help and agentd check --help do; also -h
+  agentd --version              tells the version; also -V
+
+--config=FILE in one word is the same as --config FILE.
 
 Lines of a script, from standard input:
   request HEX       a datagram: reply HEX, or drop and the cause
-  frame P HEX       a frame by port P: forward P,P.. or forward -, then the BPDUs that are sent
+  frame P HEX       a frame by port P: forward P,P.. or forward -, then the BPDUs that are sent, or
+                    badframe and the cause
   tick N            N seconds pass, 1 to 100000: the BPDUs that are sent
-  link P up         the link of port P goes up, or down: the BPDUs that are sent
-  policy, end       the lines of TOML between them are the policy from there on
+  link P up         the link of port P goes up: the BPDUs that are sent
+  link P down       the link of port P goes down: the same
+  policy, end       the lines of TOML between them are the policy from there on: policy ok, or policy
+                    refused
   audit on          each request's audit is told; audit off: no longer
   counts            how many datagrams were dropped, by cause
+  any other line    badline
 
 Without words the built-in configuration runs: address 02000000000A, two ports, the communities public and admin.
 
@@ -73,8 +79,8 @@ fn asked_with<'a>(word: &'a str, more: &'a [String]) -> Result<Asked<'a>, Wrong<
     match word {
         "script" => file_asked(Doing::Script, more),
         "check" => file_asked(Doing::Check, more),
-        "--help" => alone(Asked::Help, more),
-        "--version" => alone(Asked::Version, more),
+        "--help" | "-h" => alone(Asked::Help, more),
+        "--version" | "-V" => alone(Asked::Version, more),
         _ => Err(Wrong::Unexpected(word)),
     }
 }
@@ -107,9 +113,34 @@ fn file_asked<'a>(doing: Doing, more: &'a [String]) -> Result<Asked<'a>, Wrong<'
     };
     match option.as_str() {
         "--config" => Ok(asked_of(doing, file_behind(rest)?)),
-        "--help" => alone(Asked::Help, rest),
-        other => Err(Wrong::Unexpected(other)),
+        "--help" | "-h" => alone(Asked::Help, rest),
+        other => file_asked_in(doing, other, rest),
     }
+}
+
+// What a word `--config=FILE` asks for, and those behind it.
+fn file_asked_in<'a>(
+    doing: Doing,
+    word: &'a str,
+    more: &'a [String],
+) -> Result<Asked<'a>, Wrong<'a>>
+    ensures { asking_view result ≡ asking_in_word doing word.now (behind (codes "--config=") word.now)
+        (map string_bytes more.now) }
+{
+    let Some(file) = behind_config(word) else {
+        return Err(Wrong::Unexpected(word));
+    };
+    if file.is_empty() {
+        return Err(Wrong::Missing);
+    }
+    alone(asked_of(doing, file), more)
+}
+
+// What stands behind `--config=` in a word, if the word begins so.
+fn behind_config(word: &str) -> Option<&str>
+    ensures { option_map (λ file. file.now) result ≡ behind (codes "--config=") word.now }
+{
+    word.strip_prefix("--config=")
 }
 
 // The one word behind `--config`.

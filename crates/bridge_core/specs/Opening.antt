@@ -3,6 +3,7 @@ use Rattle.std.specs.Prelude.{ℕ, ◌==◌, ◌||◌, Bool, not, nat_lt, if◌t
 use Rattle.std.specs.List.{list_all}
 use Rattle.frame_core.specs.declared.mac.Mac.{Mac}
 use Rattle.frame_core.specs.Octets.{is_group}
+use Rattle.rstp_settings.specs.Config.{is_speed}
 use Rattle.rstp_settings.specs.Table.{opening}
 use Rattle.rstp_settings.specs.declared.settings.TheConstants.{MAX_PORTS}
 use Rattle.rstp_settings.specs.declared.config.PortConfig.{PortConfig}
@@ -10,10 +11,6 @@ use Rattle.rstp_core.specs.Tree.{opening_tree}
 use Rattle.bridge_core.specs.declared.fault.BridgeFault.{BridgeFault}
 use Rattle.bridge_core.specs.declared.fault.BridgeFault.TheVariants.{BadPorts, BadAddress, BadSpeed}
 use Rattle.bridge_core.specs.Bridge.{BridgeState, no_counters}
-
--- A speed in Mb/s that a port may have.
-abbrev pub is_speed : ℕ → Bool
-is_speed s = s == 10 || s == 100 || s == 1000
 
 -- The first fault of a configuration: no port or too many; a group address; a speed that no port may have.
 abbrev pub fault_of : Mac → List PortConfig → Option BridgeFault

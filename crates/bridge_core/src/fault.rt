@@ -1,7 +1,8 @@
 //! Why a configuration makes no bridge.
 ghost use Rattle.std.specs.Prelude.{◌≡◌};
 ghost use Rattle.std.specs.List.{list_all};
-ghost use Rattle.bridge_core.specs.Opening.{is_speed, fault_of};
+ghost use Rattle.rstp_settings.specs.Config.{is_speed};
+ghost use Rattle.bridge_core.specs.Opening.{fault_of};
 
 use frame_core::Mac;
 use rstp_core::{MAX_PORTS, PortConfig};

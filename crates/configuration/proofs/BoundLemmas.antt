@@ -18,7 +18,8 @@ use Rattle.configuration.specs.Address.{mac_of, station, address_of}
 use Rattle.configuration.specs.Bounds.{IsWithinBounds}
 use Rattle.configuration.specs.Configurations.{IsConfiguration}
 use Rattle.configuration.specs.Numbers.{number_at}
-use Rattle.configuration.specs.Ports.{is_speed, if_speed, speed_at, port_config_of, IsPortOf, port_says, is_table, if_tables, port_rows}
+use Rattle.rstp_settings.specs.Config.{is_speed}
+use Rattle.configuration.specs.Ports.{if_speed, speed_at, port_config_of, SaysPort, port_says, is_table, if_tables, port_rows}
 
 -- a step that gave a value had one to go on from
 stepped : {A B : Type 0} (o : Option A) (f : A → Option B) (b : B) → option_and_then f o ≡ Some b → (a : A) × (o ≡ Some a) × (f a ≡ Some b)
@@ -66,7 +67,7 @@ config_speed ms p e =
     let same : made ≡ p = same_some made p third.2 in
     sym (ap (λ (q : PortConfig). is_speed q.speed) same) ∙ speed_kept ms second.0 second.1
 
-port_speed : (o : Option Members) (port : Port) → IsPortOf o port → is_speed port.config.speed ≡ true
+port_speed : (o : Option Members) (port : Port) → SaysPort o port → is_speed port.config.speed ≡ true
 port_speed None port h = absurd h
 port_speed (Some ms) port h = config_speed ms port.config h.config
 

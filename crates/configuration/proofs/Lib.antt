@@ -1,3 +1,4 @@
+pub mod BlankLemmas
 pub mod BoundLemmas
 pub mod NoFault
 pub mod PolicyFaults

@@ -4,7 +4,7 @@ use Rattle.std.specs.List.{list_all}
 use Rattle.frame_core.specs.Octets.{is_group}
 use Rattle.rstp_settings.specs.declared.settings.TheConstants.{MAX_PORTS}
 use Rattle.configuration.specs.declared.configuration.Configuration.{Configuration}
-use Rattle.configuration.specs.Ports.{is_speed}
+use Rattle.rstp_settings.specs.Config.{is_speed}
 
 -- The address is no group address, and there are 1 to 32 ports, each of a speed that a port may have.
 pub record IsWithinBounds (c : Configuration) : Type 0 where

@@ -3,7 +3,7 @@ use Rattle.std.specs.Prelude.{◌≡◌, ◌⊎◌, ℕ, codes, if◌then◌else
 use Rattle.toml.specs.Data.{Members, no_members, member, same_key}
 use Rattle.toml.specs.Parse.{parse_document}
 use Rattle.frame_core.specs.declared.mac.Mac.{Mac}
-use Rattle.policy_text.specs.Policies.{Arrays, arrays_of, IsPolicy, IsUnread, IsWrongPolicy}
+use Rattle.policy_text.specs.Policies.{Arrays, arrays_of, IsPolicy, IsUnread, IsWrongPolicy, TakesMemory as PolicyTakesMemory}
 use Rattle.policy_text.specs.Texts.{text_of}
 use Rattle.configuration.specs.declared.configuration.Port.{Port}
 use Rattle.configuration.specs.declared.configuration.Serve.{Serve}
@@ -54,7 +54,7 @@ IsRestFault ms BadServe = ⊥
 IsRestFault ms BadKeys = arrays_of ms ≡ None
 IsRestFault ms (Policy e) = HasKeys ms × (IsUnread ms e ⊎ IsWrongPolicy ms e)
 
--- this is the first fault of the table: of its address, its ports, its way to serve, then of its policy
+-- this is the first fault of the table: of its address, its ports, its way to serve, its policy
 abbrev pub IsFault : Members → ConfigurationFault → Type 0
 IsFault ms Memory = ⊥
 IsFault ms BadText = ⊥
@@ -64,6 +64,14 @@ IsFault ms (BadPort n) = HasAddress ms × IsBadPort ms n
 IsFault ms BadServe = HasAddress ms × HasPorts ms × ((serve : Option Serve) → ¬ IsServing ms serve)
 IsFault ms BadKeys = HasAddress ms × HasPorts ms × HasServing ms × IsRestFault (policy_members ms) BadKeys
 IsFault ms (Policy e) = HasAddress ms × HasPorts ms × HasServing ms × IsRestFault (policy_members ms) (Policy e)
+
+-- Where reading the table may take memory: its address, its ports and its way to serve are right, and
+-- reading its policy takes memory.
+pub record TakesMemory (ms : Members) : Type 0 where
+  pub address : HasAddress ms
+  pub ports : HasPorts ms
+  pub serve : HasServing ms
+  pub policy : PolicyTakesMemory (policy_members ms)
 
 -- the text is a TOML document that says this configuration
 abbrev pub IsConfigurationText : List ℕ → Configuration → Type 0

@@ -1,6 +1,7 @@
 -- The ports of a configuration.
 use Rattle.std.specs.Prelude.{◌≡◌, ◌⊎◌, ℕ, ◌+◌, ◌==◌, ◌&&◌, ◌||◌, Bool, codes, nat_le, is_some, if◌then◌else◌, List, length, take, slice_get, Option, Some, None}
 use Rattle.std.specs.List.{list_all}
+use Rattle.rstp_settings.specs.Config.{is_speed}
 use Rattle.rstp_settings.specs.declared.config.PortConfig.{PortConfig}
 use Rattle.rstp_settings.specs.declared.settings.TheConstants.{MAX_PORTS}
 use Rattle.toml.specs.Data.{Data, Members, get_member, as_table}
@@ -12,10 +13,6 @@ use Rattle.configuration.specs.declared.fault.ConfigurationFault.{ConfigurationF
 use Rattle.configuration.specs.declared.fault.ConfigurationFault.TheVariants.{BadPorts, BadPort}
 use Rattle.configuration.specs.Numbers.{number_at}
 use Rattle.configuration.specs.Sockets.{IsOptional, IsSocket, count_at}
-
--- a speed that a port may have, in Mb/s
-abbrev pub is_speed : ℕ → Bool
-is_speed n = n == 10 || n == 100 || n == 1000
 
 abbrev pub if_speed : ℕ → Option ℕ
 if_speed n = if is_speed n then Some n else None
@@ -40,13 +37,13 @@ pub record IsPort (ms : Members) (port : Port) : Type 0 where
   pub peer : IsOptional IsSocket (get_member (codes "peer") ms) port.peer
   pub keys : key_count ms ≡ port_keys ms
 
-abbrev pub IsPortOf : Option Members → Port → Type 0
-IsPortOf None port = ⊥
-IsPortOf (Some ms) port = IsPort ms port
+abbrev pub SaysPort : Option Members → Port → Type 0
+SaysPort None port = ⊥
+SaysPort (Some ms) port = IsPort ms port
 
 -- the value is a table that says this port
 abbrev pub IsPortRow : Data → Port → Type 0
-IsPortRow d port = IsPortOf (as_table d) port
+IsPortRow d port = SaysPort (as_table d) port
 
 -- the value says this port, or none
 abbrev pub port_says : Data → Option Port → Type 0

@@ -24,7 +24,8 @@ table_key Families = codes "[[family]]"
 table_key Contexts = codes "contexts"
 table_key Communities = codes "[[community]]"
 
--- which keys no earlier row may have
+-- Which keys no earlier row may have. Contexts have none, since they may be equal: no configuration is
+-- at fault for one that stands twice.
 abbrev pub key_rule : PolicyTable → List ℕ
 key_rule Groups = codes "no earlier row may have its model and name"
 key_rule Access = codes "no earlier row may have its group, prefix, model and level"
@@ -40,7 +41,7 @@ length_rule Families = codes "view is to have 1 to 32 octets, mask at most 32 di
 length_rule Contexts = codes "a context is to have at most 32 octets"
 length_rule Communities = codes "index and security are to have 1 to 32 octets, name 1 to 255, context at most 32"
 
--- which keys and values a row is to have: a plain text is of ASCII letters and digits, `-`, `_` and `.`
+-- which keys and values a row is to have: a plain text is of ASCII letters and digits, `-`, `_`, `.`
 abbrev pub field_rule : PolicyTable → List ℕ
 field_rule Groups = codes "it is to be a table whose keys are model (1 to 2147483647), name and group (strings of ASCII letters and digits, -, _ and .), and no others"
 field_rule Access =
@@ -62,7 +63,7 @@ policy_sentence (BadField table row) = row_sentence (table_key table) row (field
 -- which keys a port is to have
 abbrev pub port_rule : List ℕ
 port_rule =
-    codes "its keys are to be ifindex (1 to 2147483647), speed (10, 100 or 1000) and full (true or false), and may be listen and peer (as 127.0.0.1:161), and no others"
+    codes "its keys are to be ifindex (1 to 2147483647), speed (10, 100 or 1000 Mb/s) and full (true or false), and may be listen and peer (as 127.0.0.1:161), and no others"
 
 abbrev pub sentence : ConfigurationFault → List ℕ
 sentence Memory = memory_sentence

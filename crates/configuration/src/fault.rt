@@ -6,6 +6,9 @@ use community_core::PolicyFault;
 use thiserror::Error;
 
 /// Why a configuration is refused: its first fault, in the order of the cases from `BadText` on.
+///
+/// The numbers of rows, of `BadPort` and of the faults of a policy, count from 0, and so do the texts
+/// of `Display`; the sentences of [`sentence`](crate::sentence) count the same rows from 1.
 #[derive(Clone, Copy, Debug, PartialEq, Eq, Error)]
 pub enum ConfigurationFault {
     /// A growth was refused, which says nothing of the configuration.
@@ -26,10 +29,12 @@ pub enum ConfigurationFault {
     /// `serve` is there and is no table of `snmp`, `workers` and `rounds`.
     #[error("`serve` does not say how to serve")]
     BadServe,
-    /// The rest has not exactly the keys `contexts`, `community`, `group`, `access` and `family`, each an array.
+    /// The rest has not exactly the keys `contexts`, `community`, `group`, `access` and `family`,
+    /// each an array.
     #[error("the rest of the keys are not those of a policy")]
     BadKeys,
-    /// The rest has the keys of a policy and is none, and this is its first fault.
+    /// The rest has the keys of a policy and is none, and this is its first fault, of a row counted
+    /// from 0.
     #[error("{0}")]
     Policy(PolicyFault),
 }

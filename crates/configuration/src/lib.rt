@@ -1,16 +1,19 @@
-//! The configuration of an agent: the bridge's address and ports, where it is served, and its policy, as they are
-//! written in TOML.
+//! The configuration of an agent: the bridge's address and ports, where it is served, and its
+//! policy, as they are written in TOML.
 //!
 //! # Entry points
-//! [`configuration_in`] reads octets, [`configuration_of_text`] a text, [`configuration_of`] a table of TOML; each gives the configuration or its
-//! first fault. [`sentence`] is what an operator is told of a fault.
+//! [`configuration_in`] reads octets, [`configuration_of_text`] a text, [`configuration_of`] a table
+//! of TOML; each gives the configuration or its first fault. [`sentence`] is what an operator is told
+//! of a fault.
 //!
 //! # Definitions
-//! `specs/Configurations.antt`: what a configuration says, and its first fault; a file for each part;
-//! `specs/Bounds.antt`: the bounds of each; `specs/Sentences.antt`: the text of each fault.
+//! `specs/Configurations.antt`: what a configuration says, its first fault, and where reading it
+//! takes memory; a file for each part; `specs/Bounds.antt`: the bounds of each;
+//! `specs/Sentences.antt`: the text of each fault.
 //!
 //! # Laws
-//! In [`laws`]: a table that says a configuration has no fault; a configuration is one that a bridge can have; the limits are what they are.
+//! In [`laws`]: a table that says a configuration has no fault; a configuration is one that a bridge
+//! can have; the limits are what they are.
 //!
 //! # Not claimed
 //! That memory is there; TOML and the texts of socket addresses, whose readers are the kit's.

@@ -117,7 +117,8 @@ fn port_rows(table: &Table) -> Option<&Vec<Value>>
 ///
 /// # Errors
 ///
-/// `BadPorts` where `port` is no array of 1 to 32 tables, else `BadPort` of the first that is no port.
+/// `BadPorts` where `port` is no array of 1 to 32 tables, else `BadPort` of the first that is no
+/// port, counted from 0.
 pub fn ports_of(table: &Table) -> Result<ArrayVec<Port, MAX_PORTS>, ConfigurationFault>
     ensures ports { IfOk result (λ ports. ArePorts (table_view table.now) ports.items) }
     ensures fault { IfErr result (λ e. IsPortsFault (table_view table.now) e) }

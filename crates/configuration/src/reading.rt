@@ -1,10 +1,10 @@
 //! Reads a configuration.
-ghost use Rattle.std.specs.Prelude.{◌≡◌, ◌≢◌, ◌⊎◌, ◌↔◌, IsSome, IfOk, IfErr};
-ghost use Rattle.toml.specs.Errors.{IsMemory};
+ghost use Rattle.std.specs.Prelude.{◌≡◌, ◌≢◌, ◌⊎◌, ◌↔◌, IfOk, IfErr};
+ghost use Rattle.toml.specs.Errors.{IsMemory, IsBlank};
 ghost use Rattle.toml.specs.View.{table_view};
-ghost use Rattle.policy_text.specs.Policies.{IsPolicy, TakesMemory};
-ghost use Rattle.policy_text.specs.Texts.{text_of};
-ghost use Rattle.configuration.specs.Configurations.{without, policy_members, IsRestFault, IsConfiguration, IsFault, IsConfigurationText, IsTextFault, IsConfigurationIn, IsFaultIn};
+ghost use Rattle.policy_text.specs.Policies.{IsPolicy, TakesMemory as PolicyTakesMemory};
+ghost use Rattle.policy_text.specs.Texts.{HasContent};
+ghost use Rattle.configuration.specs.Configurations.{without, policy_members, IsRestFault, IsConfiguration, IsFault, TakesMemory, IsConfigurationText, IsTextFault, IsConfigurationIn, IsFaultIn};
 
 use crate::address::address_of;
 use crate::configuration::Configuration;
@@ -37,7 +37,7 @@ fn rest_policy(alloc: Global, table: &Table) -> Result<Policy, ConfigurationFaul
     ensures fault { IfErr result (λ e. e ≢ ConfigurationFault.Memory →
         IsRestFault (table_view table.now) e) }
     ensures memory { IfErr result (λ e. e ≡ ConfigurationFault.Memory →
-        TakesMemory (table_view table.now)) }
+        PolicyTakesMemory (table_view table.now)) }
 {
     if !has_policy_keys(table) {
         return Err(ConfigurationFault::BadKeys);
@@ -49,15 +49,15 @@ fn rest_policy(alloc: Global, table: &Table) -> Result<Policy, ConfigurationFaul
 ///
 /// # Errors
 ///
-/// The first fault, of `address`, then of `port`, then of `serve`, then of the keys of the rest, which is the
-/// policy's table, then of their values; `Memory` where a growth was refused, which comes only where reading the policy may
-/// lack memory.
+/// The first fault, of `address`, then of `port`, then of `serve`, then of the keys of the rest,
+/// which is the policy's table, then of their values; `Memory` where a growth was refused, which
+/// comes only where `address`, `port` and `serve` are right and reading the policy takes memory.
 pub fn configuration_of(alloc: Global, table: Table) -> Result<Configuration, ConfigurationFault>
     ensures configuration { IfOk result (λ c. IsConfiguration (table_view table) c) }
     ensures fault { IfErr result (λ e. e ≢ ConfigurationFault.Memory →
         IsFault (table_view table) e) }
     ensures memory { IfErr result (λ e. e ≡ ConfigurationFault.Memory →
-        TakesMemory (policy_members (table_view table))) }
+        TakesMemory (table_view table)) }
 {
     let address = address_of(&table).ok_or(ConfigurationFault::BadAddress)?;
     let ports = ports_of(&table)?;
@@ -71,7 +71,7 @@ pub fn configuration_of(alloc: Global, table: Table) -> Result<Configuration, Co
     })
 }
 
-// Why a text is no TOML document.
+// Why a text was not read as a TOML document.
 fn text_fault(error: &toml::de::Error) -> ConfigurationFault
     ensures memory { IsMemory error.now → result ≡ ConfigurationFault.Memory }
     ensures text { ¬ IsMemory error.now → result ≡ ConfigurationFault.BadText }
@@ -87,10 +87,12 @@ fn text_fault(error: &toml::de::Error) -> ConfigurationFault
 ///
 /// # Errors
 ///
-/// `BadText` where the text is no TOML document, else as [`configuration_of`] has it.
+/// `BadText` where the text is no TOML document, else as [`configuration_of`] has it; `Memory` where
+/// a growth was refused, which only a text of more than white space and comments may meet.
 pub fn configuration_of_text(alloc: Global, text: &str) -> Result<Configuration, ConfigurationFault>
     ensures configuration { IfOk result (λ c. IsConfigurationText text.now c) }
     ensures fault { IfErr result (λ e. e ≢ ConfigurationFault.Memory → IsTextFault text.now e) }
+    ensures memory { IfErr result (λ e. e ≡ ConfigurationFault.Memory → ¬ IsBlank text.now) }
 {
     match toml::table_from_str(alloc, text) {
         Ok(table) => configuration_of(alloc, table),
@@ -102,12 +104,13 @@ pub fn configuration_of_text(alloc: Global, text: &str) -> Result<Configuration,
 ///
 /// # Errors
 ///
-/// `BadText` where the octets are no UTF-8 (RFC 3629), which takes no memory, else as [`configuration_of_text`] has it.
+/// `BadText` where the octets are no UTF-8 (RFC 3629), which takes no memory, else as
+/// [`configuration_of_text`] has it.
 pub fn configuration_in(alloc: Global, octets: &[u8]) -> Result<Configuration, ConfigurationFault>
     ensures configuration { IfOk result (λ c. IsConfigurationIn octets.now c) }
     ensures fault { IfErr result (λ e. e ≢ ConfigurationFault.Memory → IsFaultIn octets.now e) }
     ensures memory { IfErr result (λ e. e ≡ ConfigurationFault.Memory →
-        IsSome (text_of octets.now)) }
+        HasContent octets.now) }
 {
     match text_of(octets) {
         Some(text) => configuration_of_text(alloc, text),

@@ -38,7 +38,7 @@ fn table_key(table: PolicyTable) -> &'static str
     }
 }
 
-// Which keys no earlier row may have.
+// Which keys no earlier row may have. Contexts may be equal, so no fault is told of one by this.
 fn key_rule(table: PolicyTable) -> &'static str
     ensures { result.now ≡ key_rule table }
 {
@@ -114,7 +114,7 @@ fn policy_sentence(alloc: Global, fault: PolicyFault) -> Result<String, AllocErr
 
 // Which keys a port is to have.
 const PORT_RULE: &str =
-    "its keys are to be ifindex (1 to 2147483647), speed (10, 100 or 1000) and full (true or false), and may be listen and peer (as 127.0.0.1:161), and no others";
+    "its keys are to be ifindex (1 to 2147483647), speed (10, 100 or 1000 Mb/s) and full (true or false), and may be listen and peer (as 127.0.0.1:161), and no others";
 
 // What is said of `serve`.
 const SERVE_SENTENCE: &str =
@@ -124,8 +124,8 @@ const SERVE_SENTENCE: &str =
 const KEYS_SENTENCE: &str =
     "top level: its keys are to be address, port, contexts, community, group, access and family, the last five arrays, and may be serve, and no others";
 
-/// What an operator is told of a fault, in one line without its end: the table and the row, counted from 1, or the top level, and
-/// what would be right there.
+/// What an operator is told of a fault, in one line without its end: the table and the row, counted
+/// from 1, or the top level, and what would be right there.
 ///
 /// # Errors
 /// `AllocError` where there is no memory for it.

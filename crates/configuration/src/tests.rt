@@ -221,7 +221,7 @@ fn faults_are_told(rt: HostRuntime) -> Result<(), Fail> {
         ),
         (
             [ADDRESS, POLICY, PORT, slow],
-            "row 2 of [[port]], counted from 1: its keys are to be ifindex (1 to 2147483647), speed (10, 100 or 1000) and full (true or false), and may be listen and peer (as 127.0.0.1:161), and no others",
+            "row 2 of [[port]], counted from 1: its keys are to be ifindex (1 to 2147483647), speed (10, 100 or 1000 Mb/s) and full (true or false), and may be listen and peer (as 127.0.0.1:161), and no others",
         ),
         (
             [ADDRESS, "name = 1\n", POLICY, PORT],

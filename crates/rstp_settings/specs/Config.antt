@@ -3,6 +3,10 @@ use Rattle.std.specs.Prelude.{ℕ, Bool, false, ◌&&◌, ◌||◌, if◌then◌
 use Rattle.rstp_settings.specs.declared.key.TheConstants.{POINT_TO_POINT_TRUE, POINT_TO_POINT_AUTO}
 use Rattle.rstp_settings.specs.declared.config.PortConfig.{PortConfig}
 
+-- A speed in Mb/s that a port may have.
+abbrev pub is_speed : ℕ → Bool
+is_speed speed = speed == 10 || speed == 100 || speed == 1000
+
 -- The default cost of a speed in Mb/s (17.14).
 abbrev pub default_cost : ℕ → ℕ
 default_cost speed = if speed == 10 then 2000000 else (if speed == 100 then 200000 else 20000)

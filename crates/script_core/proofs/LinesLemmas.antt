@@ -1,7 +1,7 @@
 -- How lines are cut as a text grows, and that they are the text's only lines.
-use Rattle.std.proofs.Common.{◌≡◌, ◌≢◌, ◌⊎◌, inl, inr, ℕ, ◌<◌, List, [], ◌∷◌, ◌++◌, length, All, eqb, refl, ap, ◌∙◌, ne_eqb, eq-eqb, append_assoc, sym, arith}
+use Rattle.std.proofs.Common.{◌≡◌, ◌≢◌, ◌⊎◌, inl, inr, ℕ, ◌<◌, List, [], ◌∷◌, ◌++◌, length, All, Contains, eqb, refl, ap, ◌∙◌, ne_eqb, eq-eqb, append_assoc, sym, arith}
 use Rattle.std.proofs.lemmas.Bool.{cases_Bool, eqb-true}
-use Rattle.std.proofs.lemmas.List.Elements.{All-head, All-tail, All-cons, All-nil}
+use Rattle.std.proofs.lemmas.List.Elements.{All-head, All-tail, All-cons, All-nil, Contains-append_right}
 use Rattle.std.specs.List.{flat_map}
 use Rattle.script_core.specs.Lines.{onto_first, lines_of, first_line, with_end, HasNoEnd, IsOpen, AreLines}
 
@@ -51,6 +51,11 @@ pub first_line-some : (part : List ℕ) (octet : ℕ) (rest : List ℕ) → HasN
 first_line-some [] octet rest h other = first_line-octet octet rest other
 first_line-some (b ∷ bs) octet rest h other =
     first_line-octet b (bs ++ (octet ∷ rest)) (All-head (λ x. x ≢ 10) b bs h)
+
+-- what is read behind the part of a line has its end where the end is its first octet
+pub contains_end : (part more : List ℕ) (octet : ℕ) (rest : List ℕ) → more ≡ octet ∷ rest → octet ≡ 10 → Contains (part ++ more) 10
+contains_end part more octet rest begins ended =
+    Contains-append_right part more 10 (rw (begins, ended) (0, omega arith, refl))
 
 -- ---- the only lines
 

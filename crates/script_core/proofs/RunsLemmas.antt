@@ -1,5 +1,5 @@
 -- How what is said adds up, and how a reader's octets are followed.
-use Rattle.std.proofs.Common.{◌≡◌, ◌≢◌, inl, inr, ◌<◌, length, ℕ, List, [], ◌∷◌, ◌++◌, Option, None, Some, IfSome, refl, ap, ◌∙◌, append_assoc, append-nil, length-append, sym, arith}
+use Rattle.std.proofs.Common.{◌≡◌, ◌≢◌, ◌⊎◌, inl, inr, ◌<◌, length, Contains, ℕ, List, [], ◌∷◌, ◌++◌, Option, None, Some, IfSome, refl, ap, ◌∙◌, append_assoc, append-nil, length-append, sym, arith}
 use Rattle.std.proofs.KnownBytes.{Appends-nil, Appends-trans, Appends-kept}
 use Rattle.std.proofs.lemmas.List.Elements.{All-append, All-cons, All-nil}
 use Rattle.std.proofs.lemmas.List.Concat.{flat_map-append}
@@ -223,14 +223,20 @@ module _ {X : Type 0} (line_says : X → List ℕ → List ℕ → X → Type 0)
   module _ (may_line : X → List ℕ → LineFault → Type 0) {fault : LineFault} where
     Feeds-gives_up_line : {a b : X} {octets left rest s t : List ℕ} → Feeds line_says a octets b left s
         → GivesUpLine line_says may_line b fault left rest t → GivesUpLine line_says may_line a fault octets rest (s ++ t)
-    Feeds-gives_up_line p q = record { between = q.between; left = q.left; some = q.some; feeds = Feeds-more p q.feeds; may = q.may }
+    Feeds-gives_up_line p q = record { between = q.between; left = q.left; some = q.some; feeds = Feeds-more p q.feeds; may = q.may; ended = q.ended }
 
     -- the line whose part this is, and more of which was read
     pub GivesUpLine-within : {a b : X} {octets rest s : List ℕ} (part more : List ℕ) → 0 < length more
-        → MayGiveUpLine line_says may_line b (first_line (part ++ more)) fault
+        → MayGiveUpLine line_says may_line b (first_line (part ++ more)) fault → (fault ≡ Memory) ⊎ Contains (part ++ more) 10
         → Feeds line_says a octets b (part ++ (more ++ rest)) s → GivesUpLine line_says may_line a fault octets rest s
-    GivesUpLine-within {a} {b} part more some may p =
-        record { between = b; left = part ++ more; some = omega (arith, length-append part more); feeds = rw append_assoc p; may = may }
+    GivesUpLine-within {a} {b} part more some may ended p = record {
+      between = b;
+      left = part ++ more;
+      some = omega (arith, length-append part more);
+      feeds = rw append_assoc p;
+      may = may;
+      ended = elim ended [ inl memory ↦ inl memory | inr end ↦ inr (inl end) ];
+    }
 
     pub GivesUpLine-first : {a : X} {octets rest s : List ℕ} → GivesUpLine line_says may_line a fault octets rest s → FeedsFirst line_says a octets s
     GivesUpLine-first {a} {octets} {rest} {s} p = record { between = p.between; left = p.left ++ rest; feeds = p.feeds }
@@ -254,7 +260,14 @@ module _ {X : Type 0} (line_says : X → List ℕ → List ℕ → X → Type 0)
     pub GivesUp-last : {a : X} {line : List ℕ} → HasNoEnd line → 0 < length line → MayGiveUpLine line_says may_line a line fault
         → GivesUp line_says end_says may_line may_end a fault line [] []
     GivesUp-last {a} {line} no_end some may =
-        inl (record { between = a; left = line; some = some; feeds = rw append-nil Feeds-none; may = rw (first_line-last line no_end) may })
+        inl (record {
+          between = a;
+          left = line;
+          some = some;
+          feeds = rw append-nil Feeds-none;
+          may = rw (first_line-last line no_end) may;
+          ended = inr (inr refl);
+        })
 
     -- the end is given up
     pub GivesUp-end : {a : X} {octets s : List ℕ} (b : X) → MayGiveUpEnd end_says may_end b fault → Says line_says a (lines_of octets) s b

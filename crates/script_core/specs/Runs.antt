@@ -1,5 +1,5 @@
 -- What a session says to lines, what was added to octets, and how far a run has come.
-use Rattle.std.specs.Prelude.{◌≡◌, ◌⊎◌, ◌<◌, ℕ, List, [], ◌∷◌, ◌++◌, All, length, Option, None, Some}
+use Rattle.std.specs.Prelude.{◌≡◌, ◌⊎◌, ◌<◌, ℕ, List, [], ◌∷◌, ◌++◌, All, Contains, length, Option, None, Some}
 use Rattle.std.specs.List.{flat_map}
 use Rattle.std.specs.Io.KnownBytes.{Appends}
 use Rattle.script_core.specs.Lines.{lines_of, first_line, with_end, HasNoEnd}
@@ -106,7 +106,8 @@ module _ {X : Type 0} (line_says : X → List ℕ → List ℕ → X → Type 0)
       ⊎ ((fault ≡ Memory) × ((0 < length line) ⊎ SaysSomething (line_says session line)))
 
   -- A line was given up: of an input, `rest` was not read; each line before the one that is given up had ended and was answered, and no
-  -- other was; of that line, which stands at the front of `left`, at least one octet was read, and it may be given up.
+  -- other was; of that line, which stands at the front of `left`, at least one octet was read, and it may be given up. But for want of
+  -- memory it has ended: its end was read, or the input was read to its end.
   pub record GivesUpLine (may_give_up_line : X → List ℕ → LineFault → Type 0)
       (before : X) (fault : LineFault) (input rest text : List ℕ) : Type 0 where
     pub between : X
@@ -114,6 +115,7 @@ module _ {X : Type 0} (line_says : X → List ℕ → List ℕ → X → Type 0)
     pub some : 0 < length left
     pub feeds : Feeds before input between (left ++ rest) text
     pub may : MayGiveUpLine may_give_up_line between (first_line left) fault
+    pub ended : (fault ≡ Memory) ⊎ Contains left 10 ⊎ (rest ≡ [])
 
   -- the end of the script was given up: the input was read to its end, each of its lines was answered, and the end may be given up
   pub record GivesUpEnd (end_says : X → List ℕ → X → Type 0)

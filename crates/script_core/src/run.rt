@@ -1,5 +1,5 @@
 //! Runs a script, a read at a time.
-ghost use Rattle.std.specs.Prelude.{◌≡◌, ◌≢◌, ◌<◌, ℕ, List, [], ◌∷◌, ◌++◌, All, IfSome, IfErr, OnOk, OnErr, length};
+ghost use Rattle.std.specs.Prelude.{◌≡◌, ◌≢◌, ◌⊎◌, ◌<◌, ℕ, List, [], ◌∷◌, ◌++◌, All, IfSome, IfErr, OnOk, OnErr, length};
 ghost use Rattle.std.specs.Io.{ReadsAtMost};
 ghost use Rattle.std.specs.Io.KnownBytes.{Appends, ReadConsumes};
 ghost use Rattle.script_core.specs.Lines.{lines_of, first_line, HasNoEnd};
@@ -64,6 +64,7 @@ fn feed_octet<S: Session>(
     ensures given_up { IfErr result (λ fault. (text rest : List ℕ) → text ≡ octet ∷ rest →
         MayGiveUpLine S.line_says S.may_give_up_line session.old
         (first_line (buffers.old.line.items ++ text)) fault) }
+    ensures ended { IfErr result (λ fault. (fault ≡ LineFault.Memory) ⊎ (octet ≡ LINE_END)) }
 {
     if octet == LINE_END {
         finish_line(session, buffers)?;
@@ -233,7 +234,7 @@ fn close<S: Session, W: Write>(
 /// `Input` where a read fails or the reads run out: each line that had ended is answered, and what
 /// it says is written. `Memory` and `Stopped` where a line, or the end of the script, is given up:
 /// what is said to each line before it is written, and it was read, in part at least. It is `Stopped`
-/// only where the session may end the run. `Output` where a write fails or takes nothing: a front of
+/// only where the session may end the run, at a line that was read to its end. `Output` where a write fails or takes nothing: a front of
 /// what was said is written. A write that was interrupted is made again; a read that was interrupted
 /// has failed.
 pub fn run_script<S: Session, R: Read, W: Write>(
