@@ -12,7 +12,8 @@ use Rattle.agentd.specs.declared.opening.NotRun.{NotRun}
 use Rattle.agentd.specs.declared.opening.NotRun.TheVariants.{Refused, Memory, Stopped}
 use Rattle.agentd.specs.Agents.{IsAgentOf, HasFault}
 
--- Octets were not opened for this reason: what is refused says no configuration, and only a text that is not blank takes memory.
+-- Octets were not opened for this reason: what is refused says no configuration, and only a text
+-- that is not blank takes memory.
 abbrev pub IsNotOpened : List ℕ → NotRun → Type 0
 IsNotOpened octets Refused = HasFault octets
 IsNotOpened octets Memory = HasContent octets
@@ -57,8 +58,8 @@ module _ {I O : Type 0} (remaining : I → Option (List ℕ)) (contents : O → 
     pub is : IsAgentOf octets agent
     pub run : IsScriptRun agent reader reader' writer writer' went
 
-  -- What came of octets: a run; a refusal of what is no configuration; or, of a text that is not blank, want of memory before anything
-  -- was read.
+  -- What came of octets: a run; a refusal of what is no configuration; or, of a text that is not
+  -- blank, want of memory before anything was read.
   abbrev pub IsRunBy : List ℕ → I → I → O → O → Result Run NotRun → Type 0
   IsRunBy octets reader reader' writer writer' (Ok run) = HasRun octets reader reader' writer writer' (Ok run)
   IsRunBy octets reader reader' writer writer' (Err (Stopped fault)) = HasRun octets reader reader' writer writer' (Err fault)

@@ -21,8 +21,8 @@ ok_text = codes "configuration ok\n"
 abbrev pub fault_text : ConfigurationFault → List ℕ
 fault_text fault = sentence fault ++ codes "\n"
 
--- this is the first fault of the octets, unless it is want of memory, which says of them only that they are a text that
--- is not blank
+-- this is the first fault of the octets, unless it is want of memory, which says of them only that
+-- they are a text that is not blank
 abbrev pub IsFaultFound : List ℕ → ConfigurationFault → Type 0
 IsFaultFound octets fault = (fault ≢ Memory → IsFaultIn octets fault) × (fault ≡ Memory → HasContent octets)
 

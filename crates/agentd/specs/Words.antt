@@ -56,10 +56,11 @@ is_version word = bytes_eq word (codes "--version") || bytes_eq word (codes "-V"
 abbrev pub behind : List ℕ → List ℕ → Option (List ℕ)
 behind front word = if starts_with eqb word front then Some (drop (length front) word) else None
 
--- the file in one word with its option, and the words behind that; a file without octets is missing
+-- the file in one word with its option, and the words behind that; a file of no octets is missing
 abbrev pub asking_in_word : Doing → List ℕ → Option (List ℕ) → List (List ℕ) → Result Asking Mistake
 asking_in_word doing word None more = Err (unexpected word)
-asking_in_word doing word (Some file) more = if length file == 0 then Err missing else alone (asking_with_file doing file) more
+asking_in_word doing word (Some file) more =
+    if length file == 0 then Err missing else alone (asking_with_file doing file) more
 
 -- the words behind `script` or `check`
 abbrev pub file_asking : Doing → List (List ℕ) → Result Asking Mistake

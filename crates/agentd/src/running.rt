@@ -29,7 +29,8 @@ fn run_opened<I: Read, O: Write>(
 ///
 /// # Errors
 /// `Refused` only where the octets say no configuration, and `Memory` only where they are a text of
-/// more than white space and comments: then nothing is read or written. `Stopped` as [`run_script`] has it.
+/// more than white space and comments: then nothing is read or written. `Stopped` as [`run_script`]
+/// has it.
 pub fn run_octets<I: Read, O: Write>(
     alloc: Global,
     octets: &[u8],
