@@ -1,7 +1,10 @@
 //! Managed objects and the world that they show, as what requests are answered from.
+ghost use Rattle.std.specs.Prelude.{◌≡◌, ◌≤◌, length, IfOk};
+ghost use Rattle.oid_core.specs.declared.limits.TheConstants.{MAX_NUMBERS};
+
 use crate::source::Source;
 use message_core::{Binding, Value};
-use oid_core::Oid;
+use oid_core::{Oid, OidFault};
 use setphase_core::{MibObject, Registry, World};
 use std::alloc::{AllocError, Global};
 use std::sync::ledger::Ledger;
@@ -17,6 +20,19 @@ pub struct Served<'a, O: MibObject> {
     pub world: &'a World,
 }
 
+// A copy of the name of an object. Only memory can fail.
+fn object_name(alloc: Global, prefix: &[u32]) -> Result<Oid, AllocError>
+    requires some { 1 ≤ length prefix.now }
+    requires most { length prefix.now ≤ MAX_NUMBERS }
+    ensures { IfOk result (λ name. name ≡ prefix.now) }
+{
+    match Oid::from_slice(alloc, prefix) {
+        Ok(name) => Ok(name),
+        Err(OidFault::Memory) => Err(AllocError),
+        Err(_) => unreachable!(),
+    }
+}
+
 impl<O: MibObject> Source for Served<'_, O> {
     ghost use Rattle.setphase_core.specs.Registry.{rows_of, prefixes_of, instances};
 
@@ -29,13 +45,11 @@ impl<O: MibObject> Source for Served<'_, O> {
     }
 
     fn object(&self, alloc: Global, name: &Oid) -> Result<Option<Oid>, AllocError> {
-        let Some(prefix) = self.registry.owner(name.as_slice()) else {
-            return Ok(None);
-        };
-        let Ok(object) = Oid::from_slice(alloc, prefix) else {
-            return Err(AllocError);
-        };
-        Ok(Some(object))
+        self.registry.known(self.world);
+        match self.registry.owner(name.as_slice()) {
+            None => Ok(None),
+            Some(prefix) => Ok(Some(object_name(alloc, prefix)?)),
+        }
     }
 
     fn get(&self, alloc: Global, name: &Oid) -> Result<Option<Value>, AllocError> {
