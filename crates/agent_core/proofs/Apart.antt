@@ -3,7 +3,7 @@ use Rattle.std.proofs.Common.{◌≡◌, ℕ, refl, Bool, true, false, cond, not
 use Rattle.std.proofs.lemmas.Bool.Decides.{eqb_tells, nat_tests}
 use Rattle.std.proofs.lemmas.List.Elements.{All-cons, All-weaker}
 use Rattle.oid_core.specs.Order.{is_prefix}
-use Rattle.agent_core.specs.World.{is_apart, AreApart}
+use Rattle.setphase_core.specs.Registry.{is_apart, AreApart}
 use Rattle.agent_core.specs.Reading.{object_of}
 use Rattle.agent_core.proofs.Pairs.{pairs_head, pairs_tail}
 

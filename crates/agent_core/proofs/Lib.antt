@@ -10,3 +10,4 @@ pub mod Repeats
 pub mod Longest
 pub mod LawProofs
 pub mod Denials
+pub mod Owners

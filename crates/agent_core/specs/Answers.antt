@@ -92,22 +92,22 @@ abbrev pub with_count_of : World → Cause → World
 with_count_of world UnknownCommunity = record world { bad_communities = one_more world.bad_communities }
 with_count_of world (NoSuchContext name) = record world { unknown_contexts = one_more world.unknown_contexts }
 
--- A request that is dropped is counted, and nothing else changes.
-abbrev pub world_by : World → Decision → World
-world_by world (Drop cause) = with_count_of world cause
-world_by world Empty = world
-world_by world (Refused why) = world
-world_by world (Allowed row view) = world
+-- A request that is dropped is counted, and nothing else changes: `counted` is the world with one more request that a cause drops.
+abbrev pub world_by : (W : Type 0) → (W → Cause → W) → W → Decision → W
+world_by W counted world (Drop cause) = counted world cause
+world_by W counted world Empty = world
+world_by W counted world (Refused why) = world
+world_by W counted world (Allowed row view) = world
 
 unfoldable pub world_after : World → Request → World
-world_after world request = world_by world (decision_on world.policy request)
+world_after world request = world_by World with_count_of world (decision_on world.policy request)
 
 -- One step of a request: its outcome, and the world after it. It sends no BPDU, since nothing can be written.
-pub record Step : Type 0 where
+pub record Step (W : Type 0) : Type 0 where
   pub outcome : Outcome
-  pub world : World
+  pub world : W
 
-abbrev pub step_of : World → Request → Step
+abbrev pub step_of : World → Request → Step World
 step_of world request = record { outcome = outcome_of (shown_of world) request; world = world_after world request }
 
 -- a reply stands in the buffer in its minimal encoding, and this is told of it
@@ -126,18 +126,22 @@ IsAnswered (dropped cause audit) (answered.Reply len told) buffer = ⊥
 IsAnswered (dropped cause audit) (answered.NoReply told) buffer = (buffer.reply ≡ []) × (told ≡ audit)
 
 -- the step is done: the outcome is told, and the world is as it makes it
-pub record IsDone (step : Step) (told : Answered) (buffer : Buffered) (later : World) : Type 0 where
+pub record IsDone (W : Type 0) (step : Step W) (told : Answered) (buffer : Buffered) (later : W) : Type 0 where
   pub answer : IsAnswered step.outcome told buffer
   pub world : later ≡ step.world
 
 -- There was no memory for the step: nothing is changed and nothing told, and the request is one whose answer may take some.
-pub record IsShort (before : World) (request : Request) (buffer : Buffered) (later : World) : Type 0 where
+pub record IsShort (W : Type 0) (shown : Shown) (before : W) (request : Request) (buffer : Buffered) (later : W) : Type 0 where
   pub empty : buffer.reply ≡ []
   pub unchanged : later ≡ before
-  pub kept : TakesMemory (shown_of before) request
+  pub kept : TakesMemory shown request
   pub community : length request.community ≤ MAX_COMMUNITY
 
--- a step, as far as there is memory for it
+-- a step from a world that shows this, as far as there is memory for it
+abbrev pub IsStepFrom : (W : Type 0) → Shown → Step W → W → Request → Result Answered AllocError → Buffered → W → Type 0
+IsStepFrom W shown step before request (Ok told) buffer later = IsDone W step told buffer later
+IsStepFrom W shown step before request (Err e) buffer later = IsShort W shown before request buffer later
+
+-- a step over a plain world
 abbrev pub IsStep : World → Request → Result Answered AllocError → Buffered → World → Type 0
-IsStep before request (Ok told) buffer later = IsDone (step_of before request) told buffer later
-IsStep before request (Err e) buffer later = IsShort before request buffer later
+IsStep before request result buffer later = IsStepFrom World (shown_of before) (step_of before request) before request result buffer later

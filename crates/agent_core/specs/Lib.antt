@@ -8,3 +8,4 @@ pub mod Fitting
 pub mod Sending
 pub mod Replies
 pub mod Answers
+pub mod Serving

@@ -1,17 +1,9 @@
 -- What requests are answered from, and what a plain world holds.
-use Rattle.std.specs.Prelude.{ℕ, Bool, not, ◌&&◌, IsTrue, List, AllPairs}
-use Rattle.oid_core.specs.Order.{is_prefix}
+use Rattle.std.specs.Prelude.{ℕ, List}
 use Rattle.message_core.specs.Instances.{IsServable}
 use Rattle.message_core.specs.declared.binding.Binding.{Binding}
 use Rattle.community_core.specs.Communities.{PolicyTables}
-
--- neither name begins the other
-abbrev pub is_apart : List ℕ → List ℕ → Bool
-is_apart a b = not (is_prefix a b) && not (is_prefix b a)
-
--- no object's name begins another's
-abbrev pub AreApart : List (List ℕ) → Type 0
-AreApart objects = AllPairs (λ a b. IsTrue (is_apart a b)) objects
+use Rattle.setphase_core.specs.Registry.{AreApart}
 
 -- what a source promises of its instances and objects
 pub record IsSource (instances : List Binding) (objects : List (List ℕ)) : Type 0 where

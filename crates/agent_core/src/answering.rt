@@ -76,7 +76,7 @@ pub fn answer(
 }
 
 // What a request is answered that is dropped. Takes no memory.
-fn drop_request(alloc: Global, request: &Request, cause: Cause) -> Answered
+pub(crate) fn drop_request(alloc: Global, request: &Request, cause: Cause) -> Answered
     ensures { result ≡ Answered.NoReply (drop_audit request.now cause) }
 {
     Answered::NoReply(Audit {
@@ -89,7 +89,7 @@ fn drop_request(alloc: Global, request: &Request, cause: Cause) -> Answered
 }
 
 // What a request is answered whose reply stands in the buffer.
-fn reply_with(
+pub(crate) fn reply_with(
     request: &Request,
     decision: Decision,
     denied: DeniedBindings,
@@ -152,7 +152,7 @@ fn send_allowed(
 }
 
 // Answers a request by its kind, and counts nothing: the ledger is a new one.
-fn send_kind<S: Source, V: View, L: Ledger>(
+pub(crate) fn send_kind<S: Source, V: View, L: Ledger>(
     alloc: Global,
     source: &S,
     view: &V,

@@ -3,7 +3,7 @@ ghost use Rattle.std.specs.Prelude.{◌≡◌, ◌↔◌, IfOk, IsOk, IsErrOf, I
 ghost use Rattle.oid_core.specs.Order.{name_lt};
 ghost use Rattle.std.specs.Option.{option_copied};
 ghost use Rattle.message_core.specs.Encodable.{AreEncodable};
-ghost use Rattle.agent_core.specs.World.{AreApart, is_apart};
+ghost use Rattle.setphase_core.specs.Registry.{AreApart, is_apart};
 ghost use Rattle.agent_core.specs.Reading.{object_of};
 ghost use Rattle.message_core.specs.Instances.{AreValued, IsInstanceValue, IsRising, next_of, value_of};
 ghost use Rattle.agent_core.specs.Answers.{with_count_of};

@@ -93,11 +93,13 @@ impl<O: MibObject> Registry<O> {
     }
 
     /// Hands on that the objects are in the order of their names, none of which begins another,
-    /// that the names of the instances rise, and that each instance can be served, whatever the
-    /// objects and the world are; it does nothing.
+    /// that each stands under 1.3 and has room behind it for any index, that the names of the
+    /// instances rise, and that each instance can be served, whatever the objects and the world are;
+    /// it does nothing.
     pub fn known(&self, world: &World)
         ensures ordered { first_fault (rows_of self.now) ≡ None }
         ensures apart { AreApart (prefixes_of (rows_of self.now)) }
+        ensures named { AreNamed (rows_of self.now) }
         ensures servable { IsServable (instances (rows_of self.now) world.now) }
     {
         let _objects = self.objects.as_slice();

@@ -1,5 +1,5 @@
 use Rattle.std.proofs.Common.{ℕ, List, rules, IsTrue}
-use Rattle.agent_core.specs.World.{is_apart}
+use Rattle.setphase_core.specs.Registry.{is_apart}
 use Rattle.agent_core.proofs.Pairs.{pairs_step, pairs_not}
 use Rattle.agent_core.proofs.world.+are_apart.Goals as goal
 

@@ -1,0 +1,114 @@
+//! Answers a request over managed objects and the world that they show (RFC 3416, 4.2).
+ghost use Rattle.std.specs.Prelude.{◌≡◌, ◌≢◌, ◌≤◌, length, IfOk, OnErr};
+ghost use Rattle.message_core.specs.Encodable.{AreEncodable};
+ghost use Rattle.message_core.specs.declared.limits.TheConstants.{MAX_COMMUNITY};
+ghost use Rattle.vacm_core.specs.Families.{in_view};
+ghost use Rattle.setphase_core.specs.Registry.{rows_of, prefixes_of, instances};
+ghost use Rattle.agent_core.specs.Replies.{kind_reply};
+ghost use Rattle.agent_core.specs.Answers.{IsSent};
+ghost use Rattle.agent_core.specs.Serving.{IsStep, with_count_of};
+
+use crate::answered::Answered;
+use crate::answering::{drop_request, reply_with, send_kind};
+use crate::buffer::Buffer;
+use crate::denying::denied_bindings;
+use crate::sent_reply::SentReply;
+use crate::served::Served;
+use crate::views::PolicyView;
+use audit_core::DeniedBindings;
+use decision::{Cause, Decision, decide};
+use message_core::{ErrorStatus, Kind, Request};
+use setphase_core::{MibObject, Registry, World};
+use std::alloc::{AllocError, Global};
+use std::marker::Brand;
+use std::sync::ledger::Blank;
+use vacm_core::Name;
+
+/// Answers a request by RFC 3416, 4.2, over what the objects show of the world, as its policy lets
+/// the caller see it (RFC 3415, 3.2). The buffer holds the reply in its minimal encoding, or nothing
+/// where the request is dropped; a drop is counted, modulo 2^32, and nothing else changes in the
+/// world, and nothing in the objects.
+/// It takes the place of `answer` once nothing is answered from a plain world any more.
+///
+/// The caller hands in a request whose names and OBJECT IDENTIFIER values have an encoding, as
+/// `decode` gives it.
+///
+/// # Errors
+/// Only memory can fail: then the buffer is empty, the world is as before, and the request is one
+/// that is let in to a view and reads.
+/// A request that is dropped or refused, one without bindings and a Set take none.
+#[tactic(auto, unfolding(crate::specs::Answers::outcome_of, crate::specs::Serving::world_after))]
+pub fn answer_served<O: MibObject>(
+    alloc: Global,
+    registry: &mut Registry<O>,
+    world: &mut World,
+    request: &Request,
+    buffer: &mut Buffer,
+) -> Result<Answered, AllocError>
+    requires { AreEncodable request.now.bindings }
+    ensures step { IsStep (rows_of registry.old) world.old request.now result buffer.new world.new }
+    ensures objects { registry.new ≡ registry.old }
+{
+    buffer.clear();
+    match decide(&world.policy, request) {
+        Decision::Drop(cause) => {
+            count(world, &cause);
+            Ok(drop_request(alloc, request, cause))
+        }
+        Decision::Empty => {
+            let none = DeniedBindings::new(alloc);
+            let sent = buffer.put(request, ErrorStatus::NoError, &[]);
+            Ok(reply_with(request, Decision::Empty, none, sent))
+        }
+        Decision::Refused(why) => {
+            let none = DeniedBindings::new(alloc);
+            let asked = request.bindings.as_slice();
+            let sent = buffer.put(request, ErrorStatus::AuthorizationError, asked);
+            Ok(reply_with(request, Decision::Refused(why), none, sent))
+        }
+        Decision::Allowed { row, view } => {
+            let denied = denied_bindings(alloc, world.policy.vacm(), &view, request)?;
+            let sent = send_served(alloc, registry, world, &view, request, buffer)?;
+            Ok(reply_with(request, Decision::Allowed { row, view }, denied, sent))
+        }
+    }
+}
+
+// Counts a request that this cause drops (RFC 3418, snmpInBadCommunityNames; RFC 3413,
+// snmpUnknownContexts).
+fn count(world: &mut World, cause: &Cause)
+    ensures { world.new ≡ with_count_of world.old cause.now }
+{
+    match cause {
+        Cause::UnknownCommunity => {
+            world.bad_communities = world.bad_communities.wrapping_add(1);
+        }
+        Cause::NoSuchContext(_) => {
+            world.unknown_contexts = world.unknown_contexts.wrapping_add(1);
+        }
+    }
+}
+
+// Puts the reply to a request that is allowed in a view into the buffer.
+fn send_served<O: MibObject>(
+    alloc: Global,
+    registry: &Registry<O>,
+    world: &World,
+    view: &Name,
+    request: &Request,
+    buffer: &mut Buffer,
+) -> Result<SentReply, AllocError>
+    requires community { length request.now.community ≤ MAX_COMMUNITY }
+    requires encodable { AreEncodable request.now.bindings }
+    ensures sent { IfOk result (λ sent. IsSent (kind_reply (prefixes_of (rows_of registry.now))
+        (in_view world.now.policy.vacm.families view.now)
+        (instances (rows_of registry.now) world.now) request.now request.now.kind)
+        sent buffer.new) }
+    ensures err { OnErr result (buffer.new ≡ buffer.old) }
+    ensures takes { OnErr result (request.now.kind ≢ Kind.Set) }
+{
+    let source = Served { registry, world };
+    let vacm = world.policy.vacm();
+    let view = PolicyView { vacm, view };
+    send_kind::<Served<O>, PolicyView, Brand>(alloc, &source, &view, request, buffer, Blank::new(1))
+}
