@@ -34,6 +34,3 @@ pub use configuration::{BUILT_IN, Configuration, MAX_ROUNDS, MAX_WORKERS, Port, 
 pub use fault::ConfigurationFault;
 pub use reading::{configuration_in, configuration_of, configuration_of_text};
 pub use sentences::sentence;
-
-#[cfg(test)]
-mod tests;

@@ -23,6 +23,3 @@ mod rows;
 
 pub use octets::{policy_in, text_of};
 pub use policies::{has_policy_keys, policy_of};
-
-#[cfg(test)]
-mod tests;

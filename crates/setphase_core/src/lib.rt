@@ -47,6 +47,3 @@ pub use limits::{MAX_COST, MAX_INDEX, MAX_INFO, MAX_PATH_COST, MAX_SLOTS};
 pub use object::{DeviceFault, Index, MibObject, Reservation, SetFault, Slot};
 pub use registry::{Registry, RegistryFault};
 pub use world::World;
-
-#[cfg(test)]
-mod tests;

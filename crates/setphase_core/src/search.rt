@@ -39,8 +39,8 @@ fn look<O: MibObject, L: Ledger>(
     }
 }
 
-// The place of the object whose name begins a name, or, where none does, the one behind those with
-// lesser names. Each turn of the search is one look.
+/// The place of the object whose name begins a name, or, where none does, the one behind those with
+/// lesser names. Each turn of the search is one look.
 pub fn place_of<O: MibObject, L: Ledger>(
     objects: &[O],
     name: &[u32],
@@ -64,7 +64,7 @@ pub fn place_of<O: MibObject, L: Ledger>(
     Err(low)
 }
 
-// The same, where nobody counts: the ledger is a new one.
+/// The same, where nobody counts: the ledger is a new one.
 pub fn place_uncounted<O: MibObject, L: Ledger>(
     objects: &[O],
     name: &[u32],
@@ -80,7 +80,7 @@ pub fn place_uncounted<O: MibObject, L: Ledger>(
     place_of(objects, name, &mut steps)
 }
 
-// The name of the object at the place of a name.
+/// The name of the object at the place of a name.
 pub fn owner_name<'a, O: MibObject>(
     objects: &'a [O],
     name: &[u32],
@@ -95,7 +95,7 @@ pub fn owner_name<'a, O: MibObject>(
     }
 }
 
-// The place of the first object that may show an instance behind a name.
+/// The place of the first object that may show an instance behind a name.
 pub fn start_of<O: MibObject>(objects: &[O], name: &[u32], place: Result<usize, usize>) -> usize
     requires ordered { first_fault (rows_of (map O.state objects.now)) ≡ None }
     requires place { IsPlace (prefixes_of (rows_of (map O.state objects.now))) name.now place }
@@ -107,7 +107,7 @@ pub fn start_of<O: MibObject>(objects: &[O], name: &[u32], place: Result<usize, 
     }
 }
 
-// The value of the instance of that name, by the place of the name.
+/// The value of the instance of that name, by the place of the name.
 pub fn value_there<O: MibObject>(
     alloc: Global,
     objects: &[O],

@@ -16,7 +16,7 @@ use oid_core::{INLINE_NUMBERS, MAX_NUMBERS, Oid, begins, precedes};
 use smallvec::SmallVec;
 use std::alloc::{AllocError, Global};
 
-// The first instance behind a name, by the place of the first object that may show it.
+/// The first instance behind a name, by the place of the first object that may show it.
 pub fn next_from<O: MibObject>(
     alloc: Global,
     objects: &[O],

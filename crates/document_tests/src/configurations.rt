@@ -1,5 +1,8 @@
-use super::*;
+//! Texts of configurations: what they give, their faults, and what is told of these.
 use community_core::{PolicyFault, PolicyTable};
+use configuration::{
+    BUILT_IN, ConfigurationFault, configuration_in, configuration_of_text, sentence,
+};
 use std::alloc::Global;
 use std::test::Fail;
 

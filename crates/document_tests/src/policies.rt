@@ -1,41 +1,26 @@
-use super::*;
+//! Texts of policies: what they give, and their faults.
 use community_core::{Policy, PolicyFault, PolicyTable};
 use oid_core::Oid;
+use policy_text::{policy_in, policy_of};
 use std::alloc::Global;
 use std::test::Fail;
 use vacm_core::{FamilyAnswer, Name};
 
-const BUILT_IN: &str = "
-contexts = []
-[[community]]
-index = \"a\"
-name = \"admin\"
-security = \"admin\"
-context = \"\"
-[[community]]
-index = \"p\"
-name = \"public\"
-security = \"public\"
-context = \"\"
-[[group]]
-model = 2
-name = \"public\"
-group = \"readers\"
+// `public` reads all of the bridge, in tables in line.
+const IN_LINE: &str = r#"contexts = []
+community = [{ index = "p", name = "public", security = "public", context = "" }]
+group = [{ model = 2, name = "public", group = "readers" }]
+family = [{ view = "bridge", subtree = "1.3.6.1.2.1.17", mask = "", included = true }]
 [[access]]
-group = \"readers\"
-prefix = \"\"
+group = "readers"
+prefix = ""
 model = 2
 level = 1
 exact = true
-read = \"bridge\"
-write = \"\"
-notify = \"\"
-[[family]]
-view = \"bridge\"
-subtree = \"1.3.6.1.2.1.17\"
-mask = \"\"
-included = true
-";
+read = "bridge"
+write = ""
+notify = ""
+"#;
 
 fn policy_from(alloc: Global, text: &str) -> Result<Policy, Fail> {
     let table = toml::table_from_str(alloc, text)?;
@@ -49,7 +34,7 @@ fn fault_of(alloc: Global, text: &str) -> Result<Option<PolicyFault>, Fail> {
 
 #[test]
 fn the_policy_knows_its_communities(rt: HostRuntime) -> Result<(), Fail> {
-    let policy = policy_from(rt.alloc(), BUILT_IN)?;
+    let policy = policy_from(rt.alloc(), IN_LINE)?;
     let caller = policy.caller(b"public").ok_or("public")?;
     assert_eq!(rt; caller.security.as_str(), "public");
     assert!(rt; policy.caller(b"publik").is_none());

@@ -1,0 +1,86 @@
+//! Objects made by hand.
+ghost use Rattle.std.specs.Prelude.{◌≡◌, [], ◌∷◌};
+ghost use Rattle.bridge_core.specs.Bridge.{port_count};
+ghost use Rattle.setphase_core.specs.Values.{scalar, by_port, value_at};
+ghost use Rattle.setphase_core.specs.Columns.{number};
+
+use message_core::Value;
+use setphase_core::{Index, MibObject, World, is_scalar, port_after, port_at, scalar_after};
+use std::alloc::Global;
+
+/// dot1dBaseType or dot1dBasePort, under a name of three numbers.
+#[derive(Drop)]
+pub struct Plain {
+    pub name: [u32; 3],
+    pub by_port: bool,
+}
+
+impl MibObject for Plain {
+    ghost use Rattle.std.specs.Prelude.{[], if◌then◌else◌};
+    ghost use Rattle.setphase_core.specs.declared.column.Base.TheVariants as base;
+    ghost use Rattle.setphase_core.specs.declared.column.BasePort.TheVariants as base_port;
+    ghost use Rattle.setphase_core.specs.declared.column.Column.TheVariants as column;
+
+    ghost state = { λ o. record {
+      row = record {
+        prefix = o.name;
+        column = if o.by_port then column.BasePort base_port.Port else column.Base base.Type;
+      };
+      reserved = [];
+      failures = 0;
+    } };
+
+    fn prefix(&self) -> &[u32] {
+        &self.name
+    }
+
+    #[tactic(auto, unfolding(setphase_core::specs::Columns::shown_by))]
+    fn read(&self, _alloc: Global, world: &World, at: &[u32]) -> Option<Value> {
+        if self.by_port {
+            port_number(world, at)
+        } else {
+            base_type(at)
+        }
+    }
+
+    #[tactic(auto, unfolding(setphase_core::specs::Columns::shown_by))]
+    fn next(&self, world: &World, after: Option<&[u32]>) -> Option<Index> {
+        if self.by_port {
+            port_after(world.bridge.ports(), after)
+        } else {
+            scalar_after(after)
+        }
+    }
+}
+
+/// What dot1dBaseType shows at an index.
+pub fn base_type(at: &[u32]) -> Option<Value>
+    ensures { result ≡ value_at (scalar (number 2)) at.now }
+{
+    if is_scalar(at) {
+        Some(Value::Integer(2))
+    } else {
+        None
+    }
+}
+
+// What dot1dBasePort shows at an index.
+fn port_number(world: &World, at: &[u32]) -> Option<Value>
+    ensures { result ≡ value_at (by_port (port_count world.now.bridge) number) at.now }
+{
+    match port_at(world.bridge.ports(), at) {
+        None => None,
+        Some(port) => Some(Value::Integer(i32::from(port))),
+    }
+}
+
+/// The object of 1.3 and one number more.
+pub fn make_plain(last: u32, by_port: bool) -> Plain
+    ensures name { result.name ≡ 1 ∷ 3 ∷ last ∷ [] }
+    ensures by_port { result.by_port ≡ by_port }
+{
+    Plain {
+        name: [1, 3, last],
+        by_port,
+    }
+}
