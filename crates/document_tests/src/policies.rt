@@ -85,6 +85,19 @@ fn the_first_index_decides(rt: HostRuntime) -> Result<(), Fail> {
     Ok(())
 }
 
+#[test]
+fn a_second_row_of_one_index_is_refused(rt: HostRuntime) -> Result<(), Fail> {
+    let text = "contexts = []\naccess = []\nfamily = []\ngroup = []\n
+[[community]]\nindex = \"a\"\nname = \"c\"\nsecurity = \"one\"\ncontext = \"\"\n
+[[community]]\nindex = \"a\"\nname = \"d\"\nsecurity = \"two\"\ncontext = \"\"\n";
+    let fault = fault_of(rt.alloc(), text)?;
+    assert_eq!(rt;
+        fault,
+        Some(PolicyFault::Duplicate(PolicyTable::Communities, 1))
+    );
+    Ok(())
+}
+
 // A policy whose view `v` has what is below 1.3 but not below a subtree of so many sub-identifiers, and that subtree.
 fn policy_without(alloc: Global, count: usize) -> Result<(Policy, Oid), Fail> {
     let mut subtree = String::from_str(alloc, "1.3")?;
