@@ -234,9 +234,9 @@ fn close<S: Session, W: Write>(
 /// `Input` where a read fails or the reads run out: each line that had ended is answered, and what
 /// it says is written. `Memory` and `Stopped` where a line, or the end of the script, is given up:
 /// what is said to each line before it is written, and it was read, in part at least. It is `Stopped`
-/// only where the session may end the run, at a line that was read to its end. `Output` where a write fails or takes nothing: a front of
-/// what was said is written. A write that was interrupted is made again; a read that was interrupted
-/// has failed.
+/// only where the session may end the run, at a line that was read to its end. `Output` where a write
+/// fails or takes nothing: a front of what was said is written. A write that was interrupted is made
+/// again; a read that was interrupted has failed.
 pub fn run_script<S: Session, R: Read, W: Write>(
     alloc: Global,
     most_reads: u32,
