@@ -1,14 +1,18 @@
 //! Requests answered by RFC 3416 over what a policy lets their caller see (RFC 3415), with an audit of each.
 //!
 //! # Entry points
-//! [`answer`] is one step of a request over a [`PlainWorld`]: its reply stands in a [`Buffer`], its audit is given, a
-//! drop is counted; [`short_reply`] writes the reply for a want of memory, and takes none. [`get`], [`get_next`] and
-//! [`get_bulk`] answer from any [`Source`] under any [`View`], and each look for a successor is a step.
+//! [`answer`] is one step of a request over a [`PlainWorld`], [`answer_served`] over a `Registry`
+//! of managed objects and the `World` that they show: its reply stands in a [`Buffer`], its audit
+//! is given, a drop is counted; [`short_reply`] writes the reply for a want of memory, and takes
+//! none. [`get`], [`get_next`] and [`get_bulk`] answer from any [`Source`] under any [`View`], and
+//! each look for a successor is a step.
 //!
 //! # Definitions
-//! `specs/Answers.antt`: the step; `specs/Replies.antt`: replies by kind, and the size rule; `specs/Reading.antt`: what
-//! is visible, Get and GetNext; `specs/Looking.antt`: the looks that a successor takes; `specs/Bulk.antt`,
-//! `specs/Fitting.antt`: GetBulk; `specs/Denying.antt`: denied bindings; `specs/World.antt`: the plain world.
+//! `specs/Answers.antt`: the step; `specs/Serving.antt`: the step over objects;
+//! `specs/Replies.antt`: replies by kind, and the size rule; `specs/Reading.antt`: what is visible,
+//! Get and GetNext; `specs/Looking.antt`: the looks that a successor takes; `specs/Bulk.antt`,
+//! `specs/Fitting.antt`: GetBulk; `specs/Denying.antt`: denied bindings; `specs/World.antt`: the
+//! plain world.
 //!
 //! # Laws
 //! In [`laws`]: replies hang on nothing but what is visible; repeated GetNext lists all of it; a name has one object;

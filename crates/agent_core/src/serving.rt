@@ -25,9 +25,9 @@ use std::sync::ledger::Blank;
 use vacm_core::Name;
 
 /// Answers a request by RFC 3416, 4.2, over what the objects show of the world, as its policy lets
-/// the caller see it (RFC 3415, 3.2). The buffer holds the reply in its minimal encoding, or nothing
-/// where the request is dropped; a drop is counted, modulo 2^32, and nothing else changes in the
-/// world, and nothing in the objects.
+/// the caller see it (RFC 3415, 3.2). The buffer holds the reply in its minimal encoding, or
+/// nothing where the request is dropped; a drop is counted, modulo 2^32, and nothing else changes
+/// in the world, and nothing in the objects.
 /// It takes the place of `answer` once nothing is answered from a plain world any more.
 ///
 /// The caller hands in a request whose names and OBJECT IDENTIFIER values have an encoding, as

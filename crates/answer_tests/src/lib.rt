@@ -1,7 +1,9 @@
-//! Tests of answers over a plain world: which worlds there are, what is read under a view, and the reply for a want of memory.
+//! Tests of answers over a plain world: which worlds there are, what is read under a view, and the
+//! reply for a want of memory; and of whole requests over managed objects.
 //!
 //! # Entry points
-//! None: the tests call what `agent_core` offers. Whole requests are tested through the script.
+//! None: the tests call what `agent_core` offers. Whole requests over a plain world are tested
+//! through the script.
 //!
 //! # Definitions
 //! None.
@@ -14,7 +16,13 @@
 #![tactic(auto)]
 
 #[cfg(test)]
+mod messages;
+#[cfg(test)]
+mod objects;
+#[cfg(test)]
 mod reading;
+#[cfg(test)]
+mod served;
 #[cfg(test)]
 mod short;
 #[cfg(test)]
