@@ -1,21 +1,18 @@
-use Rattle.std.proofs.Common.{rules, ◌≡◌, None, IfOk, ℕ, ◌+◌, ◌-◌, ◌*◌, ◌<◌, ◌≤◌, length, ◌/◌, ◌%◌, Bool, true, false, nat_eq, nat_lt, List, [], ◌∷◌, ◌++◌, slice_index_or, slice_set, bit_and, bit_or, Fits, w8, w32, w64, Bor, MutBor}
-use Rattle.setphase_core.specs.Names.{bridge_rows}
-use Rattle.setphase_core.specs.Registry.{rows_of, first_fault, AreNamed}
-use Rattle.object_list.specs.Objects.{states_of}
+use Rattle.std.proofs.Common.{◌≡◌, ◌∙◌, ℕ, None, List, sym, ap, subst, take, arith}
+use Rattle.setphase_core.specs.Objects.{ObjectRow}
+use Rattle.setphase_core.specs.Names.{columns, row_of, bridge_rows}
+use Rattle.setphase_core.specs.Registry.{first_fault, AreNamed}
+use Rattle.object_list.proofs.Rows.{all_rows, one_more}
 use Rattle.object_list.proofs.columns.objects.Goals as goal
 
--- src/columns.rt:79:5
 pub loop-column-preserved : goal.loop-column-preserved
 loop-column-preserved c = ?
 
--- src/columns.rt:71:1
 pub returns-clause-all : goal.returns-clause-all
-returns-clause-all c = ?
+returns-clause-all c = all_rows c.loop-column.objects.items c.loop-column.column-index (omega (arith, c.loop-column-test.false, c.loop-column.auto.column-index-end)) c.loop-column.invariant.1
 
--- src/columns.rt:71:1
 pub returns-clause-named : goal.returns-clause-named
-returns-clause-named c = ?
+returns-clause-named c = subst AreNamed (sym (all_rows c.loop-column.objects.items c.loop-column.column-index (omega (arith, c.loop-column-test.false, c.loop-column.auto.column-index-end)) c.loop-column.invariant.1)) c.objects_are_accepted.ensures.named
 
--- src/columns.rt:71:1
 pub returns-clause-accepted : goal.returns-clause-accepted
-returns-clause-accepted c = ?
+returns-clause-accepted c = ap first_fault (all_rows c.loop-column.objects.items c.loop-column.column-index (omega (arith, c.loop-column-test.false, c.loop-column.auto.column-index-end)) c.loop-column.invariant.1) ∙ c.objects_are_accepted.ensures.accepted
