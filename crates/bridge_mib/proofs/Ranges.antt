@@ -1,5 +1,5 @@
 -- The settings, and the costs in use, are numbers that INTEGER can say.
-use Rattle.std.proofs.Common.{◌≡◌, ℕ, ◌≤◌, arith, inl, inr}
+use Rattle.std.proofs.Common.{ℕ, ◌≤◌, arith, inl, inr}
 use Rattle.std.proofs.lemmas.Bool.Decides.{nat_tests}
 use Rattle.rstp_settings.specs.Table.{get}
 use Rattle.rstp_settings.specs.Values.{IsBridgeRange, IsPortRange}

@@ -3,3 +3,4 @@ pub mod Split
 pub mod Kept
 pub mod Steps
 pub mod Found
+pub mod Addresses

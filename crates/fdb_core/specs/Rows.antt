@@ -1,5 +1,5 @@
 -- The rows of learned addresses (IEEE 802.1D-2004, 7.9.2), by rising address.
-use Rattle.std.specs.Prelude.{ℕ, ◌+◌, ◌<◌, not, ◌==◌, nat_lt, List, filter, find, slice_get, Option, Some, None}
+use Rattle.std.specs.Prelude.{◌≡◌, ℕ, ◌+◌, ◌<◌, not, ◌==◌, nat_lt, List, length, filter, find, slice_get, Option, Some, None}
 use Rattle.std.specs.List.{AllByRecursion, list_any}
 use Rattle.std.specs.List.Sorted.{IsStrictlySortedBy}
 use Rattle.std.specs.Option.{option_map}
@@ -16,6 +16,15 @@ IsRising rows = IsStrictlySortedBy (λ r s. mac_cmp r.address s.address) rows
 -- each age is below the longest aging time
 abbrev pub IsYoung : List Row → Type 0
 IsYoung rows = AllByRecursion (λ r. r.age < MAX_AGING_TIME) rows
+
+-- six octets
+pub record IsAddress (address : Mac) : Type 0 where
+  pub six : length address.0 ≡ 6
+  pub octets : AllByRecursion (λ o. o < 256) address.0
+
+-- the address of each row is one
+abbrev pub HaveAddresses : List Row → Type 0
+HaveAddresses rows = AllByRecursion (λ r. IsAddress r.address) rows
 
 -- the rows of lower addresses, and those of higher ones
 abbrev pub rows_below : List Row → Mac → List Row

@@ -1,7 +1,7 @@
 -- The table of learned addresses.
 use Rattle.std.specs.Prelude.{ℕ, ◌≤◌, List, length}
 use Rattle.fdb_core.specs.declared.row.Row.{Row}
-use Rattle.fdb_core.specs.Rows.{IsRising, IsYoung}
+use Rattle.fdb_core.specs.Rows.{IsRising, IsYoung, HaveAddresses}
 
 -- the rows, and the most rows that there may be
 pub record Table : Type 0 where
@@ -12,4 +12,5 @@ pub record Table : Type 0 where
 pub record IsTable (t : Table) : Type 0 where
   pub rising : IsRising t.rows
   pub young : IsYoung t.rows
+  pub addresses : HaveAddresses t.rows
   pub few : length t.rows ≤ t.limit

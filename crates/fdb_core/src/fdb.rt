@@ -67,6 +67,7 @@ impl Fdb {
         ensures others { (other : Mac) → other ≢ address →
             row_of self.new.rows other ≡ row_of self.old.rows other }
     {
+        rows::known_address(address);
         rows::learn_in(&mut self.rows, self.limit, address, port)
     }
 
@@ -101,10 +102,18 @@ impl Fdb {
     /// from none on, each time from the address of the row before.
     pub fn next_after(&self, after: Option<Mac>) -> Option<Row>
         ensures row { result ≡ next_after self.now.rows after }
-        // The rows are by rising address, each is younger than the longest aging time, and they are
-        // no more than the limit.
+        // What holds of every table, as `known` hands it on.
         ensures table { IsTable self.now }
     {
         rows::row_after(&self.rows, after)
+    }
+
+    /// Hands on what holds of every table: the rows are by rising address, each address is six
+    /// octets, each row is younger than the longest aging time, and they are no more than the limit.
+    /// It does nothing.
+    pub fn known(&self)
+        ensures { IsTable self.now }
+    {
+        let _rows = self.rows.as_slice();
     }
 }

@@ -3,16 +3,16 @@
 //!
 //! # Entry points
 //! [`Fdb`] is seen as its rows by rising address and the most it may have: `learn`, `age`,
-//! `flush_ports`, and without change `find` and `next_after`. Only `learn` takes memory, and only
-//! for a new address that has a place.
+//! `flush_ports`, and without change `find`, `next_after` and `known`. Only `learn` takes memory,
+//! and only for a new address that has a place.
 //!
 //! # Definitions
 //! `specs/Rows.antt`: filters of the whole list; `specs/Learning.antt`: what learning answers and
 //! leaves; `specs/Table.antt`: what holds of every table.
 //!
 //! # Laws
-//! In [`laws`]: the bounds of the aging time. On `next_after`: the table rises, is young and within
-//! its limit.
+//! In [`laws`]: the bounds of the aging time. On `known` and `next_after`: the table rises, each
+//! address is six octets, and the table is young and within its limit.
 //!
 //! # Not claimed
 //! That a growth succeeds.

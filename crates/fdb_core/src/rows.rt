@@ -1,7 +1,8 @@
 //! What the table does, over rows by rising address as plain lists (IEEE 802.1D-2004, 7.8 and 7.9).
 ghost use Rattle.std.specs.Prelude.{◌≡◌, ◌≢◌, ◌≤◌, ◌<◌, length, map, filter, slice_get, IfOk, IfErr};
+ghost use Rattle.std.specs.List.{AllByRecursion};
 ghost use Rattle.fdb_core.specs.Places.{IsRowAt, IsGapAt};
-ghost use Rattle.fdb_core.specs.Rows.{IsRising, IsYoung, older_row, row_of, port_of, next_after, young_rows, other_rows};
+ghost use Rattle.fdb_core.specs.Rows.{IsRising, IsYoung, IsAddress, older_row, row_of, port_of, next_after, young_rows, other_rows};
 ghost use Rattle.fdb_core.specs.Learning.{answer, learned_rows, answer_on, renewed_row};
 ghost use Rattle.fdb_core.specs.declared.learnt.Learnt.TheVariants.{New, Memory};
 
@@ -57,6 +58,21 @@ fn see_again(row: &mut Row, port: u16) -> Learnt
     row.port = port;
     row.age = 0;
     learnt
+}
+
+// Hands on that six octets are so many, each below 256; it does nothing.
+fn known_octets(octets: &[u8; 6])
+    ensures six { length octets.now ≡ 6 }
+    ensures below { AllByRecursion (λ o. o < 256) octets.now }
+{
+    let _octets = octets.as_slice();
+}
+
+/// Hands on that an address is one; it does nothing.
+pub fn known_address(address: Mac)
+    ensures { IsAddress address }
+{
+    known_octets(&address.0);
 }
 
 /// Learns an address on a port (7.8): its row is of this port and of age 0, unless it has none and

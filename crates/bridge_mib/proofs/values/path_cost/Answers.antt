@@ -1,4 +1,4 @@
-use Rattle.std.proofs.Common.{◌≡◌, ℕ, ◌≤◌, sym, subst}
+use Rattle.std.proofs.Common.{ℕ, ◌≤◌, sym, subst}
 use Rattle.bridge_core.specs.declared.facts.PortFacts.{PortFacts}
 use Rattle.setphase_core.specs.declared.limits.TheConstants.{MAX_COST}
 use Rattle.bridge_mib.proofs.Ranges.{path_cost_most}

@@ -1,5 +1,6 @@
 use Rattle.std.proofs.Common.{◌∙◌, ap, sym, subst, List}
-use Rattle.fdb_core.specs.Rows.{IsRising, IsYoung, row_of}
+use Rattle.fdb_core.specs.Rows.{IsRising, IsYoung, HaveAddresses, row_of}
+use Rattle.fdb_core.proofs.Addresses.{addresses_learned}
 use Rattle.fdb_core.proofs.Kept.{rising_learned, young_learned}
 use Rattle.fdb_core.proofs.Found.{learned_here, learned_others}
 use Rattle.fdb_core.specs.declared.row.Row.{Row}
@@ -12,6 +13,7 @@ invariant_of-self c =
     record {
       rising = subst IsRising (sym c.learn_in.ensures.rows) (rising_learned c.learn_in.result rows c.args.address c.args.port c.self.invariant.rising);
       young = subst IsYoung (sym c.learn_in.ensures.rows) (young_learned c.learn_in.result rows c.args.address c.args.port c.self.invariant.young);
+      addresses = subst HaveAddresses (sym c.learn_in.ensures.rows) (addresses_learned c.learn_in.result rows c.args.address c.args.port c.known_address.ensures c.self.invariant.addresses);
       few = c.learn_in.ensures.few;
     }
 

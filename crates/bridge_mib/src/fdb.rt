@@ -1,0 +1,210 @@
+//! dot1dTpFdbTable: the learned addresses (RFC 4188).
+ghost use Rattle.std.specs.Prelude.{◌≡◌, ◌<◌, ◌≤◌, ℕ, true, false, if◌then◌else◌, List, length, replicate, None, IfSome};
+ghost use Rattle.std.specs.List.{AllByRecursion};
+ghost use Rattle.std.specs.Option.{option_copied, option_map};
+ghost use Rattle.std.specs.Ordering.{is_gt, nat_cmp};
+ghost use Rattle.std.specs.Cmp.Lexicographic.{slice_cmp};
+ghost use Rattle.frame_core.specs.declared.mac.Mac.{Mac as Address};
+ghost use Rattle.frame_core.specs.Octets.{mac_cmp};
+ghost use Rattle.fdb_core.specs.Rows.{IsAddress};
+ghost use Rattle.fdb_core.specs.declared.row.Row.{Row as LearnedRow};
+ghost use Rattle.oid_core.specs.Order.{name_lt, name_eq};
+ghost use Rattle.message_core.specs.declared.value.Value.{Value as AnyValue};
+ghost use Rattle.setphase_core.specs.Names.{tp_fdb_name};
+ghost use Rattle.setphase_core.specs.Values.{by_address, value_at, index_after};
+ghost use Rattle.setphase_core.specs.Columns.{tp_fdb_value};
+
+use crate::values::{integer, string};
+use fdb_core::{Fdb, Row};
+use frame_core::Mac;
+use message_core::Value;
+use setphase_core::{Index, MibObject, TpFdb, World};
+use std::alloc::Global;
+use std::marker::Model;
+
+/// A column of dot1dTpFdbTable, seen as its descriptor.
+#[derive(Drop)]
+pub struct FdbColumn {
+    which: TpFdb,
+}
+
+impl Model for FdbColumn {
+    ghost use Rattle.setphase_core.specs.declared.column.TpFdb.{TpFdb as Descriptor};
+
+    ghost Value = { Descriptor };
+
+    ghost view = { λ o. o.which };
+}
+
+impl FdbColumn {
+    /// The column of this descriptor.
+    pub fn new(which: TpFdb) -> FdbColumn
+        ensures { result ≡ which }
+    {
+        FdbColumn { which }
+    }
+}
+
+fn fdb_prefix(which: TpFdb) -> &'static [u32]
+    ensures { result.now ≡ tp_fdb_name which }
+{
+    match which {
+        TpFdb::Address => &[1, 3, 6, 1, 2, 1, 17, 4, 3, 1, 1],
+        TpFdb::Port => &[1, 3, 6, 1, 2, 1, 17, 4, 3, 1, 2],
+        TpFdb::Status => &[1, 3, 6, 1, 2, 1, 17, 4, 3, 1, 3],
+    }
+}
+
+// Writes an index as octets, so many, where it is such octets.
+fn write_octets(octets: &mut [u8], index: &[u32]) -> bool
+    ensures found { result ≡ true → octets.new ≡ index.now }
+    ensures none { result ≡ false → (other : List ℕ) → length other ≡ length octets.old
+        → AllByRecursion (λ o. o < 256) other → name_eq other index.now ≡ false }
+{
+    let Some((octet, octets)) = octets.split_first_mut() else {
+        return index.is_empty();
+    };
+    let Some((number, index)) = index.split_first() else {
+        return false;
+    };
+    if *number > 255 {
+        return false;
+    }
+    *octet = *number as u8;
+    write_octets(octets, index)
+}
+
+// The address that an index says, where it is six octets.
+fn address_at(index: &[u32]) -> Option<Mac>
+    ensures found { IfSome result (λ address. address.0 ≡ index.now) }
+    ensures none { result ≡ None →
+        (address : Address) → IsAddress address → name_eq address.0 index.now ≡ false }
+{
+    let mut octets = [0; 6];
+    if write_octets(&mut octets, index) {
+        Some(Mac(octets))
+    } else {
+        None
+    }
+}
+
+fn write_greatest(octets: &mut [u8])
+    ensures { octets.new ≡ replicate (length octets.old) 255 }
+{
+    octets.fill(255);
+}
+
+// Writes the greatest octets, so many, that are not behind an index, where there are such.
+fn write_up_to(octets: &mut [u8], index: &[u32]) -> bool
+    ensures { (other : List ℕ) → length other ≡ length octets.old
+        → AllByRecursion (λ o. o < 256) other
+        → name_lt index.now other
+        ≡ (if result then is_gt (slice_cmp nat_cmp other octets.new) else true) }
+{
+    let Some((octet, octets)) = octets.split_first_mut() else {
+        return true;
+    };
+    let Some((number, index)) = index.split_first() else {
+        return false;
+    };
+    if *number > 255 {
+        *octet = 255;
+        write_greatest(octets);
+        return true;
+    }
+    *octet = *number as u8;
+    if write_up_to(octets, index) {
+        return true;
+    }
+    if *number == 0 {
+        return false;
+    }
+    *octet -= 1;
+    write_greatest(octets);
+    true
+}
+
+// The greatest address that is not behind an index, where there is one.
+fn address_up_to(index: &[u32]) -> Option<Mac>
+    ensures found { IfSome result (λ last. (address : Address) → IsAddress address
+        → name_lt index.now address.0 ≡ is_gt (mac_cmp address last)) }
+    ensures none { result ≡ None →
+        (address : Address) → IsAddress address → name_lt index.now address.0 ≡ true }
+{
+    let mut octets = [0; 6];
+    if write_up_to(&mut octets, index) {
+        Some(Mac(octets))
+    } else {
+        None
+    }
+}
+
+// The learned row of the first address behind an index, or of the first of all.
+fn row_after(fdb: &Fdb, after: Option<&[u32]>) -> Option<Row>
+    ensures { (f : LearnedRow → AnyValue) → option_map (λ row. row.address.0) result
+        ≡ index_after (by_address fdb.now.rows f) (option_copied after.entry) }
+{
+    match after {
+        None => fdb.next_after(None),
+        Some(after) => fdb.next_after(address_up_to(after)),
+    }
+}
+
+// The six octets of an address as an index.
+fn index_of(address: Mac) -> Index
+    ensures { result.items ≡ address.0 }
+{
+    let mut index = Index::new();
+    for octet in &address.0 {
+        index.push(u32::from(*octet));
+    }
+    index
+}
+
+fn fdb_value(alloc: Global, which: TpFdb, address: Mac, port: u16) -> Value
+    ensures { (row : LearnedRow) → row.address ≡ address → row.port ≡ port
+        → result ≡ tp_fdb_value which row }
+{
+    match which {
+        TpFdb::Address => string(alloc, &address.0),
+        TpFdb::Port => integer(u32::from(port)),
+        TpFdb::Status => integer(3),
+    }
+}
+
+// What the learned rows show under an index.
+fn value_under(alloc: Global, which: TpFdb, fdb: &Fdb, at: &[u32]) -> Option<Value>
+    ensures { result ≡ value_at (by_address fdb.now.rows (tp_fdb_value which)) at.now }
+{
+    fdb.known();
+    let address = address_at(at)?;
+    let port = fdb.find(address)?;
+    Some(fdb_value(alloc, which, address, port))
+}
+
+impl MibObject for FdbColumn {
+    ghost use Rattle.std.specs.Prelude.{[]};
+    ghost use Rattle.setphase_core.specs.Names.{row_of};
+    ghost use Rattle.setphase_core.specs.declared.column.Column.TheVariants as column;
+
+    ghost state = { λ which. record {
+      row = row_of (column.TpFdb which);
+      reserved = [];
+      failures = 0;
+    } };
+
+    fn prefix(&self) -> &[u32] {
+        fdb_prefix(self.which)
+    }
+
+    #[tactic(auto, unfolding(setphase_core::specs::Columns::shown_by))]
+    fn read(&self, alloc: Global, world: &World, at: &[u32]) -> Option<Value> {
+        value_under(alloc, self.which, world.bridge.fdb(), at)
+    }
+
+    #[tactic(auto, unfolding(setphase_core::specs::Columns::shown_by))]
+    fn next(&self, world: &World, after: Option<&[u32]>) -> Option<Index> {
+        let row = row_after(world.bridge.fdb(), after)?;
+        Some(index_of(row.address))
+    }
+}
