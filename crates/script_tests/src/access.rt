@@ -1,14 +1,15 @@
 //! Access, its audit, and what is dropped (RFC 3415, 3.2; RFC 3416, 4.2).
 use crate::message::Held::{Integer, NoInstance, NoObject, Null};
-use crate::message::{failed, get, next, of, reply, set};
-use crate::policies::{BRIDGE, Family, STRANGERS, masked, policy_of, readers_of};
+use crate::message::{Bound, failed, get, next, of, reply, set};
+use crate::policies::{MASKED, READERS, STRANGERS};
 use crate::rows::Said::{Drop, Reply};
-use crate::rows::{AUDIT_ON, assert_rows, audited, line_with};
+use crate::rows::{AUDIT_ON, Row, assert_rows, audited, line_with};
 use crate::support::{
-    PORTS, PRIORITY, assert_said, built_in, built_in_for, named, numbers, said_to,
+    PORTS, PRIORITY, assert_over, assert_said, built_in, built_in_for, joined, repeated, world_of,
 };
 use agent_core::PlainWorld;
-use std::alloc::Global;
+use std::alloc::{AllocGlobal, Global};
+use std::process::Abort;
 use std::test::Fail;
 
 #[test]
@@ -42,15 +43,14 @@ fn audits_what_is_refused(rt: HostRuntime) -> Result<(), Fail> {
 
 #[test]
 fn audits_no_octets_that_are_no_request(rt: HostRuntime) -> Result<(), Fail> {
-    let script = "audit on\nrequest 30\n";
-    assert_said(&rt, built_in(rt.alloc())?, script, "drop Malformed\n")
+    assert_said(&rt, &["audit on\nrequest 30\n"], &["drop Malformed\n"])
 }
 
 #[test]
 fn turns_strangers_away(rt: HostRuntime) -> Result<(), Fail> {
     assert_rows(
         &rt,
-        built_in_for(rt.alloc(), STRANGERS)?,
+        built_in_for(rt.alloc(), &[STRANGERS])?,
         AUDIT_ON,
         &[
             audited(
@@ -79,52 +79,43 @@ fn turns_strangers_away(rt: HostRuntime) -> Result<(), Fail> {
 fn counts_what_is_dropped(rt: HostRuntime) -> Result<(), Fail> {
     assert_said(
         &rt,
-        built_in(rt.alloc())?,
-        "request 302702010104067075626C6963A01A020101020100020100300F300D06092B060102011101020005\n\
-         request 302702010004067075626C6963A01A020101020100020100300F300D06092B06010201110102000500\n\
-         request 302702010104067075626C696BA01A020101020100020100300F300D06092B06010201110102000500\n\
-         counts\n",
-        "drop Malformed\ndrop BadVersion\ndrop UnknownCommunity\ncounts 0 1 1 0 0 1 0\n",
+        &[
+            "request 302702010104067075626C6963A01A020101020100020100300F300D06092B060102011101020005\n",
+            "request 302702010004067075626C6963A01A020101020100020100300F300D06092B06010201110102000500\n",
+            "request 302702010104067075626C696BA01A020101020100020100300F300D06092B06010201110102000500\n",
+            "counts\n",
+        ],
+        &["drop Malformed\ndrop BadVersion\ndrop UnknownCommunity\ncounts 0 1 1 0 0 1 0\n"],
     )
 }
 
 #[test]
 fn counts_unknown_contexts(rt: HostRuntime) -> Result<(), Fail> {
     let asked = line_with(rt.alloc(), "request", &of("far", get(&[(PORTS, Null)])))?;
-    assert_said(
+    assert_over(
         &rt,
-        built_in_for(rt.alloc(), STRANGERS)?,
-        &format!(in rt.alloc(); "{asked}{asked}counts\n")?,
-        "drop NoSuchContext\ndrop NoSuchContext\ncounts 0 0 0 0 0 0 2\n",
+        built_in_for(rt.alloc(), &[STRANGERS])?,
+        &[&asked, &asked, "counts\n"],
+        &["drop NoSuchContext\ndrop NoSuchContext\ncounts 0 0 0 0 0 0 2\n"],
     )
 }
 
 // The columns 3, 4 and 5 of the port table, for two ports.
 fn columns(alloc: Global) -> Result<PlainWorld, Fail> {
-    let instances = numbers(
-        alloc,
-        &[
-            ("1.3.6.1.2.1.17.2.15.1.3.1", 1),
-            ("1.3.6.1.2.1.17.2.15.1.3.2", 1),
-            ("1.3.6.1.2.1.17.2.15.1.4.1", 1),
-            ("1.3.6.1.2.1.17.2.15.1.4.2", 1),
-            ("1.3.6.1.2.1.17.2.15.1.5.1", 20000),
-            ("1.3.6.1.2.1.17.2.15.1.5.2", 20000),
-        ],
-    )?;
-    let mut objects = Vec::new(alloc);
-    for text in [
+    let instances = [
+        ("1.3.6.1.2.1.17.2.15.1.3.1", Integer(1)),
+        ("1.3.6.1.2.1.17.2.15.1.3.2", Integer(1)),
+        ("1.3.6.1.2.1.17.2.15.1.4.1", Integer(1)),
+        ("1.3.6.1.2.1.17.2.15.1.4.2", Integer(1)),
+        ("1.3.6.1.2.1.17.2.15.1.5.1", Integer(20000)),
+        ("1.3.6.1.2.1.17.2.15.1.5.2", Integer(20000)),
+    ];
+    let objects = [
         "1.3.6.1.2.1.17.2.15.1.3",
         "1.3.6.1.2.1.17.2.15.1.4",
         "1.3.6.1.2.1.17.2.15.1.5",
-    ] {
-        objects.push(named(alloc, text)?)?;
-    }
-    Ok(
-        PlainWorld::new(instances, objects, policy_of(alloc, &masked(alloc)?)?)
-            .ok()
-            .ok_or("a world")?,
-    )
+    ];
+    world_of(alloc, &instances, &objects, MASKED)
 }
 
 #[test]
@@ -162,31 +153,66 @@ fn sees_by_families(rt: HostRuntime) -> Result<(), Fail> {
     )
 }
 
-// Names of more numbers than take no memory.
+// The view `v`, which the readers read, and the head of a family that is left out of it.
+const VIEW_V: &str = r#"read = "v"
+[[family]]
+view = "v"
+subtree = "1.3.6.1.2.1.17"
+mask = ""
+included = true
+[[family]]
+view = "v"
+mask = ""
+included = false
+"#;
+
+// The lines of a policy whose view `v` has not what is below a subtree, and then `audit on`.
+fn policy_without(alloc: Global, subtree: &str) -> Result<String, Fail> {
+    let row = [
+        "policy\n",
+        READERS,
+        VIEW_V,
+        "subtree = \"",
+        subtree,
+        "\"\nend\naudit on\n",
+    ];
+    joined(alloc, &row)
+}
+
+// A Get of a name that is left out.
+fn denied_row<'a>(asked: &'a [Bound<'a>], answer: &'a [Bound<'a>], audit: &'a str) -> Row<'a> {
+    let said = Reply(reply(answer));
+    audited(
+        "a name below a subtree that is left out",
+        get(asked),
+        said,
+        audit,
+    )
+}
+
+// A name below a subtree that is left out: the audit names the subtree.
+fn assert_denied_below<R: Abort + AllocGlobal>(rt: &R, subtree: &str) -> Result<(), Fail> {
+    let below = joined(rt.alloc(), &[subtree, ".1"])?;
+    let head = "get 0 0 ok access(readers,,2,1) view v denied 1 family(v,";
+    let audit = joined(rt.alloc(), &[head, subtree, ")"])?;
+    let policy = policy_without(rt.alloc(), subtree)?;
+    let asked = [(below.as_str(), Null)];
+    let answer = [(below.as_str(), NoInstance)];
+    let rows = [denied_row(&asked, &answer, audit.as_str())];
+    assert_rows(
+        rt,
+        built_in(rt.alloc())?,
+        (policy.as_str(), "policy ok\n"),
+        &rows,
+    )
+}
+
+// Names of more numbers than take no memory: 25 and 113.
 #[test]
 fn audits_long_subtrees(rt: HostRuntime) -> Result<(), Fail> {
-    for count in [25, 113] {
-        let mut subtree = String::from_str(rt.alloc(), BRIDGE.subtree)?;
-        for _ in 7..count {
-            subtree.push_str(".1")?;
-        }
-        let below = format!(in rt.alloc(); "{subtree}.1")?;
-        let left_out = Family {
-            subtree: &subtree,
-            mask: "",
-            included: false,
-        };
-        let policy = readers_of(rt.alloc(), "v", &[BRIDGE, left_out])?;
-        let asked = line_with(rt.alloc(), "request", &get(&[(&below, Null)]))?;
-        let answer = line_with(rt.alloc(), "reply", &reply(&[(&below, NoInstance)]))?;
-        let script = format!(in rt.alloc(); "policy\n{policy}end\naudit on\n{asked}")?;
-        let want = format!(in rt.alloc();
-            "policy ok\n{answer}audit get 0 0 ok access(readers,,2,1) view v denied 1 family(v,{subtree})\n"
-        )?;
-        assert_eq!(rt;
-            said_to(rt.alloc(), script.as_bytes())?.as_slice(),
-            want.as_bytes()
-        );
+    for more in [18usize, 106] {
+        let subtree = repeated(rt.alloc(), "1.3.6.1.2.1.17", more, ".1")?;
+        assert_denied_below(&rt, &subtree)?;
     }
     Ok(())
 }

@@ -1,13 +1,12 @@
 //! GetNext and GetBulk (RFC 3416, 4.2.2 and 4.2.3).
 use crate::message::Held::{End, Integer, Name, Null, Octets};
 use crate::message::{bulk, failed, many, next, reply};
-use crate::rows::{assert_rows, replied};
+use crate::policies::WHOLE_BRIDGE;
+use crate::rows::{NO_LINES, assert_rows, replied};
 use crate::support::{
-    ADDRESS, BRIDGE_ADDRESS, CHANGES, PORTS, ROOT, ROOT_NAME, bound, built_in, named, numbers,
-    root, world_of,
+    ADDRESS, BRIDGE_ADDRESS, PORTS, PRIORITY, ROOT, ROOT_NAME, built_in, root, world_of,
 };
 use agent_core::PlainWorld;
-use message_core::Value;
 use std::alloc::Global;
 use std::test::Fail;
 
@@ -16,7 +15,7 @@ fn answers_what_comes_next(rt: HostRuntime) -> Result<(), Fail> {
     assert_rows(
         &rt,
         built_in(rt.alloc())?,
-        "",
+        NO_LINES,
         &[
             replied(
                 "the type of the bridge",
@@ -46,10 +45,13 @@ const CIRCUIT: &str = "1.3.6.1.2.1.17.1.4.1.3.1";
 
 // Two ports, and the circuit of the first.
 fn ports(alloc: Global) -> Result<PlainWorld, Fail> {
-    let mut instances = numbers(alloc, &[(PORTS, 2), (INDEX_1, 1), (INDEX_2, 2)])?;
-    let circuit = Value::ObjectIdentifier(named(alloc, "0.0")?);
-    instances.push(bound(alloc, CIRCUIT, circuit)?)?;
-    world_of(alloc, instances)
+    let instances = [
+        (PORTS, Integer(2)),
+        (INDEX_1, Integer(1)),
+        (INDEX_2, Integer(2)),
+        (CIRCUIT, Name("0.0")),
+    ];
+    world_of(alloc, &instances, &[], WHOLE_BRIDGE)
 }
 
 #[test]
@@ -60,7 +62,7 @@ fn answers_repetition_by_repetition(rt: HostRuntime) -> Result<(), Fail> {
     assert_rows(
         &rt,
         ports(rt.alloc())?,
-        "",
+        NO_LINES,
         &[
             replied(
                 "one name once, and three repetitions of the other",
@@ -122,15 +124,15 @@ fn answers_repetition_by_repetition(rt: HostRuntime) -> Result<(), Fail> {
 // Of a hundred roots 62 fit; 60 of them and four ends of 15 octets make a reply of 1,472 octets.
 #[test]
 fn sends_as_much_as_fits(rt: HostRuntime) -> Result<(), Fail> {
-    let hundred = many(rt.alloc(), 100, (CHANGES, Null))?;
-    let sixty = many(rt.alloc(), 60, (CHANGES, Null))?;
+    let hundred = many(rt.alloc(), 100, (PRIORITY, Null))?;
+    let sixty = many(rt.alloc(), 60, (PRIORITY, Null))?;
     let fitting = many(rt.alloc(), 62, (ROOT_NAME, Octets(ROOT)))?;
     let mut full = many(rt.alloc(), 60, (ROOT_NAME, Octets(ROOT)))?;
     full.extend_from_slice(&many(rt.alloc(), 4, (ROOT_NAME, End))?)?;
     assert_rows(
         &rt,
         root(rt.alloc())?,
-        "",
+        NO_LINES,
         &[
             replied("one repetition", bulk(0, 1, &hundred), reply(&fitting)),
             replied(

@@ -1,7 +1,7 @@
 //! Get, Set and requests of no names (RFC 3416, 4.2.1 and 4.2.5).
 use crate::message::Held::{Integer, NoInstance, NoObject, Null, Octets};
 use crate::message::{Message, bulk, failed, get, many, next, of, reply, set};
-use crate::rows::{assert_rows, replied};
+use crate::rows::{NO_LINES, assert_rows, replied};
 use crate::support::{
     ADDRESS, BRIDGE_ADDRESS, GET, PORTS, PRIORITY, ROOT_NAME, TWO_PORTS, assert_answers, built_in,
     root,
@@ -44,7 +44,7 @@ fn tells_what_is_missing(rt: HostRuntime) -> Result<(), Fail> {
     assert_rows(
         &rt,
         built_in(rt.alloc())?,
-        "",
+        NO_LINES,
         &[replied(
             "no such instance, an object's own name, no such object, another group, an instance",
             Message {
@@ -82,7 +82,7 @@ fn answers_no_names_with_none(rt: HostRuntime) -> Result<(), Fail> {
     assert_rows(
         &rt,
         built_in(rt.alloc())?,
-        "",
+        NO_LINES,
         &[
             replied("a Get", numbers(get(&[])), none),
             replied("a GetNext", numbers(next(&[])), none),
@@ -97,7 +97,7 @@ fn fails_a_set(rt: HostRuntime) -> Result<(), Fail> {
     assert_rows(
         &rt,
         built_in(rt.alloc())?,
-        "",
+        NO_LINES,
         &[replied(
             "genErr, since nothing can be written",
             of("admin", set(&[(PRIORITY, Integer(4096))])),
@@ -114,14 +114,14 @@ fn answers_by_the_size_rule(rt: HostRuntime) -> Result<(), Fail> {
     assert_rows(
         &rt,
         built_in(rt.alloc())?,
-        "",
+        NO_LINES,
         &[replied("a hundred counts of ports", get(&ports), too_big)],
     )?;
     let roots = many(rt.alloc(), 100, (ROOT_NAME, Null))?;
     assert_rows(
         &rt,
         root(rt.alloc())?,
-        "",
+        NO_LINES,
         &[replied("a hundred roots", get(&roots), too_big)],
     )
 }

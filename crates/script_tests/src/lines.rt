@@ -1,8 +1,12 @@
 //! Lines that are none, and datagrams that give no request.
 use crate::message::Held::Null;
-use crate::message::{Message, Pdu, get, of};
-use crate::rows::line_with;
-use crate::support::{GET, PORTS, assert_answers, assert_said, built_in, repeated, said_to};
+use crate::message::{Bound, Message, Pdu, get, of};
+use crate::rows::{NO_LINES, Row, assert_rows, dropped};
+use crate::support::{
+    GET, PORTS, assert_answers, assert_said, assert_scripts, built_in, repeated, said_to,
+};
+use std::alloc::AllocGlobal;
+use std::process::Abort;
 use std::test::Fail;
 
 #[test]
@@ -45,98 +49,119 @@ fn drops_what_is_no_request(rt: HostRuntime) -> Result<(), Fail> {
     )
 }
 
-#[test]
-fn drops_a_pdu_that_is_no_request(rt: HostRuntime) -> Result<(), Fail> {
-    for pdu in [
-        Pdu::Response,
-        Pdu::TrapOfVersion1,
-        Pdu::Inform,
-        Pdu::Trap,
-        Pdu::Report,
-    ] {
-        let message = Message {
-            pdu,
-            ..get(&[(PORTS, Null)])
-        };
-        let line = line_with(rt.alloc(), "request", &message)?;
-        assert_said(&rt, built_in(rt.alloc())?, &line, "drop BadKind\n")?;
-    }
-    Ok(())
+// A Get that stands as a PDU of another type.
+fn other<'a>(pdu: Pdu, bindings: &'a [Bound<'a>]) -> Row<'a> {
+    let message = Message {
+        pdu,
+        ..get(bindings)
+    };
+    dropped("another PDU", message, "BadKind")
 }
 
 #[test]
-fn drops_an_unknown_community(rt: HostRuntime) -> Result<(), Fail> {
-    let message = of("publik", get(&[(PORTS, Null)]));
-    let line = line_with(rt.alloc(), "request", &message)?;
-    assert_said(&rt, built_in(rt.alloc())?, &line, "drop UnknownCommunity\n")
+fn drops_a_pdu_that_is_no_request(rt: HostRuntime) -> Result<(), Fail> {
+    let ports = [(PORTS, Null)];
+    assert_rows(
+        &rt,
+        built_in(rt.alloc())?,
+        NO_LINES,
+        &[
+            other(Pdu::Response, &ports),
+            other(Pdu::TrapOfVersion1, &ports),
+            other(Pdu::Inform, &ports),
+            other(Pdu::Trap, &ports),
+            other(Pdu::Report, &ports),
+            dropped(
+                "no such community",
+                of("publik", get(&ports)),
+                "UnknownCommunity",
+            ),
+        ],
+    )
+}
+
+// Lines that are none.
+fn assert_bad_lines<R: Abort + AllocGlobal>(rt: &R, lines: &[&str]) -> Result<(), Fail> {
+    for line in lines {
+        assert_said(rt, &[line, "\n"], &["badline\n"])?;
+    }
+    Ok(())
 }
 
 #[test]
 fn takes_other_lines_for_bad(rt: HostRuntime) -> Result<(), Fail> {
-    for line in [
-        "",
-        "request",
-        " request 00",
-        "request 0",
-        "request 0G",
-        "request  00",
-        "Request 00",
-        "request 00 ",
-        "request 00\r",
-        "tick",
-        "tick 0",
-        "tick 01",
-        "tick 100001",
-        "tick 1 ",
-        "link 3 up",
-        "link 0 up",
-        "link 1 on",
-        "link 1",
-        "frame 1",
-        "frame 3 FFFFFFFFFFFF0200000001010800",
-        "frame 3 ",
-        "frame 1 020",
-        "audit",
-        "audit ON",
-        "counts ",
-        "end",
-        "policy ",
-        "count\u{E9}s",
-    ] {
-        assert_answers(&rt, &[(line, line, "badline")])?;
-    }
-    Ok(())
+    assert_bad_lines(
+        &rt,
+        &[
+            "",
+            "request",
+            " request 00",
+            "request 0",
+            "request 0G",
+            "request  00",
+            "Request 00",
+            "request 00 ",
+            "request 00\r",
+            "tick",
+            "tick 0",
+            "tick 01",
+            "tick 100001",
+            "tick 1 ",
+            "link 3 up",
+            "link 0 up",
+            "link 1 on",
+            "link 1",
+            "frame 1",
+            "frame 3 FFFFFFFFFFFF0200000001010800",
+            "frame 3 ",
+            "frame 1 020",
+            "audit",
+            "audit ON",
+            "counts ",
+            "end",
+            "policy ",
+            "count\u{E9}s",
+        ],
+    )
 }
 
 #[test]
 fn drops_what_ends_early(rt: HostRuntime) -> Result<(), Fail> {
     let text = GET.as_bytes();
     for octets in 0..41usize {
-        let mut script = Vec::from_slice(rt.alloc(), &text[..8 + 2 * octets])?;
-        script.push(b'\n')?;
-        assert_eq!(rt;
-            said_to(rt.alloc(), &script)?.as_slice(),
-            b"drop Malformed\n".as_slice()
-        );
+        let out = said_to(rt.alloc(), &text[..8 + 2 * octets])?;
+        assert_eq!(rt; out.as_slice(), b"drop Malformed\n".as_slice());
     }
     Ok(())
 }
 
 #[test]
-fn drops_what_is_too_long(rt: HostRuntime) -> Result<(), Fail> {
-    for (octets, said) in [(2048usize, "drop Malformed\n"), (2049, "drop TooLong\n")] {
-        let script = repeated(rt.alloc(), "request ", octets, "30")?;
-        assert_eq!(rt; said_to(rt.alloc(), &script)?.as_slice(), said.as_bytes());
+fn refuses_what_is_too_long(rt: HostRuntime) -> Result<(), Fail> {
+    for (word, times, said) in [
+        ("request ", 2048usize, "drop Malformed\n"),
+        ("request ", 2049, "drop TooLong\n"),
+        (
+            "frame 1 FFFFFFFFFFFF020000000101",
+            1507,
+            "badframe TooLong\n",
+        ),
+    ] {
+        let line = repeated(rt.alloc(), word, times, "30")?;
+        assert_said(&rt, &[&line, "\n"], &[said])?;
     }
     Ok(())
 }
 
 #[test]
 fn answers_line_by_line(rt: HostRuntime) -> Result<(), Fail> {
-    assert!(rt; said_to(rt.alloc(), b"")?.is_empty());
-    assert_eq!(rt;
-        said_to(rt.alloc(), b"\n\nrequest 30\nx")?.as_slice(),
-        b"badline\nbadline\ndrop Malformed\nbadline\n".as_slice()
-    );
-    Ok(())
+    assert_scripts(
+        &rt,
+        &[
+            ("", ""),
+            (
+                "\n\nrequest 30\nx",
+                "badline\nbadline\ndrop Malformed\nbadline\n",
+            ),
+        ],
+    )
 }

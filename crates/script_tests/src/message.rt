@@ -1,6 +1,7 @@
 //! Messages of SNMP version 2c, encoded here by hand (X.690; RFC 1901, section 3; RFC 3416, section 3), so that what tests send
 //! and await does not hang on the program's own encoder.
-use std::alloc::Global;
+use std::alloc::{AllocGlobal, Global};
+use std::process::Abort;
 use std::test::Fail;
 
 /// What stands in a binding (RFC 3416, section 3).
@@ -117,21 +118,39 @@ pub fn many<'a>(alloc: Global, count: usize, bound: Bound<'a>) -> Result<Vec<Bou
 
 /// The octets of a message.
 pub fn octets_of(alloc: Global, message: &Message<'_>) -> Result<Vec<u8>, Fail> {
-    let mut list = Vec::new(alloc);
-    for (name, held) in message.bindings {
-        push_tagged(&mut list, 0x30, &binding_of(alloc, name, *held)?)?;
-    }
-    let mut pdu = Vec::new(alloc);
-    push_integer(&mut pdu, message.id)?;
-    push_integer(&mut pdu, message.first)?;
-    push_integer(&mut pdu, message.second)?;
-    push_tagged(&mut pdu, 0x30, &list)?;
-    let mut content = Vec::from_slice(alloc, b"\x02\x01\x01")?;
-    push_tagged(&mut content, 4, message.community.as_bytes())?;
-    push_tagged(&mut content, tag_of(message.pdu), &pdu)?;
+    let content = content_of(alloc, message)?;
     let mut octets = Vec::new(alloc);
     push_tagged(&mut octets, 0x30, &content)?;
     Ok(octets)
+}
+
+// The content of a message: its version, its community and its PDU.
+fn content_of(alloc: Global, message: &Message<'_>) -> Result<Vec<u8>, Fail> {
+    let pdu = pdu_of(alloc, message)?;
+    let mut content = Vec::from_slice(alloc, b"\x02\x01\x01")?;
+    push_tagged(&mut content, 4, message.community.as_bytes())?;
+    push_tagged(&mut content, tag_of(message.pdu), &pdu)?;
+    Ok(content)
+}
+
+// The content of a PDU: three numbers, and its bindings.
+fn pdu_of(alloc: Global, message: &Message<'_>) -> Result<Vec<u8>, Fail> {
+    let list = bindings_of(alloc, message.bindings)?;
+    let mut pdu = Vec::new(alloc);
+    for number in [message.id, message.first, message.second] {
+        push_integer(&mut pdu, number)?;
+    }
+    push_tagged(&mut pdu, 0x30, &list)?;
+    Ok(pdu)
+}
+
+// The bindings of a PDU.
+fn bindings_of(alloc: Global, bindings: &[Bound<'_>]) -> Result<Vec<u8>, Fail> {
+    let mut list = Vec::new(alloc);
+    for (name, held) in bindings {
+        push_tagged(&mut list, 0x30, &binding_of(alloc, name, *held)?)?;
+    }
+    Ok(list)
 }
 
 // The tag of a PDU.
@@ -168,15 +187,21 @@ fn binding_of(alloc: Global, name: &str, held: Held<'_>) -> Result<Vec<u8>, Fail
 // Adds a tag, the shortest length, and a content (X.690, 8.1).
 fn push_tagged(out: &mut Vec<u8>, tag: u8, content: &[u8]) -> Result<(), Fail> {
     let length = u16::try_from(content.len()).ok().ok_or("a length")?;
-    let [high, low] = length.to_be_bytes();
-    out.push(tag)?;
-    if length >= 256 {
-        out.extend_from_slice(&[0x82, high])?;
-    } else if length >= 128 {
-        out.push(0x81)?;
-    }
-    out.push(low)?;
+    push_head(out, tag, length)?;
     out.extend_from_slice(content)?;
+    Ok(())
+}
+
+// Adds a tag and the shortest length.
+fn push_head(out: &mut Vec<u8>, tag: u8, length: u16) -> Result<(), Fail> {
+    let low = (length & 0xFF) as u8;
+    if length < 128 {
+        out.extend_from_slice(&[tag, low])?;
+    } else if length < 256 {
+        out.extend_from_slice(&[tag, 0x81, low])?;
+    } else {
+        out.extend_from_slice(&[tag, 0x82, (length >> 8 & 0xFF) as u8, low])?;
+    }
     Ok(())
 }
 
@@ -218,20 +243,28 @@ fn push_number(out: &mut Vec<u8>, number: u32) -> Result<(), Fail> {
     Ok(())
 }
 
-// A Get and a reply that another encoder wrote.
+// A message is the octets that another encoder wrote.
+fn assert_octets<R: Abort + AllocGlobal>(
+    rt: &R,
+    message: Message<'_>,
+    octets: &[u8],
+) -> Result<(), Fail> {
+    assert_eq!(rt; octets_of(rt.alloc(), &message)?.as_slice(), octets);
+    Ok(())
+}
+
 #[test]
 fn encodes_as_others_do(rt: HostRuntime) -> Result<(), Fail> {
-    for (message, octets) in [
-        (
-            get(&[("1.3.6.1.2.1.17.1.2.0", Held::Null)]),
-            b"\x30\x27\x02\x01\x01\x04\x06public\xA0\x1A\x02\x01\x01\x02\x01\x00\x02\x01\x00\x30\x0F\x30\x0D\x06\x09\x2B\x06\x01\x02\x01\x11\x01\x02\x00\x05\x00".as_slice(),
-        ),
-        (
-            reply(&[("1.3.6.1.2.1.17.1.2.0", Held::Integer(2))]),
-            b"\x30\x28\x02\x01\x01\x04\x06public\xA2\x1B\x02\x01\x01\x02\x01\x00\x02\x01\x00\x30\x10\x30\x0E\x06\x09\x2B\x06\x01\x02\x01\x11\x01\x02\x00\x02\x01\x02".as_slice(),
-        ),
-    ] {
-        assert_eq!(rt; octets_of(rt.alloc(), &message)?.as_slice(), octets);
-    }
-    Ok(())
+    assert_octets(
+        &rt,
+        get(&[("1.3.6.1.2.1.17.1.2.0", Held::Null)]),
+        b"\x30\x27\x02\x01\x01\x04\x06public\xA0\x1A\x02\x01\x01\x02\x01\x00\x02\x01\x00\
+          \x30\x0F\x30\x0D\x06\x09\x2B\x06\x01\x02\x01\x11\x01\x02\x00\x05\x00",
+    )?;
+    assert_octets(
+        &rt,
+        reply(&[("1.3.6.1.2.1.17.1.2.0", Held::Integer(2))]),
+        b"\x30\x28\x02\x01\x01\x04\x06public\xA2\x1B\x02\x01\x01\x02\x01\x00\x02\x01\x00\
+          \x30\x10\x30\x0E\x06\x09\x2B\x06\x01\x02\x01\x11\x01\x02\x00\x02\x01\x02",
+    )
 }

@@ -1,6 +1,6 @@
 //! Tables of requests, of what is said to each, and of their audits.
 use crate::message::{Message, octets_of};
-use crate::support::said_over;
+use crate::support::{joined, said_over};
 use agent_core::PlainWorld;
 use std::alloc::{AllocGlobal, Global};
 use std::process::Abort;
@@ -22,8 +22,11 @@ pub struct Row<'a> {
     audit: Option<&'a str>,
 }
 
-/// The line that turns audits on.
-pub const AUDIT_ON: &str = "audit on\n";
+/// Lines ahead of a table, and what is said to them: the line that turns audits on.
+pub const AUDIT_ON: (&str, &str) = ("audit on\n", "");
+
+/// No lines ahead of a table.
+pub const NO_LINES: (&str, &str) = ("", "");
 
 /// A request and its reply.
 pub fn replied<'a>(what: &'a str, asked: Message<'a>, reply: Message<'a>) -> Row<'a> {
@@ -31,6 +34,16 @@ pub fn replied<'a>(what: &'a str, asked: Message<'a>, reply: Message<'a>) -> Row
         what,
         asked,
         said: Said::Reply(reply),
+        audit: None,
+    }
+}
+
+/// A request, and the cause that it is dropped for.
+pub fn dropped<'a>(what: &'a str, asked: Message<'a>, cause: &'a str) -> Row<'a> {
+    Row {
+        what,
+        asked,
+        said: Said::Drop(cause),
         audit: None,
     }
 }
@@ -55,14 +68,19 @@ pub fn line_with(alloc: Global, word: &str, message: &Message<'_>) -> Result<Str
     Ok(line)
 }
 
-// The lines that are said to the request of a row.
+// The line that is said to the request of a row.
+fn said_line(alloc: Global, said: Said<'_>) -> Result<String, Fail> {
+    match said {
+        Said::Reply(message) => line_with(alloc, "reply", &message),
+        Said::Drop(cause) => joined(alloc, &["drop ", cause, "\n"]),
+    }
+}
+
+// The same, and the line of its audit.
 fn lines_of(alloc: Global, row: &Row<'_>) -> Result<String, Fail> {
-    let said = match row.said {
-        Said::Reply(message) => line_with(alloc, "reply", &message)?,
-        Said::Drop(cause) => format!(in alloc; "drop {cause}\n")?,
-    };
+    let said = said_line(alloc, row.said)?;
     match row.audit {
-        Some(audit) => Ok(format!(in alloc; "{said}audit {audit}\n")?),
+        Some(audit) => joined(alloc, &[&said, "audit ", audit, "\n"]),
         None => Ok(said),
     }
 }
@@ -83,16 +101,27 @@ fn behind<'a>(rt: &impl Abort, text: &'a str, want: &str, what: &str) -> &'a str
     rest.unwrap_or("")
 }
 
-/// The requests of a table over a world, one after another behind a first line, and what is said to each.
-pub fn assert_rows<R: Abort + AllocGlobal>(
-    rt: &R,
+// What is said to the requests of a table behind some first lines.
+fn said_to_rows(
+    alloc: Global,
     world: PlainWorld,
     first: &str,
     rows: &[Row<'_>],
+) -> Result<Vec<u8>, Fail> {
+    let script = script_of(alloc, first, rows)?;
+    said_over(alloc, world, script.as_bytes())
+}
+
+/// The requests of a table over a world, one after another behind some first lines, and what is
+/// said to these and to each request.
+pub fn assert_rows<R: Abort + AllocGlobal>(
+    rt: &R,
+    world: PlainWorld,
+    first: (&str, &str),
+    rows: &[Row<'_>],
 ) -> Result<(), Fail> {
-    let script = script_of(rt.alloc(), first, rows)?;
-    let out = said_over(rt.alloc(), world, script.as_bytes())?;
-    let mut said = std::str::from_utf8(&out)?;
+    let out = said_to_rows(rt.alloc(), world, first.0, rows)?;
+    let mut said = behind(rt, std::str::from_utf8(&out)?, first.1, "the first lines");
     for row in rows {
         said = behind(rt, said, &lines_of(rt.alloc(), row)?, row.what);
     }
