@@ -1,0 +1,24 @@
+//! Tests of the 51 objects of a bridge: what a walk over all of them shows.
+//!
+//! # Entry points
+//! None: the tests call what `object_list` and `setphase_core` offer.
+//!
+//! # Definitions
+//! None.
+//!
+//! # Laws
+//! None.
+//!
+//! # Not claimed
+//! Anything but what each test compares. The lists were made by an account of the profile and of
+//! the objects that shares nothing with the crates.
+#![tactic(auto)]
+
+#[cfg(test)]
+mod in_use;
+#[cfg(test)]
+mod opening;
+#[cfg(test)]
+mod walks;
+#[cfg(test)]
+mod worlds;

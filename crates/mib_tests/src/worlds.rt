@@ -1,0 +1,84 @@
+//! Worlds made by hand, and what happens to them.
+ghost use Rattle.std.specs.Prelude.{◌≤◌};
+ghost use Rattle.rstp_settings.specs.Values.{IsBridgeRange, IsPortRange};
+
+use bridge_core::Bridge;
+use frame_core::{Mac, read_frame};
+use policy_text::policy_in;
+use rstp_core::{BridgeKey, IfIndex, Key, PortConfig, PortKey};
+use setphase_core::World;
+use std::alloc::Global;
+use std::test::Fail;
+
+const OWN: Mac = Mac([0x02, 0x00, 0x00, 0x00, 0x00, 0x0A]);
+
+// A policy of no rows.
+const NO_POLICY: &str = "contexts = []\ncommunity = []\ngroup = []\naccess = []\nfamily = []\n";
+
+/// A port of an interface number, a speed in Mb/s, and full duplex or not.
+pub fn port(ifindex: u32, speed: u32, full: bool) -> PortConfig
+    requires least { 1 ≤ ifindex }
+    requires most { ifindex ≤ 2147483647 }
+{
+    PortConfig {
+        ifindex: IfIndex::of(ifindex),
+        speed,
+        full,
+    }
+}
+
+/// A bridge of these ports, as it opens, under a policy of no rows.
+pub fn world_of(alloc: Global, ports: &[PortConfig]) -> Result<World, Fail> {
+    let bridge = Bridge::new(alloc, OWN, ports).ok().ok_or("a bridge")?;
+    let policy = policy_in(alloc, NO_POLICY.as_bytes())?.ok_or("a policy")?;
+    Ok(World {
+        bridge,
+        policy,
+        bad_communities: 0,
+        unknown_contexts: 0,
+    })
+}
+
+/// Gives a setting of the bridge a value.
+pub fn put(world: &mut World, key: BridgeKey, value: u32)
+    requires { IsBridgeRange key value }
+{
+    let _before = world.bridge.put_setting(Key::Bridge(key), value);
+}
+
+/// Gives a setting of a port a value.
+pub fn put_at(world: &mut World, port: u16, key: PortKey, value: u32) -> Result<(), Fail>
+    requires { IsPortRange key value }
+{
+    if port < 1 || usize::from(port) > world.bridge.ports() {
+        return Err(Fail::from("a port"));
+    }
+    let _before = world.bridge.put_setting(Key::Port(port, key), value);
+    Ok(())
+}
+
+/// The link of a port goes up.
+pub fn raise(world: &mut World, port: u16) -> Result<(), Fail> {
+    if port < 1 || usize::from(port) > world.bridge.ports() {
+        return Err(Fail::from("a port"));
+    }
+    let _sent = world.bridge.link(port, true);
+    Ok(())
+}
+
+/// A frame comes in by a port.
+pub fn hear(world: &mut World, port: u16, octets: &[u8]) -> Result<(), Fail> {
+    if port < 1 || usize::from(port) > world.bridge.ports() {
+        return Err(Fail::from("a port"));
+    }
+    let frame = read_frame(octets).ok().ok_or("a frame")?;
+    let _sent = world.bridge.frame(port, &frame);
+    Ok(())
+}
+
+/// So many seconds pass.
+pub fn pass(world: &mut World, seconds: u32) {
+    for _ in 0..seconds {
+        let _sent = world.bridge.tick();
+    }
+}
