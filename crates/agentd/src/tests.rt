@@ -223,6 +223,22 @@ const HELP_LINES: [&str; 10] = [
     "Example: printf 'link 1 up\\ntick 2\\n' | agentd script --config agentd.toml",
 ];
 
+// Whether a text has a line.
+fn has_line(octets: &[u8], told: &str) -> Result<bool, Fail> {
+    let text = std::str::from_utf8(octets)?;
+    Ok(text.lines().any(|line| line == told))
+}
+
+// Whether a text has each line of the help that is looked for.
+fn has_help(octets: &[u8]) -> Result<bool, Fail> {
+    for told in HELP_LINES {
+        if !has_line(octets, told)? {
+            return Ok(false);
+        }
+    }
+    Ok(true)
+}
+
 #[test]
 fn tells_its_help(rt: HostRuntime) -> Result<(), Fail> {
     for words in [
@@ -234,10 +250,7 @@ fn tells_its_help(rt: HostRuntime) -> Result<(), Fail> {
         ["agentd", "check", "-h"].as_slice(),
     ] {
         let run = ran(&rt, words, GET)?;
-        let text = std::str::from_utf8(run.out.as_slice())?;
-        for told in HELP_LINES {
-            assert!(rt; text.lines().any(|line| line == told), "{told}");
-        }
+        assert!(rt; has_help(run.out.as_slice())?);
         assert_eq!(rt; (run.status, run.errors.is_empty()), (0, true));
     }
     Ok(())
