@@ -174,7 +174,13 @@ impl<O: MibObject> Agent<O> {
         ensures after { IfOk result (λ note.
             self.new ≡ after_action self.old (request_action request.now note)) }
     {
-        match answer_served(alloc, &mut self.registry, &mut self.world, request, &mut self.buffer) {
+        match answer_served(
+            alloc,
+            &mut self.registry,
+            &mut self.world,
+            request,
+            &mut self.buffer,
+        ) {
             Ok(Answered::Reply(_, audit)) => {
                 say_reply(self.buffer.reply(), out)?;
                 say_audit(alloc, self.is_auditing, &audit, out)?;
