@@ -45,7 +45,8 @@ fn send_next<S: Source, V: View, L: Ledger>(
     sent.offer(row)
 }
 
-// Sends one repetition, GetNext of each name, as far as there is room, and says whether there was room for all of it.
+// Sends one repetition, GetNext of each name, as far as there is room, and says whether there was
+// room for all of it.
 fn repeat_once<S: Source, V: View, L: Ledger>(
     alloc: Global,
     source: &S,
@@ -101,8 +102,8 @@ fn has_ended(row: &[Binding]) -> bool
 
 // Sends up to `most` repetitions from the names on, as far as there is room.
 //
-// Each but the last sends a binding for each name and so takes room: there are no more repetitions than bindings that fit, and
-// one, whatever `most` is.
+// Each but the last sends a binding for each name and so takes room: there are no more repetitions
+// than bindings that fit, and one, whatever `most` is.
 fn repeat<S: Source, V: View, L: Ledger>(
     alloc: Global,
     source: &S,
@@ -187,12 +188,13 @@ fn max_repetitions(request: &Request) -> u32
     count_of(request.second)
 }
 
-/// What GetBulk answers (RFC 3416, 4.2.3): the longest front of the list that it asks for whose reply has at most `MAX_REPLY`,
-/// 1,472, octets.
+/// What GetBulk answers (RFC 3416, 4.2.3): the longest front of the list that it asks for whose
+/// reply has at most `MAX_REPLY`, 1,472, octets.
 ///
-/// Each look at the source is a step. There are at most `most_looks` for each binding that is sent, and for one more, whatever
-/// max-repetitions says; so at most `most_successors`, 246, times as many, also where memory fails. `most_looks` is one more than
-/// the instances that the view hides. Only memory can fail.
+/// Each look at the source is a step. There are at most `most_looks` for each binding that is sent,
+/// and for one more, whatever max-repetitions says; so at most `most_successors`, 246, times as
+/// many, also where memory fails. `most_looks` is one more than the instances that the view hides.
+/// Only memory can fail.
 pub fn get_bulk<S: Source, V: View, L: Ledger>(
     alloc: Global,
     source: &S,

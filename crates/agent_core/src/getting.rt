@@ -55,7 +55,8 @@ fn shows_below<S: Source, V: View, L: Ledger>(
     }
 }
 
-// Whether an object begins the name, and the name is in the view or the view shows an instance of that object.
+// Whether an object begins the name, and the name is in the view or the view shows an instance of
+// that object.
 fn knows_object<S: Source, V: View, L: Ledger>(
     alloc: Global,
     source: &S,
@@ -89,7 +90,8 @@ fn missing(known: bool) -> Value
     }
 }
 
-/// What Get answers under a name (RFC 3416, 4.2.1), over the instances that the view shows. Only memory can fail.
+/// What Get answers under a name (RFC 3416, 4.2.1), over the instances that the view shows. Only
+/// memory can fail.
 ///
 /// It looks for one successor at most, to see whether an object has an instance in the view.
 pub fn get<S: Source, V: View, L: Ledger>(

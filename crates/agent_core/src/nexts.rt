@@ -27,7 +27,8 @@ fn end_under(alloc: Global, name: &Oid) -> Result<Binding, AllocError>
     })
 }
 
-/// What GetNext answers under a name (RFC 3416, 4.2.2), over the instances that the view shows. Only memory can fail.
+/// What GetNext answers under a name (RFC 3416, 4.2.2), over the instances that the view shows.
+/// Only memory can fail.
 ///
 /// It looks at the source at most once for each instance that the view hides, and once more.
 pub fn get_next<S: Source, V: View, L: Ledger>(
@@ -49,8 +50,8 @@ pub fn get_next<S: Source, V: View, L: Ledger>(
     }
 }
 
-/// What GetNext answers under each asked name, in order (RFC 3416, 4.2.2), by the looks of one successor for each. Only memory
-/// can fail.
+/// What GetNext answers under each asked name, in order (RFC 3416, 4.2.2), by the looks of one
+/// successor for each. Only memory can fail.
 pub fn get_next_all<S: Source, V: View, L: Ledger>(
     alloc: Global,
     source: &S,

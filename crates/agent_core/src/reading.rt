@@ -11,8 +11,8 @@ use std::alloc::{AllocError, Global};
 use std::sync::ledger::Ledger;
 use steps::Steps;
 
-/// The first instance after a name that the view shows (RFC 3416, 4.2.2). Each look at the source is a step: one for each
-/// hidden instance that is passed over, and one more. Only memory can fail.
+/// The first instance after a name that the view shows (RFC 3416, 4.2.2). Each look at the source
+/// is a step: one for each hidden instance that is passed over, and one more. Only memory can fail.
 pub fn next_shown<S: Source, V: View, L: Ledger>(
     alloc: Global,
     source: &S,
@@ -35,7 +35,8 @@ pub fn next_shown<S: Source, V: View, L: Ledger>(
     Ok(None)
 }
 
-// The first instance after another one, which is let go here: in the loop it would be let go beside what is found.
+// The first instance after another one, which is let go here: in the loop it would be let go beside
+// what is found.
 fn next_row<S: Source, L: Ledger>(
     alloc: Global,
     source: &S,

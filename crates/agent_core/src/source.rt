@@ -19,12 +19,11 @@ pub trait View {
         ensures { result ≡ shows self.now name.now };
 }
 
-/// Instances in the order of their names, each of which can be served, and the objects that they belong to, none of which begins
-/// another.
+/// Instances in the order of their names, each of which can be served, and the objects that they
+/// belong to, none of which begins another.
 pub trait Source {
     ghost use Rattle.std.specs.Prelude.{List, ℕ};
-    ghost use Rattle.agent_core.specs.Reading.{object_of};
-    ghost use Rattle.agent_core.specs.World.{IsSource};
+    ghost use Rattle.agent_core.specs.Reading.{IsSource, object_of};
     ghost use Rattle.message_core.specs.Instances.{next_of, value_of};
     ghost use Rattle.message_core.specs.declared.binding.Binding.{Binding};
 
@@ -34,8 +33,8 @@ pub trait Source {
     // The names of the objects.
     ghost objects: { Self → List (List ℕ) };
 
-    /// Hands on that the names rise, that each instance can be served, and that no object's name begins another's. It does
-    /// nothing, and only proofs want it.
+    /// Hands on that the names rise, that each instance can be served, and that no object's name
+    /// begins another's. It does nothing, and only proofs want it.
     fn known(&self)
         ensures { IsSource (instances self.now) (objects self.now) };
 
@@ -43,11 +42,13 @@ pub trait Source {
     fn object(&self, alloc: Global, name: &Oid) -> Result<Option<Oid>, AllocError>
         ensures { IfOk result (λ found. found ≡ object_of (objects self.now) name.now) };
 
-    /// A copy of the value under a name, where an instance has that name (RFC 3416, 4.2.1). Only memory can fail.
+    /// A copy of the value under a name, where an instance has that name (RFC 3416, 4.2.1). Only
+    /// memory can fail.
     fn get(&self, alloc: Global, name: &Oid) -> Result<Option<Value>, AllocError>
         ensures { IfOk result (λ found. found ≡ value_of (instances self.now) name.now) };
 
-    /// A copy of the first instance after a name, where there is one (RFC 3416, 4.2.2). It is one step. Only memory can fail.
+    /// A copy of the first instance after a name, where there is one (RFC 3416, 4.2.2). It is one
+    /// step. Only memory can fail.
     fn next<L: Ledger>(
         &self,
         alloc: Global,
