@@ -4,16 +4,10 @@
 use Rattle.std.specs.Prelude.{ℕ, Bool, false, if◌then◌else◌, ◌||◌, List, map, filter, find, Option, Some, None}
 use Rattle.std.specs.List.{list_any}
 use Rattle.oid_core.specs.Order.{is_prefix}
-use Rattle.message_core.specs.Instances.{IsServable, next_of, value_of}
+use Rattle.message_core.specs.Instances.{next_of, value_of}
 use Rattle.message_core.specs.declared.binding.Binding.{Binding}
 use Rattle.message_core.specs.declared.value.Value.{Value}
 use Rattle.message_core.specs.declared.value.Value.TheVariants.{NoSuchObject, NoSuchInstance, EndOfMibView}
-use Rattle.setphase_core.specs.Registry.{AreApart}
-
--- what a source promises of its instances and objects
-pub record IsSource (instances : List Binding) (objects : List (List ℕ)) : Type 0 where
-  pub servable : IsServable instances
-  pub apart : AreApart objects
 
 -- the instances that a view shows
 abbrev pub visible : (List ℕ → Bool) → List Binding → List Binding

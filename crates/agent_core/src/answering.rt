@@ -149,8 +149,8 @@ pub fn short_reply(request: &Request, buffer: &mut Buffer) -> usize
         .length
 }
 
-// Puts the reply to a request that is allowed in a view into the buffer. What follows is over any
-// source and any view.
+// Puts the reply to a request that is allowed in a view into the buffer. Its looks are counted in a
+// new ledger, and by no clause here.
 fn send_allowed<O: MibObject>(
     alloc: Global,
     registry: &Registry<O>,
@@ -168,17 +168,15 @@ fn send_allowed<O: MibObject>(
     ensures err { OnErr result (buffer.new ≡ buffer.old) }
     ensures takes { OnErr result (request.now.kind ≢ Kind.Set) }
 {
-    let source = Served { registry, world };
-    let vacm = world.policy.vacm();
-    let view = PolicyView { vacm, view };
-    send_kind::<Served<O>, PolicyView, Brand>(alloc, &source, &view, request, buffer, Blank::new(1))
+    send_served::<O, Brand>(alloc, registry, world, view, request, buffer, Blank::new(1))
 }
 
-// Answers a request by its kind, and counts nothing: the ledger is a new one.
-fn send_kind<S: Source, V: View, L: Ledger>(
+// The same, by the ledger of a blank.
+fn send_served<O: MibObject, L: Ledger>(
     alloc: Global,
-    source: &S,
-    view: &V,
+    registry: &Registry<O>,
+    world: &World,
+    view: &Name,
     request: &Request,
     buffer: &mut Buffer,
     blank: Blank,
@@ -188,19 +186,43 @@ fn send_kind<S: Source, V: View, L: Ledger>(
     requires name { blank.name ≡ L.name }
     requires parts { blank.parts ≡ L.parts }
     requires some { 0 < blank.parts }
+    ensures sent { IfOk result (λ sent. IsSent (kind_reply (prefixes_of (rows_of registry.now))
+        (in_view world.now.policy.vacm.families view.now)
+        (instances (rows_of registry.now) world.now) request.now request.now.kind)
+        sent buffer.new) }
+    ensures err { OnErr result (buffer.new ≡ buffer.old) }
+    ensures takes { OnErr result (request.now.kind ≢ Kind.Set) }
+{
+    let mut steps: Steps<L> = Steps::new(blank);
+    let source = Served { registry, world };
+    let vacm = world.policy.vacm();
+    let view = PolicyView { vacm, view };
+    send_kind(alloc, &source, &view, request, buffer, &mut steps)
+}
+
+// Answers a request by its kind, from any source and under any view.
+fn send_kind<S: Source<L>, V: View, L: Ledger>(
+    alloc: Global,
+    source: &S,
+    view: &V,
+    request: &Request,
+    buffer: &mut Buffer,
+    steps: &mut Steps<L>,
+) -> Result<SentReply, AllocError>
+    requires community { length request.now.community ≤ MAX_COMMUNITY }
+    requires encodable { AreEncodable request.now.bindings }
     ensures sent { IfOk result (λ sent.
         IsSent (kind_reply (S.objects source.now) (V.shows view.now)
         (S.instances source.now) request.now request.now.kind) sent buffer.new) }
     ensures err { OnErr result (buffer.new ≡ buffer.old) }
     ensures takes { OnErr result (request.now.kind ≢ Kind.Set) }
 {
-    let mut steps: Steps<L> = Steps::new(blank);
     let asked = request.bindings.as_slice();
     source.known();
     let answers = match request.kind {
-        Kind::Get => get_all(alloc, source, view, asked, &mut steps)?,
-        Kind::GetNext => get_next_all(alloc, source, view, asked, &mut steps)?,
-        Kind::GetBulk => get_bulk(alloc, source, view, request, &mut steps)?,
+        Kind::Get => get_all(alloc, source, view, asked, steps)?,
+        Kind::GetNext => get_next_all(alloc, source, view, asked, steps)?,
+        Kind::GetBulk => get_bulk(alloc, source, view, request, steps)?,
         Kind::Set => return Ok(buffer.put(request, ErrorStatus::GenErr, asked)),
     };
     Ok(buffer.put(request, ErrorStatus::NoError, answers.as_slice()))

@@ -13,7 +13,7 @@ ghost use Rattle.message_core.specs.declared.binding.Binding.{Binding};
 
 use crate::nexts::get_next;
 use crate::sent::Sent;
-use crate::source::{Source, View};
+use crate::source::{Successors, View};
 use message_core::{Binding, Bindings, Request, Value, bindings_room};
 use oid_core::Oid;
 use std::alloc::{AllocError, Global};
@@ -21,7 +21,7 @@ use std::sync::ledger::Ledger;
 use steps::Steps;
 
 // Sends what GetNext answers under a name where there is room for it, and says whether there was.
-fn send_next<S: Source, V: View, L: Ledger>(
+fn send_next<S: Successors<L>, V: View, L: Ledger>(
     alloc: Global,
     source: &S,
     view: &V,
@@ -47,7 +47,7 @@ fn send_next<S: Source, V: View, L: Ledger>(
 
 // Sends one repetition, GetNext of each name, as far as there is room, and says whether there was
 // room for all of it.
-fn repeat_once<S: Source, V: View, L: Ledger>(
+fn repeat_once<S: Successors<L>, V: View, L: Ledger>(
     alloc: Global,
     source: &S,
     view: &V,
@@ -104,7 +104,7 @@ fn has_ended(row: &[Binding]) -> bool
 //
 // Each but the last sends a binding for each name and so takes room: there are no more repetitions
 // than bindings that fit, and one, whatever `most` is.
-fn repeat<S: Source, V: View, L: Ledger>(
+fn repeat<S: Successors<L>, V: View, L: Ledger>(
     alloc: Global,
     source: &S,
     view: &V,
@@ -137,7 +137,7 @@ fn repeat<S: Source, V: View, L: Ledger>(
 }
 
 // Sends the first `once` names once, and the others up to `most` times, as far as there is room.
-fn send_list<S: Source, V: View, L: Ledger>(
+fn send_list<S: Successors<L>, V: View, L: Ledger>(
     alloc: Global,
     source: &S,
     view: &V,
@@ -195,7 +195,7 @@ fn max_repetitions(request: &Request) -> u32
 /// and for one more, whatever max-repetitions says; so at most `most_successors`, 246, times as
 /// many, also where memory fails. `most_looks` is one more than the instances that the view hides.
 /// Only memory can fail.
-pub fn get_bulk<S: Source, V: View, L: Ledger>(
+pub fn get_bulk<S: Successors<L>, V: View, L: Ledger>(
     alloc: Global,
     source: &S,
     view: &V,

@@ -17,7 +17,7 @@ use std::sync::ledger::Ledger;
 use steps::Steps;
 
 // The value under a name, where the view shows it.
-fn shown_value<S: Source, V: View>(
+fn shown_value<S: Source<L>, V: View, L: Ledger>(
     alloc: Global,
     source: &S,
     view: &V,
@@ -33,7 +33,7 @@ fn shown_value<S: Source, V: View>(
 }
 
 // Whether the view shows an instance whose name begins so.
-fn shows_below<S: Source, V: View, L: Ledger>(
+fn shows_below<S: Source<L>, V: View, L: Ledger>(
     alloc: Global,
     source: &S,
     view: &V,
@@ -57,7 +57,7 @@ fn shows_below<S: Source, V: View, L: Ledger>(
 
 // Whether an object begins the name, and the name is in the view or the view shows an instance of
 // that object.
-fn knows_object<S: Source, V: View, L: Ledger>(
+fn knows_object<S: Source<L>, V: View, L: Ledger>(
     alloc: Global,
     source: &S,
     view: &V,
@@ -94,7 +94,7 @@ fn missing(known: bool) -> Value
 /// memory can fail.
 ///
 /// It looks for one successor at most, to see whether an object has an instance in the view.
-pub fn get<S: Source, V: View, L: Ledger>(
+pub fn get<S: Source<L>, V: View, L: Ledger>(
     alloc: Global,
     source: &S,
     view: &V,
@@ -121,7 +121,7 @@ pub fn get<S: Source, V: View, L: Ledger>(
 }
 
 /// What Get answers to each asked name, in order (RFC 3416, 4.2.1). Only memory can fail.
-pub fn get_all<S: Source, V: View, L: Ledger>(
+pub fn get_all<S: Source<L>, V: View, L: Ledger>(
     alloc: Global,
     source: &S,
     view: &V,

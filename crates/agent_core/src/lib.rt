@@ -4,14 +4,13 @@
 //! # Entry points
 //! [`answer`] is one step of a request over a `Registry` of managed objects and the `World` that
 //! they show: its reply stands in a [`Buffer`], its audit is given, a drop is counted;
-//! [`short_reply`] writes the reply for a want of memory, and takes none. [`get`], [`get_next`] and
-//! [`get_bulk`] answer from any [`Source`] under any [`View`], and each look for a successor is a
-//! step.
+//! [`short_reply`] writes the reply for a want of memory, and takes none. Under any [`View`]
+//! [`get`] answers from any [`Source`], and [`get_next`] and [`get_bulk`] from any [`Successors`],
+//! of which they can ask nothing but the next instance: each such look is a step.
 //!
 //! # Definitions
 //! `specs/Answers.antt`: what objects show of a world, and the step; `specs/Replies.antt`: replies
-//! by kind, and the size rule; `specs/Reading.antt`: what a source promises, what is visible, Get
-//! and GetNext; `specs/Looking.antt`: the looks that a successor takes; `specs/Bulk.antt`,
+//! by kind, and the size rule; `specs/Reading.antt`: what is visible, Get and GetNext; `specs/Looking.antt`: the looks that a successor takes; `specs/Bulk.antt`,
 //! `specs/Fitting.antt`: GetBulk; `specs/Denying.antt`: denied bindings.
 //!
 //! # Laws
@@ -45,5 +44,5 @@ pub use bulk::get_bulk;
 pub use denying::denied_bindings;
 pub use getting::get;
 pub use nexts::get_next;
-pub use source::{Source, View};
+pub use source::{Source, Successors, View};
 pub use views::PolicyView;
