@@ -12,10 +12,8 @@ use Rattle.bridge_core.specs.Events.{frame_result, tick_of, after_tick, link_of,
 use Rattle.setphase_core.specs.Objects.{ObjectState}
 use Rattle.setphase_core.specs.Registry.{rows_of}
 use Rattle.setphase_core.specs.declared.world.World.{World}
-use Rattle.agent_core.specs.World.{Shown}
-use Rattle.agent_core.specs.Serving.{shown_of, world_after}
 use Rattle.agent_core.specs.Answers as answers
-use Rattle.agent_core.specs.Answers.{Outcome, outcome_of}
+use Rattle.agent_core.specs.Answers.{Outcome, Shown, shown_of, outcome_of, world_after}
 use Rattle.agent_core.specs.Replies.{failure_reply}
 
 -- what events happen to: managed objects, and the world that they show, with its bridge

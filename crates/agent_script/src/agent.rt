@@ -16,7 +16,7 @@ use crate::commands::{Command, read_command};
 use crate::drops::Drops;
 use crate::note::{Note, note_of};
 use crate::saying::{cause_name, say_audit, say_counts, say_drop, say_dropped, say_reply};
-use agent_core::{Answered, Buffer, answer_served, short_reply};
+use agent_core::{Answered, Buffer, answer, short_reply};
 use frame_core::read_frame;
 use message_core::{Request, decode};
 use policy_text::policy_in;
@@ -174,7 +174,7 @@ impl<O: MibObject> Agent<O> {
         ensures after { IfOk result (λ note.
             self.new ≡ after_action self.old (request_action request.now note)) }
     {
-        match answer_served(
+        match answer(
             alloc,
             &mut self.registry,
             &mut self.world,
