@@ -6,6 +6,8 @@
 //! key. [`MibObject`]: a managed object, with `prefix`, `read` and `next`; a boxed one is one too.
 //! [`Registry`]: objects by rising name, with `owner`, `owner_steps`, `read` and `next`; `known`
 //! hands on that no object's name begins another's and that what they show can be served.
+//! [`are_named`]: whether objects have names that a registry asks for, of objects of which nothing
+//! else is known.
 //! [`is_scalar`], [`scalar_after`], [`port_at`], [`port_after`]: the indexes of scalars and ports,
 //! for those who write objects.
 //!
@@ -35,6 +37,7 @@ mod column;
 mod index;
 pub mod laws;
 mod limits;
+mod named;
 mod object;
 mod registry;
 mod search;
@@ -44,6 +47,7 @@ mod world;
 pub use column::{Base, BasePort, Column, ExtPort, Rapid, Stp, StpPort, Tp, TpFdb, TpPort};
 pub use index::{is_scalar, port_after, port_at, scalar_after};
 pub use limits::{MAX_COST, MAX_INDEX, MAX_INFO, MAX_PATH_COST, MAX_SLOTS};
+pub use named::are_named;
 pub use object::{DeviceFault, Index, MibObject, Reservation, SetFault, Slot};
 pub use registry::{Registry, RegistryFault};
 pub use world::World;
