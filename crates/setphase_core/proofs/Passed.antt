@@ -1,29 +1,29 @@
 -- A walk that passes over objects: what it finds, and how many objects it passes over.
-use Rattle.std.proofs.Common.{◌≡◌, ℕ, zero, suc, ◌+◌, ◌<◌, ◌≤◌, Bool, true, false, not, ◌&&◌, ◌||◌, cond, List, [], ◌∷◌, ◌++◌, map, filter, length, drop, find, refl, sym, ap, subst, ◌∙◌, arith, Option, Some, None, IfSome, IsTrue}
+use Rattle.std.proofs.Common.{◌≡◌, ℕ, zero, suc, ◌+◌, ◌<◌, ◌≤◌, Bool, true, false, not, ◌&&◌, ◌||◌, cond, List, [], ◌∷◌, ◌++◌, map, filter, length, drop, find, refl, sym, ap, subst, ◌∙◌, arith, Option, Some, None, IfSome}
 use Rattle.std.specs.List.{AllByRecursion, count_by}
-use Rattle.std.specs.Option.{option_or}
 use Rattle.std.proofs.lemmas.Bool.{or_parts, false≢true}
 use Rattle.std.proofs.lemmas.List.{append-nil}
 use Rattle.std.proofs.lemmas.List.Elements.{filter-append}
 use Rattle.std.proofs.lemmas.List.Sums.{sum_by-cons}
+use Rattle.fdb_core.specs.Rows.{IsRising as AreRising}
 use Rattle.oid_core.specs.Order.{name_lt, is_prefix}
 use Rattle.oid_core.proofs.OrderLaws.{prefix_only}
 use Rattle.message_core.specs.declared.binding.Binding.{Binding}
-use Rattle.message_core.specs.Instances.{next_of}
+use Rattle.message_core.specs.Instances.{next_of, IsServable}
 use Rattle.setphase_core.specs.declared.world.World.{World}
 use Rattle.setphase_core.specs.Values.{IndexedValue}
 use Rattle.setphase_core.specs.declared.registry.RegistryFault.TheVariants.{Unsorted, Nested}
 use Rattle.setphase_core.specs.Columns.{shown_by}
 use Rattle.setphase_core.specs.Objects.{ObjectRow}
-use Rattle.setphase_core.specs.Registry.{prefixes_of, first_fault, under, instances_under, instances}
+use Rattle.setphase_core.specs.Registry.{prefixes_of, first_fault, AreNamed, under, instances_under, instances}
 use Rattle.setphase_core.specs.Searching.{prefix_at, may_follow, IsStart}
 use Rattle.setphase_core.specs.Passing.{open_rows, open_instances, passed_after, passed_ahead, PassesHidden}
 use Rattle.setphase_core.proofs.Below.{is_below, below_from, below_lt, below_more, below_lt_then, above_not_lt, above_not_begun}
 use Rattle.setphase_core.proofs.Ordered.{AreOrdered, ordered_from}
 use Rattle.setphase_core.proofs.Found.{instances-cons, instances-nil}
 use Rattle.setphase_core.proofs.Rising.{all_append}
-use Rattle.setphase_core.proofs.Next.{next-nil, next-cons, next_past, first_here, first_later, short_here}
-use Rattle.std.proofs.lemmas.List.{length-map}
+use Rattle.setphase_core.proofs.Served.{instances_servable}
+use Rattle.setphase_core.proofs.Next.{next-nil, next_past, first_here, first_later, short_here}
 
 -- ---- which objects may have an instance after a name
 
@@ -356,6 +356,45 @@ module _ (passes : List ℕ → Bool) where
       let ahead : passed_ahead passes (drop s rows) (found_open rows w n) ≡ passed_ahead passes rows (found_open rows w n) = ahead_from n s rows (found_open rows w n) (if_after n (open_instances passes rows w) (found_open rows w n) refl) front in
       let count : passed_count (drop s rows) ≡ passed_after passes rows n = count_from n s rows front in
       omega (arith, work, found, ahead, count)
+
+-- ---- the objects that are not passed over make a registry too
+
+ordered_faultless : (rows : List ObjectRow) → AreOrdered (prefixes_of rows) → first_fault rows ≡ None
+ordered_faultless [] h = refl
+ordered_faultless (row ∷ []) h = refl
+ordered_faultless (row ∷ next ∷ rows) h =
+    let lt : name_lt next.prefix row.prefix ≡ false = above_not_lt row.prefix next.prefix h.0.0 in
+    let begun : is_prefix row.prefix next.prefix ≡ false = above_not_begun row.prefix next.prefix h.0.0 in
+    rw (lt, begun) (ordered_faultless (next ∷ rows) h.1)
+
+open_below : (passes : List ℕ → Bool) (p : List ℕ) (rows : List ObjectRow) → AllByRecursion (λ q. is_below p q ≡ true) (prefixes_of rows) → AllByRecursion (λ q. is_below p q ≡ true) (prefixes_of (open_rows passes rows))
+open_below passes p [] h = tt
+open_below passes p (row ∷ rows) h = pick (passes row.prefix) (open_below passes p rows h.1)
+  where
+    pick : (b : Bool) → AllByRecursion (λ q. is_below p q ≡ true) (prefixes_of (open_rows passes rows)) →
+        AllByRecursion (λ q. is_below p q ≡ true) (prefixes_of (cond (not b) (row ∷ open_rows passes rows) (open_rows passes rows)))
+    pick true more = more
+    pick false more = (h.0, more)
+
+open_ordered : (passes : List ℕ → Bool) (rows : List ObjectRow) → AreOrdered (prefixes_of rows) → AreOrdered (prefixes_of (open_rows passes rows))
+open_ordered passes [] h = tt
+open_ordered passes (row ∷ rows) h = pick (passes row.prefix) (open_ordered passes rows h.1)
+  where
+    pick : (b : Bool) → AreOrdered (prefixes_of (open_rows passes rows)) → AreOrdered (prefixes_of (cond (not b) (row ∷ open_rows passes rows) (open_rows passes rows)))
+    pick true more = more
+    pick false more = (open_below passes row.prefix rows h.0, more)
+
+open_named : (passes : List ℕ → Bool) (rows : List ObjectRow) → AreNamed rows → AreNamed (open_rows passes rows)
+open_named passes [] h = tt
+open_named passes (row ∷ rows) h = pick (passes row.prefix) (open_named passes rows h.1)
+  where
+    pick : (b : Bool) → AreNamed (open_rows passes rows) → AreNamed (cond (not b) (row ∷ open_rows passes rows) (open_rows passes rows))
+    pick true more = more
+    pick false more = (h.0, more)
+
+pub open_servable : (passes : List ℕ → Bool) (rows : List ObjectRow) (w : World) → first_fault rows ≡ None → AreNamed rows → AreRising w.bridge.learned → IsServable (open_instances passes rows w)
+open_servable passes rows w e h k =
+    instances_servable (open_rows passes rows) w (ordered_faultless (open_rows passes rows) (open_ordered passes rows (ordered_from rows e))) (open_named passes rows h) k
 
 -- ---- nothing that is shown is missed
 

@@ -1,5 +1,5 @@
 //! Objects in the order of their names.
-ghost use Rattle.std.specs.Prelude.{◌≡◌, ◌≤◌, ◌+◌, ◌-◌, ◌*◌, ◌^◌, length, map, Some, None, IfOk, IsOk, MatchResult};
+ghost use Rattle.std.specs.Prelude.{◌≡◌, ◌≤◌, ◌+◌, ◌-◌, ◌*◌, ◌^◌, ℕ, Bool, List, length, map, Some, None, IfOk, IsOk, MatchResult};
 ghost use Rattle.std.specs.Option.{option_copied};
 ghost use Rattle.message_core.specs.Instances.{next_of, value_of, IsServable};
 ghost use Rattle.setphase_core.specs.Registry.{rows_of, prefixes_of, first_fault, AreApart, AreNamed, HasShortName, owner_of, instances};
@@ -96,13 +96,15 @@ impl<O: MibObject> Registry<O> {
 
     /// Hands on that the objects are in the order of their names, none of which begins another,
     /// that each stands under 1.3 and has room behind it for any index, that the names of the
-    /// instances rise, and that each instance can be served, whatever the objects and the world are;
-    /// it does nothing.
+    /// instances rise, and that each instance can be served, whatever the objects and the world are,
+    /// also of those objects that are not passed over, whatever the test is; it does nothing.
     pub fn known(&self, world: &World)
         ensures ordered { first_fault (rows_of self.now) ≡ None }
         ensures apart { AreApart (prefixes_of (rows_of self.now)) }
         ensures named { AreNamed (rows_of self.now) }
         ensures servable { IsServable (instances (rows_of self.now) world.now) }
+        ensures open { (passes : List ℕ → Bool)
+            → IsServable (open_instances passes (rows_of self.now) world.now) }
     {
         let _objects = self.objects.as_slice();
         let _row = world.bridge.fdb().next_after(None);

@@ -1,9 +1,8 @@
-use Rattle.std.proofs.Common.{◌≡◌, ◌≤◌, List, [], ◌∷◌, Bool, ℕ, Option, IfOk, IfSome, IsOk, true, false, None, map, length, sym, ap, subst, ◌∙◌, rules, refl, arith}
+use Rattle.std.proofs.Common.{◌≡◌, ◌≤◌, List, [], ◌∷◌, Bool, ℕ, Option, IfOk, IfSome, IsOk, true, false, map, length, sym, ap, subst, ◌∙◌, rules, refl, arith}
 use Rattle.std.proofs.lemmas.Bool.{false≢true}
 use Rattle.oid_core.specs.declared.limits.TheConstants.{INLINE_NUMBERS}
 use Rattle.message_core.specs.declared.binding.Binding.{Binding}
 use Rattle.message_core.specs.Instances.{next_of}
-use Rattle.setphase_core.specs.Objects.{ObjectRow}
 use Rattle.setphase_core.specs.Registry.{rows_of}
 use Rattle.setphase_core.specs.Passing.{open_instances}
 use Rattle.setphase_core.proofs.Passed as passed
