@@ -1,6 +1,6 @@
 //! Messages and scripts.
 use crate::access::policy_with;
-use crate::forwarding::two_ports;
+use crate::forwarding::bridge_of;
 use crate::print::print_turns;
 use crate::sources::{Nowhere, Repeated};
 use agent_script::{built_in_world, run_script};
@@ -62,7 +62,7 @@ pub fn measure_script(rt: &HostRuntime) -> io::Result<()> {
         Ok(world) => world,
         Err(_) => return Err(Error::from(ErrorKind::OutOfMemory)),
     };
-    let bridge = two_ports(rt.alloc())?;
+    let bridge = bridge_of(rt.alloc(), 2)?;
     let mut reader = Repeated::new(LINE, TURNS);
     let start = Instant::now(rt)?;
     if run_script(rt.alloc(), world, bridge, &mut reader, &mut Nowhere).is_err() {
