@@ -2,60 +2,13 @@
 ghost use Rattle.std.specs.Prelude.{map};
 ghost use Rattle.setphase_core.specs.Registry.{rows_of, AreNamed};
 
-use crate::messages::{
-    ALL, Bound, GET, GET_BULK, GET_NEXT, NULL, PORT_2, RESPONSE, message, opening_world,
-};
-use crate::objects::{BaseObject, column, scalar};
-use agent_core::{Answered, Buffer, answer_served};
+use crate::messages::{ALL, GET, GET_BULK, GET_NEXT, NULL, PORT_2, message, opening_world};
+use crate::objects::{column, scalar};
+use crate::rows::{assert_rows, reply_to};
 use bridge_mib::StpPortColumn;
-use message_core::decode;
-use setphase_core::{Base, BasePort, MibObject, Registry, StpPort, World};
+use setphase_core::{Base, BasePort, MibObject, Registry, StpPort};
 use std::alloc::Global;
-use std::process::Abort;
 use std::test::Fail;
-
-// The reply to a datagram, empty where it is dropped.
-fn reply_to<O: MibObject>(
-    alloc: Global,
-    registry: &mut Registry<O>,
-    world: &mut World,
-    datagram: &[u8],
-) -> Result<Vec<u8>, Fail> {
-    let request = decode(alloc, datagram).ok().ok_or("a request")?;
-    let mut buffer = Buffer::new();
-    match answer_served(alloc, registry, world, &request, &mut buffer)? {
-        Answered::Reply(_, _) => Ok(Vec::from_slice(alloc, buffer.reply())?),
-        Answered::NoReply(_) => Ok(Vec::new(alloc)),
-    }
-}
-
-// What is asked of `public`, by a PDU and two numbers, and the bindings that are answered.
-type Row<'a> = (&'a str, u8, (u8, u8), &'a [Bound<'a>], &'a [Bound<'a>]);
-
-// What is asked over objects, and what is answered.
-fn assert_rows<O: MibObject>(
-    rt: &impl Abort,
-    alloc: Global,
-    objects: Vec<O>,
-    families: &str,
-    rows: &[Row<'_>],
-) -> Result<(), Fail>
-    requires { AreNamed (rows_of (map O.state objects.items)) }
-{
-    let mut registry = Registry::new(objects).ok().ok_or("a registry")?;
-    let mut world = opening_world(alloc, families)?;
-    for (what, pdu, numbers, asked, answered) in rows {
-        let asked = message(alloc, "public", *pdu, *numbers, asked)?;
-        let want = message(alloc, "public", RESPONSE, (0, 0), answered)?;
-        assert_eq!(rt;
-            reply_to(alloc, &mut registry, &mut world, &asked)?,
-            want,
-            "{what}"
-        );
-    }
-    assert_eq!(rt; (world.bad_communities, world.unknown_contexts), (0, 0));
-    Ok(())
-}
 
 // How many ports there are, and of each port its ifIndex and its circuit.
 #[test]

@@ -5,7 +5,7 @@ use Rattle.setphase_core.specs.Registry.{rows_of, prefixes_of, instances}
 use Rattle.agent_core.specs.Answers.{IsSent}
 use Rattle.agent_core.specs.Replies.{kind_reply}
 use Rattle.agent_core.specs.declared.sent_reply.SentReply.{SentReply}
-use Rattle.agent_core.proofs.serving.send_served.Goals as goal
+use Rattle.agent_core.proofs.answering.send_served.Goals as goal
 
 pub returns-clause-sent : goal.returns-clause-sent
 returns-clause-sent g c =
