@@ -30,8 +30,8 @@ mod trials;
 use access::measure_access;
 use bridge::{measure_addresses, measure_frames};
 use forwarding::measure_forwarding;
-use messages::{measure_decode, measure_encode, measure_script};
-use scenes::{check_agent, measure_agent};
+use messages::{measure_decode, measure_encode};
+use scenes::{Work, do_work};
 use std::{env, io};
 use tree::measure_tree;
 
@@ -53,14 +53,14 @@ fn main(rt: HostRuntime) -> io::Result<()> {
     let _name = words.next();
     match words.next() {
         None => {
-            check_agent(&rt)?;
+            do_work(&rt, Work::Check)?;
             print_names(&rt)
         }
         Some(word) => match word.as_str() {
             "decode" => measure_decode(&rt),
             "encode" => measure_encode(&rt),
-            "agent" => measure_agent(&rt),
-            "script" => measure_script(&rt),
+            "agent" => do_work(&rt, Work::Measure),
+            "script" => do_work(&rt, Work::Script),
             "frames" => measure_frames(&rt),
             "addresses" => measure_addresses(&rt),
             "tree" => measure_tree(&rt),

@@ -1,7 +1,8 @@
 //! Worlds whose agent is measured: ports, learned rows, and views of them.
 use crate::access::policy_of_families;
-use crate::agent::{Agent, Trial, wrong};
+use crate::agent::{Agent, Trial, registry_of, wrong};
 use crate::forwarding::{bridge_of, prepare, station};
+use crate::messages::measure_lines;
 use crate::trials::{trials_in_all, trials_in_row, trials_past_rows, walk_of};
 use object_list::objects;
 use setphase_core::{MibObject, World};
@@ -145,51 +146,72 @@ impl Scene {
     }
 }
 
-// Shows each world in turn, and answers each trial: once, or as often as a measurement takes.
-fn run_scenes<O: MibObject>(
+/// What is done with the objects.
+#[derive(Clone, Copy)]
+pub enum Work {
+    /// Each request that is measured is answered once, and the reply is looked into.
+    Check,
+    /// Requests are measured, from their octets to those of the reply.
+    Measure,
+    /// A script is measured.
+    Script,
+}
+
+// Answers each trial of a world once.
+fn check_scene<O: MibObject>(
     rt: &HostRuntime,
-    objects: Vec<O>,
-    is_measured: bool,
+    agent: &mut Agent<O>,
+    scene: Scene,
 ) -> io::Result<()> {
-    let mut agent = Agent::new(objects, SCENES[0].world(rt.alloc())?)?;
+    for trial in &scene.trials(rt.alloc())? {
+        agent.check(rt.alloc(), trial)?;
+    }
+    let walk = walk_of(rt.alloc(), agent, scene.instances())?;
+    agent.check(rt.alloc(), &walk)?;
+    Ok(())
+}
+
+// Measures each trial of a world.
+fn measure_scene<O: MibObject>(
+    rt: &HostRuntime,
+    agent: &mut Agent<O>,
+    scene: Scene,
+) -> io::Result<()> {
+    println!(rt;
+        "{} ports, {} learned rows, {}",
+        scene.ports,
+        scene.rows,
+        scene.view.what()
+    )?;
+    for trial in &scene.trials(rt.alloc())? {
+        agent.measure(rt, trial)?;
+    }
+    let walk = walk_of(rt.alloc(), agent, scene.instances())?;
+    agent.measure(rt, &walk)
+}
+
+// Does the work over these objects.
+fn work_over<O: MibObject>(rt: &HostRuntime, objects: Vec<O>, work: Work) -> io::Result<()> {
+    let world = SCENES[0].world(rt.alloc())?;
+    if matches!(work, Work::Script) {
+        return measure_lines(rt, registry_of(objects)?, world);
+    }
+    let mut agent = Agent::new(objects, world)?;
     for scene in SCENES {
         agent.show(scene.world(rt.alloc())?);
-        let mut trials = scene.trials(rt.alloc())?;
-        trials.push(walk_of(rt.alloc(), &mut agent, scene.instances())?)?;
-        if is_measured {
-            println!(rt;
-                "{} ports, {} learned rows, {}",
-                scene.ports,
-                scene.rows,
-                scene.view.what()
-            )?;
-        }
-        for trial in &trials {
-            if is_measured {
-                agent.measure(rt, trial)?;
-            } else {
-                agent.check(rt.alloc(), trial)?;
-            }
+        match work {
+            Work::Measure => measure_scene(rt, &mut agent, scene)?,
+            Work::Check | Work::Script => check_scene(rt, &mut agent, scene)?,
         }
     }
     Ok(())
 }
 
-// The agent of all objects of a bridge, each in a box.
-fn run_boxed(rt: &HostRuntime, is_measured: bool) -> io::Result<()> {
+/// Does the work over all objects of a bridge, each in a box.
+pub fn do_work(rt: &HostRuntime, work: Work) -> io::Result<()> {
     let mut boxes: Vec<Box<dyn MibObject + Send>> = Vec::new(rt.alloc());
     for object in objects(rt.alloc())? {
         boxes.push(Box::new(rt.alloc(), object)?)?;
     }
-    run_scenes(rt, boxes, is_measured)
-}
-
-/// Answers all that is measured once, and looks into the replies.
-pub fn check_agent(rt: &HostRuntime) -> io::Result<()> {
-    run_boxed(rt, false)
-}
-
-/// Measures requests from their octets to those of the reply.
-pub fn measure_agent(rt: &HostRuntime) -> io::Result<()> {
-    run_boxed(rt, true)
+    work_over(rt, boxes, work)
 }
