@@ -467,6 +467,7 @@ badline
 ";
 
 /// Files of which each holds its own name.
+#[derive(Clone, Copy)]
 struct Names {
     alloc: Global,
 }
