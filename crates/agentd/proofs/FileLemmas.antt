@@ -8,19 +8,31 @@ use Rattle.agentd.specs.Telling.{IsFileChecked, IsCheckOf}
 use Rattle.agentd.specs.Programs.{RunsRead, RunsFile}
 
 -- what was not read of this file names it, also as a list of octets
-read_of : (file : List ℕ) (read : Result (Vec ℕ Global) NotRead) → IfErr read (λ why. IsNotRead file why) → IsReadOf file (read_view read)
-read_of file (Ok octets) named = tt
-read_of file (Err why) named = named
+named_by : (file : List ℕ) (read : Result (Vec ℕ Global) NotRead)
+    → IfErr read (λ why. IsNotRead file why) → IfErr (read_view read) (λ why. IsNotRead file why)
+named_by file (Ok octets) named = tt
+named_by file (Err why) named = named
 
-pub file_run : {I O : Type 0} (remaining : I → Option (List ℕ)) (contents : O → Option (List ℕ)) (file : List ℕ) (read : Result (Vec ℕ Global) NotRead)
-    (reader reader' : I) (writer writer' : O) (ended : Result (Unit {0}) Failure) → IfErr read (λ why. IsNotRead file why)
-    → RunsRead remaining contents (read_view read) reader reader' writer writer' ended
-    → RunsFile remaining contents file reader reader' writer writer' ended
-file_run remaining contents file read reader reader' writer writer' ended named ran =
-    record { read = read_view read; named = read_of file read named; ran = ran }
+read_of : (Gives : List ℕ → Result (List ℕ) NotRead → Type 0) (file : List ℕ)
+    (read : Result (Vec ℕ Global) NotRead) → IfErr read (λ why. IsNotRead file why)
+    → Gives file (read_view read) → IsReadOf Gives file (read_view read)
+read_of Gives file read named gave = record { named = named_by file read named; gave = gave }
 
-pub file_check : {O : Type 0} (contents : O → Option (List ℕ)) (file : List ℕ) (read : Result (Vec ℕ Global) NotRead) (writer writer' : O)
+pub file_run : {I O : Type 0} (Gives : List ℕ → Result (List ℕ) NotRead → Type 0)
+    (remaining : I → Option (List ℕ)) (contents : O → Option (List ℕ)) (file : List ℕ)
+    (read : Result (Vec ℕ Global) NotRead) (reader reader' : I) (writer writer' : O)
     (ended : Result (Unit {0}) Failure) → IfErr read (λ why. IsNotRead file why)
-    → IsFileChecked contents (read_view read) writer writer' ended → IsCheckOf contents file writer writer' ended
-file_check contents file read writer writer' ended named checked =
-    record { read = read_view read; named = read_of file read named; checked = checked }
+    → Gives file (read_view read)
+    → RunsRead remaining contents (read_view read) reader reader' writer writer' ended
+    → RunsFile Gives remaining contents file reader reader' writer writer' ended
+file_run Gives remaining contents file read reader reader' writer writer' ended named gave ran =
+    record { read = read_view read; is = read_of Gives file read named gave; ran = ran }
+
+pub file_check : {O : Type 0} (Gives : List ℕ → Result (List ℕ) NotRead → Type 0)
+    (contents : O → Option (List ℕ)) (file : List ℕ) (read : Result (Vec ℕ Global) NotRead)
+    (writer writer' : O) (ended : Result (Unit {0}) Failure)
+    → IfErr read (λ why. IsNotRead file why) → Gives file (read_view read)
+    → IsFileChecked contents (read_view read) writer writer' ended
+    → IsCheckOf Gives contents file writer writer' ended
+file_check Gives contents file read writer writer' ended named gave checked =
+    record { read = read_view read; is = read_of Gives file read named gave; checked = checked }

@@ -34,40 +34,53 @@ module _ {I O : Type 0} (remaining : I → Option (List ℕ)) (contents : O → 
   RunsRead (Ok octets) reader reader' writer writer' ended = RunsBy octets reader reader' writer writer' ended
   RunsRead (Err why) reader reader' writer writer' ended = FailsFirst (read_failure why) reader reader' writer writer' ended
 
-  -- a file was read, or not, and the program ran by it
-  pub record RunsFile (file : List ℕ) (reader reader' : I) (writer writer' : O) (ended : Result (Unit {0}) Failure) : Type 0 where
-    pub read : Result (List ℕ) NotRead
-    pub named : IsReadOf file read
-    pub ran : RunsRead read reader reader' writer writer' ended
-
-  -- the program told whether a file is a configuration, and read nothing else
-  pub record ChecksFile (file : List ℕ) (reader reader' : I) (writer writer' : O) (ended : Result (Unit {0}) Failure) : Type 0 where
-    pub unread : reader' ≡ reader
-    pub checked : IsCheckOf contents file writer writer' ended
-
   -- the program told something, and read nothing
   pub record Tells (text : List ℕ) (reader reader' : I) (writer writer' : O) (ended : Result (Unit {0}) Failure) : Type 0 where
     pub unread : reader' ≡ reader
     pub told : IsTold contents text writer writer' ended
 
-  -- What the program did for what its words ask: no clause says which octets a file holds, nor whether it can be read.
+-- Beside these a reader of files, by what a read of the file of a name may give.
+module _ {I O : Type 0} (Gives : List ℕ → Result (List ℕ) NotRead → Type 0)
+    (remaining : I → Option (List ℕ)) (contents : O → Option (List ℕ)) where
+  -- a file was read, or not, and the program ran by what was read of it
+  pub record RunsFile (file : List ℕ) (reader reader' : I) (writer writer' : O)
+      (ended : Result (Unit {0}) Failure) : Type 0 where
+    pub read : Result (List ℕ) NotRead
+    pub is : IsReadOf Gives file read
+    pub ran : RunsRead remaining contents read reader reader' writer writer' ended
+
+  -- the program told whether a file is a configuration, and read nothing else
+  pub record ChecksFile (file : List ℕ) (reader reader' : I) (writer writer' : O)
+      (ended : Result (Unit {0}) Failure) : Type 0 where
+    pub unread : reader' ≡ reader
+    pub checked : IsCheckOf Gives contents file writer writer' ended
+
+  -- What the program did for what its words ask.
   abbrev pub Does : Result Asked Wrong → I → I → O → O → Result (Unit {0}) Failure → Type 0
-  Does (Ok BuiltIn) reader reader' writer writer' ended = RunsBy BUILT_IN.now reader reader' writer writer' ended
-  Does (Ok (Script file)) reader reader' writer writer' ended = RunsFile file.now reader reader' writer writer' ended
-  Does (Ok (Check file)) reader reader' writer writer' ended = ChecksFile file.now reader reader' writer writer' ended
-  Does (Ok Help) reader reader' writer writer' ended = Tells HELP.now reader reader' writer writer' ended
-  Does (Ok Version) reader reader' writer writer' ended = Tells VERSION.now reader reader' writer writer' ended
-  Does (Err wrong) reader reader' writer writer' ended = FailsFirst (Usage wrong) reader reader' writer writer' ended
+  Does (Ok BuiltIn) reader reader' writer writer' ended =
+      RunsBy remaining contents BUILT_IN.now reader reader' writer writer' ended
+  Does (Ok (Script file)) reader reader' writer writer' ended =
+      RunsFile file.now reader reader' writer writer' ended
+  Does (Ok (Check file)) reader reader' writer writer' ended =
+      ChecksFile file.now reader reader' writer writer' ended
+  Does (Ok Help) reader reader' writer writer' ended =
+      Tells remaining contents HELP.now reader reader' writer writer' ended
+  Does (Ok Version) reader reader' writer writer' ended =
+      Tells remaining contents VERSION.now reader reader' writer writer' ended
+  Does (Err wrong) reader reader' writer writer' ended =
+      FailsFirst remaining contents (Usage wrong) reader reader' writer writer' ended
 
   -- The program did what its words, its name first, ask for.
-  pub record HasEnded (words : List (List ℕ)) (reader reader' : I) (writer writer' : O) (ended : Result (Unit {0}) Failure) : Type 0 where
+  pub record HasEnded (words : List (List ℕ)) (reader reader' : I) (writer writer' : O)
+      (ended : Result (Unit {0}) Failure) : Type 0 where
     pub asked : Result Asked Wrong
     pub is : asking_view asked ≡ asking_of words
     pub does : Does asked reader reader' writer writer' ended
 
-  -- The program ended: its status is that of how it did, and on standard error stands the line that says so, whole or a front of it behind
-  -- which a write failed.
-  pub record IsProgramRun (words : List (List ℕ)) (reader reader' : I) (writer writer' : O) (errors errors' : Option (List ℕ)) (finished : Ended) : Type 0 where
+  -- The program ended: its status is that of how it did, and on standard error stands the line that
+  -- says so, whole or a front of it behind which a write failed.
+  pub record IsProgramRun (words : List (List ℕ)) (reader reader' : I) (writer writer' : O)
+      (errors errors' : Option (List ℕ)) (finished : Ended) : Type 0 where
     pub ended : Result (Unit {0}) Failure
     pub did : HasEnded words reader reader' writer writer' ended
     pub status : finished.status ≡ status_of ended

@@ -85,8 +85,12 @@ module _ {O : Type 0} (contents : O → Option (List ℕ)) where
   IsFileChecked (Err FileMemory) writer writer' ended = IsWantTold writer writer' ended
   IsFileChecked (Err (Unreadable file)) writer writer' ended = (ended ≡ Err (CannotRead file)) × (writer' ≡ writer)
 
-  -- a file was read, or not, and it was told whether it is a configuration
-  pub record IsCheckOf (file : List ℕ) (writer writer' : O) (ended : Result (Unit {0}) Failure) : Type 0 where
+-- A reader of files, by what a read of the file of a name may give, and a writer.
+module _ {O : Type 0} (Gives : List ℕ → Result (List ℕ) NotRead → Type 0)
+    (contents : O → Option (List ℕ)) where
+  -- a file was read, or not, and it was told whether what was read of it is a configuration
+  pub record IsCheckOf (file : List ℕ) (writer writer' : O) (ended : Result (Unit {0}) Failure)
+      : Type 0 where
     pub read : Result (List ℕ) NotRead
-    pub named : IsReadOf file read
-    pub checked : IsFileChecked read writer writer' ended
+    pub is : IsReadOf Gives file read
+    pub checked : IsFileChecked contents read writer writer' ended

@@ -1,6 +1,7 @@
 //! Reads the file of a configuration.
-ghost use Rattle.std.specs.Prelude.{IfErr};
-ghost use Rattle.agentd.specs.Files.{IsNotRead};
+ghost use Rattle.std.specs.Prelude.{ℕ, List, Result, IfErr, ⊤};
+ghost use Rattle.agentd.specs.Files.{IsNotRead, read_view};
+ghost use Rattle.agentd.specs.declared.files.NotRead.{NotRead};
 
 use std::fs;
 use std::io::ErrorKind;
@@ -15,16 +16,32 @@ pub enum NotRead<'a> {
     Unreadable(&'a str),
 }
 
-/// The octets of a file; no clause can say what it holds.
-///
-/// # Errors
-/// `Memory` where there is none for them; `Unreadable`, with the file, where it cannot be read.
-pub fn read_file<'a, R: Files + AllocGlobal>(rt: &R, file: &'a str) -> Result<Vec<u8>, NotRead<'a>>
-    ensures { IfErr result (λ why. IsNotRead file.now why) }
-{
-    match fs::read(rt, file) {
-        Ok(octets) => Ok(octets),
-        Err(error) if error.kind() == ErrorKind::OutOfMemory => Err(NotRead::Memory),
-        Err(_) => Err(NotRead::Unreadable(file)),
+/// Reads whole files.
+pub trait ReadFile {
+    /// What a read of the file of this name may give: its octets, or why they were not had.
+    ghost gives: { Self → List ℕ → Result (List ℕ) NotRead → Type 0 };
+
+    /// The octets of the file of this name.
+    ///
+    /// # Errors
+    /// `Memory` where there is none for them; `Unreadable`, with the file, where it cannot be read.
+    fn read_file<'a>(&self, file: &'a str) -> Result<Vec<u8>, NotRead<'a>>
+        ensures named { IfErr result (λ why. IsNotRead file.now why) }
+        ensures gave { gives self.now file.now (read_view result) };
+}
+
+/// The files of the system. No clause can say what one holds, nor whether it can be read.
+#[derive(Clone, Copy, Debug)]
+pub struct SystemFiles<'r, R>(pub &'r R);
+
+impl<R: Files + AllocGlobal> ReadFile for SystemFiles<'_, R> {
+    ghost gives = { λ _ _ _. ⊤ };
+
+    fn read_file<'a>(&self, file: &'a str) -> Result<Vec<u8>, NotRead<'a>> {
+        match fs::read(self.0, file) {
+            Ok(octets) => Ok(octets),
+            Err(error) if error.kind() == ErrorKind::OutOfMemory => Err(NotRead::Memory),
+            Err(_) => Err(NotRead::Unreadable(file)),
+        }
     }
 }

@@ -1,21 +1,23 @@
 //! The agent, driven by a script from standard input.
 //!
 //! # Entry points
-//! `run_words` over words, streams and the file system gives the exit status, 0, 1 or 2, and whether the line of a failure was
-//! written whole. `run_octets` runs the script by the
-//! octets of a configuration, `check_octets` tells whether octets are one.
+//! `run_words` over words, streams and a reader of files gives the exit status, 0, 1 or 2, and
+//! whether the line of a failure was written whole. `run_octets` runs the script by the octets of a
+//! configuration, `check_octets` tells whether octets are one.
 //!
 //! # Definitions
-//! `specs/Words.antt`: what words ask for; `specs/Files.antt`: why a file was not read; `specs/Agents.antt`: the agent that a
-//! configuration opens; `specs/Runs.antt`: what a run by octets promises; `specs/Endings.antt`: statuses, and the line of each
-//! failure; `specs/Telling.antt`: what a check tells; `specs/Programs.antt`: what the program does with its words.
+//! `specs/Words.antt`: what words ask for; `specs/Files.antt`: what a read of a file gave;
+//! `specs/Agents.antt`: the agent that a configuration opens; `specs/Runs.antt`: what a run by octets
+//! promises; `specs/Endings.antt`: statuses, and the line of each failure; `specs/Telling.antt`: what
+//! a check tells; `specs/Programs.antt`: what the program does with its words.
 //!
 //! # Laws
 //! None.
 //!
 //! # Not claimed
-//! That the octets that run are those of the file named: a test holds it. That a write failed where the line of a failure is told to
-//! be cut off. That memory was refused where the answer is for want of it. What a file holds and a terminal shows.
+//! That the words are those of the command line. That a write failed where the line of a failure is
+//! told to be cut off. That memory was refused where the answer is for want of it. What a file of the
+//! system holds and a terminal shows.
 #![tactic(auto)]
 
 mod checking;
@@ -27,7 +29,13 @@ mod running;
 mod telling;
 mod words;
 
+ghost use Rattle.std.specs.Prelude.{◌≡◌, IfOk, IfErr, map, string_bytes};
+ghost use Rattle.std.specs.IoError.{error_kind};
+ghost use Rattle.std.specs.Vec.Iter.{into_iter_items};
+ghost use Rattle.std.specs.declared.io.ErrorKind.TheVariants.{OutOfMemory};
+
 use failure::{Failure, report};
+use files::SystemFiles;
 use run::run_words;
 use std::alloc::Allocator;
 use std::process::ExitCode;
@@ -41,7 +49,16 @@ fn main(rt: HostRuntime) -> ExitCode {
     };
     let mut reader = rt.reader();
     let mut writer = io::writer(&rt);
-    ExitCode::from(run_words(&rt, &words, &mut reader, &mut writer, &mut errors).status)
+    let files = SystemFiles(&rt);
+    let ended = run_words(
+        rt.alloc(),
+        &files,
+        &words,
+        &mut reader,
+        &mut writer,
+        &mut errors,
+    );
+    ExitCode::from(ended.status)
 }
 
 // The words of the command line, the program's name first.
@@ -49,8 +66,12 @@ fn read_words(rt: &HostRuntime) -> io::Result<Vec<String>> {
     collect_words(rt.alloc(), env::args(rt)?)
 }
 
-// Words as a list.
-fn collect_words<A: Allocator>(alloc: A, words: env::Args) -> io::Result<Vec<String, A>> {
+// Words as a list, in their order.
+fn collect_words<A: Allocator>(alloc: A, words: env::Args) -> io::Result<Vec<String, A>>
+    ensures words { IfOk result (λ list.
+        map string_bytes list.items ≡ map string_bytes (into_iter_items words)) }
+    ensures fault { IfErr result (λ error. error_kind error ≡ OutOfMemory) }
+{
     let mut list = Vec::new(alloc);
     for word in words {
         list.push(word)?;

@@ -7,34 +7,35 @@ ghost use Rattle.agentd.specs.Programs.{RunsBy, RunsRead, RunsFile, Does, HasEnd
 
 use crate::checking::check_read;
 use crate::failure::{Ended, Failure, failure_of, read_failure, report, tell};
-use crate::files::{NotRead, read_file};
+use crate::files::{NotRead, ReadFile};
 use crate::running::run_octets;
 use crate::words::{Asked, HELP, VERSION, Wrong, asked_by};
 use configuration::BUILT_IN;
 use std::alloc::Global;
 use std::io::{Read, Write};
-use std::rt::Files;
 
-/// Runs the program on the words of its command line, its name first, and gives its exit status: 0; 1 where input, output or
-/// the run failed; 2 for words that are no command, and for a configuration that cannot be read or is refused. A failure is
-/// written to `errors` as one line, whole or a front of it behind which a write failed. Files are read only; no clause can say so,
-/// nor what one holds.
-pub fn run_words<R, I, O, E>(
-    rt: &R,
+/// Runs the program on the words of its command line, its name first, and gives its exit status: 0;
+/// 1 where input, output or the run failed; 2 for words that are no command, and for a configuration
+/// that cannot be read or is refused. A failure is written to `errors` as one line, whole or a front
+/// of it behind which a write failed. The octets of a file are those that `files` gives for its name.
+pub fn run_words<F, I, O, E>(
+    alloc: Global,
+    files: &F,
     words: &[String],
     reader: &mut I,
     writer: &mut O,
     errors: &mut E,
 ) -> Ended
 where
-    R: Files + AllocGlobal,
+    F: ReadFile,
     I: Read,
     O: Write,
     E: Write,
-    ensures { IsProgramRun I.remaining O.contents (map string_bytes words.now)
-        reader.old reader.new writer.old writer.new (E.contents errors.old) (E.contents errors.new) result }
+    ensures { IsProgramRun (F.gives files.now) I.remaining O.contents (map string_bytes words.now)
+        reader.old reader.new writer.old writer.new
+        (E.contents errors.old) (E.contents errors.new) result }
 {
-    match try_words(rt, words, reader, writer) {
+    match try_words(alloc, files, words, reader, writer) {
         Ok(()) => Ended {
             status: 0,
             line: Ok(()),
@@ -44,40 +45,42 @@ where
 }
 
 // Runs the program, and gives why it failed.
-fn try_words<'a, R, I, O>(
-    rt: &R,
+fn try_words<'a, F, I, O>(
+    alloc: Global,
+    files: &F,
     words: &'a [String],
     reader: &mut I,
     writer: &mut O,
 ) -> Result<(), Failure<'a>>
 where
-    R: Files + AllocGlobal,
+    F: ReadFile,
     I: Read,
     O: Write,
-    ensures { HasEnded I.remaining O.contents (map string_bytes words.now)
+    ensures { HasEnded (F.gives files.now) I.remaining O.contents (map string_bytes words.now)
         reader.old reader.new writer.old writer.new result }
 {
-    do_asked(rt, asked_by(words), reader, writer)
+    do_asked(alloc, files, asked_by(words), reader, writer)
 }
 
 // Does what was asked for.
-fn do_asked<'a, R, I, O>(
-    rt: &R,
+fn do_asked<'a, F, I, O>(
+    alloc: Global,
+    files: &F,
     asked: Result<Asked<'a>, Wrong<'a>>,
     reader: &mut I,
     writer: &mut O,
 ) -> Result<(), Failure<'a>>
 where
-    R: Files + AllocGlobal,
+    F: ReadFile,
     I: Read,
     O: Write,
-    ensures { Does I.remaining O.contents asked.entry
+    ensures { Does (F.gives files.now) I.remaining O.contents asked.entry
         reader.old reader.new writer.old writer.new result }
 {
     match asked {
-        Ok(Asked::BuiltIn) => run_by(rt.alloc(), BUILT_IN.as_bytes(), reader, writer),
-        Ok(Asked::Script(file)) => run_file(rt, file, reader, writer),
-        Ok(Asked::Check(file)) => check_file(rt, file, writer),
+        Ok(Asked::BuiltIn) => run_by(alloc, BUILT_IN.as_bytes(), reader, writer),
+        Ok(Asked::Script(file)) => run_file(alloc, files, file, reader, writer),
+        Ok(Asked::Check(file)) => check_file(alloc, files, file, writer),
         Ok(Asked::Help) => tell(HELP.as_bytes(), writer),
         Ok(Asked::Version) => tell(VERSION.as_bytes(), writer),
         Err(wrong) => Err(Failure::Usage(wrong)),
@@ -118,29 +121,35 @@ fn run_read<'a, I: Read, O: Write>(
 
 // Runs the script by a file.
 #[tactic(auto, using(crate::proofs::FileLemmas::file_run))]
-fn run_file<'a, R, I, O>(
-    rt: &R,
+fn run_file<'a, F, I, O>(
+    alloc: Global,
+    files: &F,
     file: &'a str,
     reader: &mut I,
     writer: &mut O,
 ) -> Result<(), Failure<'a>>
 where
-    R: Files + AllocGlobal,
+    F: ReadFile,
     I: Read,
     O: Write,
-    ensures { RunsFile I.remaining O.contents file.now
+    ensures { RunsFile (F.gives files.now) I.remaining O.contents file.now
         reader.old reader.new writer.old writer.new result }
 {
-    run_read(rt.alloc(), read_file(rt, file), reader, writer)
+    run_read(alloc, files.read_file(file), reader, writer)
 }
 
 // Tells whether a file is a configuration.
 #[tactic(auto, using(crate::proofs::FileLemmas::file_check))]
-fn check_file<'a, R, O>(rt: &R, file: &'a str, writer: &mut O) -> Result<(), Failure<'a>>
+fn check_file<'a, F, O>(
+    alloc: Global,
+    files: &F,
+    file: &'a str,
+    writer: &mut O,
+) -> Result<(), Failure<'a>>
 where
-    R: Files + AllocGlobal,
+    F: ReadFile,
     O: Write,
-    ensures { IsCheckOf O.contents file.now writer.old writer.new result }
+    ensures { IsCheckOf (F.gives files.now) O.contents file.now writer.old writer.new result }
 {
-    check_read(rt.alloc(), read_file(rt, file), writer)
+    check_read(alloc, files.read_file(file), writer)
 }

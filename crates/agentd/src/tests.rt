@@ -1,8 +1,10 @@
 //! Runs over readers and writers in memory.
+ghost use Rattle.std.specs.Prelude.{◌≡◌, IfOk};
+
 use crate::checking::check_read;
 use crate::collect_words;
 use crate::failure::{Failure, report};
-use crate::files::NotRead;
+use crate::files::{NotRead, ReadFile, SystemFiles};
 use crate::run::run_words;
 use crate::telling::NotTaken;
 use bumpalo::Bump;
@@ -62,7 +64,14 @@ fn answers_a_script(rt: HostRuntime) -> Result<(), Fail> {
     let words = vec![in rt.alloc(); String::from_str(rt.alloc(), "agentd")?]?;
     let mut out = Vec::new(rt.alloc());
     let mut errors = Vec::new(rt.alloc());
-    let ended = run_words(&rt, &words, &mut { GET }, &mut out, &mut errors);
+    let ended = run_words(
+        rt.alloc(),
+        &SystemFiles(&rt),
+        &words,
+        &mut { GET },
+        &mut out,
+        &mut errors,
+    );
     assert_eq!(rt;
         (ended.status, out.as_slice(), errors.as_slice()),
         (0, REPLY, b"".as_slice())
@@ -76,7 +85,14 @@ fn fails_with_its_input(rt: HostRuntime) -> Result<(), Fail> {
     let mut out = Vec::new(rt.alloc());
     let mut errors = Vec::new(rt.alloc());
     let mut reader = Failing { octets: GET };
-    let ended = run_words(&rt, &words, &mut reader, &mut out, &mut errors);
+    let ended = run_words(
+        rt.alloc(),
+        &SystemFiles(&rt),
+        &words,
+        &mut reader,
+        &mut out,
+        &mut errors,
+    );
     assert_eq!(rt;
         (ended.status, out.as_slice(), errors.as_slice()),
         (1, REPLY, b"agentd: input failed\n".as_slice())
@@ -88,7 +104,14 @@ fn fails_with_its_input(rt: HostRuntime) -> Result<(), Fail> {
 fn fails_with_its_output(rt: HostRuntime) -> Result<(), Fail> {
     let words = vec![in rt.alloc(); String::from_str(rt.alloc(), "agentd")?]?;
     let mut errors = Vec::new(rt.alloc());
-    let ended = run_words(&rt, &words, &mut { GET }, &mut Full, &mut errors);
+    let ended = run_words(
+        rt.alloc(),
+        &SystemFiles(&rt),
+        &words,
+        &mut { GET },
+        &mut Full,
+        &mut errors,
+    );
     assert_eq!(rt;
         (ended.status, errors.as_slice()),
         (1, b"agentd: output failed\n".as_slice())
@@ -113,19 +136,29 @@ struct Finished {
     errors: Vec<u8>,
 }
 
-// A run of these words on one line.
-fn ran<R: Files + AllocGlobal>(rt: &R, texts: &[&str], script: &[u8]) -> Result<Finished, Fail> {
-    let words = words_of(rt.alloc(), texts)?;
-    let mut out = Vec::new(rt.alloc());
-    let mut errors = Vec::new(rt.alloc());
+// A run of these words on a script, over these files.
+fn ran_over<F: ReadFile>(
+    alloc: Global,
+    files: &F,
+    texts: &[&str],
+    script: &[u8],
+) -> Result<Finished, Fail> {
+    let words = words_of(alloc, texts)?;
+    let mut out = Vec::new(alloc);
+    let mut errors = Vec::new(alloc);
     let mut reader = script;
-    let ended = run_words(rt, &words, &mut reader, &mut out, &mut errors);
+    let ended = run_words(alloc, files, &words, &mut reader, &mut out, &mut errors);
     ended.line.map_err(|_| "a line was cut off")?;
     Ok(Finished {
         status: ended.status,
         out,
         errors,
     })
+}
+
+// A run of these words on a script, over the files of the system.
+fn ran<R: Files + AllocGlobal>(rt: &R, texts: &[&str], script: &[u8]) -> Result<Finished, Fail> {
+    ran_over(rt.alloc(), &SystemFiles(rt), texts, script)
 }
 
 // A run of this word on a file of this text.
@@ -264,6 +297,17 @@ fn tells_its_version(rt: HostRuntime) -> Result<(), Fail> {
             (run.status, run.out.as_slice(), run.errors.as_slice()),
             (0, b"agentd 0.1\n".as_slice(), b"".as_slice())
         );
+    }
+    Ok(())
+}
+
+#[test]
+fn keeps_each_word_in_its_order(rt: HostRuntime) -> Result<(), Fail> {
+    let words = words_of(rt.alloc(), &["agentd", "check", "--config"])?;
+    let kept = collect_words(rt.alloc(), words.into_iter())?;
+    assert_eq!(rt; kept.len(), 3);
+    for (n, word) in ["agentd", "check", "--config"].iter().enumerate() {
+        assert_eq!(rt; kept[n].as_str(), *word);
     }
     Ok(())
 }
@@ -422,6 +466,44 @@ bpdu 1 0180C200000002AABBCCDDEE0027424203000002020E800002AABBCCDDEE0000000080000
 badline
 ";
 
+/// Files of which each holds its own name.
+#[derive(Clone, Copy)]
+struct Names {
+    alloc: Global,
+}
+
+impl ReadFile for Names {
+    ghost gives = { λ _ name read. IfOk read (λ octets. octets ≡ name) };
+
+    fn read_file<'a>(&self, file: &'a str) -> Result<Vec<u8>, NotRead<'a>> {
+        Vec::from_slice(self.alloc, file.as_bytes()).map_err(|_| NotRead::Memory)
+    }
+}
+
+// The octets that run, and that are checked, are those that are given for FILE.
+#[test]
+fn runs_by_what_is_given_for_a_file(rt: HostRuntime) -> Result<(), Fail> {
+    let files = Names { alloc: rt.alloc() };
+    let words = ["agentd", "script", "--config", OTHER];
+    let run = ran_over(rt.alloc(), &files, &words, OTHER_SCRIPT)?;
+    assert_eq!(rt; (run.status, run.out.as_slice()), (0, OTHER_TEXT));
+    let words = [
+        "agentd",
+        "check",
+        "--config",
+        "address = \"01000000000A\"\n",
+    ];
+    let run = ran_over(rt.alloc(), &files, &words, GET)?;
+    assert_eq!(rt; (run.status, run.out.as_slice()), (2, TOLD));
+    let words = ["agentd", "check", "--config", OTHER];
+    let run = ran_over(rt.alloc(), &files, &words, GET)?;
+    assert_eq!(rt;
+        (run.status, run.out.as_slice()),
+        (0, b"configuration ok\n".as_slice())
+    );
+    Ok(())
+}
+
 // The policy, the address and the ports are the file's.
 #[test]
 fn runs_by_its_own_configuration(rt: HostRuntime) -> Result<(), Fail> {
@@ -445,7 +527,8 @@ fn checks_a_configuration(rt: HostRuntime) -> Result<(), Fail> {
 
 /// What is told of a group address.
 const TOLD: &[u8] =
-    b"top level: address is to be a string of 12 hexadecimal digits, and no group address\n";
+    b"top level: address is to be a string of 12 hexadecimal digits, and no group address: \
+      its first octet is even\n";
 
 /// What is told where there is no memory for the configuration.
 const NO_MEMORY: &[u8] =

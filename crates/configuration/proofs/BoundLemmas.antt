@@ -22,7 +22,7 @@ use Rattle.rstp_settings.specs.Config.{is_speed}
 use Rattle.configuration.specs.Ports.{if_speed, speed_at, port_config_of, SaysPort, port_says, is_table, if_tables, port_rows}
 
 -- a step that gave a value had one to go on from
-stepped : {A B : Type 0} (o : Option A) (f : A → Option B) (b : B) → option_and_then f o ≡ Some b → (a : A) × (o ≡ Some a) × (f a ≡ Some b)
+pub stepped : {A B : Type 0} (o : Option A) (f : A → Option B) (b : B) → option_and_then f o ≡ Some b → (a : A) × (o ≡ Some a) × (f a ≡ Some b)
 stepped None f b e = absurd cc
 stepped (Some a) f b e = (a, refl, e)
 

@@ -2,8 +2,11 @@ pub mod Address
 pub mod Numbers
 pub mod Sockets
 pub mod Faults
+pub mod Lines
 pub mod Ports
+pub mod PortFaults
 pub mod Serving
+pub mod PolicyKeys
 pub mod Configurations
 pub mod Bounds
 pub mod Sentences

@@ -1,5 +1,5 @@
 -- The ports of a configuration.
-use Rattle.std.specs.Prelude.{◌≡◌, ◌⊎◌, ℕ, ◌+◌, ◌==◌, ◌&&◌, ◌||◌, Bool, codes, nat_le, is_some, if◌then◌else◌, List, length, take, slice_get, Option, Some, None}
+use Rattle.std.specs.Prelude.{◌≡◌, ℕ, ◌+◌, ◌&&◌, Bool, codes, nat_le, is_some, if◌then◌else◌, List, length, Option, Some, None}
 use Rattle.std.specs.List.{list_all}
 use Rattle.rstp_settings.specs.Config.{is_speed}
 use Rattle.rstp_settings.specs.declared.config.PortConfig.{PortConfig}
@@ -9,21 +9,25 @@ use Rattle.policy_text.specs.Keys.{key_count, bool_at, array_at}
 use Rattle.policy_text.specs.Reading.{AreRows, ◌>=>◌}
 use Rattle.configuration.specs.declared.configuration.Port.{Port}
 use Rattle.rstp_settings.specs.declared.config.TheConstants.{MAX_IFINDEX}
-use Rattle.configuration.specs.declared.fault.ConfigurationFault.{ConfigurationFault}
-use Rattle.configuration.specs.declared.fault.ConfigurationFault.TheVariants.{BadPorts, BadPort}
 use Rattle.configuration.specs.Numbers.{number_at}
 use Rattle.configuration.specs.Sockets.{IsOptional, IsSocket, count_at}
 
 abbrev pub if_speed : ℕ → Option ℕ
 if_speed n = if is_speed n then Some n else None
 
+abbrev pub ifindex_at : Members → Option ℕ
+ifindex_at ms = number_at (codes "ifindex") 1 MAX_IFINDEX ms
+
 abbrev pub speed_at : Members → Option ℕ
 speed_at ms = number_at (codes "speed") 10 1000 ms >=> if_speed
+
+abbrev pub full_at : Members → Option Bool
+full_at ms = bool_at (codes "full") ms
 
 -- what is fixed of a port
 abbrev pub port_config_of : Members → Option PortConfig
 port_config_of ms =
-    number_at (codes "ifindex") 1 MAX_IFINDEX ms >=> (λ ifindex. speed_at ms >=> (λ speed. bool_at (codes "full") ms >=> (λ full.
+    ifindex_at ms >=> (λ ifindex. speed_at ms >=> (λ speed. full_at ms >=> (λ full.
     Some (record { ifindex = ifindex; speed = speed; full = full }))))
 
 -- the keys of a port: three, and `listen` and `peer` where they are there
@@ -50,14 +54,6 @@ abbrev pub port_says : Data → Option Port → Type 0
 port_says d (Some port) = IsPortRow d port
 port_says d None = (port : Port) → ¬ IsPortRow d port
 
--- the element at this place is the first that says no port
-pub record IsFirstNoPort (ds : List Data) (place : ℕ) : Type 0 where
-  pub value : Data
-  pub here : slice_get ds place ≡ Some value
-  pub none : port_says value None
-  pub ports : List Port
-  pub before : AreRows port_says (take place ds) ports
-
 abbrev pub is_table : Data → Bool
 is_table d = is_some (as_table d)
 
@@ -74,13 +70,3 @@ pub record ArePorts (ms : Members) (ports : List Port) : Type 0 where
   pub rows : List Data
   pub are : port_rows ms ≡ Some rows
   pub say : AreRows port_says rows ports
-
--- the first port at fault
-pub record IsBadPort (ms : Members) (place : ℕ) : Type 0 where
-  pub rows : List Data
-  pub are : port_rows ms ≡ Some rows
-  pub first : IsFirstNoPort rows place
-
--- the table says no ports, and this is why
-abbrev pub IsPortsFault : Members → ConfigurationFault → Type 0
-IsPortsFault ms e = ((port_rows ms ≡ None) × (e ≡ BadPorts)) ⊎ ((n : ℕ) × (e ≡ BadPort n) × IsBadPort ms n)

@@ -5,7 +5,13 @@ use Rattle.community_core.specs.declared.fault.PolicyFault.TheVariants.{Memory a
 use Rattle.community_core.specs.declared.fault.PolicyTable.{PolicyTable}
 use Rattle.community_core.specs.declared.fault.PolicyTable.TheVariants.{Groups, Access, Families, Contexts, Communities}
 use Rattle.configuration.specs.declared.fault.ConfigurationFault.{ConfigurationFault}
-use Rattle.configuration.specs.declared.fault.ConfigurationFault.TheVariants.{Memory, BadText, BadAddress, BadPorts, BadPort, BadServe, BadKeys, Policy}
+use Rattle.configuration.specs.declared.fault.ConfigurationFault.TheVariants.{Memory, BadOctets, BadText, BadAddress, BadPorts, BadPort, BadServe, BadKeys, Policy}
+use Rattle.configuration.specs.declared.fault.PortKey.{PortKey}
+use Rattle.configuration.specs.declared.fault.PortKey.TheVariants.{Ifindex, Speed, Full, Listen, Peer, Other as AnotherOfPort}
+use Rattle.configuration.specs.declared.fault.ServeKey.{ServeKey}
+use Rattle.configuration.specs.declared.fault.ServeKey.TheVariants.{Serve, Snmp, Workers, Rounds, Other as AnotherOfServe}
+use Rattle.configuration.specs.declared.fault.PolicyKey.{PolicyKey}
+use Rattle.configuration.specs.declared.fault.PolicyKey.TheVariants.{Contexts as ContextsKey, Community as CommunityKey, Group as GroupKey, Access as AccessKey, Family as FamilyKey, Other as AnotherOfPolicy}
 
 -- the number of a row, counted from 1, of one that is counted from 0; no table has 2^64 rows
 abbrev pub row_count : ℕ → ℕ
@@ -60,19 +66,58 @@ policy_sentence (Duplicate table row) = row_sentence (table_key table) row (key_
 policy_sentence (BadLength table row) = row_sentence (table_key table) row (length_rule table)
 policy_sentence (BadField table row) = row_sentence (table_key table) row (field_rule table)
 
--- which keys a port is to have
-abbrev pub port_rule : List ℕ
-port_rule =
-    codes "its keys are to be ifindex (1 to 2147483647), speed (10, 100 or 1000 Mb/s) and full (true or false), and may be listen and peer (as 127.0.0.1:161), and no others"
+-- what the key of a port is to hold
+abbrev pub port_rule : PortKey → List ℕ
+port_rule Ifindex = codes "ifindex is to be an integer of 1 to 2147483647"
+port_rule Speed = codes "speed is to be an integer, 10, 100 or 1000 (Mb/s)"
+port_rule Full = codes "full is to be true or false"
+port_rule Listen =
+    codes "listen, where it stands, is to be a string of an address and a port, as \"127.0.0.1:161\""
+port_rule Peer =
+    codes "peer, where it stands, is to be a string of an address and a port, as \"127.0.0.1:161\""
+port_rule AnotherOfPort =
+    codes "its keys are to be ifindex, speed and full, and may be listen and peer, and no others"
+
+-- what is said of `serve`
+abbrev pub serve_sentence : ServeKey → List ℕ
+serve_sentence Serve = codes "table serve: it is to be one table"
+serve_sentence Snmp =
+    codes "table serve: snmp is to be a string of an address and a port, as \"127.0.0.1:161\""
+serve_sentence Workers = codes "table serve: workers is to be an integer of 1 to 8"
+serve_sentence Rounds = codes "table serve: rounds is to be an integer of 1 to 1000000"
+serve_sentence AnotherOfServe =
+    codes "table serve: its keys are to be snmp, workers and rounds, and no others"
+
+-- what is said of the keys at the top
+abbrev pub keys_sentence : PolicyKey → List ℕ
+keys_sentence ContextsKey = codes "top level: contexts is to be an array of strings"
+keys_sentence CommunityKey = codes "top level: community is to be an array of tables"
+keys_sentence GroupKey = codes "top level: group is to be an array of tables"
+keys_sentence AccessKey = codes "top level: access is to be an array of tables"
+keys_sentence FamilyKey = codes "top level: family is to be an array of tables"
+keys_sentence AnotherOfPolicy =
+    codes "top level: its keys are to be address, port, contexts, community, group, access and "
+    ++ codes "family, and may be serve, and no others"
+
+-- what is said of a text that is no TOML document, by one of its lines, counted from 1
+abbrev pub text_sentence : ℕ → List ℕ
+text_sentence line =
+    codes "line " ++ (decimal line
+    ++ codes " of the text, counted from 1: it is to be TOML, in which no key stands twice")
+
+-- what is said of the bridge's address
+abbrev pub address_sentence : List ℕ
+address_sentence =
+    codes "top level: address is to be a string of 12 hexadecimal digits, and no group address: "
+    ++ codes "its first octet is even"
 
 abbrev pub sentence : ConfigurationFault → List ℕ
 sentence Memory = memory_sentence
-sentence BadText = codes "the text: it is to be a TOML document in UTF-8"
-sentence BadAddress = codes "top level: address is to be a string of 12 hexadecimal digits, and no group address"
+sentence BadOctets = codes "the text: it is to be in UTF-8"
+sentence (BadText line) = text_sentence line
+sentence BadAddress = address_sentence
 sentence BadPorts = codes "top level: port is to be an array of 1 to 32 tables"
-sentence (BadPort row) = row_sentence (codes "[[port]]") row port_rule
-sentence BadServe =
-    codes "table serve: it is to be one table whose keys are snmp (as 127.0.0.1:161), workers (1 to 8) and rounds (1 to 1000000), and no others"
-sentence BadKeys =
-    codes "top level: its keys are to be address, port, contexts, community, group, access and family, the last five arrays, and may be serve, and no others"
+sentence (BadPort row key) = row_sentence (codes "[[port]]") row (port_rule key)
+sentence (BadServe key) = serve_sentence key
+sentence (BadKeys key) = keys_sentence key
 sentence (Policy fault) = policy_sentence fault

@@ -24,6 +24,21 @@ IsSocketOf (Some text) a = IsSocketText text a
 abbrev pub IsSocket : Data → SocketAddr → Type 0
 IsSocket d a = IsSocketOf (as_str d) a
 
+-- what stands under the key is the address of a socket
+abbrev pub HasSocket : List ℕ → Members → Type 0
+HasSocket key ms = (a : SocketAddr) × IsRequired IsSocket (get_member key ms) a
+
+abbrev pub LacksSocket : List ℕ → Members → Type 0
+LacksSocket key ms = (a : SocketAddr) → ¬ IsRequired IsSocket (get_member key ms) a
+
+-- nothing stands under the key, or the address of a socket
+abbrev pub MayHaveSocket : List ℕ → Members → Type 0
+MayHaveSocket key ms = (o : Option SocketAddr) × IsOptional IsSocket (get_member key ms) o
+
+-- something else does
+abbrev pub HasNoSocket : List ℕ → Members → Type 0
+HasNoSocket key ms = (o : Option SocketAddr) → ¬ IsOptional IsSocket (get_member key ms) o
+
 -- 1 where something is under the key
 abbrev pub count_at : List ℕ → Members → ℕ
 count_at key ms = if is_some (get_member key ms) then 1 else 0

@@ -8,22 +8,25 @@
 //!
 //! # Definitions
 //! `specs/Configurations.antt`: what a configuration says, its first fault, and where reading it
-//! takes memory; a file for each part; `specs/Bounds.antt`: the bounds of each;
-//! `specs/Sentences.antt`: the text of each fault.
+//! takes memory; a file for each part; `specs/Bounds.antt`: the bounds of each; `specs/Lines.antt`:
+//! the lines of a text; `specs/Sentences.antt`: the text of each fault.
 //!
 //! # Laws
 //! In [`laws`]: a table that says a configuration has no fault; a configuration is one that a bridge
 //! can have; the limits are what they are.
 //!
 //! # Not claimed
-//! That memory is there; TOML and the texts of socket addresses, whose readers are the kit's.
+//! That memory is there; TOML and the texts of socket addresses, whose readers are the kit's; which
+//! line of a text that is no TOML is told: it is one of the text's, and a test holds which.
 #![tactic(auto)]
 
 mod address;
 mod configuration;
 mod fault;
 pub mod laws;
+mod lines;
 mod numbers;
+mod policy_keys;
 mod ports;
 mod reading;
 mod sentences;
@@ -31,6 +34,6 @@ mod serve;
 mod sockets;
 
 pub use configuration::{BUILT_IN, Configuration, MAX_ROUNDS, MAX_WORKERS, Port, Serve};
-pub use fault::ConfigurationFault;
+pub use fault::{ConfigurationFault, PolicyKey, PortKey, ServeKey};
 pub use reading::{configuration_in, configuration_of, configuration_of_text};
 pub use sentences::sentence;

@@ -1,18 +1,21 @@
 //! Reads a configuration.
 ghost use Rattle.std.specs.Prelude.{◌≡◌, ◌≢◌, ◌⊎◌, ◌↔◌, IfOk, IfErr};
-ghost use Rattle.toml.specs.Errors.{IsMemory, IsBlank};
+ghost use Rattle.toml.specs.Errors.{IsMemory, IsBlank, IsWithin};
 ghost use Rattle.toml.specs.View.{table_view};
 ghost use Rattle.policy_text.specs.Policies.{IsPolicy, TakesMemory as PolicyTakesMemory};
 ghost use Rattle.policy_text.specs.Texts.{HasContent};
+ghost use Rattle.configuration.specs.Lines.{IsBadText};
 ghost use Rattle.configuration.specs.Configurations.{without, policy_members, IsRestFault, IsConfiguration, IsFault, TakesMemory, IsConfigurationText, IsTextFault, IsConfigurationIn, IsFaultIn};
 
 use crate::address::address_of;
 use crate::configuration::Configuration;
 use crate::fault::ConfigurationFault;
+use crate::lines::line_at;
+use crate::policy_keys::check_policy_keys;
 use crate::ports::ports_of;
 use crate::serve::serve_of;
 use community_core::Policy;
-use policy_text::{has_policy_keys, policy_of, text_of};
+use policy_text::{policy_of, text_of};
 use std::alloc::Global;
 use toml::Table;
 
@@ -39,8 +42,8 @@ fn rest_policy(alloc: Global, table: &Table) -> Result<Policy, ConfigurationFaul
     ensures memory { IfErr result (λ e. e ≡ ConfigurationFault.Memory →
         PolicyTakesMemory (table_view table.now)) }
 {
-    if !has_policy_keys(table) {
-        return Err(ConfigurationFault::BadKeys);
+    if let Err(key) = check_policy_keys(table) {
+        return Err(ConfigurationFault::BadKeys(key));
     }
     Ok(policy_of(alloc, table)?)
 }
@@ -72,14 +75,14 @@ pub fn configuration_of(alloc: Global, table: Table) -> Result<Configuration, Co
 }
 
 // Why a text was not read as a TOML document.
-fn text_fault(error: &toml::de::Error) -> ConfigurationFault
+fn text_fault(text: &str, error: &toml::de::Error) -> ConfigurationFault
+    requires { IsWithin text.now error.now }
     ensures memory { IsMemory error.now → result ≡ ConfigurationFault.Memory }
-    ensures text { ¬ IsMemory error.now → result ≡ ConfigurationFault.BadText }
+    ensures text { ¬ IsMemory error.now → IsBadText text.now result }
 {
-    if error.is_memory() {
-        ConfigurationFault::Memory
-    } else {
-        ConfigurationFault::BadText
+    match error.span() {
+        Some(span) => ConfigurationFault::BadText(line_at(text, span.start)),
+        None => ConfigurationFault::Memory,
     }
 }
 
@@ -87,8 +90,9 @@ fn text_fault(error: &toml::de::Error) -> ConfigurationFault
 ///
 /// # Errors
 ///
-/// `BadText` where the text is no TOML document, else as [`configuration_of`] has it; `Memory` where
-/// a growth was refused, which only a text of more than white space and comments may meet.
+/// `BadText`, with a line, where the text is no TOML document, else as [`configuration_of`] has it;
+/// `Memory` where a growth was refused, which only a text of more than white space and comments may
+/// meet.
 pub fn configuration_of_text(alloc: Global, text: &str) -> Result<Configuration, ConfigurationFault>
     ensures configuration { IfOk result (λ c. IsConfigurationText text.now c) }
     ensures fault { IfErr result (λ e. e ≢ ConfigurationFault.Memory → IsTextFault text.now e) }
@@ -96,7 +100,7 @@ pub fn configuration_of_text(alloc: Global, text: &str) -> Result<Configuration,
 {
     match toml::table_from_str(alloc, text) {
         Ok(table) => configuration_of(alloc, table),
-        Err(error) => Err(text_fault(&error)),
+        Err(error) => Err(text_fault(text, &error)),
     }
 }
 
@@ -104,7 +108,7 @@ pub fn configuration_of_text(alloc: Global, text: &str) -> Result<Configuration,
 ///
 /// # Errors
 ///
-/// `BadText` where the octets are no UTF-8 (RFC 3629), which takes no memory, else as
+/// `BadOctets` where the octets are no UTF-8 (RFC 3629), which takes no memory, else as
 /// [`configuration_of_text`] has it.
 pub fn configuration_in(alloc: Global, octets: &[u8]) -> Result<Configuration, ConfigurationFault>
     ensures configuration { IfOk result (λ c. IsConfigurationIn octets.now c) }
@@ -114,6 +118,6 @@ pub fn configuration_in(alloc: Global, octets: &[u8]) -> Result<Configuration, C
 {
     match text_of(octets) {
         Some(text) => configuration_of_text(alloc, text),
-        None => Err(ConfigurationFault::BadText),
+        None => Err(ConfigurationFault::BadOctets),
     }
 }

@@ -1,8 +1,8 @@
 //! What an operator is told of a fault.
 ghost use Rattle.std.specs.Prelude.{◌≡◌, IfOk, string_bytes};
-ghost use Rattle.configuration.specs.Sentences.{row_count, row_sentence, table_key, key_rule, length_rule, field_rule, policy_sentence, sentence};
+ghost use Rattle.configuration.specs.Sentences.{row_count, row_sentence, table_key, key_rule, length_rule, field_rule, policy_sentence, port_rule, serve_sentence, keys_sentence, text_sentence, address_sentence, sentence};
 
-use crate::fault::ConfigurationFault;
+use crate::fault::{ConfigurationFault, PolicyKey, PortKey, ServeKey};
 use community_core::{PolicyFault, PolicyTable};
 use std::alloc::{AllocError, Global};
 
@@ -112,20 +112,71 @@ fn policy_sentence(alloc: Global, fault: PolicyFault) -> Result<String, AllocErr
     }
 }
 
-// Which keys a port is to have.
-const PORT_RULE: &str =
-    "its keys are to be ifindex (1 to 2147483647), speed (10, 100 or 1000 Mb/s) and full (true or false), and may be listen and peer (as 127.0.0.1:161), and no others";
+// What the key of a port is to hold.
+fn port_rule(key: PortKey) -> &'static str
+    ensures { result.now ≡ port_rule key }
+{
+    match key {
+        PortKey::Ifindex => "ifindex is to be an integer of 1 to 2147483647",
+        PortKey::Speed => "speed is to be an integer, 10, 100 or 1000 (Mb/s)",
+        PortKey::Full => "full is to be true or false",
+        PortKey::Listen =>
+            "listen, where it stands, is to be a string of an address and a port, as \"127.0.0.1:161\"",
+        PortKey::Peer =>
+            "peer, where it stands, is to be a string of an address and a port, as \"127.0.0.1:161\"",
+        PortKey::Other =>
+            "its keys are to be ifindex, speed and full, and may be listen and peer, and no others",
+    }
+}
 
 // What is said of `serve`.
-const SERVE_SENTENCE: &str =
-    "table serve: it is to be one table whose keys are snmp (as 127.0.0.1:161), workers (1 to 8) and rounds (1 to 1000000), and no others";
+fn serve_sentence(key: ServeKey) -> &'static str
+    ensures { result.now ≡ serve_sentence key }
+{
+    match key {
+        ServeKey::Serve => "table serve: it is to be one table",
+        ServeKey::Snmp =>
+            "table serve: snmp is to be a string of an address and a port, as \"127.0.0.1:161\"",
+        ServeKey::Workers => "table serve: workers is to be an integer of 1 to 8",
+        ServeKey::Rounds => "table serve: rounds is to be an integer of 1 to 1000000",
+        ServeKey::Other =>
+            "table serve: its keys are to be snmp, workers and rounds, and no others",
+    }
+}
 
 // What is said of the keys at the top.
-const KEYS_SENTENCE: &str =
-    "top level: its keys are to be address, port, contexts, community, group, access and family, the last five arrays, and may be serve, and no others";
+fn keys_sentence(key: PolicyKey) -> &'static str
+    ensures { result.now ≡ keys_sentence key }
+{
+    match key {
+        PolicyKey::Contexts => "top level: contexts is to be an array of strings",
+        PolicyKey::Community => "top level: community is to be an array of tables",
+        PolicyKey::Group => "top level: group is to be an array of tables",
+        PolicyKey::Access => "top level: access is to be an array of tables",
+        PolicyKey::Family => "top level: family is to be an array of tables",
+        PolicyKey::Other =>
+            "top level: its keys are to be address, port, contexts, community, group, access and \
+             family, and may be serve, and no others",
+    }
+}
 
-/// What an operator is told of a fault, in one line without its end: the table and the row, counted
-/// from 1, or the top level, and what would be right there.
+// What is said of a text that is no TOML document, by one of its lines, counted from 1.
+fn text_sentence(alloc: Global, line: usize) -> Result<String, AllocError>
+    ensures { IfOk result (λ text. string_bytes text ≡ text_sentence line) }
+{
+    format!(in alloc;
+        "line {line} of the text, counted from 1: it is to be TOML, in which no key stands twice"
+    )
+}
+
+/// What is said of the bridge's address.
+const ADDRESS_SENTENCE: &str =
+    "top level: address is to be a string of 12 hexadecimal digits, and no group address: \
+     its first octet is even";
+
+/// What an operator is told of a fault, in one line without its end: the line of the text, the top
+/// level, or the table and the row, each counted from 1, and what would be right there; of the
+/// configuration's own keys, for the first that is wrong.
 ///
 /// # Errors
 /// `AllocError` where there is no memory for it.
@@ -134,21 +185,21 @@ pub fn sentence(alloc: Global, fault: ConfigurationFault) -> Result<String, Allo
 {
     match fault {
         ConfigurationFault::Memory => String::from_str(alloc, NO_MEMORY),
-        ConfigurationFault::BadText => String::from_str(
-            alloc,
-            "the text: it is to be a TOML document in UTF-8",
-        ),
-        ConfigurationFault::BadAddress => String::from_str(
-            alloc,
-            "top level: address is to be a string of 12 hexadecimal digits, and no group address",
-        ),
+        ConfigurationFault::BadOctets => String::from_str(alloc, "the text: it is to be in UTF-8"),
+        ConfigurationFault::BadText(line) => text_sentence(alloc, line),
+        ConfigurationFault::BadAddress => String::from_str(alloc, ADDRESS_SENTENCE),
         ConfigurationFault::BadPorts => String::from_str(
             alloc,
             "top level: port is to be an array of 1 to 32 tables",
         ),
-        ConfigurationFault::BadPort(row) => row_sentence(alloc, "[[port]]", row, PORT_RULE),
-        ConfigurationFault::BadServe => String::from_str(alloc, SERVE_SENTENCE),
-        ConfigurationFault::BadKeys => String::from_str(alloc, KEYS_SENTENCE),
+        ConfigurationFault::BadPort(row, key) => row_sentence(
+            alloc,
+            "[[port]]",
+            row,
+            port_rule(key),
+        ),
+        ConfigurationFault::BadServe(key) => String::from_str(alloc, serve_sentence(key)),
+        ConfigurationFault::BadKeys(key) => String::from_str(alloc, keys_sentence(key)),
         ConfigurationFault::Policy(fault) => policy_sentence(alloc, fault),
     }
 }

@@ -1,7 +1,8 @@
 //! Texts of configurations: what they give, their faults, and what is told of these.
 use community_core::{PolicyFault, PolicyTable};
 use configuration::{
-    BUILT_IN, ConfigurationFault, configuration_in, configuration_of_text, sentence,
+    BUILT_IN, ConfigurationFault, PolicyKey, PortKey, ServeKey, configuration_in,
+    configuration_of_text, sentence,
 };
 use std::alloc::Global;
 use std::test::Fail;
@@ -17,6 +18,9 @@ family = []
 const ADDRESS: &str = "address = \"02000000000A\"\n";
 
 const PORT: &str = "[[port]]\nifindex = 1\nspeed = 10\nfull = false\n";
+
+// A port, and the head of another.
+const PORT_AND_TABLE: &str = "[[port]]\nifindex = 1\nspeed = 10\nfull = false\n[[port]]\n";
 
 // The fault of a text in four parts, if it has one.
 fn fault_of(alloc: Global, parts: [&str; 4]) -> Result<Option<ConfigurationFault>, Fail> {
@@ -76,8 +80,16 @@ fn what_may_be_there_is_read(rt: HostRuntime) -> Result<(), Fail> {
 
 #[test]
 fn other_texts_are_refused(rt: HostRuntime) -> Result<(), Fail> {
-    let fault = fault_of(rt.alloc(), ["address = \r", "", "", ""])?;
-    assert_eq!(rt; fault, Some(ConfigurationFault::BadText));
+    for (parts, line) in [
+        (["address = \r", "", "", ""], 1),
+        ([ADDRESS, "port = 02\n", POLICY, ""], 2),
+        ([ADDRESS, PORT, "listen = 127.0.0.1:161\n", POLICY], 6),
+        ([ADDRESS, PORT, "full = true\n", POLICY], 6),
+        ([ADDRESS, "# \u{e9}\u{4e00}\n", "contexts = [", ""], 3),
+    ] {
+        let fault = fault_of(rt.alloc(), parts)?;
+        assert_eq!(rt; fault, Some(ConfigurationFault::BadText(line)), "{line}");
+    }
     Ok(())
 }
 
@@ -133,49 +145,75 @@ fn there_are_32_ports_at_most(rt: HostRuntime) -> Result<(), Fail> {
 
 #[test]
 fn ports_are_refused(rt: HostRuntime) -> Result<(), Fail> {
-    for port in [
-        "[[port]]\nspeed = 10\nfull = true\n",
-        "[[port]]\nifindex = 0\nspeed = 10\nfull = true\n",
-        "[[port]]\nifindex = -1\nspeed = 10\nfull = true\n",
-        "[[port]]\nifindex = 2147483648\nspeed = 10\nfull = true\n",
-        "[[port]]\nifindex = 1\nspeed = 11\nfull = true\n",
-        "[[port]]\nifindex = 1\nspeed = 10000\nfull = true\n",
-        "[[port]]\nifindex = 1\nspeed = 10\nfull = 1\n",
-        "[[port]]\nifindex = 1\nspeed = 10\nfull = true\nname = \"\"\n",
-        "[[port]]\nifindex = 1\nspeed = 10\nfull = true\nlisten = \"localhost:1\"\n",
-        "[[port]]\nifindex = 1\nspeed = 10\nfull = true\nlisten = 1\n",
-        "[[port]]\nifindex = 1\nspeed = 10\nfull = true\npeer = \"127.0.0.1\"\n",
-        "[[port]]\nifindex = 1\nspeed = 10\nfull = true\npeer = \"127.0.0.1:65536\"\n",
+    for (port, key) in [
+        ("speed = 10\nfull = true\n", PortKey::Ifindex),
+        ("ifindex = 0\nspeed = 10\nfull = true\n", PortKey::Ifindex),
+        ("ifindex = -1\nspeed = 10\nfull = true\n", PortKey::Ifindex),
+        ("ifindex = 2147483648\nspeed = 11\n", PortKey::Ifindex),
+        ("ifindex = 1\nspeed = 11\nfull = true\n", PortKey::Speed),
+        ("ifindex = 1\nspeed = 10000\nfull = 1\n", PortKey::Speed),
+        ("ifindex = 1\nspeed = 10\nfull = 1\n", PortKey::Full),
+        ("ifindex = 1\nspeed = 10\nlisten = 1\n", PortKey::Full),
+        ("ifindex = 1\nspeed = 10\nfull = true\nname = \"\"\n", PortKey::Other),
+        ("ifindex = 1\nspeed = 10\nfull = true\nlisten = \"localhost:1\"\n", PortKey::Listen),
+        ("ifindex = 1\nspeed = 10\nfull = true\nlisten = 1\npeer = 1\n", PortKey::Listen),
+        ("ifindex = 1\nspeed = 10\nfull = true\npeer = \"127.0.0.1\"\n", PortKey::Peer),
+        ("ifindex = 1\nspeed = 10\nfull = true\npeer = 1\nname = \"\"\n", PortKey::Peer),
     ] {
-        let fault = fault_of(rt.alloc(), [ADDRESS, POLICY, PORT, port])?;
-        assert_eq!(rt; fault, Some(ConfigurationFault::BadPort(1)), "{port}");
+        let fault = fault_of(rt.alloc(), [ADDRESS, POLICY, PORT_AND_TABLE, port])?;
+        assert_eq!(rt; fault, Some(ConfigurationFault::BadPort(1, key)), "{port}");
     }
     Ok(())
 }
 
 #[test]
 fn ways_to_serve_are_refused(rt: HostRuntime) -> Result<(), Fail> {
-    for serve in [
-        "[serve]\n",
-        "[serve]\nsnmp = \"127.0.0.1\"\nworkers = 1\nrounds = 1\n",
-        "[serve]\nsnmp = \"127.0.0.1:161\"\nworkers = 0\nrounds = 1\n",
-        "[serve]\nsnmp = \"127.0.0.1:161\"\nworkers = 9\nrounds = 1\n",
-        "[serve]\nsnmp = \"127.0.0.1:161\"\nworkers = 1\nrounds = 0\n",
-        "[serve]\nsnmp = \"127.0.0.1:161\"\nworkers = 1\nrounds = 1000001\n",
-        "[serve]\nsnmp = \"127.0.0.1:161\"\nworkers = 1\n",
-        "[serve]\nsnmp = \"127.0.0.1:161\"\nworkers = 1\nrounds = 1\nlog = 1\n",
-        "[[serve]]\nsnmp = \"127.0.0.1:161\"\nworkers = 1\nrounds = 1\n",
+    for (serve, key) in [
+        ("[serve]\n", ServeKey::Snmp),
+        ("[serve]\nsnmp = \"127.0.0.1\"\nworkers = 1\nrounds = 1\n", ServeKey::Snmp),
+        ("[serve]\nsnmp = \"127.0.0.1:161\"\nworkers = 0\nrounds = 1\n", ServeKey::Workers),
+        ("[serve]\nsnmp = \"127.0.0.1:161\"\nworkers = 9\nrounds = 0\n", ServeKey::Workers),
+        ("[serve]\nsnmp = \"127.0.0.1:161\"\nworkers = 1\nrounds = 0\n", ServeKey::Rounds),
+        ("[serve]\nsnmp = \"127.0.0.1:161\"\nworkers = 1\nrounds = 1000001\n", ServeKey::Rounds),
+        ("[serve]\nsnmp = \"127.0.0.1:161\"\nworkers = 1\n", ServeKey::Rounds),
+        (
+            "[serve]\nsnmp = \"127.0.0.1:161\"\nworkers = 1\nrounds = 1\nlog = 1\n",
+            ServeKey::Other,
+        ),
+        (
+            "[[serve]]\nsnmp = \"127.0.0.1:161\"\nworkers = 1\nrounds = 1\n",
+            ServeKey::Serve,
+        ),
     ] {
         let fault = fault_of(rt.alloc(), [ADDRESS, "contexts = 1\n", PORT, serve])?;
-        assert_eq!(rt; fault, Some(ConfigurationFault::BadServe), "{serve}");
+        assert_eq!(rt; fault, Some(ConfigurationFault::BadServe(key)), "{serve}");
+    }
+    Ok(())
+}
+
+// The first of them that is no array is told.
+#[test]
+fn keys_of_a_policy_are_refused(rt: HostRuntime) -> Result<(), Fail> {
+    for (keys, key) in [
+        ("", PolicyKey::Contexts),
+        ("contexts = 1\n", PolicyKey::Contexts),
+        ("contexts = []\ngroup = 1\n", PolicyKey::Community),
+        ("contexts = []\ncommunity = []\n[group]\n", PolicyKey::Group),
+        ("contexts = []\ncommunity = []\ngroup = []\n", PolicyKey::Access),
+        ("contexts = []\ncommunity = []\ngroup = []\naccess = []\n", PolicyKey::Family),
+        (
+            "a = 1\ncontexts = []\ncommunity = []\ngroup = []\naccess = []\nfamily = []\n",
+            PolicyKey::Other,
+        ),
+    ] {
+        let fault = fault_of(rt.alloc(), [ADDRESS, keys, PORT, ""])?;
+        assert_eq!(rt; fault, Some(ConfigurationFault::BadKeys(key)), "{keys}");
     }
     Ok(())
 }
 
 #[test]
 fn policies_are_refused(rt: HostRuntime) -> Result<(), Fail> {
-    let fault = fault_of(rt.alloc(), [ADDRESS, "name = 1\n", POLICY, PORT])?;
-    assert_eq!(rt; fault, Some(ConfigurationFault::BadKeys));
     let tables = "contexts = [1]\ncommunity = []\ngroup = []\naccess = []\nfamily = []\n";
     let fault = fault_of(rt.alloc(), [ADDRESS, tables, "", PORT])?;
     let no_string = PolicyFault::BadField(PolicyTable::Contexts, 0);
@@ -194,7 +232,7 @@ fn other_octets_are_refused(rt: HostRuntime) -> Result<(), Fail> {
     assert!(rt; configuration_in(rt.alloc(), octets.as_slice()).is_ok());
     octets.extend_from_slice(b"# \xFF\n")?;
     let fault = configuration_in(rt.alloc(), octets.as_slice()).err();
-    assert_eq!(rt; fault, Some(ConfigurationFault::BadText));
+    assert_eq!(rt; fault, Some(ConfigurationFault::BadOctets));
     Ok(())
 }
 
@@ -211,6 +249,12 @@ security = \"x\"
 context = \"\"
 ";
 
+// The sentence of a text in four parts.
+fn told_of(alloc: Global, parts: [&str; 4]) -> Result<String, Fail> {
+    let fault = fault_of(alloc, parts)?.ok_or("it is right")?;
+    Ok(sentence(alloc, fault)?)
+}
+
 #[test]
 fn faults_are_told(rt: HostRuntime) -> Result<(), Fail> {
     let tables = "community = []\ngroup = []\naccess = []\nfamily = []\n";
@@ -219,16 +263,35 @@ fn faults_are_told(rt: HostRuntime) -> Result<(), Fail> {
     let slow = "[[port]]\nifindex = 1\nspeed = 40\nfull = true\n";
     for (parts, told) in [
         (
+            [ADDRESS, POLICY, "port = 02\n", ""],
+            "line 8 of the text, counted from 1: it is to be TOML, in which no key stands twice",
+        ),
+        (
             ["address = \"\"\n", POLICY, PORT, ""],
-            "top level: address is to be a string of 12 hexadecimal digits, and no group address",
+            "top level: address is to be a string of 12 hexadecimal digits, and no group address: \
+             its first octet is even",
         ),
         (
             [ADDRESS, POLICY, PORT, slow],
-            "row 2 of [[port]], counted from 1: its keys are to be ifindex (1 to 2147483647), speed (10, 100 or 1000 Mb/s) and full (true or false), and may be listen and peer (as 127.0.0.1:161), and no others",
+            "row 2 of [[port]], counted from 1: speed is to be an integer, 10, 100 or 1000 (Mb/s)",
+        ),
+        (
+            [ADDRESS, POLICY, PORT, "listen = \"a:1\"\n"],
+            "row 1 of [[port]], counted from 1: listen, where it stands, is to be a string of an \
+             address and a port, as \"127.0.0.1:161\"",
+        ),
+        (
+            [ADDRESS, POLICY, PORT, "[serve]\nsnmp = 161\n"],
+            "table serve: snmp is to be a string of an address and a port, as \"127.0.0.1:161\"",
+        ),
+        (
+            [ADDRESS, tables, PORT, ""],
+            "top level: contexts is to be an array of strings",
         ),
         (
             [ADDRESS, "name = 1\n", POLICY, PORT],
-            "top level: its keys are to be address, port, contexts, community, group, access and family, the last five arrays, and may be serve, and no others",
+            "top level: its keys are to be address, port, contexts, community, group, access and \
+             family, and may be serve, and no others",
         ),
         (
             [ADDRESS, long, tables, PORT],
@@ -239,8 +302,7 @@ fn faults_are_told(rt: HostRuntime) -> Result<(), Fail> {
             "row 2 of [[community]], counted from 1: no earlier row may have its index",
         ),
     ] {
-        let fault = fault_of(rt.alloc(), parts)?.ok_or("it is right")?;
-        let text = sentence(rt.alloc(), fault)?;
+        let text = told_of(rt.alloc(), parts)?;
         assert!(rt; text.as_str() == told, "{text}");
     }
     Ok(())
