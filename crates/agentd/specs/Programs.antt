@@ -1,5 +1,6 @@
 -- What the program does with its words.
 use Rattle.std.specs.Prelude.{◌≡◌, ℕ, List, Option, Result, Ok, Err}
+use Rattle.setphase_core.specs.Objects.{ObjectState}
 use Rattle.configuration.specs.declared.configuration.TheConstants.{BUILT_IN}
 use Rattle.agent_script.specs.declared.session.Run.{Run}
 use Rattle.agentd.specs.declared.files.NotRead.{NotRead}
@@ -17,11 +18,13 @@ use Rattle.agentd.specs.Endings.{status_of, said_of, ended_by, read_failure, IsL
 use Rattle.agentd.specs.Runs.{IsUntouched, IsRunBy}
 use Rattle.agentd.specs.Telling.{IsTold, IsCheckOf}
 
-module _ {I O : Type 0} (remaining : I → Option (List ℕ)) (contents : O → Option (List ℕ)) where
+-- A reader and a writer, and the objects that answer requests.
+module _ {I O : Type 0} (remaining : I → Option (List ℕ)) (contents : O → Option (List ℕ))
+    (objects : List ObjectState) where
   -- a run by these octets ended the program so
   pub record RunsBy (octets : List ℕ) (reader reader' : I) (writer writer' : O) (ended : Result (Unit {0}) Failure) : Type 0 where
     pub result : Result Run NotRun
-    pub run : IsRunBy remaining contents octets reader reader' writer writer' result
+    pub run : IsRunBy remaining contents objects octets reader reader' writer writer' result
     pub is : ended ≡ ended_by result
 
   -- the program failed so before it read or wrote anything
@@ -41,13 +44,14 @@ module _ {I O : Type 0} (remaining : I → Option (List ℕ)) (contents : O → 
 
 -- Beside these a reader of files, by what a read of the file of a name may give.
 module _ {I O : Type 0} (Gives : List ℕ → Result (List ℕ) NotRead → Type 0)
-    (remaining : I → Option (List ℕ)) (contents : O → Option (List ℕ)) where
+    (remaining : I → Option (List ℕ)) (contents : O → Option (List ℕ))
+    (objects : List ObjectState) where
   -- a file was read, or not, and the program ran by what was read of it
   pub record RunsFile (file : List ℕ) (reader reader' : I) (writer writer' : O)
       (ended : Result (Unit {0}) Failure) : Type 0 where
     pub read : Result (List ℕ) NotRead
     pub is : IsReadOf Gives file read
-    pub ran : RunsRead remaining contents read reader reader' writer writer' ended
+    pub ran : RunsRead remaining contents objects read reader reader' writer writer' ended
 
   -- the program told whether a file is a configuration, and read nothing else
   pub record ChecksFile (file : List ℕ) (reader reader' : I) (writer writer' : O)
@@ -58,17 +62,17 @@ module _ {I O : Type 0} (Gives : List ℕ → Result (List ℕ) NotRead → Type
   -- What the program did for what its words ask.
   abbrev pub Does : Result Asked Wrong → I → I → O → O → Result (Unit {0}) Failure → Type 0
   Does (Ok BuiltIn) reader reader' writer writer' ended =
-      RunsBy remaining contents BUILT_IN.now reader reader' writer writer' ended
+      RunsBy remaining contents objects BUILT_IN.now reader reader' writer writer' ended
   Does (Ok (Script file)) reader reader' writer writer' ended =
       RunsFile file.now reader reader' writer writer' ended
   Does (Ok (Check file)) reader reader' writer writer' ended =
       ChecksFile file.now reader reader' writer writer' ended
   Does (Ok Help) reader reader' writer writer' ended =
-      Tells remaining contents HELP.now reader reader' writer writer' ended
+      Tells remaining contents objects HELP.now reader reader' writer writer' ended
   Does (Ok Version) reader reader' writer writer' ended =
-      Tells remaining contents VERSION.now reader reader' writer writer' ended
+      Tells remaining contents objects VERSION.now reader reader' writer writer' ended
   Does (Err wrong) reader reader' writer writer' ended =
-      FailsFirst remaining contents (Usage wrong) reader reader' writer writer' ended
+      FailsFirst remaining contents objects (Usage wrong) reader reader' writer writer' ended
 
   -- The program did what its words, its name first, ask for.
   pub record HasEnded (words : List (List ℕ)) (reader reader' : I) (writer writer' : O)

@@ -7,7 +7,7 @@
 //!
 //! # Definitions
 //! `specs/Words.antt`: what words ask for; `specs/Files.antt`: what a read of a file gave;
-//! `specs/Agents.antt`: the agent that a configuration opens; `specs/Runs.antt`: what a run by octets
+//! `specs/Agents.antt`: the world that a configuration opens, and which objects make a registry; `specs/Runs.antt`: what a run by octets
 //! promises; `specs/Endings.antt`: statuses, and the line of each failure; `specs/Telling.antt`: what
 //! a check tells; `specs/Programs.antt`: what the program does with its words.
 //!
@@ -36,8 +36,10 @@ ghost use Rattle.std.specs.declared.io.ErrorKind.TheVariants.{OutOfMemory};
 
 use failure::{Failure, report};
 use files::SystemFiles;
+use object_list::objects;
 use run::run_words;
-use std::alloc::Allocator;
+use setphase_core::MibObject;
+use std::alloc::{AllocError, Allocator, Global};
 use std::process::ExitCode;
 use std::{env, io};
 
@@ -47,11 +49,15 @@ fn main(rt: HostRuntime) -> ExitCode {
         Ok(words) => words,
         Err(error) => return ExitCode::from(report(&Failure::from(error), &mut errors).status),
     };
+    let Ok(objects) = boxed_objects(rt.alloc()) else {
+        return ExitCode::from(report(&Failure::Refused, &mut errors).status);
+    };
     let mut reader = rt.reader();
     let mut writer = io::writer(&rt);
     let files = SystemFiles(&rt);
     let ended = run_words(
         rt.alloc(),
+        objects,
         &files,
         &words,
         &mut reader,
@@ -59,6 +65,15 @@ fn main(rt: HostRuntime) -> ExitCode {
         &mut errors,
     );
     ExitCode::from(ended.status)
+}
+
+// The objects that answer requests, in the order of their names, each in a box.
+fn boxed_objects(alloc: Global) -> Result<Vec<Box<dyn MibObject + Send>>, AllocError> {
+    let mut boxes: Vec<Box<dyn MibObject + Send>> = Vec::new(alloc);
+    for object in objects(alloc)? {
+        boxes.push(Box::new(alloc, object)?)?;
+    }
+    Ok(boxes)
 }
 
 // The words of the command line, the program's name first.

@@ -11,15 +11,18 @@ use crate::files::{NotRead, ReadFile};
 use crate::running::run_octets;
 use crate::words::{Asked, HELP, VERSION, Wrong, asked_by};
 use configuration::BUILT_IN;
+use setphase_core::MibObject;
 use std::alloc::Global;
 use std::io::{Read, Write};
 
 /// Runs the program on the words of its command line, its name first, and gives its exit status: 0;
 /// 1 where input, output or the run failed; 2 for words that are no command, and for a configuration
 /// that cannot be read or is refused. A failure is written to `errors` as one line, whole or a front
-/// of it behind which a write failed. The octets of a file are those that `files` gives for its name.
-pub fn run_words<F, I, O, E>(
+/// of it behind which a write failed. The octets of a file are those that `files` gives for its name,
+/// and requests are answered by what these objects show.
+pub fn run_words<M, F, I, O, E>(
     alloc: Global,
+    objects: Vec<M>,
     files: &F,
     words: &[String],
     reader: &mut I,
@@ -27,15 +30,17 @@ pub fn run_words<F, I, O, E>(
     errors: &mut E,
 ) -> Ended
 where
+    M: MibObject,
     F: ReadFile,
     I: Read,
     O: Write,
     E: Write,
-    ensures { IsProgramRun (F.gives files.now) I.remaining O.contents (map string_bytes words.now)
+    ensures { IsProgramRun (F.gives files.now) I.remaining O.contents
+        (map M.state objects.items) (map string_bytes words.now)
         reader.old reader.new writer.old writer.new
         (E.contents errors.old) (E.contents errors.new) result }
 {
-    match try_words(alloc, files, words, reader, writer) {
+    match try_words(alloc, objects, files, words, reader, writer) {
         Ok(()) => Ended {
             status: 0,
             line: Ok(()),
@@ -45,41 +50,47 @@ where
 }
 
 // Runs the program, and gives why it failed.
-fn try_words<'a, F, I, O>(
+fn try_words<'a, M, F, I, O>(
     alloc: Global,
+    objects: Vec<M>,
     files: &F,
     words: &'a [String],
     reader: &mut I,
     writer: &mut O,
 ) -> Result<(), Failure<'a>>
 where
+    M: MibObject,
     F: ReadFile,
     I: Read,
     O: Write,
-    ensures { HasEnded (F.gives files.now) I.remaining O.contents (map string_bytes words.now)
+    ensures { HasEnded (F.gives files.now) I.remaining O.contents
+        (map M.state objects.items) (map string_bytes words.now)
         reader.old reader.new writer.old writer.new result }
 {
-    do_asked(alloc, files, asked_by(words), reader, writer)
+    do_asked(alloc, objects, files, asked_by(words), reader, writer)
 }
 
 // Does what was asked for.
-fn do_asked<'a, F, I, O>(
+fn do_asked<'a, M, F, I, O>(
     alloc: Global,
+    objects: Vec<M>,
     files: &F,
     asked: Result<Asked<'a>, Wrong<'a>>,
     reader: &mut I,
     writer: &mut O,
 ) -> Result<(), Failure<'a>>
 where
+    M: MibObject,
     F: ReadFile,
     I: Read,
     O: Write,
-    ensures { Does (F.gives files.now) I.remaining O.contents asked.entry
+    ensures { Does (F.gives files.now) I.remaining O.contents
+        (map M.state objects.items) asked.entry
         reader.old reader.new writer.old writer.new result }
 {
     match asked {
-        Ok(Asked::BuiltIn) => run_by(alloc, BUILT_IN.as_bytes(), reader, writer),
-        Ok(Asked::Script(file)) => run_file(alloc, files, file, reader, writer),
+        Ok(Asked::BuiltIn) => run_by(alloc, objects, BUILT_IN.as_bytes(), reader, writer),
+        Ok(Asked::Script(file)) => run_file(alloc, objects, files, file, reader, writer),
         Ok(Asked::Check(file)) => check_file(alloc, files, file, writer),
         Ok(Asked::Help) => tell(HELP.as_bytes(), writer),
         Ok(Asked::Version) => tell(VERSION.as_bytes(), writer),
@@ -88,54 +99,60 @@ where
 }
 
 // Runs the script by the octets of a configuration.
-fn run_by<'a, I: Read, O: Write>(
+fn run_by<'a, M: MibObject, I: Read, O: Write>(
     alloc: Global,
+    objects: Vec<M>,
     octets: &[u8],
     reader: &mut I,
     writer: &mut O,
 ) -> Result<(), Failure<'a>>
-    ensures { RunsBy I.remaining O.contents octets.now
+    ensures { RunsBy I.remaining O.contents (map M.state objects.items) octets.now
         reader.old reader.new writer.old writer.new result }
 {
-    match run_octets(alloc, octets, reader, writer) {
+    match run_octets(alloc, objects, octets, reader, writer) {
         Ok(_) => Ok(()),
         Err(why) => Err(failure_of(why)),
     }
 }
 
 // Runs the script by what was read of a file; where it could not be read, by nothing else.
-fn run_read<'a, I: Read, O: Write>(
+fn run_read<'a, M: MibObject, I: Read, O: Write>(
     alloc: Global,
+    objects: Vec<M>,
     read: Result<Vec<u8>, NotRead<'a>>,
     reader: &mut I,
     writer: &mut O,
 ) -> Result<(), Failure<'a>>
-    ensures { RunsRead I.remaining O.contents (read_view read.entry)
+    ensures { RunsRead I.remaining O.contents (map M.state objects.items)
+        (read_view read.entry)
         reader.old reader.new writer.old writer.new result }
 {
     match read {
-        Ok(octets) => run_by(alloc, &octets, reader, writer),
+        Ok(octets) => run_by(alloc, objects, &octets, reader, writer),
         Err(why) => Err(read_failure(why)),
     }
 }
 
 // Runs the script by a file.
 #[tactic(auto, using(crate::proofs::FileLemmas::file_run))]
-fn run_file<'a, F, I, O>(
+fn run_file<'a, M, F, I, O>(
     alloc: Global,
+    objects: Vec<M>,
     files: &F,
     file: &'a str,
     reader: &mut I,
     writer: &mut O,
 ) -> Result<(), Failure<'a>>
 where
+    M: MibObject,
     F: ReadFile,
     I: Read,
     O: Write,
-    ensures { RunsFile (F.gives files.now) I.remaining O.contents file.now
+    ensures { RunsFile (F.gives files.now) I.remaining O.contents
+        (map M.state objects.items) file.now
         reader.old reader.new writer.old writer.new result }
 {
-    run_read(alloc, files.read_file(file), reader, writer)
+    run_read(alloc, objects, files.read_file(file), reader, writer)
 }
 
 // Tells whether a file is a configuration.

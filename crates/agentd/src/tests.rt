@@ -2,11 +2,11 @@
 ghost use Rattle.std.specs.Prelude.{◌≡◌, IfOk};
 
 use crate::checking::check_read;
-use crate::collect_words;
 use crate::failure::{Failure, report};
 use crate::files::{NotRead, ReadFile, SystemFiles};
 use crate::run::run_words;
 use crate::telling::NotTaken;
+use crate::{boxed_objects, collect_words};
 use bumpalo::Bump;
 use configuration::BUILT_IN;
 use std::alloc::{AllocGlobal, Global};
@@ -66,6 +66,7 @@ fn answers_a_script(rt: HostRuntime) -> Result<(), Fail> {
     let mut errors = Vec::new(rt.alloc());
     let ended = run_words(
         rt.alloc(),
+        boxed_objects(rt.alloc())?,
         &SystemFiles(&rt),
         &words,
         &mut { GET },
@@ -87,6 +88,7 @@ fn fails_with_its_input(rt: HostRuntime) -> Result<(), Fail> {
     let mut reader = Failing { octets: GET };
     let ended = run_words(
         rt.alloc(),
+        boxed_objects(rt.alloc())?,
         &SystemFiles(&rt),
         &words,
         &mut reader,
@@ -106,6 +108,7 @@ fn fails_with_its_output(rt: HostRuntime) -> Result<(), Fail> {
     let mut errors = Vec::new(rt.alloc());
     let ended = run_words(
         rt.alloc(),
+        boxed_objects(rt.alloc())?,
         &SystemFiles(&rt),
         &words,
         &mut { GET },
@@ -147,7 +150,15 @@ fn ran_over<F: ReadFile>(
     let mut out = Vec::new(alloc);
     let mut errors = Vec::new(alloc);
     let mut reader = script;
-    let ended = run_words(alloc, files, &words, &mut reader, &mut out, &mut errors);
+    let ended = run_words(
+        alloc,
+        boxed_objects(alloc)?,
+        files,
+        &words,
+        &mut reader,
+        &mut out,
+        &mut errors,
+    );
     ended.line.map_err(|_| "a line was cut off")?;
     Ok(Finished {
         status: ended.status,
