@@ -1,4 +1,5 @@
-//! Tests of the 51 objects of a bridge: what a walk over all of them shows.
+//! Tests of the 51 objects of a bridge: what a walk over all of them shows, and what a registry
+//! makes of them as boxed ones.
 //!
 //! # Entry points
 //! None: the tests call what `object_list` and `setphase_core` offer.
@@ -14,6 +15,8 @@
 //! the objects that shares nothing with the crates.
 #![tactic(auto)]
 
+#[cfg(test)]
+mod boxed;
 #[cfg(test)]
 mod in_use;
 #[cfg(test)]

@@ -12,8 +12,8 @@ const MOST: usize = 1_000;
 // How many numbers dot1dBridge has, 1.3.6.1.2.1.17.
 const BRIDGE_NUMBERS: usize = 7;
 
-// Appends numbers, each behind a dot but the first.
-fn say_numbers(numbers: &[u32], text: &mut Vec<u8>) -> Result<(), Fail> {
+/// Appends numbers, each behind a dot but the first.
+pub fn say_numbers(numbers: &[u32], text: &mut Vec<u8>) -> Result<(), Fail> {
     for (place, number) in numbers.iter().enumerate() {
         if place > 0 {
             text.push(b'.')?;

@@ -1,0 +1,136 @@
+//! The 51 objects as boxed ones: a registry takes them in the order of their names, and hands each
+//! of them back where it refuses them.
+use crate::walks::say_numbers;
+use object_list::{COLUMNS, Object};
+use setphase_core::{Column, MibObject, Registry, RegistryFault, are_named};
+use std::alloc::Global;
+use std::test::Fail;
+
+// The objects' names behind dot1dBridge (RFC 4188, RFC 4318).
+const NAMES: [&str; 51] = [
+    "1.1",
+    "1.2",
+    "1.3",
+    "1.4.1.1",
+    "1.4.1.2",
+    "1.4.1.3",
+    "1.4.1.4",
+    "1.4.1.5",
+    "2.1",
+    "2.2",
+    "2.3",
+    "2.4",
+    "2.5",
+    "2.6",
+    "2.7",
+    "2.8",
+    "2.9",
+    "2.10",
+    "2.11",
+    "2.12",
+    "2.13",
+    "2.14",
+    "2.15.1.1",
+    "2.15.1.2",
+    "2.15.1.3",
+    "2.15.1.4",
+    "2.15.1.5",
+    "2.15.1.6",
+    "2.15.1.7",
+    "2.15.1.8",
+    "2.15.1.9",
+    "2.15.1.10",
+    "2.15.1.11",
+    "2.16",
+    "2.17",
+    "2.19.1.1",
+    "2.19.1.2",
+    "2.19.1.3",
+    "2.19.1.4",
+    "2.19.1.5",
+    "2.19.1.6",
+    "4.1",
+    "4.2",
+    "4.3.1.1",
+    "4.3.1.2",
+    "4.3.1.3",
+    "4.4.1.1",
+    "4.4.1.2",
+    "4.4.1.3",
+    "4.4.1.4",
+    "4.4.1.5",
+];
+
+type AnyObject = Box<dyn MibObject + Send>;
+
+// The objects of columns, boxed.
+fn boxed(alloc: Global, columns: &[Column]) -> Result<Vec<AnyObject>, Fail> {
+    let mut objects: Vec<AnyObject> = Vec::new(alloc);
+    for column in columns {
+        objects.push(Box::new(alloc, Object::of(*column))?)?;
+    }
+    Ok(objects)
+}
+
+// The name of an object behind dot1dBridge, or all of it where it stands elsewhere.
+fn name_of(alloc: Global, object: &AnyObject) -> Result<Vec<u8>, Fail> {
+    let mut text = Vec::new(alloc);
+    let name = object.prefix();
+    let rest = name.strip_prefix(&[1, 3, 6, 1, 2, 1, 17]);
+    say_numbers(rest.unwrap_or(name), &mut text)?;
+    Ok(text)
+}
+
+// Whether there are as many objects as names, and each has its name.
+fn are(alloc: Global, objects: &[AnyObject], names: &[&str]) -> Result<bool, Fail> {
+    for (object, name) in objects.iter().zip(names) {
+        if name_of(alloc, object)?.as_slice() != name.as_bytes() {
+            return Ok(false);
+        }
+    }
+    Ok(objects.len() == names.len())
+}
+
+// Why no registry takes the objects, and the objects that it hands back.
+fn refused(objects: Vec<AnyObject>) -> Result<(RegistryFault, Vec<AnyObject>), Fail> {
+    if !are_named(objects.as_slice()) {
+        return Err(Fail::from("names of objects"));
+    }
+    Ok(Registry::new(objects).err().ok_or("refused")?)
+}
+
+#[test]
+fn takes_all_objects_in_order(rt: HostRuntime) -> Result<(), Fail> {
+    let objects = boxed(rt.alloc(), &COLUMNS)?;
+    assert!(rt; are(rt.alloc(), objects.as_slice(), &NAMES)?);
+    if !are_named(objects.as_slice()) {
+        return Err(Fail::from("names of objects"));
+    }
+    let registry = Registry::new(objects).ok().ok_or("a registry")?;
+    assert_eq!(rt; registry.len(), 51);
+    Ok(())
+}
+
+#[test]
+fn hands_back_objects_of_which_two_are_exchanged(rt: HostRuntime) -> Result<(), Fail> {
+    let mut columns = COLUMNS;
+    columns.swap(6, 7);
+    let mut names = NAMES;
+    names.swap(6, 7);
+    let (fault, objects) = refused(boxed(rt.alloc(), &columns)?)?;
+    assert_eq!(rt; fault, RegistryFault::Unsorted);
+    assert!(rt; are(rt.alloc(), objects.as_slice(), &names)?);
+    Ok(())
+}
+
+#[test]
+fn hands_back_objects_of_which_one_is_there_twice(rt: HostRuntime) -> Result<(), Fail> {
+    let mut columns = COLUMNS;
+    columns[2] = COLUMNS[1];
+    let mut names = NAMES;
+    names[2] = NAMES[1];
+    let (fault, objects) = refused(boxed(rt.alloc(), &columns)?)?;
+    assert_eq!(rt; fault, RegistryFault::Nested);
+    assert!(rt; are(rt.alloc(), objects.as_slice(), &names)?);
+    Ok(())
+}
