@@ -10,8 +10,9 @@
 //!
 //! # Definitions
 //! `specs/Answers.antt`: what objects show of a world, and the step; `specs/Replies.antt`: replies
-//! by kind, and the size rule; `specs/Reading.antt`: what is visible, Get and GetNext; `specs/Looking.antt`: the looks that a successor takes; `specs/Bulk.antt`,
-//! `specs/Fitting.antt`: GetBulk; `specs/Denying.antt`: denied bindings.
+//! by kind, and the size rule; `specs/Reading.antt`: what is visible, Get and GetNext;
+//! `specs/Looking.antt`: the looks that a successor takes; `specs/Bulk.antt`, `specs/Fitting.antt`:
+//! GetBulk; `specs/Denying.antt`: denied bindings.
 //!
 //! # Laws
 //! In [`laws`]: replies hang on nothing but what is visible; repeated GetNext lists all of it; a

@@ -1,5 +1,5 @@
 //! Tests of answers over managed objects and the world of a bridge: whole requests, what is read
-//! under a view, and the reply for a want of memory.
+//! under a view, walks over successors alone, and the reply for a want of memory.
 //!
 //! # Entry points
 //! None: the tests call what `agent_core` offers.
