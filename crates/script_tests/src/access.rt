@@ -137,7 +137,7 @@ mask = ""
 included = false
 "#;
 
-// The lines of a policy whose view `v` has not what is below a subtree.
+// The lines of a policy whose view `v` has not what is below a subtree, and then `audit on`.
 fn policy_without(alloc: Global, subtree: &str) -> Result<String, Fail> {
     let row = [
         "policy\n",
@@ -145,7 +145,7 @@ fn policy_without(alloc: Global, subtree: &str) -> Result<String, Fail> {
         VIEW_V,
         "subtree = \"",
         subtree,
-        "\"\nend",
+        "\"\nend\naudit on",
     ];
     joined(alloc, &row)
 }
@@ -174,7 +174,6 @@ fn assert_denied_below<R: Abort + AllocGlobal>(rt: &R, subtree: &str) -> Result<
         built_in(rt.alloc())?,
         &[
             told(policy.as_str(), &["policy ok\n"]),
-            AUDIT_ON,
             denied_row(&asked, &answer, audit.as_str()),
         ],
     )

@@ -1,9 +1,9 @@
 //! GetNext (RFC 3416, 4.2.2).
-use crate::message::Bound;
 use crate::message::Held::{Counter, End, Integer, Null, Octets};
+use crate::message::{Held, next, reply};
 use crate::names::{ADDRESS, LAST, PORTS, TOP_CHANGES, TYPE};
-use crate::rows::{Row, assert_rows};
-use crate::support::repeated;
+use crate::rows::{Row, assert_rows, line_with};
+use crate::support::{assert_said, repeated};
 use crate::worlds::{OWN_ADDRESS, built_in, first_objects};
 use std::alloc::AllocGlobal;
 use std::process::Abort;
@@ -75,20 +75,16 @@ fn ends_behind_the_last_object(rt: HostRuntime) -> Result<(), Fail> {
     assert_rows(&rt, first_objects(rt.alloc(), 3)?, &OF_THREE_OBJECTS)
 }
 
-// A row of a GetNext of a long name.
-fn next_row<'a>(asked: &'a [Bound<'a>], answer: &'a [Bound<'a>]) -> Row<'a> {
-    Row::Next("a long name", asked, answer)
-}
-
 // What comes next after a name.
-fn assert_next<'a, R: Abort + AllocGlobal>(
+fn assert_next<R: Abort + AllocGlobal>(
     rt: &R,
-    name: &'a str,
-    answer: Bound<'a>,
+    name: &str,
+    answer: &str,
+    held: Held<'static>,
 ) -> Result<(), Fail> {
-    let asked = [(name, Null)];
-    let bindings = [answer];
-    assert_rows(rt, built_in(rt.alloc())?, &[next_row(&asked, &bindings)])
+    let asked = line_with(rt.alloc(), "request", &next(&[(name, Null)]))?;
+    let said = line_with(rt.alloc(), "reply", &reply(&[(answer, held)]))?;
+    assert_said(rt, &[&asked], &[&said])
 }
 
 // Names of more numbers than take no memory, 25 and 128: between two instances, and behind the
@@ -97,9 +93,9 @@ fn assert_next<'a, R: Abort + AllocGlobal>(
 fn goes_on_from_long_names(rt: HostRuntime) -> Result<(), Fail> {
     for more in [15usize, 118] {
         let between = repeated(rt.alloc(), ADDRESS, more, ".1")?;
-        assert_next(&rt, &between, (PORTS, Integer(2)))?;
+        assert_next(&rt, &between, PORTS, Integer(2))?;
         let behind = repeated(rt.alloc(), "1.3.6.1.2.1.17.9.9.9", more, ".1")?;
-        assert_next(&rt, &behind, (behind.as_str(), End))?;
+        assert_next(&rt, &behind, &behind, End)?;
     }
     Ok(())
 }
