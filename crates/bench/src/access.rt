@@ -52,8 +52,8 @@ pub fn policy_of_families(alloc: Global, families: &str) -> io::Result<Policy> {
     policy_of(alloc, &text)
 }
 
-/// A policy of so many families: those of the view `bridge`, one a group of objects, and last the one of the view `last`, which is
-/// all of the bridge.
+/// A policy of so many families: those of the view `bridge`, one a group of objects, and last the
+/// one of the view `last`, which is all of the bridge.
 pub fn policy_with(alloc: Global, families: u32) -> io::Result<Policy> {
     let mut text = Vec::from_slice(alloc, HEAD.as_bytes())?;
     for number in 1..families {

@@ -1,5 +1,6 @@
-//! Measurements in one process. Without words it answers each request that is measured once, looks into the replies, and prints
-//! the names of the measurements, one a line; with a name it measures and prints figures, one a line.
+//! Measurements in one process. Without words it answers each request that is measured once, looks
+//! into the replies, and prints the names of the measurements, one a line; with a name it measures
+//! and prints figures, one a line.
 //!
 //! # Entry points
 //! The program, with no word or one.
