@@ -3,14 +3,16 @@
 //!
 //! # Entry points
 //! [`answer`] is one step of a request over a `Registry` of managed objects and the `World` that
-//! they show: its reply stands in a [`Buffer`], its audit is given, a drop is counted;
+//! they show: its reply stands in a [`Buffer`], its audit is given, a drop is counted. Objects that
+//! the view is seen to hide whole are passed over, however many instances they show.
 //! [`short_reply`] writes the reply for a want of memory, and takes none. Under any [`View`]
 //! [`get`] answers from any [`Source`], and [`get_next`] and [`get_bulk`] from any [`Successors`],
 //! of which they can ask nothing but the next instance: each such look is a step.
 //!
 //! # Definitions
 //! `specs/Answers.antt`: what objects show of a world, and the step; `specs/Replies.antt`: replies
-//! by kind, and the size rule; `specs/Reading.antt`: what is visible, Get and GetNext; `specs/Looking.antt`: the looks that a successor takes; `specs/Bulk.antt`,
+//! by kind, and the size rule; `specs/Reading.antt`: what is visible, Get and GetNext;
+//! `specs/Looking.antt`: the looks that a successor takes; `specs/Bulk.antt`,
 //! `specs/Fitting.antt`: GetBulk; `specs/Denying.antt`: denied bindings.
 //!
 //! # Laws
