@@ -1,7 +1,7 @@
 -- Names of which none begins another.
-use Rattle.std.proofs.Common.{◌≡◌, ℕ, refl, Bool, true, false, cond, not, ◌&&◌, nat_eq, List, [], ◌∷◌, Some, ◌⊎◌, inl, inr, All, IsTrue, arith}
+use Rattle.std.proofs.Common.{◌≡◌, ℕ, refl, Bool, true, false, cond, not, ◌&&◌, nat_eq, List, [], ◌∷◌, Some, None, ◌⊎◌, inl, inr, All, IsTrue, arith}
 use Rattle.std.proofs.lemmas.Bool.Decides.{eqb_tells, nat_tests}
-use Rattle.std.proofs.lemmas.List.Elements.{All-cons, All-weaker}
+use Rattle.std.proofs.lemmas.List.Elements.{All-cons, All-head, All-tail, All-weaker}
 use Rattle.oid_core.specs.Order.{is_prefix}
 use Rattle.setphase_core.specs.Registry.{is_apart, AreApart}
 use Rattle.agent_core.specs.Reading.{object_of}
@@ -43,3 +43,14 @@ one_object_law (x ∷ xs) name h = first (is_prefix x name) refl (one_object_law
         (All-weaker (λ (y : List ℕ). is_apart x y ≡ true) (λ (object : List ℕ). is_prefix object name ≡ true → Some x ≡ Some object)
         (λ y k m. let f : false ≡ true = never x y (is_prefix x y) (is_prefix y x) refl refl (one_begins x y name e m) k in absurd (cc)) xs (pairs_head (λ (a b : List ℕ). IsTrue (is_apart a b)) x xs h))
     first false e more = All-cons (λ (object : List ℕ). is_prefix object name ≡ true → object_of xs name ≡ Some object) x xs (λ m. absurd (cc)) more
+
+-- behind the object that begins a name no other does
+pub no_other : (x : List ℕ) (others : List (List ℕ)) (name : List ℕ) → All (λ y. IsTrue (is_apart x y)) others → is_prefix x name ≡ true → object_of others name ≡ None
+no_other x [] name h k = refl
+no_other x (y ∷ ys) name h k = pick (is_prefix y name) refl (no_other x ys name (All-tail (λ (z : List ℕ). IsTrue (is_apart x z)) y ys h) k)
+  where
+    pick : (b : Bool) → is_prefix y name ≡ b → object_of ys name ≡ None → cond b (Some y) (object_of ys name) ≡ None
+    pick true e more =
+        let f : false ≡ true = never x y (is_prefix x y) (is_prefix y x) refl refl (one_begins x y name k e) (All-head (λ (z : List ℕ). IsTrue (is_apart x z)) y ys h) in
+        absurd (cc)
+    pick false e more = more

@@ -52,7 +52,7 @@ get_same objects (b ∷ bs) first second rows others e h =
     ap (λ z. z ∷ get_answers objects first rows bs) here ∙ ap (λ zs. get_answer objects (second b.name) (visible second others) b.name ∷ zs) more
 
 -- equal replies over what is seen
-kind_same : (objects others_objects : List (List ℕ)) (first second : List ℕ → Bool) (rows others : List Binding) (request : Request) (kind : Kind) →
+pub kind_same : (objects others_objects : List (List ℕ)) (first second : List ℕ → Bool) (rows others : List Binding) (request : Request) (kind : Kind) →
     visible first rows ≡ visible second others → (kind ≡ Get → (objects ≡ others_objects) × All (λ b. first b.name ≡ second b.name) request.bindings) →
     kind_reply objects first rows request kind ≡ kind_reply others_objects second others request kind
 kind_same objects others_objects first second rows others request Get e h =

@@ -11,3 +11,4 @@ pub mod Longest
 pub mod LawProofs
 pub mod Denials
 pub mod Owners
+pub mod Passed

@@ -32,6 +32,8 @@ use vacm_core::Name;
 /// the caller see it (RFC 3415, 3.2). The buffer holds the reply in its minimal encoding, or
 /// nothing where the request is dropped; a drop is counted, modulo 2^32, and nothing else changes
 /// in the world, and nothing in the objects.
+/// Objects that the view is seen to hide whole (`Vacm::hides_all`) are passed over: their instances
+/// are neither looked for nor read. No clause says so: the reply is that over all instances.
 /// How often a GetBulk looks for a successor is said by `get_bulk`, and by no clause here.
 ///
 /// The caller hands in a request whose names and OBJECT IDENTIFIER values have an encoding, as
@@ -194,8 +196,13 @@ fn send_served<O: MibObject, L: Ledger>(
     ensures takes { OnErr result (request.now.kind ≢ Kind.Set) }
 {
     let mut steps: Steps<L> = Steps::new(blank);
-    let source = Served { registry, world };
     let vacm = world.policy.vacm();
+    let source = Served {
+        registry,
+        world,
+        vacm,
+        view,
+    };
     let view = PolicyView { vacm, view };
     send_kind(alloc, &source, &view, request, buffer, &mut steps)
 }

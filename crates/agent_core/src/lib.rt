@@ -3,7 +3,8 @@
 //!
 //! # Entry points
 //! [`answer`] is one step of a request over a `Registry` of managed objects and the `World` that
-//! they show: its reply stands in a [`Buffer`], its audit is given, a drop is counted;
+//! they show: its reply stands in a [`Buffer`], its audit is given, a drop is counted. Objects that
+//! the view is seen to hide whole are passed over, however many instances they show.
 //! [`short_reply`] writes the reply for a want of memory, and takes none. Under any [`View`]
 //! [`get`] answers from any [`Source`], and [`get_next`] and [`get_bulk`] from any [`Successors`],
 //! of which they can ask nothing but the next instance: each such look is a step.

@@ -1,23 +1,33 @@
 //! Managed objects and the world that they show, as what requests are answered from.
-ghost use Rattle.std.specs.Prelude.{◌≡◌, ◌≤◌, length, IfOk};
+ghost use Rattle.std.specs.Prelude.{◌≡◌, ◌≤◌, ◌<◌, length, IfOk};
 ghost use Rattle.oid_core.specs.declared.limits.TheConstants.{MAX_NUMBERS};
+ghost use Rattle.message_core.specs.Instances.{next_of};
+ghost use Rattle.vacm_core.specs.Hiding.{hides_all};
+ghost use Rattle.setphase_core.specs.Registry.{rows_of};
+ghost use Rattle.setphase_core.specs.Passing.{open_instances};
 
 use crate::source::{Source, Successors};
 use message_core::{Binding, Value};
 use oid_core::{Oid, OidFault};
-use setphase_core::{MibObject, Registry, World};
+use setphase_core::{MibObject, Passing, Registry, World};
 use std::alloc::{AllocError, Global};
-use std::sync::ledger::Ledger;
+use std::marker::Brand;
+use std::sync::ledger::{Blank, Ledger};
 use steps::Steps;
+use vacm_core::{Name, Vacm};
 
 /// Managed objects, and the world that they show (RFC 3416, 4.2: the variables to which an agent
-/// has access).
+/// has access), but for the objects that a view is seen to hide whole: these are passed over.
 #[derive(Drop)]
 pub struct Served<'a, O: MibObject> {
     /// The objects.
     pub registry: &'a Registry<O>,
     /// The world.
     pub world: &'a World,
+    /// The tables of access control.
+    pub vacm: &'a Vacm,
+    /// The name of the view.
+    pub view: &'a Name,
 }
 
 // A copy of the name of an object. Only memory can fail.
@@ -33,10 +43,45 @@ fn object_name(alloc: Global, prefix: &[u32]) -> Result<Oid, AllocError>
     }
 }
 
-impl<O: MibObject, L: Ledger> Successors<L> for Served<'_, O> {
-    ghost use Rattle.setphase_core.specs.Registry.{rows_of, instances};
+// The first instance after a name, but for those of the objects that are passed over. These are
+// counted in the ledger of the blank, and by no clause here.
+fn next_uncounted<O: MibObject, L: Ledger>(
+    alloc: Global,
+    source: &Served<'_, O>,
+    name: &Oid,
+    blank: Blank,
+) -> Result<Option<Binding>, AllocError>
+    requires name { blank.name ≡ L.name }
+    requires parts { blank.parts ≡ L.parts }
+    requires some { 0 < blank.parts }
+    ensures { IfOk result (λ found. found ≡ next_of (open_instances
+        (hides_all source.now.vacm.now.families source.now.view.now)
+        (rows_of source.now.registry.now) source.now.world.now) name.now) }
+{
+    let mut passed: Steps<L> = Steps::new(blank);
+    let name = name.as_slice();
+    source
+        .registry
+        .next_open(alloc, source.world, name, source, &mut passed)
+}
 
-    ghost instances = { λ s. instances (rows_of s.registry.now) s.world.now };
+impl<O: MibObject> Passing for Served<'_, O> {
+    ghost use Rattle.vacm_core.specs.Hiding.{hides_all};
+
+    ghost passes = { λ s prefix. hides_all s.vacm.now.families s.view.now prefix };
+
+    fn passes_over(&self, prefix: &[u32]) -> bool {
+        self.vacm.hides_all(self.view, prefix)
+    }
+}
+
+impl<O: MibObject, L: Ledger> Successors<L> for Served<'_, O> {
+    ghost use Rattle.vacm_core.specs.Hiding.{hides_all};
+    ghost use Rattle.setphase_core.specs.Registry.{rows_of};
+    ghost use Rattle.setphase_core.specs.Passing.{open_instances};
+
+    ghost instances = { λ s. open_instances (hides_all s.vacm.now.families s.view.now)
+        (rows_of s.registry.now) s.world.now };
 
     fn known(&self) {
         self.registry.known(self.world);
@@ -48,8 +93,9 @@ impl<O: MibObject, L: Ledger> Successors<L> for Served<'_, O> {
         name: &Oid,
         steps: &mut Steps<L>,
     ) -> Result<Option<Binding>, AllocError> {
+        // A step is one look here: the objects that it passes over have a ledger of their own.
         steps.tick();
-        self.registry.next(alloc, self.world, name.as_slice())
+        next_uncounted::<O, Brand>(alloc, self, name, Blank::new(1))
     }
 }
 
@@ -67,6 +113,14 @@ impl<O: MibObject, L: Ledger> Source<L> for Served<'_, O> {
     }
 
     fn get(&self, alloc: Global, name: &Oid) -> Result<Option<Value>, AllocError> {
-        Ok(self.registry.read(alloc, self.world, name.as_slice()))
+        self.registry.known(self.world);
+        let name = name.as_slice();
+        let Some(prefix) = self.registry.owner(name) else {
+            return Ok(None);
+        };
+        if self.passes_over(prefix) {
+            return Ok(None);
+        }
+        Ok(self.registry.read(alloc, self.world, name))
     }
 }
