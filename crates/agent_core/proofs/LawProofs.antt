@@ -22,9 +22,8 @@ use Rattle.decision.specs.declared.keys.AccessKey.{AccessKey}
 use Rattle.decision.specs.declared.choice.Decision.{Decision}
 use Rattle.decision.specs.declared.choice.Decision.TheVariants.{Allowed}
 use Rattle.decision.specs.Deciding.{decision_on}
-use Rattle.agent_core.specs.World.{Shown}
-use Rattle.agent_core.specs.Replies.{reply_within_limit, kind_reply, AgreesOnAsked, walk, last_name}
-use Rattle.agent_core.specs.Answers.{outcome_of, outcome_by, reply_in, reply_of}
+use Rattle.agent_core.specs.Replies.{reply_within_limit, kind_reply, walk, last_name}
+use Rattle.agent_core.specs.Answers.{Shown, AgreesOnAsked, outcome_of, outcome_by, reply_in, reply_of}
 use Rattle.message_core.proofs.Rising.{find_is, after-first}
 use Rattle.agent_core.proofs.Below.{visible-rising}
 use Rattle.agent_core.proofs.Fits.{total-append}

@@ -1,13 +1,16 @@
--- One step of a request: what it is answered, its audit, and the world after it.
-use Rattle.std.specs.Prelude.{◌≡◌, ◌≢◌, ℕ, ◌≤◌, pos, ◌+◌, ◌%◌, ◌^◌, [], List, length, Option, Some, None, Result, Ok, Err}
+-- What objects show of a world, and one step of a request: what it is answered, its audit, and the
+-- world after it.
+use Rattle.std.specs.Prelude.{◌≡◌, ◌≢◌, ℕ, ◌≤◌, pos, ◌+◌, ◌%◌, ◌^◌, All, [], List, length, Option, Some, None, Result, Ok, Err}
 use Rattle.std.specs.declared.alloc.AllocError.{AllocError}
 use Rattle.message_core.specs.Canon.{canon_reply, answer_to}
+use Rattle.message_core.specs.declared.binding.Binding.{Binding}
 use Rattle.message_core.specs.declared.limits.TheConstants.{MAX_COMMUNITY}
 use Rattle.message_core.specs.declared.reply.Reply.{Reply}
 use Rattle.message_core.specs.declared.request.Kind.TheVariants.{Set}
 use Rattle.message_core.specs.declared.request.Request.{Request}
 use Rattle.message_core.specs.declared.status.ErrorStatus.TheVariants.{NoError}
 use Rattle.vacm_core.specs.Families.{in_view}
+use Rattle.community_core.specs.Communities.{PolicyTables}
 use Rattle.decision.specs.Deciding.{decision_on}
 use Rattle.decision.specs.declared.choice.Cause.{Cause}
 use Rattle.decision.specs.declared.choice.Cause.TheVariants.{UnknownCommunity, NoSuchContext}
@@ -16,13 +19,30 @@ use Rattle.decision.specs.declared.choice.Decision.TheVariants.{Drop, Empty, Ref
 use Rattle.decision.specs.declared.keys.AccessKey.{AccessKey}
 use Rattle.audit_core.specs.declared.audit.Audit.{Audit}
 use Rattle.audit_core.specs.declared.denied.Denied.{Denied}
+use Rattle.setphase_core.specs.declared.world.World.{World}
+use Rattle.setphase_core.specs.Objects.{ObjectRow}
+use Rattle.setphase_core.specs.Registry.{prefixes_of, instances}
 use Rattle.agent_core.specs.Buffered.{Buffered}
-use Rattle.agent_core.specs.World.{Shown, World, shown_of}
 use Rattle.agent_core.specs.Denying.{denied_in}
 use Rattle.agent_core.specs.Replies.{reply_within_limit, refusal_reply, kind_reply}
 use Rattle.agent_core.specs.declared.answered.Answered.{Answered}
 use Rattle.agent_core.specs.declared.answered.Answered.TheVariants as answered
 use Rattle.agent_core.specs.declared.sent_reply.SentReply.{SentReply}
+
+-- what is shown: the names of the objects, the instances by rising name, and who may see which of
+-- them
+pub record Shown : Type 0 where
+  pub objects : List (List ℕ)
+  pub instances : List Binding
+  pub policy : PolicyTables
+
+-- what objects of these rows show of a world
+abbrev pub shown_of : List ObjectRow → World → Shown
+shown_of rows world = record {
+  objects = prefixes_of rows;
+  instances = instances rows world;
+  policy = world.policy;
+}
 
 -- what a request comes to
 pub data Outcome : Type 0 where
@@ -31,30 +51,48 @@ pub data Outcome : Type 0 where
   -- a request has this reply, and is audited
   replied : (reply : Reply) (audit : Audit) → Outcome
 
--- A request that is dropped is audited by its kind and the cause; its status and index mean nothing.
+-- A request that is dropped is audited by its kind and the cause; its status and index mean
+-- nothing.
 abbrev pub drop_audit : Request → Cause → Audit
-drop_audit request cause = record { kind = request.kind; status = NoError; index = pos 0; decision = Drop cause; denied = [] }
+drop_audit request cause = record {
+  kind = request.kind;
+  status = NoError;
+  index = pos 0;
+  decision = Drop cause;
+  denied = [];
+}
 
 abbrev pub drop_outcome : Request → Cause → Outcome
 drop_outcome request cause = dropped cause (drop_audit request cause)
 
--- A request that has a reply is audited by its kind, the status and the index as they are sent, the decision, and the denied bindings.
+-- A request that has a reply is audited by its kind, the status and the index as they are sent, the
+-- decision, and the denied bindings.
 abbrev pub reply_audit : Request → Decision → List Denied → Reply → Audit
-reply_audit request decision denied reply =
-    record { kind = request.kind; status = reply.status; index = reply.index; decision = decision; denied = denied }
+reply_audit request decision denied reply = record {
+  kind = request.kind;
+  status = reply.status;
+  index = reply.index;
+  decision = decision;
+  denied = denied;
+}
 
 abbrev pub reply_outcome : Request → Decision → List Denied → Reply → Outcome
-reply_outcome request decision denied reply = replied reply (reply_audit request decision denied reply)
+reply_outcome request decision denied reply =
+    replied reply (reply_audit request decision denied reply)
 
--- The outcome by the decision. A request with no bindings is answered noError with none, whatever its kind; the standard says
--- nothing of it.
+-- The outcome by the decision. A request with no bindings is answered noError with none, whatever
+-- its kind; the standard says nothing of it.
 abbrev pub outcome_by : Shown → Request → Decision → Outcome
 outcome_by shown request (Drop cause) = drop_outcome request cause
-outcome_by shown request Empty = reply_outcome request Empty [] (reply_within_limit (answer_to request NoError (pos 0) []))
-outcome_by shown request (Refused why) = reply_outcome request (Refused why) [] (refusal_reply request)
+outcome_by shown request Empty =
+    reply_outcome request Empty [] (reply_within_limit (answer_to request NoError (pos 0) []))
+outcome_by shown request (Refused why) =
+    reply_outcome request (Refused why) [] (refusal_reply request)
 outcome_by shown request (Allowed row view) =
-    reply_outcome request (Allowed row view) (denied_in shown.policy.vacm.families view request request.kind)
-    (kind_reply shown.objects (in_view shown.policy.vacm.families view) shown.instances request request.kind)
+    reply_outcome request (Allowed row view)
+    (denied_in shown.policy.vacm.families view request request.kind)
+    (kind_reply shown.objects (in_view shown.policy.vacm.families view) shown.instances request
+    request.kind)
 
 unfoldable pub outcome_of : Shown → Request → Outcome
 outcome_of shown request = outcome_by shown request (decision_on shown.policy request)
@@ -76,6 +114,13 @@ reply_of shown request = reply_in (outcome_of shown request)
 abbrev pub audit_of : Shown → Request → Audit
 audit_of shown request = audit_in (outcome_of shown request)
 
+-- the same objects are shown, and two views agree on whether each asked name is in them
+pub record AgreesOnAsked (shown other : Shown) (view other_view : List ℕ) (request : Request) :
+    Type 0 where
+  pub objects : shown.objects ≡ other.objects
+  pub asked : All (λ b. in_view shown.policy.vacm.families view b.name
+      ≡ in_view other.policy.vacm.families other_view b.name) request.bindings
+
 -- Answering a request may take memory: it is let in to a view, and reads.
 pub record TakesMemory (shown : Shown) (request : Request) : Type 0 where
   pub row : AccessKey
@@ -89,26 +134,33 @@ one_more count = (count + 1) % 2 ^ 32
 
 -- one more request that this cause drops
 abbrev pub with_count_of : World → Cause → World
-with_count_of world UnknownCommunity = record world { bad_communities = one_more world.bad_communities }
-with_count_of world (NoSuchContext name) = record world { unknown_contexts = one_more world.unknown_contexts }
+with_count_of world UnknownCommunity =
+    record world { bad_communities = one_more world.bad_communities }
+with_count_of world (NoSuchContext name) =
+    record world { unknown_contexts = one_more world.unknown_contexts }
 
--- A request that is dropped is counted, and nothing else changes: `counted` is the world with one more request that a cause drops.
-abbrev pub world_by : (W : Type 0) → (W → Cause → W) → W → Decision → W
-world_by W counted world (Drop cause) = counted world cause
-world_by W counted world Empty = world
-world_by W counted world (Refused why) = world
-world_by W counted world (Allowed row view) = world
+-- A request that is dropped is counted, and nothing else changes.
+abbrev pub world_by : World → Decision → World
+world_by world (Drop cause) = with_count_of world cause
+world_by world Empty = world
+world_by world (Refused why) = world
+world_by world (Allowed row view) = world
 
 unfoldable pub world_after : World → Request → World
-world_after world request = world_by World with_count_of world (decision_on world.policy request)
+world_after world request = world_by world (decision_on world.policy request)
 
--- One step of a request: its outcome, and the world after it. It sends no BPDU, since nothing can be written.
-pub record Step (W : Type 0) : Type 0 where
+-- One step of a request: its outcome, and the world after it. It sends no BPDU, since nothing can
+-- be written.
+pub record Step : Type 0 where
   pub outcome : Outcome
-  pub world : W
+  pub world : World
 
-abbrev pub step_of : World → Request → Step World
-step_of world request = record { outcome = outcome_of (shown_of world) request; world = world_after world request }
+-- the step of a request over objects of these rows and a world
+abbrev pub step_of : List ObjectRow → World → Request → Step
+step_of rows world request = record {
+  outcome = outcome_of (shown_of rows world) request;
+  world = world_after world request;
+}
 
 -- a reply stands in the buffer in its minimal encoding, and this is told of it
 pub record IsSent (reply : Reply) (sent : SentReply) (buffer : Buffered) : Type 0 where
@@ -117,31 +169,34 @@ pub record IsSent (reply : Reply) (sent : SentReply) (buffer : Buffered) : Type 
   pub status : sent.status ≡ reply.status
   pub index : sent.index ≡ reply.index
 
--- A reply stands in the buffer in its minimal encoding, or the request is dropped and the buffer is empty; and the audit is told.
+-- A reply stands in the buffer in its minimal encoding, or the request is dropped and the buffer is
+-- empty; and the audit is told.
 abbrev pub IsAnswered : Outcome → Answered → Buffered → Type 0
 IsAnswered (replied reply audit) (answered.Reply len told) buffer =
     (buffer.reply ≡ canon_reply reply) × (len ≡ length (canon_reply reply)) × (told ≡ audit)
 IsAnswered (replied reply audit) (answered.NoReply told) buffer = ⊥
 IsAnswered (dropped cause audit) (answered.Reply len told) buffer = ⊥
-IsAnswered (dropped cause audit) (answered.NoReply told) buffer = (buffer.reply ≡ []) × (told ≡ audit)
+IsAnswered (dropped cause audit) (answered.NoReply told) buffer =
+    (buffer.reply ≡ []) × (told ≡ audit)
 
 -- the step is done: the outcome is told, and the world is as it makes it
-pub record IsDone (W : Type 0) (step : Step W) (told : Answered) (buffer : Buffered) (later : W) : Type 0 where
+pub record IsDone (step : Step) (told : Answered) (buffer : Buffered) (later : World) :
+    Type 0 where
   pub answer : IsAnswered step.outcome told buffer
   pub world : later ≡ step.world
 
--- There was no memory for the step: nothing is changed and nothing told, and the request is one whose answer may take some.
-pub record IsShort (W : Type 0) (shown : Shown) (before : W) (request : Request) (buffer : Buffered) (later : W) : Type 0 where
+-- There was no memory for the step: nothing is changed and nothing told, and the request is one
+-- whose answer may take some.
+pub record IsShort (rows : List ObjectRow) (before : World) (request : Request)
+    (buffer : Buffered) (later : World) : Type 0 where
   pub empty : buffer.reply ≡ []
   pub unchanged : later ≡ before
-  pub kept : TakesMemory shown request
+  pub kept : TakesMemory (shown_of rows before) request
   pub community : length request.community ≤ MAX_COMMUNITY
 
--- a step from a world that shows this, as far as there is memory for it
-abbrev pub IsStepFrom : (W : Type 0) → Shown → Step W → W → Request → Result Answered AllocError → Buffered → W → Type 0
-IsStepFrom W shown step before request (Ok told) buffer later = IsDone W step told buffer later
-IsStepFrom W shown step before request (Err e) buffer later = IsShort W shown before request buffer later
-
--- a step over a plain world
-abbrev pub IsStep : World → Request → Result Answered AllocError → Buffered → World → Type 0
-IsStep before request result buffer later = IsStepFrom World (shown_of before) (step_of before request) before request result buffer later
+-- a step over objects of these rows and a world, as far as there is memory for it
+abbrev pub IsStep : List ObjectRow → World → Request → Result Answered AllocError → Buffered →
+    World → Type 0
+IsStep rows before request (Ok told) buffer later =
+    IsDone (step_of rows before request) told buffer later
+IsStep rows before request (Err e) buffer later = IsShort rows before request buffer later

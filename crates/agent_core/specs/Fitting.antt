@@ -10,14 +10,17 @@ use Rattle.message_core.specs.declared.status.ErrorStatus.TheVariants.{NoError}
 abbrev pub reply_size : Request → List Binding → ℕ
 reply_size request bindings = length (canon_reply (answer_to request NoError (pos 0) bindings))
 
--- the longest front of a list, of at most so many elements, that passes the test; none where none passes
+-- the longest front of a list, of at most so many elements, that passes the test; none where none
+-- passes
 abbrev pub longest_front : (List Binding → Bool) → ℕ → List Binding → List Binding
 longest_front passes zero all = []
-longest_front passes (suc most) all = if passes (take (suc most) all) then take (suc most) all else longest_front passes most all
+longest_front passes (suc most) all =
+    if passes (take (suc most) all) then take (suc most) all else longest_front passes most all
 
 -- The longest front of the whole list whose reply is not too long.
 unfoldable pub fitting_front : Request → List Binding → List Binding
-fitting_front request all = longest_front (λ front. nat_le (reply_size request front) MAX_REPLY) (length all) all
+fitting_front request all =
+    longest_front (λ front. nat_le (reply_size request front) MAX_REPLY) (length all) all
 
 -- a front of a list
 abbrev pub IsFront : List Binding → List Binding → Type 0
@@ -27,13 +30,15 @@ IsFront front all = (rest : List Binding) × (front ++ rest ≡ all)
 pub record IsLongestFitting (request : Request) (all sent : List Binding) : Type 0 where
   pub front : IsFront sent all
   pub fits : reply_size request sent ≤ MAX_REPLY
-  pub longest : (other : List Binding) → IsFront other all → reply_size request other ≤ MAX_REPLY → length other ≤ length sent
+  pub longest : (other : List Binding) → IsFront other all → reply_size request other ≤ MAX_REPLY →
+      length other ≤ length sent
 
 -- A binding has so many octets or more: its head, a name and a value.
 abbrev pub least_binding : ℕ
 least_binding = 6
 
--- For a list that is sent as far as it fits, no more successors need to be found: one for each binding, and one that does not fit.
+-- For a list that is sent as far as it fits, no more successors need to be found: one for each
+-- binding, and one that does not fit.
 abbrev pub most_successors : ℕ
 most_successors = MAX_REPLY / least_binding + 1
 
@@ -49,4 +54,5 @@ fit_into room bindings = nat_le (total bindings) room
 pub record IsFilled (room : ℕ) (all sent : List Binding) : Type 0 where
   pub rest : List Binding
   pub front : sent ++ rest ≡ all
-  pub full : (next : Binding) (more : List Binding) → rest ≡ next ∷ more → fit_into room (sent ++ next ∷ []) ≡ false
+  pub full : (next : Binding) (more : List Binding) → rest ≡ next ∷ more →
+      fit_into room (sent ++ next ∷ []) ≡ false

@@ -1,6 +1,5 @@
 pub mod Reading
 pub mod Looking
-pub mod World
 pub mod Denying
 pub mod Buffered
 pub mod Bulk
@@ -8,4 +7,3 @@ pub mod Fitting
 pub mod Sending
 pub mod Replies
 pub mod Answers
-pub mod Serving

@@ -1,4 +1,6 @@
--- What Get and GetNext answer over the instances that are seen (RFC 3416, 4.2.1 and 4.2.2). That a name counts as known to Get by what the view shows is this agent's choice: so a hidden instance leaves no trace.
+-- What Get and GetNext answer over the instances that are seen (RFC 3416, 4.2.1 and 4.2.2). That a
+-- name counts as known to Get by what the view shows is this agent's choice: so a hidden instance
+-- leaves no trace.
 use Rattle.std.specs.Prelude.{ℕ, Bool, false, if◌then◌else◌, ◌||◌, List, map, filter, find, Option, Some, None}
 use Rattle.std.specs.List.{list_any}
 use Rattle.oid_core.specs.Order.{is_prefix}
@@ -42,12 +44,16 @@ abbrev pub or_missing : Option Value → Bool → Value
 or_missing (Some value) known = value
 or_missing None known = if known then NoSuchInstance else NoSuchObject
 
--- What Get answers under a name: `rows` are the instances that are seen, and `shown` says whether the name is in the view.
+-- What Get answers under a name: `rows` are the instances that are seen, and `shown` says whether
+-- the name is in the view.
 abbrev pub get_answer : List (List ℕ) → Bool → List Binding → List ℕ → Binding
-get_answer objects shown rows name =
-    record { name = name; value = or_missing (value_of rows name) (is_known shown rows (object_of objects name)) }
+get_answer objects shown rows name = record {
+  name = name;
+  value = or_missing (value_of rows name) (is_known shown rows (object_of objects name));
+}
 
 -- the bindings that Get answers, one for each asked name, in order
-abbrev pub get_answers : List (List ℕ) → (List ℕ → Bool) → List Binding → List Binding → List Binding
+abbrev pub get_answers : List (List ℕ) → (List ℕ → Bool) → List Binding → List Binding →
+    List Binding
 get_answers objects shows rows asked =
     map (λ b. get_answer objects (shows b.name) (visible shows rows) b.name) asked

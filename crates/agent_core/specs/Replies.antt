@@ -1,5 +1,5 @@
 -- Whole replies (RFC 3416, 4.2), and walks.
-use Rattle.std.specs.Prelude.{◌≡◌, All, ℕ, zero, suc, pos, Bool, if◌then◌else◌, nat_lt, List, [], ◌∷◌, length}
+use Rattle.std.specs.Prelude.{ℕ, zero, suc, pos, Bool, if◌then◌else◌, nat_lt, List, [], ◌∷◌, length}
 use Rattle.message_core.specs.Canon.{canon_reply, answer_to}
 use Rattle.message_core.specs.declared.binding.Binding.{Binding}
 use Rattle.message_core.specs.declared.limits.TheConstants.{MAX_REPLY}
@@ -8,8 +8,6 @@ use Rattle.message_core.specs.declared.request.Kind.TheVariants.{Get, GetNext, S
 use Rattle.message_core.specs.declared.request.Request.{Request}
 use Rattle.message_core.specs.declared.reply.Reply.{Reply}
 use Rattle.message_core.specs.declared.status.ErrorStatus.TheVariants.{NoError, TooBig, GenErr, AuthorizationError}
-use Rattle.vacm_core.specs.Families.{in_view}
-use Rattle.agent_core.specs.World.{Shown}
 use Rattle.message_core.specs.Instances.{names_of}
 use Rattle.agent_core.specs.Reading.{visible, get_answers, next_answer, next_answers}
 use Rattle.agent_core.specs.Bulk.{asked_list}
@@ -22,37 +20,42 @@ reply_within_limit reply =
     then record reply { status = TooBig; index = pos 0; bindings = [] }
     else reply
 
--- what answers a failure of no binding of its own, as want of memory: genErr, index 0, the request's bindings
+-- what answers a failure of no binding of its own, as want of memory: genErr, index 0, the
+-- request's bindings
 abbrev pub failure_reply : Request → Reply
 failure_reply request = reply_within_limit (answer_to request GenErr (pos 0) request.bindings)
 
--- The replies to Get, GetNext and GetBulk, by the names of the objects, the names that a view shows, and the instances.
+-- The replies to Get, GetNext and GetBulk, by the names of the objects, the names that a view
+-- shows, and the instances.
 
 abbrev pub get_reply : List (List ℕ) → (List ℕ → Bool) → List Binding → Request → Reply
-get_reply objects shows rows request = reply_within_limit (answer_to request NoError (pos 0) (get_answers objects shows rows request.bindings))
+get_reply objects shows rows request = reply_within_limit
+    (answer_to request NoError (pos 0) (get_answers objects shows rows request.bindings))
 
 abbrev pub next_reply : (List ℕ → Bool) → List Binding → Request → Reply
-next_reply shows rows request = reply_within_limit (answer_to request NoError (pos 0) (next_answers (visible shows rows) (names_of request.bindings)))
+next_reply shows rows request = reply_within_limit
+    (answer_to request NoError (pos 0)
+    (next_answers (visible shows rows) (names_of request.bindings)))
 
 -- GetBulk is never too long: it sends the longest front of its list that fits.
 abbrev pub bulk_reply : (List ℕ → Bool) → List Binding → Request → Reply
-bulk_reply shows rows request = answer_to request NoError (pos 0) (fitting_front request (asked_list (visible shows rows) request))
+bulk_reply shows rows request =
+    answer_to request NoError (pos 0)
+    (fitting_front request (asked_list (visible shows rows) request))
 
--- The reply to a request that has bindings, by its kind. Nothing can be written, so a Set is answered genErr.
+-- The reply to a request that has bindings, by its kind. Nothing can be written, so a Set is
+-- answered genErr.
 abbrev pub kind_reply : List (List ℕ) → (List ℕ → Bool) → List Binding → Request → Kind → Reply
 kind_reply objects shows rows request Get = get_reply objects shows rows request
 kind_reply objects shows rows request GetNext = next_reply shows rows request
 kind_reply objects shows rows request Set = failure_reply request
 kind_reply objects shows rows request GetBulk = bulk_reply shows rows request
 
--- a request that the tables of access control halt: authorizationError, index 0, the request's bindings (RFC 3413, section 3.2)
+-- a request that the tables of access control halt: authorizationError, index 0, the request's
+-- bindings (RFC 3413, section 3.2)
 abbrev pub refusal_reply : Request → Reply
-refusal_reply request = reply_within_limit (answer_to request AuthorizationError (pos 0) request.bindings)
-
--- the same objects are shown, and two views agree on whether each asked name is in them
-pub record AgreesOnAsked (shown other : Shown) (view other_view : List ℕ) (request : Request) : Type 0 where
-  pub objects : shown.objects ≡ other.objects
-  pub asked : All (λ b. in_view shown.policy.vacm.families view b.name ≡ in_view other.policy.vacm.families other_view b.name) request.bindings
+refusal_reply request =
+    reply_within_limit (answer_to request AuthorizationError (pos 0) request.bindings)
 
 -- the answers to so many GetNext, each of the name that the one before answered
 abbrev pub walk : List Binding → ℕ → List ℕ → List Binding

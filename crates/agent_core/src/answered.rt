@@ -6,6 +6,7 @@ use audit_core::Audit;
 pub enum Answered {
     /// A reply of so many octets, which stands in the buffer, and the audit.
     Reply(usize, Audit),
-    /// The request is dropped, since its community or its context is not known; the audit says which.
+    /// The request is dropped, since its community or its context is not known; the audit says
+    /// which.
     NoReply(Audit),
 }

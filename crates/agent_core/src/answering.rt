@@ -4,8 +4,9 @@ ghost use Rattle.message_core.specs.Canon.{canon_reply};
 ghost use Rattle.message_core.specs.Encodable.{AreEncodable};
 ghost use Rattle.message_core.specs.declared.limits.TheConstants.{MAX_COMMUNITY};
 ghost use Rattle.vacm_core.specs.Families.{in_view};
+ghost use Rattle.setphase_core.specs.Registry.{rows_of, prefixes_of, instances};
 ghost use Rattle.agent_core.specs.Replies.{kind_reply, failure_reply};
-ghost use Rattle.agent_core.specs.Answers.{IsSent, IsStep, drop_audit};
+ghost use Rattle.agent_core.specs.Answers.{IsSent, IsStep, drop_audit, with_count_of};
 
 use crate::answered::Answered;
 use crate::buffer::Buffer;
@@ -14,43 +15,48 @@ use crate::denying::denied_bindings;
 use crate::getting::get_all;
 use crate::nexts::get_next_all;
 use crate::sent_reply::SentReply;
+use crate::served::Served;
 use crate::source::{Source, View};
 use crate::views::PolicyView;
-use crate::world::PlainWorld;
 use audit_core::{Audit, DeniedBindings};
 use decision::{Cause, Decision, decide};
 use message_core::{ErrorStatus, Kind, Request};
+use setphase_core::{MibObject, Registry, World};
 use std::alloc::{AllocError, Global};
 use std::marker::Brand;
 use std::sync::ledger::{Blank, Ledger};
 use steps::Steps;
 use vacm_core::Name;
 
-/// Answers a request over a plain world by RFC 3416, 4.2, as the policy lets its caller see it (RFC 3415, 3.2). The buffer holds
-/// the reply in its minimal encoding, or nothing where the request is dropped; a drop is counted, and nothing else changes in the
-/// world.
+/// Answers a request by RFC 3416, 4.2, over what the objects show of the world, as its policy lets
+/// the caller see it (RFC 3415, 3.2). The buffer holds the reply in its minimal encoding, or
+/// nothing where the request is dropped; a drop is counted, modulo 2^32, and nothing else changes
+/// in the world, and nothing in the objects.
 /// How often a GetBulk looks for a successor is said by `get_bulk`, and by no clause here.
 ///
-/// The caller hands in a request whose names and OBJECT IDENTIFIER values have an encoding, as `decode` gives it.
+/// The caller hands in a request whose names and OBJECT IDENTIFIER values have an encoding, as
+/// `decode` gives it.
 ///
 /// # Errors
-/// Only memory can fail: then the buffer is empty, the world is as before, and the request is one that is let in to a view and
-/// reads.
+/// Only memory can fail: then the buffer is empty, the world is as before, and the request is one
+/// that is let in to a view and reads.
 /// A request that is dropped or refused, one without bindings and a Set take none.
 #[tactic(auto, unfolding(crate::specs::Answers::outcome_of, crate::specs::Answers::world_after))]
-pub fn answer(
+pub fn answer<O: MibObject>(
     alloc: Global,
-    world: &mut PlainWorld,
+    registry: &mut Registry<O>,
+    world: &mut World,
     request: &Request,
     buffer: &mut Buffer,
 ) -> Result<Answered, AllocError>
     requires { AreEncodable request.now.bindings }
-    ensures { IsStep world.old request.now result buffer.new world.new }
+    ensures step { IsStep (rows_of registry.old) world.old request.now result buffer.new world.new }
+    ensures objects { registry.new ≡ registry.old }
 {
     buffer.clear();
-    match decide(world.policy(), request) {
+    match decide(&world.policy, request) {
         Decision::Drop(cause) => {
-            world.count(&cause);
+            count(world, &cause);
             Ok(drop_request(alloc, request, cause))
         }
         Decision::Empty => {
@@ -60,23 +66,35 @@ pub fn answer(
         }
         Decision::Refused(why) => {
             let none = DeniedBindings::new(alloc);
-            let sent = buffer.put(
-                request,
-                ErrorStatus::AuthorizationError,
-                request.bindings.as_slice(),
-            );
+            let asked = request.bindings.as_slice();
+            let sent = buffer.put(request, ErrorStatus::AuthorizationError, asked);
             Ok(reply_with(request, Decision::Refused(why), none, sent))
         }
         Decision::Allowed { row, view } => {
-            let denied = denied_bindings(alloc, world.policy().vacm(), &view, request)?;
-            let sent = send_allowed(alloc, world, &view, request, buffer)?;
+            let denied = denied_bindings(alloc, world.policy.vacm(), &view, request)?;
+            let sent = send_allowed(alloc, registry, world, &view, request, buffer)?;
             Ok(reply_with(request, Decision::Allowed { row, view }, denied, sent))
         }
     }
 }
 
+// Counts a request that this cause drops (RFC 3418, snmpInBadCommunityNames; RFC 3413,
+// snmpUnknownContexts).
+fn count(world: &mut World, cause: &Cause)
+    ensures { world.new ≡ with_count_of world.old cause.now }
+{
+    match cause {
+        Cause::UnknownCommunity => {
+            world.bad_communities = world.bad_communities.wrapping_add(1);
+        }
+        Cause::NoSuchContext(_) => {
+            world.unknown_contexts = world.unknown_contexts.wrapping_add(1);
+        }
+    }
+}
+
 // What a request is answered that is dropped. Takes no memory.
-pub(crate) fn drop_request(alloc: Global, request: &Request, cause: Cause) -> Answered
+fn drop_request(alloc: Global, request: &Request, cause: Cause) -> Answered
     ensures { result ≡ Answered.NoReply (drop_audit request.now cause) }
 {
     Answered::NoReply(Audit {
@@ -89,7 +107,7 @@ pub(crate) fn drop_request(alloc: Global, request: &Request, cause: Cause) -> An
 }
 
 // What a request is answered whose reply stands in the buffer.
-pub(crate) fn reply_with(
+fn reply_with(
     request: &Request,
     decision: Decision,
     denied: DeniedBindings,
@@ -115,10 +133,11 @@ pub(crate) fn reply_with(
     )
 }
 
-/// Writes the reply to a request that found no memory (RFC 3416, 4.2.1): genErr, index 0, its own bindings, or tooBig where that
-/// is too long.
-/// It takes no memory, and answers how many octets the reply has. The community has at most `MAX_COMMUNITY`, 255,
-/// octets, and the names and OBJECT IDENTIFIER values have an encoding: `answer` fails for no other request.
+/// Writes the reply to a request that found no memory (RFC 3416, 4.2.1): genErr, index 0, its own
+/// bindings, or tooBig where that is too long.
+/// It takes no memory, and answers how many octets the reply has. The community has at most
+/// `MAX_COMMUNITY`, 255, octets, and the names and OBJECT IDENTIFIER values have an encoding:
+/// `answer` fails for no other request.
 pub fn short_reply(request: &Request, buffer: &mut Buffer) -> usize
     requires community { length request.now.community ≤ MAX_COMMUNITY }
     requires encodable { AreEncodable request.now.bindings }
@@ -130,32 +149,34 @@ pub fn short_reply(request: &Request, buffer: &mut Buffer) -> usize
         .length
 }
 
-// Puts the reply to a request that is allowed in a view into the buffer. What follows is over any source and any view.
-fn send_allowed(
+// Puts the reply to a request that is allowed in a view into the buffer. Its looks are counted in a
+// new ledger, and by no clause here.
+fn send_allowed<O: MibObject>(
     alloc: Global,
-    world: &PlainWorld,
+    registry: &Registry<O>,
+    world: &World,
     view: &Name,
     request: &Request,
     buffer: &mut Buffer,
 ) -> Result<SentReply, AllocError>
     requires community { length request.now.community ≤ MAX_COMMUNITY }
     requires encodable { AreEncodable request.now.bindings }
-    ensures sent { IfOk result (λ sent. IsSent (kind_reply world.now.objects (in_view
-        world.now.policy.vacm.families view.now) world.now.instances request.now request.now.kind)
+    ensures sent { IfOk result (λ sent. IsSent (kind_reply (prefixes_of (rows_of registry.now))
+        (in_view world.now.policy.vacm.families view.now)
+        (instances (rows_of registry.now) world.now) request.now request.now.kind)
         sent buffer.new) }
     ensures err { OnErr result (buffer.new ≡ buffer.old) }
     ensures takes { OnErr result (request.now.kind ≢ Kind.Set) }
 {
-    let vacm = world.policy().vacm();
-    let view = PolicyView { vacm, view };
-    send_kind::<PlainWorld, PolicyView, Brand>(alloc, world, &view, request, buffer, Blank::new(1))
+    send_served::<O, Brand>(alloc, registry, world, view, request, buffer, Blank::new(1))
 }
 
-// Answers a request by its kind, and counts nothing: the ledger is a new one.
-pub(crate) fn send_kind<S: Source, V: View, L: Ledger>(
+// The same, by the ledger of a blank.
+fn send_served<O: MibObject, L: Ledger>(
     alloc: Global,
-    source: &S,
-    view: &V,
+    registry: &Registry<O>,
+    world: &World,
+    view: &Name,
     request: &Request,
     buffer: &mut Buffer,
     blank: Blank,
@@ -165,19 +186,43 @@ pub(crate) fn send_kind<S: Source, V: View, L: Ledger>(
     requires name { blank.name ≡ L.name }
     requires parts { blank.parts ≡ L.parts }
     requires some { 0 < blank.parts }
+    ensures sent { IfOk result (λ sent. IsSent (kind_reply (prefixes_of (rows_of registry.now))
+        (in_view world.now.policy.vacm.families view.now)
+        (instances (rows_of registry.now) world.now) request.now request.now.kind)
+        sent buffer.new) }
+    ensures err { OnErr result (buffer.new ≡ buffer.old) }
+    ensures takes { OnErr result (request.now.kind ≢ Kind.Set) }
+{
+    let mut steps: Steps<L> = Steps::new(blank);
+    let source = Served { registry, world };
+    let vacm = world.policy.vacm();
+    let view = PolicyView { vacm, view };
+    send_kind(alloc, &source, &view, request, buffer, &mut steps)
+}
+
+// Answers a request by its kind, from any source and under any view.
+fn send_kind<S: Source<L>, V: View, L: Ledger>(
+    alloc: Global,
+    source: &S,
+    view: &V,
+    request: &Request,
+    buffer: &mut Buffer,
+    steps: &mut Steps<L>,
+) -> Result<SentReply, AllocError>
+    requires community { length request.now.community ≤ MAX_COMMUNITY }
+    requires encodable { AreEncodable request.now.bindings }
     ensures sent { IfOk result (λ sent.
         IsSent (kind_reply (S.objects source.now) (V.shows view.now)
         (S.instances source.now) request.now request.now.kind) sent buffer.new) }
     ensures err { OnErr result (buffer.new ≡ buffer.old) }
     ensures takes { OnErr result (request.now.kind ≢ Kind.Set) }
 {
-    let mut steps: Steps<L> = Steps::new(blank);
     let asked = request.bindings.as_slice();
     source.known();
     let answers = match request.kind {
-        Kind::Get => get_all(alloc, source, view, asked, &mut steps)?,
-        Kind::GetNext => get_next_all(alloc, source, view, asked, &mut steps)?,
-        Kind::GetBulk => get_bulk(alloc, source, view, request, &mut steps)?,
+        Kind::Get => get_all(alloc, source, view, asked, steps)?,
+        Kind::GetNext => get_next_all(alloc, source, view, asked, steps)?,
+        Kind::GetBulk => get_bulk(alloc, source, view, request, steps)?,
         Kind::Set => return Ok(buffer.put(request, ErrorStatus::GenErr, asked)),
     };
     Ok(buffer.put(request, ErrorStatus::NoError, answers.as_slice()))

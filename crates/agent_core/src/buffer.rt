@@ -11,7 +11,8 @@ use message_core::laws::short_reply_fits;
 use message_core::{Binding, ErrorStatus, MAX_REPLY, Request, TooBig, encode_answer};
 use std::marker::Model;
 
-/// Room for what one event gives to send: one reply of at most `MAX_REPLY`, 1,472, octets. It takes no memory.
+/// Room for what one event gives to send: one reply of at most `MAX_REPLY`, 1,472, octets. It takes
+/// no memory.
 #[derive(Drop)]
 pub struct Buffer {
     octets: [u8; MAX_REPLY],
@@ -55,8 +56,8 @@ impl Buffer {
         self.length = 0;
     }
 
-    /// Puts the reply to a request in, or tooBig without bindings where that is too long (RFC 3416, 4.2.1), and says what was
-    /// put. Takes no memory.
+    /// Puts the reply to a request in, or tooBig without bindings where that is too long (RFC 3416,
+    /// 4.2.1), and says what was put. Takes no memory.
     pub(crate) fn put(
         &mut self,
         request: &Request,

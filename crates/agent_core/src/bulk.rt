@@ -13,7 +13,7 @@ ghost use Rattle.message_core.specs.declared.binding.Binding.{Binding};
 
 use crate::nexts::get_next;
 use crate::sent::Sent;
-use crate::source::{Source, View};
+use crate::source::{Successors, View};
 use message_core::{Binding, Bindings, Request, Value, bindings_room};
 use oid_core::Oid;
 use std::alloc::{AllocError, Global};
@@ -21,7 +21,7 @@ use std::sync::ledger::Ledger;
 use steps::Steps;
 
 // Sends what GetNext answers under a name where there is room for it, and says whether there was.
-fn send_next<S: Source, V: View, L: Ledger>(
+fn send_next<S: Successors<L>, V: View, L: Ledger>(
     alloc: Global,
     source: &S,
     view: &V,
@@ -45,8 +45,9 @@ fn send_next<S: Source, V: View, L: Ledger>(
     sent.offer(row)
 }
 
-// Sends one repetition, GetNext of each name, as far as there is room, and says whether there was room for all of it.
-fn repeat_once<S: Source, V: View, L: Ledger>(
+// Sends one repetition, GetNext of each name, as far as there is room, and says whether there was
+// room for all of it.
+fn repeat_once<S: Successors<L>, V: View, L: Ledger>(
     alloc: Global,
     source: &S,
     view: &V,
@@ -101,9 +102,9 @@ fn has_ended(row: &[Binding]) -> bool
 
 // Sends up to `most` repetitions from the names on, as far as there is room.
 //
-// Each but the last sends a binding for each name and so takes room: there are no more repetitions than bindings that fit, and
-// one, whatever `most` is.
-fn repeat<S: Source, V: View, L: Ledger>(
+// Each but the last sends a binding for each name and so takes room: there are no more repetitions
+// than bindings that fit, and one, whatever `most` is.
+fn repeat<S: Successors<L>, V: View, L: Ledger>(
     alloc: Global,
     source: &S,
     view: &V,
@@ -136,7 +137,7 @@ fn repeat<S: Source, V: View, L: Ledger>(
 }
 
 // Sends the first `once` names once, and the others up to `most` times, as far as there is room.
-fn send_list<S: Source, V: View, L: Ledger>(
+fn send_list<S: Successors<L>, V: View, L: Ledger>(
     alloc: Global,
     source: &S,
     view: &V,
@@ -187,13 +188,14 @@ fn max_repetitions(request: &Request) -> u32
     count_of(request.second)
 }
 
-/// What GetBulk answers (RFC 3416, 4.2.3): the longest front of the list that it asks for whose reply has at most `MAX_REPLY`,
-/// 1,472, octets.
+/// What GetBulk answers (RFC 3416, 4.2.3): the longest front of the list that it asks for whose
+/// reply has at most `MAX_REPLY`, 1,472, octets.
 ///
-/// Each look at the source is a step. There are at most `most_looks` for each binding that is sent, and for one more, whatever
-/// max-repetitions says; so at most `most_successors`, 246, times as many, also where memory fails. `most_looks` is one more than
-/// the instances that the view hides. Only memory can fail.
-pub fn get_bulk<S: Source, V: View, L: Ledger>(
+/// Each look at the source is a step. There are at most `most_looks` for each binding that is sent,
+/// and for one more, whatever max-repetitions says; so at most `most_successors`, 246, times as
+/// many, also where memory fails. `most_looks` is one more than the instances that the view hides.
+/// Only memory can fail.
+pub fn get_bulk<S: Successors<L>, V: View, L: Ledger>(
     alloc: Global,
     source: &S,
     view: &V,

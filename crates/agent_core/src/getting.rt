@@ -17,7 +17,7 @@ use std::sync::ledger::Ledger;
 use steps::Steps;
 
 // The value under a name, where the view shows it.
-fn shown_value<S: Source, V: View>(
+fn shown_value<S: Source<L>, V: View, L: Ledger>(
     alloc: Global,
     source: &S,
     view: &V,
@@ -33,7 +33,7 @@ fn shown_value<S: Source, V: View>(
 }
 
 // Whether the view shows an instance whose name begins so.
-fn shows_below<S: Source, V: View, L: Ledger>(
+fn shows_below<S: Source<L>, V: View, L: Ledger>(
     alloc: Global,
     source: &S,
     view: &V,
@@ -55,8 +55,9 @@ fn shows_below<S: Source, V: View, L: Ledger>(
     }
 }
 
-// Whether an object begins the name, and the name is in the view or the view shows an instance of that object.
-fn knows_object<S: Source, V: View, L: Ledger>(
+// Whether an object begins the name, and the name is in the view or the view shows an instance of
+// that object.
+fn knows_object<S: Source<L>, V: View, L: Ledger>(
     alloc: Global,
     source: &S,
     view: &V,
@@ -89,10 +90,11 @@ fn missing(known: bool) -> Value
     }
 }
 
-/// What Get answers under a name (RFC 3416, 4.2.1), over the instances that the view shows. Only memory can fail.
+/// What Get answers under a name (RFC 3416, 4.2.1), over the instances that the view shows. Only
+/// memory can fail.
 ///
 /// It looks for one successor at most, to see whether an object has an instance in the view.
-pub fn get<S: Source, V: View, L: Ledger>(
+pub fn get<S: Source<L>, V: View, L: Ledger>(
     alloc: Global,
     source: &S,
     view: &V,
@@ -119,7 +121,7 @@ pub fn get<S: Source, V: View, L: Ledger>(
 }
 
 /// What Get answers to each asked name, in order (RFC 3416, 4.2.1). Only memory can fail.
-pub fn get_all<S: Source, V: View, L: Ledger>(
+pub fn get_all<S: Source<L>, V: View, L: Ledger>(
     alloc: Global,
     source: &S,
     view: &V,

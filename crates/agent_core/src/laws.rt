@@ -1,4 +1,5 @@
-//! Laws of what a manager can see, over the definitions alone. Each stands on a function that does nothing.
+//! Laws of what a manager can see, over the definitions alone. Each stands on a function that does
+//! nothing.
 ghost use Rattle.std.specs.Prelude.{◌≡◌, ◌*◌, ◌≤◌, ℕ, suc, Bool, List, [], ◌∷◌, ◌++◌, length, All, IsTrue, Some};
 ghost use Rattle.message_core.specs.declared.binding.Binding.{Binding};
 ghost use Rattle.message_core.specs.declared.request.Request.{Request};
@@ -8,7 +9,6 @@ ghost use Rattle.decision.specs.declared.keys.AccessKey.{AccessKey};
 ghost use Rattle.decision.specs.declared.choice.Decision.TheVariants.{Allowed};
 ghost use Rattle.decision.specs.Deciding.{decision_on};
 ghost use Rattle.setphase_core.specs.Registry.{AreApart};
-ghost use Rattle.agent_core.specs.World.{Shown};
 ghost use Rattle.oid_core.specs.Order.{is_prefix};
 ghost use Rattle.message_core.specs.Instances.{IsRising, after};
 ghost use Rattle.message_core.specs.declared.limits.TheConstants.{MAX_COMMUNITY, MAX_REPLY};
@@ -16,12 +16,13 @@ ghost use Rattle.agent_core.specs.Reading.{visible, object_of, end_under};
 ghost use Rattle.agent_core.specs.Looking.{most_looks};
 ghost use Rattle.agent_core.specs.Bulk.{repetitions, IsRepeated};
 ghost use Rattle.agent_core.specs.Fitting.{fitting_front, least_binding, IsLongestFitting};
-ghost use Rattle.agent_core.specs.Replies.{AgreesOnAsked, get_reply, next_reply, bulk_reply, walk, last_name};
-ghost use Rattle.agent_core.specs.Answers.{reply_of};
+ghost use Rattle.agent_core.specs.Replies.{get_reply, next_reply, bulk_reply, walk, last_name};
+ghost use Rattle.agent_core.specs.Answers.{Shown, AgreesOnAsked, reply_of};
 
-/// Only what is visible matters (RFC 3416, 4.2.1 to 4.2.3): where two worlds let the caller in and show it the same instances,
-/// the replies to GetNext and to GetBulk are equal, and so is the reply to Get where they have the same objects and the views
-/// also agree on whether each asked name is in them.
+/// Only what is visible matters (RFC 3416, 4.2.1 to 4.2.3): where two worlds let the caller in and
+/// show it the same instances, the replies to GetNext and to GetBulk are equal, and so is the reply
+/// to Get where they have the same objects and the views also agree on whether each asked name is
+/// in them.
 ///
 /// In particular a hidden instance that exists is answered as one that does not.
 pub fn same_visible()
@@ -46,8 +47,8 @@ pub fn same_visible()
         reply_of shown request ≡ reply_of other request }
 {}
 
-/// A walk lists all (RFC 3416, 4.2.2): from any name, GetNext over and over lists the rest of what the view shows, in order and
-/// each once, and then endOfMibView under the last name.
+/// A walk lists all (RFC 3416, 4.2.2): from any name, GetNext over and over lists the rest of what
+/// the view shows, in order and each once, and then endOfMibView under the last name.
 pub fn walk_lists_all()
     ensures { (shows : List ℕ → Bool) (rows : List Binding) (name : List ℕ) → IsRising rows →
         let rest = after name (visible shows rows) in
@@ -55,23 +56,24 @@ pub fn walk_lists_all()
         rest ++ end_under (last_name name rest) ∷ [] }
 {}
 
-/// Where no object's name begins another's, the object of a name is the one that begins it: there is no other.
+/// Where no object's name begins another's, the object of a name is the one that begins it: there
+/// is no other.
 pub fn one_object()
     ensures { (objects : List (List ℕ)) (name : List ℕ) → AreApart objects →
         All (λ object. IsTrue (is_prefix object name) →
         object_of objects name ≡ Some object) objects }
 {}
 
-/// What GetBulk sends (RFC 3416, 4.2.3) is the longest front of its list that fits into a reply; a community has at most
-/// `MAX_COMMUNITY` octets.
+/// What GetBulk sends (RFC 3416, 4.2.3) is the longest front of its list that fits into a reply; a
+/// community has at most `MAX_COMMUNITY` octets.
 pub fn fitting_is_longest()
     ensures { (request : Request) (all : List Binding) → length request.community ≤ MAX_COMMUNITY →
         IsLongestFitting request all (fitting_front request all) }
 {}
 
-/// A GetBulk repeats (RFC 3416, 4.2.3): the binding of repetition r and column c is the r-th successor of that column's name,
-/// each counted from 0. There are as many repetitions as are asked for, or fewer where the last is all endOfMibView and none
-/// before it is.
+/// A GetBulk repeats (RFC 3416, 4.2.3): the binding of repetition r and column c is the r-th
+/// successor of that column's name, each counted from 0. There are as many repetitions as are asked
+/// for, or fewer where the last is all endOfMibView and none before it is.
 pub fn repetitions_are_successors()
     ensures { (rows : List Binding) (names : List (List ℕ)) (most : ℕ) →
         (count : ℕ) × IsRepeated rows names most count (repetitions rows most names) }

@@ -1,22 +1,22 @@
-//! Requests answered by RFC 3416 over what a policy lets their caller see (RFC 3415), with an audit of each.
+//! Requests answered by RFC 3416 over what a policy lets their caller see (RFC 3415), with an audit
+//! of each.
 //!
 //! # Entry points
-//! [`answer`] is one step of a request over a [`PlainWorld`], [`answer_served`] over a `Registry`
-//! of managed objects and the `World` that they show: its reply stands in a [`Buffer`], its audit
-//! is given, a drop is counted; [`short_reply`] writes the reply for a want of memory, and takes
-//! none. [`get`], [`get_next`] and [`get_bulk`] answer from any [`Source`] under any [`View`], and
-//! each look for a successor is a step.
+//! [`answer`] is one step of a request over a `Registry` of managed objects and the `World` that
+//! they show: its reply stands in a [`Buffer`], its audit is given, a drop is counted;
+//! [`short_reply`] writes the reply for a want of memory, and takes none. Under any [`View`]
+//! [`get`] answers from any [`Source`], and [`get_next`] and [`get_bulk`] from any [`Successors`],
+//! of which they can ask nothing but the next instance: each such look is a step.
 //!
 //! # Definitions
-//! `specs/Answers.antt`: the step; `specs/Serving.antt`: the step over objects;
-//! `specs/Replies.antt`: replies by kind, and the size rule; `specs/Reading.antt`: what is visible,
-//! Get and GetNext; `specs/Looking.antt`: the looks that a successor takes; `specs/Bulk.antt`,
-//! `specs/Fitting.antt`: GetBulk; `specs/Denying.antt`: denied bindings; `specs/World.antt`: the
-//! plain world.
+//! `specs/Answers.antt`: what objects show of a world, and the step; `specs/Replies.antt`: replies
+//! by kind, and the size rule; `specs/Reading.antt`: what is visible, Get and GetNext; `specs/Looking.antt`: the looks that a successor takes; `specs/Bulk.antt`,
+//! `specs/Fitting.antt`: GetBulk; `specs/Denying.antt`: denied bindings.
 //!
 //! # Laws
-//! In [`laws`]: replies hang on nothing but what is visible; repeated GetNext lists all of it; a name has one object;
-//! repetitions are successors; the longest front that fits; one look where nothing is hidden.
+//! In [`laws`]: replies hang on nothing but what is visible; repeated GetNext lists all of it; a
+//! name has one object; repetitions are successors; the longest front that fits; one look where
+//! nothing is hidden.
 //!
 //! # Not claimed
 //! That memory was refused where want of it is answered; Set, which is genErr today.
@@ -34,10 +34,8 @@ mod reading;
 mod sent;
 mod sent_reply;
 mod served;
-mod serving;
 mod source;
 mod views;
-mod world;
 
 pub use answered::Answered;
 pub use answering::{answer, short_reply};
@@ -46,7 +44,5 @@ pub use bulk::get_bulk;
 pub use denying::denied_bindings;
 pub use getting::get;
 pub use nexts::get_next;
-pub use serving::answer_served;
-pub use source::{Source, View};
+pub use source::{Source, Successors, View};
 pub use views::PolicyView;
-pub use world::{PlainWorld, WorldFault};

@@ -7,7 +7,7 @@ ghost use Rattle.agent_core.specs.Reading.{visible, next_answer, next_answers, e
 ghost use Rattle.agent_core.specs.Looking.{most_looks};
 
 use crate::reading::next_shown;
-use crate::source::{Source, View};
+use crate::source::{Successors, View};
 use message_core::{Binding, Bindings, Value};
 use oid_core::Oid;
 use std::alloc::{AllocError, Global};
@@ -27,10 +27,11 @@ fn end_under(alloc: Global, name: &Oid) -> Result<Binding, AllocError>
     })
 }
 
-/// What GetNext answers under a name (RFC 3416, 4.2.2), over the instances that the view shows. Only memory can fail.
+/// What GetNext answers under a name (RFC 3416, 4.2.2), over the instances that the view shows.
+/// Only memory can fail.
 ///
 /// It looks at the source at most once for each instance that the view hides, and once more.
-pub fn get_next<S: Source, V: View, L: Ledger>(
+pub fn get_next<S: Successors<L>, V: View, L: Ledger>(
     alloc: Global,
     source: &S,
     view: &V,
@@ -49,9 +50,9 @@ pub fn get_next<S: Source, V: View, L: Ledger>(
     }
 }
 
-/// What GetNext answers under each asked name, in order (RFC 3416, 4.2.2), by the looks of one successor for each. Only memory
-/// can fail.
-pub fn get_next_all<S: Source, V: View, L: Ledger>(
+/// What GetNext answers under each asked name, in order (RFC 3416, 4.2.2), by the looks of one
+/// successor for each. Only memory can fail.
+pub fn get_next_all<S: Successors<L>, V: View, L: Ledger>(
     alloc: Global,
     source: &S,
     view: &V,

@@ -4,16 +4,16 @@ ghost use Rattle.message_core.specs.Instances.{next_of};
 ghost use Rattle.agent_core.specs.Reading.{visible};
 ghost use Rattle.agent_core.specs.Looking.{most_looks};
 
-use crate::source::{Source, View};
+use crate::source::{Successors, View};
 use message_core::Binding;
 use oid_core::Oid;
 use std::alloc::{AllocError, Global};
 use std::sync::ledger::Ledger;
 use steps::Steps;
 
-/// The first instance after a name that the view shows (RFC 3416, 4.2.2). Each look at the source is a step: one for each
-/// hidden instance that is passed over, and one more. Only memory can fail.
-pub fn next_shown<S: Source, V: View, L: Ledger>(
+/// The first instance after a name that the view shows (RFC 3416, 4.2.2). Each look at the source
+/// is a step: one for each hidden instance that is passed over, and one more. Only memory can fail.
+pub fn next_shown<S: Successors<L>, V: View, L: Ledger>(
     alloc: Global,
     source: &S,
     view: &V,
@@ -35,8 +35,9 @@ pub fn next_shown<S: Source, V: View, L: Ledger>(
     Ok(None)
 }
 
-// The first instance after another one, which is let go here: in the loop it would be let go beside what is found.
-fn next_row<S: Source, L: Ledger>(
+// The first instance after another one, which is let go here: in the loop it would be let go beside
+// what is found.
+fn next_row<S: Successors<L>, L: Ledger>(
     alloc: Global,
     source: &S,
     row: Binding,

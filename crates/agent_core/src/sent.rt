@@ -8,7 +8,8 @@ use message_core::{Binding, Bindings, encoded_len};
 use std::alloc::{AllocError, Global};
 use std::marker::Model;
 
-/// The bindings of a GetBulk's reply so far, and the octets that they may have (RFC 3416, 4.2.3: as many as fit).
+/// The bindings of a GetBulk's reply so far, and the octets that they may have (RFC 3416, 4.2.3: as
+/// many as fit).
 #[derive(Drop)]
 pub struct Sent {
     bindings: Vec<Binding>,
@@ -40,8 +41,8 @@ impl Sent {
         }
     }
 
-    /// Adds a binding where there is room for it (RFC 3416, 4.2.3), and says whether there was. Only memory can fail; then
-    /// nothing changes but that the binding is let go.
+    /// Adds a binding where there is room for it (RFC 3416, 4.2.3), and says whether there was.
+    /// Only memory can fail; then nothing changes but that the binding is let go.
     pub fn offer(&mut self, binding: Binding) -> Result<bool, AllocError>
         requires { IsEncodableBinding binding }
         ensures taken { IfOk result (λ taken. IsTrue taken →

@@ -2,7 +2,7 @@
 ghost use Rattle.std.specs.Prelude.{◌≡◌, ◌≤◌, length, IfOk};
 ghost use Rattle.oid_core.specs.declared.limits.TheConstants.{MAX_NUMBERS};
 
-use crate::source::Source;
+use crate::source::{Source, Successors};
 use message_core::{Binding, Value};
 use oid_core::{Oid, OidFault};
 use setphase_core::{MibObject, Registry, World};
@@ -33,16 +33,30 @@ fn object_name(alloc: Global, prefix: &[u32]) -> Result<Oid, AllocError>
     }
 }
 
-impl<O: MibObject> Source for Served<'_, O> {
-    ghost use Rattle.setphase_core.specs.Registry.{rows_of, prefixes_of, instances};
+impl<O: MibObject, L: Ledger> Successors<L> for Served<'_, O> {
+    ghost use Rattle.setphase_core.specs.Registry.{rows_of, instances};
 
     ghost instances = { λ s. instances (rows_of s.registry.now) s.world.now };
-
-    ghost objects = { λ s. prefixes_of (rows_of s.registry.now) };
 
     fn known(&self) {
         self.registry.known(self.world);
     }
+
+    fn next(
+        &self,
+        alloc: Global,
+        name: &Oid,
+        steps: &mut Steps<L>,
+    ) -> Result<Option<Binding>, AllocError> {
+        steps.tick();
+        self.registry.next(alloc, self.world, name.as_slice())
+    }
+}
+
+impl<O: MibObject, L: Ledger> Source<L> for Served<'_, O> {
+    ghost use Rattle.setphase_core.specs.Registry.{rows_of, prefixes_of};
+
+    ghost objects = { λ s. prefixes_of (rows_of s.registry.now) };
 
     fn object(&self, alloc: Global, name: &Oid) -> Result<Option<Oid>, AllocError> {
         self.registry.known(self.world);
@@ -54,15 +68,5 @@ impl<O: MibObject> Source for Served<'_, O> {
 
     fn get(&self, alloc: Global, name: &Oid) -> Result<Option<Value>, AllocError> {
         Ok(self.registry.read(alloc, self.world, name.as_slice()))
-    }
-
-    fn next<L: Ledger>(
-        &self,
-        alloc: Global,
-        name: &Oid,
-        steps: &mut Steps<L>,
-    ) -> Result<Option<Binding>, AllocError> {
-        steps.tick();
-        self.registry.next(alloc, self.world, name.as_slice())
     }
 }

@@ -1,4 +1,4 @@
-//! What requests are answered from, and what a view shows, as traits.
+//! What a walk and a request are answered from, and what a view shows, as traits.
 ghost use Rattle.std.specs.Prelude.{◌≡◌, ◌+◌, IfOk};
 
 use message_core::{Binding, Value};
@@ -19,36 +19,25 @@ pub trait View {
         ensures { result ≡ shows self.now name.now };
 }
 
-/// Instances in the order of their names, each of which can be served, and the objects that they belong to, none of which begins
-/// another.
-pub trait Source {
-    ghost use Rattle.std.specs.Prelude.{List, ℕ};
-    ghost use Rattle.agent_core.specs.Reading.{object_of};
-    ghost use Rattle.agent_core.specs.World.{IsSource};
-    ghost use Rattle.message_core.specs.Instances.{next_of, value_of};
+/// Instances in the order of their names, each of which can be served, as a walk sees them: it may
+/// ask for the one after a name, and each time is a step in the ledger that the trait names. A
+/// function of this bound alone asks for no value, and counts its looks in no other ledger.
+pub trait Successors<L: Ledger> {
+    ghost use Rattle.std.specs.Prelude.{List};
+    ghost use Rattle.message_core.specs.Instances.{IsServable, next_of};
     ghost use Rattle.message_core.specs.declared.binding.Binding.{Binding};
 
     // All instances.
     ghost instances: { Self → List Binding };
 
-    // The names of the objects.
-    ghost objects: { Self → List (List ℕ) };
-
-    /// Hands on that the names rise, that each instance can be served, and that no object's name begins another's. It does
-    /// nothing, and only proofs want it.
+    /// Hands on that the names rise and that each instance can be served. It does nothing, and only
+    /// proofs want it.
     fn known(&self)
-        ensures { IsSource (instances self.now) (objects self.now) };
+        ensures { IsServable (instances self.now) };
 
-    /// The name of the object whose name begins a name, where there is one. Only memory can fail.
-    fn object(&self, alloc: Global, name: &Oid) -> Result<Option<Oid>, AllocError>
-        ensures { IfOk result (λ found. found ≡ object_of (objects self.now) name.now) };
-
-    /// A copy of the value under a name, where an instance has that name (RFC 3416, 4.2.1). Only memory can fail.
-    fn get(&self, alloc: Global, name: &Oid) -> Result<Option<Value>, AllocError>
-        ensures { IfOk result (λ found. found ≡ value_of (instances self.now) name.now) };
-
-    /// A copy of the first instance after a name, where there is one (RFC 3416, 4.2.2). It is one step. Only memory can fail.
-    fn next<L: Ledger>(
+    /// A copy of the first instance after a name, where there is one (RFC 3416, 4.2.2). It is one
+    /// step. Only memory can fail.
+    fn next(
         &self,
         alloc: Global,
         name: &Oid,
@@ -56,4 +45,26 @@ pub trait Source {
     ) -> Result<Option<Binding>, AllocError>
         ensures found { IfOk result (λ found. found ≡ next_of (instances self.now) name.now) }
         ensures work { steps.new ≡ steps.old + 1 };
+}
+
+/// The same instances with their values, and the objects that they belong to, none of which begins
+/// another.
+pub trait Source<L: Ledger>: Successors<L> {
+    ghost use Rattle.std.specs.Prelude.{List, ℕ};
+    ghost use Rattle.setphase_core.specs.Registry.{AreApart};
+    ghost use Rattle.agent_core.specs.Reading.{object_of};
+    ghost use Rattle.message_core.specs.Instances.{value_of};
+
+    // The names of the objects.
+    ghost objects: { Self → List (List ℕ) };
+
+    /// The name of the object whose name begins a name, where there is one. Only memory can fail.
+    fn object(&self, alloc: Global, name: &Oid) -> Result<Option<Oid>, AllocError>
+        ensures found { IfOk result (λ found. found ≡ object_of (objects self.now) name.now) }
+        ensures apart { AreApart (objects self.now) };
+
+    /// A copy of the value under a name, where an instance has that name (RFC 3416, 4.2.1). Only
+    /// memory can fail.
+    fn get(&self, alloc: Global, name: &Oid) -> Result<Option<Value>, AllocError>
+        ensures { IfOk result (λ found. found ≡ value_of (Self.instances self.now) name.now) };
 }

@@ -8,8 +8,7 @@ use Rattle.decision.specs.declared.choice.Decision.{Decision}
 use Rattle.decision.specs.declared.choice.Decision.TheVariants.{Drop, Empty, Refused, Allowed}
 use Rattle.frame_core.specs.declared.mac.Mac.{Mac}
 use Rattle.agent_core.specs.Buffered.{Buffered}
-use Rattle.agent_core.specs.World.{Shown}
-use Rattle.agent_core.specs.Answers.{outcome_by, outcome_of, IsAnswered}
+use Rattle.agent_core.specs.Answers.{Shown, outcome_by, outcome_of, IsAnswered}
 use Rattle.agent_core.specs.declared.answered.Answered.TheVariants.{NoReply}
 use Rattle.agent_script.specs.Events.{answer_output}
 use Rattle.agent_script.specs.Outputs.{drop_text, dropped_name, told_audit, output_text}

@@ -13,7 +13,7 @@ use Rattle.frame_core.specs.Reading.{frame_at}
 use Rattle.bridge_core.specs.Bridge.{port_count}
 use Rattle.community_core.specs.Communities.{PolicyTables}
 use Rattle.policy_text.specs.Texts.{policy_in}
-use Rattle.agent_core.specs.World.{World}
+use Rattle.setphase_core.specs.declared.world.World.{World}
 use Rattle.agent_core.specs.Answers.{one_more}
 use Rattle.agent_script.specs.Commands.{Command, request, frame, tick, link, policy, audit, counts, command_of}
 use Rattle.agent_script.specs.Events as event
@@ -89,7 +89,7 @@ policy_action lines line note = if bytes_eq line (codes "end") then end_action l
 
 abbrev pub action_in : Agent → Option (List ℕ) → List ℕ → Note → Action
 action_in agent (Some lines) line note = policy_action lines line note
-action_in agent None line note = command_action (command_of (port_count agent.system.bridge) line) note
+action_in agent None line note = command_action (command_of (port_count agent.system.world.bridge) line) note
 
 -- A line, inside a policy or outside, where it met this want of memory.
 unfoldable pub action_of : Agent → List ℕ → Note → Action

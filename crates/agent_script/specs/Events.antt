@@ -1,4 +1,4 @@
--- What an event is, what it makes of the world and the bridge, and what comes out.
+-- What an event is, what it makes of the world, and what comes out.
 use Rattle.std.specs.Prelude.{ℕ, Bool, true, false, List, [], Option}
 use Rattle.message_core.specs.declared.request.Request.{Request}
 use Rattle.message_core.specs.declared.reply.Reply.{Reply}
@@ -9,18 +9,25 @@ use Rattle.frame_core.specs.declared.bpdu.Bpdu.{Bpdu}
 use Rattle.frame_core.specs.declared.frame.FrameIn.{FrameIn}
 use Rattle.bridge_core.specs.Bridge.{BridgeState}
 use Rattle.bridge_core.specs.Events.{frame_result, tick_of, after_tick, link_of, after_link}
-use Rattle.agent_core.specs.World.{World, shown_of}
+use Rattle.setphase_core.specs.Objects.{ObjectState}
+use Rattle.setphase_core.specs.Registry.{rows_of}
+use Rattle.setphase_core.specs.declared.world.World.{World}
 use Rattle.agent_core.specs.Answers as answers
-use Rattle.agent_core.specs.Answers.{Outcome, outcome_of, world_after}
+use Rattle.agent_core.specs.Answers.{Outcome, Shown, shown_of, outcome_of, world_after}
 use Rattle.agent_core.specs.Replies.{failure_reply}
 
--- what events happen to
+-- what events happen to: managed objects, and the world that they show, with its bridge
 pub record System : Type 0 where
+  pub objects : List ObjectState
   pub world : World
-  pub bridge : BridgeState
 
-abbrev pub beside : World → BridgeState → System
-beside world bridge = record { world = world; bridge = bridge }
+-- what the objects show of the world
+abbrev pub shown_in : System → Shown
+shown_in s = shown_of (rows_of s.objects) s.world
+
+-- the bridge of the world as an event leaves it, and nothing else changed
+abbrev pub with_bridge : System → BridgeState → System
+with_bridge s bridge = record s { world = record s.world { bridge = bridge } }
 
 pub data Event : Type 0 where
   -- a request comes; `no_memory` notes that there was none for its answer
@@ -62,14 +69,25 @@ answer_output (answers.replied reply audit) = replied reply audit []
 abbrev pub step_of : System → Event → Step
 step_of s (request r true) = record { system = s; output = unanswered (failure_reply r) }
 step_of s (request r false) =
-    record { system = record s { world = world_after s.world r }; output = answer_output (outcome_of (shown_of s.world) r) }
+    record {
+      system = record s { world = world_after s.world r };
+      output = answer_output (outcome_of (shown_in s) r);
+    }
 step_of s (frame port fields no_room) =
-    let step = frame_result s.bridge port fields no_room in
-    record { system = record s { bridge = step.bridge }; output = forwarded step.egress step.bpdus }
-step_of s tick = record { system = record s { bridge = after_tick s.bridge }; output = sent (tick_of s.bridge).bpdus }
+    let step = frame_result s.world.bridge port fields no_room in
+    record { system = with_bridge s step.bridge; output = forwarded step.egress step.bpdus }
+step_of s tick =
+    record {
+      system = with_bridge s (after_tick s.world.bridge);
+      output = sent (tick_of s.world.bridge).bpdus;
+    }
 step_of s (link port up) =
-    record { system = record s { bridge = after_link port up s.bridge }; output = sent (link_of port up s.bridge).bpdus }
-step_of s (policy tables) = record { system = record s { world = record s.world { policy = tables } }; output = in_force }
+    record {
+      system = with_bridge s (after_link port up s.world.bridge);
+      output = sent (link_of port up s.world.bridge).bpdus;
+    }
+step_of s (policy tables) =
+    record { system = record s { world = record s.world { policy = tables } }; output = in_force }
 
 abbrev pub after_event : System → Event → System
 after_event s event = (step_of s event).system

@@ -1,4 +1,3 @@
-pub mod BuiltIn
 pub mod Commands
 pub mod CommandViews
 pub mod Events

@@ -12,10 +12,9 @@ use Rattle.frame_core.specs.Reading.{frame_at}
 use Rattle.policy_text.specs.Texts.{HasContent}
 use Rattle.bridge_core.specs.Bridge.{BridgeState, port_count}
 use Rattle.bridge_core.specs.Forwarding.{MayLackMemory}
-use Rattle.agent_core.specs.World.{World, shown_of}
 use Rattle.agent_core.specs.Answers.{TakesMemory}
 use Rattle.agent_script.specs.Commands.{Command, request, frame, tick, link, policy, audit, counts, command_of}
-use Rattle.agent_script.specs.Events.{System}
+use Rattle.agent_script.specs.Events.{System, shown_in}
 use Rattle.agent_script.specs.State.{Agent}
 use Rattle.agent_script.specs.declared.note.Note.{Note}
 use Rattle.agent_script.specs.declared.note.Note.TheVariants.{Nothing, RequestNotRead, RequestNotAnswered, SourceNotLearned, PolicyNotRead}
@@ -70,20 +69,21 @@ Case true A B = A
 Case false A B = B
 
 -- A request: its answer may find no memory, where it takes some.
-abbrev pub MayMeetRequest : World → Request → Note → Type 0
-MayMeetRequest world r Nothing = Unit {0}
-MayMeetRequest world r RequestNotRead = ⊥
-MayMeetRequest world r RequestNotAnswered = TakesMemory (shown_of world) r
-MayMeetRequest world r SourceNotLearned = ⊥
-MayMeetRequest world r PolicyNotRead = ⊥
+abbrev pub MayMeetRequest : System → Request → Note → Type 0
+MayMeetRequest s r Nothing = Unit {0}
+MayMeetRequest s r RequestNotRead = ⊥
+MayMeetRequest s r RequestNotAnswered = TakesMemory (shown_in s) r
+MayMeetRequest s r SourceNotLearned = ⊥
+MayMeetRequest s r PolicyNotRead = ⊥
 
-abbrev pub MayMeetReading : World → Result Request DropCause → Note → Type 0
-MayMeetReading world (Ok r) note = MayMeetRequest world r note
-MayMeetReading world (Err cause) note = note ≡ Nothing
+abbrev pub MayMeetReading : System → Result Request DropCause → Note → Type 0
+MayMeetReading s (Ok r) note = MayMeetRequest s r note
+MayMeetReading s (Err cause) note = note ≡ Nothing
 
 -- A datagram: its request may find no memory, where reading it takes some.
-abbrev pub MayMeetDatagram : World → List ℕ → Note → Type 0
-MayMeetDatagram world datagram note = Case (is_unread note) (IsCause datagram Memory) (MayMeetReading world (request_at datagram) note)
+abbrev pub MayMeetDatagram : System → List ℕ → Note → Type 0
+MayMeetDatagram s datagram note =
+    Case (is_unread note) (IsCause datagram Memory) (MayMeetReading s (request_at datagram) note)
 
 -- A frame at a port: its source may find no memory, where it is to be learned in a row of its own.
 abbrev pub MayMeetFields : BridgeState → ℕ → FrameIn → Note → Type 0
@@ -100,8 +100,8 @@ MayMeetFrame b port (Err fault) note = note ≡ Nothing
 -- A command, or a line that is none: the others meet none.
 abbrev pub MayMeetCommand : System → Option Command → Note → Type 0
 MayMeetCommand s None note = note ≡ Nothing
-MayMeetCommand s (Some (request datagram)) note = MayMeetDatagram s.world datagram note
-MayMeetCommand s (Some (frame port octets)) note = MayMeetFrame s.bridge port (frame_at octets) note
+MayMeetCommand s (Some (request datagram)) note = MayMeetDatagram s datagram note
+MayMeetCommand s (Some (frame port octets)) note = MayMeetFrame s.world.bridge port (frame_at octets) note
 MayMeetCommand s (Some (tick seconds)) note = note ≡ Nothing
 MayMeetCommand s (Some (link port up)) note = note ≡ Nothing
 MayMeetCommand s (Some policy) note = note ≡ Nothing
@@ -122,7 +122,7 @@ MayMeetPolicyLine lines line note = Case (bytes_eq line (codes "end")) (MayMeetE
 
 abbrev pub MayMeetIn : Agent → Option (List ℕ) → List ℕ → Note → Type 0
 MayMeetIn agent (Some lines) line note = MayMeetPolicyLine lines line note
-MayMeetIn agent None line note = MayMeetCommand agent.system (command_of (port_count agent.system.bridge) line) note
+MayMeetIn agent None line note = MayMeetCommand agent.system (command_of (port_count agent.system.world.bridge) line) note
 
 -- A line may meet this want of memory.
 unfoldable pub MayMeet : Agent → List ℕ → Note → Type 0
@@ -143,7 +143,7 @@ MayGiveUpCommand (Some counts) = Unit {0}
 -- any line of a policy may, since the policy is kept
 abbrev pub MayGiveUpIn : Agent → Option (List ℕ) → List ℕ → Type 0
 MayGiveUpIn agent (Some lines) line = Unit {0}
-MayGiveUpIn agent None line = MayGiveUpCommand (command_of (port_count agent.system.bridge) line)
+MayGiveUpIn agent None line = MayGiveUpCommand (command_of (port_count agent.system.world.bridge) line)
 
 -- A line that was read may be given up for want of memory.
 unfoldable pub MayGiveUp : Agent → List ℕ → Type 0

@@ -65,7 +65,7 @@ output_text on address in_force = codes "policy ok\n"
 
 -- what is said to an event
 abbrev pub event_text : Bool → System → Event → List ℕ
-event_text on s event = output_text on (address_of s.bridge) (output_of s event)
+event_text on s event = output_text on (address_of s.world.bridge) (output_of s event)
 
 -- so many seconds, one after another
 abbrev pub seconds_text : Bool → ℕ → System → List ℕ

@@ -1,7 +1,7 @@
 -- What a script's agent is.
 use Rattle.std.specs.Prelude.{ℕ, Bool, false, List, Option, None}
-use Rattle.agent_core.specs.World.{World}
-use Rattle.bridge_core.specs.Bridge.{BridgeState}
+use Rattle.setphase_core.specs.Objects.{ObjectState}
+use Rattle.setphase_core.specs.declared.world.World.{World}
 use Rattle.agent_script.specs.Events.{System}
 use Rattle.agent_script.specs.declared.drops.Drops.{Drops}
 
@@ -15,9 +15,9 @@ pub record Agent : Type 0 where
   pub policy_lines : Option (List ℕ)
 
 -- the agent at the start of a script
-abbrev pub opening_agent : World → BridgeState → Agent
-opening_agent world bridge = record {
-  system = record { world = world; bridge = bridge };
+abbrev pub opening_agent : List ObjectState → World → Agent
+opening_agent objects world = record {
+  system = record { objects = objects; world = world };
   is_auditing = false;
   drops = record { too_long = 0; malformed = 0; bad_version = 0; bad_kind = 0; memory = 0 };
   policy_lines = None;

@@ -16,44 +16,44 @@ use crate::commands::{Command, read_command};
 use crate::drops::Drops;
 use crate::note::{Note, note_of};
 use crate::saying::{cause_name, say_audit, say_counts, say_drop, say_dropped, say_reply};
-use agent_core::{Answered, Buffer, PlainWorld, answer, short_reply};
-use bridge_core::Bridge;
+use agent_core::{Answered, Buffer, answer, short_reply};
 use frame_core::read_frame;
 use message_core::{Request, decode};
 use policy_text::policy_in;
+use setphase_core::{MibObject, Registry, World};
 use std::alloc::{AllocError, Global};
 use std::marker::Model;
 
 /// The agent that a script drives.
 #[derive(Drop)]
-pub struct Agent {
-    world: PlainWorld,
-    bridge: Bridge,
+pub struct Agent<O: MibObject> {
+    registry: Registry<O>,
+    world: World,
     buffer: Buffer,
     is_auditing: bool,
     drops: Drops,
     policy_lines: Option<Vec<u8>>,
 }
 
-impl Model for Agent {
+impl<O: MibObject> Model for Agent<O> {
     ghost Value = { State };
 
     ghost view = { λ a. record {
-      system = record { world = a.world; bridge = a.bridge };
+      system = record { objects = a.registry; world = a.world };
       is_auditing = a.is_auditing;
       drops = a.drops;
       policy_lines = option_map (λ v. v.items) a.policy_lines;
     } };
 }
 
-impl Agent {
-    /// An agent over a world, beside a bridge, at the start of a script.
-    pub fn new(world: PlainWorld, bridge: Bridge) -> Agent
-        ensures { result ≡ opening_agent world bridge }
+impl<O: MibObject> Agent<O> {
+    /// An agent that serves what these objects show of this world, at the start of a script.
+    pub fn new(registry: Registry<O>, world: World) -> Agent<O>
+        ensures { result ≡ opening_agent registry world }
     {
         Agent {
+            registry,
             world,
-            bridge,
             buffer: Buffer::new(),
             is_auditing: false,
             drops: Drops::none(),
@@ -78,7 +78,7 @@ impl Agent {
         match self.policy_lines.take() {
             Some(lines) => self.policy_line(alloc, lines, line, out),
             None => {
-                let command = read_command(alloc, self.bridge.ports(), line)?;
+                let command = read_command(alloc, self.world.bridge.ports(), line)?;
                 self.command(alloc, command, out)
             }
         }
@@ -106,7 +106,7 @@ impl Agent {
         out: &mut Vec<u8>,
     ) -> Result<Note, AllocError>
         requires outside { self.old.policy_lines ≡ None }
-        requires ports { NamesPortOf (port_count self.old.system.bridge)
+        requires ports { NamesPortOf (port_count self.old.system.world.bridge)
             (option_map command_view command) }
         ensures met { IfOk result (λ note.
             MayMeetCommand self.old.system (option_map command_view command) note) }
@@ -122,8 +122,8 @@ impl Agent {
             None => out.extend_from_slice(b"badline\n")?,
             Some(Command::Request(datagram)) => return self.datagram(alloc, &datagram, out),
             Some(Command::Frame(port, octets)) => return self.frame(port, &octets, out),
-            Some(Command::Tick(seconds)) => say_ticks(&mut self.bridge, seconds, out)?,
-            Some(Command::Link(port, up)) => say_link(&mut self.bridge, port, up, out)?,
+            Some(Command::Tick(seconds)) => say_ticks(&mut self.world.bridge, seconds, out)?,
+            Some(Command::Link(port, up)) => say_link(&mut self.world.bridge, port, up, out)?,
             Some(Command::Policy) => self.policy_lines = Some(Vec::new(alloc)),
             Some(Command::Audit(on)) => self.is_auditing = on,
             Some(Command::Counts) => say_counts(&self.drops, &self.world, out)?,
@@ -139,7 +139,7 @@ impl Agent {
         out: &mut Vec<u8>,
     ) -> Result<Note, AllocError>
         ensures met { IfOk result (λ note.
-            MayMeetDatagram self.old.system.world datagram.now note) }
+            MayMeetDatagram self.old.system datagram.now note) }
         ensures said { IfOk result (λ note.
             out.new.items ≡ out.old.items ++ action_text self.old
             (datagram_action datagram.now note)) }
@@ -166,7 +166,7 @@ impl Agent {
         out: &mut Vec<u8>,
     ) -> Result<Note, AllocError>
         requires { AreEncodable request.now.bindings }
-        ensures met { IfOk result (λ note. MayMeetRequest self.old.system.world request.now note) }
+        ensures met { IfOk result (λ note. MayMeetRequest self.old.system request.now note) }
         ensures read { IfOk result (λ note. is_unread note ≡ false) }
         ensures said { IfOk result (λ note.
             out.new.items ≡ out.old.items ++ action_text self.old
@@ -174,7 +174,13 @@ impl Agent {
         ensures after { IfOk result (λ note.
             self.new ≡ after_action self.old (request_action request.now note)) }
     {
-        match answer(alloc, &mut self.world, request, &mut self.buffer) {
+        match answer(
+            alloc,
+            &mut self.registry,
+            &mut self.world,
+            request,
+            &mut self.buffer,
+        ) {
             Ok(Answered::Reply(_, audit)) => {
                 say_reply(self.buffer.reply(), out)?;
                 say_audit(alloc, self.is_auditing, &audit, out)?;
@@ -196,9 +202,9 @@ impl Agent {
     // Answers a frame's octets at a port.
     fn frame(&mut self, port: u16, octets: &[u8], out: &mut Vec<u8>) -> Result<Note, AllocError>
         requires first { 1 ≤ port }
-        requires last { port ≤ port_count self.old.system.bridge }
+        requires last { port ≤ port_count self.old.system.world.bridge }
         ensures met { IfOk result (λ note.
-            MayMeetFrame self.old.system.bridge port (frame_at octets.now) note) }
+            MayMeetFrame self.old.system.world.bridge port (frame_at octets.now) note) }
         ensures said { IfOk result (λ note.
             out.new.items ≡ out.old.items ++ action_text self.old (frame_action port
             (frame_at octets.now) note)) }
@@ -207,7 +213,7 @@ impl Agent {
     {
         match read_frame(octets) {
             Ok(fields) => {
-                if say_frame(&mut self.bridge, port, &fields, out)? {
+                if say_frame(&mut self.world.bridge, port, &fields, out)? {
                     Ok(Note::SourceNotLearned)
                 } else {
                     Ok(Note::Nothing)
@@ -261,7 +267,7 @@ impl Agent {
     {
         match policy_in(alloc, lines) {
             Ok(Some(policy)) => {
-                self.world.replace_policy(policy);
+                self.world.policy = policy;
                 out.extend_from_slice(b"policy ok\n")?;
                 Ok(Note::Nothing)
             }

@@ -5,8 +5,7 @@ ghost use Rattle.frame_core.specs.declared.bpdu.Bpdu.{Bpdu};
 ghost use Rattle.bridge_core.specs.Bridge.{address_of, port_count};
 ghost use Rattle.bridge_core.specs.Events.{frame_result, after_tick, tick_of, link_of, after_link};
 ghost use Rattle.bridge_core.specs.Forwarding.{MayLackMemory};
-ghost use Rattle.agent_core.specs.World.{World};
-ghost use Rattle.agent_script.specs.Events.{beside};
+ghost use Rattle.agent_script.specs.Events.{System, with_bridge};
 ghost use Rattle.agent_script.specs.Outputs.{bpdu_line, bpdu_lines, another_port, egress_text, forwarded_text, seconds_text, after_seconds};
 ghost use Rattle.agent_script.specs.Actions.{fault_name};
 
@@ -166,10 +165,10 @@ fn say_tick(bridge: &mut Bridge, out: &mut Vec<u8>) -> Result<(), AllocError>
 
 /// Appends what is sent as so many seconds pass.
 pub fn say_ticks(bridge: &mut Bridge, seconds: u32, out: &mut Vec<u8>) -> Result<(), AllocError>
-    ensures said { OnOk result ((on : Bool) (world : World) →
-        out.new.items ≡ out.old.items ++ seconds_text on seconds (beside world bridge.old)) }
-    ensures after { OnOk result ((world : World) →
-        beside world bridge.new ≡ after_seconds seconds (beside world bridge.old)) }
+    ensures said { OnOk result ((on : Bool) (s : System) →
+        out.new.items ≡ out.old.items ++ seconds_text on seconds (with_bridge s bridge.old)) }
+    ensures after { OnOk result ((s : System) →
+        with_bridge s bridge.new ≡ after_seconds seconds (with_bridge s bridge.old)) }
 {
     for i in 0..seconds {
         say_tick(bridge, out)?;

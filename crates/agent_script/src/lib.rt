@@ -1,12 +1,11 @@
 //! The script of the agent: what it says to each line.
 //!
 //! # Entry points
-//! [`run_script`] reads a script to its end over a world and beside a bridge; [`built_in_world`] is the world under a
-//! policy.
+//! [`run_script`] reads a script to its end over what managed objects show of a world.
 //!
 //! # Definitions
-//! `specs/Commands.antt`: which command a line is; `specs/Events.antt`: the step of an event, what it makes of world and
-//! bridge and what comes out; `specs/Outputs.antt`: how that is written; `specs/Actions.antt`: what a line does;
+//! `specs/Commands.antt`: which command a line is; `specs/Events.antt`: the step of an event, what it makes of the
+//! world and what comes out; `specs/Outputs.antt`: how that is written; `specs/Actions.antt`: what a line does;
 //! `specs/Notes.antt`: which want of memory a line may meet, and may be given up for; `specs/Script.antt`: the text of a script.
 //!
 //! # Laws
@@ -19,7 +18,6 @@
 
 mod agent;
 mod bridging;
-mod built_in;
 mod commands;
 mod drops;
 pub mod laws;
@@ -27,6 +25,5 @@ mod note;
 mod saying;
 mod session;
 
-pub use built_in::{NoWorld, built_in_world};
 pub use commands::MAX_SECONDS;
 pub use session::{Run, run_script};

@@ -6,11 +6,11 @@ ghost use Rattle.agent_script.specs.Outputs.{drop_text, dropped_name, told_audit
 ghost use Rattle.agent_script.specs.Actions.{cause_name, space_and_number, counts_text};
 
 use crate::drops::Drops;
-use agent_core::PlainWorld;
 use audit_core::{Audit, write_audit};
 use decision::{Cause, Decision};
 use message_core::DropCause;
 use script_core::words::write_hex;
+use setphase_core::World;
 use std::alloc::{AllocError, Global};
 use std::io::Write;
 
@@ -104,7 +104,7 @@ fn say_numbers(numbers: &[u32], out: &mut Vec<u8>) -> Result<(), AllocError>
 }
 
 /// Appends what was dropped.
-pub fn say_counts(drops: &Drops, world: &PlainWorld, out: &mut Vec<u8>) -> Result<(), AllocError>
+pub fn say_counts(drops: &Drops, world: &World, out: &mut Vec<u8>) -> Result<(), AllocError>
     ensures { OnOk result (out.new.items ≡ out.old.items ++ counts_text drops.now world.now) }
 {
     let counts = [
@@ -113,8 +113,8 @@ pub fn say_counts(drops: &Drops, world: &PlainWorld, out: &mut Vec<u8>) -> Resul
         drops.bad_version,
         drops.bad_kind,
         drops.memory,
-        world.bad_communities(),
-        world.unknown_contexts(),
+        world.bad_communities,
+        world.unknown_contexts,
     ];
     out.extend_from_slice(b"counts")?;
     say_numbers(&counts, out)?;

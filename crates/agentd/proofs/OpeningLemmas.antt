@@ -10,16 +10,8 @@ use Rattle.bridge_core.specs.Opening.{fault_of}
 use Rattle.configuration.specs.declared.configuration.Configuration.{Configuration}
 use Rattle.configuration.specs.Bounds.{IsWithinBounds}
 use Rattle.configuration.specs.Configurations.{IsConfigurationIn}
-use Rattle.policy_text.specs.Texts.{HasContent}
-use Rattle.policy_text.proofs.BlankLemmas.{has_content}
-use Rattle.configuration.proofs.BlankLemmas.{not_blank}
 use Rattle.configuration.proofs.BoundLemmas.{within_bounds}
 use Rattle.agentd.specs.Agents.{configs_of}
-
--- octets that say a configuration are a text that is not blank
-pub has_some : (octets : List ℕ) (c : Configuration) → IsConfigurationIn octets c → HasContent octets
-has_some octets c said =
-    has_content octets said.0 said.1 (not_blank said.0 said.2.0 said.2.1 (c.address, said.2.2.address))
 
 pub in_bounds : (octets : List ℕ) (c : Configuration) → IsConfigurationIn octets c → IsWithinBounds c
 in_bounds octets c said = within_bounds said.2.0 c said.2.2

@@ -1,9 +1,10 @@
--- The agent that a configuration opens.
-use Rattle.std.specs.Prelude.{◌≡◌, ℕ, List, map}
+-- The world that a configuration opens, and the objects that show it.
+use Rattle.std.specs.Prelude.{◌≡◌, ℕ, List, map, None}
 use Rattle.rstp_settings.specs.declared.config.PortConfig.{PortConfig}
 use Rattle.bridge_core.specs.Opening.{opening_bridge}
-use Rattle.agent_script.specs.BuiltIn.{built_in}
-use Rattle.agent_script.specs.State.{Agent, opening_agent}
+use Rattle.setphase_core.specs.Objects.{ObjectState}
+use Rattle.setphase_core.specs.Registry.{rows_of, first_fault, AreNamed}
+use Rattle.setphase_core.specs.declared.world.World.{World}
 use Rattle.configuration.specs.declared.configuration.Configuration.{Configuration}
 use Rattle.configuration.specs.declared.configuration.Port.{Port}
 use Rattle.configuration.specs.declared.fault.ConfigurationFault.{ConfigurationFault}
@@ -13,15 +14,27 @@ use Rattle.configuration.specs.Configurations.{IsConfigurationIn, IsFaultIn}
 abbrev pub configs_of : List Port → List PortConfig
 configs_of ports = map (λ port. port.config) ports
 
--- The built-in instances under the configuration's policy, beside a bridge of its address and its ports, as at the start of a script.
-abbrev pub agent_of : Configuration → Agent
-agent_of c = opening_agent (built_in c.policy) (opening_bridge c.address (configs_of c.ports.items))
+-- A bridge of the configuration's address and its ports, under its policy, of which nothing was
+-- dropped yet.
+abbrev pub world_of : Configuration → World
+world_of c = record {
+  bridge = opening_bridge c.address (configs_of c.ports.items);
+  policy = c.policy;
+  bad_communities = 0;
+  unknown_contexts = 0;
+}
 
--- the octets say a configuration, and it opens this agent
-pub record IsAgentOf (octets : List ℕ) (agent : Agent) : Type 0 where
+-- the octets say a configuration, and it opens this world
+pub record IsWorldOf (octets : List ℕ) (world : World) : Type 0 where
   pub configuration : Configuration
   pub said : IsConfigurationIn octets configuration
-  pub opened : agent ≡ agent_of configuration
+  pub opened : world ≡ world_of configuration
+
+-- Objects make a registry: each has a name that a registry asks for, and no pair of neighbours is at
+-- fault.
+pub record MakeRegistry (objects : List ObjectState) : Type 0 where
+  pub named : AreNamed (rows_of objects)
+  pub ordered : first_fault (rows_of objects) ≡ None
 
 -- the octets say none: they have a first fault
 abbrev pub HasFault : List ℕ → Type 0

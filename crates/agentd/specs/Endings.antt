@@ -7,7 +7,7 @@ use Rattle.script_core.specs.declared.fault.RunFault.{RunFault}
 use Rattle.script_core.specs.declared.fault.RunFault.TheVariants.{Input as InputFailed, Output as OutputFailed, Memory as NoMemory, Stopped as Given}
 use Rattle.agent_script.specs.declared.session.Run.{Run}
 use Rattle.agentd.specs.declared.opening.NotRun.{NotRun}
-use Rattle.agentd.specs.declared.opening.NotRun.TheVariants.{Refused as IsRefused, Memory, Stopped}
+use Rattle.agentd.specs.declared.opening.NotRun.TheVariants.{Refused as IsRefused, Memory, NoRegistry, Stopped}
 use Rattle.agentd.specs.declared.files.NotRead.{NotRead}
 use Rattle.agentd.specs.declared.files.NotRead.TheVariants.{Memory as FileMemory, Unreadable}
 use Rattle.agentd.specs.declared.words.Wrong.{Wrong}
@@ -80,6 +80,7 @@ read_failure (Unreadable file) = CannotRead file
 abbrev pub failure_of : NotRun → Failure
 failure_of IsRefused = Refused
 failure_of Memory = Refused
+failure_of NoRegistry = Refused
 failure_of (Stopped fault) = run_failure fault
 
 abbrev pub ended_by : Result Run NotRun → Result (Unit {0}) Failure

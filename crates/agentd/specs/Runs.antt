@@ -6,17 +6,20 @@ use Rattle.script_core.specs.declared.fault.RunFault.{RunFault}
 use Rattle.script_core.specs.declared.fault.RunFault.TheVariants.{Input, Output, Memory as NoMemory, Stopped as IsStopped}
 use Rattle.policy_text.specs.Texts.{HasContent}
 use Rattle.agent_script.specs.Script.{IsSaid, IsSaidBefore, IsGivenUp, IsSaidSome}
-use Rattle.agent_script.specs.State.{Agent}
+use Rattle.setphase_core.specs.Objects.{ObjectState}
+use Rattle.setphase_core.specs.declared.world.World.{World}
+use Rattle.agent_script.specs.State.{Agent, opening_agent}
 use Rattle.agent_script.specs.declared.session.Run.{Run}
 use Rattle.agentd.specs.declared.opening.NotRun.{NotRun}
-use Rattle.agentd.specs.declared.opening.NotRun.TheVariants.{Refused, Memory, Stopped}
-use Rattle.agentd.specs.Agents.{IsAgentOf, HasFault}
+use Rattle.agentd.specs.declared.opening.NotRun.TheVariants.{Refused, Memory, NoRegistry, Stopped}
+use Rattle.agentd.specs.Agents.{IsWorldOf, MakeRegistry, HasFault}
 
 -- Octets were not opened for this reason: what is refused says no configuration, and only a text
 -- that is not blank takes memory.
 abbrev pub IsNotOpened : List ℕ → NotRun → Type 0
 IsNotOpened octets Refused = HasFault octets
 IsNotOpened octets Memory = HasContent octets
+IsNotOpened octets NoRegistry = ⊥
 IsNotOpened octets (Stopped fault) = ⊥
 
 -- A reader that may tell which octets it has left, and a writer that may tell which it took.
@@ -51,17 +54,26 @@ module _ {I O : Type 0} (remaining : I → Option (List ℕ)) (contents : O → 
   IsRunOver agent reader reader' writer writer' (Err (Stopped fault)) = IsScriptRun agent reader reader' writer writer' (Err fault)
   IsRunOver agent reader reader' writer writer' (Err Refused) = ⊥
   IsRunOver agent reader reader' writer writer' (Err Memory) = ⊥
+  IsRunOver agent reader reader' writer writer' (Err NoRegistry) = ⊥
 
-  -- These octets say a configuration, and a script was run over the agent that it opens.
-  pub record HasRun (octets : List ℕ) (reader reader' : I) (writer writer' : O) (went : Result Run RunFault) : Type 0 where
-    pub agent : Agent
-    pub is : IsAgentOf octets agent
-    pub run : IsScriptRun agent reader reader' writer writer' went
+  -- These octets say a configuration, and a script was run over what these objects show of the world
+  -- that it opens.
+  pub record HasRun (objects : List ObjectState) (octets : List ℕ) (reader reader' : I)
+      (writer writer' : O) (went : Result Run RunFault) : Type 0 where
+    pub world : World
+    pub is : IsWorldOf octets world
+    pub run : IsScriptRun (opening_agent objects world) reader reader' writer writer' went
 
-  -- What came of octets: a run; a refusal of what is no configuration; or, of a text that is not
-  -- blank, want of memory before anything was read.
-  abbrev pub IsRunBy : List ℕ → I → I → O → O → Result Run NotRun → Type 0
-  IsRunBy octets reader reader' writer writer' (Ok run) = HasRun octets reader reader' writer writer' (Ok run)
-  IsRunBy octets reader reader' writer writer' (Err (Stopped fault)) = HasRun octets reader reader' writer writer' (Err fault)
-  IsRunBy octets reader reader' writer writer' (Err Refused) = HasFault octets × IsUntouched reader reader' writer writer'
-  IsRunBy octets reader reader' writer writer' (Err Memory) = HasContent octets × IsUntouched reader reader' writer writer'
+  -- What came of objects and octets: a run; a refusal of what is no configuration, or of objects that
+  -- make no registry; or, of a text that is not blank, want of memory before anything was read.
+  abbrev pub IsRunBy : List ObjectState → List ℕ → I → I → O → O → Result Run NotRun → Type 0
+  IsRunBy objects octets reader reader' writer writer' (Ok run) =
+      HasRun objects octets reader reader' writer writer' (Ok run)
+  IsRunBy objects octets reader reader' writer writer' (Err (Stopped fault)) =
+      HasRun objects octets reader reader' writer writer' (Err fault)
+  IsRunBy objects octets reader reader' writer writer' (Err Refused) =
+      HasFault octets × IsUntouched reader reader' writer writer'
+  IsRunBy objects octets reader reader' writer writer' (Err Memory) =
+      HasContent octets × IsUntouched reader reader' writer writer'
+  IsRunBy objects octets reader reader' writer writer' (Err NoRegistry) =
+      (MakeRegistry objects → ⊥) × IsUntouched reader reader' writer writer'

@@ -65,7 +65,7 @@ pub fn failure_of<'a>(why: NotRun) -> Failure<'a>
     ensures { result ≡ failure_of why }
 {
     match why {
-        NotRun::Refused | NotRun::Memory => Failure::Refused,
+        NotRun::Refused | NotRun::Memory | NotRun::NoRegistry => Failure::Refused,
         NotRun::Stopped(fault) => run_failure(fault),
     }
 }

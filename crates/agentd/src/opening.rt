@@ -1,19 +1,17 @@
-//! Opens the agent of a configuration.
-ghost use Rattle.std.specs.Prelude.{◌≡◌, ◌≤◌, IfOk, IfErr, length};
-ghost use Rattle.agent_script.specs.State.{opening_agent};
+//! Opens the world of a configuration, and the registry of objects.
+ghost use Rattle.std.specs.Prelude.{◌≡◌, ◌≤◌, IfOk, IfErr, length, map};
 ghost use Rattle.bridge_core.specs.Opening.{opening_bridge};
 ghost use Rattle.configuration.specs.Bounds.{IsWithinBounds};
 ghost use Rattle.configuration.specs.Configurations.{IsConfigurationIn};
-ghost use Rattle.agentd.specs.Agents.{configs_of, IsAgentOf};
+ghost use Rattle.agentd.specs.Agents.{configs_of, IsWorldOf, MakeRegistry};
 ghost use Rattle.agentd.specs.Runs.{IsNotOpened};
 
-use agent_core::PlainWorld;
-use agent_script::built_in_world;
 use arrayvec::ArrayVec;
 use bridge_core::Bridge;
 use configuration::{Configuration, ConfigurationFault, Port, configuration_in};
 use rstp_core::{MAX_PORTS, PortConfig};
 use script_core::RunFault;
+use setphase_core::{MibObject, Registry, World, are_named};
 use std::alloc::Global;
 
 /// Why the octets of a configuration were not run to the end of a script.
@@ -23,17 +21,10 @@ pub enum NotRun {
     Refused,
     /// There was no memory for the configuration or for what it opens; nothing was read or written.
     Memory,
+    /// The objects make no registry; nothing was read or written.
+    NoRegistry,
     /// The run stopped.
     Stopped(RunFault),
-}
-
-/// What a script runs over.
-#[derive(Drop)]
-pub struct Opened {
-    /// What requests are answered from.
-    pub world: PlainWorld,
-    /// The bridge beside it.
-    pub bridge: Bridge,
 }
 
 // What is fixed of each port.
@@ -73,20 +64,41 @@ fn read_configuration(alloc: Global, octets: &[u8]) -> Result<Configuration, Not
     }
 }
 
-/// Opens the agent of the configuration that octets say: the built-in instances under its policy, and a bridge of its address
-/// and its ports.
+/// Opens the world of the configuration that octets say: a bridge of its address and its ports, under
+/// its policy.
 ///
 /// # Errors
 /// `Refused` only where the octets say no configuration; `Memory` only where they are a text of more
 /// than white space and comments.
-pub fn open(alloc: Global, octets: &[u8]) -> Result<Opened, NotRun>
-    ensures agent { IfOk result (λ o. IsAgentOf octets.now (opening_agent o.world o.bridge)) }
+pub fn open(alloc: Global, octets: &[u8]) -> Result<World, NotRun>
+    ensures world { IfOk result (λ world. IsWorldOf octets.now world) }
     ensures fault { IfErr result (λ why. IsNotOpened octets.now why) }
 {
     let configuration = read_configuration(alloc, octets)?;
     let bridge = open_bridge(alloc, &configuration);
-    match built_in_world(alloc, configuration.policy) {
-        Ok(world) => Ok(Opened { world, bridge }),
-        Err(_) => Err(NotRun::Memory),
+    Ok(World {
+        bridge,
+        policy: configuration.policy,
+        bad_communities: 0,
+        unknown_contexts: 0,
+    })
+}
+
+/// The registry of these objects. It takes no memory.
+///
+/// # Errors
+/// `NoRegistry` exactly where they make none.
+pub fn registry_of<M: MibObject>(objects: Vec<M>) -> Result<Registry<M>, NotRun>
+    ensures registry { IfOk result (λ registry. registry ≡ map M.state objects.items) }
+    ensures makes { IfOk result (λ registry. MakeRegistry registry) }
+    ensures fault { IfErr result (λ why. (why ≡ NotRun.NoRegistry) ×
+        (MakeRegistry (map M.state objects.items) → ⊥)) }
+{
+    if !are_named(objects.as_slice()) {
+        return Err(NotRun::NoRegistry);
+    }
+    match Registry::new(objects) {
+        Ok(registry) => Ok(registry),
+        Err(_) => Err(NotRun::NoRegistry),
     }
 }

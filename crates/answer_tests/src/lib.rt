@@ -1,9 +1,8 @@
-//! Tests of answers over a plain world: which worlds there are, what is read under a view, and the
-//! reply for a want of memory; and of whole requests over managed objects.
+//! Tests of answers over managed objects and the world of a bridge: whole requests, what is read
+//! under a view, and the reply for a want of memory.
 //!
 //! # Entry points
-//! None: the tests call what `agent_core` offers. Whole requests over a plain world are tested
-//! through the script.
+//! None: the tests call what `agent_core` offers.
 //!
 //! # Definitions
 //! None.
@@ -22,10 +21,8 @@ mod objects;
 #[cfg(test)]
 mod reading;
 #[cfg(test)]
-mod served;
+mod requests;
+#[cfg(test)]
+mod rows;
 #[cfg(test)]
 mod short;
-#[cfg(test)]
-mod support;
-#[cfg(test)]
-mod worlds;

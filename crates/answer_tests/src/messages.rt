@@ -117,6 +117,22 @@ mask = "FFE0"
 included = false
 "#;
 
+/// The families of one instance, dot1dStpPortEnable of port 1.
+pub const ENABLE_1: &str = r#"[[family]]
+view = "seen"
+subtree = "1.3.6.1.2.1.17.2.15.1.4.1"
+mask = ""
+included = true
+"#;
+
+/// The families of one instance, dot1dStpPortPathCost of port 1.
+pub const PATH_COST_1: &str = r#"[[family]]
+view = "seen"
+subtree = "1.3.6.1.2.1.17.2.15.1.5.1"
+mask = ""
+included = true
+"#;
+
 // The policy by which `public` reads these families.
 fn policy_of(alloc: Global, families: &str) -> Result<Policy, Fail> {
     let text = format!(in alloc; "{READERS}{families}")?;

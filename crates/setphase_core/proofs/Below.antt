@@ -140,3 +140,62 @@ begun_apart_back p q name false h k l = refl
 -- the lower one is less
 pub below_itself_lt : (p q : List ℕ) → is_below p q ≡ true → name_lt p q ≡ true
 below_itself_lt p q h = ap (λ n. name_lt n q) (sym (append-nil p)) ∙ ap (name_lt (p ++ [])) (sym (append-nil q)) ∙ below_lt p q [] [] h
+
+-- ---- a name in front of one has nothing behind it
+
+-- one that is below a name is below what that name begins
+pub below_more : (p q rest : List ℕ) → is_below p q ≡ true → is_below p (q ++ rest) ≡ true
+below_more [] q rest h = absurd (cc)
+below_more (x ∷ p) [] rest h = absurd (cc)
+below_more (x ∷ p) (y ∷ q) rest h = elim (below_tells x y p q h) [
+  | inl l ↦ rw l.lt refl
+  | inr s ↦ rw (s.0.lt, s.0.eq) (below_more p q rest s.1)
+]
+
+-- and below each greater name
+pub below_lt_then : (p q r : List ℕ) → is_below p q ≡ true → name_lt q r ≡ true → is_below p r ≡ true
+below_lt_then [] q r h k = absurd (cc)
+below_lt_then (x ∷ p) [] r h k = absurd (cc)
+below_lt_then (x ∷ p) (y ∷ q) [] h k = absurd (cc)
+below_lt_then (x ∷ p) (y ∷ q) (z ∷ r) h k = elim (below_tells x y p q h) [
+  | inl a ↦ elim (order_tells y z) [
+    | inl b ↦ let c : IsLess x z = less_then x y z a b in rw c.lt refl
+    | inr (inl b) ↦ let lt : nat_lt x z ≡ true = ap (λ n. nat_lt x n) (sym b.same) ∙ a.lt in rw lt refl
+    | inr (inr b) ↦
+        let lt : nat_lt y z ≡ false = lt_back z y b in
+        let eq : nat_eq y z ≡ false = eq_back z y b in
+        let f : false ≡ true = rw (lt, eq) at k in
+        absurd (cc)
+  ]
+  | inr a ↦ elim (order_tells y z) [
+    | inl b ↦ let lt : nat_lt x z ≡ true = ap (λ n. nat_lt n z) a.0.same ∙ b.lt in rw lt refl
+    | inr (inl b) ↦
+        let lt : nat_lt x z ≡ false = ap (λ n. nat_lt n z) a.0.same ∙ b.lt in
+        let eq : nat_eq x z ≡ true = ap (λ n. nat_eq n z) a.0.same ∙ b.eq in
+        let more : name_lt q r ≡ true = rw (b.lt, b.eq) at k in
+        rw (lt, eq) (below_lt_then p q r a.1 more)
+    | inr (inr b) ↦
+        let lt : nat_lt y z ≡ false = lt_back z y b in
+        let eq : nat_eq y z ≡ false = eq_back z y b in
+        let f : false ≡ true = rw (lt, eq) at k in
+        absurd (cc)
+  ]
+]
+
+-- what is above one is not less than it
+pub above_not_lt : (p q : List ℕ) → is_below p q ≡ true → name_lt q p ≡ false
+above_not_lt [] q h = absurd (cc)
+above_not_lt (x ∷ p) [] h = absurd (cc)
+above_not_lt (x ∷ p) (y ∷ q) h = elim (below_tells x y p q h) [
+  | inl l ↦ let lt : nat_lt y x ≡ false = lt_back x y l in let eq : nat_eq y x ≡ false = eq_back x y l in rw (lt, eq) refl
+  | inr s ↦ let lt : nat_lt y x ≡ false = lt_back_same x y s.0 in let eq : nat_eq y x ≡ true = eq_back_same x y s.0 in rw (lt, eq) (above_not_lt p q s.1)
+]
+
+-- nor begun by it
+pub above_not_begun : (p q : List ℕ) → is_below p q ≡ true → is_prefix p q ≡ false
+above_not_begun [] q h = absurd (cc)
+above_not_begun (x ∷ p) [] h = absurd (cc)
+above_not_begun (x ∷ p) (y ∷ q) h = elim (below_tells x y p q h) [
+  | inl l ↦ rw l.eq refl
+  | inr s ↦ rw s.0.eq (above_not_begun p q s.1)
+]

@@ -6,6 +6,7 @@ pub mod Searches
 pub mod Found
 pub mod Next
 pub mod Values
+pub mod Passed
 pub mod Rising
 pub mod Served
 pub mod Indexes

@@ -35,7 +35,7 @@ ordered_from (row ∷ next ∷ rows) e =
 
 -- ---- none begins another
 
-below_apart : (p q : List ℕ) → is_below p q ≡ true → is_apart p q ≡ true
+pub below_apart : (p q : List ℕ) → is_below p q ≡ true → is_apart p q ≡ true
 below_apart [] q h = absurd (cc)
 below_apart (x ∷ p) [] h = absurd (cc)
 below_apart (x ∷ p) (y ∷ q) h = elim (below_tells x y p q h) [

@@ -43,7 +43,7 @@ rises_is : (xs : List Binding) → Rises xs → IsRising xs
 rises_is [] h = λ i j d lt within. absurd (omega (arith, within))
 rises_is (x ∷ xs) h = AllPairs-cons (λ (a c : Binding). IsTrue (name_lt a.name c.name)) x xs (All-from_recursion (λ y. name_lt x.name y.name ≡ true) xs h.0) (rises_is xs h.1)
 
-all_append : {X : Type 0} (P : X → Type 0) (xs ys : List X) → AllByRecursion P xs → AllByRecursion P ys → AllByRecursion P (xs ++ ys)
+pub all_append : {X : Type 0} (P : X → Type 0) (xs ys : List X) → AllByRecursion P xs → AllByRecursion P ys → AllByRecursion P (xs ++ ys)
 all_append P [] ys h k = k
 all_append P (x ∷ xs) ys h k = (h.0, all_append P xs ys h.1 k)
 

@@ -1,9 +1,9 @@
 -- The binary search for the place of a name, and how many turns it takes.
-use Rattle.std.proofs.Common.{◌≡◌, ℕ, zero, suc, ◌+◌, ◌-◌, ◌*◌, ◌/◌, ◌^◌, ◌<◌, ◌≤◌, Bool, true, false, List, [], ◌∷◌, length, refl, ap, subst, ◌∙◌, arith, Some, None, Err, inl, inr, add-one, find}
+use Rattle.std.proofs.Common.{◌≡◌, ℕ, zero, suc, ◌+◌, ◌-◌, ◌*◌, ◌/◌, ◌^◌, ◌<◌, ◌≤◌, Bool, ◌||◌, true, false, List, [], ◌∷◌, length, refl, ap, subst, ◌∙◌, arith, Some, None, Err, inl, inr, add-one, find}
 use Rattle.std.proofs.Math.Nat.{mul-le-mul_left, pow-succ'}
 use Rattle.oid_core.specs.Order.{name_lt, is_prefix}
 use Rattle.oid_core.proofs.OrderLaws.{name_lt-trans}
-use Rattle.setphase_core.specs.Searching.{prefix_at, IsPlaceBehind, IsOwnerPlace, IsPlace, IsStart}
+use Rattle.setphase_core.specs.Searching.{prefix_at, may_follow, IsPlaceBehind, IsOwnerPlace, IsPlace, IsStart}
 use Rattle.setphase_core.proofs.Below.{begun_lt, begun_not_lt, begun_apart, begun_apart_back, below_itself_lt}
 use Rattle.setphase_core.proofs.Ordered.{AreOrdered, ordered_at}
 use Rattle.std.proofs.lemmas.Bool.Decides.{eqb_tells, leb_tells}
@@ -140,11 +140,22 @@ search_ends prefixes name low high turns ordered s h =
 
 -- ---- the objects in front of it have nothing behind the name
 
+-- a greater name may follow
+follows_lt : (p name : List ℕ) → name_lt name p ≡ true → may_follow name p ≡ true
+follows_lt p name h = elim (is_prefix p name) as (λ b. (b || name_lt name p) ≡ true) [ true ↦ refl | false ↦ h ]
+
 pub start_found : (prefixes : List (List ℕ)) (name : List ℕ) (place : ℕ) → AreOrdered prefixes → IsOwnerPlace prefixes name (Some place) → IsStart prefixes name place
 start_found prefixes name place ordered h = record {
   within = omega (arith, h.0);
   before = λ k lt. earlier prefixes name place k _ ordered h.0 (omega (arith, lt)) (begun_not_lt (prefix_at prefixes place) name h.1) refl;
   apart = λ k lt. h.2 k (omega (arith, lt, h.0)) (λ e. absurd (omega (arith, e, lt)));
+  behind = λ k low within. elim (eqb_tells place k) [
+    | inl e ↦
+        let begun : is_prefix (prefix_at prefixes k) name ≡ true = subst (λ n. is_prefix (prefix_at prefixes n) name ≡ true) e.1 h.1 in
+        rw begun refl
+    | inr e ↦ follows_lt (prefix_at prefixes k) name
+        (begun_lt (prefix_at prefixes place) (prefix_at prefixes k) name (ordered_at prefixes place k ordered (omega (arith, low, e.1)) within) h.1)
+  ];
 }
 
 pub start_behind : (prefixes : List (List ℕ)) (name : List ℕ) (place : ℕ) → IsOwnerPlace prefixes name None → IsPlaceBehind prefixes name place → IsStart prefixes name place
@@ -152,6 +163,7 @@ start_behind prefixes name place none p = record {
   within = p.within;
   before = p.before;
   apart = λ k lt. none k (omega (arith, lt, p.within));
+  behind = λ k low within. follows_lt (prefix_at prefixes k) name (p.behind k low within);
 }
 
 -- what the loop keeps

@@ -5,5 +5,6 @@ pub mod Objects
 pub mod Names
 pub mod Searching
 pub mod Registry
+pub mod Passing
 pub mod Opening
 pub mod InUse

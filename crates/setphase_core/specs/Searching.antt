@@ -1,5 +1,5 @@
 -- Where a name stands among the names of objects.
-use Rattle.std.specs.Prelude.{◌≡◌, ◌≢◌, ℕ, ◌<◌, ◌≤◌, true, false, List, [], length, slice_index_or, Option, Some, None, Result, Ok, Err}
+use Rattle.std.specs.Prelude.{◌≡◌, ◌≢◌, ℕ, ◌<◌, ◌≤◌, Bool, ◌||◌, true, false, List, [], length, slice_index_or, Option, Some, None, Result, Ok, Err}
 use Rattle.std.specs.declared.cmp.Ordering.{Ordering}
 use Rattle.std.specs.declared.cmp.Ordering.TheVariants.{Less, Equal, Greater}
 use Rattle.oid_core.specs.Order.{name_lt, is_prefix}
@@ -7,6 +7,10 @@ use Rattle.oid_core.specs.Order.{name_lt, is_prefix}
 -- The name at a place.
 abbrev pub prefix_at : List (List ℕ) → ℕ → List ℕ
 prefix_at prefixes place = slice_index_or prefixes place []
+
+-- An object may have an instance after a name where its own name begins that one, or is greater.
+abbrev pub may_follow : List ℕ → List ℕ → Bool
+may_follow name prefix = is_prefix prefix name || name_lt name prefix
 
 -- How an object's name stands to a name: it begins it, or is greater, or is less and does not begin
 -- it.
@@ -36,8 +40,11 @@ IsPlace prefixes name (Ok place) = IsOwnerPlace prefixes name (Some place)
 IsPlace prefixes name (Err place) =
     IsOwnerPlace prefixes name None × IsPlaceBehind prefixes name place
 
--- The names in front of the place are not greater than the name, and none of them begins it.
+-- The names in front of the place are not greater than the name, and none of them begins it; each
+-- from there on is greater, or begins it.
 pub record IsStart (prefixes : List (List ℕ)) (name : List ℕ) (place : ℕ) : Type 0 where
   pub within : place ≤ length prefixes
   pub before : (k : ℕ) → k < place → name_lt name (prefix_at prefixes k) ≡ false
   pub apart : (k : ℕ) → k < place → is_prefix (prefix_at prefixes k) name ≡ false
+  pub behind : (k : ℕ) → place ≤ k → k < length prefixes
+      → may_follow name (prefix_at prefixes k) ≡ true

@@ -1,6 +1,7 @@
 //! Laws of worlds, of what they show, and of lists of objects. Each function does nothing: its
 //! contract is the law.
-ghost use Rattle.std.specs.Prelude.{◌≡◌, ◌≢◌, ◌↔◌, ℕ, if◌then◌else◌, List, length, None, IsTrue};
+ghost use Rattle.std.specs.Prelude.{◌≡◌, ◌≢◌, ◌↔◌, ◌≤◌, ℕ, Bool, if◌then◌else◌, List, length, filter, None, IsTrue};
+ghost use Rattle.std.specs.List.{count_by};
 ghost use Rattle.community_core.specs.Communities.{PolicyTables};
 ghost use Rattle.fdb_core.specs.Rows.{IsRising as AreRising};
 ghost use Rattle.message_core.specs.Instances.{IsRising};
@@ -12,6 +13,7 @@ ghost use Rattle.setphase_core.specs.declared.world.World.{World};
 ghost use Rattle.setphase_core.specs.Objects.{ObjectRow};
 ghost use Rattle.setphase_core.specs.Names.{bridge_rows};
 ghost use Rattle.setphase_core.specs.Registry.{first_fault, prefixes_of, AreApart, AreNamed, instances};
+ghost use Rattle.setphase_core.specs.Passing.{open_instances, passed_after, PassesHidden};
 ghost use Rattle.setphase_core.specs.Opening.{opening_world, opening_instances};
 ghost use Rattle.setphase_core.specs.InUse.{world_in_use, instances_in_use};
 
@@ -74,6 +76,21 @@ pub fn names_are_apart()
 pub fn instances_rise()
     ensures { (rows : List ObjectRow) (w : World) → first_fault rows ≡ None
         → AreRising w.bridge.learned → IsRising (instances rows w) }
+{}
+
+/// Where a test passes over only objects none of whose names is shown, nothing that is shown is
+/// missed: what is shown of the others' instances is what is shown of all.
+pub fn nothing_shown_is_missed()
+    ensures { (passes shows : List ℕ → Bool) (rows : List ObjectRow) (w : World)
+        → PassesHidden passes shows
+        → filter (λ b. shows b.name) (open_instances passes rows w)
+        ≡ filter (λ b. shows b.name) (instances rows w) }
+{}
+
+/// After a name no more objects are passed over than there are to be passed over in all.
+pub fn passed_at_most_once()
+    ensures { (passes : List ℕ → Bool) (rows : List ObjectRow) (name : List ℕ)
+        → passed_after passes rows name ≤ count_by (λ row. passes row.prefix) rows }
 {}
 
 /// The 51 objects of RFC 4188 and RFC 4318 in the order of their names make a registry.

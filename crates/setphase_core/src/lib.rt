@@ -4,8 +4,11 @@
 //! # Entry points
 //! [`World`]: the bridge, the policy, and what was dropped, with `get_setting` and `put_setting` by
 //! key. [`MibObject`]: a managed object, with `prefix`, `read` and `next`; a boxed one is one too.
-//! [`Registry`]: objects by rising name, with `owner`, `owner_steps`, `read` and `next`; `known`
-//! hands on that no object's name begins another's and that what they show can be served.
+//! [`Registry`]: objects by rising name, with `owner`, `owner_steps`, `read`, `next`, and
+//! `next_open`, which passes over objects as a whole by a test of their names, a [`Passing`];
+//! `known` hands on that no object's name begins another's and that what they show can be served.
+//! [`are_named`]: whether objects have names that a registry asks for, of objects of which nothing
+//! else is known.
 //! [`is_scalar`], [`scalar_after`], [`port_at`], [`port_after`]: the indexes of scalars and ports,
 //! for those who write objects.
 //!
@@ -14,13 +17,15 @@
 //! object shows, row by row; `specs/Names.antt`: the objects' names; `specs/Values.antt`: values by
 //! index; `specs/Objects.antt`: an object as plain data; `specs/Registry.antt`: the order of
 //! objects, and all their instances; `specs/Searching.antt`: where a name stands among those of
-//! objects; `specs/Opening.antt`: all that a bridge of two ports shows as it opens;
+//! objects; `specs/Passing.antt`: the objects that a walk does not pass over, and how many it passes
+//! over; `specs/Opening.antt`: all that a bridge of two ports shows as it opens;
 //! `specs/InUse.antt`: all that a bridge of four ports shows, made by hand as if in use.
 //!
 //! # Laws
 //! In [`laws`]: the settings of a world are a finite map; of the names of a registry's objects none
 //! begins another; the names of all instances rise, whatever the objects are, where the learned
-//! rows of the bridge are by rising address, as those of every `Bridge` are; the 51 objects make a
+//! rows of the bridge are by rising address, as those of every `Bridge` are; a walk that passes over
+//! only objects none of whose names is shown misses nothing that is shown; the 51 objects make a
 //! registry; they show 75 instances of a bridge of two ports as it opens, and 135 of a bridge of
 //! four ports, made by hand as if in use, most of whose facts differ from one another.
 //!
@@ -35,7 +40,9 @@ mod column;
 mod index;
 pub mod laws;
 mod limits;
+mod named;
 mod object;
+mod passing;
 mod registry;
 mod search;
 mod walk;
@@ -44,6 +51,8 @@ mod world;
 pub use column::{Base, BasePort, Column, ExtPort, Rapid, Stp, StpPort, Tp, TpFdb, TpPort};
 pub use index::{is_scalar, port_after, port_at, scalar_after};
 pub use limits::{MAX_COST, MAX_INDEX, MAX_INFO, MAX_PATH_COST, MAX_SLOTS};
+pub use named::are_named;
 pub use object::{DeviceFault, Index, MibObject, Reservation, SetFault, Slot};
+pub use passing::Passing;
 pub use registry::{Registry, RegistryFault};
 pub use world::World;

@@ -1,10 +1,12 @@
 //! Objects in the order of their names.
-ghost use Rattle.std.specs.Prelude.{◌≡◌, ◌≤◌, ◌+◌, ◌-◌, ◌*◌, ◌^◌, length, map, Some, None, IfOk, IsOk, MatchResult};
+ghost use Rattle.std.specs.Prelude.{◌≡◌, ◌≤◌, ◌+◌, ◌-◌, ◌*◌, ◌^◌, ℕ, Bool, List, length, map, Some, None, IfOk, IsOk, MatchResult};
 ghost use Rattle.std.specs.Option.{option_copied};
 ghost use Rattle.message_core.specs.Instances.{next_of, value_of, IsServable};
 ghost use Rattle.setphase_core.specs.Registry.{rows_of, prefixes_of, first_fault, AreApart, AreNamed, HasShortName, owner_of, instances};
+ghost use Rattle.setphase_core.specs.Passing.{open_instances, passed_after, passed_ahead};
 
 use crate::object::MibObject;
+use crate::passing::{Passing, next_open_from};
 use crate::search::{owner_name, place_of, place_uncounted, start_of, value_there};
 use crate::walk::next_from;
 use crate::world::World;
@@ -94,13 +96,15 @@ impl<O: MibObject> Registry<O> {
 
     /// Hands on that the objects are in the order of their names, none of which begins another,
     /// that each stands under 1.3 and has room behind it for any index, that the names of the
-    /// instances rise, and that each instance can be served, whatever the objects and the world are;
-    /// it does nothing.
+    /// instances rise, and that each instance can be served, whatever the objects and the world are,
+    /// also of those objects that are not passed over, whatever the test is; it does nothing.
     pub fn known(&self, world: &World)
         ensures ordered { first_fault (rows_of self.now) ≡ None }
         ensures apart { AreApart (prefixes_of (rows_of self.now)) }
         ensures named { AreNamed (rows_of self.now) }
         ensures servable { IsServable (instances (rows_of self.now) world.now) }
+        ensures open { (passes : List ℕ → Bool)
+            → IsServable (open_instances passes (rows_of self.now) world.now) }
     {
         let _objects = self.objects.as_slice();
         let _row = world.bridge.fdb().next_after(None);
@@ -153,5 +157,31 @@ impl<O: MibObject> Registry<O> {
         let objects = self.objects.as_slice();
         let place = place_uncounted::<O, Brand>(objects, name, Blank::new(1));
         next_from(alloc, objects, world, name, start_of(objects, name, place))
+    }
+    /// The same of the objects that are not passed over. It is one step, and one for each object
+    /// that is passed over between the name and the instance, or the end: so the steps and the
+    /// objects still ahead to be passed over are as many as before, and one more.
+    pub fn next_open<P: Passing, L: Ledger>(
+        &self,
+        alloc: Global,
+        world: &World,
+        name: &[u32],
+        passing: &P,
+        steps: &mut Steps<L>,
+    ) -> Result<Option<Binding>, AllocError>
+        ensures found { IfOk result (λ found. found ≡ next_of
+            (open_instances (P.passes passing.now) (rows_of self.now) world.now) name.now) }
+        ensures inline { HasShortName (next_of
+            (open_instances (P.passes passing.now) (rows_of self.now) world.now) name.now)
+            → IsOk result }
+        ensures work { steps.new + passed_ahead (P.passes passing.now) (rows_of self.now) (next_of
+            (open_instances (P.passes passing.now) (rows_of self.now) world.now) name.now)
+            ≡ steps.old + passed_after (P.passes passing.now) (rows_of self.now) name.now + 1 }
+    {
+        let objects = self.objects.as_slice();
+        let place = place_uncounted::<O, Brand>(objects, name, Blank::new(1));
+        let start = start_of(objects, name, place);
+        steps.tick();
+        next_open_from(alloc, objects, world, name, start, passing, steps)
     }
 }

@@ -56,8 +56,8 @@ fn next_in<O: MibObject>(
     }
 }
 
-// The first instance of an object behind a name.
-fn next_under<O: MibObject>(
+/// The first instance of an object behind a name.
+pub fn next_under<O: MibObject>(
     alloc: Global,
     object: &O,
     world: &World,

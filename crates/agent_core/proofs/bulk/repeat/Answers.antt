@@ -12,7 +12,7 @@ use Rattle.agent_core.proofs.bulk.repeat.Goals as goal
 
 pub returns-then-not-branch-clause-filled : goal.returns-then-not-branch-clause-filled
 returns-then-not-branch-clause-filled g c =
-    let rows : List Binding = visible (g.V.View.shows c.args.view.now) (g.S.Source.instances c.args.source.now) in
+    let rows : List Binding = visible (g.V.View.shows c.args.view.now) (g.S.Successors.instances c.args.source.now) in
     let cut : c.in_ok-repeat_once.field-0 ≡ false = search rules in
     repeat_cut rows c.args.most c.loop-i.i c.repeat_once.new.sent.room c.args.sent.now.room c.as_slice.result.now _ c.loop-i.sent.bindings c.repeat_once.new.sent.bindings c.loop-i-test.true (search rules)
     (c.loop-i.invariant.all ∙ ap (λ ns. c.loop-i.sent.bindings ++ repetitions rows (c.args.most - c.loop-i.i) ns) (sym c.as_slice.ensures.value))
@@ -20,7 +20,7 @@ returns-then-not-branch-clause-filled g c =
 
 pub last-row-requires : goal.last-row-requires
 last-row-requires g c =
-    let rows : List Binding = visible (g.V.View.shows c.args.view.now) (g.S.Source.instances c.args.source.now) in
+    let rows : List Binding = visible (g.V.View.shows c.args.view.now) (g.S.Successors.instances c.args.source.now) in
     let whole : c.in_ok-repeat_once.field-0 ≡ true = search rules in
     let is : c.repeat_once.new.sent.bindings ≡ c.loop-i.sent.bindings ++ next_answers rows c.as_slice.result.now = c.in_ok-repeat_once.ensures.whole whole in
     let count : c.len.result ≡ length c.as_slice.result.now = search rules in
@@ -28,7 +28,7 @@ last-row-requires g c =
 
 pub returns-then-has_ended-clause-filled : goal.returns-then-has_ended-clause-filled
 returns-then-has_ended-clause-filled g c =
-    let rows : List Binding = visible (g.V.View.shows c.args.view.now) (g.S.Source.instances c.args.source.now) in
+    let rows : List Binding = visible (g.V.View.shows c.args.view.now) (g.S.Successors.instances c.args.source.now) in
     let whole : c.in_ok-repeat_once.field-0 ≡ true = search rules in
     let is : c.repeat_once.new.sent.bindings ≡ c.loop-i.sent.bindings ++ next_answers rows c.as_slice.result.now = c.in_ok-repeat_once.ensures.whole whole in
     let count : c.len.result ≡ length c.as_slice.result.now = search rules in
@@ -39,7 +39,7 @@ returns-then-has_ended-clause-filled g c =
 
 pub loop-i-preserved : goal.loop-i-preserved
 loop-i-preserved g c =
-    let rows : List Binding = visible (g.V.View.shows c.args.view.now) (g.S.Source.instances c.args.source.now) in
+    let rows : List Binding = visible (g.V.View.shows c.args.view.now) (g.S.Successors.instances c.args.source.now) in
     let whole : c.in_ok-repeat_once.field-0 ≡ true = search rules in
     let is : c.repeat_once.new.sent.bindings ≡ c.loop-i.sent.bindings ++ next_answers rows c.as_slice.result.now = c.in_ok-repeat_once.ensures.whole whole in
     let count : c.len.result ≡ length c.as_slice.result.now = search rules in
@@ -57,8 +57,8 @@ loop-i-preserved g c =
 
 pub returns-clause-filled : goal.returns-clause-filled
 returns-clause-filled g c =
-    repeat_done (visible (g.V.View.shows c.args.view.now) (g.S.Source.instances c.args.source.now)) c.args.most c.loop-i.i c.args.sent.now.room c.loop-i.names.items _ c.loop-i.sent.bindings (omega arith) c.loop-i.invariant.all
+    repeat_done (visible (g.V.View.shows c.args.view.now) (g.S.Successors.instances c.args.source.now)) c.args.most c.loop-i.i c.args.sent.now.room c.loop-i.names.items _ c.loop-i.sent.bindings (omega arith) c.loop-i.invariant.all
 
 pub returns-clause-work : goal.returns-clause-work
 returns-clause-work g c =
-    beside_within c.args.steps.now c.loop-i.steps (length c.args.sent.now.bindings) (length c.loop-i.sent.bindings) (most_looks (g.V.View.shows c.args.view.now) (g.S.Source.instances c.args.source.now)) c.loop-i.invariant.work
+    beside_within c.args.steps.now c.loop-i.steps (length c.args.sent.now.bindings) (length c.loop-i.sent.bindings) (most_looks (g.V.View.shows c.args.view.now) (g.S.Successors.instances c.args.source.now)) c.loop-i.invariant.work

@@ -8,8 +8,8 @@ use Rattle.agent_core.proofs.bulk.repeat.Given as goal
 
 abbrev pub invariant-loop-i : goal.invariant-loop-i
 invariant-loop-i g l =
-    let rows = visible (g.V.View.shows l.view) (g.S.Source.instances l.source) in
-    let most = most_looks (g.V.View.shows l.view) (g.S.Source.instances l.source) in
+    let rows = visible (g.V.View.shows l.view) (g.S.Successors.instances l.source) in
+    let most = most_looks (g.V.View.shows l.view) (g.S.Successors.instances l.source) in
     record {
       all : l.fn.sent.bindings ++ repetitions rows l.most l.fn.columns.items ≡ l.sent.bindings ++ repetitions rows (l.most - l.i) l.names.items;
       room : l.sent.room ≡ l.fn.sent.room;

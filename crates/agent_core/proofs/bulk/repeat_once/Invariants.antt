@@ -5,9 +5,9 @@ use Rattle.agent_core.proofs.bulk.repeat_once.Given as goal
 
 abbrev pub invariant-loop-name : goal.invariant-loop-name
 invariant-loop-name g l = record {
-  whole : l.sent.bindings ≡ l.fn.sent.bindings ++ next_answers (visible (g.V.View.shows l.view) (g.S.Source.instances l.source)) (take l.name-index l.names);
+  whole : l.sent.bindings ≡ l.fn.sent.bindings ++ next_answers (visible (g.V.View.shows l.view) (g.S.Successors.instances l.source)) (take l.name-index l.names);
   room : l.sent.room ≡ l.fn.sent.room;
   work :
-      let most = most_looks (g.V.View.shows l.view) (g.S.Source.instances l.source) in
+      let most = most_looks (g.V.View.shows l.view) (g.S.Successors.instances l.source) in
       l.steps + length l.fn.sent.bindings * most ≤ l.fn.steps + length l.sent.bindings * most;
 }

@@ -16,7 +16,7 @@ repeat_once-requires g c =
 
 pub returns-then-not-branch-clause-filled : goal.returns-then-not-branch-clause-filled
 returns-then-not-branch-clause-filled g c =
-    let rows : List Binding = visible (g.V.View.shows c.args.view.now) (g.S.Source.instances c.args.source.now) in
+    let rows : List Binding = visible (g.V.View.shows c.args.view.now) (g.S.Successors.instances c.args.source.now) in
     filled_at c.repeat_once.new.sent.room c.args.sent.now.room _ _ c.repeat_once.new.sent.bindings c.in_ok-repeat_once.ensures.room
     (ap (λ z. c.args.sent.now.bindings ++ z) (list_parts rows c.args.once c.args.most c.args.asked.now c.as_slice.result.now (c.as_slice.ensures.value ∙ c.in_ok-first.ensures)))
     (c.in_ok-repeat_once.ensures.cut c.if-not-branch.true (repetitions rows c.args.most (names_of (drop c.args.once c.args.asked.now))))
@@ -30,7 +30,7 @@ repeat-requires g c =
 
 pub returns-clause-filled : goal.returns-clause-filled
 returns-clause-filled g c =
-    let rows : List Binding = visible (g.V.View.shows c.args.view.now) (g.S.Source.instances c.args.source.now) in
+    let rows : List Binding = visible (g.V.View.shows c.args.view.now) (g.S.Successors.instances c.args.source.now) in
     filled_at c.repeat_once.new.sent.room c.args.sent.now.room _ _ c.repeat.new.sent.bindings c.in_ok-repeat_once.ensures.room
     (list_whole rows c.args.once c.args.most c.args.asked.now c.as_slice.result.now c.in_ok-columns.columns.items c.args.sent.now.bindings c.repeat_once.new.sent.bindings
     (c.in_ok-repeat_once.ensures.whole c.if-not-branch.false)

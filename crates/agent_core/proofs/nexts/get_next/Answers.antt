@@ -5,4 +5,4 @@ use Rattle.agent_core.proofs.nexts.get_next.Goals as goal
 
 pub returns-in-Some-clause-encodable : goal.returns-in-Some-clause-encodable
 returns-in-Some-clause-encodable g c = λ root.
-    subst IsEncodableBinding (sym (search rules)) (next_answer_encodable (g.V.View.shows c.args.view.now) (g.S.Source.instances c.args.source.now) c.args.name.now c.known.ensures.servable.encodable root)
+    subst IsEncodableBinding (sym (search rules)) (next_answer_encodable (g.V.View.shows c.args.view.now) (g.S.Successors.instances c.args.source.now) c.args.name.now c.known.ensures.encodable root)

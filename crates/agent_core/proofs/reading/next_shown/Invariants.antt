@@ -9,11 +9,11 @@ use Rattle.agent_core.proofs.reading.next_shown.Given as goal
 abbrev pub invariant-loop-found : goal.invariant-loop-found
 invariant-loop-found g l =
     let shows = g.V.View.shows l.view in
-    let rows = g.S.Source.instances l.source in
+    let rows = g.S.Successors.instances l.source in
     record {
       answer : next_of (visible shows rows) l.name ≡ find (λ row. shows row.name) (from rows l.found);
       work : l.steps + hidden_count shows (from rows l.found) ≤ l.fn.steps + most_looks shows rows;
     }
 
 abbrev pub decreases-loop-found : goal.decreases-loop-found
-decreases-loop-found g l = length (from (g.S.Source.instances l.source) l.found)
+decreases-loop-found g l = length (from (g.S.Successors.instances l.source) l.found)

@@ -1,25 +1,25 @@
 use Rattle.std.proofs.Common.{◌≡◌, ◌-◌, Bool, append-nil, arith, rules}
-use Rattle.agent_core.specs.World.{World}
+use Rattle.agent_script.specs.Events.{System}
 use Rattle.agent_script.proofs.Seconds.{told_next, after_next}
 use Rattle.agent_script.proofs.bridging.say_ticks.Goals as goal
 
 pub loop-i-preserved : goal.loop-i-preserved
 loop-i-preserved c = record {
-  said = λ (on : Bool) (world : World).
-      told_next on world c.args.seconds c.loop-i.i c.loop-i.bridge c.say_tick.new.bridge c.loop-i.out.items c.say_tick.new.out.items _
-      (search rules) (c.loop-i.invariant.said on world) (search rules) (search rules);
-  after = λ (world : World).
-      after_next world c.args.seconds c.loop-i.i c.loop-i.bridge c.say_tick.new.bridge _ (search rules) (c.loop-i.invariant.after world) (search rules);
+  said = λ (on : Bool) (s : System).
+      told_next on s c.args.seconds c.loop-i.i c.loop-i.bridge c.say_tick.new.bridge c.loop-i.out.items c.say_tick.new.out.items _
+      (search rules) (c.loop-i.invariant.said on s) (search rules) (search rules);
+  after = λ (s : System).
+      after_next s c.args.seconds c.loop-i.i c.loop-i.bridge c.say_tick.new.bridge _ (search rules) (c.loop-i.invariant.after s) (search rules);
 }
 
 pub returns-clause-said : goal.returns-clause-said
 returns-clause-said c =
-    λ (on : Bool) (world : World).
+    λ (on : Bool) (s : System).
     let none : c.args.seconds - c.loop-i.i ≡ 0 = omega arith in
-    rw (none, append-nil) at (c.loop-i.invariant.said on world)
+    rw (none, append-nil) at (c.loop-i.invariant.said on s)
 
 pub returns-clause-after : goal.returns-clause-after
 returns-clause-after c =
-    λ (world : World).
+    λ (s : System).
     let none : c.args.seconds - c.loop-i.i ≡ 0 = omega arith in
-    rw none at (c.loop-i.invariant.after world)
+    rw none at (c.loop-i.invariant.after s)

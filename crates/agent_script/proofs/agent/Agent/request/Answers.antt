@@ -5,10 +5,10 @@ use Rattle.agent_script.proofs.Outcomes.{told_drop}
 use Rattle.agent_script.proofs.agent.Agent.request.Goals as goal
 
 pub returns-in_ok-say_audit-in-Ok-NoReply-clause-said : goal.returns-in_ok-say_audit-in-Ok-NoReply-clause-said
-returns-in_ok-say_audit-in-Ok-NoReply-clause-said c =
-    let done = rw c.in-Ok-NoReply.field-0-is at c.in-Ok-NoReply.ensures in
+returns-in_ok-say_audit-in-Ok-NoReply-clause-said g c =
+    let done = rw c.in-Ok-NoReply.field-0-is at c.in-Ok-NoReply.ensures.step in
     let on = c.self.inside.is_auditing in
-    let told = told_drop _ _ _ _ on (address_of c.self.inside.bridge) done.answer in
+    let told = told_drop _ _ _ _ on (address_of c.self.inside.world.bridge) done.answer in
     let name : c.say_dropped.new.out.items ≡ c.args.out.now.items ++ drop_text (dropped_name told.cause) =
     c.in_ok-say_dropped-in-Ok-NoReply.ensures told.cause told.decision in
     rw (← c.self.view_is)
