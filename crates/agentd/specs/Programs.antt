@@ -1,6 +1,7 @@
 -- What the program does with its words.
 use Rattle.std.specs.Prelude.{◌≡◌, ℕ, List, Option, Result, Ok, Err}
 use Rattle.configuration.specs.declared.configuration.TheConstants.{BUILT_IN}
+use Rattle.setphase_core.specs.Objects.{ObjectState}
 use Rattle.agent_script.specs.declared.session.Run.{Run}
 use Rattle.agentd.specs.declared.files.NotRead.{NotRead}
 use Rattle.agentd.specs.declared.opening.NotRun.{NotRun}
@@ -18,10 +19,11 @@ use Rattle.agentd.specs.Runs.{IsUntouched, IsRunBy}
 use Rattle.agentd.specs.Telling.{IsTold, IsCheckOf}
 
 module _ {I O : Type 0} (remaining : I → Option (List ℕ)) (contents : O → Option (List ℕ)) where
-  -- a run by these octets ended the program so
-  pub record RunsBy (octets : List ℕ) (reader reader' : I) (writer writer' : O) (ended : Result (Unit {0}) Failure) : Type 0 where
+  -- a run by these octets, over the objects that were handed in, ended the program so
+  pub record RunsBy (objects : List ObjectState) (octets : List ℕ) (reader reader' : I)
+      (writer writer' : O) (ended : Result (Unit {0}) Failure) : Type 0 where
     pub result : Result Run NotRun
-    pub run : IsRunBy remaining contents octets reader reader' writer writer' result
+    pub run : IsRunBy remaining contents objects octets reader reader' writer writer' result
     pub is : ended ≡ ended_by result
 
   -- the program failed so before it read or wrote anything
@@ -30,24 +32,29 @@ module _ {I O : Type 0} (remaining : I → Option (List ℕ)) (contents : O → 
     pub untouched : IsUntouched remaining contents reader reader' writer writer'
 
   -- A run by what was read of a file: by its octets, and by nothing else where they were not had.
-  abbrev pub RunsRead : Result (List ℕ) NotRead → I → I → O → O → Result (Unit {0}) Failure → Type 0
-  RunsRead (Ok octets) reader reader' writer writer' ended = RunsBy octets reader reader' writer writer' ended
-  RunsRead (Err why) reader reader' writer writer' ended = FailsFirst (read_failure why) reader reader' writer writer' ended
+  abbrev pub RunsRead : List ObjectState → Result (List ℕ) NotRead → I → I → O → O
+      → Result (Unit {0}) Failure → Type 0
+  RunsRead objects (Ok octets) reader reader' writer writer' ended =
+      RunsBy objects octets reader reader' writer writer' ended
+  RunsRead objects (Err why) reader reader' writer writer' ended =
+      FailsFirst (read_failure why) reader reader' writer writer' ended
 
   -- the program told something, and read nothing
   pub record Tells (text : List ℕ) (reader reader' : I) (writer writer' : O) (ended : Result (Unit {0}) Failure) : Type 0 where
     pub unread : reader' ≡ reader
     pub told : IsTold contents text writer writer' ended
 
--- Beside these a reader of files, by what a read of the file of a name may give.
+-- Beside these a reader of files, by what a read of the file of a name may give, and the objects that
+-- were handed in.
 module _ {I O : Type 0} (Gives : List ℕ → Result (List ℕ) NotRead → Type 0)
-    (remaining : I → Option (List ℕ)) (contents : O → Option (List ℕ)) where
+    (objects : List ObjectState) (remaining : I → Option (List ℕ))
+    (contents : O → Option (List ℕ)) where
   -- a file was read, or not, and the program ran by what was read of it
   pub record RunsFile (file : List ℕ) (reader reader' : I) (writer writer' : O)
       (ended : Result (Unit {0}) Failure) : Type 0 where
     pub read : Result (List ℕ) NotRead
     pub is : IsReadOf Gives file read
-    pub ran : RunsRead remaining contents read reader reader' writer writer' ended
+    pub ran : RunsRead remaining contents objects read reader reader' writer writer' ended
 
   -- the program told whether a file is a configuration, and read nothing else
   pub record ChecksFile (file : List ℕ) (reader reader' : I) (writer writer' : O)
@@ -58,7 +65,7 @@ module _ {I O : Type 0} (Gives : List ℕ → Result (List ℕ) NotRead → Type
   -- What the program did for what its words ask.
   abbrev pub Does : Result Asked Wrong → I → I → O → O → Result (Unit {0}) Failure → Type 0
   Does (Ok BuiltIn) reader reader' writer writer' ended =
-      RunsBy remaining contents BUILT_IN.now reader reader' writer writer' ended
+      RunsBy remaining contents objects BUILT_IN.now reader reader' writer writer' ended
   Does (Ok (Script file)) reader reader' writer writer' ended =
       RunsFile file.now reader reader' writer writer' ended
   Does (Ok (Check file)) reader reader' writer writer' ended =

@@ -11,6 +11,7 @@ use crate::files::{NotRead, ReadFile};
 use crate::running::run_octets;
 use crate::words::{Asked, HELP, VERSION, Wrong, asked_by};
 use configuration::BUILT_IN;
+use setphase_core::MibObject;
 use std::alloc::Global;
 use std::io::{Read, Write};
 
@@ -18,9 +19,12 @@ use std::io::{Read, Write};
 /// 1 where input, output or the run failed; 2 for words that are no command, and for a configuration
 /// that cannot be read or is refused. A failure is written to `errors` as one line, whole or a front
 /// of it behind which a write failed. The octets of a file are those that `files` gives for its name.
-pub fn run_words<F, I, O, E>(
+/// The script runs over exactly the objects that are handed in; where they make no registry, its
+/// configuration is refused.
+pub fn run_words<F, M, I, O, E>(
     alloc: Global,
     files: &F,
+    objects: Vec<M>,
     words: &[String],
     reader: &mut I,
     writer: &mut O,
@@ -28,14 +32,16 @@ pub fn run_words<F, I, O, E>(
 ) -> Ended
 where
     F: ReadFile,
+    M: MibObject,
     I: Read,
     O: Write,
     E: Write,
-    ensures { IsProgramRun (F.gives files.now) I.remaining O.contents (map string_bytes words.now)
+    ensures { IsProgramRun (F.gives files.now) (map M.state objects.items)
+        I.remaining O.contents (map string_bytes words.now)
         reader.old reader.new writer.old writer.new
         (E.contents errors.old) (E.contents errors.new) result }
 {
-    match try_words(alloc, files, words, reader, writer) {
+    match try_words(alloc, files, objects, words, reader, writer) {
         Ok(()) => Ended {
             status: 0,
             line: Ok(()),
@@ -45,41 +51,47 @@ where
 }
 
 // Runs the program, and gives why it failed.
-fn try_words<'a, F, I, O>(
+fn try_words<'a, F, M, I, O>(
     alloc: Global,
     files: &F,
+    objects: Vec<M>,
     words: &'a [String],
     reader: &mut I,
     writer: &mut O,
 ) -> Result<(), Failure<'a>>
 where
     F: ReadFile,
+    M: MibObject,
     I: Read,
     O: Write,
-    ensures { HasEnded (F.gives files.now) I.remaining O.contents (map string_bytes words.now)
+    ensures { HasEnded (F.gives files.now) (map M.state objects.items)
+        I.remaining O.contents (map string_bytes words.now)
         reader.old reader.new writer.old writer.new result }
 {
-    do_asked(alloc, files, asked_by(words), reader, writer)
+    do_asked(alloc, files, objects, asked_by(words), reader, writer)
 }
 
 // Does what was asked for.
-fn do_asked<'a, F, I, O>(
+fn do_asked<'a, F, M, I, O>(
     alloc: Global,
     files: &F,
+    objects: Vec<M>,
     asked: Result<Asked<'a>, Wrong<'a>>,
     reader: &mut I,
     writer: &mut O,
 ) -> Result<(), Failure<'a>>
 where
     F: ReadFile,
+    M: MibObject,
     I: Read,
     O: Write,
-    ensures { Does (F.gives files.now) I.remaining O.contents asked.entry
+    ensures { Does (F.gives files.now) (map M.state objects.items)
+        I.remaining O.contents asked.entry
         reader.old reader.new writer.old writer.new result }
 {
     match asked {
-        Ok(Asked::BuiltIn) => run_by(alloc, BUILT_IN.as_bytes(), reader, writer),
-        Ok(Asked::Script(file)) => run_file(alloc, files, file, reader, writer),
+        Ok(Asked::BuiltIn) => run_by(alloc, objects, BUILT_IN.as_bytes(), reader, writer),
+        Ok(Asked::Script(file)) => run_file(alloc, files, objects, file, reader, writer),
         Ok(Asked::Check(file)) => check_file(alloc, files, file, writer),
         Ok(Asked::Help) => tell(HELP.as_bytes(), writer),
         Ok(Asked::Version) => tell(VERSION.as_bytes(), writer),
@@ -88,54 +100,59 @@ where
 }
 
 // Runs the script by the octets of a configuration.
-fn run_by<'a, I: Read, O: Write>(
+fn run_by<'a, M: MibObject, I: Read, O: Write>(
     alloc: Global,
+    objects: Vec<M>,
     octets: &[u8],
     reader: &mut I,
     writer: &mut O,
 ) -> Result<(), Failure<'a>>
-    ensures { RunsBy I.remaining O.contents octets.now
-        reader.old reader.new writer.old writer.new result }
+    ensures { RunsBy I.remaining O.contents (map M.state objects.items)
+        octets.now reader.old reader.new writer.old writer.new result }
 {
-    match run_octets(alloc, octets, reader, writer) {
+    match run_octets(alloc, objects, octets, reader, writer) {
         Ok(_) => Ok(()),
         Err(why) => Err(failure_of(why)),
     }
 }
 
 // Runs the script by what was read of a file; where it could not be read, by nothing else.
-fn run_read<'a, I: Read, O: Write>(
+fn run_read<'a, M: MibObject, I: Read, O: Write>(
     alloc: Global,
+    objects: Vec<M>,
     read: Result<Vec<u8>, NotRead<'a>>,
     reader: &mut I,
     writer: &mut O,
 ) -> Result<(), Failure<'a>>
-    ensures { RunsRead I.remaining O.contents (read_view read.entry)
-        reader.old reader.new writer.old writer.new result }
+    ensures { RunsRead I.remaining O.contents (map M.state objects.items)
+        (read_view read.entry) reader.old reader.new writer.old writer.new result }
 {
     match read {
-        Ok(octets) => run_by(alloc, &octets, reader, writer),
+        Ok(octets) => run_by(alloc, objects, &octets, reader, writer),
         Err(why) => Err(read_failure(why)),
     }
 }
 
 // Runs the script by a file.
 #[tactic(auto, using(crate::proofs::FileLemmas::file_run))]
-fn run_file<'a, F, I, O>(
+fn run_file<'a, F, M, I, O>(
     alloc: Global,
     files: &F,
+    objects: Vec<M>,
     file: &'a str,
     reader: &mut I,
     writer: &mut O,
 ) -> Result<(), Failure<'a>>
 where
     F: ReadFile,
+    M: MibObject,
     I: Read,
     O: Write,
-    ensures { RunsFile (F.gives files.now) I.remaining O.contents file.now
+    ensures { RunsFile (F.gives files.now) (map M.state objects.items)
+        I.remaining O.contents file.now
         reader.old reader.new writer.old writer.new result }
 {
-    run_read(alloc, files.read_file(file), reader, writer)
+    run_read(alloc, objects, files.read_file(file), reader, writer)
 }
 
 // Tells whether a file is a configuration.
