@@ -26,3 +26,5 @@ mod requests;
 mod rows;
 #[cfg(test)]
 mod short;
+#[cfg(test)]
+mod walking;

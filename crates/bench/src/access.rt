@@ -37,12 +37,19 @@ write = \"\"
 notify = \"\"
 ";
 
-/// The policy of a text.
-pub fn policy_of(alloc: Global, text: &[u8]) -> io::Result<Policy> {
+// The policy of a text.
+fn policy_of(alloc: Global, text: &[u8]) -> io::Result<Policy> {
     match policy_in(alloc, text) {
         Ok(Some(policy)) => Ok(policy),
         _ => Err(Error::from(ErrorKind::InvalidData)),
     }
+}
+
+/// A policy of these rows of `[[family]]`, in TOML, where `public` may read the view `last`.
+pub fn policy_of_families(alloc: Global, families: &str) -> io::Result<Policy> {
+    let mut text = Vec::from_slice(alloc, HEAD.as_bytes())?;
+    text.extend_from_slice(families.as_bytes())?;
+    policy_of(alloc, &text)
 }
 
 /// A policy of so many families: those of the view `bridge`, one a group of objects, and last the one of the view `last`, which is

@@ -13,10 +13,10 @@ use std::time::Instant;
 const FRAMES: u32 = 200_000;
 
 /// How many ports the bridges have.
-const PORTS: [u16; 2] = [2, 32];
+pub const PORTS: [u16; 2] = [2, 32];
 
 /// How many addresses they have learned.
-const ROWS: [u32; 2] = [10, 1_024];
+pub const ROWS: [u32; 2] = [10, 1_024];
 
 const OWN: Mac = Mac([0x02, 0x00, 0x00, 0x00, 0x00, 0x0A]);
 
@@ -30,7 +30,8 @@ fn port() -> PortConfig {
     }
 }
 
-fn station(number: u32) -> Mac {
+/// The address of the station of this number, below 65,536.
+pub fn station(number: u32) -> Mac {
     let [_, _, high, low] = number.to_be_bytes();
     Mac([0x02, 0x00, 0x00, 0x01, high, low])
 }
@@ -61,8 +62,8 @@ fn carry(bridge: &mut Bridge, port: u16, source: Mac, destination: Mac) -> usize
     }
 }
 
-// Brings up all ports, at the edge, and learns so many stations by port 1.
-fn prepare(bridge: &mut Bridge, ports: u16, rows: u32) {
+/// Brings up all ports, at the edge, and learns so many stations by port 1.
+pub fn prepare(bridge: &mut Bridge, ports: u16, rows: u32) {
     for port in 1..=ports {
         set_edge(bridge, port);
     }
@@ -93,9 +94,11 @@ fn measure_bridge(rt: &HostRuntime, bridge: &mut Bridge, rows: u32) -> io::Resul
     print_turns(rt, "frames to everybody", FRAMES, &start)
 }
 
-/// A bridge of two ports.
-pub fn two_ports(alloc: Global) -> io::Result<Bridge> {
-    match Bridge::new(alloc, OWN, &[port(); 2]) {
+/// A bridge of so many ports, at most 32.
+pub fn bridge_of(alloc: Global, ports: u16) -> io::Result<Bridge> {
+    let list = [port(); 32];
+    let taken = usize::from(ports).min(list.len());
+    match Bridge::new(alloc, OWN, &list[..taken]) {
         Ok(bridge) => Ok(bridge),
         Err(_) => Err(Error::from(ErrorKind::InvalidData)),
     }
@@ -103,15 +106,12 @@ pub fn two_ports(alloc: Global) -> io::Result<Bridge> {
 
 /// Sends frames through bridges of 2 and 32 ports with 10 and 1,024 learned rows.
 pub fn measure_forwarding(rt: &HostRuntime) -> io::Result<()> {
-    let list = [port(); 32];
     for ports in PORTS {
         for rows in ROWS {
             println!(rt; "{ports} ports, {rows} rows")?;
-            let taken = usize::from(ports).min(list.len());
-            if let Ok(mut bridge) = Bridge::new(rt.alloc(), OWN, &list[..taken]) {
-                prepare(&mut bridge, ports, rows);
-                measure_bridge(rt, &mut bridge, rows)?;
-            }
+            let mut bridge = bridge_of(rt.alloc(), ports)?;
+            prepare(&mut bridge, ports, rows);
+            measure_bridge(rt, &mut bridge, rows)?;
         }
     }
     Ok(())

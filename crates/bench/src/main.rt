@@ -1,5 +1,5 @@
-//! Measurements in one process. Without words it prints their names, one a line; with a name it measures and prints
-//! figures. It has no contracts of its own: it is safe and ends.
+//! Measurements in one process. Without words it answers each request that is measured once, looks into the replies, and prints
+//! the names of the measurements, one a line; with a name it measures and prints figures, one a line.
 //!
 //! # Entry points
 //! The program, with no word or one.
@@ -15,19 +15,23 @@
 #![tactic(auto)]
 
 mod access;
+mod agent;
 mod bridge;
-mod bulk;
 mod forwarding;
 mod messages;
 mod print;
+mod replies;
+mod requests;
+mod scenes;
 mod sources;
 mod tree;
+mod trials;
 
 use access::measure_access;
 use bridge::{measure_addresses, measure_frames};
-use bulk::measure_bulk;
 use forwarding::measure_forwarding;
-use messages::{measure_decode, measure_encode, measure_script};
+use messages::{measure_decode, measure_encode};
+use scenes::{Work, do_work};
 use std::{env, io};
 use tree::measure_tree;
 
@@ -35,7 +39,7 @@ use tree::measure_tree;
 const NAMES: [&str; 9] = [
     "decode",
     "encode",
-    "bulk",
+    "agent",
     "script",
     "frames",
     "addresses",
@@ -48,12 +52,15 @@ fn main(rt: HostRuntime) -> io::Result<()> {
     let mut words = env::args(&rt)?;
     let _name = words.next();
     match words.next() {
-        None => print_names(&rt),
+        None => {
+            do_work(&rt, Work::Check)?;
+            print_names(&rt)
+        }
         Some(word) => match word.as_str() {
             "decode" => measure_decode(&rt),
             "encode" => measure_encode(&rt),
-            "bulk" => measure_bulk(&rt),
-            "script" => measure_script(&rt),
+            "agent" => do_work(&rt, Work::Measure),
+            "script" => do_work(&rt, Work::Script),
             "frames" => measure_frames(&rt),
             "addresses" => measure_addresses(&rt),
             "tree" => measure_tree(&rt),

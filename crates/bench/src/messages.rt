@@ -1,10 +1,9 @@
 //! Messages and scripts.
-use crate::access::policy_with;
-use crate::forwarding::two_ports;
 use crate::print::print_turns;
 use crate::sources::{Nowhere, Repeated};
-use agent_script::{built_in_world, run_script};
+use agent_script::run_script;
 use message_core::{ErrorStatus, MAX_REPLY, Request, decode, encode_answer};
+use setphase_core::{MibObject, Registry, World};
 use std::io;
 use std::io::{Error, ErrorKind};
 use std::time::Instant;
@@ -56,16 +55,15 @@ pub fn measure_encode(rt: &HostRuntime) -> io::Result<()> {
     print_turns(rt, "replies encoded", TURNS, &start)
 }
 
-/// Runs a script of the worked request, from memory to nowhere.
-pub fn measure_script(rt: &HostRuntime) -> io::Result<()> {
-    let world = match built_in_world(rt.alloc(), policy_with(rt.alloc(), 1)?) {
-        Ok(world) => world,
-        Err(_) => return Err(Error::from(ErrorKind::OutOfMemory)),
-    };
-    let bridge = two_ports(rt.alloc())?;
+/// Runs a script of the worked request over these objects and this world, from memory to nowhere.
+pub fn measure_lines<O: MibObject>(
+    rt: &HostRuntime,
+    registry: Registry<O>,
+    world: World,
+) -> io::Result<()> {
     let mut reader = Repeated::new(LINE, TURNS);
     let start = Instant::now(rt)?;
-    if run_script(rt.alloc(), world, bridge, &mut reader, &mut Nowhere).is_err() {
+    if run_script(rt.alloc(), registry, world, &mut reader, &mut Nowhere).is_err() {
         return Err(Error::from(ErrorKind::Other));
     }
     print_turns(rt, "script lines", TURNS, &start)

@@ -20,6 +20,8 @@ mod long;
 #[cfg(test)]
 mod named;
 #[cfg(test)]
+mod passing;
+#[cfg(test)]
 mod plain;
 #[cfg(test)]
 mod registry;

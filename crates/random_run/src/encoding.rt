@@ -2,17 +2,19 @@
 ghost use Rattle.std.specs.Prelude.{◌<◌};
 
 use crate::draws::Draws;
+use object_list::{COLUMNS, Object};
+use setphase_core::MibObject;
 use std::alloc::{AllocError, Global};
 
-/// How a name begins: 1.3; dot1dBase of RFC 4188 and its instances; further subtrees of the bridge; and others (X.690 8.19).
-const HEADS: [&[u8]; 9] = [
+/// How a name begins that need not be of an object: 1.3; groups and tables of the bridge (RFC
+/// 4188); others (X.690 8.19).
+const HEADS: [&[u8]; 8] = [
     &[0x2B],
-    &[0x2B, 0x06, 0x01, 0x02, 0x01, 0x11, 0x01],
-    &[0x2B, 0x06, 0x01, 0x02, 0x01, 0x11, 0x01, 0x01, 0x00],
-    &[0x2B, 0x06, 0x01, 0x02, 0x01, 0x11, 0x01, 0x02, 0x00],
-    &[0x2B, 0x06, 0x01, 0x02, 0x01, 0x11, 0x01, 0x03],
-    &[0x2B, 0x06, 0x01, 0x02, 0x01, 0x11, 0x04, 0x03, 0x01],
     &[0x2B, 0x06, 0x01, 0x02, 0x01],
+    &[0x2B, 0x06, 0x01, 0x02, 0x01, 0x11],
+    &[0x2B, 0x06, 0x01, 0x02, 0x01, 0x11, 0x02, 0x0F],
+    &[0x2B, 0x06, 0x01, 0x02, 0x01, 0x11, 0x04, 0x03, 0x01],
+    &[0x2B, 0x06, 0x01, 0x02, 0x01, 0x11, 0x04, 0x04],
     &[0x00],
     &[0x77],
 ];
@@ -46,18 +48,56 @@ fn put_subidentifier(out: &mut Vec<u8>, number: u32) -> Result<(), AllocError> {
     Ok(())
 }
 
-/// The content of a name of 2 to 128 numbers.
-pub fn draw_name(alloc: Global, draws: &mut Draws) -> Result<Vec<u8>, AllocError> {
-    let mut name = Vec::from_slice(alloc, draws.pick(&HEADS))?;
-    let most = draws.pick(&MORE);
+/// Appends numbers.
+fn put_numbers(out: &mut Vec<u8>, numbers: &[u32]) -> Result<(), AllocError> {
+    for number in numbers {
+        put_subidentifier(out, *number)?;
+    }
+    Ok(())
+}
+
+/// Appends so many numbers, up to a draw.
+fn put_more(draws: &mut Draws, most: u32, out: &mut Vec<u8>) -> Result<(), AllocError> {
     for _ in 0..draws.up_to(most) {
         let number = match draws.below(3) {
             0 => draws.word(),
             1 => draws.below(1_000),
             _ => draws.below(4),
         };
-        put_subidentifier(&mut name, number)?;
+        put_subidentifier(out, number)?;
     }
+    Ok(())
+}
+
+/// The content of the name of one of the 51 managed objects, which all begin with 1.3.
+fn draw_object(alloc: Global, draws: &mut Draws) -> Result<Vec<u8>, AllocError> {
+    let object = Object::of(draws.pick(&COLUMNS));
+    let mut name = Vec::from_slice(alloc, &[0x2B])?;
+    put_numbers(&mut name, object.prefix().get(2..).unwrap_or(&[]))?;
+    Ok(name)
+}
+
+/// Appends the index of a scalar, of a port or of a station's address, a longer one, or none.
+fn put_index(draws: &mut Draws, out: &mut Vec<u8>) -> Result<(), AllocError> {
+    match draws.below(8) {
+        0 => Ok(()),
+        1..4 => put_subidentifier(out, 0),
+        4..6 => put_subidentifier(out, draws.below(4)),
+        6 => put_numbers(out, &[2, 0, 0, 0, 0, draws.below(32)]),
+        _ => put_more(draws, 9, out),
+    }
+}
+
+/// The content of a name of 2 to 128 numbers, three times in four one of an object.
+pub fn draw_name(alloc: Global, draws: &mut Draws) -> Result<Vec<u8>, AllocError> {
+    if draws.is_once_in(4) {
+        let mut name = Vec::from_slice(alloc, draws.pick(&HEADS))?;
+        let most = draws.pick(&MORE);
+        put_more(draws, most, &mut name)?;
+        return Ok(name);
+    }
+    let mut name = draw_object(alloc, draws)?;
+    put_index(draws, &mut name)?;
     Ok(name)
 }
 

@@ -5,7 +5,8 @@ use std::alloc::{AllocError, Global};
 /// The bridges' group address.
 const BRIDGE_GROUP: [u8; 6] = [0x01, 0x80, 0xC2, 0x00, 0x00, 0x00];
 
-/// The times of a BPDU as they mostly are: message age 0, maximum age 20, hello time 2 and forward delay 15 seconds.
+/// The times of a BPDU as they mostly are: message age 0, maximum age 20, hello time 2 and forward
+/// delay 15 seconds.
 const TIMES: [u8; 8] = [0x00, 0x00, 0x14, 0x00, 0x02, 0x00, 0x0F, 0x00];
 
 /// The higher octets of the priorities of bridges.
@@ -22,7 +23,8 @@ fn draw_address(draws: &mut Draws) -> [u8; 6] {
     [a, b, c, d, draws.octet(), draws.octet()]
 }
 
-/// Where a frame goes: to a station, everybody, a reserved address (IEEE 802.1D-2004 7.12.6), or anywhere.
+/// Where a frame goes: to a station, everybody, a reserved address (IEEE 802.1D-2004 7.12.6), or
+/// anywhere.
 fn draw_destination(draws: &mut Draws) -> [u8; 6] {
     match draws.below(10) {
         0..5 => draw_station(draws),

@@ -1,5 +1,7 @@
-//! Runs a script of thousands of random lines with ample memory, and judges whether each was answered in full. It finds what no
-//! contract can say: that there is an answer where there is memory. With the word `script` it prints the script and runs nothing.
+//! Runs a script of thousands of random lines over the 51 objects of the built-in bridge, with
+//! ample memory, and judges whether each was answered in full. It finds what no contract can say:
+//! that there is an answer where there is memory. With the word `script` it prints the script and
+//! runs nothing.
 //!
 //! # Entry points
 //! The program, with no word or `script`.
@@ -23,13 +25,15 @@ mod policies;
 mod requests;
 mod script;
 
-use agent_script::{Run, built_in_world, run_script};
+use agent_script::{Run, run_script};
 use bridge_core::Bridge;
 use configuration::{BUILT_IN, Configuration, configuration_of_text};
 use counts::missing_kind;
 use draws::Draws;
 use judging::{WANT, verdict};
+use object_list::{COLUMNS, Object};
 use script::draw_script;
+use setphase_core::{MibObject, Registry, World, are_named};
 use std::alloc::Global;
 use std::io::{Error, ErrorKind, Write};
 use std::{env, io};
@@ -51,7 +55,8 @@ fn main(rt: HostRuntime) -> io::Result<()> {
     }
 }
 
-/// Runs a script, and prints what it showed: that each line was answered in full, and that each kind of line was printed.
+/// Runs a script, and prints what it showed: that each line was answered in full, and that each
+/// kind of line was printed.
 fn judge(rt: &HostRuntime, script: &[u8]) -> io::Result<()> {
     let mut output = Vec::new(rt.alloc());
     let run = run_over(rt.alloc(), script, &mut output)?;
@@ -65,20 +70,49 @@ fn judge(rt: &HostRuntime, script: &[u8]) -> io::Result<()> {
     }
 }
 
-/// Runs a script by the built-in configuration.
+/// Runs a script over all objects, each in a box, by the built-in configuration.
 fn run_over(alloc: Global, script: &[u8], output: &mut Vec<u8>) -> io::Result<Run> {
+    let world = open_world(alloc)?;
+    let mut objects: Vec<Box<dyn MibObject + Send>> = Vec::new(alloc);
+    for column in COLUMNS {
+        objects.push(Box::new(alloc, Object::of(column))?)?;
+    }
+    run_by(alloc, objects, world, script, output)
+}
+
+/// Runs a script over these objects and this world.
+fn run_by<O: MibObject>(
+    alloc: Global,
+    objects: Vec<O>,
+    world: World,
+    script: &[u8],
+    output: &mut Vec<u8>,
+) -> io::Result<Run> {
+    if !are_named(objects.as_slice()) {
+        return Err(Error::from(ErrorKind::InvalidData));
+    }
+    let Ok(registry) = Registry::new(objects) else {
+        return Err(Error::from(ErrorKind::InvalidData));
+    };
+    let mut reader = script;
+    match run_script(alloc, registry, world, &mut reader, output) {
+        Ok(run) => Ok(run),
+        Err(_) => Err(Error::from(ErrorKind::Other)),
+    }
+}
+
+/// The world of the built-in configuration as it opens.
+fn open_world(alloc: Global) -> io::Result<World> {
     let Ok(configuration) = configuration_of_text(alloc, BUILT_IN) else {
         return Err(Error::from(ErrorKind::InvalidData));
     };
     let bridge = make_bridge(alloc, &configuration)?;
-    let Ok(world) = built_in_world(alloc, configuration.policy) else {
-        return Err(Error::from(ErrorKind::OutOfMemory));
-    };
-    let mut reader = script;
-    match run_script(alloc, world, bridge, &mut reader, output) {
-        Ok(run) => Ok(run),
-        Err(_) => Err(Error::from(ErrorKind::Other)),
-    }
+    Ok(World {
+        bridge,
+        policy: configuration.policy,
+        bad_communities: 0,
+        unknown_contexts: 0,
+    })
 }
 
 /// The bridge of a configuration.

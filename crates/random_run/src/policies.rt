@@ -73,13 +73,15 @@ const CONTEXTS: [&str; 3] = [
     "contexts = [\"elsewhere\", \"a-context-of-32-octets----------\"]\n",
 ];
 
-/// What is wrong in a policy: an unknown key, a row twice, a name that is none, a mask that is none, a level that is none.
+/// What is wrong in a policy: an unknown key, a row twice, a name that is none, a mask that is
+/// none, a level that is none.
 const FAULTS: [&str; 6] = [
     "[[family]]\nview = \"bridge\"\nsubtree = \"1.3\"\nmask = \"\"\nincluded = true\ncolour = 1\n",
     "[[community]]\nindex = \"p\"\nname = \"twice\"\nsecurity = \"public\"\ncontext = \"\"\n",
     "[[family]]\nview = \"bridge\"\nsubtree = \"1.03\"\nmask = \"\"\nincluded = true\n",
     "[[family]]\nview = \"bridge\"\nsubtree = \"1.3\"\nmask = \"FF8\"\nincluded = true\n",
-    "[[access]]\ngroup = \"x\"\nprefix = \"\"\nmodel = 2\nlevel = 4\nexact = true\nread = \"\"\nwrite = \"\"\nnotify = \"\"\n",
+    "[[access]]\ngroup = \"x\"\nprefix = \"\"\nmodel = 2\nlevel = 4\nexact = true\n\
+     read = \"\"\nwrite = \"\"\nnotify = \"\"\n",
     "[[group]]\nmodel = 2\nname = \"without a group\"\n",
 ];
 
@@ -91,20 +93,33 @@ const VIEWS: [&str; 4] = [
     "a-view-of-32-octets-------------",
 ];
 
-/// How the subtrees of families begin: at dot1dBase of RFC 4188, at one of its objects, or elsewhere.
-const SUBTREES: [&str; 5] = [
-    "1.3.6.1.2.1.17",
+/// How the subtrees of families begin: at a group of RFC 4188, a scalar, an instance, a table, a
+/// column, a port in all columns, or elsewhere.
+const SUBTREES: [&str; 9] = [
+    "1.3.6.1.2.1.17.1",
     "1.3.6.1.2.1.17.1.2",
     "1.3.6.1.2.1.17.1.3.0",
+    "1.3.6.1.2.1.17.2.15",
+    "1.3.6.1.2.1.17.2.15.1.3",
+    "1.3.6.1.2.1.17.2.15.1.0.2",
+    "1.3.6.1.2.1.17.4.3.1.2",
     "1.3.6",
     "2.999",
 ];
 
-/// How many numbers follow at most; with 106 the subtree may have more than the view leaves room for.
-const MORE: [u32; 5] = [0, 0, 4, 70, 106];
+/// How many numbers follow at most; with 106 the subtree may have more than the view leaves room
+/// for.
+const MORE: [u32; 6] = [0, 0, 0, 4, 70, 106];
 
 /// The masks of families, of 0 to 16 octets.
-const MASKS: [&str; 5] = ["", "", "FFA0", "fe7f", "FFFFFFFFFFFFFFFFFFFFFFFFFFFFFFFF"];
+const MASKS: [&str; 6] = [
+    "",
+    "",
+    "FFA0",
+    "FFD0",
+    "fe7f",
+    "FFFFFFFFFFFFFFFFFFFFFFFFFFFFFFFF",
+];
 
 /// How many families a policy has beside that of the whole bridge.
 const FAMILIES: [u32; 4] = [0, 1, 3, 24];
@@ -139,7 +154,8 @@ pub fn draw_policy(alloc: Global, draws: &mut Draws) -> io::Result<Vec<u8>> {
     let mut text = Vec::from_slice(alloc, draws.pick(&CONTEXTS).as_bytes())?;
     text.extend_from_slice(ROWS.as_bytes())?;
     text.extend_from_slice(
-        b"[[family]]\nview = \"bridge\"\nsubtree = \"1.3.6.1.2.1.17.1\"\nmask = \"\"\nincluded = true\n",
+        b"[[family]]\nview = \"bridge\"\nsubtree = \"1.3.6.1.2.1.17\"\nmask = \"\"\n\
+          included = true\n",
     )?;
     for _ in 0..draws.pick(&FAMILIES) {
         put_family(draws, &mut text)?;

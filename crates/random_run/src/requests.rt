@@ -8,7 +8,8 @@ const VERSIONS: [u8; 24] = [
     1, 1, 1, 1, 1, 1, 1, 1, 1, 1, 1, 1, 1, 1, 1, 1, 1, 1, 1, 1, 1, 1, 0, 3,
 ];
 
-/// The tags of the PDUs: GetRequest, GetNextRequest, SetRequest and GetBulkRequest several times each, and two others.
+/// The tags of the PDUs: GetRequest, GetNextRequest, SetRequest and GetBulkRequest several times
+/// each, and two others.
 const PDU_TYPES: [u8; 17] = [
     0xA0, 0xA0, 0xA0, 0xA1, 0xA1, 0xA1, 0xA3, 0xA3, 0xA3, 0xA3, 0xA5, 0xA5, 0xA5, 0xA5, 0xA5, 0xA2,
     0xA7,
@@ -47,7 +48,7 @@ const NUMBERS: [&[u8]; 10] = [
 ];
 
 /// How many bindings a request has.
-const BINDINGS: [u32; 9] = [0, 1, 1, 1, 2, 3, 5, 9, 40];
+const BINDINGS: [u32; 9] = [0, 1, 1, 2, 3, 5, 9, 40, 80];
 
 /// Appends a binding, whose value is Null half the time.
 fn put_binding(alloc: Global, draws: &mut Draws, out: &mut Vec<u8>) -> Result<(), AllocError> {
@@ -70,8 +71,8 @@ fn draw_bindings(alloc: Global, draws: &mut Draws) -> Result<Vec<u8>, AllocError
     Ok(bindings)
 }
 
-/// Appends one of the two numbers of a request: an error's status and index, or how many names are no repeaters and how often
-/// the others are repeated.
+/// Appends one of the two numbers of a request: an error's status and index, or how many names are
+/// no repeaters and how often the others are repeated.
 fn put_number(alloc: Global, draws: &mut Draws, out: &mut Vec<u8>) -> Result<(), AllocError> {
     if draws.is_once_in(4) {
         put_tlv(out, 0x02, &draw_signed(alloc, draws, 4)?)

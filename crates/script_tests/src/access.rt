@@ -1,34 +1,34 @@
 //! Access, its audit, and what is dropped (RFC 3415, 3.2; RFC 3416, 4.2).
-use crate::message::Held::{Integer, NoInstance, NoObject, Null};
-use crate::message::{Bound, failed, get, next, of, reply, set};
-use crate::policies::{MASKED, READERS, STRANGERS};
+use crate::message::Held::{Integer, NoInstance, Null};
+use crate::message::{Bound, failed, get, of, reply, set};
+use crate::names::{PORTS, PRIORITY};
+use crate::policies::{READERS, STRANGERS};
 use crate::rows::Said::{Drop, Reply};
-use crate::rows::{AUDIT_ON, Row, assert_rows, audited, line_with};
-use crate::support::{
-    PORTS, PRIORITY, assert_over, assert_said, built_in, built_in_for, joined, repeated, world_of,
-};
-use agent_core::PlainWorld;
+use crate::rows::{AUDIT_ON, Row, assert_rows, audited, dropped, told};
+use crate::support::{assert_said, joined, repeated};
+use crate::worlds::{built_in, built_in_for};
 use std::alloc::{AllocGlobal, Global};
 use std::process::Abort;
 use std::test::Fail;
 
 #[test]
 fn audits_what_is_refused(rt: HostRuntime) -> Result<(), Fail> {
+    let bindings = [(PRIORITY, Integer(4096))];
     assert_rows(
         &rt,
         built_in(rt.alloc())?,
-        AUDIT_ON,
         &[
+            AUDIT_ON,
             audited(
                 "no write view",
-                set(&[(PRIORITY, Integer(4096))]),
-                Reply(failed(16, &[(PRIORITY, Integer(4096))])),
+                set(&bindings),
+                Reply(failed(16, &bindings)),
                 "set 16 0 noSuchView access(readers,,2,1) empty",
             ),
             audited(
                 "a write view, and nothing that can be written",
-                of("admin", set(&[(PRIORITY, Integer(4096))])),
-                Reply(of("admin", failed(5, &[(PRIORITY, Integer(4096))]))),
+                of("admin", set(&bindings)),
+                Reply(of("admin", failed(5, &bindings))),
                 "set 5 0 ok access(writers,,2,1) view bridge",
             ),
             audited(
@@ -36,6 +36,27 @@ fn audits_what_is_refused(rt: HostRuntime) -> Result<(), Fail> {
                 of("publik", get(&[(PORTS, Null)])),
                 Drop("UnknownCommunity"),
                 "get drop unknownCommunity",
+            ),
+        ],
+    )
+}
+
+// A Set that another encoder wrote, its reply, and its audit.
+#[test]
+fn answers_a_set_without_a_write_view(rt: HostRuntime) -> Result<(), Fail> {
+    assert_rows(
+        &rt,
+        built_in(rt.alloc())?,
+        &[
+            AUDIT_ON,
+            Row::Line(
+                "request 302902010104067075626C6963A31C020101020100020100\
+                 3011300F06092B060102011102020002021000",
+                &[
+                    "reply 302902010104067075626C6963A21C020101020110020100",
+                    "3011300F06092B060102011102020002021000\n",
+                    "audit set 16 0 noSuchView access(readers,,2,1) empty\n",
+                ],
             ),
         ],
     )
@@ -51,8 +72,8 @@ fn turns_strangers_away(rt: HostRuntime) -> Result<(), Fail> {
     assert_rows(
         &rt,
         built_in_for(rt.alloc(), &[STRANGERS])?,
-        AUDIT_ON,
         &[
+            AUDIT_ON,
             audited(
                 "no group",
                 of("lost", get(&[(PORTS, Null)])),
@@ -80,9 +101,12 @@ fn counts_what_is_dropped(rt: HostRuntime) -> Result<(), Fail> {
     assert_said(
         &rt,
         &[
-            "request 302702010104067075626C6963A01A020101020100020100300F300D06092B060102011101020005\n",
-            "request 302702010004067075626C6963A01A020101020100020100300F300D06092B06010201110102000500\n",
-            "request 302702010104067075626C696BA01A020101020100020100300F300D06092B06010201110102000500\n",
+            "request 302702010104067075626C6963A01A020101020100020100",
+            "300F300D06092B060102011101020005\n",
+            "request 302702010004067075626C6963A01A020101020100020100",
+            "300F300D06092B06010201110102000500\n",
+            "request 302702010104067075626C696BA01A020101020100020100",
+            "300F300D06092B06010201110102000500\n",
             "counts\n",
         ],
         &["drop Malformed\ndrop BadVersion\ndrop UnknownCommunity\ncounts 0 1 1 0 0 1 0\n"],
@@ -91,65 +115,12 @@ fn counts_what_is_dropped(rt: HostRuntime) -> Result<(), Fail> {
 
 #[test]
 fn counts_unknown_contexts(rt: HostRuntime) -> Result<(), Fail> {
-    let asked = line_with(rt.alloc(), "request", &of("far", get(&[(PORTS, Null)])))?;
-    assert_over(
-        &rt,
-        built_in_for(rt.alloc(), &[STRANGERS])?,
-        &[&asked, &asked, "counts\n"],
-        &["drop NoSuchContext\ndrop NoSuchContext\ncounts 0 0 0 0 0 0 2\n"],
-    )
-}
-
-// The columns 3, 4 and 5 of the port table, for two ports.
-fn columns(alloc: Global) -> Result<PlainWorld, Fail> {
-    let instances = [
-        ("1.3.6.1.2.1.17.2.15.1.3.1", Integer(1)),
-        ("1.3.6.1.2.1.17.2.15.1.3.2", Integer(1)),
-        ("1.3.6.1.2.1.17.2.15.1.4.1", Integer(1)),
-        ("1.3.6.1.2.1.17.2.15.1.4.2", Integer(1)),
-        ("1.3.6.1.2.1.17.2.15.1.5.1", Integer(20000)),
-        ("1.3.6.1.2.1.17.2.15.1.5.2", Integer(20000)),
-    ];
-    let objects = [
-        "1.3.6.1.2.1.17.2.15.1.3",
-        "1.3.6.1.2.1.17.2.15.1.4",
-        "1.3.6.1.2.1.17.2.15.1.5",
-    ];
-    world_of(alloc, &instances, &objects, MASKED)
-}
-
-#[test]
-fn sees_by_families(rt: HostRuntime) -> Result<(), Fail> {
+    let asked = [(PORTS, Null)];
+    let far = dropped("no such context", of("far", get(&asked)), "NoSuchContext");
     assert_rows(
         &rt,
-        columns(rt.alloc())?,
-        AUDIT_ON,
-        &[
-            audited(
-                "a name in the view",
-                get(&[("1.3.6.1.2.1.17.2.15.1.5.2", Null)]),
-                Reply(reply(&[("1.3.6.1.2.1.17.2.15.1.5.2", Integer(20000))])),
-                "get 0 0 ok access(readers,,2,1) view p2",
-            ),
-            audited(
-                "a column that is left out",
-                get(&[("1.3.6.1.2.1.17.2.15.1.3.2", Null)]),
-                Reply(reply(&[("1.3.6.1.2.1.17.2.15.1.3.2", NoObject)])),
-                "get 0 0 ok access(readers,,2,1) view p2 denied 1 family(p2,1.3.6.1.2.1.17.2.15.1.3.0)",
-            ),
-            audited(
-                "a port that no family has",
-                get(&[("1.3.6.1.2.1.17.2.15.1.5.1", Null)]),
-                Reply(reply(&[("1.3.6.1.2.1.17.2.15.1.5.1", NoInstance)])),
-                "get 0 0 ok access(readers,,2,1) view p2 denied 1 none",
-            ),
-            audited(
-                "GetNext passes over what is hidden",
-                next(&[("1.3.6.1.2.1.17.2.15.1.2.2", Null)]),
-                Reply(reply(&[("1.3.6.1.2.1.17.2.15.1.4.2", Integer(1))])),
-                "next 0 0 ok access(readers,,2,1) view p2",
-            ),
-        ],
+        built_in_for(rt.alloc(), &[STRANGERS])?,
+        &[far, far, Row::Line("counts", &["counts 0 0 0 0 0 0 2\n"])],
     )
 }
 
@@ -166,7 +137,7 @@ mask = ""
 included = false
 "#;
 
-// The lines of a policy whose view `v` has not what is below a subtree, and then `audit on`.
+// The lines of a policy whose view `v` has not what is below a subtree.
 fn policy_without(alloc: Global, subtree: &str) -> Result<String, Fail> {
     let row = [
         "policy\n",
@@ -174,7 +145,7 @@ fn policy_without(alloc: Global, subtree: &str) -> Result<String, Fail> {
         VIEW_V,
         "subtree = \"",
         subtree,
-        "\"\nend\naudit on\n",
+        "\"\nend",
     ];
     joined(alloc, &row)
 }
@@ -198,12 +169,14 @@ fn assert_denied_below<R: Abort + AllocGlobal>(rt: &R, subtree: &str) -> Result<
     let policy = policy_without(rt.alloc(), subtree)?;
     let asked = [(below.as_str(), Null)];
     let answer = [(below.as_str(), NoInstance)];
-    let rows = [denied_row(&asked, &answer, audit.as_str())];
     assert_rows(
         rt,
         built_in(rt.alloc())?,
-        (policy.as_str(), "policy ok\n"),
-        &rows,
+        &[
+            told(policy.as_str(), &["policy ok\n"]),
+            AUDIT_ON,
+            denied_row(&asked, &answer, audit.as_str()),
+        ],
     )
 }
 

@@ -1,11 +1,12 @@
 //! Get, Set and requests of no names (RFC 3416, 4.2.1 and 4.2.5).
-use crate::message::Held::{Integer, NoInstance, NoObject, Null, Octets};
-use crate::message::{Message, bulk, failed, get, many, next, of, reply, set};
-use crate::rows::{NO_LINES, assert_rows, replied};
-use crate::support::{
-    ADDRESS, BRIDGE_ADDRESS, GET, PORTS, PRIORITY, ROOT_NAME, TWO_PORTS, assert_answers, built_in,
-    root,
-};
+use crate::message::Held::{Counter, Integer, Name, NoInstance, NoObject, Null, Octets, Ticks};
+use crate::message::{Held, Message, bulk, failed, get, next, of, reply, set};
+use crate::names::{ADDRESS, LAST, PRIORITY, ROOT, SINCE};
+use crate::rows::{Row, assert_rows, replied};
+use crate::support::{GET, TWO_PORTS, assert_answers, repeated};
+use crate::worlds::{OWN_ADDRESS, OWN_IDENTIFIER, built_in, first_objects};
+use std::alloc::AllocGlobal;
+use std::process::Abort;
 use std::test::Fail;
 
 // The same Get, as other encoders wrote it.
@@ -17,58 +18,129 @@ fn answers_a_get(rt: HostRuntime) -> Result<(), Fail> {
             ("the shortest lengths", GET, TWO_PORTS),
             (
                 "a length in the long form",
-                "request 3082002702010104067075626C6963A01A020101020100020100300F300D06092B06010201110102000500",
+                "request 3082002702010104067075626C6963A01A020101020100020100\
+                 300F300D06092B06010201110102000500",
                 TWO_PORTS,
             ),
             (
                 "an error-status, which means nothing",
-                "request 302702010104067075626C6963A01A020101020105020100300F300D06092B06010201110102000500",
+                "request 302702010104067075626C6963A01A020101020105020100\
+                 300F300D06092B06010201110102000500",
                 TWO_PORTS,
             ),
             (
                 "an id of four octets",
-                "request 302A02010104067075626C6963A01D020400000001020100020100300F300D06092B06010201110102000500",
+                "request 302A02010104067075626C6963A01D020400000001020100020100\
+                 300F300D06092B06010201110102000500",
                 TWO_PORTS,
             ),
             (
                 "small letters",
-                "request 302702010104067075626c6963a01a020101020100020100300f300d06092b06010201110102000500",
+                "request 302702010104067075626c6963a01a020101020100020100\
+                 300f300d06092b06010201110102000500",
                 TWO_PORTS,
             ),
         ],
     )
 }
 
+// An instance of each type, and one of each group.
+const OPENING: [Row<'static>; 1] = [Row::Shown(
+    "as it opens",
+    &[
+        (ADDRESS, Octets(OWN_ADDRESS)),
+        ("1.3.6.1.2.1.17.1.4.1.3.2", Name("0.0")),
+        (PRIORITY, Integer(32768)),
+        (SINCE, Ticks(0)),
+        (ROOT, Octets(OWN_IDENTIFIER)),
+        ("1.3.6.1.2.1.17.2.15.1.9.2", Octets(&[0x80, 2])),
+        ("1.3.6.1.2.1.17.2.16.0", Integer(2)),
+        ("1.3.6.1.2.1.17.2.19.1.2.1", Integer(2)),
+        ("1.3.6.1.2.1.17.4.1.0", Counter(0)),
+        ("1.3.6.1.2.1.17.4.2.0", Integer(300)),
+        (LAST, Counter(0)),
+    ],
+)];
+
+#[test]
+fn shows_the_bridge(rt: HostRuntime) -> Result<(), Fail> {
+    assert_rows(&rt, built_in(rt.alloc())?, &OPENING)
+}
+
+const MISSING: [Row<'static>; 1] = [Row::Shown(
+    "instances, a column without rows, objects, another group, and what there is",
+    &[
+        ("1.3.6.1.2.1.17.1.2.1", NoInstance),
+        ("1.3.6.1.2.1.17.1.2", NoInstance),
+        ("1.3.6.1.2.1.17.2.15.1.3.3", NoInstance),
+        ("1.3.6.1.2.1.17.4.3.1.2.2.0.0.0.1.1", NoInstance),
+        ("1.3.6.1.2.1.17.1.9.0", NoObject),
+        ("1.3.6.1.2.1.17.2.15", NoObject),
+        ("1.3.6.1.2.1.1.1.0", NoObject),
+        (ADDRESS, Octets(OWN_ADDRESS)),
+    ],
+)];
+
 #[test]
 fn tells_what_is_missing(rt: HostRuntime) -> Result<(), Fail> {
+    assert_rows(&rt, built_in(rt.alloc())?, &MISSING)
+}
+
+const OF_TWO_OBJECTS: [Row<'static>; 1] = [Row::Shown(
+    "the third object is left out",
+    &[
+        (ADDRESS, Octets(OWN_ADDRESS)),
+        ("1.3.6.1.2.1.17.1.2.1", NoInstance),
+        ("1.3.6.1.2.1.17.1.3.0", NoObject),
+    ],
+)];
+
+#[test]
+fn knows_the_objects_that_there_are(rt: HostRuntime) -> Result<(), Fail> {
+    assert_rows(&rt, first_objects(rt.alloc(), 2)?, &OF_TWO_OBJECTS)
+}
+
+#[test]
+fn replies_with_the_id_of_the_request(rt: HostRuntime) -> Result<(), Fail> {
+    let with_id = |message| Message {
+        id: -129,
+        ..message
+    };
     assert_rows(
         &rt,
         built_in(rt.alloc())?,
-        NO_LINES,
         &[replied(
-            "no such instance, an object's own name, no such object, another group, an instance",
-            Message {
-                id: -129,
-                ..get(&[
-                    ("1.3.6.1.2.1.17.1.2.1", Null),
-                    ("1.3.6.1.2.1.17.1.2", Null),
-                    ("1.3.6.1.2.1.17.1.9.0", Null),
-                    ("1.3.6.1.2.1.1.1.0", Null),
-                    (ADDRESS, Null),
-                ])
-            },
-            Message {
-                id: -129,
-                ..reply(&[
-                    ("1.3.6.1.2.1.17.1.2.1", NoInstance),
-                    ("1.3.6.1.2.1.17.1.2", NoInstance),
-                    ("1.3.6.1.2.1.17.1.9.0", NoObject),
-                    ("1.3.6.1.2.1.1.1.0", NoObject),
-                    (ADDRESS, Octets(BRIDGE_ADDRESS)),
-                ])
-            },
+            "an id of two octets",
+            with_id(get(&[(ADDRESS, Null)])),
+            with_id(reply(&[(ADDRESS, Octets(OWN_ADDRESS))])),
         )],
     )
+}
+
+// What is held under so many more numbers behind a name.
+fn assert_held_below<R: Abort + AllocGlobal>(
+    rt: &R,
+    name: &str,
+    more: usize,
+    held: Held<'static>,
+) -> Result<(), Fail> {
+    let long = repeated(rt.alloc(), name, more, ".1")?;
+    let instances = [(long.as_str(), held)];
+    assert_rows(
+        rt,
+        built_in(rt.alloc())?,
+        &[Row::Shown("a long name", &instances)],
+    )
+}
+
+// Names of more numbers than take no memory, 25 and 128: below an object, and below none.
+#[test]
+fn looks_for_long_names(rt: HostRuntime) -> Result<(), Fail> {
+    for more in [16usize, 119] {
+        assert_held_below(&rt, "1.3.6.1.2.1.17.1.1", more, NoInstance)?;
+        assert_held_below(&rt, "1.3.6.1.2.1.17.1.9", more, NoObject)?;
+    }
+    Ok(())
 }
 
 #[test]
@@ -82,7 +154,6 @@ fn answers_no_names_with_none(rt: HostRuntime) -> Result<(), Fail> {
     assert_rows(
         &rt,
         built_in(rt.alloc())?,
-        NO_LINES,
         &[
             replied("a Get", numbers(get(&[])), none),
             replied("a GetNext", numbers(next(&[])), none),
@@ -94,34 +165,17 @@ fn answers_no_names_with_none(rt: HostRuntime) -> Result<(), Fail> {
 
 #[test]
 fn fails_a_set(rt: HostRuntime) -> Result<(), Fail> {
+    let bindings = [(PRIORITY, Integer(4096))];
     assert_rows(
         &rt,
         built_in(rt.alloc())?,
-        NO_LINES,
-        &[replied(
-            "genErr, since nothing can be written",
-            of("admin", set(&[(PRIORITY, Integer(4096))])),
-            of("admin", failed(5, &[(PRIORITY, Integer(4096))])),
-        )],
-    )
-}
-
-// A hundred names and the end of a binding each are within a request; their values are not within a reply.
-#[test]
-fn answers_by_the_size_rule(rt: HostRuntime) -> Result<(), Fail> {
-    let too_big = failed(1, &[]);
-    let ports = many(rt.alloc(), 100, (PORTS, Null))?;
-    assert_rows(
-        &rt,
-        built_in(rt.alloc())?,
-        NO_LINES,
-        &[replied("a hundred counts of ports", get(&ports), too_big)],
-    )?;
-    let roots = many(rt.alloc(), 100, (ROOT_NAME, Null))?;
-    assert_rows(
-        &rt,
-        root(rt.alloc())?,
-        NO_LINES,
-        &[replied("a hundred roots", get(&roots), too_big)],
+        &[
+            replied(
+                "genErr, since nothing can be written",
+                of("admin", set(&bindings)),
+                of("admin", failed(5, &bindings)),
+            ),
+            Row::Shown("the priority as before", &[(PRIORITY, Integer(32768))]),
+        ],
     )
 }

@@ -1,10 +1,10 @@
 //! Lines that are none, and datagrams that give no request.
 use crate::message::Held::Null;
 use crate::message::{Bound, Message, Pdu, get, of};
-use crate::rows::{NO_LINES, Row, assert_rows, dropped};
-use crate::support::{
-    GET, PORTS, assert_answers, assert_said, assert_scripts, built_in, repeated, said_to,
-};
+use crate::names::PORTS;
+use crate::rows::{Row, assert_rows, dropped};
+use crate::support::{GET, assert_answers, assert_said, assert_scripts, repeated, said_to};
+use crate::worlds::built_in;
 use std::alloc::AllocGlobal;
 use std::process::Abort;
 use std::test::Fail;
@@ -16,33 +16,39 @@ fn drops_what_is_no_request(rt: HostRuntime) -> Result<(), Fail> {
         &[
             (
                 "version 1",
-                "request 302702010004067075626C6963A01A020101020100020100300F300D06092B06010201110102000500",
+                "request 302702010004067075626C6963A01A020101020100020100\
+                 300F300D06092B06010201110102000500",
                 "drop BadVersion",
             ),
             (
                 "version 1, and a PDU of another type",
-                "request 302702010004067075626C6963A61A020101020100020100300F300D06092B06010201110102000500",
+                "request 302702010004067075626C6963A61A020101020100020100\
+                 300F300D06092B06010201110102000500",
                 "drop BadVersion",
             ),
             ("no octets", "request ", "drop Malformed"),
             (
                 "a length of no form",
-                "request 308002010104067075626C6963A01A020101020100020100300F300D06092B06010201110102000500",
+                "request 308002010104067075626C6963A01A020101020100020100\
+                 300F300D06092B06010201110102000500",
                 "drop Malformed",
             ),
             (
                 "an octet that is left over",
-                "request 302702010104067075626C6963A01A020101020100020100300F300D06092B0601020111010200050000",
+                "request 302702010104067075626C6963A01A020101020100020100\
+                 300F300D06092B0601020111010200050000",
                 "drop Malformed",
             ),
             (
                 "a PDU past the end",
-                "request 302702010104067075626C6963A21B020101020100020100300F300D06092B06010201110102000500",
+                "request 302702010104067075626C6963A21B020101020100020100\
+                 300F300D06092B06010201110102000500",
                 "drop Malformed",
             ),
             (
                 "a number that begins with an idle octet",
-                "request 302702010104067075626C6963A01A020101020100020100300F300D06092B80010201110102000500",
+                "request 302702010104067075626C6963A01A020101020100020100\
+                 300F300D06092B80010201110102000500",
                 "drop Malformed",
             ),
         ],
@@ -64,7 +70,6 @@ fn drops_a_pdu_that_is_no_request(rt: HostRuntime) -> Result<(), Fail> {
     assert_rows(
         &rt,
         built_in(rt.alloc())?,
-        NO_LINES,
         &[
             other(Pdu::Response, &ports),
             other(Pdu::TrapOfVersion1, &ports),

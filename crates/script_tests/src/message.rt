@@ -1,5 +1,5 @@
-//! Messages of SNMP version 2c, encoded here by hand (X.690; RFC 1901, section 3; RFC 3416, section 3), so that what tests send
-//! and await does not hang on the program's own encoder.
+//! Messages of SNMP version 2c, encoded here by hand (X.690; RFC 1901, section 3; RFC 3416, section
+//! 3), so that what tests send and await does not hang on the program's own encoder.
 use std::alloc::{AllocGlobal, Global};
 use std::process::Abort;
 use std::test::Fail;
@@ -15,6 +15,10 @@ pub enum Held<'a> {
     Octets(&'a [u8]),
     /// OBJECT IDENTIFIER, in dotted text.
     Name(&'a str),
+    /// Counter32.
+    Counter(u32),
+    /// TimeTicks, in hundredths of a second.
+    Ticks(u32),
     /// noSuchObject.
     NoObject,
     /// noSuchInstance.
@@ -177,6 +181,8 @@ fn binding_of(alloc: Global, name: &str, held: Held<'_>) -> Result<Vec<u8>, Fail
         Held::Integer(number) => push_integer(&mut content, number)?,
         Held::Octets(octets) => push_tagged(&mut content, 4, octets)?,
         Held::Name(text) => push_name(alloc, &mut content, text)?,
+        Held::Counter(count) => push_unsigned(&mut content, 0x41, count)?,
+        Held::Ticks(ticks) => push_unsigned(&mut content, 0x43, ticks)?,
         Held::NoObject => push_tagged(&mut content, 0x80, &[])?,
         Held::NoInstance => push_tagged(&mut content, 0x81, &[])?,
         Held::End => push_tagged(&mut content, 0x82, &[])?,
@@ -215,6 +221,20 @@ fn push_integer(out: &mut Vec<u8>, number: i32) -> Result<(), Fail> {
         _ => 0,
     };
     push_tagged(out, 2, &octets[idle..])
+}
+
+// Adds a number of 32 bits that is not negative, in its shortest form under a tag (RFC 2578, 7.1;
+// X.690, 8.3).
+fn push_unsigned(out: &mut Vec<u8>, tag: u8, number: u32) -> Result<(), Fail> {
+    let octets = u64::from(number).to_be_bytes();
+    let idle = match number {
+        0..=0x7F => 7,
+        0x80..=0x7FFF => 6,
+        0x8000..=0x7F_FFFF => 5,
+        0x80_0000..=0x7FFF_FFFF => 4,
+        _ => 3,
+    };
+    push_tagged(out, tag, &octets[idle..])
 }
 
 // Adds an OBJECT IDENTIFIER in dotted text (X.690, 8.19): its first two numbers stand as one.

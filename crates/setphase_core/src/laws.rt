@@ -88,7 +88,7 @@ pub fn nothing_shown_is_missed()
 {}
 
 /// After a name no more objects are passed over than there are to be passed over in all.
-pub fn passed_at_most_once()
+pub fn no_more_are_passed_after_a_name()
     ensures { (passes : List ℕ → Bool) (rows : List ObjectRow) (name : List ℕ)
         → passed_after passes rows name ≤ count_by (λ row. passes row.prefix) rows }
 {}

@@ -17,17 +17,18 @@
 //! object shows, row by row; `specs/Names.antt`: the objects' names; `specs/Values.antt`: values by
 //! index; `specs/Objects.antt`: an object as plain data; `specs/Registry.antt`: the order of
 //! objects, and all their instances; `specs/Searching.antt`: where a name stands among those of
-//! objects; `specs/Passing.antt`: the objects that a walk does not pass over, and how many it passes
-//! over; `specs/Opening.antt`: all that a bridge of two ports shows as it opens;
-//! `specs/InUse.antt`: all that a bridge of four ports shows, made by hand as if in use.
+//! objects; `specs/Passing.antt`: the objects that a walk does not pass over, and how many it does;
+//! `specs/Opening.antt`: all that a bridge of two ports shows as it opens; `specs/InUse.antt`: all
+//! that a bridge of four ports shows, made by hand as if in use.
 //!
 //! # Laws
 //! In [`laws`]: the settings of a world are a finite map; of the names of a registry's objects none
 //! begins another; the names of all instances rise, whatever the objects are, where the learned
-//! rows of the bridge are by rising address, as those of every `Bridge` are; a walk that passes over
-//! only objects none of whose names is shown misses nothing that is shown; the 51 objects make a
-//! registry; they show 75 instances of a bridge of two ports as it opens, and 135 of a bridge of
-//! four ports, made by hand as if in use, most of whose facts differ from one another.
+//! rows of the bridge are by rising address, as those of every `Bridge` are; a walk that passes
+//! over only objects none of whose names is shown misses nothing that is shown, and passes over no
+//! more of them after a name than there are; the 51 objects make a registry; they show 75 instances
+//! of a bridge of two ports as it opens, and 135 of a bridge of four ports, made by hand as if in
+//! use, most of whose facts differ from one another.
 //!
 //! # Not claimed
 //! That changed settings are in force: `Bridge::settle` comes behind them. That the objects of a

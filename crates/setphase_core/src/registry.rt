@@ -96,8 +96,8 @@ impl<O: MibObject> Registry<O> {
 
     /// Hands on that the objects are in the order of their names, none of which begins another,
     /// that each stands under 1.3 and has room behind it for any index, that the names of the
-    /// instances rise, and that each instance can be served, whatever the objects and the world are,
-    /// also of those objects that are not passed over, whatever the test is; it does nothing.
+    /// instances rise, and that each instance can be served, whatever the objects and the world
+    /// are, and also of the objects that a test leaves, whatever it passes over; it does nothing.
     pub fn known(&self, world: &World)
         ensures ordered { first_fault (rows_of self.now) ≡ None }
         ensures apart { AreApart (prefixes_of (rows_of self.now)) }
@@ -158,9 +158,11 @@ impl<O: MibObject> Registry<O> {
         let place = place_uncounted::<O, Brand>(objects, name, Blank::new(1));
         next_from(alloc, objects, world, name, start_of(objects, name, place))
     }
-    /// The same of the objects that are not passed over. It is one step, and one for each object
-    /// that is passed over between the name and the instance, or the end: so the steps and the
-    /// objects still ahead to be passed over are as many as before, and one more.
+
+    /// The first instance after a name, where there is one, among those of the objects that are not
+    /// passed over. It takes memory as `next` does. It is one step, and one for each object that is
+    /// passed over between the name and the instance, or the end: so the steps, and the objects
+    /// ahead that are to be passed over, are together as many as before, and one more.
     pub fn next_open<P: Passing, L: Ledger>(
         &self,
         alloc: Global,
