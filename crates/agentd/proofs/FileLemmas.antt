@@ -20,14 +20,13 @@ read_of : (Gives : List ℕ → Result (List ℕ) NotRead → Type 0) (file : Li
 read_of Gives file read named gave = record { named = named_by file read named; gave = gave }
 
 pub file_run : {I O : Type 0} (Gives : List ℕ → Result (List ℕ) NotRead → Type 0)
-    (remaining : I → Option (List ℕ)) (contents : O → Option (List ℕ))
-    (objects : List ObjectState) (file : List ℕ)
-    (read : Result (Vec ℕ Global) NotRead) (reader reader' : I) (writer writer' : O)
+    (objects : List ObjectState) (remaining : I → Option (List ℕ))
+    (contents : O → Option (List ℕ)) (file : List ℕ) (read : Result (Vec ℕ Global) NotRead) (reader reader' : I) (writer writer' : O)
     (ended : Result (Unit {0}) Failure) → IfErr read (λ why. IsNotRead file why)
     → Gives file (read_view read)
     → RunsRead remaining contents objects (read_view read) reader reader' writer writer' ended
-    → RunsFile Gives remaining contents objects file reader reader' writer writer' ended
-file_run Gives remaining contents objects file read reader reader' writer writer' ended named gave ran =
+    → RunsFile Gives objects remaining contents file reader reader' writer writer' ended
+file_run Gives objects remaining contents file read reader reader' writer writer' ended named gave ran =
     record { read = read_view read; is = read_of Gives file read named gave; ran = ran }
 
 pub file_check : {O : Type 0} (Gives : List ℕ → Result (List ℕ) NotRead → Type 0)

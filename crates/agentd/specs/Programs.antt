@@ -2,6 +2,7 @@
 use Rattle.std.specs.Prelude.{◌≡◌, ℕ, List, Option, Result, Ok, Err}
 use Rattle.setphase_core.specs.Objects.{ObjectState}
 use Rattle.configuration.specs.declared.configuration.TheConstants.{BUILT_IN}
+use Rattle.setphase_core.specs.Objects.{ObjectState}
 use Rattle.agent_script.specs.declared.session.Run.{Run}
 use Rattle.agentd.specs.declared.files.NotRead.{NotRead}
 use Rattle.agentd.specs.declared.opening.NotRun.{NotRun}
@@ -18,11 +19,10 @@ use Rattle.agentd.specs.Endings.{status_of, said_of, ended_by, read_failure, IsL
 use Rattle.agentd.specs.Runs.{IsUntouched, IsRunBy}
 use Rattle.agentd.specs.Telling.{IsTold, IsCheckOf}
 
--- A reader and a writer, and the objects that answer requests.
-module _ {I O : Type 0} (remaining : I → Option (List ℕ)) (contents : O → Option (List ℕ))
-    (objects : List ObjectState) where
-  -- a run by these octets ended the program so
-  pub record RunsBy (octets : List ℕ) (reader reader' : I) (writer writer' : O) (ended : Result (Unit {0}) Failure) : Type 0 where
+module _ {I O : Type 0} (remaining : I → Option (List ℕ)) (contents : O → Option (List ℕ)) where
+  -- a run by these octets, over the objects that were handed in, ended the program so
+  pub record RunsBy (objects : List ObjectState) (octets : List ℕ) (reader reader' : I)
+      (writer writer' : O) (ended : Result (Unit {0}) Failure) : Type 0 where
     pub result : Result Run NotRun
     pub run : IsRunBy remaining contents objects octets reader reader' writer writer' result
     pub is : ended ≡ ended_by result
@@ -33,19 +33,23 @@ module _ {I O : Type 0} (remaining : I → Option (List ℕ)) (contents : O → 
     pub untouched : IsUntouched remaining contents reader reader' writer writer'
 
   -- A run by what was read of a file: by its octets, and by nothing else where they were not had.
-  abbrev pub RunsRead : Result (List ℕ) NotRead → I → I → O → O → Result (Unit {0}) Failure → Type 0
-  RunsRead (Ok octets) reader reader' writer writer' ended = RunsBy octets reader reader' writer writer' ended
-  RunsRead (Err why) reader reader' writer writer' ended = FailsFirst (read_failure why) reader reader' writer writer' ended
+  abbrev pub RunsRead : List ObjectState → Result (List ℕ) NotRead → I → I → O → O
+      → Result (Unit {0}) Failure → Type 0
+  RunsRead objects (Ok octets) reader reader' writer writer' ended =
+      RunsBy objects octets reader reader' writer writer' ended
+  RunsRead objects (Err why) reader reader' writer writer' ended =
+      FailsFirst (read_failure why) reader reader' writer writer' ended
 
   -- the program told something, and read nothing
   pub record Tells (text : List ℕ) (reader reader' : I) (writer writer' : O) (ended : Result (Unit {0}) Failure) : Type 0 where
     pub unread : reader' ≡ reader
     pub told : IsTold contents text writer writer' ended
 
--- Beside these a reader of files, by what a read of the file of a name may give.
+-- Beside these a reader of files, by what a read of the file of a name may give, and the objects that
+-- were handed in.
 module _ {I O : Type 0} (Gives : List ℕ → Result (List ℕ) NotRead → Type 0)
-    (remaining : I → Option (List ℕ)) (contents : O → Option (List ℕ))
-    (objects : List ObjectState) where
+    (objects : List ObjectState) (remaining : I → Option (List ℕ))
+    (contents : O → Option (List ℕ)) where
   -- a file was read, or not, and the program ran by what was read of it
   pub record RunsFile (file : List ℕ) (reader reader' : I) (writer writer' : O)
       (ended : Result (Unit {0}) Failure) : Type 0 where

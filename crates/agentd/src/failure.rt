@@ -27,7 +27,8 @@ pub enum Failure<'a> {
     NotText,
     /// The file of the configuration cannot be read.
     CannotRead(&'a str),
-    /// The configuration is none, or there is no memory for it.
+    /// The configuration is none, there is no memory for it or for the objects, or these make no
+    /// registry.
     Refused,
     /// The input could not be read to its end.
     Input,

@@ -1,13 +1,13 @@
 //! The agent, driven by a script from standard input.
 //!
 //! # Entry points
-//! `run_words` over words, streams and a reader of files gives the exit status, 0, 1 or 2, and
-//! whether the line of a failure was written whole. `run_octets` runs the script by the octets of a
-//! configuration, `check_octets` tells whether octets are one.
+//! `run_words` over managed objects, words, streams and a reader of files gives the exit status, 0, 1
+//! or 2, and whether the line of a failure was written whole. `run_octets` runs the script over
+//! objects by the octets of a configuration, `check_octets` tells whether octets are one.
 //!
 //! # Definitions
 //! `specs/Words.antt`: what words ask for; `specs/Files.antt`: what a read of a file gave;
-//! `specs/Agents.antt`: the world that a configuration opens, and which objects make a registry; `specs/Runs.antt`: what a run by octets
+//! `specs/Agents.antt`: the world that a configuration opens; `specs/Runs.antt`: what a run by octets
 //! promises; `specs/Endings.antt`: statuses, and the line of each failure; `specs/Telling.antt`: what
 //! a check tells; `specs/Programs.antt`: what the program does with its words.
 //!
@@ -15,7 +15,8 @@
 //! None.
 //!
 //! # Not claimed
-//! That the words are those of the command line. That a write failed where the line of a failure is
+//! That the words are those of the command line, and that the objects that `main` makes are the 51 of
+//! `object_list`. That a write failed where the line of a failure is
 //! told to be cut off. That memory was refused where the answer is for want of it. What a file of the
 //! system holds and a terminal shows.
 #![tactic(auto)]
@@ -36,10 +37,10 @@ ghost use Rattle.std.specs.declared.io.ErrorKind.TheVariants.{OutOfMemory};
 
 use failure::{Failure, report};
 use files::SystemFiles;
-use object_list::objects;
+use object_list::{COLUMNS, Object};
 use run::run_words;
 use setphase_core::MibObject;
-use std::alloc::{AllocError, Allocator, Global};
+use std::alloc::Allocator;
 use std::process::ExitCode;
 use std::{env, io};
 
@@ -49,16 +50,24 @@ fn main(rt: HostRuntime) -> ExitCode {
         Ok(words) => words,
         Err(error) => return ExitCode::from(report(&Failure::from(error), &mut errors).status),
     };
-    let Ok(objects) = boxed_objects(rt.alloc()) else {
+    let mut objects: Vec<Box<dyn MibObject + Send>> = Vec::new(rt.alloc());
+    let mut has_all = true;
+    for column in COLUMNS {
+        match Box::new(rt.alloc(), Object::of(column)) {
+            Ok(object) => has_all = objects.push(object).is_ok() && has_all,
+            Err(_) => has_all = false,
+        }
+    }
+    if !has_all {
         return ExitCode::from(report(&Failure::Refused, &mut errors).status);
-    };
-    let mut reader = rt.reader();
-    let mut writer = io::writer(&rt);
+    }
     let files = SystemFiles(&rt);
+    let (mut reader, mut writer) = (rt.reader(), io::writer(&rt));
     let ended = run_words(
         rt.alloc(),
         objects,
         &files,
+        objects,
         &words,
         &mut reader,
         &mut writer,

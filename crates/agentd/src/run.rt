@@ -18,12 +18,14 @@ use std::io::{Read, Write};
 /// Runs the program on the words of its command line, its name first, and gives its exit status: 0;
 /// 1 where input, output or the run failed; 2 for words that are no command, and for a configuration
 /// that cannot be read or is refused. A failure is written to `errors` as one line, whole or a front
-/// of it behind which a write failed. The octets of a file are those that `files` gives for its name,
-/// and requests are answered by what these objects show.
-pub fn run_words<M, F, I, O, E>(
+/// of it behind which a write failed. The octets of a file are those that `files` gives for its name.
+/// The script runs over exactly the objects that are handed in; where they make no registry, its
+/// configuration is refused.
+pub fn run_words<F, M, I, O, E>(
     alloc: Global,
     objects: Vec<M>,
     files: &F,
+    objects: Vec<M>,
     words: &[String],
     reader: &mut I,
     writer: &mut O,
@@ -32,15 +34,16 @@ pub fn run_words<M, F, I, O, E>(
 where
     M: MibObject,
     F: ReadFile,
+    M: MibObject,
     I: Read,
     O: Write,
     E: Write,
-    ensures { IsProgramRun (F.gives files.now) I.remaining O.contents
-        (map M.state objects.items) (map string_bytes words.now)
+    ensures { IsProgramRun (F.gives files.now) (map M.state objects.items)
+        I.remaining O.contents (map string_bytes words.now)
         reader.old reader.new writer.old writer.new
         (E.contents errors.old) (E.contents errors.new) result }
 {
-    match try_words(alloc, objects, files, words, reader, writer) {
+    match try_words(alloc, files, objects, words, reader, writer) {
         Ok(()) => Ended {
             status: 0,
             line: Ok(()),
@@ -50,10 +53,11 @@ where
 }
 
 // Runs the program, and gives why it failed.
-fn try_words<'a, M, F, I, O>(
+fn try_words<'a, F, M, I, O>(
     alloc: Global,
     objects: Vec<M>,
     files: &F,
+    objects: Vec<M>,
     words: &'a [String],
     reader: &mut I,
     writer: &mut O,
@@ -61,20 +65,22 @@ fn try_words<'a, M, F, I, O>(
 where
     M: MibObject,
     F: ReadFile,
+    M: MibObject,
     I: Read,
     O: Write,
-    ensures { HasEnded (F.gives files.now) I.remaining O.contents
-        (map M.state objects.items) (map string_bytes words.now)
+    ensures { HasEnded (F.gives files.now) (map M.state objects.items)
+        I.remaining O.contents (map string_bytes words.now)
         reader.old reader.new writer.old writer.new result }
 {
-    do_asked(alloc, objects, files, asked_by(words), reader, writer)
+    do_asked(alloc, files, objects, asked_by(words), reader, writer)
 }
 
 // Does what was asked for.
-fn do_asked<'a, M, F, I, O>(
+fn do_asked<'a, F, M, I, O>(
     alloc: Global,
     objects: Vec<M>,
     files: &F,
+    objects: Vec<M>,
     asked: Result<Asked<'a>, Wrong<'a>>,
     reader: &mut I,
     writer: &mut O,
@@ -82,15 +88,16 @@ fn do_asked<'a, M, F, I, O>(
 where
     M: MibObject,
     F: ReadFile,
+    M: MibObject,
     I: Read,
     O: Write,
-    ensures { Does (F.gives files.now) I.remaining O.contents
-        (map M.state objects.items) asked.entry
+    ensures { Does (F.gives files.now) (map M.state objects.items)
+        I.remaining O.contents asked.entry
         reader.old reader.new writer.old writer.new result }
 {
     match asked {
         Ok(Asked::BuiltIn) => run_by(alloc, objects, BUILT_IN.as_bytes(), reader, writer),
-        Ok(Asked::Script(file)) => run_file(alloc, objects, files, file, reader, writer),
+        Ok(Asked::Script(file)) => run_file(alloc, files, objects, file, reader, writer),
         Ok(Asked::Check(file)) => check_file(alloc, files, file, writer),
         Ok(Asked::Help) => tell(HELP.as_bytes(), writer),
         Ok(Asked::Version) => tell(VERSION.as_bytes(), writer),
@@ -106,8 +113,8 @@ fn run_by<'a, M: MibObject, I: Read, O: Write>(
     reader: &mut I,
     writer: &mut O,
 ) -> Result<(), Failure<'a>>
-    ensures { RunsBy I.remaining O.contents (map M.state objects.items) octets.now
-        reader.old reader.new writer.old writer.new result }
+    ensures { RunsBy I.remaining O.contents (map M.state objects.items)
+        octets.now reader.old reader.new writer.old writer.new result }
 {
     match run_octets(alloc, objects, octets, reader, writer) {
         Ok(_) => Ok(()),
@@ -124,8 +131,7 @@ fn run_read<'a, M: MibObject, I: Read, O: Write>(
     writer: &mut O,
 ) -> Result<(), Failure<'a>>
     ensures { RunsRead I.remaining O.contents (map M.state objects.items)
-        (read_view read.entry)
-        reader.old reader.new writer.old writer.new result }
+        (read_view read.entry) reader.old reader.new writer.old writer.new result }
 {
     match read {
         Ok(octets) => run_by(alloc, objects, &octets, reader, writer),
@@ -135,10 +141,11 @@ fn run_read<'a, M: MibObject, I: Read, O: Write>(
 
 // Runs the script by a file.
 #[tactic(auto, using(crate::proofs::FileLemmas::file_run))]
-fn run_file<'a, M, F, I, O>(
+fn run_file<'a, F, M, I, O>(
     alloc: Global,
     objects: Vec<M>,
     files: &F,
+    objects: Vec<M>,
     file: &'a str,
     reader: &mut I,
     writer: &mut O,
@@ -146,10 +153,11 @@ fn run_file<'a, M, F, I, O>(
 where
     M: MibObject,
     F: ReadFile,
+    M: MibObject,
     I: Read,
     O: Write,
-    ensures { RunsFile (F.gives files.now) I.remaining O.contents
-        (map M.state objects.items) file.now
+    ensures { RunsFile (F.gives files.now) (map M.state objects.items)
+        I.remaining O.contents file.now
         reader.old reader.new writer.old writer.new result }
 {
     run_read(alloc, objects, files.read_file(file), reader, writer)

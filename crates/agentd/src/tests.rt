@@ -9,6 +9,8 @@ use crate::telling::NotTaken;
 use crate::{boxed_objects, collect_words};
 use bumpalo::Bump;
 use configuration::BUILT_IN;
+use object_list::{Object, objects};
+use setphase_core::{Base, Column, MibObject};
 use std::alloc::{AllocGlobal, Global};
 use std::io::{Error, ErrorKind, Read, Write};
 use std::rt::Files;
@@ -22,6 +24,10 @@ const GET: &[u8] =
 /// What is said to it.
 const REPLY: &[u8] =
     b"reply 302802010104067075626C6963A21B0201010201000201003010300E06092B0601020111010200020102\n";
+
+/// What is said to it where no object has that name: noSuchObject (RFC 3416, 4.2.1).
+const NO_SUCH_OBJECT: &[u8] =
+    b"reply 302702010104067075626C6963A21A020101020100020100300F300D06092B06010201110102008000\n";
 
 /// Gives its octets, and then fails.
 #[derive(Drop)]
@@ -68,6 +74,7 @@ fn answers_a_script(rt: HostRuntime) -> Result<(), Fail> {
         rt.alloc(),
         boxed_objects(rt.alloc())?,
         &SystemFiles(&rt),
+        objects(rt.alloc())?,
         &words,
         &mut { GET },
         &mut out,
@@ -90,6 +97,7 @@ fn fails_with_its_input(rt: HostRuntime) -> Result<(), Fail> {
         rt.alloc(),
         boxed_objects(rt.alloc())?,
         &SystemFiles(&rt),
+        objects(rt.alloc())?,
         &words,
         &mut reader,
         &mut out,
@@ -110,6 +118,7 @@ fn fails_with_its_output(rt: HostRuntime) -> Result<(), Fail> {
         rt.alloc(),
         boxed_objects(rt.alloc())?,
         &SystemFiles(&rt),
+        objects(rt.alloc())?,
         &words,
         &mut { GET },
         &mut Full,
@@ -139,10 +148,11 @@ struct Finished {
     errors: Vec<u8>,
 }
 
-// A run of these words on a script, over these files.
-fn ran_over<F: ReadFile>(
+// A run of these words on a script, over these files and objects.
+fn ran_with<F: ReadFile, B: MibObject>(
     alloc: Global,
     files: &F,
+    objects: Vec<B>,
     texts: &[&str],
     script: &[u8],
 ) -> Result<Finished, Fail> {
@@ -152,8 +162,8 @@ fn ran_over<F: ReadFile>(
     let mut reader = script;
     let ended = run_words(
         alloc,
-        boxed_objects(alloc)?,
         files,
+        objects,
         &words,
         &mut reader,
         &mut out,
@@ -165,6 +175,16 @@ fn ran_over<F: ReadFile>(
         out,
         errors,
     })
+}
+
+// A run of these words on a script, over these files and all objects of a bridge.
+fn ran_over<F: ReadFile>(
+    alloc: Global,
+    files: &F,
+    texts: &[&str],
+    script: &[u8],
+) -> Result<Finished, Fail> {
+    ran_with(alloc, files, objects(alloc)?, texts, script)
 }
 
 // A run of these words on a script, over the files of the system.
@@ -511,6 +531,56 @@ fn runs_by_what_is_given_for_a_file(rt: HostRuntime) -> Result<(), Fail> {
     assert_eq!(rt;
         (run.status, run.out.as_slice()),
         (0, b"configuration ok\n".as_slice())
+    );
+    Ok(())
+}
+
+// The objects of these columns, in this order.
+fn objects_of(alloc: Global, columns: &[Column]) -> Result<Vec<Object>, Fail> {
+    let mut objects = Vec::new(alloc);
+    for column in columns {
+        objects.push(Object::of(*column))?;
+    }
+    Ok(objects)
+}
+
+// The words are those of a script by the built-in configuration.
+#[test]
+fn runs_over_the_objects_that_are_handed_in(rt: HostRuntime) -> Result<(), Fail> {
+    let files = Names { alloc: rt.alloc() };
+    let ports = Column::Base(Base::NumPorts);
+    let address = Column::Base(Base::BridgeAddress);
+    for (columns, status, text) in [
+        ([address, ports].as_slice(), 0, REPLY),
+        ([ports].as_slice(), 0, REPLY),
+        ([address].as_slice(), 0, NO_SUCH_OBJECT),
+        ([].as_slice(), 0, NO_SUCH_OBJECT),
+        ([ports, address].as_slice(), 2, b"".as_slice()),
+        ([ports, ports].as_slice(), 2, b"".as_slice()),
+    ] {
+        let objects = objects_of(rt.alloc(), columns)?;
+        let run = ran_with(rt.alloc(), &files, objects, &["agentd"], GET)?;
+        assert_eq!(rt; (run.status, run.out.as_slice()), (status, text));
+    }
+    Ok(())
+}
+
+// Objects that make no registry are asked for by a script alone.
+#[test]
+fn needs_a_registry_for_a_script_alone(rt: HostRuntime) -> Result<(), Fail> {
+    let files = Names { alloc: rt.alloc() };
+    let ports = Column::Base(Base::NumPorts);
+    let objects = objects_of(rt.alloc(), &[ports, ports])?;
+    let run = ran_with(rt.alloc(), &files, objects, &["agentd"], GET)?;
+    assert_eq!(rt;
+        (run.status, run.out.is_empty(), run.errors.as_slice()),
+        (2, true, b"agentd: configuration refused\n".as_slice())
+    );
+    let objects = objects_of(rt.alloc(), &[ports, ports])?;
+    let run = ran_with(rt.alloc(), &files, objects, &["agentd", "-V"], GET)?;
+    assert_eq!(rt;
+        (run.status, run.out.as_slice()),
+        (0, b"agentd 0.1\n".as_slice())
     );
     Ok(())
 }
