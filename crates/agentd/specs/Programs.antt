@@ -1,6 +1,5 @@
 -- What the program does with its words.
 use Rattle.std.specs.Prelude.{◌≡◌, ℕ, List, Option, Result, Ok, Err}
-use Rattle.setphase_core.specs.Objects.{ObjectState}
 use Rattle.configuration.specs.declared.configuration.TheConstants.{BUILT_IN}
 use Rattle.setphase_core.specs.Objects.{ObjectState}
 use Rattle.agent_script.specs.declared.session.Run.{Run}
@@ -72,11 +71,11 @@ module _ {I O : Type 0} (Gives : List ℕ → Result (List ℕ) NotRead → Type
   Does (Ok (Check file)) reader reader' writer writer' ended =
       ChecksFile file.now reader reader' writer writer' ended
   Does (Ok Help) reader reader' writer writer' ended =
-      Tells remaining contents objects HELP.now reader reader' writer writer' ended
+      Tells remaining contents HELP.now reader reader' writer writer' ended
   Does (Ok Version) reader reader' writer writer' ended =
-      Tells remaining contents objects VERSION.now reader reader' writer writer' ended
+      Tells remaining contents VERSION.now reader reader' writer writer' ended
   Does (Err wrong) reader reader' writer writer' ended =
-      FailsFirst remaining contents objects (Usage wrong) reader reader' writer writer' ended
+      FailsFirst remaining contents (Usage wrong) reader reader' writer writer' ended
 
   -- The program did what its words, its name first, ask for.
   pub record HasEnded (words : List (List ℕ)) (reader reader' : I) (writer writer' : O)

@@ -65,7 +65,6 @@ fn main(rt: HostRuntime) -> ExitCode {
     let (mut reader, mut writer) = (rt.reader(), io::writer(&rt));
     let ended = run_words(
         rt.alloc(),
-        objects,
         &files,
         objects,
         &words,
@@ -74,15 +73,6 @@ fn main(rt: HostRuntime) -> ExitCode {
         &mut errors,
     );
     ExitCode::from(ended.status)
-}
-
-// The objects that answer requests, in the order of their names, each in a box.
-fn boxed_objects(alloc: Global) -> Result<Vec<Box<dyn MibObject + Send>>, AllocError> {
-    let mut boxes: Vec<Box<dyn MibObject + Send>> = Vec::new(alloc);
-    for object in objects(alloc)? {
-        boxes.push(Box::new(alloc, object)?)?;
-    }
-    Ok(boxes)
 }
 
 // The words of the command line, the program's name first.

@@ -23,7 +23,6 @@ use std::io::{Read, Write};
 /// configuration is refused.
 pub fn run_words<F, M, I, O, E>(
     alloc: Global,
-    objects: Vec<M>,
     files: &F,
     objects: Vec<M>,
     words: &[String],
@@ -32,7 +31,6 @@ pub fn run_words<F, M, I, O, E>(
     errors: &mut E,
 ) -> Ended
 where
-    M: MibObject,
     F: ReadFile,
     M: MibObject,
     I: Read,
@@ -55,7 +53,6 @@ where
 // Runs the program, and gives why it failed.
 fn try_words<'a, F, M, I, O>(
     alloc: Global,
-    objects: Vec<M>,
     files: &F,
     objects: Vec<M>,
     words: &'a [String],
@@ -63,7 +60,6 @@ fn try_words<'a, F, M, I, O>(
     writer: &mut O,
 ) -> Result<(), Failure<'a>>
 where
-    M: MibObject,
     F: ReadFile,
     M: MibObject,
     I: Read,
@@ -78,7 +74,6 @@ where
 // Does what was asked for.
 fn do_asked<'a, F, M, I, O>(
     alloc: Global,
-    objects: Vec<M>,
     files: &F,
     objects: Vec<M>,
     asked: Result<Asked<'a>, Wrong<'a>>,
@@ -86,7 +81,6 @@ fn do_asked<'a, F, M, I, O>(
     writer: &mut O,
 ) -> Result<(), Failure<'a>>
 where
-    M: MibObject,
     F: ReadFile,
     M: MibObject,
     I: Read,
@@ -143,7 +137,6 @@ fn run_read<'a, M: MibObject, I: Read, O: Write>(
 #[tactic(auto, using(crate::proofs::FileLemmas::file_run))]
 fn run_file<'a, F, M, I, O>(
     alloc: Global,
-    objects: Vec<M>,
     files: &F,
     objects: Vec<M>,
     file: &'a str,
@@ -151,7 +144,6 @@ fn run_file<'a, F, M, I, O>(
     writer: &mut O,
 ) -> Result<(), Failure<'a>>
 where
-    M: MibObject,
     F: ReadFile,
     M: MibObject,
     I: Read,

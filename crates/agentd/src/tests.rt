@@ -2,11 +2,11 @@
 ghost use Rattle.std.specs.Prelude.{◌≡◌, IfOk};
 
 use crate::checking::check_read;
+use crate::collect_words;
 use crate::failure::{Failure, report};
 use crate::files::{NotRead, ReadFile, SystemFiles};
 use crate::run::run_words;
 use crate::telling::NotTaken;
-use crate::{boxed_objects, collect_words};
 use bumpalo::Bump;
 use configuration::BUILT_IN;
 use object_list::{Object, objects};
@@ -72,7 +72,6 @@ fn answers_a_script(rt: HostRuntime) -> Result<(), Fail> {
     let mut errors = Vec::new(rt.alloc());
     let ended = run_words(
         rt.alloc(),
-        boxed_objects(rt.alloc())?,
         &SystemFiles(&rt),
         objects(rt.alloc())?,
         &words,
@@ -95,7 +94,6 @@ fn fails_with_its_input(rt: HostRuntime) -> Result<(), Fail> {
     let mut reader = Failing { octets: GET };
     let ended = run_words(
         rt.alloc(),
-        boxed_objects(rt.alloc())?,
         &SystemFiles(&rt),
         objects(rt.alloc())?,
         &words,
@@ -116,7 +114,6 @@ fn fails_with_its_output(rt: HostRuntime) -> Result<(), Fail> {
     let mut errors = Vec::new(rt.alloc());
     let ended = run_words(
         rt.alloc(),
-        boxed_objects(rt.alloc())?,
         &SystemFiles(&rt),
         objects(rt.alloc())?,
         &words,
