@@ -57,7 +57,8 @@ reading_action (Err cause) note = drop cause
 
 -- a datagram
 abbrev pub datagram_action : List ℕ → Note → Action
-datagram_action datagram note = if is_unread note then drop Memory else reading_action (request_at datagram) note
+datagram_action datagram note =
+    if is_unread note then drop Memory else reading_action (request_at datagram) note
 
 -- a frame, or octets that are none, at a port
 abbrev pub frame_action : ℕ → Result FrameIn FrameFault → Note → Action
@@ -89,7 +90,8 @@ policy_action lines line note = if bytes_eq line (codes "end") then end_action l
 
 abbrev pub action_in : Agent → Option (List ℕ) → List ℕ → Note → Action
 action_in agent (Some lines) line note = policy_action lines line note
-action_in agent None line note = command_action (command_of (port_count agent.system.world.bridge) line) note
+action_in agent None line note =
+    command_action (command_of (port_count agent.system.world.bridge) line) note
 
 -- A line, inside a policy or outside, where it met this want of memory.
 unfoldable pub action_of : Agent → List ℕ → Note → Action
@@ -115,14 +117,16 @@ fault_name BadBpdu = codes "BadBpdu"
 abbrev pub space_and_number : ℕ → List ℕ
 space_and_number n = codes " " ++ decimal n
 
--- the datagrams that each cause dropped, and the requests that an unknown community or context dropped
+-- the datagrams that each cause dropped, and the requests that an unknown community or context
+-- dropped
 abbrev pub counts_of : Drops → World → List ℕ
 counts_of drops world =
     drops.too_long ∷ drops.malformed ∷ drops.bad_version ∷ drops.bad_kind ∷ drops.memory
     ∷ world.bad_communities ∷ world.unknown_contexts ∷ []
 
 abbrev pub counts_text : Drops → World → List ℕ
-counts_text drops world = codes "counts" ++ flat_map space_and_number (counts_of drops world) ++ codes "\n"
+counts_text drops world =
+    codes "counts" ++ flat_map space_and_number (counts_of drops world) ++ codes "\n"
 
 abbrev pub action_text : Agent → Action → List ℕ
 action_text agent bad_line = codes "badline\n"
@@ -153,7 +157,8 @@ after_action agent (pass seconds) = record agent { system = after_seconds second
 after_action agent (drop cause) = record agent { drops = dropped_more agent.drops cause }
 after_action agent (refuse_frame fault) = agent
 after_action agent (keep lines) = record agent { policy_lines = Some lines }
-after_action agent (accept tables) = record agent { system = after_event agent.system (event.policy tables); policy_lines = None }
+after_action agent (accept tables) =
+    record agent { system = after_event agent.system (event.policy tables); policy_lines = None }
 after_action agent refuse = record agent { policy_lines = None }
 after_action agent (switch on) = record agent { is_auditing = on }
 after_action agent tell = agent

@@ -32,7 +32,8 @@ with_bridge s bridge = record s { world = record s.world { bridge = bridge } }
 pub data Event : Type 0 where
   -- a request comes; `no_memory` notes that there was none for its answer
   request : (request : Request) (no_memory : Bool) → Event
-  -- a frame comes in by a port; `no_room` notes that the growth for the row of its source was refused
+  -- a frame comes in by a port; `no_room` notes that the growth for the row of its source was
+  -- refused
   frame : (port : ℕ) (fields : FrameIn) (no_room : Bool) → Event
   -- a second passes
   tick : Event

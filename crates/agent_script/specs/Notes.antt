@@ -26,7 +26,8 @@ is_nothing RequestNotAnswered = false
 is_nothing SourceNotLearned = false
 is_nothing PolicyNotRead = false
 
--- there was no memory for a datagram's request, for the reply to a request, for the row of a frame's source, for a policy
+-- there was no memory for a datagram's request, for the reply to a request, for the row of a
+-- frame's source, for a policy
 abbrev pub is_unread : Note → Bool
 is_unread Nothing = false
 is_unread RequestNotRead = true
@@ -101,14 +102,16 @@ MayMeetFrame b port (Err fault) note = note ≡ Nothing
 abbrev pub MayMeetCommand : System → Option Command → Note → Type 0
 MayMeetCommand s None note = note ≡ Nothing
 MayMeetCommand s (Some (request datagram)) note = MayMeetDatagram s datagram note
-MayMeetCommand s (Some (frame port octets)) note = MayMeetFrame s.world.bridge port (frame_at octets) note
+MayMeetCommand s (Some (frame port octets)) note =
+    MayMeetFrame s.world.bridge port (frame_at octets) note
 MayMeetCommand s (Some (tick seconds)) note = note ≡ Nothing
 MayMeetCommand s (Some (link port up)) note = note ≡ Nothing
 MayMeetCommand s (Some policy) note = note ≡ Nothing
 MayMeetCommand s (Some (audit on)) note = note ≡ Nothing
 MayMeetCommand s (Some counts) note = note ≡ Nothing
 
--- The end of a policy of these lines: the policy may find none, where they are a text that is not blank.
+-- The end of a policy of these lines: the policy may find none, where they are a text that is not
+-- blank.
 abbrev pub MayMeetEnd : List ℕ → Note → Type 0
 MayMeetEnd lines Nothing = Unit {0}
 MayMeetEnd lines RequestNotRead = ⊥
@@ -118,18 +121,20 @@ MayMeetEnd lines PolicyNotRead = HasContent lines
 
 -- A line of a policy behind these lines: its end alone.
 abbrev pub MayMeetPolicyLine : List ℕ → List ℕ → Note → Type 0
-MayMeetPolicyLine lines line note = Case (bytes_eq line (codes "end")) (MayMeetEnd lines note) (note ≡ Nothing)
+MayMeetPolicyLine lines line note =
+    Case (bytes_eq line (codes "end")) (MayMeetEnd lines note) (note ≡ Nothing)
 
 abbrev pub MayMeetIn : Agent → Option (List ℕ) → List ℕ → Note → Type 0
 MayMeetIn agent (Some lines) line note = MayMeetPolicyLine lines line note
-MayMeetIn agent None line note = MayMeetCommand agent.system (command_of (port_count agent.system.world.bridge) line) note
+MayMeetIn agent None line note =
+    MayMeetCommand agent.system (command_of (port_count agent.system.world.bridge) line) note
 
 -- A line may meet this want of memory.
 unfoldable pub MayMeet : Agent → List ℕ → Note → Type 0
 MayMeet agent line note = MayMeetIn agent agent.policy_lines line note
 
--- A command, or a line that is none, may be given up for want of memory: one that is read from hexadecimal, or to which something may be
--- said. The other commands take none.
+-- A command, or a line that is none, may be given up for want of memory: one that is read from
+-- hexadecimal, or to which something may be said. The other commands take none.
 abbrev pub MayGiveUpCommand : Option Command → Type 0
 MayGiveUpCommand None = Unit {0}
 MayGiveUpCommand (Some (request datagram)) = Unit {0}
@@ -143,7 +148,8 @@ MayGiveUpCommand (Some counts) = Unit {0}
 -- any line of a policy may, since the policy is kept
 abbrev pub MayGiveUpIn : Agent → Option (List ℕ) → List ℕ → Type 0
 MayGiveUpIn agent (Some lines) line = Unit {0}
-MayGiveUpIn agent None line = MayGiveUpCommand (command_of (port_count agent.system.world.bridge) line)
+MayGiveUpIn agent None line =
+    MayGiveUpCommand (command_of (port_count agent.system.world.bridge) line)
 
 -- A line that was read may be given up for want of memory.
 unfoldable pub MayGiveUp : Agent → List ℕ → Type 0

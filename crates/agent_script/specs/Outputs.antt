@@ -48,16 +48,19 @@ bpdu_line address port None = []
 -- what the ports from this one on send, in their order
 abbrev pub bpdu_lines : Mac → ℕ → List (Option Bpdu) → List ℕ
 bpdu_lines address port [] = []
-bpdu_lines address port (bpdu ∷ bpdus) = bpdu_line address port bpdu ++ bpdu_lines address (port + 1) bpdus
+bpdu_lines address port (bpdu ∷ bpdus) =
+    bpdu_line address port bpdu ++ bpdu_lines address (port + 1) bpdus
 
 -- where a frame goes, and what is sent
 abbrev pub forwarded_text : Mac → List ℕ → List (Option Bpdu) → List ℕ
-forwarded_text address egress bpdus = codes "forward " ++ egress_text egress ++ codes "\n" ++ bpdu_lines address 1 bpdus
+forwarded_text address egress bpdus =
+    codes "forward " ++ egress_text egress ++ codes "\n" ++ bpdu_lines address 1 bpdus
 
 -- The text of an output: audits are told where `on`, and the bridge sends from this address.
 abbrev pub output_text : Bool → Mac → Output → List ℕ
 output_text on address (dropped cause audit) = drop_text (dropped_name cause) ++ told_audit on audit
-output_text on address (replied reply audit bpdus) = sent_text reply ++ told_audit on audit ++ bpdu_lines address 1 bpdus
+output_text on address (replied reply audit bpdus) =
+    sent_text reply ++ told_audit on audit ++ bpdu_lines address 1 bpdus
 output_text on address (unanswered reply) = sent_text reply
 output_text on address (forwarded egress bpdus) = forwarded_text address egress bpdus
 output_text on address (sent bpdus) = bpdu_lines address 1 bpdus
@@ -70,7 +73,8 @@ event_text on s event = output_text on (address_of s.world.bridge) (output_of s 
 -- so many seconds, one after another
 abbrev pub seconds_text : Bool → ℕ → System → List ℕ
 seconds_text on zero s = []
-seconds_text on (suc seconds) s = event_text on s tick ++ seconds_text on seconds (after_event s tick)
+seconds_text on (suc seconds) s =
+    event_text on s tick ++ seconds_text on seconds (after_event s tick)
 
 abbrev pub after_seconds : ℕ → System → System
 after_seconds zero s = s

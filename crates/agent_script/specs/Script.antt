@@ -21,11 +21,12 @@ pub record Noted : Type 0 where
   pub line : List ℕ
   pub note : Note
 
--- The lines of a script, each with its note: what is said to them in their order, the agent after them, and that each note is one that
--- its line may meet there.
+-- The lines of a script, each with its note: what is said to them in their order, the agent after
+-- them, and that each note is one that its line may meet there.
 abbrev pub lines_text : Agent → List Noted → List ℕ
 lines_text agent [] = []
-lines_text agent (n ∷ ns) = line_text agent n.line n.note ++ lines_text (after_line agent n.line n.note) ns
+lines_text agent (n ∷ ns) =
+    line_text agent n.line n.note ++ lines_text (after_line agent n.line n.note) ns
 
 abbrev pub after_lines : Agent → List Noted → Agent
 after_lines agent [] = agent
@@ -35,7 +36,8 @@ abbrev pub AreMet : Agent → List Noted → Type 0
 AreMet agent [] = Unit {0}
 AreMet agent (n ∷ ns) = MayMeet agent n.line n.note × AreMet (after_line agent n.line n.note) ns
 
--- what is said at the end of a script, and the agent after it: a policy that has not ended is refused
+-- what is said at the end of a script, and the agent after it: a policy that has not ended is
+-- refused
 abbrev pub end_text_in : Option (List ℕ) → List ℕ
 end_text_in (Some lines) = codes "policy refused\n"
 end_text_in None = []
@@ -62,7 +64,8 @@ run_of ns = if are_nothing ns then Whole else Short
 abbrev pub lines_in : List Noted → List (List ℕ)
 lines_in ns = map (λ n. n.line) ns
 
--- There are notes of these lines, each one that its line may meet, such that this text is the script's, and the run is told by them.
+-- There are notes of these lines, each one that its line may meet, such that this text is the
+-- script's, and the run is told by them.
 pub record IsSaid (agent : Agent) (lines : List (List ℕ)) (text : List ℕ) (run : Run) : Type 0 where
   pub noted : List Noted
   pub each : lines_in noted ≡ lines
@@ -70,7 +73,8 @@ pub record IsSaid (agent : Agent) (lines : List (List ℕ)) (text : List ℕ) (r
   pub text_is : text ≡ script_text agent noted
   pub run_is : run ≡ run_of noted
 
--- There are notes of these lines, each one that its line may meet, such that this text is what is said to the lines.
+-- There are notes of these lines, each one that its line may meet, such that this text is what is
+-- said to the lines.
 pub record AreAnswered (agent : Agent) (lines : List (List ℕ)) (text : List ℕ) : Type 0 where
   pub noted : List Noted
   pub each : lines_in noted ≡ lines
@@ -86,9 +90,11 @@ pub record IsSaidFirst (agent : Agent) (lines : List (List ℕ)) (text : List �
 
 -- the first of these lines are answered, or all of them and the end of the script
 abbrev pub IsSaidSome : Agent → List (List ℕ) → List ℕ → Type 0
-IsSaidSome agent lines text = IsSaidFirst agent lines text ⊎ ((run : Run) × IsSaid agent lines text run)
+IsSaidSome agent lines text =
+    IsSaidFirst agent lines text ⊎ ((run : Run) × IsSaid agent lines text run)
 
--- Of an input, `rest` was not read, and behind the lines that had ended no more than a part of one was: those lines are answered.
+-- Of an input, `rest` was not read, and behind the lines that had ended no more than a part of one
+-- was: those lines are answered.
 pub record IsSaidBefore (agent : Agent) (input rest text : List ℕ) : Type 0 where
   pub ended : List (List ℕ)
   pub part : List ℕ
@@ -96,8 +102,9 @@ pub record IsSaidBefore (agent : Agent) (input rest text : List ℕ) : Type 0 wh
   pub split : input ≡ flat_map with_end ended ++ (part ++ rest)
   pub answered : AreAnswered agent ended text
 
--- A line is given up: of an input, `rest` was not read; the lines before the one that is given up had ended and are answered; and of that
--- line, which stands at the front of `left`, at least one octet was read.
+-- A line is given up: of an input, `rest` was not read; the lines before the one that is given up
+-- had ended and are answered; and of that line, which stands at the front of `left`, at least one
+-- octet was read.
 pub record IsLineGivenUp (agent : Agent) (input rest text : List ℕ) : Type 0 where
   pub ended : List (List ℕ)
   pub left : List ℕ
@@ -106,11 +113,13 @@ pub record IsLineGivenUp (agent : Agent) (input rest text : List ℕ) : Type 0 w
   pub split : input ≡ flat_map with_end ended ++ (left ++ rest)
   pub answered : AreAnswered agent ended text
 
--- The end of the script is given up: the input was read to its end, each of its lines is answered, and a policy is open after them.
+-- The end of the script is given up: the input was read to its end, each of its lines is answered,
+-- and a policy is open after them.
 pub record IsEndGivenUp (agent : Agent) (input rest text : List ℕ) : Type 0 where
   pub read : rest ≡ []
   pub answered : AreAnswered agent (lines_of input) text
   pub is_open : IsSome (after_lines agent answered.noted).policy_lines
 
 abbrev pub IsGivenUp : Agent → List ℕ → List ℕ → List ℕ → Type 0
-IsGivenUp agent input rest text = IsLineGivenUp agent input rest text ⊎ IsEndGivenUp agent input rest text
+IsGivenUp agent input rest text =
+    IsLineGivenUp agent input rest text ⊎ IsEndGivenUp agent input rest text

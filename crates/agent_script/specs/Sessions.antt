@@ -14,7 +14,8 @@ pub record Session : Type 0 where
   pub agent : Agent
   pub is_whole : Bool
 
--- to a line: there is a note that it may meet, and what is said, and the agent after it, are those of that note
+-- to a line: there is a note that it may meet, and what is said, and the agent after it, are those
+-- of that note
 pub record SaysToLine (before : Session) (line said : List ℕ) (now : Session) : Type 0 where
   pub note : Note
   pub met : MayMeet before.agent line note

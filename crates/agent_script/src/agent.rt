@@ -84,8 +84,8 @@ impl<O: MibObject> Agent<O> {
         }
     }
 
-    /// Answers the end of the script: a policy that has not ended is refused. Where none is open nothing is said, and that takes no
-    /// memory.
+    /// Answers the end of the script: a policy that has not ended is refused. Where none is open
+    /// nothing is said, and that takes no memory.
     pub fn end(&mut self, out: &mut Vec<u8>) -> Result<(), AllocError>
         ensures said { OnOk result (out.new.items ≡ out.old.items ++ end_text self.old) }
         ensures after { OnOk result (self.new ≡ after_end self.old) }
@@ -156,8 +156,8 @@ impl<O: MibObject> Agent<O> {
         }
     }
 
-    // Answers a request, and counts it where it is dropped. Where there was no memory for its reply, genErr is replied, and the world is
-    // as before.
+    // Answers a request, and counts it where it is dropped. Where there was no memory for its
+    // reply, genErr is replied, and the world is as before.
     #[tactic(auto, unfolding(crate::specs::Outputs::sent_text))]
     fn request(
         &mut self,
@@ -251,7 +251,8 @@ impl<O: MibObject> Agent<O> {
         Ok(Note::Nothing)
     }
 
-    // Takes the end of a policy. Lines that are no text, or a blank one, are no policy, and take no memory.
+    // Takes the end of a policy. Lines that are no text, or a blank one, are no policy, and take no
+    // memory.
     fn end_policy(
         &mut self,
         alloc: Global,

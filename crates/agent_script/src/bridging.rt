@@ -126,7 +126,8 @@ pub fn say_bad_frame(fault: FrameFault, out: &mut Vec<u8>) -> Result<(), AllocEr
     out.extend_from_slice(b"\n")
 }
 
-/// Appends where a frame at a port goes and what is sent; answers whether the growth for a learned row was refused.
+/// Appends where a frame at a port goes and what is sent; answers whether the growth for a learned
+/// row was refused.
 pub fn say_frame(
     bridge: &mut Bridge,
     port: u16,

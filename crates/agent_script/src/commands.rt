@@ -33,8 +33,8 @@ pub enum Command {
     Counts,
 }
 
-/// Reads a line, which may be no command, where there are so many ports. Only memory can fail, and only of a line that writes the
-/// octets of a datagram or of a frame.
+/// Reads a line, which may be no command, where there are so many ports. Only memory can fail, and
+/// only of a line that writes the octets of a datagram or of a frame.
 #[tactic(auto, unfolding(crate::specs::Commands::command_of))]
 pub fn read_command(alloc: Global, ports: usize, line: &[u8]) -> Result<Option<Command>, AllocError>
     requires { ports ≤ MAX_PORTS }

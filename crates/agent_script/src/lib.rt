@@ -4,16 +4,19 @@
 //! [`run_script`] reads a script to its end over what managed objects show of a world.
 //!
 //! # Definitions
-//! `specs/Commands.antt`: which command a line is; `specs/Events.antt`: the step of an event, what it makes of the
-//! world and what comes out; `specs/Outputs.antt`: how that is written; `specs/Actions.antt`: what a line does;
-//! `specs/Notes.antt`: which want of memory a line may meet, and may be given up for; `specs/Script.antt`: the text of a script.
+//! `specs/Commands.antt`: which command a line is; `specs/Events.antt`: the step of an event, what
+//! it makes of the world and what comes out; `specs/Outputs.antt`: how that is written;
+//! `specs/Actions.antt`: what a line does;
+//! `specs/Notes.antt`: which want of memory a line may meet, and may be given up for;
+//! `specs/Script.antt`: the text of a script.
 //!
 //! # Laws
 //! In [`laws`]: how many seconds one line lets pass at most.
 //!
 //! # Not claimed
-//! That a want of memory came only where memory was refused, and that a read failed where the answer is `Input`: that answer may come
-//! before anything is read. How much of what was said is written where a write failed.
+//! That a want of memory came only where memory was refused, and that a read failed where the
+//! answer is `Input`: that answer may come before anything is read. How much of what was said is
+//! written where a write failed.
 #![tactic(auto)]
 
 mod agent;

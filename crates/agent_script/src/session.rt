@@ -18,8 +18,8 @@ use std::marker::Model;
 pub enum Run {
     /// Each line was answered in full.
     Whole,
-    /// Some line met want of memory, and was answered so: by `drop Memory`, by `policy refused`, by the reply for a want of memory,
-    /// or by a `forward` whose source found none to be learned.
+    /// Some line met want of memory, and was answered so: by `drop Memory`, by `policy refused`, by
+    /// the reply for a want of memory, or by a `forward` whose source found none to be learned.
     Short,
 }
 
@@ -58,15 +58,17 @@ impl<O: MibObject> Session for AgentSession<O> {
     }
 }
 
-/// Reads a script to its end, and writes what the agent says to each line over what these objects show of
-/// this world.
+/// Reads a script to its end, and writes what the agent says to each line over what these objects
+/// show of this world.
 ///
 /// # Errors
-/// `Input` where a read fails or the input has not ended after [`MAX_READS`](script_core::MAX_READS) of them: each line that had ended is
-/// answered. `Memory` where there is none for a line, for the lines of a policy or for what is said: where a line is given up, each line
-/// before it is answered, and it was read, in part at least; where the end of the script is given up, the input was read to its end,
-/// all its lines are answered, a policy is open after them, and `policy refused` is not written. `Output` where a write fails or takes nothing: a front of what was
-/// said is written.
+/// `Input` where a read fails or the input has not ended after
+/// [`MAX_READS`](script_core::MAX_READS) of them: each line that had ended is answered. `Memory`
+/// where there is none for a line, for the lines of a policy or for what is said: where a line is
+/// given up, each line before it is answered, and it was read, in part at least; where the end of
+/// the script is given up, the input was read to its end, all its lines are answered, a policy is
+/// open after them, and `policy refused` is not written. `Output` where a write fails or takes
+/// nothing: a front of what was said is written.
 pub fn run_script<O: MibObject, R: Read, W: Write>(
     alloc: Global,
     registry: Registry<O>,
@@ -74,7 +76,8 @@ pub fn run_script<O: MibObject, R: Read, W: Write>(
     reader: &mut R,
     writer: &mut W,
 ) -> Result<Run, RunFault>
-    // What is written is the script's text by notes that its lines may have, and the run is whole exactly where all of them are none.
+    // What is written is the script's text by notes that its lines may have, and the run is whole
+    // exactly where all of them are none.
     ensures written { IfOk result (λ run. IfSome (R.remaining reader.old) (λ input.
         Writes (W.contents writer.old) (W.contents writer.new) (λ text.
         IsSaid (opening_agent registry world) (lines_of input) text run))) }
@@ -83,13 +86,14 @@ pub fn run_script<O: MibObject, R: Read, W: Write>(
         Reads (R.remaining reader.old) (R.remaining reader.new) (λ input rest.
         Writes (W.contents writer.old) (W.contents writer.new) (λ text.
         IsSaidBefore (opening_agent registry world) input rest text))) }
-    // Where a line was given up, each line before it is answered, and it was read, in part at least. The end is given up only where a
-    // policy is open.
+    // Where a line was given up, each line before it is answered, and it was read, in part at
+    // least. The end is given up only where a policy is open.
     ensures given_up { IfErr result (λ e. e ≡ RunFault.Memory →
         Reads (R.remaining reader.old) (R.remaining reader.new) (λ input rest.
         Writes (W.contents writer.old) (W.contents writer.new) (λ text.
         IsGivenUp (opening_agent registry world) input rest text))) }
-    // Where a write failed, what is written is a front of what was said to the first lines of the input, or to all of it.
+    // Where a write failed, what is written is a front of what was said to the first lines of the
+    // input, or to all of it.
     ensures output { IfErr result (λ e. e ≡ RunFault.Output →
         IfSome (R.remaining reader.old) (λ input.
         Writes (W.contents writer.old) (W.contents writer.new) (λ text. IsFrontOf (λ whole.

@@ -30,8 +30,8 @@ pub record IsWorldOf (octets : List ℕ) (world : World) : Type 0 where
   pub said : IsConfigurationIn octets configuration
   pub opened : world ≡ world_of configuration
 
--- Objects make a registry: each has a name that a registry asks for, and no pair of neighbours is at
--- fault.
+-- Objects make a registry: each has a name that a registry asks for, and no pair of neighbours is
+-- at fault.
 pub record MakeRegistry (objects : List ObjectState) : Type 0 where
   pub named : AreNamed (rows_of objects)
   pub ordered : first_fault (rows_of objects) ≡ None

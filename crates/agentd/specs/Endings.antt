@@ -16,7 +16,8 @@ use Rattle.agentd.specs.declared.telling.NotTaken.{NotTaken}
 use Rattle.agentd.specs.declared.failure.Failure.{Failure}
 use Rattle.agentd.specs.declared.failure.Failure.TheVariants.{Usage, NotText, CannotRead, Refused, Input, Output, Run as RunFailed}
 
--- the exit status: 2 for words that are no command and for a configuration that cannot be read or is refused, 1 for what failed in a run
+-- the exit status: 2 for words that are no command and for a configuration that cannot be read or
+-- is refused, 1 for what failed in a run
 abbrev pub failure_status : Failure → ℕ
 failure_status (Usage why) = 2
 failure_status NotText = 2
@@ -53,7 +54,8 @@ failure_name RunFailed = []
 
 -- its line
 abbrev pub failure_line : Failure → List ℕ
-failure_line failure = codes "agentd: " ++ (failure_words failure ++ (failure_name failure ++ codes "\n"))
+failure_line failure =
+    codes "agentd: " ++ (failure_words failure ++ (failure_name failure ++ codes "\n"))
 
 -- what is said on standard error
 abbrev pub said_of : Result (Unit {0}) Failure → List ℕ
@@ -72,7 +74,8 @@ run_failure OutputFailed = Output
 run_failure NoMemory = RunFailed
 run_failure Given = RunFailed
 
--- a file that was not read, as a failure of the program: without memory for its octets nothing is said of them
+-- a file that was not read, as a failure of the program: without memory for its octets nothing is
+-- said of them
 abbrev pub read_failure : NotRead → Failure
 read_failure FileMemory = Refused
 read_failure (Unreadable file) = CannotRead file
@@ -95,6 +98,7 @@ pub record TakesFront (old new : Option (List ℕ)) (text : List ℕ) : Type 0 w
   pub took : Appends old new front
 
 -- a line was taken whole, or a front of it behind which a write failed
-abbrev pub IsLineTaken : Result (Unit {0}) NotTaken → Option (List ℕ) → Option (List ℕ) → List ℕ → Type 0
+abbrev pub IsLineTaken : Result (Unit {0}) NotTaken → Option (List ℕ) → Option (List ℕ) → List ℕ →
+    Type 0
 IsLineTaken (Ok done) old new line = Appends old new line
 IsLineTaken (Err failed) old new line = TakesFront old new line

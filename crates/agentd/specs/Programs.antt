@@ -44,8 +44,8 @@ module _ {I O : Type 0} (remaining : I → Option (List ℕ)) (contents : O → 
     pub unread : reader' ≡ reader
     pub told : IsTold contents text writer writer' ended
 
--- Beside these a reader of files, by what a read of the file of a name may give, and the objects that
--- were handed in.
+-- Beside these a reader of files, by what a read of the file of a name may give, and the objects
+-- that were handed in.
 module _ {I O : Type 0} (Gives : List ℕ → Result (List ℕ) NotRead → Type 0)
     (objects : List ObjectState) (remaining : I → Option (List ℕ))
     (contents : O → Option (List ℕ)) where

@@ -31,7 +31,8 @@ module _ {I O : Type 0} (remaining : I → Option (List ℕ)) (contents : O → 
 
   -- A script was run over this agent, and went so.
   pub record IsScriptRun (agent : Agent) (reader reader' : I) (writer writer' : O) (went : Result Run RunFault) : Type 0 where
-    -- to its end: what is written is the script's text, and it is told whether all lines were answered in full
+    -- to its end: what is written is the script's text, and it is told whether all lines were
+    -- answered in full
     pub written : IfOk went (λ run. IfSome (remaining reader) (λ input.
         Writes (contents writer) (contents writer') (λ text. IsSaid agent (lines_of input) text run)))
     -- until the input failed: each line that had ended was answered
@@ -41,7 +42,8 @@ module _ {I O : Type 0} (remaining : I → Option (List ℕ)) (contents : O → 
     pub given_up : IfErr went (λ fault. fault ≡ NoMemory →
         Reads (remaining reader) (remaining reader') (λ input rest.
         Writes (contents writer) (contents writer') (λ text. IsGivenUp agent input rest text)))
-    -- until a write failed: what is written is a front of what was said to the first lines, or to all of them and the end
+    -- until a write failed: what is written is a front of what was said to the first lines, or to
+    -- all of them and the end
     pub output : IfErr went (λ fault. fault ≡ Output → IfSome (remaining reader) (λ input.
         Writes (contents writer) (contents writer') (λ text. IsFrontOf (λ whole.
         IsSaidSome agent (lines_of input) whole) text)))
@@ -50,22 +52,25 @@ module _ {I O : Type 0} (remaining : I → Option (List ℕ)) (contents : O → 
 
   -- What came of a script over this agent.
   abbrev pub IsRunOver : Agent → I → I → O → O → Result Run NotRun → Type 0
-  IsRunOver agent reader reader' writer writer' (Ok run) = IsScriptRun agent reader reader' writer writer' (Ok run)
-  IsRunOver agent reader reader' writer writer' (Err (Stopped fault)) = IsScriptRun agent reader reader' writer writer' (Err fault)
+  IsRunOver agent reader reader' writer writer' (Ok run) =
+      IsScriptRun agent reader reader' writer writer' (Ok run)
+  IsRunOver agent reader reader' writer writer' (Err (Stopped fault)) =
+      IsScriptRun agent reader reader' writer writer' (Err fault)
   IsRunOver agent reader reader' writer writer' (Err Refused) = ⊥
   IsRunOver agent reader reader' writer writer' (Err Memory) = ⊥
   IsRunOver agent reader reader' writer writer' (Err NoRegistry) = ⊥
 
-  -- These octets say a configuration, and a script was run over what these objects show of the world
-  -- that it opens.
+  -- These octets say a configuration, and a script was run over what these objects show of the
+  -- world that it opens.
   pub record HasRun (objects : List ObjectState) (octets : List ℕ) (reader reader' : I)
       (writer writer' : O) (went : Result Run RunFault) : Type 0 where
     pub world : World
     pub is : IsWorldOf octets world
     pub run : IsScriptRun (opening_agent objects world) reader reader' writer writer' went
 
-  -- What came of objects and octets: a run; a refusal of what is no configuration, or of objects that
-  -- make no registry; or, of a text that is not blank, want of memory before anything was read.
+  -- What came of objects and octets: a run; a refusal of what is no configuration, or of objects
+  -- that make no registry; or, of a text that is not blank, want of memory before anything was
+  -- read.
   abbrev pub IsRunBy : List ObjectState → List ℕ → I → I → O → O → Result Run NotRun → Type 0
   IsRunBy objects octets reader reader' writer writer' (Ok run) =
       HasRun objects octets reader reader' writer writer' (Ok run)

@@ -24,7 +24,8 @@ fault_text fault = sentence fault ++ codes "\n"
 -- this is the first fault of the octets, unless it is want of memory, which says of them only that
 -- they are a text that is not blank
 abbrev pub IsFaultFound : List ℕ → ConfigurationFault → Type 0
-IsFaultFound octets fault = (fault ≢ Memory → IsFaultIn octets fault) × (fault ≡ Memory → HasContent octets)
+IsFaultFound octets fault =
+    (fault ≢ Memory → IsFaultIn octets fault) × (fault ≡ Memory → HasContent octets)
 
 -- A writer that may tell which octets it took.
 module _ {O : Type 0} (contents : O → Option (List ℕ)) where
@@ -43,15 +44,17 @@ module _ {O : Type 0} (contents : O → Option (List ℕ)) where
   IsTold text writer writer' (Ok done) = Appends (contents writer) (contents writer') text
   IsTold text writer writer' (Err failure) = IsCutOff text writer writer' failure
 
-  -- A fault was told, and the configuration is refused; or the output failed before its end; or there was no memory for its sentence,
-  -- and nothing was written.
+  -- A fault was told, and the configuration is refused; or the output failed before its end; or
+  -- there was no memory for its sentence, and nothing was written.
   abbrev pub IsFaultTold : ConfigurationFault → O → O → Failure → Type 0
   IsFaultTold fault writer writer' (Usage why) = ⊥
   IsFaultTold fault writer writer' NotText = ⊥
   IsFaultTold fault writer writer' (CannotRead file) = ⊥
-  IsFaultTold fault writer writer' Refused = Appends (contents writer) (contents writer') (fault_text fault)
+  IsFaultTold fault writer writer' Refused =
+      Appends (contents writer) (contents writer') (fault_text fault)
   IsFaultTold fault writer writer' Input = ⊥
-  IsFaultTold fault writer writer' Output = TakesFront (contents writer) (contents writer') (fault_text fault)
+  IsFaultTold fault writer writer' Output =
+      TakesFront (contents writer) (contents writer') (fault_text fault)
   IsFaultTold fault writer writer' RunFailed = writer' ≡ writer
 
   -- the octets are no configuration, and that is told
@@ -78,12 +81,13 @@ module _ {O : Type 0} (contents : O → Option (List ℕ)) where
     pub failed : ended ≡ Err failure
     pub told : IsFaultTold Memory writer writer' failure
 
-  -- What a check of what was read of a file comes to: want of memory for its octets is told as that for the configuration; of a file that
-  -- cannot be read nothing is told.
+  -- What a check of what was read of a file comes to: want of memory for its octets is told as that
+  -- for the configuration; of a file that cannot be read nothing is told.
   abbrev pub IsFileChecked : Result (List ℕ) NotRead → O → O → Result (Unit {0}) Failure → Type 0
   IsFileChecked (Ok octets) writer writer' ended = IsChecked octets writer writer' ended
   IsFileChecked (Err FileMemory) writer writer' ended = IsWantTold writer writer' ended
-  IsFileChecked (Err (Unreadable file)) writer writer' ended = (ended ≡ Err (CannotRead file)) × (writer' ≡ writer)
+  IsFileChecked (Err (Unreadable file)) writer writer' ended =
+      (ended ≡ Err (CannotRead file)) × (writer' ≡ writer)
 
 -- A reader of files, by what a read of the file of a name may give, and a writer.
 module _ {O : Type 0} (Gives : List ℕ → Result (List ℕ) NotRead → Type 0)

@@ -34,11 +34,13 @@ fn tell_fault<'a, O: Write>(alloc: Global, fault: ConfigurationFault, writer: &m
     }
 }
 
-/// Tells whether octets are a configuration: `configuration ok`, or its first fault in one sentence.
+/// Tells whether octets are a configuration: `configuration ok`, or its first fault in one
+/// sentence.
 ///
 /// # Errors
-/// `Refused` where they are none, or where there is no memory to read them, and the sentence is written; `Output` where a
-/// write fails; `Run`, with nothing written, where there is no memory for the sentence.
+/// `Refused` where they are none, or where there is no memory to read them, and the sentence is
+/// written; `Output` where a write fails; `Run`, with nothing written, where there is no memory for
+/// the sentence.
 pub fn check_octets<'a, O: Write>(
     alloc: Global,
     octets: &[u8],
@@ -52,8 +54,8 @@ pub fn check_octets<'a, O: Write>(
     }
 }
 
-/// Tells whether what was read of a file is a configuration, as [`check_octets`] does; where there was no memory for its octets, that
-/// sentence.
+/// Tells whether what was read of a file is a configuration, as [`check_octets`] does; where there
+/// was no memory for its octets, that sentence.
 ///
 /// # Errors
 /// As [`check_octets`] has them; `CannotRead`, with nothing written, where the file cannot be read.

@@ -12,7 +12,8 @@ use crate::words::Wrong;
 use script_core::RunFault;
 use std::io::{self, ErrorKind, Write};
 
-/// The status for words that are no command, and for a configuration that cannot be read or is refused.
+/// The status for words that are no command, and for a configuration that cannot be read or is
+/// refused.
 pub const USAGE: u8 = 2;
 
 /// The status for input, output or a run that failed.
@@ -61,7 +62,8 @@ fn run_failure<'a>(fault: RunFault) -> Failure<'a>
     }
 }
 
-/// Why the octets of a configuration were not run to the end of a script, as a failure of the program.
+/// Why the octets of a configuration were not run to the end of a script, as a failure of the
+/// program.
 pub fn failure_of<'a>(why: NotRun) -> Failure<'a>
     ensures { result ≡ failure_of why }
 {

@@ -1,24 +1,26 @@
 //! The agent, driven by a script from standard input.
 //!
 //! # Entry points
-//! `run_words` over managed objects, words, streams and a reader of files gives the exit status, 0, 1
-//! or 2, and whether the line of a failure was written whole. `run_octets` runs the script over
+//! `run_words` over managed objects, words, streams and a reader of files gives the exit status, 0,
+//! 1 or 2, and whether the line of a failure was written whole. `run_octets` runs the script over
 //! objects by the octets of a configuration, `check_octets` tells whether octets are one.
 //!
 //! # Definitions
 //! `specs/Words.antt`: what words ask for; `specs/Files.antt`: what a read of a file gave;
-//! `specs/Agents.antt`: the world that a configuration opens; `specs/Runs.antt`: what a run by octets
-//! promises; `specs/Endings.antt`: statuses, and the line of each failure; `specs/Telling.antt`: what
-//! a check tells; `specs/Programs.antt`: what the program does with its words.
+//! `specs/Agents.antt`: the world that a configuration opens; `specs/Runs.antt`: what a run by
+//! octets promises; `specs/Endings.antt`: statuses, and the line of each failure;
+//! `specs/Telling.antt`: what a check tells; `specs/Programs.antt`: what the program does with its
+//! words.
 //!
 //! # Laws
 //! None.
 //!
 //! # Not claimed
-//! That the words are those of the command line, and that the objects that `main` makes are the 51 of
+//! That the words are those of the command line, and that the objects that `main` makes are the 51
+//! of
 //! `object_list`. That a write failed where the line of a failure is
-//! told to be cut off. That memory was refused where the answer is for want of it. What a file of the
-//! system holds and a terminal shows.
+//! told to be cut off. That memory was refused where the answer is for want of it. What a file of
+//! the system holds and a terminal shows.
 #![tactic(auto)]
 
 mod checking;

@@ -64,12 +64,12 @@ fn read_configuration(alloc: Global, octets: &[u8]) -> Result<Configuration, Not
     }
 }
 
-/// Opens the world of the configuration that octets say: a bridge of its address and its ports, under
-/// its policy.
+/// Opens the world of the configuration that octets say: a bridge of its address and its ports,
+/// under its policy.
 ///
 /// # Errors
-/// `Refused` only where the octets say no configuration; `Memory` only where they are a text of more
-/// than white space and comments.
+/// `Refused` only where the octets say no configuration; `Memory` only where they are a text of
+/// more than white space and comments.
 pub fn open(alloc: Global, octets: &[u8]) -> Result<World, NotRun>
     ensures world { IfOk result (λ world. IsWorldOf octets.now world) }
     ensures fault { IfErr result (λ why. IsNotOpened octets.now why) }

@@ -16,11 +16,11 @@ use std::alloc::Global;
 use std::io::{Read, Write};
 
 /// Runs the program on the words of its command line, its name first, and gives its exit status: 0;
-/// 1 where input, output or the run failed; 2 for words that are no command, and for a configuration
-/// that cannot be read or is refused. A failure is written to `errors` as one line, whole or a front
-/// of it behind which a write failed. The octets of a file are those that `files` gives for its name.
-/// The script runs over exactly the objects that are handed in; where they make no registry, its
-/// configuration is refused.
+/// 1 where input, output or the run failed; 2 for words that are no command, and for a
+/// configuration that cannot be read or is refused. A failure is written to `errors` as one line,
+/// whole or a front of it behind which a write failed. The octets of a file are those that `files`
+/// gives for its name. The script runs over exactly the objects that are handed in; where they make
+/// no registry, its configuration is refused.
 pub fn run_words<F, M, I, O, E>(
     alloc: Global,
     files: &F,

@@ -62,7 +62,8 @@ pub enum Wrong<'a> {
 /// What the words of a command line ask for, its name first. Takes no memory.
 ///
 /// # Errors
-/// The first word that may not stand where it does; `Missing` where there is none, and a file is wanted.
+/// The first word that may not stand where it does; `Missing` where there is none, and a file is
+/// wanted.
 pub fn asked_by(words: &[String]) -> Result<Asked<'_>, Wrong<'_>>
     ensures { asking_view result ≡ asking_of (map string_bytes words.now) }
 {

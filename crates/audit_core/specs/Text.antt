@@ -1,6 +1,7 @@
--- The text of an audit: the PDU type of the request, then 'drop' and why it is dropped (RFC 3418, snmpInBadCommunityNames;
--- RFC 3413, snmpUnknownContexts), or the reply's status and index (RFC 3416, section 3), the decision (RFC 3415,
--- section 3.2) with the key of its row, and the denied bindings.
+-- The text of an audit: the PDU type of the request, then 'drop' and why it is dropped (RFC 3418,
+-- snmpInBadCommunityNames; RFC 3413, snmpUnknownContexts), or the reply's status and index (RFC
+-- 3416, section 3), the decision (RFC 3415, section 3.2) with the key of its row, and the denied
+-- bindings.
 use Rattle.std.specs.Prelude.{ℕ, codes, decimal, List, [], ◌∷◌, ◌++◌, Option, Some, None}
 use Rattle.std.specs.Fmt.{signed_decimal}
 use Rattle.std.specs.List.{flat_map}
@@ -41,7 +42,8 @@ deciding_text (Some key) = family_text key
 deciding_text None = codes "none"
 
 abbrev pub denied_text : Denied → List ℕ
-denied_text denied = codes " denied " ++ decimal denied.index ++ codes " " ++ deciding_text denied.family
+denied_text denied =
+    codes " denied " ++ decimal denied.index ++ codes " " ++ deciding_text denied.family
 
 -- a view that there is not: with no name, or of no family
 abbrev pub named_view_text : List ℕ → List ℕ
@@ -55,15 +57,18 @@ cause_text (NoSuchContext name) = codes "noSuchContext " ++ name
 
 -- why a request is refused
 abbrev pub refusal_text : Refusal → List ℕ
-refusal_text (NoGroupName model name) = codes "noGroupName group(" ++ decimal model ++ codes "," ++ name ++ codes ")"
+refusal_text (NoGroupName model name) =
+    codes "noGroupName group(" ++ decimal model ++ codes "," ++ name ++ codes ")"
 refusal_text (NoAccessEntry asked) = codes "noAccessEntry " ++ access_text asked
-refusal_text (NoSuchView row view) = codes "noSuchView " ++ access_text row ++ codes " " ++ named_view_text view
+refusal_text (NoSuchView row view) =
+    codes "noSuchView " ++ access_text row ++ codes " " ++ named_view_text view
 
 -- by which row a request is let in, and to which view
 unfoldable pub leave_text : AccessKey → List ℕ → List ℕ
 leave_text row view = codes "ok " ++ access_text row ++ codes " view " ++ view
 
--- what stands behind the PDU type where there is a reply: its status and index, the decision, and the denied bindings
+-- what stands behind the PDU type where there is a reply: its status and index, the decision, and
+-- the denied bindings
 abbrev pub reply_text : Audit → List ℕ → List ℕ
 reply_text audit decision =
     signed_decimal (code_of audit.status) ++ codes " " ++ signed_decimal audit.index ++ codes " "

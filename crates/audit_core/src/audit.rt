@@ -13,14 +13,16 @@ use std::fmt;
 pub struct Audit {
     /// The PDU type of the request (RFC 3416, section 3).
     pub kind: Kind,
-    /// The error-status of the reply (RFC 3416, section 3); means nothing where the request is dropped.
-    pub status: ErrorStatus,
-    /// The error-index of the reply, the number of a variable binding or 0; means nothing where the request is
+    /// The error-status of the reply (RFC 3416, section 3); means nothing where the request is
     /// dropped.
+    pub status: ErrorStatus,
+    /// The error-index of the reply, the number of a variable binding or 0; means nothing where the
+    /// request is dropped.
     pub index: i32,
     /// The decision up to the names.
     pub decision: Decision,
-    /// The variable bindings that the view does not let through; none unless the request is allowed.
+    /// The variable bindings that the view does not let through; none unless the request is
+    /// allowed.
     pub denied: DeniedBindings,
 }
 

@@ -1,8 +1,9 @@
 //! The audit of a request, and the line of text that says it.
 //!
 //! # Entry points
-//! [`Audit`] is a plain record: the PDU type, status and index as sent, the decision with the keys of its rows, and the
-//! denied variable bindings. [`audit_line`] and [`write_audit`] write its line.
+//! [`Audit`] is a plain record: the PDU type, status and index as sent, the decision with the keys
+//! of its rows, and the denied variable bindings. [`audit_line`] and [`write_audit`] write its
+//! line.
 //!
 //! # Definitions
 //! `specs/Text.antt`: the line, to the octet.
@@ -11,7 +12,8 @@
 //! None.
 //!
 //! # Not claimed
-//! That a writer takes the line, and what one holds to which [`audit_line`] could not write all of it.
+//! That a writer takes the line, and what one holds to which [`audit_line`] could not write all of
+//! it.
 #![tactic(auto)]
 
 mod audit;

@@ -7,13 +7,14 @@ use crate::audit::Audit;
 use std::alloc::{AllocError, Global};
 use std::io;
 
-/// Writes the line of an audit, which ends with a line feed. For an agent that serves a network and writes its audits to a
-/// stream; a script adds its lines in memory, by [`write_audit`].
+/// Writes the line of an audit, which ends with a line feed. For an agent that serves a network and
+/// writes its audits to a stream; a script adds its lines in memory, by [`write_audit`].
 ///
 /// # Errors
 ///
-/// That of the writer. Then a part of the line may be written, and nothing is said of what the writer holds: what is
-/// written through [`io::Write`] by parts says nothing of itself where it fails. [`write_audit`] adds all or nothing.
+/// That of the writer. Then a part of the line may be written, and nothing is said of what the
+/// writer holds: what is written through [`io::Write`] by parts says nothing of itself where it
+/// fails. [`write_audit`] adds all or nothing.
 pub fn audit_line<W: io::Write>(audit: &Audit, writer: &mut W) -> io::Result<()>
     ensures { OnOk result (Appends (W.contents writer.old) (W.contents writer.new)
         (audit_text audit.now ++ 10 ∷ [])) }
@@ -21,7 +22,8 @@ pub fn audit_line<W: io::Write>(audit: &Audit, writer: &mut W) -> io::Result<()>
     writeln!(writer, "{audit}")
 }
 
-/// Adds the line of an audit, which ends with a line feed, to octets in memory: all of it or nothing.
+/// Adds the line of an audit, which ends with a line feed, to octets in memory: all of it or
+/// nothing.
 ///
 /// # Errors
 ///

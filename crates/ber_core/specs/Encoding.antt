@@ -1,4 +1,5 @@
--- The basic encoding rules, as far as they are used: tags of one octet, definite lengths, primitive integers (X.690, 8.1 and 8.3).
+-- The basic encoding rules, as far as they are used: tags of one octet, definite lengths, primitive
+-- integers (X.690, 8.1 and 8.3).
 use Rattle.std.specs.Prelude.{Bool, false, ◌||◌, ◌&&◌, ◌==◌, nat_le, ℤ, pos, ◌-ℤ◌, nat_lt, if◌then◌else◌, slice_index, ◌≡◌, ℕ, ◌+◌, ◌^◌, ◌<◌, ◌≤◌, ◌⊎◌, List, [], ◌∷◌, ◌++◌, length}
 use Rattle.std.specs.List.{AllByRecursion}
 use Rattle.std.specs.Int.{w32, w64, to_be_bytes, cast_unsigned}
@@ -16,7 +17,8 @@ number digits = number_from_digits 256 digits
 abbrev pub IsShortForm : List ℕ → ℕ → Type 0
 IsShortForm octets n = (octets ≡ n ∷ []) × (n < 128)
 
--- The long form: 128 and the count of the octets behind it, one to four, which write the number. It need not be the shortest.
+-- The long form: 128 and the count of the octets behind it, one to four, which write the number. It
+-- need not be the shortest.
 pub record IsLongForm (octets : List ℕ) (n : ℕ) : Type 0 where
   pub digits : List ℕ
   pub some : 1 ≤ length digits
@@ -49,7 +51,8 @@ pub record IsInteger (content : List ℕ) (z : ℤ) : Type 0 where
   pub few : length content ≤ 4
   pub value : twos_complement content ≡ z
 
--- The content of an unsigned number of so many octets, 4 or 8 (RFC 2578, 7.1): an INTEGER that is not negative, so one octet more has room for its sign.
+-- The content of an unsigned number of so many octets, 4 or 8 (RFC 2578, 7.1): an INTEGER that is
+-- not negative, so one octet more has room for its sign.
 pub record IsUnsigned (width : ℕ) (content : List ℕ) (n : ℕ) : Type 0 where
   pub some : 1 ≤ length content
   pub few : length content ≤ width + 1

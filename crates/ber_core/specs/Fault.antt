@@ -10,7 +10,8 @@ pub record BeginsIndefinite (octets : List ℕ) : Type 0 where
   pub rest : List ℕ
   pub parts : octets ≡ tag ∷ 128 ∷ rest
 
--- Behind the tag stands the long form of a length in more than four octets, 85 to FF (X.690, 8.1.3.5).
+-- Behind the tag stands the long form of a length in more than four octets, 85 to FF (X.690,
+-- 8.1.3.5).
 pub record BeginsTooLong (octets : List ℕ) : Type 0 where
   pub tag : ℕ
   pub first : ℕ

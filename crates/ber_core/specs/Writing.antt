@@ -14,7 +14,8 @@ capacity out = length out.room.now
 
 -- Writing these octets: they stand in front of the others, or there is no room for them.
 abbrev pub Prepends : Out → Out → Result (Unit {0}) BerFault → List ℕ → Type 0
-Prepends old new (Ok _) octets = (written_octets new ≡ octets ++ written_octets old) × (capacity new ≡ capacity old)
+Prepends old new (Ok _) octets =
+    (written_octets new ≡ octets ++ written_octets old) × (capacity new ≡ capacity old)
 Prepends old new (Err fault) octets = (fault ≡ NoRoom) × (capacity old < length (octets ++ written_octets old)) × (capacity new ≡ capacity old)
 
 -- The octets of the slice in front of those written are as they were.

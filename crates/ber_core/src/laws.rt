@@ -35,7 +35,8 @@ pub fn tlv_is_one()
         → (tag ≡ other) × (content ≡ more) × (rest ≡ after) }
 {}
 
-/// The shortest content of an INTEGER is one of its contents, and has no first octet to spare (X.690, 8.3.2).
+/// The shortest content of an INTEGER is one of its contents, and has no first octet to spare
+/// (X.690, 8.3.2).
 pub fn integer_is_encoded()
     ensures { (z : ℤ) → FitsSigned w32 z → IsInteger (canon_integer z) z ×
         IsMinimal (canon_integer z) }
@@ -58,7 +59,8 @@ pub fn integer_is_one()
     ensures { (content : List ℕ) (y z : ℤ) → IsInteger content y → IsInteger content z → y ≡ z }
 {}
 
-/// The shortest content of an unsigned number is one of its contents, at 32 bits and at 64, with no octet to spare.
+/// The shortest content of an unsigned number is one of its contents, at 32 bits and at 64, with no
+/// octet to spare.
 pub fn unsigned_is_encoded()
     ensures narrow { (n : ℕ) → n < 2 ^ 32 → IsUnsigned 4 (canon_unsigned n) n }
     ensures wide { (n : ℕ) → n < 2 ^ 64 → IsUnsigned 8 (canon_unsigned n) n }
@@ -71,7 +73,8 @@ pub fn no_unsigned_is_shorter()
         IsUnsigned width content n → length (canon_unsigned n) ≤ length content }
 {}
 
-/// A content of an unsigned number, of 32 bits or 64, that is no longer than the shortest is the shortest.
+/// A content of an unsigned number, of 32 bits or 64, that is no longer than the shortest is the
+/// shortest.
 pub fn shortest_unsigned_is_one()
     ensures { (width : ℕ) (content : List ℕ) (n : ℕ) → width ≤ 8 → AreOctets content →
         IsUnsigned width content n

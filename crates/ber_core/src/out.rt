@@ -6,10 +6,12 @@ use crate::heads::head_len;
 use crate::reading::Tag;
 use crate::shortest::shortest_of;
 
-/// A writer that fills the slice that it was lent from the back, so that a value's content is written before its length.
+/// A writer that fills the slice that it was lent from the back, so that a value's content is
+/// written before its length.
 ///
-/// The slice is shorter than 2^32 octets. A call that is refused leaves the writer and the slice as they were. One that
-/// succeeds leaves the octets of the slice in front of what it wrote as they were.
+/// The slice is shorter than 2^32 octets. A call that is refused leaves the writer and the slice as
+/// they were. One that succeeds leaves the octets of the slice in front of what it wrote as they
+/// were.
 #[derive(Drop)]
 pub struct Out<'a> {
     pub room: &'a mut [u8],

@@ -1,4 +1,5 @@
--- What a bridge is: its settings, its spanning tree, the addresses that it has learned, and its counters.
+-- What a bridge is: its settings, its spanning tree, the addresses that it has learned, and its
+-- counters.
 use Rattle.std.specs.Prelude.{ℕ, ◌-◌, Bool, List, length, slice_index_or}
 use Rattle.frame_core.specs.declared.mac.Mac.{Mac}
 use Rattle.fdb_core.specs.declared.row.Row.{Row}
@@ -14,8 +15,8 @@ pub record Counters : Type 0 where
   pub entry_discards : ℕ
   pub ports : List PortCounters
 
--- The spanning tree has the bridge's address, the ports' configurations, what was settled, and what each port holds.
--- The learned rows are by rising address.
+-- The spanning tree has the bridge's address, the ports' configurations, what was settled, and what
+-- each port holds. The learned rows are by rising address.
 pub record BridgeState : Type 0 where
   pub settings : Table
   pub tree : Tree

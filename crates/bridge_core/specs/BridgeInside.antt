@@ -7,8 +7,9 @@ use Rattle.rstp_core.specs.Tree.{Tree}
 use Rattle.bridge_core.specs.declared.counters.PortCounters.{PortCounters}
 use Rattle.bridge_core.specs.declared.bridge.TheConstants.{MAX_LEARNED_ROWS}
 
--- Each port has settings, a place in the spanning tree, a configuration and counters. There is at least one port and at most as many
--- as a bridge may have, and there is room for as many learned addresses as it may learn.
+-- Each port has settings, a place in the spanning tree, a configuration and counters. There is at
+-- least one port and at most as many as a bridge may have, and there is room for as many learned
+-- addresses as it may learn.
 pub record IsBridge (settings : Table) (tree : Tree) (fdb : Fdb) (counters : List PortCounters) : Type 0 where
   pub configured : length tree.config ≡ length tree.ports
   pub set : length settings.ports ≡ length tree.ports

@@ -21,12 +21,14 @@ with_discard lost c = if lost then record c { discards_in = next_count c.discard
 
 -- The counters of a port changed.
 abbrev pub at_port : ℕ → (PortCounters → PortCounters) → List PortCounters → List PortCounters
-at_port port change counters = slice_set counters (port - 1) (change (slice_index_or counters (port - 1) no_counters))
+at_port port change counters =
+    slice_set counters (port - 1) (change (slice_index_or counters (port - 1) no_counters))
 
 -- The counters of the ports from this port on, with a frame out of each port that passes the test.
 abbrev pub sent_from : (ℕ → Bool) → ℕ → List PortCounters → List PortCounters
 sent_from test port [] = []
-sent_from test port (c ∷ counters) = with_frame_out (test port) c ∷ sent_from test (port + 1) counters
+sent_from test port (c ∷ counters) =
+    with_frame_out (test port) c ∷ sent_from test (port + 1) counters
 
 -- A frame out of each port that passes the test.
 unfoldable pub sent_where : (ℕ → Bool) → List PortCounters → List PortCounters

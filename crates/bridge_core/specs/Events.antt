@@ -14,7 +14,8 @@ use Rattle.bridge_core.specs.Bridge.{BridgeState, HasPort, port_count, is_on}
 use Rattle.bridge_core.specs.Counting.{with_frame_in, with_discard, at_port, sent_where, has_bpdu, discards_after}
 use Rattle.bridge_core.specs.Forwarding.{learnt_of, rows_after, forwards, goes_out, egress_of}
 
--- A step of the spanning tree: the learned rows of the flushed ports go, and each BPDU is a frame out of its port.
+-- A step of the spanning tree: the learned rows of the flushed ports go, and each BPDU is a frame
+-- out of its port.
 unfoldable pub after_tree_step : Step → BridgeState → BridgeState
 after_tree_step e b = record b {
   tree = e.tree;
@@ -22,7 +23,8 @@ after_tree_step e b = record b {
   counters = record b.counters { ports = sent_where (has_bpdu e.bpdus) b.counters.ports };
 }
 
--- A second passes: each learned row is a second older, and those that have come to the aging time go.
+-- A second passes: each learned row is a second older, and those that have come to the aging time
+-- go.
 abbrev pub after_ageing : BridgeState → BridgeState
 after_ageing b = record b { learned = young_rows (get b.settings (key.Bridge bridge.Aging)) (map older_row b.learned) }
 
@@ -44,20 +46,22 @@ unfoldable pub settling_of : BridgeState → Step
 settling_of b = settling_step b.settings b.tree
 
 unfoldable pub after_settling : BridgeState → BridgeState
-after_settling b = after_tree_step (settling_of b) (record b { settings = without_migration_checks b.settings })
+after_settling b =
+    after_tree_step (settling_of b) (record b { settings = without_migration_checks b.settings })
 
 -- A setting gets a value.
 abbrev pub set_bridge : Key → ℕ → BridgeState → BridgeState
 set_bridge k v b = record b { settings = put b.settings k v }
 
--- What a frame gives: the bridge after it, the ports by which it goes out, and what each port sends.
+-- What a frame gives: the bridge after it, the ports by which it goes out, and what each port
+-- sends.
 pub record Framed : Type 0 where
   pub bridge : BridgeState
   pub egress : List ℕ
   pub bpdus : List (Option Bpdu)
 
--- A frame at the bridge b gave this, where the bridge c was left and this answered: so many ports as before, and a place for what
--- each sends.
+-- A frame at the bridge b gave this, where the bridge c was left and this answered: so many ports
+-- as before, and a place for what each sends.
 pub record Gives (given : Framed) (b c : BridgeState) (out : Forwarding) : Type 0 where
   pub step : c ≡ given.bridge
   pub egress : out.egress.items ≡ given.egress
@@ -103,8 +107,8 @@ abbrev pub reception_result : ℕ → FrameIn → Option Bpdu → Bool → Bridg
 reception_result port f None no_room b = data_result port f no_room b
 reception_result port f (Some m) no_room b = bpdu_result port m b
 
--- A frame at a port. Where the port is off nothing changes and nothing goes out. `no_room` notes that the growth for a learned
--- row was refused.
+-- A frame at a port. Where the port is off nothing changes and nothing goes out. `no_room` notes
+-- that the growth for a learned row was refused.
 unfoldable pub frame_result : BridgeState → ℕ → FrameIn → Bool → Framed
 frame_result b port f no_room =
     if is_on b port then reception_result port f f.bpdu no_room (after_reception port b) else record { bridge = b; egress = []; bpdus = no_bpdus b }

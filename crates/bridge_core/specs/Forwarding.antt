@@ -1,4 +1,5 @@
--- Which frames are learned from, and by which ports a frame goes out (IEEE 802.1D-2004 7.7, 7.8, 7.12).
+-- Which frames are learned from, and by which ports a frame goes out (IEEE 802.1D-2004 7.7, 7.8,
+-- 7.12).
 use Rattle.std.specs.Prelude.{◌≡◌, ℕ, ◌<◌, Bool, true, false, ◌&&◌, ◌||◌, not, ◌==◌, nat_lt, if◌then◌else◌, List, length, filter, take, slice_index, Option, Some, None}
 use Rattle.std.specs.List.{range_with_len}
 use Rattle.std.specs.Str.{bytes_eq}
@@ -23,17 +24,21 @@ is_reserved a = bytes_eq (take 5 a.0) (take 5 BRIDGE_GROUP.0) && nat_lt (slice_i
 abbrev pub forwards : BridgeState → ℕ → Bool
 forwards b port = is_forwarding (port_of b port).state
 
--- Whether the source of a frame is to be learned at a port of this state: the port is learning or forwarding, and the source is no
--- group address (7.8). That it is not where the destination is reserved is a rule of this profile alone.
+-- Whether the source of a frame is to be learned at a port of this state: the port is learning or
+-- forwarding, and the source is no group address (7.8). That it is not where the destination is
+-- reserved is a rule of this profile alone.
 abbrev pub learns : State → FrameIn → Bool
-learns state f = not (is_discarding state) && not (is_reserved f.destination) && not (is_group f.source)
+learns state f =
+    not (is_discarding state) && not (is_reserved f.destination) && not (is_group f.source)
 
--- What learning the source gives, where its growth was refused or not; nothing where it is not to be learned.
+-- What learning the source gives, where its growth was refused or not; nothing where it is not to
+-- be learned.
 abbrev pub learnt_with : List Row → ℕ → State → ℕ → FrameIn → Bool → Option Learnt
 learnt_with rows limit state port f no_room = if learns state f then Some (if no_room then Memory else answer rows limit f.source port) else None
 
 abbrev pub learnt_of : BridgeState → ℕ → FrameIn → Bool → Option Learnt
-learnt_of b port f no_room = learnt_with b.learned MAX_LEARNED_ROWS (port_of b port).state port f no_room
+learnt_of b port f no_room =
+    learnt_with b.learned MAX_LEARNED_ROWS (port_of b port).state port f no_room
 
 abbrev pub rows_after : Option Learnt → List Row → Mac → ℕ → List Row
 rows_after None rows a port = rows
@@ -48,7 +53,8 @@ is_refused (Some Moved) = false
 is_refused (Some Same) = false
 is_refused (Some Full) = false
 
--- The growth for a learned row is asked for where the source is to be learned and is new, and there is a place for it.
+-- The growth for a learned row is asked for where the source is to be learned and is new, and there
+-- is a place for it.
 pub record NeedsMemory (rows : List Row) (limit : ℕ) (state : State) (f : FrameIn) : Type 0 where
   pub learns : learns state f ≡ true
   pub is_new : learned_port rows f.source ≡ None
@@ -57,7 +63,8 @@ pub record NeedsMemory (rows : List Row) (limit : ℕ) (state : State) (f : Fram
 abbrev pub AsksMemory : BridgeState → ℕ → FrameIn → Type 0
 AsksMemory b port f = NeedsMemory b.learned MAX_LEARNED_ROWS (port_of b port).state f
 
--- A frame may find no memory for its learned row only at a port that is on, where it is no BPDU and the growth is asked for.
+-- A frame may find no memory for its learned row only at a port that is on, where it is no BPDU and
+-- the growth is asked for.
 pub record MayLackMemory (b : BridgeState) (port : ℕ) (f : FrameIn) : Type 0 where
   pub on : is_on b port ≡ true
   pub plain : f.bpdu ≡ None
@@ -68,8 +75,9 @@ abbrev pub may_be_behind : Option ℕ → ℕ → Bool
 may_be_behind None out = true
 may_be_behind (Some r) out = r == out
 
--- Whether a frame to this destination that came by a port goes out by the port `out`: both forward and they are two; and the destination is
--- neither reserved nor the bridge itself, and it is a group, or learned at q or nowhere.
+-- Whether a frame to this destination that came by a port goes out by the port `out`: both forward
+-- and they are two; and the destination is neither reserved nor the bridge itself, and it is a
+-- group, or learned at q or nowhere.
 abbrev pub goes_out : BridgeState → ℕ → Mac → ℕ → Bool
 goes_out b port d out =
     forwards b port && forwards b out && not (out == port) && not (is_reserved d) && not (same_mac d (address_of b))

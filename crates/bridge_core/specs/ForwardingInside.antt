@@ -11,8 +11,8 @@ use Rattle.bridge_core.specs.declared.forwarding.Way.{Way}
 use Rattle.bridge_core.specs.declared.forwarding.Way.TheVariants.{Nowhere, Anywhere, By}
 use Rattle.bridge_core.specs.Forwarding.{is_reserved, may_be_behind}
 
--- Whether a frame to this destination may go by the port `out`, if that is another forwarding port, where the port by which it came is of this
--- state.
+-- Whether a frame to this destination may go by the port `out`, if that is another forwarding port,
+-- where the port by which it came is of this state.
 abbrev pub is_way : List Row → Mac → State → Mac → ℕ → Bool
 is_way rows own state d out =
     is_forwarding state && not (is_reserved d) && not (same_mac d own) && (is_group d || may_be_behind (learned_port rows d) out)
@@ -23,6 +23,7 @@ leads Nowhere out = false
 leads Anywhere out = true
 leads (By r) out = r == out
 
--- Whether a frame that came by a port goes out by the port `out`, where it may go by a port that passes the test.
+-- Whether a frame that came by a port goes out by the port `out`, where it may go by a port that
+-- passes the test.
 abbrev pub goes_by : (ℕ → Bool) → ℕ → Tree → ℕ → Bool
 goes_by way port t out = is_forwarding (port_at t out).state && not (out == port) && way out

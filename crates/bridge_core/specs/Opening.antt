@@ -12,7 +12,8 @@ use Rattle.bridge_core.specs.declared.fault.BridgeFault.{BridgeFault}
 use Rattle.bridge_core.specs.declared.fault.BridgeFault.TheVariants.{BadPorts, BadAddress, BadSpeed}
 use Rattle.bridge_core.specs.Bridge.{BridgeState, no_counters}
 
--- The first fault of a configuration: no port or too many; a group address; a speed that no port may have.
+-- The first fault of a configuration: no port or too many; a group address; a speed that no port
+-- may have.
 abbrev pub fault_of : Mac → List PortConfig → Option BridgeFault
 fault_of address ports =
     if length ports == 0 || nat_lt MAX_PORTS (length ports) then Some BadPorts
@@ -20,7 +21,8 @@ fault_of address ports =
     else (if not (list_all (λ p. is_speed p.speed) ports) then Some BadSpeed
     else None))
 
--- At first all links are down, the settings are the opening ones and settled, no address is learned, and each counter is 0.
+-- At first all links are down, the settings are the opening ones and settled, no address is
+-- learned, and each counter is 0.
 unfoldable pub opening_bridge : Mac → List PortConfig → BridgeState
 opening_bridge address ports = record {
   settings = opening (length ports);

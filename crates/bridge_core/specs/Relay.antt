@@ -16,7 +16,8 @@ pub record IsReceived (b : BridgeState) (port : ℕ) (f : FrameIn) : Type 0 wher
   pub on : is_on b port ≡ true
   pub plain : f.bpdu ≡ None
 
--- That port forwards, and the destination is neither reserved nor the bridge's own address (7.7, 7.12.6).
+-- That port forwards, and the destination is neither reserved nor the bridge's own address (7.7,
+-- 7.12.6).
 pub record IsRelayed (b : BridgeState) (port : ℕ) (f : FrameIn) : Type 0 where
   pub received : IsReceived b port f
   pub forwards : forwards b port ≡ true
@@ -25,11 +26,13 @@ pub record IsRelayed (b : BridgeState) (port : ℕ) (f : FrameIn) : Type 0 where
 
 -- The port at which the frame's destination is learned, if at one, once its source was learned.
 abbrev pub destination_port : BridgeState → ℕ → FrameIn → Bool → Option ℕ
-destination_port b port f no_room = learned_port (frame_result b port f no_room).bridge.learned f.destination
+destination_port b port f no_room =
+    learned_port (frame_result b port f no_room).bridge.learned f.destination
 
 -- The destination is a group, or is learned nowhere once the source was learned.
 abbrev pub IsForAll : BridgeState → ℕ → FrameIn → Bool → Type 0
-IsForAll b port f no_room = (is_group f.destination ≡ true) ⊎ (destination_port b port f no_room ≡ None)
+IsForAll b port f no_room =
+    (is_group f.destination ≡ true) ⊎ (destination_port b port f no_room ≡ None)
 
 -- The destination is one station, learned at port r once the source was learned.
 pub record IsFor (b : BridgeState) (port : ℕ) (f : FrameIn) (no_room : Bool) (r : ℕ) : Type 0 where

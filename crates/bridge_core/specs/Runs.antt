@@ -1,4 +1,5 @@
--- What may happen to a bridge, one after another, from the opening on. Settings are put and then settled before anything else happens.
+-- What may happen to a bridge, one after another, from the opening on. Settings are put and then
+-- settled before anything else happens.
 use Rattle.std.specs.Prelude.{◌≡◌, ℕ, Bool, true, List, [], ◌∷◌}
 use Rattle.frame_core.specs.declared.mac.Mac.{Mac}
 use Rattle.frame_core.specs.declared.frame.FrameIn.{FrameIn}

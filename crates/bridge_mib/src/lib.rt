@@ -6,7 +6,8 @@
 //! and is a `MibObject`: it shows its row, whatever was asked of it before.
 //!
 //! # Definitions
-//! What each object shows stands in `setphase_core`: `specs/Columns.antt`, and the objects' names in
+//! What each object shows stands in `setphase_core`: `specs/Columns.antt`, and the objects' names
+//! in
 //! `specs/Names.antt`. [`values`] has the values of both modules, as `rstp_mib` uses them too.
 //!
 //! # Laws

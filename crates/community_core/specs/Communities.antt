@@ -21,7 +21,8 @@ abbrev pub community_fields : WrittenCommunity → Bool
 community_fields w = is_plain w.index && is_plain w.security && is_plain w.context
 
 abbrev pub community_row : WrittenCommunity → CommunityRow
-community_row w = record { index = w.index; name = w.name; security = w.security; context = w.context }
+community_row w =
+    record { index = w.index; name = w.name; security = w.security; context = w.context }
 
 abbrev pub same_index : CommunityRow → CommunityRow → Bool
 same_index a b = bytes_eq a.index b.index
@@ -31,7 +32,8 @@ community_rules = rules_of community_lengths community_fields community_row same
 
 -- a kept row as it is written
 abbrev pub written_community : CommunityRow → WrittenCommunity
-written_community row = record { index = row.index; name = row.name; security = row.security; context = row.context }
+written_community row =
+    record { index = row.index; name = row.name; security = row.security; context = row.context }
 
 -- what holds of the communities that are kept: no two have one index, and each row is well formed
 pub record AreSound (rows : List CommunityRow) : Type 0 where

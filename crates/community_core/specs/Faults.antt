@@ -1,4 +1,5 @@
--- Why a policy is refused: the first row at fault of the tables of access control, or of the communities behind them.
+-- Why a policy is refused: the first row at fault of the tables of access control, or of the
+-- communities behind them.
 use Rattle.std.specs.Prelude.{◌≡◌, ℕ, codes, List}
 use Rattle.vacm_core.specs.declared.fault.TableFault.{TableFault}
 use Rattle.vacm_core.specs.declared.fault.TableFault.TheVariants as table

@@ -79,7 +79,8 @@ impl Written for WrittenCommunity {
     }
 }
 
-/// Which row decides on a community name: of the rows of that name, the one whose index comes first.
+/// Which row decides on a community name: of the rows of that name, the one whose index comes
+/// first.
 #[derive(Drop)]
 struct CommunityContest<'a> {
     name: &'a [u8],

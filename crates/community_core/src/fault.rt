@@ -50,10 +50,10 @@ pub enum PolicyFault {
     /// A text, a mask or a name of the row is too short or too long.
     #[error("row {1} of {0}, counted from 0, has a length that it may not have")]
     BadLength(PolicyTable, usize),
-    /// A field of the row may not have its value. Where a policy is read from a text, this stands as
-    /// well for a row with a missing, an unknown or an ill-typed key, or with a subtree or a mask that
-    /// cannot be read, and, as (contexts, 0), for such keys at the top of the text, where there need
-    /// be no such row.
+    /// A field of the row may not have its value. Where a policy is read from a text, this stands
+    /// as well for a row with a missing, an unknown or an ill-typed key, or with a subtree or a
+    /// mask that cannot be read, and, as (contexts, 0), for such keys at the top of the text, where
+    /// there need be no such row.
     #[error("row {1} of {0}, counted from 0, has a value that a field may not have")]
     BadField(PolicyTable, usize),
 }

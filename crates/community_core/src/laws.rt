@@ -8,9 +8,9 @@ ghost use Rattle.community_core.specs.Communities.{PolicyTables, same_index, has
 
 use crate::community::MAX_COMMUNITY_NAME;
 
-/// A community row decides on a name wherever one has it (RFC 3584, section 5, snmpCommunityTable): none
-/// decides exactly where no row has the name, and the one that decides has the name, and no row that
-/// has it comes before. Where no two rows have one index, there is at most one such row.
+/// A community row decides on a name wherever one has it (RFC 3584, section 5, snmpCommunityTable):
+/// none decides exactly where no row has the name, and the one that decides has the name, and no
+/// row that has it comes before. Where no two rows have one index, there is at most one such row.
 pub fn some_community_decides()
     ensures none { (rows : List CommunityRow) (name : List ℕ) →
         (deciding_community rows name ≡ None) ↔ (list_any (has_name name) rows ≡ false) }
@@ -22,7 +22,8 @@ pub fn some_community_decides()
         IsUnbeatenAt (has_name name) index_before rows m → n ≡ m }
 {}
 
-/// The limit of a community's name. RFC 3584, section 5, gives snmpCommunityName none; 255 octets is what a request may bear here.
+/// The limit of a community's name. RFC 3584, section 5, gives snmpCommunityName none; 255 octets
+/// is what a request may bear here.
 pub fn limits()
     ensures { MAX_COMMUNITY_NAME ≡ 255 }
 {}

@@ -1,15 +1,19 @@
-//! Communities (RFC 3584, section 5) over the tables of access control, and the policy that both make.
+//! Communities (RFC 3584, section 5) over the tables of access control, and the policy that both
+//! make.
 //!
 //! # Entry points
-//! `Policy::caller` says whom a community stands for; `Policy::new` takes written communities or names the first fault.
+//! `Policy::caller` says whom a community stands for; `Policy::new` takes written communities or
+//! names the first fault.
 //!
 //! # Definitions
-//! `specs/Communities.antt`: rules of the rows and the caller; `specs/Orders.antt`: which row comes first;
+//! `specs/Communities.antt`: rules of the rows and the caller; `specs/Orders.antt`: which row comes
+//! first;
 //! `specs/Faults.antt`: the faults of a policy.
 //!
 //! # Laws
-//! In [`laws`]: a community row decides wherever one has the name; the limit of a name is 255. On the type, since it holds
-//! of kept communities alone, by its invariant: `Policy::communities_are_right`, they break no rule.
+//! In [`laws`]: a community row decides wherever one has the name; the limit of a name is 255. On
+//! the type, since it holds of kept communities alone, by its invariant:
+//! `Policy::communities_are_right`, they break no rule.
 //!
 //! # Not claimed
 //! How long a caller takes to be found: each row is looked at.

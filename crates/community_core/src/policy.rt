@@ -9,8 +9,8 @@ use std::alloc::Global;
 use std::marker::Model;
 use vacm_core::{Rows, Vacm, checked_rows};
 
-/// Who may read and write what, seen as five lists of rows. No two communities have one index, and each
-/// community's lengths and fields are right.
+/// Who may read and write what, seen as five lists of rows. No two communities have one index, and
+/// each community's lengths and fields are right.
 #[derive(Drop)]
 pub struct Policy {
     communities: Rows<CommunityRow>,
@@ -37,7 +37,8 @@ impl Policy {
     /// # Errors
     ///
     /// The first community at fault, and in it its lengths, then its fields, then its index;
-    /// `Memory` where a growth was refused: there is a first community, and nothing is wrong with it.
+    /// `Memory` where a growth was refused: there is a first community, and nothing is wrong with
+    /// it.
     pub fn new(
         alloc: Global,
         communities: Rows<WrittenCommunity>,
@@ -74,8 +75,8 @@ impl Policy {
         }
     }
 
-    /// The law that these communities, as they are written, are rows of which nothing is wrong, and stand for these
-    /// communities: what [`Policy::new`] takes gives the same policy again.
+    /// The law that these communities, as they are written, are rows of which nothing is wrong, and
+    /// stand for these communities: what [`Policy::new`] takes gives the same policy again.
     pub fn communities_are_right(&self)
         ensures right { AreRight community_rules (map written_community self.now.communities) }
         ensures same { map community_row (map written_community self.now.communities)

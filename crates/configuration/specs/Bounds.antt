@@ -6,7 +6,8 @@ use Rattle.rstp_settings.specs.declared.settings.TheConstants.{MAX_PORTS}
 use Rattle.configuration.specs.declared.configuration.Configuration.{Configuration}
 use Rattle.rstp_settings.specs.Config.{is_speed}
 
--- The address is no group address, and there are 1 to 32 ports, each of a speed that a port may have.
+-- The address is no group address, and there are 1 to 32 ports, each of a speed that a port may
+-- have.
 pub record IsWithinBounds (c : Configuration) : Type 0 where
   pub station : is_group c.address ≡ false
   pub least : 1 ≤ length c.ports.items

@@ -68,8 +68,8 @@ IsFault ms (BadKeys key) =
 IsFault ms (Policy e) =
     HasAddress ms × HasPorts ms × HasServing ms × IsRestFault (policy_members ms) (Policy e)
 
--- Where reading the table may take memory: its address, its ports and its way to serve are right, and
--- reading its policy takes memory.
+-- Where reading the table may take memory: its address, its ports and its way to serve are right,
+-- and reading its policy takes memory.
 pub record TakesMemory (ms : Members) : Type 0 where
   pub address : HasAddress ms
   pub ports : HasPorts ms
@@ -88,7 +88,8 @@ IsTextFault text e =
 
 -- the octets are a text that says this configuration
 abbrev pub IsConfigurationIn : List ℕ → Configuration → Type 0
-IsConfigurationIn octets c = (text : List ℕ) × (text_of octets ≡ Some text) × IsConfigurationText text c
+IsConfigurationIn octets c =
+    (text : List ℕ) × (text_of octets ≡ Some text) × IsConfigurationText text c
 
 -- the octets are no text, or one with this first fault
 abbrev pub IsFaultIn : List ℕ → ConfigurationFault → Type 0

@@ -30,8 +30,8 @@ table_key Families = codes "[[family]]"
 table_key Contexts = codes "contexts"
 table_key Communities = codes "[[community]]"
 
--- Which keys no earlier row may have. Contexts have none, since they may be equal: no configuration is
--- at fault for one that stands twice.
+-- Which keys no earlier row may have. Contexts have none, since they may be equal: no configuration
+-- is at fault for one that stands twice.
 abbrev pub key_rule : PolicyTable → List ℕ
 key_rule Groups = codes "no earlier row may have its model and name"
 key_rule Access = codes "no earlier row may have its group, prefix, model and level"
@@ -42,12 +42,15 @@ key_rule Communities = codes "no earlier row may have its index"
 -- how long its texts may be
 abbrev pub length_rule : PolicyTable → List ℕ
 length_rule Groups = codes "name and group are to have 1 to 32 octets"
-length_rule Access = codes "group is to have 1 to 32 octets, prefix, read, write and notify at most 32"
+length_rule Access =
+    codes "group is to have 1 to 32 octets, prefix, read, write and notify at most 32"
 length_rule Families = codes "view is to have 1 to 32 octets, mask at most 32 digits (16 octets), and the octets of view and the numbers of subtree are to be at most 114 together"
 length_rule Contexts = codes "a context is to have at most 32 octets"
-length_rule Communities = codes "index and security are to have 1 to 32 octets, name 1 to 255, context at most 32"
+length_rule Communities =
+    codes "index and security are to have 1 to 32 octets, name 1 to 255, context at most 32"
 
--- which keys and values a row is to have: a plain text is of ASCII letters and digits, `-`, `_`, `.`
+-- which keys and values a row is to have: a plain text is of ASCII letters and digits, `-`, `_`,
+-- `.`
 abbrev pub field_rule : PolicyTable → List ℕ
 field_rule Groups = codes "it is to be a table whose keys are model (1 to 2147483647), name and group (strings of ASCII letters and digits, -, _ and .), and no others"
 field_rule Access =
@@ -58,7 +61,8 @@ field_rule Contexts = codes "a context is to be a string of ASCII letters and di
 field_rule Communities = codes "it is to be a table whose keys are index, security and context (strings of ASCII letters and digits, -, _ and .) and name (a string), and no others"
 
 abbrev pub memory_sentence : List ℕ
-memory_sentence = codes "there was no memory to read the configuration; whether it is right is not known"
+memory_sentence =
+    codes "there was no memory to read the configuration; whether it is right is not known"
 
 abbrev pub policy_sentence : PolicyFault → List ℕ
 policy_sentence NoMemory = memory_sentence

@@ -57,8 +57,8 @@ pub enum PolicyKey {
 /// Why a configuration is refused: its first fault, in the order of the cases from `BadOctets` on,
 /// and of a table the first key that is wrong or missing.
 ///
-/// The numbers of rows, of `BadPort` and of the faults of a policy, count from 0, and so do the texts
-/// of `Display`; the sentences of [`sentence`](crate::sentence) count the same rows from 1.
+/// The numbers of rows, of `BadPort` and of the faults of a policy, count from 0, and so do the
+/// texts of `Display`; the sentences of [`sentence`](crate::sentence) count the same rows from 1.
 #[derive(Clone, Copy, Debug, PartialEq, Eq, Error)]
 pub enum ConfigurationFault {
     /// A growth was refused, which says nothing of the configuration.

@@ -2,9 +2,9 @@
 //! policy, as they are written in TOML.
 //!
 //! # Entry points
-//! [`configuration_in`] reads octets, [`configuration_of_text`] a text, [`configuration_of`] a table
-//! of TOML; each gives the configuration or its first fault. [`sentence`] is what an operator is told
-//! of a fault.
+//! [`configuration_in`] reads octets, [`configuration_of_text`] a text, [`configuration_of`] a
+//! table of TOML; each gives the configuration or its first fault. [`sentence`] is what an operator
+//! is told of a fault.
 //!
 //! # Definitions
 //! `specs/Configurations.antt`: what a configuration says, its first fault, and where reading it
@@ -12,8 +12,8 @@
 //! the lines of a text; `specs/Sentences.antt`: the text of each fault.
 //!
 //! # Laws
-//! In [`laws`]: a table that says a configuration has no fault; a configuration is one that a bridge
-//! can have; the limits are what they are.
+//! In [`laws`]: a table that says a configuration has no fault; a configuration is one that a
+//! bridge can have; the limits are what they are.
 //!
 //! # Not claimed
 //! That memory is there; TOML and the texts of socket addresses, whose readers are the kit's; which

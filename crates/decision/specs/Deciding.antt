@@ -1,4 +1,5 @@
--- Who is let in to what: the decision on a request up to its names, with the keys of its rows (RFC 3584, section 5.2.1; RFC 3415, section 3.2).
+-- Who is let in to what: the decision on a request up to its names, with the keys of its rows (RFC
+-- 3584, section 5.2.1; RFC 3415, section 3.2).
 use Rattle.std.specs.Prelude.{ℕ, Bool, true, false, ◌==◌, if◌then◌else◌, List, [], length, slice_index_or, Option, Some, None}
 use Rattle.message_core.specs.declared.request.Kind.{Kind}
 use Rattle.message_core.specs.declared.request.Kind.TheVariants.{Get, GetNext, Set, GetBulk}
@@ -30,7 +31,8 @@ view_type GetNext = Read
 view_type GetBulk = Read
 view_type Set = Write
 
--- what a caller's request asks of the tables: SNMPv2c is security model 2 (RFC 3411, SnmpSecurityModel), with no security
+-- what a caller's request asks of the tables: SNMPv2c is security model 2 (RFC 3411,
+-- SnmpSecurityModel), with no security
 abbrev pub ask_of : Caller → Kind → Ask
 ask_of caller kind = record {
   model = 2;
@@ -71,6 +73,8 @@ abbrev pub decision_for : Tables → Request → Option Caller → Decision
 decision_for t request (Some caller) = decision_unless_empty (length request.bindings == 0) (decision_by t.access (verdict_of t (ask_of caller request.kind)))
 decision_for t request None = Drop UnknownCommunity
 
--- The decision on a request: its community, its context, whether it has variable bindings, and what the tables say, in this order.
+-- The decision on a request: its community, its context, whether it has variable bindings, and what
+-- the tables say, in this order.
 unfoldable pub decision_on : PolicyTables → Request → Decision
-decision_on policy request = decision_for policy.vacm request (caller_of policy.communities request.community)
+decision_on policy request =
+    decision_for policy.vacm request (caller_of policy.communities request.community)

@@ -4,4 +4,5 @@ use Rattle.decision.specs.declared.keys.AccessKey.{AccessKey}
 
 -- group, context prefix, security model and level
 abbrev pub access_key : AccessRow → AccessKey
-access_key row = record { group = row.group; prefix = row.prefix; model = row.model; level = row.level }
+access_key row =
+    record { group = row.group; prefix = row.prefix; model = row.model; level = row.level }

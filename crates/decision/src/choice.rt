@@ -5,7 +5,8 @@ use vacm_core::Name;
 /// Why a request is dropped: there is no reply.
 #[derive(Drop)]
 pub enum Cause {
-    /// No row has the community of the request (RFC 3584, section 5.2.1; snmpInBadCommunityNames of RFC 3418).
+    /// No row has the community of the request (RFC 3584, section 5.2.1; snmpInBadCommunityNames of
+    /// RFC 3418).
     UnknownCommunity,
     /// This context is not known (RFC 3415, section 3.2, step 1; snmpUnknownContexts of RFC 3413).
     NoSuchContext(Name),

@@ -82,8 +82,8 @@ fn unless_empty(empty: bool, decision: Decision) -> Decision
     }
 }
 
-/// The decision on a request up to its names: its community (RFC 3584, section 5.2.1), its context, and what the tables of access
-/// control say (RFC 3415, section 3.2). It takes no memory.
+/// The decision on a request up to its names: its community (RFC 3584, section 5.2.1), its context,
+/// and what the tables of access control say (RFC 3415, section 3.2). It takes no memory.
 #[tactic(auto, unfolding(crate::specs::Deciding::decision_on))]
 pub fn decide(policy: &Policy, request: &Request) -> Decision
     ensures decision { result ≡ decision_on policy.now request.now }

@@ -1,15 +1,18 @@
-//! The decision on a request: dropped, refused or let in to a view, by which rows (RFC 3584, section 5.2.1; RFC 3415,
-//! section 3.2).
+//! The decision on a request: dropped, refused or let in to a view, by which rows (RFC 3584,
+//! section 5.2.1; RFC 3415, section 3.2).
 //!
 //! # Entry points
-//! [`decide`] gives a [`Decision`] with the keys of the deciding or missing row. It takes no memory.
+//! [`decide`] gives a [`Decision`] with the keys of the deciding or missing row. It takes no
+//! memory.
 //!
 //! # Definitions
-//! `specs/Deciding.antt`: community, context, whether there are variable bindings, and then the verdict of `vacm_core`;
+//! `specs/Deciding.antt`: community, context, whether there are variable bindings, and then the
+//! verdict of `vacm_core`;
 //! `specs/Keys.antt`: the key of an access row.
 //!
 //! # Laws
-//! In [`laws`]: the longest name of a community in a policy is the longest community of a request that is answered.
+//! In [`laws`]: the longest name of a community in a policy is the longest community of a request
+//! that is answered.
 //!
 //! # Not claimed
 //! What is visible: the names are looked at one by one, by `agent_core`.

@@ -98,7 +98,8 @@ fn a_second_row_of_one_index_is_refused(rt: HostRuntime) -> Result<(), Fail> {
     Ok(())
 }
 
-// A policy whose view `v` has what is below 1.3 but not below a subtree of so many sub-identifiers, and that subtree.
+// A policy whose view `v` has what is below 1.3 but not below a subtree of so many sub-identifiers,
+// and that subtree.
 fn policy_without(alloc: Global, count: usize) -> Result<(Policy, Oid), Fail> {
     let mut subtree = String::from_str(alloc, "1.3")?;
     for _ in 2..count {

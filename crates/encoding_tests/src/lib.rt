@@ -1,4 +1,5 @@
-//! Tests of the basic encoding rules and of object identifiers: octets that are read and written, and dotted text.
+//! Tests of the basic encoding rules and of object identifiers: octets that are read and written,
+//! and dotted text.
 //!
 //! # Entry points
 //! None: the tests call what `ber_core` and `oid_core` offer.

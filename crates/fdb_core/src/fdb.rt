@@ -109,8 +109,8 @@ impl Fdb {
     }
 
     /// Hands on what holds of every table: the rows are by rising address, each address is six
-    /// octets, each row is younger than the longest aging time, and they are no more than the limit.
-    /// It does nothing.
+    /// octets, each row is younger than the longest aging time, and they are no more than the
+    /// limit. It does nothing.
     pub fn known(&self)
         ensures { IsTable self.now }
     {

@@ -10,7 +10,9 @@ use Rattle.frame_core.specs.declared.mac.TheConstants.{BRIDGE_GROUP}
 use Rattle.frame_core.specs.declared.frame.TheConstants.{MIN_FRAME_LEN, MAX_FRAME_LEN}
 use Rattle.frame_core.specs.declared.layout.TheConstants.{MAX_LENGTH}
 
--- A frame whose length field counts at most 1,500 octets, all of them there. They are the LLC header of the spanning tree protocol, 42 42 03, and the octets of a BPDU. What stands behind them is not looked at.
+-- A frame whose length field counts at most 1,500 octets, all of them there. They are the LLC
+-- header of the spanning tree protocol, 42 42 03, and the octets of a BPDU. What stands behind them
+-- is not looked at.
 pub record CarriesBpdu (frame : List ℕ) (b : Bpdu) : Type 0 where
   pub octets : List ℕ
   pub most : number_at frame 12 2 ≤ MAX_LENGTH
@@ -18,7 +20,8 @@ pub record CarriesBpdu (frame : List ℕ) (b : Bpdu) : Type 0 where
   pub content : take (number_at frame 12 2) (drop MIN_FRAME_LEN frame) ≡ 0x42 ∷ 0x42 ∷ 0x03 ∷ octets
   pub bpdu : IsBpdu octets b
 
--- What a bridge reads of a frame of 14 to 1,518 octets: the addresses, and a BPDU exactly where the frame goes to the bridges' group address.
+-- What a bridge reads of a frame of 14 to 1,518 octets: the addresses, and a BPDU exactly where the
+-- frame goes to the bridges' group address.
 pub record IsFrame (octets : List ℕ) (f : FrameIn) : Type 0 where
   pub least : MIN_FRAME_LEN ≤ length octets
   pub most : length octets ≤ MAX_FRAME_LEN

@@ -1,4 +1,5 @@
--- Where each field of a BPDU stands (IEEE 802.1D-2004, 9.2 and 9.3). Octets count from 0 here, and from 1 in the standard.
+-- Where each field of a BPDU stands (IEEE 802.1D-2004, 9.2 and 9.3). Octets count from 0 here, and
+-- from 1 in the standard.
 use Rattle.std.specs.Prelude.{◌≡◌, ℕ, ◌/◌, ◌%◌, ◌≤◌, List, length, take, drop, slice_index}
 use Rattle.frame_core.specs.Octets.{number_at, has_bit}
 use Rattle.frame_core.specs.declared.bpdu.BridgeId.{BridgeId}
@@ -16,7 +17,8 @@ pub record IsBridgeId (octets : List ℕ) (id : BridgeId) : Type 0 where
   pub priority : id.priority ≡ number_at octets 0 2
   pub address : id.address.0 ≡ take 6 (drop 2 octets)
 
--- The root identifier, the root path cost, the bridge identifier and the port identifier (9.2.5 to 9.2.7).
+-- The root identifier, the root path cost, the bridge identifier and the port identifier (9.2.5 to
+-- 9.2.7).
 pub record IsVector (octets : List ℕ) (v : PriorityVector) : Type 0 where
   pub root : IsBridgeId octets v.root
   pub cost : v.cost ≡ number_at octets 8 4
@@ -37,7 +39,8 @@ role_number roles.AlternateOrBackup = 1
 role_number roles.Root = 2
 role_number roles.Designated = 3
 
--- The flags of a Configuration BPDU (9.3.1), with the proposal where an RST BPDU has it. The other bits are not looked at.
+-- The flags of a Configuration BPDU (9.3.1), with the proposal where an RST BPDU has it. The other
+-- bits are not looked at.
 pub record AreConfigFlags (octet : ℕ) (c : ConfigFields) : Type 0 where
   pub topology_change : c.topology_change ≡ has_bit octet 0
   pub proposal : c.proposal ≡ has_bit octet 1
@@ -58,19 +61,22 @@ pub record IsConfig (octets : List ℕ) (c : ConfigFields) : Type 0 where
   pub vector : IsVector (drop 5 octets) c.vector
   pub times : AreTimes (drop 27 octets) c.times
 
--- An RST BPDU likewise (9.3.3). Its last octet, the length of what a version 1 would say, is not looked at.
+-- An RST BPDU likewise (9.3.3). Its last octet, the length of what a version 1 would say, is not
+-- looked at.
 pub record IsRapid (octets : List ℕ) (r : RapidFields) : Type 0 where
   pub flags : AreRapidFlags (slice_index octets 4) r
   pub vector : IsVector (drop 5 octets) r.vector
   pub times : AreTimes (drop 27 octets) r.times
 
--- At least so many octets, of which the first two are the protocol identifier 0 (9.2.1) and the fourth is the type (9.2.3).
+-- At least so many octets, of which the first two are the protocol identifier 0 (9.2.1) and the
+-- fourth is the type (9.2.3).
 pub record HasKind (octets : List ℕ) (least kind : ℕ) : Type 0 where
   pub long : least ≤ length octets
   pub protocol : number_at octets 0 2 ≡ 0
   pub kind_is : slice_index octets 3 ≡ kind
 
--- Octets that encode a BPDU (9.3.4). Octets behind it are not looked at, nor is the version of the first two kinds.
+-- Octets that encode a BPDU (9.3.4). Octets behind it are not looked at, nor is the version of the
+-- first two kinds.
 abbrev pub IsBpdu : List ℕ → Bpdu → Type 0
 IsBpdu octets (Config c) = HasKind octets 35 0 × IsConfig octets c
 IsBpdu octets TopologyChange = HasKind octets 4 128

@@ -8,7 +8,8 @@ use Rattle.std.specs.Int.{bit_at}
 use Rattle.byteorder.specs.Endian.{big_number}
 use Rattle.frame_core.specs.declared.mac.Mac.{Mac}
 
--- The number that stands in n octets from a place on, the highest octet first (IEEE 802.1D-2004, 9.1.1). Places count from 0.
+-- The number that stands in n octets from a place on, the highest octet first (IEEE 802.1D-2004,
+-- 9.1.1). Places count from 0.
 abbrev pub number_at : List ℕ → ℕ → ℕ → ℕ
 number_at octets place n = big_number n (drop place octets)
 

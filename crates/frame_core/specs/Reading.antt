@@ -1,4 +1,6 @@
--- What a frame is read as, a function of its octets: what kind of BPDU they are, and its fields by their places (IEEE 802.1D-2004, 9.2 and 9.3). Places count from 0 here, and from 1 in the standard.
+-- What a frame is read as, a function of its octets: what kind of BPDU they are, and its fields by
+-- their places (IEEE 802.1D-2004, 9.2 and 9.3). Places count from 0 here, and from 1 in the
+-- standard.
 use Rattle.std.specs.Prelude.{ℕ, ◌+◌, ◌/◌, ◌%◌, ◌==◌, ◌&&◌, Bool, nat_le, nat_lt, if◌then◌else◌, List, [], ◌∷◌, length, take, drop, slice_index, Option, Some, None, Result, Ok, Err}
 use Rattle.std.specs.Str.{bytes_eq}
 use Rattle.frame_core.specs.declared.frame.TheConstants.{MIN_FRAME_LEN, MAX_FRAME_LEN}
@@ -25,9 +27,11 @@ mac_at octets place = record { 0 = take 6 (drop place octets) }
 
 -- a bridge identifier: two octets of priority and six of address (9.2.5)
 abbrev pub bridge_id_at : List ℕ → ℕ → BridgeId
-bridge_id_at octets place = record { priority = number_at octets place 2; address = mac_at octets (place + 2) }
+bridge_id_at octets place =
+    record { priority = number_at octets place 2; address = mac_at octets (place + 2) }
 
--- the root identifier, the root path cost, the bridge identifier and the port identifier of a BPDU (9.3.1)
+-- the root identifier, the root path cost, the bridge identifier and the port identifier of a BPDU
+-- (9.3.1)
 unfoldable pub vector_in : List ℕ → PriorityVector
 vector_in octets = record {
   root = bridge_id_at octets 5;
@@ -79,7 +83,8 @@ rapid_in octets =
 
 -- at least so many octets, of the protocol identifier 0 (9.2.1) and of this type (9.2.3)
 abbrev pub has_kind : List ℕ → ℕ → ℕ → Bool
-has_kind octets least kind = nat_le least (length octets) && (number_at octets 0 2 == 0 && slice_index octets 3 == kind)
+has_kind octets least kind =
+    nat_le least (length octets) && (number_at octets 0 2 == 0 && slice_index octets 3 == kind)
 
 abbrev pub is_config : List ℕ → Bool
 is_config octets = has_kind octets 35 0
@@ -102,7 +107,8 @@ bpdu_in octets =
 abbrev pub content_of : List ℕ → List ℕ
 content_of frame = take (number_at frame 12 2) (drop MIN_FRAME_LEN frame)
 
--- the length field counts at most 1,500 octets, all of them there, and they begin with the LLC header 42 42 03
+-- the length field counts at most 1,500 octets, all of them there, and they begin with the LLC
+-- header 42 42 03
 abbrev pub has_llc : List ℕ → Bool
 has_llc frame =
     nat_le (number_at frame 12 2) MAX_LENGTH

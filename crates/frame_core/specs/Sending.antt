@@ -1,4 +1,5 @@
--- The octets of the frame in which a BPDU is sent (IEEE 802.1D-2004, 7.12, 9.2 and 9.3; IEEE 802.3, 3.2).
+-- The octets of the frame in which a BPDU is sent (IEEE 802.1D-2004, 7.12, 9.2 and 9.3; IEEE 802.3,
+-- 3.2).
 use Rattle.std.specs.Prelude.{◌≡◌, ℕ, ◌+◌, ◌*◌, ◌-◌, ◌^◌, ◌<◌, Bool, length, List, [], ◌∷◌, ◌++◌, replicate, if◌then◌else◌}
 use Rattle.byteorder.specs.Endian.{big_bytes}
 use Rattle.frame_core.specs.Layout.{role_number}

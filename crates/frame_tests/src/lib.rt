@@ -1,4 +1,5 @@
-//! Tests of frames and BPDUs as octets: frames worked by hand, and frames that another program built.
+//! Tests of frames and BPDUs as octets: frames worked by hand, and frames that another program
+//! built.
 //!
 //! # Entry points
 //! None: the tests call what `frame_core` offers.

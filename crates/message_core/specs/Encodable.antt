@@ -10,7 +10,8 @@ use Rattle.message_core.specs.declared.binding.Binding.{Binding}
 use Rattle.message_core.specs.declared.request.Request.{Request}
 use Rattle.message_core.specs.declared.reply.Reply.{Reply}
 
--- An OBJECT IDENTIFIER value begins as X.690, 8.19.4 asks: 0, 1 or 2, and below 2 a second number of at most 39.
+-- An OBJECT IDENTIFIER value begins as X.690, 8.19.4 asks: 0, 1 or 2, and below 2 a second number
+-- of at most 39.
 abbrev pub IsEncodableValue : Value → Type 0
 IsEncodableValue (Integer z) = Unit {0}
 IsEncodableValue (OctetString bytes) = Unit {0}

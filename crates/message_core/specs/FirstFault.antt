@@ -1,4 +1,5 @@
--- A datagram read from left to right, up to the first faulty place: the value and the octets left, or the cause. The grammar itself stands in `Message`.
+-- A datagram read from left to right, up to the first faulty place: the value and the octets left,
+-- or the cause. The grammar itself stands in `Message`.
 use Rattle.std.specs.Prelude.{ℕ, zero, suc, ℤ, pos, negsuc, ◌+◌, ◌^◌, Bool, false, List, [], ◌∷◌, length, Result, Ok, Err, nat_lt, ◌==◌, if◌then◌else◌}
 use Rattle.ber_core.specs.declared.fault.BerFault.{BerFault}
 use Rattle.ber_core.specs.Encoding.{twos_complement}
@@ -149,7 +150,8 @@ start_at datagram = if nat_lt MAX_REQUEST (length datagram) then Err TooLong els
   c ← content_at tags.octet_string v.1
   Ok (c.0, c.1, m.1)
 
--- A message up to its PDU: the community, the PDU's tag and content, and what comes after the PDU and after the message.
+-- A message up to its PDU: the community, the PDU's tag and content, and what comes after the PDU
+-- and after the message.
 unfoldable pub head_at : List ℕ → Result (List ℕ × ℕ × List ℕ × List ℕ × List ℕ) DropCause
 head_at datagram = do
   s ← start_at datagram

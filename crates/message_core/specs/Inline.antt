@@ -6,7 +6,8 @@ use Rattle.message_core.specs.declared.value.Value.{Value}
 use Rattle.message_core.specs.declared.value.Value.TheVariants.{Integer, OctetString, Null, ObjectIdentifier, IpAddress, Counter32, Gauge32, TimeTicks, Opaque, Counter64, NoSuchObject, NoSuchInstance, EndOfMibView}
 use Rattle.message_core.specs.declared.binding.Binding.{Binding}
 
--- Few octets in an OCTET STRING or an Opaque, few sub-identifiers in an OBJECT IDENTIFIER, and any other value.
+-- Few octets in an OCTET STRING or an Opaque, few sub-identifiers in an OBJECT IDENTIFIER, and any
+-- other value.
 abbrev pub IsInlineValue : Value → Type 0
 IsInlineValue (Integer z) = Unit {0}
 IsInlineValue (OctetString bytes) = length bytes ≤ INLINE_OCTETS

@@ -1,4 +1,5 @@
--- Lists of instances whose names rise: what stands under a name, what comes after one, and what can be served (RFC 3416, 4.2.1 and 4.2.2).
+-- Lists of instances whose names rise: what stands under a name, what comes after one, and what can
+-- be served (RFC 3416, 4.2.1 and 4.2.2).
 use Rattle.std.specs.Prelude.{◌≡◌, ℕ, false, if◌then◌else◌, List, [], ◌∷◌, map, filter, find, Option, Some, None, IsTrue, AllPairs, All, Contains}
 use Rattle.std.specs.List.{AllByRecursion}
 use Rattle.oid_core.specs.Order.{name_lt, name_eq}
@@ -34,7 +35,8 @@ pub record IsLeastAfter (rows : List Binding) (name : List ℕ) (row : Binding) 
   pub greater : IsTrue (name_lt name row.name)
   pub least : All (λ other. IsTrue (name_lt name other.name) → name_lt other.name row.name ≡ false) rows
 
--- A value that an instance can have: none of the three exceptions, which stand for the want of one (RFC 3416, section 3).
+-- A value that an instance can have: none of the three exceptions, which stand for the want of one
+-- (RFC 3416, section 3).
 abbrev pub IsInstanceValue : Value → Type 0
 IsInstanceValue (Integer z) = Unit {0}
 IsInstanceValue (OctetString bytes) = Unit {0}
@@ -54,7 +56,8 @@ IsInstanceValue EndOfMibView = ⊥
 abbrev pub AreValued : List Binding → Type 0
 AreValued rows = AllByRecursion (λ row. IsInstanceValue row.value) rows
 
--- instances that can be served: their names rise, each can be encoded in a message, and none has an exception for its value
+-- instances that can be served: their names rise, each can be encoded in a message, and none has an
+-- exception for its value
 pub record IsServable (rows : List Binding) : Type 0 where
   pub rising : IsRising rows
   pub encodable : AreEncodable rows

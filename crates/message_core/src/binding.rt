@@ -18,7 +18,8 @@ pub struct Binding {
 }
 
 impl Binding {
-    /// A copy. Takes memory only where its value's copy does, and for a name of more than `INLINE_NUMBERS` sub-identifiers.
+    /// A copy. Takes memory only where its value's copy does, and for a name of more than
+    /// `INLINE_NUMBERS` sub-identifiers.
     pub fn try_copy(&self, alloc: Global) -> Result<Binding, AllocError>
         ensures value { IfOk result (λ copy. copy ≡ self.now) }
         ensures inline { IsInlineBinding self.now → IsOk result }
@@ -28,7 +29,8 @@ impl Binding {
         Ok(Binding { name, value })
     }
 
-    /// Whether it has an encoding: whether its name and an OBJECT IDENTIFIER value begin as X.690, 8.19.4 asks.
+    /// Whether it has an encoding: whether its name and an OBJECT IDENTIFIER value begin as X.690,
+    /// 8.19.4 asks.
     pub fn is_encodable(&self) -> bool
         ensures { IsTrue result ↔ IsEncodableBinding self.now }
     {
@@ -76,7 +78,8 @@ impl Bindings {
         items
     }
 
-    /// Adds a binding at the end. Takes memory; without it, nothing changes and the binding is let go.
+    /// Adds a binding at the end. Takes memory; without it, nothing changes and the binding is let
+    /// go.
     pub fn push(&mut self, binding: Binding) -> Result<(), AllocError>
         ensures ok { OnOk result (self.new ≡ self.old ++ binding ∷ []) }
         ensures err { OnErr result (self.new ≡ self.old) }

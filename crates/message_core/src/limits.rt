@@ -3,7 +3,8 @@
 /// The longest datagram that is read, in octets: 2,048.
 pub const MAX_REQUEST: usize = 2048;
 
-/// The longest reply that is written, in octets: 1,472, which an Ethernet frame holds beside the headers of IP and UDP.
+/// The longest reply that is written, in octets: 1,472, which an Ethernet frame holds beside the
+/// headers of IP and UDP.
 pub const MAX_REPLY: usize = 1472;
 
 /// The longest community of a request that is answered, in octets: 255.

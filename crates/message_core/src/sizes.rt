@@ -23,9 +23,11 @@ const VERSION: i32 = 1;
 // Room for an INTEGER of 32 bits.
 const INTEGER_ROOM: usize = 16;
 
-/// The octets of a binding's shortest encoding, where they are at most `most`; else there is no answer.
+/// The octets of a binding's shortest encoding, where they are at most `most`; else there is no
+/// answer.
 ///
-/// `most` is at most `MAX_REPLY`. Takes no memory. A name that cannot be encoded is the caller's to keep out.
+/// `most` is at most `MAX_REPLY`. Takes no memory. A name that cannot be encoded is the caller's to
+/// keep out.
 pub fn encoded_len(binding: &Binding, most: usize) -> Option<usize>
     requires encodable { IsEncodableBinding binding.now }
     requires most { most ≤ MAX_REPLY }
@@ -67,7 +69,8 @@ fn community_len(community: &[u8]) -> usize
     }
 }
 
-/// The octets that bindings may have in a reply to a request with noError and index 0, so that it has at most `MAX_REPLY`.
+/// The octets that bindings may have in a reply to a request with noError and index 0, so that it
+/// has at most `MAX_REPLY`.
 ///
 /// The community has at most `MAX_COMMUNITY` octets. Takes no memory.
 pub fn bindings_room(request: &Request) -> usize

@@ -1,5 +1,5 @@
-//! The tags of a message and its values, one octet each (X.690, 8.1.2; the application tags: RFC 2578, section 2,
-//! with the types in 7.1; RFC 3416, section 3).
+//! The tags of a message and its values, one octet each (X.690, 8.1.2; the application tags: RFC
+//! 2578, section 2, with the types in 7.1; RFC 3416, section 3).
 
 /// INTEGER (X.690, 8.3), the universal tag 2.
 pub const INTEGER: u8 = 0x02;

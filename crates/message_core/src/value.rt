@@ -39,7 +39,8 @@ pub enum Value {
 }
 
 impl Value {
-    /// A copy. Takes memory only for more than `INLINE_OCTETS` octets and for a name of more than `INLINE_NUMBERS` sub-identifiers.
+    /// A copy. Takes memory only for more than `INLINE_OCTETS` octets and for a name of more than
+    /// `INLINE_NUMBERS` sub-identifiers.
     pub fn try_copy(&self, alloc: Global) -> Result<Value, AllocError>
         ensures value { IfOk result (λ copy. copy ≡ self.now) }
         ensures inline { IsInlineValue self.now → IsOk result }
@@ -61,7 +62,8 @@ impl Value {
         })
     }
 
-    /// Whether it has an encoding: each value has one but an OBJECT IDENTIFIER that does not begin as X.690, 8.19.4 asks.
+    /// Whether it has an encoding: each value has one but an OBJECT IDENTIFIER that does not begin
+    /// as X.690, 8.19.4 asks.
     pub fn is_encodable(&self) -> bool
         ensures { IsTrue result ↔ IsEncodableValue self.now }
     {

@@ -69,7 +69,8 @@ fn put_value(out: &mut Out<'_>, value: &Value) -> Result<(), BerFault>
     }
 }
 
-/// Writes the shortest encoding of a variable binding (RFC 3416, section 3: VarBind) in front of what is written.
+/// Writes the shortest encoding of a variable binding (RFC 3416, section 3: VarBind) in front of
+/// what is written.
 ///
 /// `NoRoom` where it does not fit. A name that cannot be encoded is the caller's to keep out.
 #[tactic(auto, unfolding(ber_core::specs::Encoding::canon_tlv, crate::specs::Canon::canon_binding))]
@@ -171,7 +172,8 @@ fn put_message(out: &mut Out<'_>, message: &Message<'_>) -> Result<(), BerFault>
     out.put_tlv_head(Tag(tag::SEQUENCE), len)
 }
 
-/// Writes a message to the front of the buffer, and answers how long it is. A message that does not fit changes nothing.
+/// Writes a message to the front of the buffer, and answers how long it is. A message that does not
+/// fit changes nothing.
 fn encode(message: &Message<'_>, buffer: &mut [u8; MAX_REPLY]) -> Result<usize, TooBig>
     requires { AreEncodable message.now.bindings.now }
     ensures ok { let m = message.now in IfOk result (λ n.
@@ -194,12 +196,15 @@ fn encode(message: &Message<'_>, buffer: &mut [u8; MAX_REPLY]) -> Result<usize, 
     Ok(len)
 }
 
-/// Writes the shortest encoding of a reply to the front of the buffer, and answers how long it is, at most `MAX_REPLY` octets.
+/// Writes the shortest encoding of a reply to the front of the buffer, and answers how long it is,
+/// at most `MAX_REPLY` octets.
 ///
-/// For a reply that stands alone, as a manager's or a test's; an agent answers by [`encode_answer`], which borrows the request.
+/// For a reply that stands alone, as a manager's or a test's; an agent answers by
+/// [`encode_answer`], which borrows the request.
 ///
-/// What stands behind it stays. `TooBig` exactly where it is longer than `MAX_REPLY` octets; the buffer is then as before.
-/// Takes no memory. A name that cannot be encoded is the caller's to keep out (`Binding::is_encodable`).
+/// What stands behind it stays. `TooBig` exactly where it is longer than `MAX_REPLY` octets; the
+/// buffer is then as before. Takes no memory. A name that cannot be encoded is the caller's to keep
+/// out (`Binding::is_encodable`).
 pub fn encode_reply(reply: &Reply, buffer: &mut [u8; MAX_REPLY]) -> Result<usize, TooBig>
     requires { AreEncodable reply.now.bindings }
     ensures ok { IfOk result (λ n. buffer.new ≡ canon_reply reply.now ++ drop n buffer.old) }
@@ -218,11 +223,13 @@ pub fn encode_reply(reply: &Reply, buffer: &mut [u8; MAX_REPLY]) -> Result<usize
     encode(&message, buffer)
 }
 
-/// Writes the shortest encoding of the reply to a request that has this status, index and bindings, as `encode_reply` does.
+/// Writes the shortest encoding of the reply to a request that has this status, index and bindings,
+/// as `encode_reply` does.
 ///
-/// The request-id and the community are the request's (RFC 3416, section 4.2). Takes no memory and copies nothing.
-/// The caller owes that each binding has an encoding (`Binding::is_encodable`): its name, and an OBJECT IDENTIFIER value,
-/// begin as X.690, 8.19.4 asks. `decode` gives only requests whose bindings have one.
+/// The request-id and the community are the request's (RFC 3416, section 4.2). Takes no memory and
+/// copies nothing. The caller owes that each binding has an encoding (`Binding::is_encodable`): its
+/// name, and an OBJECT IDENTIFIER value, begin as X.690, 8.19.4 asks. `decode` gives only requests
+/// whose bindings have one.
 pub fn encode_answer(
     request: &Request,
     status: ErrorStatus,

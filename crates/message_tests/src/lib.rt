@@ -1,4 +1,5 @@
-//! Tests of messages: requests that are read or dropped, and replies, beside those of other encoders.
+//! Tests of messages: requests that are read or dropped, and replies, beside those of other
+//! encoders.
 //!
 //! # Entry points
 //! None: the tests call what `message_core` offers.

@@ -1,5 +1,5 @@
-//! What a bridge of five ports shows in use: of three speeds, half and full duplex, one port disabled,
-//! other settings than the opening ones, another root, learned addresses.
+//! What a bridge of five ports shows in use: of three speeds, half and full duplex, one port
+//! disabled, other settings than the opening ones, another root, learned addresses.
 use crate::walks::{shown_at, walk_all};
 use crate::worlds::{hear, pass, port, put, put_at, raise, world_of};
 use rstp_core::{BridgeKey, PortKey};

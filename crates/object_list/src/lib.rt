@@ -2,8 +2,9 @@
 //! all of them.
 //!
 //! # Entry points
-//! [`Object`]: a managed object of any of the nine kinds, by `of` a column. [`COLUMNS`]: the columns
-//! of the 51 objects in the order of their names; [`objects`]: the objects themselves, of which
+//! [`Object`]: a managed object of any of the nine kinds, by `of` a column. [`COLUMNS`]: the
+//! columns of the 51 objects in the order of their names; [`objects`]: the objects themselves, of
+//! which
 //! `Registry::new` makes a registry.
 //!
 //! # Definitions

@@ -15,10 +15,12 @@ IsListFault numbers TooLong = MAX_NUMBERS < length numbers
 IsListFault numbers BadContent = length numbers ≡ 0
 IsListFault numbers NoRoom = ⊥
 
--- A name is not written behind what was written: it has no encoding, or else its content has no room.
+-- A name is not written behind what was written: it has no encoding, or else its content has no
+-- room.
 abbrev pub IsWriteFault : List ℕ → Out → OidFault → Type 0
 IsWriteFault name old Memory = ⊥
 IsWriteFault name old BadText = ⊥
 IsWriteFault name old TooLong = ⊥
 IsWriteFault name old BadContent = ¬ HasRoot name
-IsWriteFault name old NoRoom = HasRoot name × (capacity old < length (canon_name name ++ written_octets old))
+IsWriteFault name old NoRoom =
+    HasRoot name × (capacity old < length (canon_name name ++ written_octets old))

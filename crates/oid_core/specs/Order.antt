@@ -1,4 +1,5 @@
--- The lexicographic order of names (RFC 3416, 4.2.2): by the first sub-identifier that differs, and a name before those that it begins. And what begins a name.
+-- The lexicographic order of names (RFC 3416, 4.2.2): by the first sub-identifier that differs, and
+-- a name before those that it begins. And what begins a name.
 use Rattle.std.specs.Prelude.{◌≡◌, ◌<◌, ◌⊎◌, ℕ, Bool, true, false, nat_lt, nat_eq, if◌then◌else◌, List, [], ◌∷◌, ◌++◌}
 
 -- the first list begins the second

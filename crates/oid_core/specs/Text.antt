@@ -1,4 +1,5 @@
--- The dotted text of a name: its sub-identifiers in decimal, joined by dots. As `numericoid` of RFC 4512, 1.4, and wider: one number alone is a text too.
+-- The dotted text of a name: its sub-identifiers in decimal, joined by dots. As `numericoid` of RFC
+-- 4512, 1.4, and wider: one number alone is a text too.
 use Rattle.std.specs.Prelude.{◌≡◌, ℕ, ◌≤◌, ◌<◌, ◌^◌, ◌==◌, List, [], length, map, Option, Some, None}
 use Rattle.std.specs.Fmt.{decimal}
 use Rattle.std.specs.List.{AllByRecursion, join_with_byte, slice_split}
@@ -16,7 +17,8 @@ pub record IsDotted (text name : List ℕ) : Type 0 where
   pub each : AllByRecursion (λ n. n < 2 ^ 32) name
   pub parts : text ≡ dotted_text name
 
--- A text gives no name: it is no dotted text at all, or that of too many sub-identifiers, or there is no memory for so many.
+-- A text gives no name: it is no dotted text at all, or that of too many sub-identifiers, or there
+-- is no memory for so many.
 abbrev pub IsTextFault : List ℕ → OidFault → Type 0
 IsTextFault text Memory = (name : List ℕ) × IsDotted text name × (INLINE_NUMBERS < length name) × (length name ≤ MAX_NUMBERS)
 IsTextFault text BadText = (name : List ℕ) → ¬ IsDotted text name

@@ -32,7 +32,8 @@ pub fn name_is_one()
     ensures { (content a b : List ℕ) → IsName content a → IsName content b → a ≡ b }
 {}
 
-/// Reading from left to right gives a name exactly where the grammar has one, and `BadContent` exactly where it has none.
+/// Reading from left to right gives a name exactly where the grammar has one, and `BadContent`
+/// exactly where it has none.
 pub fn reading_is_the_grammar()
     ensures name { (content name : List ℕ) → AreOctets content →
         (name_at content ≡ Ok name) ↔ IsName content name }
@@ -46,7 +47,8 @@ pub fn text_is_one()
     ensures { (text a b : List ℕ) → IsDotted text a → IsDotted text b → a ≡ b }
 {}
 
-/// The name of a text is a function of it: `name_of_text` gives the name exactly of the dotted texts, and none of every other.
+/// The name of a text is a function of it: `name_of_text` gives the name exactly of the dotted
+/// texts, and none of every other.
 pub fn text_is_read()
     ensures name { (text name : List ℕ) → (name_of_text text ≡ Some name) ↔ IsDotted text name }
     ensures none { (text : List ℕ) → (name_of_text text ≡ None) ↔ ((name : List ℕ) →

@@ -10,7 +10,8 @@ pub fn begins(prefix: &[u32], name: &[u32]) -> bool
     name.starts_with(prefix)
 }
 
-/// Whether the first list is before the second: by the first number that differs, or because it begins a longer one.
+/// Whether the first list is before the second: by the first number that differs, or because it
+/// begins a longer one.
 pub fn precedes(a: &[u32], b: &[u32]) -> bool
     ensures value { IsTrue result ↔ IsBefore a.now b.now }
     ensures test { result ≡ name_lt a.now b.now }

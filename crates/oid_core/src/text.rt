@@ -31,7 +31,8 @@ fn first_piece(text: &str) -> (&str, Option<&str>)
     }
 }
 
-/// The numbers of a dotted text, 1 to 128 of them. A text that is wrong anywhere is `BadText`, also where it is too long.
+/// The numbers of a dotted text, 1 to 128 of them. A text that is wrong anywhere is `BadText`, also
+/// where it is too long.
 pub fn numbers_of(text: &str) -> Result<ArrayVec<u32, MAX_NUMBERS>, OidFault>
     ensures found { IfOk result (λ v. IsDotted text.now v.items) }
     ensures fault { IfErr result (λ f. IsTextFault text.now f) }

@@ -39,7 +39,8 @@ array_keys ms =
     array_at (codes "contexts") ms >=> (λ contexts. array_at (codes "community") ms >=> (λ communities.
     Some (arrays groups access families contexts communities))))))
 
--- a table of exactly the keys `contexts`, `community`, `group`, `access` and `family`, each an array
+-- a table of exactly the keys `contexts`, `community`, `group`, `access` and `family`, each an
+-- array
 abbrev pub arrays_of : Members → Option Arrays
 arrays_of ms = if key_count ms == 5 then array_keys ms else None
 
@@ -61,7 +62,8 @@ pub record SaysRows (ms : Members) (rows : PolicyRows) : Type 0 where
 abbrev pub AllSay : {R : Type 0} → (Data → Option R → Type 0) → List Data → Type 0
 AllSay {R} says ds = (rows : List R) × AreRows says ds rows
 
--- the first value of the arrays that says no row, in the order groups, access, families, contexts, communities
+-- the first value of the arrays that says no row, in the order groups, access, families, contexts,
+-- communities
 abbrev pub IsUnreadOf : Arrays → PolicyFault → Type 0
 IsUnreadOf a e =
     IsFirstUnread group_says Groups a.groups e
@@ -76,8 +78,8 @@ IsUnreadOf a e =
 abbrev pub IsUnread : Members → PolicyFault → Type 0
 IsUnread ms e = ((arrays_of ms ≡ None) × (e ≡ BadField Contexts 0)) ⊎ ((a : Arrays) × (arrays_of ms ≡ Some a) × IsUnreadOf a e)
 
--- Where reading the arrays takes memory: each value of the arrays before some array says a row, and that has a first value
--- that is typed as one.
+-- Where reading the arrays takes memory: each value of the arrays before some array says a row, and
+-- that has a first value that is typed as one.
 abbrev pub TakesMemoryOf : Arrays → Type 0
 TakesMemoryOf a =
     BeginsTyped IsGroup a.groups
@@ -99,11 +101,13 @@ RowsTakeMemory rows = ChecksTakeMemory rows.vacm ⊎ (AreAllRight rows.vacm × B
 
 -- the first fault of rows that were read
 abbrev pub IsPolicyFault : PolicyRows → PolicyFault → Type 0
-IsPolicyFault rows e = IsVacmFault rows.vacm e ⊎ (AreAllRight rows.vacm × IsCommunityFault rows.communities e)
+IsPolicyFault rows e =
+    IsVacmFault rows.vacm e ⊎ (AreAllRight rows.vacm × IsCommunityFault rows.communities e)
 
 -- the policy that rows stand for
 abbrev pub policy_tables : PolicyRows → PolicyTables
-policy_tables rows = record { communities = map community_row rows.communities; vacm = tables_of rows.vacm }
+policy_tables rows =
+    record { communities = map community_row rows.communities; vacm = tables_of rows.vacm }
 
 abbrev pub ArePolicyRowsRight : PolicyRows → Type 0
 ArePolicyRowsRight rows = AreAllRight rows.vacm × AreRight community_rules rows.communities

@@ -31,8 +31,8 @@ pub record IsFirstUnread {R : Type 0} (says : Data → Option R → Type 0) (tab
   pub rows : List R
   pub before : AreRows says (take place ds) rows
 
--- There is a first value, and it is typed as a row. Only of values that are, texts are copied and rows kept, so only then
--- does reading the values take memory.
+-- There is a first value, and it is typed as a row. Only of values that are, texts are copied and
+-- rows kept, so only then does reading the values take memory.
 abbrev pub BeginsTyped : (Data → Type 0) → List Data → Type 0
 BeginsTyped IsTyped [] = ⊥
 BeginsTyped IsTyped (d ∷ ds) = IsTyped d

@@ -1,4 +1,5 @@
--- The policy that a TOML table says, as a function: each value read as its row, and nothing wrong with any row.
+-- The policy that a TOML table says, as a function: each value read as its row, and nothing wrong
+-- with any row.
 use Rattle.std.specs.Prelude.{ℕ, ◌&&◌, Bool, nat_le, is_none, length, if◌then◌else◌, List, Option, Some, None}
 use Rattle.std.specs.List.{list_all, range_with_len}
 use Rattle.oid_core.specs.declared.limits.TheConstants.{MAX_NUMBERS}
@@ -15,7 +16,8 @@ use Rattle.policy_text.specs.Policies.{Arrays, arrays_of, policy_tables}
 
 -- the name of at most MAX_NUMBERS sub-identifiers that a dotted text is
 abbrev pub subtree_of : List ℕ → Option (List ℕ)
-subtree_of text = name_of_text text >=> (λ name. if nat_le (length name) MAX_NUMBERS then Some name else None)
+subtree_of text =
+    name_of_text text >=> (λ name. if nat_le (length name) MAX_NUMBERS then Some name else None)
 
 abbrev pub family_with : FamilyTexts → List ℕ → Option WrittenFamily
 family_with t mask =
@@ -39,7 +41,8 @@ rows_of a =
 
 -- nothing is wrong at any place of a table
 abbrev pub is_right : {W R : Type 0} → Rules W R → List W → Bool
-is_right rules rows = list_all (λ n. is_none (wrong_at rules rows n)) (range_with_len 0 (length rows))
+is_right rules rows =
+    list_all (λ n. is_none (wrong_at rules rows n)) (range_with_len 0 (length rows))
 
 abbrev pub are_rows_right : PolicyRows → Bool
 are_rows_right rows =

@@ -12,8 +12,8 @@ use Rattle.policy_text.specs.Said.{policy_of_members}
 abbrev pub text_of : List ℕ → Option (List ℕ)
 text_of octets = if is_utf8 octets then Some octets else None
 
--- The octets are a text, of more than white space and comments. What is no text is not read, and a blank text is a document of no
--- keys, so reading any other octets takes no memory.
+-- The octets are a text, of more than white space and comments. What is no text is not read, and a
+-- blank text is a document of no keys, so reading any other octets takes no memory.
 abbrev pub HasContent : List ℕ → Type 0
 HasContent octets = IsSome (text_of octets) × ¬ IsBlank octets
 

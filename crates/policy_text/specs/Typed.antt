@@ -18,12 +18,14 @@ group_typed d row e = sym (ap is_some e)
 pub access_typed : (d : Data) (row : WrittenAccess) → access_says d (Some row) → IsAccess d
 access_typed d row e = sym (ap is_some e)
 
-texts_typed : (texts : Option FamilyTexts) (row : WrittenFamily) → texts_say texts (Some row) → IsSome texts
+texts_typed : (texts : Option FamilyTexts) (row : WrittenFamily) → texts_say texts (Some row) →
+    IsSome texts
 texts_typed (Some t) row s = refl
 texts_typed None row s = sym (ap is_some s)
 
 pub family_typed : (d : Data) (row : WrittenFamily) → family_says d (Some row) → IsFamily d
 family_typed d row s = texts_typed (option_and_then family_members (as_table d)) row s
 
-pub community_typed : (d : Data) (row : WrittenCommunity) → community_says d (Some row) → IsCommunity d
+pub community_typed : (d : Data) (row : WrittenCommunity) → community_says d (Some row) →
+    IsCommunity d
 community_typed d row e = sym (ap is_some e)

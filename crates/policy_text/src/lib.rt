@@ -1,12 +1,13 @@
 //! The text of a policy, as it is written in TOML: its rows, and their faults in order.
 //!
 //! # Entry points
-//! [`policy_of`] reads a table of TOML, [`policy_in`] octets, which are UTF-8 or no policy; [`keys`] has what stands under the
-//! keys of a table, which configurations use as well.
+//! [`policy_of`] reads a table of TOML, [`policy_in`] octets, which are UTF-8 or no policy;
+//! [`keys`] has what stands under the keys of a table, which configurations use as well.
 //!
 //! # Definitions
-//! `specs/Policies.antt`, `specs/Reading.antt`: what a text says and its first fault; `specs/Said.antt`, `specs/Texts.antt`:
-//! the same as functions; `specs/Keys.antt`: what stands under a key.
+//! `specs/Policies.antt`, `specs/Reading.antt`: what a text says and its first fault;
+//! `specs/Said.antt`, `specs/Texts.antt`: the same as functions; `specs/Keys.antt`: what stands
+//! under a key.
 //!
 //! # Laws
 //! In [`laws`]: what a table of TOML says is what the functions give.

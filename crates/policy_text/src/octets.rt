@@ -51,11 +51,12 @@ fn policy_said(alloc: Global, table: &Table) -> Result<Option<Policy>, AllocErro
     }
 }
 
-/// The policy that octets are: UTF-8, and a TOML document, which says a policy as [`policy_of`] reads it. `None` for any other
-/// octets.
+/// The policy that octets are: UTF-8, and a TOML document, which says a policy as [`policy_of`]
+/// reads it. `None` for any other octets.
 ///
 /// # Errors
-/// `AllocError` where there is no memory, which only octets that are UTF-8, and more than white space and comments, take.
+/// `AllocError` where there is no memory, which only octets that are UTF-8, and more than white
+/// space and comments, take.
 #[tactic(auto, unfolding(crate::specs::Texts::policy_in))]
 pub fn policy_in(alloc: Global, octets: &[u8]) -> Result<Option<Policy>, AllocError>
     ensures policy { IfOk result (λ policy. policy ≡ policy_in octets.now) }

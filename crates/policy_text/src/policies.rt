@@ -51,7 +51,8 @@ fn policy_arrays(table: &Table) -> Option<PolicyArrays<'_>>
     })
 }
 
-/// Whether a table has exactly the keys of a policy, `contexts`, `community`, `group`, `access` and `family`, each an array.
+/// Whether a table has exactly the keys of a policy, `contexts`, `community`, `group`, `access` and
+/// `family`, each an array.
 pub fn has_policy_keys(table: &Table) -> bool
     ensures { result ≡ is_some (arrays_of (table_view table.now)) }
 {
@@ -86,10 +87,12 @@ fn read_arrays(alloc: Global, arrays: &PolicyArrays<'_>) -> Result<PolicyRows, P
 ///
 /// # Errors
 ///
-/// `BadField(Contexts, 0)` where the table has not exactly the keys `contexts`, `community`, `group`,
+/// `BadField(Contexts, 0)` where the table has not exactly the keys `contexts`, `community`,
+/// `group`,
 /// `access` and `family`, each an array; else `BadField` of the first value that is no row, in the
-/// order groups, access, families, contexts, communities; `Memory` where a growth was refused: the table has the five
-/// arrays, the values of those before some array are rows, and that has a first value that has a row's keys and types.
+/// order groups, access, families, contexts, communities; `Memory` where a growth was refused: the
+/// table has the five arrays, the values of those before some array are rows, and that has a first
+/// value that has a row's keys and types.
 fn policy_rows(alloc: Global, table: &Table) -> Result<PolicyRows, PolicyFault>
     ensures rows { IfOk result (λ rows. SaysRows (table_view table.now) rows) }
     ensures fault { IfErr result (λ e. e ≢ PolicyFault.Memory → IsUnread (table_view table.now) e) }
@@ -117,11 +120,13 @@ fn policy_of_rows(alloc: Global, rows: PolicyRows) -> Result<Policy, PolicyFault
 ///
 /// # Errors
 ///
-/// First the faults of the keys and of the types: `BadField(Contexts, 0)` where the table has not exactly the keys
-/// `contexts`, `community`, `group`, `access` and `family`, each an array; else `BadField` of the first value that is no row,
-/// in the order groups, access, families, contexts, communities. Then the first row whose length, field or key is wrong, as
-/// [`Vacm::new`] and [`Policy::new`] name it. `Memory` where a growth was refused: the table has the five arrays, the values of
-/// those before some array are rows, and that has a first value that has a row's keys and types.
+/// First the faults of the keys and of the types: `BadField(Contexts, 0)` where the table has not
+/// exactly the keys
+/// `contexts`, `community`, `group`, `access` and `family`, each an array; else `BadField` of the
+/// first value that is no row, in the order groups, access, families, contexts, communities. Then
+/// the first row whose length, field or key is wrong, as [`Vacm::new`] and [`Policy::new`] name it.
+/// `Memory` where a growth was refused: the table has the five arrays, the values of those before
+/// some array are rows, and that has a first value that has a row's keys and types.
 pub fn policy_of(alloc: Global, table: &Table) -> Result<Policy, PolicyFault>
     ensures policy { IfOk result (λ p. IsPolicy (table_view table.now) p) }
     ensures fault { IfErr result (λ e. e ≢ PolicyFault.Memory → IsUnread (table_view table.now) e ⊎

@@ -22,7 +22,8 @@ pub trait Read: Sized + Drop {
     // A value has the keys of a row, each of its type, whatever they hold.
     ghost typed: { Data → Type 0 };
 
-    /// The row that a value says, if it says one. Takes memory only where the value is typed as a row.
+    /// The row that a value says, if it says one. Takes memory only where the value is typed as a
+    /// row.
     fn read(alloc: Global, value: &Value) -> Result<Option<Self>, AllocError>
         ensures row { IfOk result (λ row. says (view value.now) row) }
         ensures memory { OnErr result (typed (view value.now)) };
@@ -31,8 +32,8 @@ pub trait Read: Sized + Drop {
     ghost says_typed: { (d : Data) (row : Self) → says d (Some row) → typed d };
 }
 
-/// The rows that the values of an array say, or the fault of the first that says none. Takes memory only where the first
-/// value is typed as a row.
+/// The rows that the values of an array say, or the fault of the first that says none. Takes memory
+/// only where the first value is typed as a row.
 pub fn read_rows<T: Read>(
     alloc: Global,
     table: PolicyTable,

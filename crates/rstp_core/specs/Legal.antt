@@ -1,4 +1,5 @@
--- What holds of settings and spanning tree between events, where each change of settings has been settled.
+-- What holds of settings and spanning tree between events, where each change of settings has been
+-- settled.
 use Rattle.std.specs.Prelude.{◌≡◌, ℕ, ◌+◌, ◌<◌, true, false, List, length, slice_index_or, All}
 use Rattle.rstp_settings.specs.Table.{Table}
 use Rattle.rstp_rules.specs.declared.row.Row.{Row}
@@ -10,7 +11,8 @@ use Rattle.rstp_core.specs.Settled.{settled_of}
 use Rattle.rstp_core.specs.Passes.{rows_with_roles}
 use Rattle.rstp_core.specs.Tree.{Tree, rows_of}
 
--- A port that learns or forwards is on, and is a root or designated port (IEEE 802.1D-2004 7.4, 17.29, 17.30).
+-- A port that learns or forwards is on, and is a root or designated port (IEEE 802.1D-2004 7.4,
+-- 17.29, 17.30).
 pub record IsActive (r : Row) : Type 0 where
   pub on : r.line.on ≡ true
   pub role : is_root_or_designated r.port.role ≡ true
@@ -18,14 +20,15 @@ pub record IsActive (r : Row) : Type 0 where
 abbrev pub MayLearn : Row → Type 0
 MayLearn r = is_discarding r.port.state ≡ false → IsActive r
 
--- The roles of the whole tree (17.21.25): the root vector is the best of the candidates of the ports as they are, and each
--- port has the information, the role and the vector that it gives: choosing the roles again changes nothing.
+-- The roles of the whole tree (17.21.25): the root vector is the best of the candidates of the
+-- ports as they are, and each port has the information, the role and the vector that it gives:
+-- choosing the roles again changes nothing.
 pub record HasRoles (s : Table) (t : Tree) : Type 0 where
   pub root : IsBest (candidates (own_id s t.address) (rows_of s t)) t.facts.root
   pub ports : rows_with_roles (own_id s t.address) t.facts.root (rows_of s t) ≡ rows_of s t
 
--- Each port has a configuration; what was settled is the settings; the roles are those of the whole tree; and only active
--- ports learn or forward.
+-- Each port has a configuration; what was settled is the settings; the roles are those of the whole
+-- tree; and only active ports learn or forward.
 pub record IsLegal (s : Table) (t : Tree) : Type 0 where
   pub configured : length t.config ≡ length t.ports
   pub settled : t.settled ≡ settled_of s

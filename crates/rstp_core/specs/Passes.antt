@@ -15,7 +15,8 @@ rows_with_roles own root rows = map (with_role own root) rows
 
 -- The first five of the six steps in which the states follow from the roles.
 abbrev pub before_turns : Context → List Row → List Row
-before_turns c rows = after_advances c (after_synchronizations c (map (after_first_transitions c) rows))
+before_turns c rows =
+    after_advances c (after_synchronizations c (map (after_first_transitions c) rows))
 
 -- The sixth: the ports that became forwarding take their turns.
 abbrev pub after_turns : Context → List Row → List Row

@@ -1,5 +1,5 @@
--- What may happen to a bridge, one after another, from the opening on. Each change of settings is followed by
--- settling them before anything else happens.
+-- What may happen to a bridge, one after another, from the opening on. Each change of settings is
+-- followed by settling them before anything else happens.
 use Rattle.std.specs.Prelude.{◌≡◌, ◌≢◌, ◌⊎◌, ℕ, Bool, true, false, ◌&&◌, if◌then◌else◌, List, [], ◌∷◌, length}
 use Rattle.frame_core.specs.declared.mac.Mac.{Mac}
 use Rattle.frame_core.specs.declared.bpdu.Bpdu.{Bpdu}
@@ -32,10 +32,12 @@ Happens (Link port up) s t r u out = (r ≡ s) × Links s port up t u out
 Happens (Message port b) s t r u out = (r ≡ s) × Arrives s port b t u out
 Happens (Settle v) s t r u out = (r ≡ without_migration_checks v) × Settles v t u out
 
--- A list of happenings, the latest first, leads from the settings s and the tree t to the settings r and the tree u.
+-- A list of happenings, the latest first, leads from the settings s and the tree t to the settings
+-- r and the tree u.
 abbrev pub Leads : Table → Tree → List Happening → Table → Tree → Type 0
 Leads s t [] r u = (r ≡ s) × (u ≡ t)
-Leads s t (h ∷ past) r u = (v : Table) × (w : Tree) × (out : Outcome) × Leads s t past v w × Happens h v w r u out
+Leads s t (h ∷ past) r u =
+    (v : Table) × (w : Tree) × (out : Outcome) × Leads s t past v w × Happens h v w r u out
 
 -- It leads there from the opening.
 abbrev pub Runs : Mac → List PortConfig → List Happening → Table → Tree → Type 0
@@ -65,16 +67,18 @@ version_of s = get s (key.Bridge bridge.Version)
 abbrev pub is_on : Table → Tree → ℕ → Bool
 is_on s t port = enabled_by s port && (port_at t port).link
 
--- A port starts anew: its link changes while it is enabled; settling finds another version; or, with its link up, settling finds
--- that it was enabled and is not, or is and was not.
+-- A port starts anew: its link changes while it is enabled; settling finds another version; or,
+-- with its link up, settling finds that it was enabled and is not, or is and was not.
 abbrev pub Restarts : Happening → Table → Tree → ℕ → Type 0
 Restarts Tick s t port = ⊥
 Restarts (Message other b) s t port = ⊥
-Restarts (Link other up) s t port = (other ≡ port) × (enabled_by s port ≡ true) × ((port_at t port).link ≢ up)
+Restarts (Link other up) s t port =
+    (other ≡ port) × (enabled_by s port ≡ true) × ((port_at t port).link ≢ up)
 Restarts (Settle v) s t port = (version_of v ≢ version_of s) ⊎ (((port_at t port).link ≡ true) × (enabled_by v port ≢ enabled_by s port))
 
--- A port that started anew: where it is off it is disabled and discards. Where it is on it is designated and discards; but under
--- version 2 it forwards at once where it is set to be at the edge.
+-- A port that started anew: where it is off it is disabled and discards. Where it is on it is
+-- designated and discards; but under version 2 it forwards at once where it is set to be at the
+-- edge.
 pub record IsAnew (s : Table) (t : Tree) (port : ℕ) : Type 0 where
   pub role : (port_at t port).role ≡ (if is_on s t port then Designated else Disabled)
   pub state : (port_at t port).state ≡ (if is_on s t port && rstp_version s && edge_by s port then Forwarding else Discarding)

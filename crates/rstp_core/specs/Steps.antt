@@ -1,5 +1,5 @@
--- Each event as a function: the tree that it leaves, what is sent, and whose learned rows go. The root vector is the
--- candidate that no candidate beats; all else of an event follows from it.
+-- Each event as a function: the tree that it leaves, what is sent, and whose learned rows go. The
+-- root vector is the candidate that no candidate beats; all else of an event follows from it.
 use Rattle.std.specs.Prelude.{◌≡◌, ℕ, Bool, true, false, not, List, map, Option}
 use Rattle.std.specs.List.{list_any, find}
 use Rattle.std.specs.Option.{unwrap_or}
@@ -21,7 +21,8 @@ use Rattle.rstp_core.specs.Passes.{rows_with_roles, ready}
 use Rattle.rstp_core.specs.Tree.{Tree, rows_of, ports_of, has_change, facts_after, times_before, has_other_version}
 use Rattle.rstp_core.specs.declared.rstp.Outcome.{Outcome}
 
--- What an event leaves and gives: the tree, what each port sends, and the numbers of the ports whose learned rows go.
+-- What an event leaves and gives: the tree, what each port sends, and the numbers of the ports
+-- whose learned rows go.
 pub record Step : Type 0 where
   pub tree : Tree
   pub bpdus : List (Option Bpdu)
@@ -42,8 +43,9 @@ best_candidate none bs = unwrap_or (find (is_unbeaten bs) bs) none
 unfoldable pub root_of : BridgeId → List Row → Best
 root_of own rows = best_candidate (own_best own) (candidates own rows)
 
--- An event under way: whether it is a tick, the rows that its own part left of a tree, and the times that the times in force
--- are measured against: those in force before it under the settings; in settling, under the settled values.
+-- An event under way: whether it is a tick, the rows that its own part left of a tree, and the
+-- times that the times in force are measured against: those in force before it under the settings;
+-- in settling, under the settled values.
 pub record Event : Type 0 where
   pub settings : Table
   pub tree : Tree
@@ -116,7 +118,8 @@ link_step s port up t = step_of (link_event s port up t)
 unfoldable pub settling_step : Table → Tree → Step
 settling_step s t = step_of (settling_event s t)
 
--- An event that led from the tree t to the tree u and gave this outcome did this step, and left address and configuration.
+-- An event that led from the tree t to the tree u and gave this outcome did this step, and left
+-- address and configuration.
 pub record IsStep (does : Step) (t u : Tree) (out : Outcome) : Type 0 where
   pub gives : does ≡ step_to u out
   pub address : u.address ≡ t.address

@@ -46,11 +46,13 @@ port_at t port = slice_index_or t.ports (port - 1) no_row.port
 abbrev pub config_at : Tree → ℕ → PortConfig
 config_at t port = slice_index_or t.config (port - 1) no_config
 
--- The rows of all ports, from this port on, as an event begins under the settings s, where w is what was settled.
+-- The rows of all ports, from this port on, as an event begins under the settings s, where w is
+-- what was settled.
 abbrev pub rows_from : Table → SettledValues → ℕ → List PortConfig → List Port → List Row
 rows_from s w port [] ports = []
 rows_from s w port (c ∷ configs) [] = []
-rows_from s w port (c ∷ configs) (p ∷ ports) = row_of s (settled_port w port) port c p ∷ rows_from s w (port + 1) configs ports
+rows_from s w port (c ∷ configs) (p ∷ ports) =
+    row_of s (settled_port w port) port c p ∷ rows_from s w (port + 1) configs ports
 
 abbrev pub rows_of : Table → Tree → List Row
 rows_of s t = rows_from s t.settled 1 t.config t.ports
@@ -62,9 +64,10 @@ ports_of rows = map (λ r. r.port) rows
 abbrev pub has_change : List Port → Bool
 has_change ports = list_any (λ p. nat_lt 0 p.change_while) ports
 
--- The root, the times in force, and the counts of topology changes, where one was told before the event or not,
--- and one is told after it or not. A topology change is counted where one is told and none was. The seconds run from
--- where none is told any more, or from the opening where none was; they are 0 while one is told.
+-- The root, the times in force, and the counts of topology changes, where one was told before the
+-- event or not, and one is told after it or not. A topology change is counted where one is told and
+-- none was. The seconds run from where none is told any more, or from the opening where none was;
+-- they are 0 while one is told.
 abbrev pub changes_after : ℕ → Bool → Bool → ℕ
 changes_after n had has = if has && not had then (n + 1) % 2 ^ 32 else n
 
@@ -79,9 +82,9 @@ facts_after tick c had has f = record {
   since = since_after tick f.since has;
 }
 
--- How each event ends, from the rows that the event's own part left: vectors that are too old are received no
--- longer; the root vector is a least element; the roles; the times in force; the states; on a tick the hello step;
--- and what is sent.
+-- How each event ends, from the rows that the event's own part left: vectors that are too old are
+-- received no longer; the root vector is a least element; the roles; the times in force; the
+-- states; on a tick the hello step; and what is sent.
 pub record Concludes (s : Table) (own : BridgeId) (tick : Bool) (was : Times) (old : List Row) (c : Context) (new : List Row) (out : Outcome) : Type 0 where
   pub root : IsBest (candidates own (map after_expiry old)) c.root
   pub context : c ≡ context_of s own c.root was (times_in_force (timers_of s) (rows_with_roles own c.root (map after_expiry old)))
@@ -113,25 +116,29 @@ Arrives s port b t u out = Ends s false (times_before s t) (after_arrival s (own
 
 -- The link of a port is up, or down.
 abbrev pub Links : Table → ℕ → Bool → Tree → Tree → Outcome → Type 0
-Links s port up t u out = Ends s false (times_before s t) (map (after_link port up) (rows_of s t)) t u out
+Links s port up t u out =
+    Ends s false (times_before s t) (map (after_link port up) (rows_of s t)) t u out
 
 -- Settling finds that the version is another.
 abbrev pub has_other_version : Table → SettledValues → Bool
 has_other_version s w = not ((settled_of s).version == w.version)
 
--- Settling the settings. The version, the edge settings, enabling and the times in force are measured against what was settled
--- before; vectors against the event's start.
+-- Settling the settings. The version, the edge settings, enabling and the times in force are
+-- measured against what was settled before; vectors against the event's start.
 abbrev pub Settles : Table → Tree → Tree → Outcome → Type 0
 Settles s t u out =
     Ends s false (times_in_force t.settled.timers (rows_of s t)) (map (after_settling (has_other_version s t.settled)) (rows_of s t)) (record t { settled = settled_of s }) u out
 
--- The opening: all links down, the opening settings settled, this bridge root. Each port holds its designated vector.
+-- The opening: all links down, the opening settings settled, this bridge root. Each port holds its
+-- designated vector.
 abbrev pub opening_port_of : BridgeId → Times → ℕ → Port
-opening_port_of own times port = opening_port (record { root = own; cost = 0; bridge = own; port = port_id 128 port }) times
+opening_port_of own times port =
+    opening_port (record { root = own; cost = 0; bridge = own; port = port_id 128 port }) times
 
 abbrev pub opening_ports : BridgeId → Times → ℕ → List Port
 opening_ports own times zero = []
-opening_ports own times (suc n) = opening_ports own times n ++ opening_port_of own times (n + 1) ∷ []
+opening_ports own times (suc n) =
+    opening_ports own times n ++ opening_port_of own times (n + 1) ∷ []
 
 abbrev pub opening_tree : Mac → List PortConfig → Tree
 opening_tree address configs =

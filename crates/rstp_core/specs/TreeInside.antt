@@ -1,4 +1,5 @@
--- What holds of the fields of each spanning tree: a configuration and settled values for each port, at most 32 of them.
+-- What holds of the fields of each spanning tree: a configuration and settled values for each port,
+-- at most 32 of them.
 use Rattle.std.specs.Prelude.{◌≡◌, ◌≤◌, List, length}
 use Rattle.rstp_settings.specs.declared.settings.TheConstants.{MAX_PORTS}
 use Rattle.rstp_settings.specs.declared.config.PortConfig.{PortConfig}

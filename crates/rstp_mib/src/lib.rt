@@ -1,12 +1,13 @@
 //! The managed objects of RSTP-MIB (RFC 4318) that show a bridge.
 //!
 //! # Entry points
-//! [`RstpScalar`]: dot1dStpVersion and dot1dStpTxHoldCount; [`ExtPortColumn`]: dot1dStpExtPortTable.
-//! Each is made by `new` of a descriptor, and is a `MibObject`: it shows its row, whatever was asked
-//! of it before.
+//! [`RstpScalar`]: dot1dStpVersion and dot1dStpTxHoldCount; [`ExtPortColumn`]:
+//! dot1dStpExtPortTable. Each is made by `new` of a descriptor, and is a `MibObject`: it shows its
+//! row, whatever was asked of it before.
 //!
 //! # Definitions
-//! What each object shows stands in `setphase_core`: `specs/Columns.antt`, and the objects' names in
+//! What each object shows stands in `setphase_core`: `specs/Columns.antt`, and the objects' names
+//! in
 //! `specs/Names.antt`.
 //!
 //! # Laws

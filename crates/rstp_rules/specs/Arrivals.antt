@@ -1,4 +1,5 @@
--- A BPDU that arrives (IEEE 802.1D-2004 17.21.1, 17.21.8, 17.21.9, 17.21.11 to 17.21.13, 17.21.17, 17.21.18, 17.21.22, 17.23, 17.27).
+-- A BPDU that arrives (IEEE 802.1D-2004 17.21.1, 17.21.8, 17.21.9, 17.21.11 to 17.21.13, 17.21.17,
+-- 17.21.18, 17.21.22, 17.23, 17.27).
 use Rattle.std.specs.Prelude.{ℕ, Bool, true, false, ◌&&◌, ◌||◌, not, if◌then◌else◌, ◌==◌, List, map}
 use Rattle.std.specs.List.{list_any}
 use Rattle.std.specs.Ordering.{is_lt}
@@ -22,7 +23,8 @@ use Rattle.rstp_rules.specs.Transitions.{with_change_spread}
 
 -- The sender of the vector is the port itself.
 abbrev pub is_own : BridgeId → Row → PriorityVector → Bool
-is_own own r v = same_mac v.bridge.address own.address && port_number v.port == port_number r.line.id
+is_own own r v =
+    same_mac v.bridge.address own.address && port_number v.port == port_number r.line.id
 
 -- A BPDU on a port that is off, or (Config and RST) of the port itself, is ignored.
 abbrev pub is_taken : BridgeId → Bpdu → Row → Bool
@@ -30,16 +32,19 @@ is_taken own TopologyChange r = r.line.on
 is_taken own (Config m) r = r.line.on && not (is_own own r m.vector)
 is_taken own (Rapid m) r = r.line.on && not (is_own own r m.vector)
 
--- 17.21.22, 17.23. Each message that is taken: the port is at no edge, and Config and TCN make it send no RST, RST make it send them.
+-- 17.21.22, 17.23. Each message that is taken: the port is at no edge, and Config and TCN make it
+-- send no RST, RST make it send them.
 abbrev pub after_mark : Bool → Row → Row
 after_mark rapid r = record r { port = record r.port { edge = false; send_rstp = rapid } }
 
--- 17.6, 17.21.8. A vector is taken where it is better, or where the port that sent the recorded one sends again.
+-- 17.6, 17.21.8. A vector is taken where it is better, or where the port that sent the recorded one
+-- sends again.
 abbrev pub is_superior : PriorityVector → Row → Bool
-is_superior v r = is_lt (vector_cmp v r.port.vector) || (is_received r.port.info && same_sender v r.port.vector)
+is_superior v r =
+    is_lt (vector_cmp v r.port.vector) || (is_received r.port.info && same_sender v r.port.vector)
 
--- 17.21.1, 17.21.11 to 17.21.13, 17.21.23. It is recorded with its times and its age; what differs is not agreed; a
--- proposal is noted.
+-- 17.21.1, 17.21.11 to 17.21.13, 17.21.23. It is recorded with its times and its age; what differs
+-- is not agreed; a proposal is noted.
 abbrev pub after_record : PriorityVector → Times → Bool → Row → Row
 after_record v t proposal r =
     let same = same_vector v r.port.vector && same_times t r.port.times in
@@ -61,10 +66,11 @@ after_offer v t proposal r =
     if is_superior v r then after_record v t proposal r
     else (if is_designated r.port.role then record r { port = record r.port { pending = true } } else r)
 
--- 17.21.9. A message of a root, alternate or backup port to a designated port that it does not beat: agreed
--- where it agrees over a point to point link.
+-- 17.21.9. A message of a root, alternate or backup port to a designated port that it does not
+-- beat: agreed where it agrees over a point to point link.
 abbrev pub after_answer : PriorityVector → Bool → Row → Row
-after_answer v agreement r = if is_designated r.port.role && not (is_lt (vector_cmp v r.port.vector))
+after_answer v agreement r =
+    if is_designated r.port.role && not (is_lt (vector_cmp v r.port.vector))
     then record r { port = record r.port { agreed = agreement && r.line.point_to_point } }
     else r
 
@@ -78,20 +84,23 @@ after_rapid said.Designated v t proposal agreement r = after_offer v t proposal 
 -- A message that is taken. Under version 0 the proposal and agreement flags are read as 0.
 abbrev pub after_message : Bool → Bpdu → Row → Row
 after_message rstp TopologyChange r = after_mark false r
-after_message rstp (Config m) r = after_offer m.vector m.times (m.proposal && rstp) (after_mark false r)
+after_message rstp (Config m) r =
+    after_offer m.vector m.times (m.proposal && rstp) (after_mark false r)
 after_message rstp (Rapid m) r = after_rapid m.role m.vector m.times (m.proposal && rstp) (m.agreement && rstp) (after_mark true r)
 
 -- A message at a port, as far as that port is concerned.
 abbrev pub after_reception : BridgeId → Bool → ℕ → Bpdu → Row → Row
-after_reception own rstp port b r = if r.line.number == port && is_taken own b r then after_message rstp b r else r
+after_reception own rstp port b r =
+    if r.line.number == port && is_taken own b r then after_message rstp b r else r
 
--- 17.21.17. Whether the message at a port tells the other ports of a topology change: with its flag, or as a TCN,
--- on a root or designated port.
+-- 17.21.17. Whether the message at a port tells the other ports of a topology change: with its
+-- flag, or as a TCN, on a root or designated port.
 abbrev pub spreads : BridgeId → ℕ → Bpdu → Row → Bool
-spreads own port b r = r.line.number == port && is_taken own b r && is_root_or_designated r.port.role && tells_change b
+spreads own port b r =
+    r.line.number == port && is_taken own b r && is_root_or_designated r.port.role && tells_change b
 
--- 17.21.17. What it tells the port itself of a topology change: an acknowledgment to the root port, which need
--- not tell any longer; a notification to a designated port, which acknowledges it.
+-- 17.21.17. What it tells the port itself of a topology change: an acknowledgment to the root port,
+-- which need not tell any longer; a notification to a designated port, which acknowledges it.
 abbrev pub after_acknowledgment : Bpdu → Row → Row
 after_acknowledgment TopologyChange r = if is_designated r.port.role then record r { port = record r.port { acknowledge = true; pending = true } } else r
 after_acknowledgment (Config m) r = if m.acknowledge && is_root r.port.role then record r { port = record r.port { change_while = 0 } } else r
@@ -104,13 +113,14 @@ after_change_notice t own port b change r =
     else (if change then with_change_spread t r else r)
 
 abbrev pub after_change_notices : Timing → BridgeId → ℕ → Bpdu → List Row → List Row
-after_change_notices t own port b rows = map (after_change_notice t own port b (list_any (spreads own port b) rows)) rows
+after_change_notices t own port b rows =
+    map (after_change_notice t own port b (list_any (spreads own port b) rows)) rows
 
 abbrev pub after_receptions : BridgeId → Bool → ℕ → Bpdu → List Row → List Row
 after_receptions own rstp port b rows = map (after_reception own rstp port b) rows
 
--- A message at a port: first what it tells the port, then the topology change, with the times in force then.
--- Roles are as they were before the event.
+-- A message at a port: first what it tells the port, then the topology change, with the times in
+-- force then. Roles are as they were before the event.
 unfoldable pub after_arrival : Table → BridgeId → ℕ → Bpdu → List Row → List Row
 after_arrival s own port b rows =
     let heard = after_receptions own (rstp_version s) port b rows in

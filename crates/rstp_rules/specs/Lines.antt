@@ -40,7 +40,8 @@ enabled_by s port = get s (key.Port port port_key.Enable) == PORT_ENABLED
 abbrev pub edge_by : Table → ℕ → Bool
 edge_by s port = get s (key.Port port port_key.Edge) == EDGE_TRUE
 
--- A port under the settings s, where w are its settled values. It is on where it is enabled and its link is up.
+-- A port under the settings s, where w are its settled values. It is on where it is enabled and its
+-- link is up.
 abbrev pub line_of : Table → SettledPort → ℕ → PortConfig → Bool → Line
 line_of s w port c link = record {
   number = port;
@@ -90,11 +91,12 @@ pub record AreTimers (m : Timers) : Type 0 where
 abbrev pub set_times : Timers → Times
 set_times m = record { message_age = 0; max_age = in_256ths m.max_age; hello = in_256ths m.hello; forward_delay = in_256ths m.forward_delay }
 
--- 17.18.7, 17.21.25. The times in force: the settings where this bridge is root, and else those of the root port
--- with one second added to the message age, at most 65535.
+-- 17.18.7, 17.21.25. The times in force: the settings where this bridge is root, and else those of
+-- the root port with one second added to the message age, at most 65535.
 abbrev pub times_by : Timers → Option Row → Times
 times_by m None = set_times m
-times_by m (Some r) = record r.port.times { message_age = min (r.port.times.message_age + 256) 65535 }
+times_by m (Some r) =
+    record r.port.times { message_age = min (r.port.times.message_age + 256) 65535 }
 
 abbrev pub times_in_force : Timers → List Row → Times
 times_in_force m rows = times_by m (find (λ r. is_root r.port.role) rows)
@@ -114,8 +116,8 @@ context_of s own root was times = record {
   hold_count = get s (key.Bridge bridge.HoldCount);
 }
 
--- The values that settling the settings keeps: the version, the three times, and whether each port is enabled
--- and at the edge.
+-- The values that settling the settings keeps: the version, the three times, and whether each port
+-- is enabled and at the edge.
 abbrev pub settled_port_of : PortValues → SettledPort
 settled_port_of p = record { enabled = p.enable == PORT_ENABLED; edge = p.edge == EDGE_TRUE }
 

@@ -1,13 +1,13 @@
--- A port that starts anew, a link that changes, and settling the settings (IEEE 802.1D-2004 17.19.13,
--- 17.24, 17.25, 17.29.1).
+-- A port that starts anew, a link that changes, and settling the settings (IEEE 802.1D-2004
+-- 17.19.13, 17.24, 17.25, 17.29.1).
 use Rattle.std.specs.Prelude.{ℕ, Bool, true, false, ◌&&◌, ◌||◌, not, if◌then◌else◌, ◌==◌}
 use Rattle.rstp_rules.specs.declared.row.Row.{Row}
 use Rattle.rstp_rules.specs.declared.port.Info.TheVariants.{Mine}
 use Rattle.rstp_rules.specs.declared.port.Role.TheVariants.{Disabled}
 use Rattle.rstp_rules.specs.declared.port.State.TheVariants.{Discarding}
 
--- A restart: the port's own information, no role, discarding, no counts, RST messages, edge as set, no other
--- flag; its learned rows go. Its role and state before the roles are chosen are these.
+-- A restart: the port's own information, no role, discarding, no counts, RST messages, edge as set,
+-- no other flag; its learned rows go. Its role and state before the roles are chosen are these.
 abbrev pub after_restart : Row → Row
 after_restart r = record r {
   was = record r.was { role = Disabled; state = Discarding };
@@ -54,8 +54,10 @@ after_edge_setting r = if (if r.line.edge then not r.line.was_edge else r.line.w
 
 -- 17.19.13. A protocol migration check makes the port send RST messages.
 abbrev pub after_migration_check : Row → Row
-after_migration_check r = if r.line.migrate then record r { port = record r.port { send_rstp = true } } else r
+after_migration_check r =
+    if r.line.migrate then record r { port = record r.port { send_rstp = true } } else r
 
 -- What settling does to a port.
 abbrev pub after_settling : Bool → Row → Row
-after_settling version_changed r = after_migration_check (after_edge_setting (after_renewal version_changed r))
+after_settling version_changed r =
+    after_migration_check (after_edge_setting (after_renewal version_changed r))

@@ -29,10 +29,11 @@ after_expiry r = if is_received r.port.info && r.port.info_while == 0
 
 -- The bridge's own vector: its id as root and bridge, no cost, no port.
 abbrev pub own_best : BridgeId → Best
-own_best own = record { vector = record { root = own; cost = 0; bridge = own; port = 0 }; receiver = 0 }
+own_best own =
+    record { vector = record { root = own; cost = 0; bridge = own; port = 0 }; receiver = 0 }
 
--- What a port that is on offers for the root vector: a received vector of another bridge, with the port's cost
--- added, at most 4294967295.
+-- What a port that is on offers for the root vector: a received vector of another bridge, with the
+-- port's cost added, at most 4294967295.
 abbrev pub candidate : BridgeId → Row → Option Best
 candidate own r = if r.line.on && is_received r.port.info && not (same_mac r.port.vector.bridge.address own.address)
     then Some (record { vector = record r.port.vector { cost = min (r.port.vector.cost + r.line.cost) 4294967295 }; receiver = r.line.id })
@@ -53,15 +54,17 @@ pub record IsBest (bs : List Best) (b : Best) : Type 0 where
 
 -- 17.19.4. The vector of a designated port.
 abbrev pub designated_vector : BridgeId → Best → Line → PriorityVector
-designated_vector own root l = record { root = root.vector.root; cost = root.vector.cost; bridge = own; port = l.id }
+designated_vector own root l =
+    record { root = root.vector.root; cost = root.vector.cost; bridge = own; port = l.id }
 
 -- A port that is not received holds its designated vector.
 abbrev pub with_designated_vector : BridgeId → Best → Row → Row
 with_designated_vector own root r = record r { port = record r.port { info = Mine; role = Designated; vector = designated_vector own root r.line } }
 
--- 17.21.25. The role of a port: disabled where it is off; designated where its vector is its own; root where the
--- root vector came by it; designated where its designated vector is better than its vector; backup where its
--- vector is of this bridge; and else alternate. A port that is off holds its designated vector too.
+-- 17.21.25. The role of a port: disabled where it is off; designated where its vector is its own;
+-- root where the root vector came by it; designated where its designated vector is better than its
+-- vector; backup where its vector is of this bridge; and else alternate. A port that is off holds
+-- its designated vector too.
 abbrev pub with_role : BridgeId → Best → Row → Row
 with_role own root r =
     if not r.line.on then record r { port = record r.port { role = Disabled; vector = designated_vector own root r.line } }

@@ -1,6 +1,6 @@
--- How the state of a port follows from its role (IEEE 802.1D-2004 17.29 to 17.31), in six steps, each taken for all
--- ports before the next: a. blocked ports, b. changed roles, c. what is to be told, d. synchronization, e. the next
--- state, f. topology changes.
+-- How the state of a port follows from its role (IEEE 802.1D-2004 17.29 to 17.31), in six steps,
+-- each taken for all ports before the next: a. blocked ports, b. changed roles, c. what is to be
+-- told, d. synchronization, e. the next state, f. topology changes.
 use Rattle.std.specs.Prelude.{ℕ, ◌+◌, ◌%◌, ◌^◌, Bool, true, false, ◌&&◌, ◌||◌, not, if◌then◌else◌, ◌==◌, List, map}
 use Rattle.std.specs.List.{list_any, list_all}
 use Rattle.rstp_rules.specs.declared.row.Row.{Row}
@@ -14,7 +14,8 @@ use Rattle.rstp_rules.specs.Sends.{sends_rapid}
 abbrev pub has_changed_role : Row → Bool
 has_changed_role r = not (same_role r.was.role r.port.role)
 
--- a. A port whose role became alternate or backup: discarding; no wait, no topology change; its learned rows go.
+-- a. A port whose role became alternate or backup: discarding; no wait, no topology change; its
+-- learned rows go.
 abbrev pub after_blocking : Row → Row
 after_blocking r = if is_alternate_or_backup r.port.role && has_changed_role r
     then record r { port = record r.port { state = Discarding; forward_while = 0; change_while = 0 }; flushed = true }
@@ -28,7 +29,8 @@ after_delay c r = if is_root_or_designated r.port.role && not (is_root_or_design
 
 -- b. From root to designated while not discarding: a recent root.
 abbrev pub after_root_role : Context → Row → Row
-after_root_role c r = if is_root r.was.role && is_designated r.port.role && not (is_discarding r.port.state)
+after_root_role c r =
+    if is_root r.was.role && is_designated r.port.role && not (is_discarding r.port.state)
     then record r { port = record r.port { recent_root_while = c.timing.forward_delay } }
     else r
 
@@ -44,8 +46,8 @@ after_discarding r = if is_discarding r.port.state
     then record r { port = record r.port { recent_root_while = 0 } }
     else r
 
--- c. A designated port whose role, vector or times in force changed in this event has something to send. A changed
--- vector is not agreed.
+-- c. A designated port whose role, vector or times in force changed in this event has something to
+-- send. A changed vector is not agreed.
 abbrev pub after_announcement : Context → Row → Row
 after_announcement c r = if is_designated r.port.role && (has_changed_role r || not (same_vector r.was.vector r.port.vector) || not (same_times c.was_times c.times))
     then record r { port = record r.port { pending = true; agreed = r.port.agreed && same_vector r.was.vector r.port.vector } }
@@ -59,7 +61,8 @@ after_first_transitions c r = after_announcement c (after_discarding (after_role
 abbrev pub has_proposal : List Row → Bool
 has_proposal rows = list_any (λ r. is_root r.port.role && r.proposed) rows
 
--- d. Each designated port that is not edge, not agreed and not discarding becomes discarding, and the root port agrees.
+-- d. Each designated port that is not edge, not agreed and not discarding becomes discarding, and
+-- the root port agrees.
 abbrev pub after_synchronization : Context → Row → Row
 after_synchronization c r = if is_root r.port.role
     then record r { port = record r.port { agree = true; pending = true } }
@@ -69,18 +72,20 @@ after_synchronization c r = if is_root r.port.role
 
 -- d. Under version 2.
 abbrev pub after_synchronizations : Context → List Row → List Row
-after_synchronizations c rows = if c.timing.rstp_version && has_proposal rows then map (after_synchronization c) rows else rows
+after_synchronizations c rows =
+    if c.timing.rstp_version && has_proposal rows then map (after_synchronization c) rows else rows
 
 -- e. No port but the root port is a recent root.
 abbrev pub no_recent_root : List Row → Bool
 no_recent_root rows = list_all (λ r. is_root r.port.role || r.port.recent_root_while == 0) rows
 
--- e. Under version 2 the root port forwards at once where no other port is a recent root, and a designated port
--- where it is at the edge or agreed.
+-- e. Under version 2 the root port forwards at once where no other port is a recent root, and a
+-- designated port where it is at the edge or agreed.
 abbrev pub is_quick : Context → Bool → Row → Bool
 is_quick c clear r = c.timing.rstp_version && (is_root r.port.role && clear || is_designated r.port.role && (r.port.edge || r.port.agreed))
 
--- e. Any other root or designated port whose wait is over takes the next state, and waits again before it forwards.
+-- e. Any other root or designated port whose wait is over takes the next state, and waits again
+-- before it forwards.
 abbrev pub after_advance : Context → Bool → Row → Row
 after_advance c clear r = if is_quick c clear r
     then record r { port = record r.port { state = Forwarding } }
@@ -95,8 +100,8 @@ after_advances c rows = map (after_advance c (no_recent_root rows)) rows
 abbrev pub has_begun : Row → Bool
 has_begun r = is_forwarding r.port.state && not (is_forwarding r.was.state)
 
--- 17.21.7. For how long a topology change is told: a hello time and a second to neighbours of RST, and else the
--- maximum age and the forward delay.
+-- 17.21.7. For how long a topology change is told: a hello time and a second to neighbours of RST,
+-- and else the maximum age and the forward delay.
 abbrev pub change_time : Timing → Row → ℕ
 change_time t r = if sends_rapid t r then t.hello + 1 else t.max_age + t.forward_delay
 
@@ -106,8 +111,8 @@ with_change_started t r = if r.port.change_while == 0
     then record r { port = record r.port { change_while = change_time t r; pending = true } }
     else r
 
--- 17.21.18. Another port tells the change too, and its learned rows go: one that is on, root or designated, and
--- not at the edge.
+-- 17.21.18. Another port tells the change too, and its learned rows go: one that is on, root or
+-- designated, and not at the edge.
 abbrev pub with_change_spread : Timing → Row → Row
 with_change_spread t r = if r.line.on && is_root_or_designated r.port.role && not r.port.edge
     then record (with_change_started t r) { flushed = true }

@@ -31,11 +31,13 @@ no_row = record {
 abbrev pub with_change_spread_but : Timing → ℕ → Row → Row
 with_change_spread_but t port r = if r.line.number == port then r else with_change_spread t r
 
--- A port that became forwarding: its transitions rise by one, and where it is not at the edge it starts to tell.
+-- A port that became forwarding: its transitions rise by one, and where it is not at the edge it
+-- starts to tell.
 abbrev pub after_begin : Timing → Row → Row
 after_begin t r = if r.port.edge then with_transition_counted r else with_change_started t (with_transition_counted r)
 
--- The turn of row k: where it became forwarding and is not at the edge, the other ports tell it too.
+-- The turn of row k: where it became forwarding and is not at the edge, the other ports tell it
+-- too.
 abbrev pub turn_at : Timing → List Row → ℕ → List Row
 turn_at t rows k = let r = slice_index_or rows k no_row in
     if has_begun r
@@ -50,14 +52,16 @@ first_turns t (suc n) rows = turn_at t (first_turns t n rows) n
 abbrev pub turns : Timing → List Row → List Row
 turns t rows = first_turns t (length rows) rows
 
--- All turns at once. A port starts a topology change where it became forwarding and is not at the edge.
+-- All turns at once. A port starts a topology change where it became forwarding and is not at the
+-- edge.
 abbrev pub starts_change : Row → Bool
 starts_change r = has_begun r && not r.port.edge
 
 abbrev pub another_starts : List Row → Row → Bool
 another_starts rows r = list_any (λ q. not (q.line.number == r.line.number) && starts_change q) rows
 
--- What becomes of a port: it begins to forward; and where another port starts a change, it tells that too.
+-- What becomes of a port: it begins to forward; and where another port starts a change, it tells
+-- that too.
 abbrev pub with_changes_told : Timing → Bool → Row → Row
 with_changes_told t another r =
     let own = if has_begun r then after_begin t r else r in

@@ -14,8 +14,8 @@ port_id priority port = 256 * priority + port
 abbrev pub port_number : ℕ → ℕ
 port_number id = id % 4096
 
--- 9.2.5. A bridge id is the priority in two octets and the address in six, compared as one unsigned number:
--- by priority and then octet by octet.
+-- 9.2.5. A bridge id is the priority in two octets and the address in six, compared as one unsigned
+-- number: by priority and then octet by octet.
 abbrev pub bridge_cmp : BridgeId → BridgeId → Ordering
 bridge_cmp a b = ordering_then (nat_cmp a.priority b.priority) (mac_cmp a.address b.address)
 
@@ -35,9 +35,10 @@ same_times t u = t.message_age == u.message_age && t.max_age == u.max_age && t.h
 
 -- 17.6. The sender of a vector is the address in its bridge id and the number in its port id.
 abbrev pub same_sender : PriorityVector → PriorityVector → Bool
-same_sender v w = same_mac v.bridge.address w.bridge.address && port_number v.port == port_number w.port
+same_sender v w =
+    same_mac v.bridge.address w.bridge.address && port_number v.port == port_number w.port
 
--- 17.21.23. How many seconds a vector with these times is kept: none where its age, one second later, is past
--- the maximum; else three hello times, rounded up.
+-- 17.21.23. How many seconds a vector with these times is kept: none where its age, one second
+-- later, is past the maximum; else three hello times, rounded up.
 abbrev pub info_time : Times → ℕ
 info_time t = if nat_lt t.max_age (t.message_age + 256) then 0 else (3 * t.hello + 255) / 256

@@ -1,4 +1,5 @@
--- What is configured of a port, and what its settings come to by it (IEEE 802.1D-2004 6.4.3, 17.14).
+-- What is configured of a port, and what its settings come to by it (IEEE 802.1D-2004 6.4.3,
+-- 17.14).
 use Rattle.std.specs.Prelude.{ℕ, Bool, false, ◌&&◌, ◌||◌, if◌then◌else◌, ◌==◌}
 use Rattle.rstp_settings.specs.declared.key.TheConstants.{POINT_TO_POINT_TRUE, POINT_TO_POINT_AUTO}
 use Rattle.rstp_settings.specs.declared.config.PortConfig.{PortConfig}
@@ -17,7 +18,8 @@ cost_in_use setting speed = if setting == 0 then default_cost speed else setting
 
 -- 6.4.3. Forced true, forced false, or by full duplex.
 abbrev pub is_point_to_point : ℕ → Bool → Bool
-is_point_to_point setting full = setting == POINT_TO_POINT_TRUE || (setting == POINT_TO_POINT_AUTO && full)
+is_point_to_point setting full =
+    setting == POINT_TO_POINT_TRUE || (setting == POINT_TO_POINT_AUTO && full)
 
 -- Where there is no port.
 abbrev pub no_config : PortConfig

@@ -32,7 +32,8 @@ get t (Port port k) = port_value (port_at t port) k
 
 abbrev pub put : Table → Key → ℕ → Table
 put t (Bridge k) v = record t { bridge = with_bridge_value t.bridge k v }
-put t (Port port k) v = record t { ports = slice_set t.ports (port - 1) (with_port_value (port_at t port) k v) }
+put t (Port port k) v =
+    record t { ports = slice_set t.ports (port - 1) (with_port_value (port_at t port) k v) }
 
 abbrev pub IsInRange : Key → ℕ → Type 0
 IsInRange (Bridge k) v = IsBridgeRange k v
@@ -49,7 +50,8 @@ same_key (Bridge k) (Port other l) = false
 same_key (Port port k) (Bridge l) = false
 
 abbrev pub opening_port : PortValues
-opening_port = record { priority = 128; enable = 1; cost = 0; migrate = 0; edge = 2; point_to_point = 2 }
+opening_port =
+    record { priority = 128; enable = 1; cost = 0; migrate = 0; edge = 2; point_to_point = 2 }
 
 -- what the settings are at first
 abbrev pub opening : ℕ → Table

@@ -1,4 +1,5 @@
--- The values of the settings and their ranges: times in 1/100 s (RFC 4188, RFC 4318; IEEE 802.1D-2004 17.14, 7.9.2).
+-- The values of the settings and their ranges: times in 1/100 s (RFC 4188, RFC 4318; IEEE
+-- 802.1D-2004 17.14, 7.9.2).
 use Rattle.std.specs.Prelude.{◌≡◌, ℕ, ◌+◌, ◌-◌, ◌%◌, ◌≤◌, ◌<◌, Bool, true, false, ◌&&◌, if◌then◌else◌, ◌==◌, ◌⊎◌}
 use Rattle.rstp_settings.specs.declared.key.TheConstants.{MIN_AGING, MAX_AGING}
 use Rattle.rstp_settings.specs.declared.key.BridgeKey.{BridgeKey}

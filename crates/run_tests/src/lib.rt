@@ -1,5 +1,5 @@
-//! Tests of scripts over any session: which lines there are, when they are read and what is written, and words,
-//! numbers and hexadecimal.
+//! Tests of scripts over any session: which lines there are, when they are read and what is
+//! written, and words, numbers and hexadecimal.
 //!
 //! # Entry points
 //! None: the tests call what `script_core` offers.

@@ -32,7 +32,8 @@ pub record IsOpen (text : List ℕ) : Type 0 where
   pub whole : text ≡ front ++ (octet ∷ [])
   pub other : octet ≢ 10
 
--- lines that hold no end and that, each with its end, are the text, or the text and one end where its last octet is none
+-- lines that hold no end and that, each with its end, are the text, or the text and one end where
+-- its last octet is none
 pub record AreLines (text : List ℕ) (lines : List (List ℕ)) : Type 0 where
   pub no_end : All HasNoEnd lines
   pub joined : (flat_map with_end lines ≡ text) ⊎ (IsOpen text × (flat_map with_end lines ≡ with_end text))

@@ -39,15 +39,18 @@ pub record SaysSomething {X : Type 0} (says : List ℕ → X → Type 0) : Type 
   pub some : 0 < length said
   pub are_said : says said now
 
--- The end of a script may be given up: the session may do so, or there may be no memory for what is said at it.
+-- The end of a script may be given up: the session may do so, or there may be no memory for what is
+-- said at it.
 abbrev pub MayGiveUpEnd : {X : Type 0} → (X → List ℕ → X → Type 0) → (X → LineFault → Type 0)
     → X → LineFault → Type 0
 MayGiveUpEnd end_says may_give_up_end session fault =
     may_give_up_end session fault ⊎ ((fault ≡ Memory) × SaysSomething (end_says session))
 
--- A session is asked line by line. `line_says before line said now` tells that the session `before` may say this to the line, and be
--- `now` after it; `end_says before said now` tells the same of the end of the script. `may_give_up_line before line fault` tells that it
--- may give up this line for this fault, and `may_give_up_end before fault` the same of the end.
+-- A session is asked line by line. `line_says before line said now` tells that the session `before`
+-- may say this to the line, and be
+-- `now` after it; `end_says before said now` tells the same of the end of the script.
+-- `may_give_up_line before line fault` tells that it may give up this line for this fault, and
+-- `may_give_up_end before fault` the same of the end.
 module _ {X : Type 0} (line_says : X → List ℕ → List ℕ → X → Type 0) where
   -- a line was answered, and what follows holds of the session after it and of the rest of the text
   pub record Answered (follows : X → List ℕ → Type 0) (before : X) (line text : List ℕ) : Type 0 where
@@ -61,7 +64,8 @@ module _ {X : Type 0} (line_says : X → List ℕ → List ℕ → X → Type 0)
   -- lines were answered in their order: `text` was said to them
   unfoldable pub Says : X → List (List ℕ) → List ℕ → X → Type 0
   Says before [] text now = (text ≡ []) × (before ≡ now)
-  Says before (line ∷ lines) text now = Answered (λ between rest. Says between lines rest now) before line text
+  Says before (line ∷ lines) text now =
+      Answered (λ between rest. Says between lines rest now) before line text
 
   -- all lines of a script were answered, and its end
   pub record SaysAll (end_says : X → List ℕ → X → Type 0) (before : X) (lines : List (List ℕ)) (text : List ℕ) (now : X) : Type 0 where
@@ -80,7 +84,8 @@ module _ {X : Type 0} (line_says : X → List ℕ → List ℕ → X → Type 0)
     pub split : lines ≡ first ++ left
     pub says : Says before first text between
 
-  -- of some octets, `left` were not yet answered: they stand behind lines that have ended, and `text` was said to those
+  -- of some octets, `left` were not yet answered: they stand behind lines that have ended, and
+  -- `text` was said to those
   pub record Feeds (before : X) (octets : List ℕ) (now : X) (left text : List ℕ) : Type 0 where
     pub ended : List (List ℕ)
     pub no_end : All HasNoEnd ended
@@ -93,21 +98,24 @@ module _ {X : Type 0} (line_says : X → List ℕ → List ℕ → X → Type 0)
     pub left : List ℕ
     pub feeds : Feeds before octets between left text
 
-  -- Of an input, `rest` was not read: each line that had ended was answered, and no more than a part of one line was read behind them.
+  -- Of an input, `rest` was not read: each line that had ended was answered, and no more than a
+  -- part of one line was read behind them.
   pub record StopsBetween (before now : X) (input rest text : List ℕ) : Type 0 where
     pub part : List ℕ
     pub no_end : HasNoEnd part
     pub feeds : Feeds before input now (part ++ rest) text
 
-  -- A line may be given up: the session may do so, or there may be no memory, to hold a line that has octets or for what is said to it.
+  -- A line may be given up: the session may do so, or there may be no memory, to hold a line that
+  -- has octets or for what is said to it.
   abbrev pub MayGiveUpLine : (X → List ℕ → LineFault → Type 0) → X → List ℕ → LineFault → Type 0
   MayGiveUpLine may_give_up_line session line fault =
       may_give_up_line session line fault
       ⊎ ((fault ≡ Memory) × ((0 < length line) ⊎ SaysSomething (line_says session line)))
 
-  -- A line was given up: of an input, `rest` was not read; each line before the one that is given up had ended and was answered, and no
-  -- other was; of that line, which stands at the front of `left`, at least one octet was read, and it may be given up. But for want of
-  -- memory it has ended: its end was read, or the input was read to its end.
+  -- A line was given up: of an input, `rest` was not read; each line before the one that is given
+  -- up had ended and was answered, and no other was; of that line, which stands at the front of
+  -- `left`, at least one octet was read, and it may be given up. But for want of memory it has
+  -- ended: its end was read, or the input was read to its end.
   pub record GivesUpLine (may_give_up_line : X → List ℕ → LineFault → Type 0)
       (before : X) (fault : LineFault) (input rest text : List ℕ) : Type 0 where
     pub between : X
@@ -117,7 +125,8 @@ module _ {X : Type 0} (line_says : X → List ℕ → List ℕ → X → Type 0)
     pub may : MayGiveUpLine may_give_up_line between (first_line left) fault
     pub ended : (fault ≡ Memory) ⊎ Contains left 10 ⊎ (rest ≡ [])
 
-  -- the end of the script was given up: the input was read to its end, each of its lines was answered, and the end may be given up
+  -- the end of the script was given up: the input was read to its end, each of its lines was
+  -- answered, and the end may be given up
   pub record GivesUpEnd (end_says : X → List ℕ → X → Type 0)
       (may_give_up_end : X → LineFault → Type 0)
       (before : X) (fault : LineFault) (input rest text : List ℕ) : Type 0 where
@@ -134,4 +143,5 @@ module _ {X : Type 0} (line_says : X → List ℕ → List ℕ → X → Type 0)
 
   -- what was said to the first of these lines, or to all of them and to the end of the script
   abbrev pub SaysSome : (X → List ℕ → X → Type 0) → X → List (List ℕ) → List ℕ → Type 0
-  SaysSome end_says before lines text = SaysFirst before lines text ⊎ ((now : X) × SaysAll end_says before lines text now)
+  SaysSome end_says before lines text =
+      SaysFirst before lines text ⊎ ((now : X) × SaysAll end_says before lines text now)

@@ -8,7 +8,8 @@ use Rattle.hex.specs.declared.error.FromHexError.{FromHexError}
 -- the first word and what follows the space after it, where there is a space
 abbrev pub split_word : List ℕ → Option (List ℕ × List ℕ)
 split_word [] = None
-split_word (b ∷ bs) = if b == 32 then Some ([], bs) else option_map (λ p. (b ∷ p.0, p.1)) (split_word bs)
+split_word (b ∷ bs) =
+    if b == 32 then Some ([], bs) else option_map (λ p. (b ∷ p.0, p.1)) (split_word bs)
 
 -- digits, with no leading zero but in 0 itself
 abbrev pub is_number : List ℕ → Bool
@@ -24,7 +25,8 @@ value_on n (d ∷ ds) = value_on (n * 10 + (d - 48)) ds
 
 -- the number that a word writes, if it writes one of at most `most`
 abbrev pub number_of : ℕ → List ℕ → Option ℕ
-number_of most word = if is_number word && nat_le (value_on 0 word) most then Some (value_on 0 word) else None
+number_of most word =
+    if is_number word && nat_le (value_on 0 word) most then Some (value_on 0 word) else None
 
 abbrev pub octets_or_none : Result (List ℕ) FromHexError → Option (List ℕ)
 octets_or_none (Ok octets) = Some octets

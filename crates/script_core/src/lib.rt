@@ -1,19 +1,22 @@
-//! Runs a script: cuts its input into lines, hands each to a session, and writes what the session says.
+//! Runs a script: cuts its input into lines, hands each to a session, and writes what the session
+//! says.
 //!
 //! # Entry points
-//! [`run_script`] over any [`Session`], reader and writer; the words, numbers and hexadecimal of a line in [`words`].
+//! [`run_script`] over any [`Session`], reader and writer; the words, numbers and hexadecimal of a
+//! line in [`words`].
 //!
 //! # Definitions
-//! `specs/Lines.antt`: the lines of a text; `specs/Runs.antt`: what a session may say to lines, in their order, how far a
-//! run has come, and why a line or the end of a script may be given up; `specs/Words.antt`: words, numbers and hexadecimal.
+//! `specs/Lines.antt`: the lines of a text; `specs/Runs.antt`: what a session may say to lines, in
+//! their order, how far a run has come, and why a line or the end of a script may be given up;
+//! `specs/Words.antt`: words, numbers and hexadecimal.
 //!
 //! # Laws
 //! In [`laws`]: each text has its lines; hexadecimal is read back.
 //!
 //! # Not claimed
-//! When a read or a write fails; that memory was refused where that is said; how many octets one read gives; how many
-//! reads are made, and that what one of them gives is answered, written and flushed before the next; how much memory a
-//! run holds.
+//! When a read or a write fails; that memory was refused where that is said; how many octets one
+//! read gives; how many reads are made, and that what one of them gives is answered, written and
+//! flushed before the next; how much memory a run holds.
 #![tactic(auto)]
 
 mod fault;

@@ -138,7 +138,8 @@ fn finish<S: Session>(session: &mut S, buffers: &mut Buffers) -> Result<(), Line
     Ok(())
 }
 
-// Writes what was said, and flushes it, if anything was. Where that fails, a front of it is written.
+// Writes what was said, and flushes it, if anything was. Where that fails, a front of it is
+// written.
 fn deliver<W: Write>(buffers: &mut Buffers, writer: &mut W) -> Result<(), RunFault>
     ensures written { OnOk result (Appends (W.contents writer.old)
         (W.contents writer.new) buffers.old.out.items) }
@@ -226,17 +227,17 @@ fn close<S: Session, W: Write>(
 /// Runs a script to the end of its input.
 ///
 /// Each line ends at octet 0A or at the end of the input. What the lines of one read say is written
-/// and flushed before the next read. No more than `most_reads` reads are made, which programs give as
-/// [`MAX_READS`], and what the run holds does not grow with the number of lines.
+/// and flushed before the next read. No more than `most_reads` reads are made, which programs give
+/// as [`MAX_READS`], and what the run holds does not grow with the number of lines.
 ///
 /// # Errors
 ///
 /// `Input` where a read fails or the reads run out: each line that had ended is answered, and what
 /// it says is written. `Memory` and `Stopped` where a line, or the end of the script, is given up:
-/// what is said to each line before it is written, and it was read, in part at least. It is `Stopped`
-/// only where the session may end the run, at a line that was read to its end. `Output` where a write
-/// fails or takes nothing: a front of what was said is written. A write that was interrupted is made
-/// again; a read that was interrupted has failed.
+/// what is said to each line before it is written, and it was read, in part at least. It is
+/// `Stopped` only where the session may end the run, at a line that was read to its end. `Output`
+/// where a write fails or takes nothing: a front of what was said is written. A write that was
+/// interrupted is made again; a read that was interrupted has failed.
 pub fn run_script<S: Session, R: Read, W: Write>(
     alloc: Global,
     most_reads: u32,
@@ -253,13 +254,15 @@ pub fn run_script<S: Session, R: Read, W: Write>(
         Reads (R.remaining reader.old) (R.remaining reader.new) (λ input rest.
         Writes (W.contents writer.old) (W.contents writer.new) (λ text.
         StopsBetween S.line_says session.old session.new input rest text))) }
-    // Where a line, or the end, was given up, each line before it was answered, and it may be given up so.
+    // Where a line, or the end, was given up, each line before it was answered, and it may be given
+    // up so.
     ensures given_up { IfErr result (λ e. (fault : LineFault) → e ≡ run_fault fault →
         Reads (R.remaining reader.old) (R.remaining reader.new) (λ input rest.
         Writes (W.contents writer.old) (W.contents writer.new) (λ text.
         GivesUp S.line_says S.end_says S.may_give_up_line S.may_give_up_end session.old fault
         input rest text))) }
-    // Where a write failed, what is written is a front of what was said to the first lines of the input, or to all of it.
+    // Where a write failed, what is written is a front of what was said to the first lines of the
+    // input, or to all of it.
     ensures output { IfErr result (λ e. e ≡ RunFault.Output →
         IfSome (R.remaining reader.old) (λ input.
         Writes (W.contents writer.old) (W.contents writer.new) (λ text. IsFrontOf (λ whole.

@@ -7,8 +7,9 @@ use crate::fault::LineFault;
 
 /// What answers the lines of a script.
 ///
-/// What a session may say to a line, and be after it, is a relation: where a line can be answered in more than one way, as with memory or
-/// without, the relation says which ways there are. So a run over any session is proved once, and without a premise.
+/// What a session may say to a line, and be after it, is a relation: where a line can be answered
+/// in more than one way, as with memory or without, the relation says which ways there are. So a
+/// run over any session is proved once, and without a premise.
 pub trait Session {
     // From a session, to a line, this may be said, and the session is this after it.
     ghost line_says: { Self → List ℕ → List ℕ → Self → Type 0 };

@@ -22,10 +22,12 @@ fn write_some<'a, W: Write>(octets: &'a [u8], writer: &mut W) -> Result<&'a [u8]
     }
 }
 
-/// Writes all of some octets, at least one, and flushes them. A write that was interrupted is made again.
+/// Writes all of some octets, at least one, and flushes them. A write that was interrupted is made
+/// again.
 ///
 /// # Errors
-/// `Output` where a write fails, takes nothing, or the flush fails: a front of the octets is written.
+/// `Output` where a write fails, takes nothing, or the flush fails: a front of the octets is
+/// written.
 pub fn write_octets<W: Write>(octets: &[u8], writer: &mut W) -> Result<(), RunFault>
     requires { 0 < length octets.now }
     ensures written { OnOk result (Appends (W.contents writer.old)

@@ -1,7 +1,7 @@
--- What a bridge of four ports, made by hand as if in use, shows, all its instances: three speeds and
--- all states, other settings than the opening ones, two learned addresses, and facts of which most
--- differ from one another, so that few objects could stand for another. No run leads to it, since
--- its root is no port's.
+-- What a bridge of four ports, made by hand as if in use, shows, all its instances: three speeds
+-- and all states, other settings than the opening ones, two learned addresses, and facts of which
+-- most differ from one another, so that few objects could stand for another. No run leads to it,
+-- since its root is no port's.
 use Rattle.std.specs.Prelude.{ℕ, Bool, true, false, List, [], ◌∷◌, ◌++◌}
 use Rattle.frame_core.specs.declared.mac.Mac.{Mac}
 use Rattle.frame_core.specs.declared.bpdu.Times.{Times}

@@ -1,7 +1,8 @@
 //! A count of steps that is there for contracts alone: it has no octets and takes no time.
 //!
 //! # Entry points
-//! [`Steps`]: `new` is 0, `tick` is one more, and nothing else changes it. A caller that counts nothing makes it of
+//! [`Steps`]: `new` is 0, `tick` is one more, and nothing else changes it. A caller that counts
+//! nothing makes it of
 //! `Blank::new(1)`.
 //!
 //! # Definitions

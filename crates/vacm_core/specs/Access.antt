@@ -1,4 +1,5 @@
--- The decision on a request up to its names (RFC 3415, section 3.2, steps 1 to 4, and 5 a: a view that is not configured).
+-- The decision on a request up to its names (RFC 3415, section 3.2, steps 1 to 4, and 5 a: a view
+-- that is not configured).
 use Rattle.std.specs.Prelude.{ℕ, ◌<◌, ◌==◌, Bool, not, ◌&&◌, ◌||◌, if◌then◌else◌, List, [], length, slice_get, nat_le, nat_eq, bytes_eq, find, Option, Some, None}
 use Rattle.std.specs.List.{list_any, starts_with}
 use Rattle.std.specs.Ordering.{nat_cmp, bool_cmp, ordering_then, is_lt}
@@ -17,22 +18,26 @@ use Rattle.vacm_core.specs.Best.{unbeaten}
 
 -- the empty context is always known
 abbrev pub is_known : List (List ℕ) → List ℕ → Bool
-is_known contexts context = (length context == 0) || list_any (λ known. bytes_eq known context) contexts
+is_known contexts context =
+    (length context == 0) || list_any (λ known. bytes_eq known context) contexts
 
 abbrev pub is_of : ℕ → List ℕ → GroupRow → Bool
 is_of model security row = (row.model == model) && bytes_eq row.name security
 
 -- the prefix is the context name, or begins it where the row says so
 abbrev pub fits_context : List ℕ → AccessRow → Bool
-fits_context context row = if row.exact then bytes_eq row.prefix context else starts_with nat_eq context row.prefix
+fits_context context row =
+    if row.exact then bytes_eq row.prefix context else starts_with nat_eq context row.prefix
 
--- a row of the group that fits the context, whose model is the asked one or any (0), and whose level is at most the asked one
+-- a row of the group that fits the context, whose model is the asked one or any (0), and whose
+-- level is at most the asked one
 abbrev pub candidate : Ask → List ℕ → AccessRow → Bool
 candidate ask group row =
     bytes_eq row.group group && fits_context ask.context row && ((row.model == ask.model) || (row.model == 0))
     && nat_le (level_number row.level) (level_number ask.level)
 
--- in turn: the asked model before any, the whole context name as prefix, the longest prefix, the highest level
+-- in turn: the asked model before any, the whole context name as prefix, the longest prefix, the
+-- highest level
 abbrev pub access_cmp : Ask → AccessRow → AccessRow → Ordering
 access_cmp ask a b =
     let model = bool_cmp (a.model == ask.model) (b.model == ask.model) in

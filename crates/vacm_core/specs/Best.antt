@@ -4,7 +4,8 @@ use Rattle.std.specs.List.{list_any}
 
 -- it passes, and no row that passes beats it
 abbrev pub is_unbeaten : {R : Type 0} → (R → Bool) → (R → R → Bool) → List R → R → Bool
-is_unbeaten passes beats rows row = passes row && not (list_any (λ other. passes other && beats other row) rows)
+is_unbeaten passes beats rows row =
+    passes row && not (list_any (λ other. passes other && beats other row) rows)
 
 -- its place in the list
 unfoldable pub unbeaten : {R : Type 0} → (R → Bool) → (R → R → Bool) → List R → Option ℕ

@@ -1,4 +1,5 @@
--- Whether a name is in a view (RFC 3415, vacmViewTreeFamilyTable, and isAccessAllowed's last step in section 3.2).
+-- Whether a name is in a view (RFC 3415, vacmViewTreeFamilyTable, and isAccessAllowed's last step
+-- in section 3.2).
 use Rattle.std.specs.Prelude.{ℕ, ◌<◌, ◌+◌, ◌-◌, ◌/◌, ◌%◌, ◌^◌, ◌==◌, Bool, true, false, not, ◌&&◌, ◌||◌, if◌then◌else◌, List, [], ◌∷◌, length, slice_index, slice_get, nat_lt, bytes_eq, Option, Some, None}
 use Rattle.std.specs.Cmp.Lexicographic.{slice_cmp}
 use Rattle.std.specs.Ordering.{nat_cmp, ordering_then, is_lt}
@@ -8,7 +9,8 @@ use Rattle.vacm_core.specs.declared.verdict.FamilyAnswer.{FamilyAnswer}
 use Rattle.vacm_core.specs.declared.verdict.FamilyAnswer.TheVariants.{Included, Excluded, NoRow}
 use Rattle.vacm_core.specs.Best.{unbeaten}
 
--- the k-th bit of a mask: the first is the top bit of the first octet, and a short mask is extended by ones
+-- the k-th bit of a mask: the first is the top bit of the first octet, and a short mask is extended
+-- by ones
 abbrev pub mask_bit : List ℕ → ℕ → Bool
 mask_bit mask k = if nat_lt (k / 8) (length mask) then (slice_index mask (k / 8) / 2 ^ (7 - k % 8) % 2 == 1) else true
 
@@ -20,11 +22,13 @@ agrees_with mask k part None = false
 abbrev pub agrees_at : List ℕ → ℕ → ℕ → List ℕ → Bool
 agrees_at mask k part name = agrees_with mask k part (slice_get name k)
 
--- from the k-th bit on, the name is at least as long as the subtree, and equal to it wherever the bit is 1
+-- from the k-th bit on, the name is at least as long as the subtree, and equal to it wherever the
+-- bit is 1
 abbrev pub agrees_from : ℕ → List ℕ → List ℕ → List ℕ → Bool
 agrees_from k mask [] name = true
 agrees_from k mask (s ∷ subtree) [] = false
-agrees_from k mask (s ∷ subtree) (n ∷ name) = (not (mask_bit mask k) || s == n) && agrees_from (k + 1) mask subtree name
+agrees_from k mask (s ∷ subtree) (n ∷ name) =
+    (not (mask_bit mask k) || s == n) && agrees_from (k + 1) mask subtree name
 
 -- the row is of this view, and its family has this name
 abbrev pub matches : List ℕ → List ℕ → FamilyRow → Bool

@@ -1,4 +1,5 @@
--- The first fault of the tables: groups, access, families, contexts, and in each its first row at fault.
+-- The first fault of the tables: groups, access, families, contexts, and in each its first row at
+-- fault.
 use Rattle.std.specs.Prelude.{ℕ}
 use Rattle.vacm_core.specs.declared.fault.TableFault.{TableFault}
 use Rattle.vacm_core.specs.declared.fault.TableFault.TheVariants.{Memory, Row}
@@ -41,8 +42,8 @@ BeginsRightIn Access rows = BeginsRight access_rules rows.access
 BeginsRightIn Families rows = BeginsRight family_rules rows.families
 BeginsRightIn Contexts rows = BeginsRight context_rules rows.contexts
 
--- Where checking the tables takes memory: nothing is wrong with the tables before some table, and that has a first row, with
--- which nothing is wrong.
+-- Where checking the tables takes memory: nothing is wrong with the tables before some table, and
+-- that has a first row, with which nothing is wrong.
 pub record TakesMemory (rows : VacmRows) : Type 0 where
   pub table : VacmTable
   pub before : AreRightBefore table rows

@@ -1,5 +1,5 @@
--- The rows of the tables of RFC 3415 (section 4): the lengths and fields that a written row may have, the row
--- that it stands for, and its key.
+-- The rows of the tables of RFC 3415 (section 4): the lengths and fields that a written row may
+-- have, the row that it stands for, and its key.
 use Rattle.std.specs.Prelude.{ℕ, ℤ, pos, negsuc, ◌+◌, ◌==◌, Bool, false, ◌&&◌, if◌then◌else◌, List, length, nat_le, nat_eq, bytes_eq}
 use Rattle.std.specs.Cmp.Lexicographic.{pointwise}
 use Rattle.vacm_core.specs.declared.limits.TheConstants.{MAX_NAME, MAX_MASK, MAX_FAMILY, MAX_MODEL}

@@ -6,20 +6,23 @@ use Rattle.vacm_core.specs.declared.fault.TableFault.TheVariants.{Row}
 use Rattle.vacm_core.specs.declared.fault.Wrong.{Wrong}
 use Rattle.vacm_core.specs.declared.fault.Wrong.TheVariants.{Length, Field, Duplicate}
 
--- The rules of a table: which lengths and which fields a written row may have, the row that it stands for,
--- and when two rows have one key.
+-- The rules of a table: which lengths and which fields a written row may have, the row that it
+-- stands for, and when two rows have one key.
 pub record Rules (W R : Type 0) : Type 0 where
   pub lengths : W → Bool
   pub fields : W → Bool
   pub row_of : W → R
   pub same_key : R → R → Bool
 
-abbrev pub rules_of : {W R : Type 0} → (W → Bool) → (W → Bool) → (W → R) → (R → R → Bool) → Rules W R
-rules_of lengths fields row_of same_key = record { lengths = lengths; fields = fields; row_of = row_of; same_key = same_key }
+abbrev pub rules_of : {W R : Type 0} → (W → Bool) → (W → Bool) → (W → R) → (R → R → Bool) →
+    Rules W R
+rules_of lengths fields row_of same_key =
+    record { lengths = lengths; fields = fields; row_of = row_of; same_key = same_key }
 
 -- an earlier row stands for one of the same key
 abbrev pub has_earlier : {W R : Type 0} → Rules W R → List W → W → Bool
-has_earlier rules earlier w = list_any (λ e. rules.same_key (rules.row_of e) (rules.row_of w)) earlier
+has_earlier rules earlier w =
+    list_any (λ e. rules.same_key (rules.row_of e) (rules.row_of w)) earlier
 
 -- what is wrong with a row behind these: its lengths, then its fields, then its key
 abbrev pub wrong_of : {W R : Type 0} → Rules W R → List W → W → Option Wrong
@@ -41,8 +44,8 @@ pub record IsFirstWrong {W R : Type 0} (rules : Rules W R) (rows : List W) (n : 
 abbrev pub AreRight : {W R : Type 0} → Rules W R → List W → Type 0
 AreRight rules rows = (k : ℕ) → wrong_at rules rows k ≡ None
 
--- There is a first row, and nothing is wrong with it. A row is kept only where nothing is wrong with it and with the rows
--- before it, so only then does checking the rows take memory.
+-- There is a first row, and nothing is wrong with it. A row is kept only where nothing is wrong
+-- with it and with the rows before it, so only then does checking the rows take memory.
 abbrev pub BeginsRight : {W R : Type 0} → Rules W R → List W → Type 0
 BeginsRight rules [] = ⊥
 BeginsRight rules (w ∷ ws) = wrong_of rules [] w ≡ None
@@ -60,7 +63,8 @@ by_itself rules w = if rules.lengths w then (if rules.fields w then Ok (rules.ro
 
 -- the same, behind rows of which none may have its key
 abbrev pub unless_known : {W R : Type 0} → Rules W R → List R → Result R Wrong → Result R Wrong
-unless_known rules rows (Ok row) = if list_any (λ r. rules.same_key r row) rows then Err Duplicate else Ok row
+unless_known rules rows (Ok row) =
+    if list_any (λ r. rules.same_key r row) rows then Err Duplicate else Ok row
 unless_known rules rows (Err wrong) = Err wrong
 
 abbrev pub row_behind : {W R : Type 0} → Rules W R → List R → W → Result R Wrong

@@ -39,7 +39,8 @@ written_access row = record {
 }
 
 abbrev pub written_family : FamilyRow → WrittenFamily
-written_family row = record { view = row.view; subtree = row.subtree; mask = row.mask; included = row.included }
+written_family row =
+    record { view = row.view; subtree = row.subtree; mask = row.mask; included = row.included }
 
 -- its lengths and its fields are right
 abbrev pub is_well_formed : {W R : Type 0} → Rules W R → W → Bool

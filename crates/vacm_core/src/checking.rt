@@ -79,8 +79,9 @@ fn read_behind<W: Written>(rows: &[W::Row], written: W) -> Result<W::Row, Wrong>
 ///
 /// # Errors
 ///
-/// `Row` with the table, the number of the row, counted from 0, and what is wrong with it; `Memory` where a growth was refused:
-/// each row that is kept takes memory, so there is a first row and nothing is wrong with it.
+/// `Row` with the table, the number of the row, counted from 0, and what is wrong with it; `Memory`
+/// where a growth was refused: each row that is kept takes memory, so there is a first row and
+/// nothing is wrong with it.
 pub fn checked_rows<W: Written, T: Copy>(
     alloc: Global,
     table: T,

@@ -41,8 +41,9 @@ fn agrees_at(mask: &[u8], k: usize, part: u32, name: &[u32]) -> bool
     }
 }
 
-/// Which family row of a view decides on a name (RFC 3415, vacmViewTreeFamilyTable): of those whose family has the name, the
-/// one with the longest subtree, and of equal lengths the lexicographically greatest.
+/// Which family row of a view decides on a name (RFC 3415, vacmViewTreeFamilyTable): of those whose
+/// family has the name, the one with the longest subtree, and of equal lengths the
+/// lexicographically greatest.
 #[derive(Drop)]
 struct FamilyContest<'a> {
     view: &'a Name,
@@ -69,7 +70,8 @@ impl<'a> Contest for FamilyContest<'a> {
     }
 }
 
-/// Whether the subtree of a row is longer than that of another, or of equal length and lexicographically greater.
+/// Whether the subtree of a row is longer than that of another, or of equal length and
+/// lexicographically greater.
 pub fn is_longer_or_greater(row: &FamilyRow, other: &FamilyRow) -> bool
     ensures { result ≡ family_beats row.now other.now }
 {
@@ -122,8 +124,9 @@ fn fits_context(row: &AccessRow, context: &Name) -> bool
     }
 }
 
-/// Which access row decides on what is asked by a group (RFC 3415, vacmAccessTable): of the candidates, in turn by the asked
-/// model, the whole context name as prefix, the longer prefix and the higher level.
+/// Which access row decides on what is asked by a group (RFC 3415, vacmAccessTable): of the
+/// candidates, in turn by the asked model, the whole context name as prefix, the longer prefix and
+/// the higher level.
 #[derive(Drop)]
 struct AccessContest<'a> {
     ask: &'a Ask,

@@ -4,7 +4,8 @@ ghost use Rattle.vacm_core.specs.declared.fault.TableFault.TheVariants.{Memory};
 
 use std::alloc::{AllocError, AllocFailed};
 
-/// The tables of access control, in the order in which their rows are looked at (RFC 3415, section 4).
+/// The tables of access control, in the order in which their rows are looked at (RFC 3415, section
+/// 4).
 #[derive(Clone, Copy, Debug, PartialEq, Eq)]
 pub enum VacmTable {
     /// Who is of which group (vacmSecurityToGroupTable).

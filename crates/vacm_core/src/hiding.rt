@@ -1,4 +1,5 @@
-//! Whether a view is seen to hide every name that begins with a prefix (RFC 3415, vacmViewTreeFamilyTable).
+//! Whether a view is seen to hide every name that begins with a prefix (RFC 3415,
+//! vacmViewTreeFamilyTable).
 ghost use Rattle.std.specs.Prelude.{◌≡◌, take};
 ghost use Rattle.std.specs.List.{list_any};
 ghost use Rattle.vacm_core.specs.Families.{family_beats};
@@ -9,8 +10,8 @@ use crate::deciding::{agrees, is_longer_or_greater};
 use crate::name::Name;
 use crate::tables::FamilyRow;
 
-/// Which family row of a view hides the names that begin with a prefix: of those that exclude all of them, the one
-/// that decides.
+/// Which family row of a view hides the names that begin with a prefix: of those that exclude all
+/// of them, the one that decides.
 #[derive(Drop)]
 struct HidingContest<'a> {
     view: &'a Name,
@@ -39,8 +40,8 @@ impl<'a> Contest for HidingContest<'a> {
     }
 }
 
-/// Whether no row of a view may include a name that begins with a prefix, or a row that excludes them all beats each
-/// row that may.
+/// Whether no row of a view may include a name that begins with a prefix, or a row that excludes
+/// them all beats each row that may.
 pub fn hides_all(rows: &[FamilyRow], view: &Name, prefix: &[u32]) -> bool
     ensures { result ≡ hides_all rows.now view.now prefix.now }
 {

@@ -12,16 +12,16 @@ ghost use Rattle.vacm_core.specs.Hiding.{may_match};
 
 use crate::limits::{MAX_FAMILY, MAX_MASK, MAX_MODEL, MAX_NAME};
 
-/// A subtree agrees with a name under a mask exactly where the name is at least as long and equal to
-/// the subtree wherever the mask's bit is 1 (RFC 3415, vacmViewTreeFamilyMask).
+/// A subtree agrees with a name under a mask exactly where the name is at least as long and equal
+/// to the subtree wherever the mask's bit is 1 (RFC 3415, vacmViewTreeFamilyMask).
 pub fn families_by_bits()
     ensures { (mask subtree name : List ℕ) → (agrees_from 0 mask subtree name ≡ true)
         ↔ ((length subtree ≤ length name) × ((k : ℕ) → k < length subtree →
         mask_bit mask k ≡ true → slice_index name k ≡ slice_index subtree k)) }
 {}
 
-/// An access row decides wherever one fits: none decides exactly where no row is a candidate, and the
-/// one that decides is a candidate that no candidate comes before (RFC 3415, vacmAccessTable).
+/// An access row decides wherever one fits: none decides exactly where no row is a candidate, and
+/// the one that decides is a candidate that no candidate comes before (RFC 3415, vacmAccessTable).
 pub fn some_access_row_decides()
     ensures none { (rows : List AccessRow) (ask : Ask) (group : List ℕ) →
         (deciding_access rows ask group ≡ None) ↔ (list_any (candidate ask group) rows ≡ false) }
@@ -42,8 +42,9 @@ pub fn some_family_row_decides()
         → IsUnbeatenAt (matches view name) family_beats families n }
 {}
 
-/// Of the names that a prefix begins, a family has some exactly where its row may match below the prefix, and all exactly
-/// where its row matches the prefix itself (RFC 3415, vacmViewTreeFamilyTable).
+/// Of the names that a prefix begins, a family has some exactly where its row may match below the
+/// prefix, and all exactly where its row matches the prefix itself (RFC 3415,
+/// vacmViewTreeFamilyTable).
 pub fn families_below()
     ensures some { (view prefix : List ℕ) (row : FamilyRow) → (may_match view prefix row ≡ true)
         ↔ ((rest : List ℕ) × (matches view (prefix ++ rest) row ≡ true)) }
@@ -51,10 +52,10 @@ pub fn families_below()
         ↔ ((rest : List ℕ) → matches view (prefix ++ rest) row ≡ true) }
 {}
 
-/// The limits: SnmpAdminString (SIZE(1..32)) and vacmViewTreeFamilyMask (SIZE (0..16)) of RFC 3415, SnmpSecurityModel
-/// (0..2147483647) of RFC 3411. An instance of vacmViewTreeFamilyTable is named by a column of 12 sub-identifiers, the length of
-/// the view's name and its octets, and the length of the subtree and its sub-identifiers, which are to be 128 at most
-/// (RFC 2578, section 3.5).
+/// The limits: SnmpAdminString (SIZE(1..32)) and vacmViewTreeFamilyMask (SIZE (0..16)) of RFC 3415,
+/// SnmpSecurityModel (0..2147483647) of RFC 3411. An instance of vacmViewTreeFamilyTable is named
+/// by a column of 12 sub-identifiers, the length of the view's name and its octets, and the length
+/// of the subtree and its sub-identifiers, which are to be 128 at most (RFC 2578, section 3.5).
 pub fn limits()
     ensures name { MAX_NAME ≡ 32 }
     ensures mask { MAX_MASK ≡ 16 }

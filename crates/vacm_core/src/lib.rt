@@ -1,22 +1,25 @@
-//! Access to objects under the View-based Access Control Model (RFC 3415): groups, access rights and view families, the
-//! decision on a request, and the decision on a name.
+//! Access to objects under the View-based Access Control Model (RFC 3415): groups, access rights
+//! and view families, the decision on a request, and the decision on a name.
 //!
 //! # Entry points
-//! `Vacm::new` takes the written rows or names the first fault; `Vacm::decide` is the verdict on a request up to its
-//! names, `Vacm::in_view` the answer on a name. Each names its row. `Vacm::hides_all` tells where a view is seen to hide every
-//! name that begins with a prefix. None of these but `new` takes memory.
-//! [`checked_rows`] checks a table of any rows that are [`Written`], and [`deciding_row`] finds the row that decides a
-//! [`Contest`]; `community_core` uses both.
+//! `Vacm::new` takes the written rows or names the first fault; `Vacm::decide` is the verdict on a
+//! request up to its names, `Vacm::in_view` the answer on a name. Each names its row.
+//! `Vacm::hides_all` tells where a view is seen to hide every name that begins with a prefix. None
+//! of these but `new` takes memory. [`checked_rows`] checks a table of any rows that are
+//! [`Written`], and [`deciding_row`] finds the row that decides a [`Contest`]; `community_core`
+//! uses both.
 //!
 //! # Definitions
-//! `specs/Access.antt`: which access rows may decide and which beats which; `specs/Families.antt`: which families have
-//! a name; `specs/Hiding.antt`: when a view is seen to hide every name that begins with a prefix; `specs/Best.antt`,
-//! `specs/Orders.antt`: the row that no row beats; `specs/Faults.antt`, `specs/Rules.antt`: lengths, fields and keys of rows, the
-//! first fault, and where checking the rows takes memory.
+//! `specs/Access.antt`: which access rows may decide and which beats which; `specs/Families.antt`:
+//! which families have a name; `specs/Hiding.antt`: when a view is seen to hide every name that
+//! begins with a prefix; `specs/Best.antt`,
+//! `specs/Orders.antt`: the row that no row beats; `specs/Faults.antt`, `specs/Rules.antt`:
+//! lengths, fields and keys of rows, the first fault, and where checking the rows takes memory.
 //!
 //! # Laws
-//! In [`laws`]: a row decides wherever one fits; of the names below a prefix, which a family has; the limits are what they
-//! are. On the type, since they hold of kept rows alone, by its invariant: `Vacm::one_row_decides`, only one row decides, and
+//! In [`laws`]: a row decides wherever one fits; of the names below a prefix, which a family has;
+//! the limits are what they are. On the type, since they hold of kept rows alone, by its invariant:
+//! `Vacm::one_row_decides`, only one row decides, and
 //! `Vacm::rows_are_right`, kept rows break no rule.
 //!
 //! # Not claimed

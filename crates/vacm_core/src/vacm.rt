@@ -15,7 +15,8 @@ use std::alloc::Global;
 use std::marker::Model;
 
 /// The tables of the View-based Access Control Model (RFC 3415), seen as four lists of rows. No two
-/// rows of a table have one key, but contexts may be equal; each row's lengths and fields are right.
+/// rows of a table have one key, but contexts may be equal; each row's lengths and fields are
+/// right.
 #[derive(Drop)]
 pub struct Vacm {
     groups: Rows<GroupRow>,
@@ -60,8 +61,8 @@ impl Vacm {
     ///
     /// The first fault, table by table in the order groups, access, families and contexts, in each
     /// table row by row from 0, and in each row its lengths, then its fields, then its key;
-    /// `Memory` where a growth was refused: nothing is wrong with the tables before some table, and that has a first row,
-    /// with which nothing is wrong.
+    /// `Memory` where a growth was refused: nothing is wrong with the tables before some table, and
+    /// that has a first row, with which nothing is wrong.
     pub fn new(alloc: Global, rows: VacmRows) -> Result<Vacm, TableFault<VacmTable>>
         ensures tables { IfOk result (λ v. v ≡ tables_of rows) }
         ensures right { OnOk result (AreAllRight rows) }
@@ -130,9 +131,10 @@ impl Vacm {
         }
     }
 
-    /// Whether a view is seen to hide every name that begins so: no included row of it may match one of these names, or an
-    /// excluded row that matches them all comes before each that may (RFC 3415, vacmViewTreeFamilyTable). It may say no where all
-    /// are hidden all the same, as by several rows. It takes no memory, and goes over the rows twice.
+    /// Whether a view is seen to hide every name that begins so: no included row of it may match
+    /// one of these names, or an excluded row that matches them all comes before each that may (RFC
+    /// 3415, vacmViewTreeFamilyTable). It may say no where all are hidden all the same, as by
+    /// several rows. It takes no memory, and goes over the rows twice.
     pub fn hides_all(&self, view: &Name, prefix: &[u32]) -> bool
         ensures answer { result ≡ hides_all self.now.families view.now prefix.now }
         ensures hidden { IsTrue result → (name : List ℕ) → IsTrue (is_prefix prefix.now name)
@@ -154,8 +156,9 @@ impl Vacm {
         }
     }
 
-    /// The law that at most one row decides: for what is asked and a group, at most one candidate is
-    /// beaten by no candidate, and for a view and a name at most one matching family row by none.
+    /// The law that at most one row decides: for what is asked and a group, at most one candidate
+    /// is beaten by no candidate, and for a view and a name at most one matching family row by
+    /// none.
     pub fn one_row_decides(&self)
         ensures access { (ask : Ask) (group : List ℕ) (n m : ℕ) →
             IsUnbeatenAt (candidate ask group) (access_beats ask) self.now.access n
@@ -167,8 +170,8 @@ impl Vacm {
         let _ = &self.access;
     }
 
-    /// The law that these rows, as they are written, are rows of which nothing is wrong, and stand for these tables: what
-    /// [`Vacm::new`] takes gives the same tables again.
+    /// The law that these rows, as they are written, are rows of which nothing is wrong, and stand
+    /// for these tables: what [`Vacm::new`] takes gives the same tables again.
     pub fn rows_are_right(&self)
         ensures right { AreAllRight (rows_of self.now) }
         ensures same { tables_of (rows_of self.now) ≡ self.now }

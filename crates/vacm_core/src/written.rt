@@ -1,5 +1,5 @@
-//! Rows as a policy is written: texts of any length, and any numbers. [`crate::Vacm::new`] makes its
-//! rows of these, where all of them are well formed.
+//! Rows as a policy is written: texts of any length, and any numbers. [`crate::Vacm::new`] makes
+//! its rows of these, where all of them are well formed.
 
 use crate::rows::Rows;
 use crate::text::{Octets, Text};
