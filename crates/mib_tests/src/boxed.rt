@@ -73,7 +73,7 @@ fn boxed(alloc: Global, columns: &[Column]) -> Result<Vec<AnyObject>, Fail> {
 }
 
 // The name of an object behind dot1dBridge, or all of it where it stands elsewhere.
-fn name_of(alloc: Global, object: &AnyObject) -> Result<Vec<u8>, Fail> {
+fn name_of<O: MibObject>(alloc: Global, object: &O) -> Result<Vec<u8>, Fail> {
     let mut text = Vec::new(alloc);
     let name = object.prefix();
     let rest = name.strip_prefix(&[1, 3, 6, 1, 2, 1, 17]);
@@ -82,7 +82,7 @@ fn name_of(alloc: Global, object: &AnyObject) -> Result<Vec<u8>, Fail> {
 }
 
 // Whether there are as many objects as names, and each has its name.
-fn are(alloc: Global, objects: &[AnyObject], names: &[&str]) -> Result<bool, Fail> {
+fn are<O: MibObject>(alloc: Global, objects: &[O], names: &[&str]) -> Result<bool, Fail> {
     for (object, name) in objects.iter().zip(names) {
         if name_of(alloc, object)?.as_slice() != name.as_bytes() {
             return Ok(false);
@@ -92,22 +92,26 @@ fn are(alloc: Global, objects: &[AnyObject], names: &[&str]) -> Result<bool, Fai
 }
 
 // Why no registry takes the objects, and the objects that it hands back.
-fn refused(objects: Vec<AnyObject>) -> Result<(RegistryFault, Vec<AnyObject>), Fail> {
+fn refused<O: MibObject>(objects: Vec<O>) -> Result<(RegistryFault, Vec<O>), Fail> {
     if !are_named(objects.as_slice()) {
         return Err(Fail::from("names of objects"));
     }
     Ok(Registry::new(objects).err().ok_or("refused")?)
 }
 
+// How many objects the registry of these objects has.
+fn taken<O: MibObject>(objects: Vec<O>) -> Result<usize, Fail> {
+    if !are_named(objects.as_slice()) {
+        return Err(Fail::from("names of objects"));
+    }
+    Ok(Registry::new(objects).ok().ok_or("a registry")?.len())
+}
+
 #[test]
 fn takes_all_objects_in_order(rt: HostRuntime) -> Result<(), Fail> {
     let objects = boxed(rt.alloc(), &COLUMNS)?;
     assert!(rt; are(rt.alloc(), objects.as_slice(), &NAMES)?);
-    if !are_named(objects.as_slice()) {
-        return Err(Fail::from("names of objects"));
-    }
-    let registry = Registry::new(objects).ok().ok_or("a registry")?;
-    assert_eq!(rt; registry.len(), 51);
+    assert_eq!(rt; taken(objects)?, 51);
     Ok(())
 }
 
