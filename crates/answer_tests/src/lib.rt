@@ -1,5 +1,6 @@
 //! Tests of answers over managed objects and the world of a bridge: whole requests, what is read
-//! under a view, walks over successors alone, and the reply for a want of memory.
+//! under a view, also one that hides whole objects, walks over successors alone, and the reply for a
+//! want of memory.
 //!
 //! # Entry points
 //! None: the tests call what `agent_core` offers.
@@ -14,6 +15,8 @@
 //! Anything but what each test compares.
 #![tactic(auto)]
 
+#[cfg(test)]
+mod hiding;
 #[cfg(test)]
 mod messages;
 #[cfg(test)]

@@ -104,6 +104,19 @@ mask = ""
 included = true
 "#;
 
+/// The families of a view of all of the bridge but dot1dTpFdbTable, the learned addresses.
+pub const ALL_BUT_LEARNED: &str = r#"[[family]]
+view = "seen"
+subtree = "1.3.6.1.2.1.17"
+mask = ""
+included = true
+[[family]]
+view = "seen"
+subtree = "1.3.6.1.2.1.17.4.3"
+mask = ""
+included = false
+"#;
+
 /// The families of port 2 in all columns of dot1dStpPortTable, but for column 3, dot1dStpPortState.
 pub const PORT_2: &str = r#"[[family]]
 view = "seen"

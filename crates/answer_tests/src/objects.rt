@@ -1,9 +1,9 @@
-//! Managed objects of dot1dBase in one list (RFC 4188).
+//! Managed objects of dot1dBase in one list, and of dot1dTp in another (RFC 4188).
 ghost use Rattle.std.specs.Prelude.{◌≡◌, true, false};
 
-use bridge_mib::{BasePortColumn, BaseScalar};
+use bridge_mib::{BasePortColumn, BaseScalar, FdbColumn, TpPortColumn};
 use message_core::Value;
-use setphase_core::{Base, BasePort, Index, MibObject, World};
+use setphase_core::{Base, BasePort, Index, MibObject, TpFdb, TpPort, World};
 use std::alloc::Global;
 
 /// A scalar of dot1dBase, or else a column of its table of ports.
@@ -70,6 +70,74 @@ impl MibObject for BaseObject {
             self.column.next(world, after)
         } else {
             self.scalar.next(world, after)
+        }
+    }
+}
+
+/// A column of the learned addresses, or else of what ports pass on.
+#[derive(Drop)]
+pub struct TpObject {
+    is_learned: bool,
+    learned: FdbColumn,
+    port: TpPortColumn,
+}
+
+/// A column of the learned addresses.
+pub fn learned(which: TpFdb) -> TpObject
+    ensures is_learned { result.is_learned ≡ true }
+    ensures learned { result.learned ≡ which }
+{
+    TpObject {
+        is_learned: true,
+        learned: FdbColumn::new(which),
+        port: TpPortColumn::new(TpPort::Port),
+    }
+}
+
+/// A column of what ports pass on.
+pub fn passed_on(which: TpPort) -> TpObject
+    ensures is_learned { result.is_learned ≡ false }
+    ensures port { result.port ≡ which }
+{
+    TpObject {
+        is_learned: false,
+        learned: FdbColumn::new(TpFdb::Address),
+        port: TpPortColumn::new(which),
+    }
+}
+
+impl MibObject for TpObject {
+    ghost use Rattle.std.specs.Prelude.{[], if◌then◌else◌};
+    ghost use Rattle.setphase_core.specs.Names.{row_of};
+    ghost use Rattle.setphase_core.specs.declared.column.Column.TheVariants as column;
+
+    ghost state = { λ o. record {
+      row = row_of (if o.is_learned then column.TpFdb o.learned else column.TpPort o.port);
+      reserved = [];
+      failures = 0;
+    } };
+
+    fn prefix(&self) -> &[u32] {
+        if self.is_learned {
+            self.learned.prefix()
+        } else {
+            self.port.prefix()
+        }
+    }
+
+    fn read(&self, alloc: Global, world: &World, at: &[u32]) -> Option<Value> {
+        if self.is_learned {
+            self.learned.read(alloc, world, at)
+        } else {
+            self.port.read(alloc, world, at)
+        }
+    }
+
+    fn next(&self, world: &World, after: Option<&[u32]>) -> Option<Index> {
+        if self.is_learned {
+            self.learned.next(world, after)
+        } else {
+            self.port.next(world, after)
         }
     }
 }

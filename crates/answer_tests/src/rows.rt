@@ -39,13 +39,26 @@ pub fn assert_rows<O: MibObject>(
 ) -> Result<(), Fail>
     requires { AreNamed (rows_of (map O.state objects.items)) }
 {
-    let mut registry = Registry::new(objects).ok().ok_or("a registry")?;
     let mut world = opening_world(alloc, families)?;
+    assert_answers(rt, alloc, objects, &mut world, rows)
+}
+
+/// The same of this world, from which no request has been dropped.
+pub fn assert_answers<O: MibObject>(
+    rt: &impl Abort,
+    alloc: Global,
+    objects: Vec<O>,
+    world: &mut World,
+    rows: &[Row<'_>],
+) -> Result<(), Fail>
+    requires { AreNamed (rows_of (map O.state objects.items)) }
+{
+    let mut registry = Registry::new(objects).ok().ok_or("a registry")?;
     for (what, pdu, numbers, asked, answered) in rows {
         let asked = message(alloc, "public", *pdu, *numbers, asked)?;
         let want = message(alloc, "public", RESPONSE, (0, 0), answered)?;
         assert_eq!(rt;
-            reply_to(alloc, &mut registry, &mut world, &asked)?,
+            reply_to(alloc, &mut registry, world, &asked)?,
             want,
             "{what}"
         );
