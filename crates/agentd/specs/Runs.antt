@@ -60,12 +60,13 @@ module _ {I O : Type 0} (remaining : I → Option (List ℕ)) (contents : O → 
   IsRunOver agent reader reader' writer writer' (Err Memory) = ⊥
   IsRunOver agent reader reader' writer writer' (Err NoRegistry) = ⊥
 
-  -- These octets say a configuration, and a script was run over what these objects show of the
-  -- world that it opens.
+  -- These octets say a configuration, these objects make a registry, and a script was run over
+  -- what they show of the world that the configuration opens.
   pub record HasRun (objects : List ObjectState) (octets : List ℕ) (reader reader' : I)
       (writer writer' : O) (went : Result Run RunFault) : Type 0 where
     pub world : World
     pub is : IsWorldOf octets world
+    pub makes : MakeRegistry objects
     pub run : IsScriptRun (opening_agent objects world) reader reader' writer writer' went
 
   -- What came of objects and octets: a run; a refusal of what is no configuration, or of objects
