@@ -12,7 +12,7 @@ pub struct PortCounters {
     pub frames_in: u32,
     /// Frames that went out by the port, BPDUs included.
     pub frames_out: u32,
-    /// Frames that came in by the port and went nowhere, BPDUs apart.
+    /// Frames that came in by the port while it was on and went nowhere, BPDUs apart.
     pub discards_in: u32,
 }
 

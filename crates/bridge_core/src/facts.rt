@@ -53,6 +53,6 @@ pub struct PortFacts {
     pub frames_in: u32,
     /// Frames out, BPDUs included, modulo 2^32.
     pub frames_out: u32,
-    /// Frames in that went nowhere, BPDUs apart, modulo 2^32.
+    /// Frames in while the port was on that went nowhere, BPDUs apart, modulo 2^32.
     pub discards_in: u32,
 }

@@ -32,7 +32,7 @@
 //!
 //! # Not claimed
 //! That changed settings are in force: `Bridge::settle` comes behind them. That the objects of a
-//! program are the 51. dot1dStaticTable (RFC 4188, 1.3.6.1.2.1.17.5) is left out: no address is
+//! program are the 51. dot1dStaticTable (RFC 4188, 1.3.6.1.2.1.17.5.1) is left out: no address is
 //! configured, so it would have no rows.
 #![tactic(auto)]
 
