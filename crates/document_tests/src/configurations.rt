@@ -154,11 +154,26 @@ fn ports_are_refused(rt: HostRuntime) -> Result<(), Fail> {
         ("ifindex = 1\nspeed = 10000\nfull = 1\n", PortKey::Speed),
         ("ifindex = 1\nspeed = 10\nfull = 1\n", PortKey::Full),
         ("ifindex = 1\nspeed = 10\nlisten = 1\n", PortKey::Full),
-        ("ifindex = 1\nspeed = 10\nfull = true\nname = \"\"\n", PortKey::Other),
-        ("ifindex = 1\nspeed = 10\nfull = true\nlisten = \"localhost:1\"\n", PortKey::Listen),
-        ("ifindex = 1\nspeed = 10\nfull = true\nlisten = 1\npeer = 1\n", PortKey::Listen),
-        ("ifindex = 1\nspeed = 10\nfull = true\npeer = \"127.0.0.1\"\n", PortKey::Peer),
-        ("ifindex = 1\nspeed = 10\nfull = true\npeer = 1\nname = \"\"\n", PortKey::Peer),
+        (
+            "ifindex = 1\nspeed = 10\nfull = true\nname = \"\"\n",
+            PortKey::Other,
+        ),
+        (
+            "ifindex = 1\nspeed = 10\nfull = true\nlisten = \"localhost:1\"\n",
+            PortKey::Listen,
+        ),
+        (
+            "ifindex = 1\nspeed = 10\nfull = true\nlisten = 1\npeer = 1\n",
+            PortKey::Listen,
+        ),
+        (
+            "ifindex = 1\nspeed = 10\nfull = true\npeer = \"127.0.0.1\"\n",
+            PortKey::Peer,
+        ),
+        (
+            "ifindex = 1\nspeed = 10\nfull = true\npeer = 1\nname = \"\"\n",
+            PortKey::Peer,
+        ),
     ] {
         let fault = fault_of(rt.alloc(), [ADDRESS, POLICY, PORT_AND_TABLE, port])?;
         assert_eq!(rt; fault, Some(ConfigurationFault::BadPort(1, key)), "{port}");
@@ -170,12 +185,30 @@ fn ports_are_refused(rt: HostRuntime) -> Result<(), Fail> {
 fn ways_to_serve_are_refused(rt: HostRuntime) -> Result<(), Fail> {
     for (serve, key) in [
         ("[serve]\n", ServeKey::Snmp),
-        ("[serve]\nsnmp = \"127.0.0.1\"\nworkers = 1\nrounds = 1\n", ServeKey::Snmp),
-        ("[serve]\nsnmp = \"127.0.0.1:161\"\nworkers = 0\nrounds = 1\n", ServeKey::Workers),
-        ("[serve]\nsnmp = \"127.0.0.1:161\"\nworkers = 9\nrounds = 0\n", ServeKey::Workers),
-        ("[serve]\nsnmp = \"127.0.0.1:161\"\nworkers = 1\nrounds = 0\n", ServeKey::Rounds),
-        ("[serve]\nsnmp = \"127.0.0.1:161\"\nworkers = 1\nrounds = 1000001\n", ServeKey::Rounds),
-        ("[serve]\nsnmp = \"127.0.0.1:161\"\nworkers = 1\n", ServeKey::Rounds),
+        (
+            "[serve]\nsnmp = \"127.0.0.1\"\nworkers = 1\nrounds = 1\n",
+            ServeKey::Snmp,
+        ),
+        (
+            "[serve]\nsnmp = \"127.0.0.1:161\"\nworkers = 0\nrounds = 1\n",
+            ServeKey::Workers,
+        ),
+        (
+            "[serve]\nsnmp = \"127.0.0.1:161\"\nworkers = 9\nrounds = 0\n",
+            ServeKey::Workers,
+        ),
+        (
+            "[serve]\nsnmp = \"127.0.0.1:161\"\nworkers = 1\nrounds = 0\n",
+            ServeKey::Rounds,
+        ),
+        (
+            "[serve]\nsnmp = \"127.0.0.1:161\"\nworkers = 1\nrounds = 1000001\n",
+            ServeKey::Rounds,
+        ),
+        (
+            "[serve]\nsnmp = \"127.0.0.1:161\"\nworkers = 1\n",
+            ServeKey::Rounds,
+        ),
         (
             "[serve]\nsnmp = \"127.0.0.1:161\"\nworkers = 1\nrounds = 1\nlog = 1\n",
             ServeKey::Other,
@@ -199,8 +232,14 @@ fn keys_of_a_policy_are_refused(rt: HostRuntime) -> Result<(), Fail> {
         ("contexts = 1\n", PolicyKey::Contexts),
         ("contexts = []\ngroup = 1\n", PolicyKey::Community),
         ("contexts = []\ncommunity = []\n[group]\n", PolicyKey::Group),
-        ("contexts = []\ncommunity = []\ngroup = []\n", PolicyKey::Access),
-        ("contexts = []\ncommunity = []\ngroup = []\naccess = []\n", PolicyKey::Family),
+        (
+            "contexts = []\ncommunity = []\ngroup = []\n",
+            PolicyKey::Access,
+        ),
+        (
+            "contexts = []\ncommunity = []\ngroup = []\naccess = []\n",
+            PolicyKey::Family,
+        ),
         (
             "a = 1\ncontexts = []\ncommunity = []\ngroup = []\naccess = []\nfamily = []\n",
             PolicyKey::Other,
