@@ -1,6 +1,6 @@
 -- What keeps the rows by rising address, and young.
-use Rattle.std.proofs.Common.{◌≡◌, ℕ, ◌<◌, ◌≤◌, Bool, true, false, cond, List, [], ◌∷◌, ◌++◌, map, refl, ap, arith}
-use Rattle.std.specs.Prelude.{filter, nat_lt, ◌==◌}
+use Rattle.std.proofs.Common.{◌≡◌, ℕ, ◌<◌, ◌≤◌, Bool, true, false, cond, List, [], ◌∷◌, ◌++◌, map, refl, arith}
+use Rattle.std.specs.Prelude.{filter, nat_lt}
 use Rattle.std.specs.List.{AllByRecursion}
 use Rattle.std.specs.List.Sorted.{IsStrictlySortedBy}
 use Rattle.std.specs.Ordering.{is_lt, is_gt}
@@ -15,7 +15,7 @@ use Rattle.fdb_core.specs.declared.learnt.Learnt.{Learnt}
 use Rattle.fdb_core.specs.declared.learnt.Learnt.TheVariants.{New, Moved, Same, Full, Memory}
 use Rattle.fdb_core.specs.Rows.{IsRising, IsYoung, rows_below, rows_above, older_row, young_rows}
 use Rattle.frame_core.specs.Octets.{mac_cmp}
-use Rattle.fdb_core.specs.Learning.{with_row, new_row, renewed_row, answer_on, learned_rows}
+use Rattle.fdb_core.specs.Learning.{with_row, new_row, learned_rows}
 use Rattle.fdb_core.proofs.Order.{below_from_above, below_trans}
 
 -- what holds of each row holds of those that a filter keeps
@@ -113,10 +113,3 @@ rising_none = tt
 
 pub rising_kept : (p : Row → Bool) (rows : List Row) → IsRising rows → IsRising (filter p rows)
 rising_kept p rows up = IsStrictlySortedBy-filter _ p rows up
-
--- a row that is seen again is a row that is seen now
-pub relearned : (known port : ℕ) (rows : List Row) (a : Mac) → learned_rows (answer_on known port) rows a port ≡ with_row rows (new_row a port)
-relearned known port rows a = elim (known == port) as (λ b. learned_rows (cond b Same Moved) rows a port ≡ with_row rows (new_row a port)) [ true ↦ refl | false ↦ refl ]
-
-pub again : (row : Row) (a : Mac) (port : ℕ) → row.address ≡ a → renewed_row row port ≡ new_row a port
-again row a port e = ap (λ (m : Mac). new_row m port) e

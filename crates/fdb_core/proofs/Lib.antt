@@ -1,6 +1,6 @@
 pub mod Order
-pub mod Split
+pub mod Around
 pub mod Kept
-pub mod Steps
 pub mod Found
 pub mod Addresses
+pub mod Moments

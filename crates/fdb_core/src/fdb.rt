@@ -1,9 +1,12 @@
 //! The table of learned addresses.
-ghost use Rattle.std.specs.Prelude.{◌≡◌, ◌≢◌, ◌≤◌, [], length, map, Some};
+ghost use Rattle.std.specs.Prelude.{◌≡◌, ◌≢◌, ◌≤◌, ◌<◌, [], length, map, Some};
+ghost use Rattle.std.specs.List.{AllByRecursion};
+ghost use Rattle.fdb_core.specs.Rows.{IsAddress};
 
 use crate::learnt::Learnt;
 use crate::row::{MAX_AGING_TIME, MIN_AGING_TIME, Row};
-use crate::rows;
+use crate::seen::LAST_TICK;
+use crate::sightings::Sightings;
 use frame_core::Mac;
 use std::alloc::Global;
 use std::marker::Model;
@@ -12,18 +15,21 @@ use std::marker::Model;
 /// that it may have.
 #[derive(Drop)]
 pub struct Fdb {
-    rows: Vec<Row>,
+    sightings: Sightings,
     limit: usize,
 }
 
 impl Model for Fdb {
-    ghost use Rattle.fdb_core.specs.Table.{Table, IsTable};
+    ghost use Rattle.fdb_core.specs.Table.{Table};
 
     ghost Value = { Table };
 
-    ghost view = { λ f. record { rows = f.rows.items; limit = f.limit } };
+    ghost use Rattle.fdb_core.specs.Seen.{table_of, IsKept};
 
-    ghost invariant = { λ f. IsTable (record { rows = f.rows.items; limit = f.limit }) };
+    ghost view = { λ f. table_of f.sightings.tick f.sightings.seen.entries f.limit };
+
+    ghost invariant = { λ f.
+        IsKept f.sightings.oldest f.sightings.tick f.sightings.seen.entries f.limit };
 }
 
 impl Fdb {
@@ -36,8 +42,16 @@ impl Fdb {
     pub fn new(alloc: Global, limit: usize) -> Fdb
         ensures { result ≡ record { rows = []; limit = limit } }
     {
+        Fdb::starting_at(alloc, limit, 0)
+    }
+
+    // A table without rows, whose tick number is this one.
+    fn starting_at(alloc: Global, limit: usize, tick: u32) -> Fdb
+        requires { tick < LAST_TICK }
+        ensures { result ≡ record { rows = []; limit = limit } }
+    {
         Fdb {
-            rows: Vec::new(alloc),
+            sightings: Sightings::new(alloc, tick),
             limit,
         }
     }
@@ -46,7 +60,7 @@ impl Fdb {
     pub fn len(&self) -> usize
         ensures { result ≡ length self.now.rows }
     {
-        self.rows.len()
+        self.sightings.seen.len()
     }
 
     /// Learns that a frame from the address came in on the port: its row is of this port and of age
@@ -67,15 +81,15 @@ impl Fdb {
         ensures others { (other : Mac) → other ≢ address →
             row_of self.new.rows other ≡ row_of self.old.rows other }
     {
-        rows::known_address(address);
-        rows::learn_in(&mut self.rows, self.limit, address, port)
+        known_address(address);
+        self.sightings.learn(self.limit, address, port)
     }
 
     /// The port of the address's row, if it has one.
     pub fn find(&self, address: Mac) -> Option<u16>
         ensures { result ≡ port_of self.now.rows address }
     {
-        rows::port_at(&self.rows, address)
+        self.sightings.port_of(address)
     }
 
     /// Lets one second pass: each row is a second older, and those whose age has come to the limit
@@ -87,14 +101,14 @@ impl Fdb {
           rows = young_rows limit (map older_row self.old.rows);
         } }
     {
-        rows::age_in(&mut self.rows, limit);
+        self.sightings.age(limit);
     }
 
     /// Removes the rows of these ports, in one pass over the rows (7.9).
     pub fn flush_ports(&mut self, ports: &[u16])
         ensures { self.new ≡ record self.old { rows = other_rows ports.now self.old.rows } }
     {
-        rows::flush_in(&mut self.rows, ports);
+        self.sightings.flush(ports);
     }
 
     /// The row of the lowest address above this one, or of the lowest address of all: for the
@@ -105,7 +119,7 @@ impl Fdb {
         // What holds of every table, as `known` hands it on.
         ensures table { IsTable self.now }
     {
-        rows::row_after(&self.rows, after)
+        self.sightings.row_after(after)
     }
 
     /// Hands on what holds of every table: the rows are by rising address, each address is six
@@ -114,6 +128,24 @@ impl Fdb {
     pub fn known(&self)
         ensures { IsTable self.now }
     {
-        let _rows = self.rows.as_slice();
+        let _sightings = &self.sightings;
     }
 }
+
+// Hands on that six octets are so many, each below 256; it does nothing.
+fn known_octets(octets: &[u8; 6])
+    ensures six { length octets.now ≡ 6 }
+    ensures below { AllByRecursion (λ o. o < 256) octets.now }
+{
+    let _octets = octets.as_slice();
+}
+
+// Hands on that an address is one; it does nothing.
+fn known_address(address: Mac)
+    ensures { IsAddress address }
+{
+    known_octets(&address.0);
+}
+
+#[cfg(test)]
+mod tests;

@@ -8,7 +8,12 @@
 //!
 //! # Definitions
 //! `specs/Rows.antt`: filters of the whole list; `specs/Learning.antt`: what learning answers and
-//! leaves; `specs/Table.antt`: what holds of every table.
+//! leaves; `specs/Table.antt`: what holds of every table; `specs/Seen.antt`: how it is kept.
+//!
+//! # Cost
+//! An address is kept with the tick at which it was learned, and beside them a lower bound of these
+//! ticks. A second touches no address unless one may be old enough to go by that bound, which is
+//! then made anew.
 //!
 //! # Laws
 //! In [`laws`]: the bounds of the aging time. On `known` and `next_after`: the table rises, each
@@ -22,7 +27,8 @@ mod fdb;
 pub mod laws;
 mod learnt;
 mod row;
-mod rows;
+mod seen;
+mod sightings;
 
 pub use fdb::Fdb;
 pub use learnt::Learnt;

@@ -1,6 +1,0 @@
-use Rattle.std.proofs.Common.{rules}
-use Rattle.std.proofs.lemmas.Fn.{filter_same}
-use Rattle.fdb_core.proofs.rows.flush_in.Goals as goal
-
-pub returns-clause-rows : goal.returns-clause-rows
-returns-clause-rows c = filter_same _ _ _ (λ x b f' k. search rules) _ _ c.retain.ensures.filtered
