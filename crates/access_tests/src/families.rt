@@ -59,3 +59,26 @@ fn long_subtrees_deny(rt: HostRuntime) -> Result<(), Fail> {
     }
     Ok(())
 }
+
+// Two families of one length that differ only where their masks do not count: the greater decides,
+// whichever is written first.
+#[test]
+fn the_greater_decides_where_no_part_counts(rt: HostRuntime) -> Result<(), Fail> {
+    let alloc = rt.alloc();
+    let view = named("v")?;
+    let name = Oid::parse(alloc, "1.3.6.1.4.5")?;
+    for (included, excluded, answer) in [
+        ("1.3.6.1.4", "1.3.6.1.9", FamilyAnswer::Excluded(1)),
+        ("1.3.6.1.9", "1.3.6.1.4", FamilyAnswer::Included(0)),
+    ] {
+        let families = [
+            family(alloc, included, &[0xF7], true)?,
+            family(alloc, excluded, &[0xF7], false)?,
+        ];
+        let families = Vec::from_array(alloc, families)?;
+        let rows = tables(alloc, Vec::new(alloc), Vec::new(alloc), families)?;
+        let vacm = Vacm::new(alloc, rows)?;
+        assert_eq!(rt; vacm.in_view(&view, &name), answer);
+    }
+    Ok(())
+}

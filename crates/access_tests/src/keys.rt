@@ -4,6 +4,7 @@ use audit_core::{Audit, DeniedBindings, FamilyKey, audit_line};
 use decision::{AccessKey, Decision};
 use message_core::{ErrorStatus, Kind};
 use oid_core::Oid;
+use setting_keys::SettingKeys;
 use std::alloc::Global;
 use std::test::Fail;
 use vacm_core::{AccessRow, FamilyRow, Level, Mask, Name};
@@ -36,7 +37,7 @@ pub fn family_of(alloc: Global, view: &str, subtree: &str) -> Result<FamilyKey, 
     Ok(key)
 }
 
-/// An audit that denies nothing.
+/// An audit that denies nothing, and after which no setting is unrestored.
 pub fn audit_of(
     alloc: Global,
     kind: Kind,
@@ -50,6 +51,7 @@ pub fn audit_of(
         index,
         decision,
         denied: DeniedBindings::new(alloc),
+        unrestored: SettingKeys::new(),
     }
 }
 

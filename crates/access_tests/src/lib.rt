@@ -18,6 +18,8 @@ mod access;
 #[cfg(test)]
 mod denied;
 #[cfg(test)]
+mod drawn;
+#[cfg(test)]
 mod families;
 #[cfg(test)]
 mod faults;
@@ -26,6 +28,12 @@ mod keys;
 #[cfg(test)]
 mod lines;
 #[cfg(test)]
+mod many_families;
+#[cfg(test)]
 mod names;
 #[cfg(test)]
 mod rows;
+#[cfg(test)]
+mod scan;
+#[cfg(test)]
+mod unrestored;

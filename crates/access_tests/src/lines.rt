@@ -61,11 +61,17 @@ fn names_the_view_of_a_failed_set(rt: HostRuntime) -> Result<(), Fail> {
     let row = row_of("writers")?;
     let view = named("bridge")?;
     let decision = Decision::Allowed { row, view };
-    let audit = audit_of(rt.alloc(), Kind::Set, ErrorStatus::GenErr, 0, decision);
+    let audit = audit_of(
+        rt.alloc(),
+        Kind::Set,
+        ErrorStatus::CommitFailed,
+        2,
+        decision,
+    );
     let line = line_of(rt.alloc(), &audit)?;
     assert_eq!(rt;
         line.as_slice(),
-        b"set 5 0 ok access(writers,,2,1) view bridge\n".as_slice()
+        b"set 14 2 ok access(writers,,2,1) view bridge\n".as_slice()
     );
     Ok(())
 }

@@ -1,5 +1,8 @@
 //! A policy: the communities, and the tables of access control.
 ghost use Rattle.std.specs.Prelude.{◌≡◌, ◌≢◌, ◌<◌, ◌≤◌, length, map, slice_get, Some, IfOk, IfErr, IfSome, OnOk};
+ghost use Rattle.vacm_core.specs.Rules.{AreRight, BeginsRight};
+ghost use Rattle.community_core.specs.Faults.{IsCommunityFault};
+ghost use Rattle.community_core.specs.Communities.{community_row, community_rules};
 
 use crate::community::{
     Caller, CommunityRow, MAX_COMMUNITY_NAME, WrittenCommunity, deciding_community,
@@ -27,6 +30,20 @@ impl Model for Policy {
     ghost invariant = { λ p. AreSound p.communities };
 }
 
+// The rows that written communities stand for, or the first fault, as `Policy::new` says it.
+fn right_communities(
+    alloc: Global,
+    communities: Rows<WrittenCommunity>,
+) -> Result<Rows<CommunityRow>, PolicyFault>
+    ensures rows { IfOk result (λ rows. rows ≡ map community_row communities) }
+    ensures right { OnOk result (AreRight community_rules communities) }
+    ensures fault { IfErr result (λ e. e ≢ PolicyFault.Memory → IsCommunityFault communities e) }
+    ensures memory { IfErr result (λ e. e ≡ PolicyFault.Memory →
+        BeginsRight community_rules communities) }
+{
+    Ok(checked_rows(alloc, PolicyTable::Communities, communities)?)
+}
+
 impl Policy {
     ghost use Rattle.vacm_core.specs.Rules.{AreRight, BeginsRight};
     ghost use Rattle.community_core.specs.Faults.{IsCommunityFault};
@@ -52,7 +69,7 @@ impl Policy {
         ensures memory { IfErr result (λ e. e ≡ PolicyFault.Memory →
             BeginsRight community_rules communities) }
     {
-        let communities = checked_rows(alloc, PolicyTable::Communities, communities)?;
+        let communities = right_communities(alloc, communities)?;
         Ok(Policy { communities, vacm })
     }
 

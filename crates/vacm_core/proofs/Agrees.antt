@@ -25,7 +25,7 @@ pub and_true : (x y : Bool) → (x && y) ≡ true → (x ≡ true) × (y ≡ tru
 and_true true y e = (refl, e)
 and_true false y e = absurd cc
 
-part_found : (bit same : Bool) → (not bit || same) ≡ true → bit ≡ true → same ≡ true
+pub part_found : (bit same : Bool) → (not bit || same) ≡ true → bit ≡ true → same ≡ true
 part_found true same e h = e
 part_found false same e h = absurd cc
 

@@ -6,3 +6,6 @@ pub mod Sound
 pub mod Ties
 pub mod Again
 pub mod HiddenNames
+pub mod Ways
+pub mod FamilyWays
+pub mod Unbeaten

@@ -10,6 +10,12 @@ use Rattle.vacm_core.specs.declared.fault.Wrong.{Wrong}
 use Rattle.vacm_core.specs.declared.fault.Wrong.TheVariants.{Duplicate}
 use Rattle.vacm_core.specs.declared.fault.TableFault.{TableFault}
 use Rattle.vacm_core.specs.declared.fault.TableFault.TheVariants.{Memory, Row}
+use Rattle.vacm_core.specs.declared.fault.VacmTable.{VacmTable}
+use Rattle.vacm_core.specs.declared.fault.VacmTable.TheVariants.{Families}
+use Rattle.vacm_core.specs.declared.tables.FamilyRow.{FamilyRow}
+use Rattle.vacm_core.specs.declared.written.VacmRows.{VacmRows}
+use Rattle.vacm_core.specs.Faults.{TakesMemory}
+use Rattle.vacm_core.specs.Rows.{group_rules, access_rules, family_rules, family_row}
 use Rattle.vacm_core.specs.Rules.{Rules, has_earlier, wrong_of, wrong_at, AreRight, IsFirstWrong, IsFirstFault, BeginsRight, row_behind}
 
 get_front : {W : Type 0} (xs ys : List W) (k : ℕ) → k < length xs → slice_get (xs ++ ys) k ≡ slice_get xs k
@@ -130,3 +136,19 @@ module _ {W R : Type 0} (rules : Rules W R) (written yielded rest after : List W
       let begins = begins_right rules yielded w after g.right nothing.0 in
       let all = g.all ∙ ap (λ (l : List W). yielded ++ l) next in
       if_memory result (BeginsRight rules written) (subst (λ (l : List W). BeginsRight rules l) (sym all) begins)
+
+-- where nothing is wrong with any row, nothing is wrong with the first
+begins_where_right : {W R : Type 0} (rules : Rules W R) (ws : List W) → AreRight rules ws → 0 < length ws → BeginsRight rules ws
+begins_where_right rules [] right some = absurd (omega arith)
+begins_where_right rules (w ∷ ws) right some = right 0
+
+-- where there is a family row, and nothing is wrong up to the last of them, memory may be lacking
+pub tree_memory : {X : Type 0} (rows : VacmRows) (result : Result X (TableFault VacmTable)) (kept : List FamilyRow)
+    → AreRight group_rules rows.groups → AreRight access_rules rows.access → AreRight family_rules rows.families
+    → kept ≡ map family_row rows.families → 0 < length kept → IfErr result (λ e. e ≡ Memory → TakesMemory rows)
+tree_memory rows result kept groups access families is some =
+    if_memory result (TakesMemory rows) (record {
+      table = Families;
+      before = (groups, access);
+      begins = begins_where_right family_rules rows.families families (omega (arith, ap length is, length-map rows.families family_row));
+    })

@@ -9,3 +9,4 @@ pub mod Families
 pub mod Hiding
 pub mod Access
 pub mod Orders
+pub mod Trees

@@ -29,8 +29,13 @@ pub trait Contest {
     ghost ranks: { (contest : Self) → IsStrictWeakOrder (beats contest) };
 }
 
-// Whether a row that passes takes the place of the best so far.
-fn takes_over<C: Contest>(contest: &C, rows: &[C::Row], best: Option<usize>, row: &C::Row) -> bool
+/// Whether a row that passes takes the place of the best so far.
+pub fn takes_over<C: Contest>(
+    contest: &C,
+    rows: &[C::Row],
+    best: Option<usize>,
+    row: &C::Row,
+) -> bool
     requires { ForSome best (λ b. b < length rows.now) }
     ensures { result ≡ takes_over (C.beats contest.now) rows.now best row.now }
 {

@@ -2,7 +2,7 @@
 ghost use Rattle.std.specs.Prelude.{◌≡◌, ◌<◌, length, option_map, find, bytes_eq};
 ghost use Rattle.std.specs.List.{list_any};
 ghost use Rattle.std.specs.Option.{ForSome};
-ghost use Rattle.vacm_core.specs.Families.{mask_bit, agrees_at, agrees_from, matches, family_beats, deciding_family};
+ghost use Rattle.vacm_core.specs.Families.{mask_bit, agrees_at, agrees_from, matches, family_beats};
 ghost use Rattle.vacm_core.specs.Access.{is_known, is_of, fits_context, candidate, access_beats, deciding_access, has_view, view_of};
 
 use crate::contest::{Contest, deciding_row};
@@ -11,7 +11,7 @@ use crate::tables::{AccessRow, FamilyRow, GroupRow};
 use crate::verdict::{Ask, ViewType};
 
 /// Whether the bit of this number is 1 in a mask; a short mask is extended by ones.
-fn mask_bit(mask: &[u8], k: usize) -> bool
+pub fn mask_bit(mask: &[u8], k: usize) -> bool
     ensures { result ≡ mask_bit mask.now k }
 {
     match mask.get(k / 8) {
@@ -45,9 +45,11 @@ fn agrees_at(mask: &[u8], k: usize, part: u32, name: &[u32]) -> bool
 /// family has the name, the one with the longest subtree, and of equal lengths the
 /// lexicographically greatest.
 #[derive(Drop)]
-struct FamilyContest<'a> {
-    view: &'a Name,
-    name: &'a [u32],
+pub struct FamilyContest<'a> {
+    /// The view.
+    pub view: &'a Name,
+    /// The name.
+    pub name: &'a [u32],
 }
 
 impl<'a> Contest for FamilyContest<'a> {
@@ -82,14 +84,6 @@ pub fn is_longer_or_greater(row: &FamilyRow, other: &FamilyRow) -> bool
         .cmp(&subtree.len())
         .then(other.cmp(subtree))
         .is_lt()
-}
-
-/// The number of the family row of a view that decides on a name.
-pub fn deciding_family(rows: &[FamilyRow], view: &Name, name: &[u32]) -> Option<usize>
-    ensures place { result ≡ deciding_family rows.now view.now name.now }
-    ensures within { ForSome result (λ n. n < length rows.now) }
-{
-    deciding_row(&FamilyContest { view, name }, rows)
 }
 
 /// Whether a context is known.

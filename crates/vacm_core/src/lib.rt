@@ -15,6 +15,9 @@
 //! begins with a prefix; `specs/Best.antt`,
 //! `specs/Orders.antt`: the row that no row beats; `specs/Faults.antt`, `specs/Rules.antt`:
 //! lengths, fields and keys of rows, the first fault, and where checking the rows takes memory.
+//! `specs/Trees.antt`, inside the crate: which family rows a tree leads to, by which numbers. A
+//! `Vacm` keeps such a tree of its family rows, and `Vacm::in_view` goes by it: the row that it
+//! finds is the one that decides among all of them.
 //!
 //! # Laws
 //! In [`laws`]: a row decides wherever one fits; of the names below a prefix, which a family has;
@@ -23,12 +26,14 @@
 //! `Vacm::rows_are_right`, kept rows break no rule.
 //!
 //! # Not claimed
-//! How long a decision takes: it looks at each row.
+//! How long a decision takes: `Vacm::decide` and `Vacm::hides_all` look at each row of a table,
+//! `Vacm::in_view` at those that its tree leads to.
 #![tactic(auto)]
 
 mod checking;
 mod contest;
 mod deciding;
+mod families;
 mod fault;
 mod hiding;
 pub mod laws;
@@ -38,8 +43,10 @@ mod reading;
 mod rows;
 mod tables;
 mod text;
+mod tree;
 mod vacm;
 mod verdict;
+mod walk;
 mod written;
 
 pub use checking::{Written, checked_rows};

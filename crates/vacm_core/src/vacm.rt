@@ -2,6 +2,7 @@
 ghost use Rattle.std.specs.Prelude.{◌≡◌, ◌≢◌, ◌<◌, ◌≤◌, ◌+◌, ℕ, List, length, false, IsTrue, IfOk, IfErr, OnOk, slice_get, Some};
 
 use crate::checking::checked_rows;
+use crate::families::Families;
 use crate::fault::{TableFault, VacmTable};
 use crate::limits::MAX_FAMILY;
 use crate::name::Name;
@@ -21,7 +22,7 @@ use std::marker::Model;
 pub struct Vacm {
     groups: Rows<GroupRow>,
     access: Rows<AccessRow>,
-    families: Rows<FamilyRow>,
+    families: Families,
     contexts: Rows<Name>,
 }
 
@@ -73,6 +74,7 @@ impl Vacm {
         let access = checked_rows(alloc, VacmTable::Access, rows.access)?;
         let families = checked_rows(alloc, VacmTable::Families, rows.families)?;
         let contexts = checked_rows(alloc, VacmTable::Contexts, rows.contexts)?;
+        let families = Families::new(alloc, families)?;
         Ok(Vacm {
             groups,
             access,
@@ -125,7 +127,7 @@ impl Vacm {
         ensures answer { result ≡ family_answer self.now.families view.now name.now }
         ensures row { NamesFamilyOf self.now.families result }
     {
-        match deciding::deciding_family(self.families.as_slice(), view, name.as_slice()) {
+        match self.families.deciding(view, name.as_slice()) {
             Some(n) => self.answer_of(n),
             None => FamilyAnswer::NoRow,
         }

@@ -1,7 +1,20 @@
-use Rattle.vacm_core.proofs.Sound.{sound}
+use Rattle.std.proofs.Common.{sym, subst, ◌∙◌}
+use Rattle.vacm_core.specs.Rows.{family_rules, same_family}
+use Rattle.vacm_core.specs.Tables.{KeysDiffer}
+use Rattle.vacm_core.proofs.Sound.{keys_differ, sound}
+use Rattle.vacm_core.proofs.Right.{tree_memory}
 use Rattle.vacm_core.proofs.vacm.Vacm.new.Goals as goal
+
+pub new-requires : goal.new-requires
+new-requires c =
+    subst (KeysDiffer same_family) (sym c.in_ok-families.ensures.rows) (keys_differ family_rules c.args.rows.families c.in_ok-families.ensures.right)
+
+pub returns-in_err-families-2-clause-memory : goal.returns-in_err-families-2-clause-memory
+returns-in_err-families-2-clause-memory c =
+    tree_memory c.args.rows _ c.in_ok-families.families c.in_ok-groups.ensures.right c.in_ok-access.ensures.right c.in_ok-families.ensures.right c.in_ok-families.ensures.rows
+    c.in_err-families-2.ensures.memory
 
 pub invariant_of-result : goal.invariant_of-result
 invariant_of-result c =
-    sound c.args.rows _ c.in_ok-groups.ensures.rows c.in_ok-access.ensures.rows c.in_ok-families.ensures.rows c.in_ok-contexts.ensures.rows
+    sound c.args.rows _ c.in_ok-groups.ensures.rows c.in_ok-access.ensures.rows (c.in_ok-families-2.ensures.rows ∙ c.in_ok-families.ensures.rows) c.in_ok-contexts.ensures.rows
     c.in_ok-groups.ensures.right c.in_ok-access.ensures.right c.in_ok-families.ensures.right c.in_ok-contexts.ensures.right

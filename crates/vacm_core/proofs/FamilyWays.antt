@@ -1,0 +1,173 @@
+-- The ways of family rows.
+use Rattle.std.proofs.Common.{◌≡◌, ℕ, zero, suc, ◌+◌, ◌<◌, ◌≤◌, ◌==◌, Bool, true, false, not, ◌&&◌, ◌||◌, List, [], ◌∷◌, ◌++◌, map, length, get_or, take, refl, sym, ap, subst, ◌∙◌, arith, inl, inr, add-zero, zero-add, append_assoc, Result, Ok, Err}
+use Rattle.std.specs.Result.{OnOk}
+use Rattle.std.proofs.lemmas.List.{get_or_default}
+use Rattle.std.proofs.lemmas.Bool.{cases_Bool, cases_lt, cases_eq, both_ways, eqb-true, and_from}
+use Rattle.vacm_core.specs.declared.tree.Step.{Step}
+use Rattle.vacm_core.specs.declared.tree.Tree.{Tree}
+use Rattle.vacm_core.specs.declared.tables.FamilyRow.{FamilyRow}
+use Rattle.vacm_core.specs.Families.{mask_bit, agrees_from}
+use Rattle.vacm_core.specs.Rows.{same_family}
+use Rattle.vacm_core.specs.Tables.{KeysDiffer}
+use Rattle.vacm_core.specs.Trees.{leads, fits, same_parts, fixed, view_way, subtree_way, way_of, IsPlaced}
+use Rattle.vacm_core.proofs.Agrees.{and_true}
+use Rattle.vacm_core.proofs.Ties.{bytes_same}
+
+-- one step more of a subtree
+pub subtree_way_more : (j : ℕ) (mask subtree : List ℕ) (k : ℕ) → k < length subtree
+    → subtree_way j mask (take (k + 1) subtree) ≡ subtree_way j mask (take k subtree) ++ (record { part = get_or subtree k 0; counts = mask_bit mask (j + k) } ∷ [])
+subtree_way_more j mask [] k h = absurd (omega arith)
+subtree_way_more j mask (s ∷ subtree) zero h =
+    ap (λ (i : ℕ). record { part = s; counts = mask_bit mask i } ∷ []) (sym (add-zero j))
+subtree_way_more j mask (s ∷ subtree) (suc k) h =
+    let shift : j + 1 + k ≡ j + suc k = omega arith in
+    let more : suc k + 1 ≡ suc (k + 1) = omega arith in
+    ap (λ (i : ℕ). subtree_way j mask (take i (s ∷ subtree))) more
+    ∙ ap (λ (l : List Step). record { part = s; counts = mask_bit mask j } ∷ l)
+    (subtree_way_more (j + 1) mask subtree k (omega arith)
+    ∙ ap (λ (i : ℕ). subtree_way (j + 1) mask (take k subtree) ++ (record { part = get_or subtree k 0; counts = mask_bit mask i } ∷ [])) shift)
+
+pub steps_more : (front : List Step) (mask subtree bits parts : List ℕ) (k : ℕ) (bit : Bool) (items after : List Step) → bits ≡ mask → parts ≡ subtree → bit ≡ mask_bit bits k → k < length parts
+    → items ≡ front ++ subtree_way 0 mask (take k subtree) → after ≡ items ++ (record { part = get_or parts k 0; counts = bit } ∷ []) → after ≡ front ++ subtree_way 0 mask (take (k + 1) subtree)
+steps_more front mask subtree bits parts k bit items after same_bits same_parts is lt so e =
+    let counts : bit ≡ mask_bit mask (0 + k) = is ∙ (λ j. mask_bit (same_bits j) (sym (zero-add k) j)) in
+    let within : k < length subtree = omega (arith, ap length same_parts) in
+    e
+    ∙ ap (λ (l : List Step). l ++ (record { part = get_or parts k 0; counts = bit } ∷ [])) so
+    ∙ append_assoc front (subtree_way 0 mask (take k subtree)) (record { part = get_or parts k 0; counts = bit } ∷ [])
+    ∙ ap (λ (l : List Step). front ++ l)
+    ((λ j. subtree_way 0 mask (take k subtree) ++ (record { part = get_or (same_parts j) k 0; counts = counts j } ∷ []))
+    ∙ sym (subtree_way_more 0 mask subtree k within))
+
+-- a name fits the way of a subtree where the subtree agrees with it
+pub fits_agrees : (k : ℕ) (mask subtree name : List ℕ) → fits (subtree_way k mask subtree) name ≡ agrees_from k mask subtree name
+fits_agrees k mask [] name = refl
+fits_agrees k mask (s ∷ subtree) [] = refl
+fits_agrees k mask (s ∷ subtree) (n ∷ name) = ap (λ (b : Bool). (not (mask_bit mask k) || s == n) && b) (fits_agrees (k + 1) mask subtree name)
+
+-- ---- ways of different rows have different numbers
+
+numbers : List Step → List ℕ
+numbers [] = []
+numbers (s ∷ rest) = s.part ∷ numbers rest
+
+same_numbers : (a b : List Step) → same_parts a b ≡ true → numbers a ≡ numbers b
+unfolding numbers
+same_numbers [] [] e = refl
+same_numbers [] (b ∷ bs) e = absurd cc
+same_numbers (a ∷ more) [] e = absurd cc
+same_numbers (a ∷ more) (b ∷ bs) e =
+    let parts = and_true (a.part == b.part) (same_parts more bs) e in
+    (λ i. eqb-true a.part b.part parts.0 i ∷ same_numbers more bs parts.1 i)
+
+numbers_subtree : (k : ℕ) (mask subtree : List ℕ) → numbers (subtree_way k mask subtree) ≡ subtree
+unfolding numbers
+numbers_subtree k mask [] = refl
+numbers_subtree k mask (s ∷ subtree) = ap (λ (l : List ℕ). s ∷ l) (numbers_subtree (k + 1) mask subtree)
+
+numbers_view : (view : List ℕ) (rest : List Step) → numbers (map fixed view ++ rest) ≡ view ++ numbers rest
+unfolding numbers
+numbers_view [] rest = refl
+numbers_view (v ∷ view) rest = ap (λ (l : List ℕ). v ∷ l) (numbers_view view rest)
+
+numbers_of : (row : FamilyRow) → numbers (way_of row) ≡ length row.view ∷ (row.view ++ row.subtree)
+unfolding numbers
+numbers_of row =
+    ap (λ (l : List ℕ). length row.view ∷ l)
+    (numbers_view row.view (subtree_way 0 row.mask row.subtree) ∙ ap (λ (l : List ℕ). row.view ++ l) (numbers_subtree 0 row.mask row.subtree))
+
+split_same : (v w s t : List ℕ) → length v ≡ length w → v ++ s ≡ w ++ t → (v ≡ w) × (s ≡ t)
+split_same [] [] s t l e = (refl, e)
+split_same [] (y ∷ w) s t l e = absurd (omega arith)
+split_same (x ∷ v) [] s t l e = absurd (omega arith)
+split_same (x ∷ v) (y ∷ w) s t l e =
+    let head : x ≡ y = cc in
+    let tail : v ++ s ≡ w ++ t = cc in
+    let rest = split_same v w s t (omega arith) tail in
+    ((λ i. head i ∷ rest.0 i), rest.1)
+
+one_key : (a b : FamilyRow) → same_parts (way_of a) (way_of b) ≡ true → (a.view ≡ b.view) × (a.subtree ≡ b.subtree)
+one_key a b e =
+    let all : length a.view ∷ (a.view ++ a.subtree) ≡ length b.view ∷ (b.view ++ b.subtree) = sym (numbers_of a) ∙ same_numbers (way_of a) (way_of b) e ∙ numbers_of b in
+    let long : length a.view ≡ length b.view = cc in
+    let lists : a.view ++ a.subtree ≡ b.view ++ b.subtree = cc in
+    split_same a.view b.view a.subtree b.subtree long lists
+
+ways_differ : (a b : FamilyRow) → same_family a b ≡ false → same_parts (way_of a) (way_of b) ≡ false
+ways_differ a b differ =
+    elim (cases_Bool (same_parts (way_of a) (way_of b))) [
+      | inl e ↦
+          let key = one_key a b e in
+          absurd (both_ways (same_family a b) differ (and_from _ _ (bytes_same a.view b.view key.0) (bytes_same a.subtree b.subtree key.1)))
+      | inr e ↦ e
+    ]
+
+ways_differ_back : (a b : FamilyRow) → same_family b a ≡ false → same_parts (way_of a) (way_of b) ≡ false
+ways_differ_back a b differ =
+    elim (cases_Bool (same_parts (way_of a) (way_of b))) [
+      | inl e ↦
+          let key = one_key a b e in
+          absurd (both_ways (same_family b a) differ (and_from _ _ (bytes_same b.view a.view (sym key.0)) (bytes_same b.subtree a.subtree (sym key.1))))
+      | inr e ↦ e
+    ]
+
+-- rows at different places of a table
+pub others_differ : (rows : List FamilyRow) → KeysDiffer same_family rows → (m n : ℕ) (d : FamilyRow) → m < length rows → n < length rows → (m ≡ n → ⊥)
+    → same_parts (way_of (get_or rows m d)) (way_of (get_or rows n d)) ≡ false
+others_differ rows differ m n d here there ne =
+    elim (cases_lt m n) [
+      | inl lt ↦ ways_differ (get_or rows m d) (get_or rows n d) (differ m n d lt there)
+      | inr ge ↦ ways_differ_back (get_or rows m d) (get_or rows n d) (differ n m d (omega arith) here)
+    ]
+
+-- ---- the way of a view
+
+-- what holds of a step on from a tree to another holds also before a longer rest
+pub leads_after : (t below : Tree) (part : ℕ) → ((here next : Step) (rest : List Step) (n : ℕ) → here.part ≡ part → leads t (here ∷ next ∷ rest) n ≡ true → leads below (next ∷ rest) n ≡ true)
+    → (view : List ℕ) (next : Step) (rest : List Step) (n : ℕ) → leads t (fixed part ∷ (map fixed view ++ next ∷ rest)) n ≡ true → leads below (map fixed view ++ next ∷ rest) n ≡ true
+leads_after t below part on [] next rest n e = on (fixed part) next rest n refl e
+leads_after t below part on (v ∷ view) next rest n e = on (fixed part) (fixed v) (map fixed view ++ next ∷ rest) n refl e
+
+-- ---- placing a row
+
+-- what a row's way leads to stays there when another row is placed
+pub placed_still : (old new : Tree) (way : List Step) → ((other : List Step) (n : ℕ) → same_parts other way ≡ false → leads old other n ≡ true → leads new other n ≡ true)
+    → (row : FamilyRow) (n : ℕ) → same_parts (way_of row) way ≡ false → IsPlaced old row n → IsPlaced new row n
+placed_still old new way kept row n differ h = record { leads = kept (way_of row) n differ h.leads; some = h.some }
+
+pub placed_or_kept : (old new : Tree) (rows : List FamilyRow) → KeysDiffer same_family rows → (n : ℕ) → n < length rows
+    → ((d : FamilyRow) → IsPlaced new (get_or rows n d) n)
+    → ((d : FamilyRow) (other : List Step) (m : ℕ) → same_parts other (way_of (get_or rows n d)) ≡ false → leads old other m ≡ true → leads new other m ≡ true)
+    → (m : ℕ) (d : FamilyRow) → m < length rows → IsPlaced old (get_or rows m d) m → IsPlaced new (get_or rows m d) m
+placed_or_kept old new rows differ n there placed kept m d here h =
+    elim (cases_eq m n) [
+      | inl e ↦ subst (λ (k : ℕ). IsPlaced new (get_or rows k d) k) (sym e) (placed d)
+      | inr ne ↦ placed_still old new (way_of (get_or rows n d)) (kept d) (get_or rows m d) m (others_differ rows differ m n d here there ne) h
+    ]
+
+-- ---- the rows of a view that a name may fit
+
+-- the way to a row leads on from the rows of its view
+pub below_view : (tree below : Tree) (view : List ℕ)
+    → ((next : Step) (rest : List Step) (n : ℕ) → leads tree (view_way view ++ next ∷ rest) n ≡ true → leads below (next ∷ rest) n ≡ true)
+    → (k : ℕ) (mask subtree : List ℕ) (n : ℕ) → 1 ≤ length subtree → leads tree (view_way view ++ subtree_way k mask subtree) n ≡ true → leads below (subtree_way k mask subtree) n ≡ true
+below_view tree below view on k mask [] n some e = absurd (omega arith)
+below_view tree below view on k mask (s ∷ subtree) n some e = on (record { part = s; counts = mask_bit mask k }) (subtree_way (k + 1) mask subtree) n e
+
+-- a row that is placed, by its own way
+row_placed : (new : Tree) (rows : List FamilyRow) (n : ℕ) (row : FamilyRow) (way : List Step) → n < length rows → row ≡ get_or rows n row → way ≡ way_of row → 1 ≤ length row.subtree
+    → (1 ≤ length way → leads new way n ≡ true) → (d : FamilyRow) → IsPlaced new (get_or rows n d) n
+row_placed new rows n row way within is same some leads_there d =
+    let long : length way ≡ length (way_of row) = ap length same in
+    let there = leads_there (omega arith) in
+    subst (λ (r : FamilyRow). IsPlaced new r n) (is ∙ get_or_default rows n row d within)
+    (record { leads = subst (λ (l : List Step). leads new l n ≡ true) same there; some = some })
+
+pub place_keeps : (old new : Tree) (rows : List FamilyRow) → KeysDiffer same_family rows → (n : ℕ) (row : FamilyRow) (way : List Step) → n < length rows → row ≡ get_or rows n row → way ≡ way_of row
+    → 1 ≤ length row.subtree → {E : Type 0} (r : Result (Unit {0}) E) → OnOk r (1 ≤ length way → leads new way n ≡ true)
+    → OnOk r ((other : List Step) (m : ℕ) → same_parts other way ≡ false → leads old other m ≡ true → leads new other m ≡ true)
+    → OnOk r ((m : ℕ) (d : FamilyRow) → m < length rows → IsPlaced old (get_or rows m d) m → IsPlaced new (get_or rows m d) m)
+place_keeps old new rows differ n row way within is same some (Err e) there kept = tt
+place_keeps old new rows differ n row way within is same some (Ok u) there kept =
+    placed_or_kept old new rows differ n within (row_placed new rows n row way within is same some there)
+    (λ d other m apart. kept other m (subst (λ (l : List Step). same_parts other l ≡ false) (ap way_of (sym (is ∙ get_or_default rows n row d within)) ∙ sym same) apart))

@@ -1,0 +1,33 @@
+use Rattle.std.proofs.Common.{◌≡◌, true, sym, ap, subst, ◌∙◌, inl, inr, arith}
+use Rattle.vacm_core.specs.declared.tree.Node.{Node}
+use Rattle.vacm_core.specs.Trees.{leads}
+use Rattle.vacm_core.proofs.Ways.{goes_straight, turns}
+use Rattle.vacm_core.proofs.walk.+best_below.Goals as goal
+
+pub returns-clause-found : goal.returns-clause-found
+returns-clause-found g t c way n e f =
+    let node = c.in-Fork.node in
+    let tight = ap (λ (m : Node). m.loose) (sym c.deref.ensures) ∙ c.if-deref.false in
+    let low = ap (λ (m : Node). m.part) c.deref-2.ensures in
+    let high = ap (λ (m : Node). m.part) c.deref-3.ensures in
+    elim (goes_straight c.args.tree.now node c.in-Fork.is way c.args.name.now n e f (omega arith) tight (omega (arith, c.if-first-deref.false, c.if-deref-first.false))) [
+      | inl here ↦ c.better-2.ensures.here n (ap (λ (m : Node). m.row) c.deref-6.ensures ∙ here)
+      | inr on ↦ c.better-2.ensures.later.kept n
+          (c.best_below-best-2.ensures.found on.rest n (subst (λ (m : Node). leads m.equal on.rest n ≡ true) (sym c.deref-5.ensures) on.leads) on.fits)
+    ]
+
+pub returns-then-deref-clause-found : goal.returns-then-deref-clause-found
+returns-then-deref-clause-found g t c way n e f =
+    let node = c.in-Fork.node in
+    let greater = c.best_below-best-then-deref.ensures in
+    let equal = c.best_below-best-then-deref-2.ensures in
+    let last = c.better.ensures in
+    elim (turns c.args.tree.now node c.in-Fork.is way c.args.name.now n e f (omega arith)) [
+      | inl less ↦ last.later.kept n (equal.later.kept n (greater.later.kept n
+          (c.best_below-best.ensures.found way n (subst (λ (m : Node). leads m.less way n ≡ true) (sym c.deref-then-deref.ensures) less) f)))
+      | inr (inl more) ↦ last.later.kept n (equal.later.kept n
+          (greater.found way n (subst (λ (m : Node). leads m.greater way n ≡ true) (sym c.deref-then-deref-2.ensures) more) f))
+      | inr (inr (inl here)) ↦ last.here n (ap (λ (m : Node). m.row) c.deref-then-deref-4.ensures ∙ here)
+      | inr (inr (inr on)) ↦ last.later.kept n
+          (equal.found on.rest n (subst (λ (m : Node). leads m.equal on.rest n ≡ true) (sym c.deref-then-deref-3.ensures) on.leads) on.fits)
+    ]

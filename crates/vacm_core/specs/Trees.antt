@@ -1,0 +1,99 @@
+-- What the tree of the family rows stands for: which ways lead to which rows.
+use Rattle.std.specs.Prelude.{◌≡◌, ℕ, ◌<◌, ◌≤◌, ◌+◌, ◌==◌, Bool, true, false, not, ◌&&◌, ◌||◌, if◌then◌else◌, List, [], ◌∷◌, ◌++◌, map, length, nat_lt, Option, Some, None, slice_get, slice_index_or}
+use Rattle.vacm_core.specs.declared.tree.Step.{Step}
+use Rattle.vacm_core.specs.declared.tree.Tree.{Tree, Empty, Fork'}
+use Rattle.vacm_core.specs.declared.tables.FamilyRow.{FamilyRow}
+use Rattle.vacm_core.specs.Rows.{same_family}
+use Rattle.vacm_core.specs.Tables.{KeysDiffer}
+use Rattle.vacm_core.specs.Families.{mask_bit}
+
+-- the row that ends here is that of this number
+abbrev pub is_row : Option ℕ → ℕ → Bool
+is_row (Some n) row = n == row
+is_row None row = false
+
+-- the way ends here, at this row, or it leads on
+abbrev pub ends_or : Option ℕ → Bool → List Step → ℕ → Bool
+ends_or here deeper [] row = is_row here row
+ends_or here deeper (s ∷ rest) row = deeper
+
+-- the way leads to the row of this number, and each place where it does not count is marked loose
+abbrev pub leads : Tree → List Step → ℕ → Bool
+leads Empty way row = false
+leads (Fork' p part here loose less equal greater) [] row = false
+leads (Fork' p part here loose less equal greater) (s ∷ rest) row =
+    (loose || s.counts)
+    && (if nat_lt s.part part then leads less (s ∷ rest) row
+    else (if nat_lt part s.part then leads greater (s ∷ rest) row
+    else ends_or here (leads equal rest row) rest row))
+
+-- a name is at least as long as the way, and has its number wherever the step counts
+abbrev pub fits : List Step → List ℕ → Bool
+fits [] name = true
+fits (s ∷ rest) [] = false
+fits (s ∷ rest) (n ∷ name) = (not s.counts || s.part == n) && fits rest name
+
+-- two ways have the same numbers
+abbrev pub same_parts : List Step → List Step → Bool
+same_parts [] [] = true
+same_parts [] (b ∷ bs) = false
+same_parts (a ∷ more) [] = false
+same_parts (a ∷ more) (b ∷ bs) = a.part == b.part && same_parts more bs
+
+-- ---- the best row so far
+
+-- no best row, or one of the rows, which passes
+abbrev pub IsFit : {R : Type 0} → (R → Bool) → List R → Option ℕ → Type 0
+IsFit passes rows None = Unit {0}
+IsFit {R} passes rows (Some best) =
+    (best < length rows) × ((d : R) → passes (slice_index_or rows best d) ≡ true)
+
+-- a row that does not beat the best one, where there is one
+abbrev pub IsNoBetter : {R : Type 0} → (R → R → Bool) → List R → R → Option ℕ → Type 0
+IsNoBetter beats rows row None = ⊥
+IsNoBetter beats rows row (Some best) = beats row (slice_index_or rows best row) ≡ false
+
+-- the row of this number does not pass, or does not beat the best one
+abbrev pub Covers : {R : Type 0} → (R → Bool) → (R → R → Bool) → List R → Option ℕ → ℕ →
+    Type 0
+Covers {R} passes beats rows best n =
+    (row : R) → slice_get rows n ≡ Some row → passes row ≡ true → IsNoBetter beats rows row best
+
+-- the best row after more rows: it is fit, and what was covered still is
+pub record IsLater {R : Type 0} (passes : R → Bool) (beats : R → R → Bool) (rows : List R) (best after : Option ℕ) : Type 0 where
+  pub fit : IsFit passes rows after
+  pub kept : (n : ℕ) → Covers passes beats rows best n → Covers passes beats rows after n
+
+-- ---- the tree of the family rows
+
+-- a step that counts
+abbrev pub fixed : ℕ → Step
+fixed part = record { part = part; counts = true }
+
+-- the way to the rows of a view: the length of its name and its octets
+abbrev pub view_way : List ℕ → List Step
+view_way view = fixed (length view) ∷ map fixed view
+
+-- the way of a subtree, from the k-th bit of the mask on
+abbrev pub subtree_way : ℕ → List ℕ → List ℕ → List Step
+subtree_way k mask [] = []
+subtree_way k mask (s ∷ subtree) =
+    record { part = s; counts = mask_bit mask k } ∷ subtree_way (k + 1) mask subtree
+
+abbrev pub way_of : FamilyRow → List Step
+way_of row = view_way row.view ++ subtree_way 0 row.mask row.subtree
+
+-- the tree leads to the row of this number
+pub record IsPlaced (tree : Tree) (row : FamilyRow) (n : ℕ) : Type 0 where
+  pub leads : leads tree (way_of row) n ≡ true
+  pub some : 1 ≤ length row.subtree
+
+-- the tree leads to each of the rows
+abbrev pub IsTreeOf : Tree → List FamilyRow → Type 0
+IsTreeOf tree rows =
+    (n : ℕ) (d : FamilyRow) → n < length rows → IsPlaced tree (slice_index_or rows n d) n
+
+-- no two rows have one key, and the tree leads to each of them
+pub record AreWithTree (rows : List FamilyRow) (tree : Tree) : Type 0 where
+  pub differ : KeysDiffer same_family rows
+  pub placed : IsTreeOf tree rows

@@ -1,0 +1,183 @@
+//! The family rows with their tree, and the row of a view that decides on a name.
+ghost use Rattle.std.specs.Prelude.{◌≡◌, ◌≤◌, ◌<◌, ◌+◌, ℕ, true, List, ◌∷◌, ◌++◌, length, IfOk, OnOk, OnErr, slice_index_or};
+ghost use Rattle.std.specs.Option.{ForSome};
+ghost use Rattle.vacm_core.specs.Rows.{same_family};
+ghost use Rattle.vacm_core.specs.Tables.{KeysDiffer};
+ghost use Rattle.vacm_core.specs.Families.{deciding_family};
+ghost use Rattle.vacm_core.specs.Trees.{leads, fixed, view_way, way_of, IsPlaced, IsTreeOf};
+ghost use Rattle.vacm_core.specs.declared.tree.Step.{Step};
+ghost use Rattle.vacm_core.specs.declared.tables.FamilyRow.{FamilyRow};
+
+use crate::deciding::{FamilyContest, mask_bit};
+use crate::name::Name;
+use crate::rows::Rows;
+use crate::tables::FamilyRow;
+use crate::tree::{Step, Tree};
+use crate::walk::best_below;
+use std::alloc::{AllocError, Global};
+use std::marker::Model;
+
+/// The family rows, seen as their list, and the tree of them. No two rows have one key.
+pub struct Families {
+    rows: Rows<FamilyRow>,
+    tree: Tree,
+}
+
+impl Model for Families {
+    ghost use Rattle.std.specs.Prelude.{List};
+    ghost use Rattle.vacm_core.specs.Trees.{AreWithTree};
+    ghost use Rattle.vacm_core.specs.declared.tables.FamilyRow.{FamilyRow};
+
+    ghost Value = { List FamilyRow };
+
+    ghost view = { λ f. f.rows };
+
+    ghost invariant = { λ f. AreWithTree f.rows f.tree };
+}
+
+// By hand, so that who lets go of the rows knows nothing of the tree.
+impl Drop for Families {
+    fn drop(self) {
+        let Families {
+            rows: _rows,
+            tree: _tree,
+        } = self;
+    }
+}
+
+impl Families {
+    /// The rows with their tree.
+    ///
+    /// # Errors
+    ///
+    /// Where there is no memory for the tree; there is then a row.
+    pub fn new(alloc: Global, rows: Rows<FamilyRow>) -> Result<Families, AllocError>
+        requires { KeysDiffer same_family rows }
+        ensures rows { IfOk result (λ families. families ≡ rows) }
+        ensures memory { OnErr result (0 < length rows) }
+    {
+        let tree = tree_of(alloc, rows.as_slice())?;
+        Ok(Families { rows, tree })
+    }
+
+    /// The rows.
+    pub fn as_slice(&self) -> &[FamilyRow]
+        ensures { result.now ≡ self.now }
+    {
+        self.rows.as_slice()
+    }
+
+    /// The number of the row of a view that decides on a name. It takes no memory.
+    pub fn deciding(&self, view: &Name, name: &[u32]) -> Option<usize>
+        ensures place { result ≡ deciding_family self.now view.now name.now }
+        ensures within { ForSome result (λ n. n < length self.now) }
+    {
+        deciding_family(&self.tree, self.rows.as_slice(), view, name)
+    }
+}
+
+// A step that counts.
+fn fixed(part: u32) -> Step
+    ensures { result ≡ fixed part }
+{
+    Step { part, counts: true }
+}
+
+// The way of a row: the length of its view's name, the octets of that name, and the subtree, whose
+// steps count where the mask's bit is 1.
+fn way_of(alloc: Global, row: &FamilyRow) -> Result<Vec<Step>, AllocError>
+    ensures way { IfOk result (λ way. way.items ≡ way_of row.now) }
+    ensures some { OnOk result (1 ≤ length row.now.subtree) }
+{
+    let mut way = Vec::new(alloc);
+    let view = row.view.as_bytes();
+    way.push(fixed(view.len() as u32))?;
+    for octet in view {
+        way.push(fixed(u32::from(*octet)))?;
+    }
+    let mask = row.mask.as_slice();
+    for (k, part) in row.subtree.as_slice().iter().enumerate() {
+        way.push(Step {
+            part: *part,
+            counts: mask_bit(mask, k),
+        })?;
+    }
+    Ok(way)
+}
+
+// Puts a row at its place.
+fn place(tree: &mut Tree, alloc: Global, rows: &[FamilyRow], n: usize) -> Result<(), AllocError>
+    requires within { n < length rows.now }
+    requires differ { KeysDiffer same_family rows.now }
+    ensures placed { OnOk result ((d : FamilyRow) →
+        IsPlaced tree.new (slice_index_or rows.now n d) n) }
+    ensures kept { OnOk result ((m : ℕ) (d : FamilyRow) → m < length rows.now
+        → IsPlaced tree.old (slice_index_or rows.now m d) m
+        → IsPlaced tree.new (slice_index_or rows.now m d) m) }
+{
+    let way = way_of(alloc, &rows[n])?;
+    tree.insert(alloc, way.as_slice(), n)
+}
+
+// Puts the rows of these numbers at their places, the middle one first, so that a tree of rows in
+// order is balanced.
+fn place_between(
+    tree: &mut Tree,
+    alloc: Global,
+    rows: &[FamilyRow],
+    from: usize,
+    to: usize,
+) -> Result<(), AllocError>
+    requires within { to ≤ length rows.now }
+    requires differ { KeysDiffer same_family rows.now }
+    ensures placed { OnOk result ((m : ℕ) (d : FamilyRow) → from ≤ m → m < to
+        → IsPlaced tree.new (slice_index_or rows.now m d) m) }
+    ensures kept { OnOk result ((m : ℕ) (d : FamilyRow) → m < length rows.now
+        → IsPlaced tree.old (slice_index_or rows.now m d) m
+        → IsPlaced tree.new (slice_index_or rows.now m d) m) }
+    ensures memory { OnErr result (from < to) }
+{
+    if from >= to {
+        return Ok(());
+    }
+    let middle = from + (to - from) / 2;
+    place(tree, alloc, rows, middle)?;
+    place_between(tree, alloc, rows, from, middle)?;
+    place_between(tree, alloc, rows, middle + 1, to)
+}
+
+// The tree of the family rows. Where there is no memory there is a row.
+fn tree_of(alloc: Global, rows: &[FamilyRow]) -> Result<Tree, AllocError>
+    requires { KeysDiffer same_family rows.now }
+    ensures tree { IfOk result (λ tree. IsTreeOf tree rows.now) }
+    ensures memory { OnErr result (0 < length rows.now) }
+{
+    let mut tree = Tree::Empty;
+    place_between(&mut tree, alloc, rows, 0, rows.len())?;
+    Ok(tree)
+}
+
+// The rows of a view.
+fn rows_of_view<'a>(tree: &'a Tree, view: &Name) -> &'a Tree
+    ensures { (next : Step) (rest : List Step) (n : ℕ) →
+        leads tree.now (view_way view.now ++ next ∷ rest) n ≡ true
+        → leads result.now (next ∷ rest) n ≡ true }
+{
+    let octets = view.as_bytes();
+    let mut below = tree.child(octets.len() as u32);
+    for octet in octets {
+        below = below.child(u32::from(*octet));
+    }
+    below
+}
+
+// The number of the family row of a view that decides on a name, of those in their tree.
+fn deciding_family(tree: &Tree, rows: &[FamilyRow], view: &Name, name: &[u32]) -> Option<usize>
+    requires tree { IsTreeOf tree.now rows.now }
+    requires differ { KeysDiffer same_family rows.now }
+    ensures place { result ≡ deciding_family rows.now view.now name.now }
+    ensures within { ForSome result (λ n. n < length rows.now) }
+{
+    let below = rows_of_view(tree, view);
+    best_below(below, &FamilyContest { view, name }, rows, name, None)
+}

@@ -1,0 +1,76 @@
+//! The best of the rows of a tree whose way a name fits.
+ghost use Rattle.std.specs.Prelude.{◌≡◌, ◌<◌, ◌&&◌, ℕ, List, true, Some, length};
+ghost use Rattle.std.specs.Option.{ForSome};
+ghost use Rattle.vacm_core.specs.Best.{takes_over};
+ghost use Rattle.vacm_core.specs.Trees.{leads, fits, IsFit, Covers, IsLater};
+ghost use Rattle.vacm_core.specs.declared.tree.Step.{Step};
+
+use crate::contest::{Contest, takes_over};
+use crate::tree::Tree;
+
+// Whether a row is better than the best so far, and passes.
+fn is_better<C: Contest>(contest: &C, rows: &[C::Row], best: Option<usize>, row: &C::Row) -> bool
+    requires { ForSome best (λ b. b < length rows.now) }
+    ensures { result ≡ (takes_over (C.beats contest.now) rows.now best row.now
+        && C.passes contest.now row.now) }
+{
+    takes_over(contest, rows, best, row) && contest.passes(row)
+}
+
+// The better of the best row so far and one more.
+fn better<C: Contest>(
+    contest: &C,
+    rows: &[C::Row],
+    best: Option<usize>,
+    row: Option<usize>,
+) -> Option<usize>
+    requires { IsFit (C.passes contest.now) rows.now best }
+    ensures later { IsLater (C.passes contest.now) (C.beats contest.now) rows.now best result }
+    ensures here { (n : ℕ) → row ≡ Some n
+        → Covers (C.passes contest.now) (C.beats contest.now) rows.now result n }
+{
+    match row {
+        Some(n) if n < rows.len() && is_better(contest, rows, best, &rows[n]) => Some(n),
+        _ => best,
+    }
+}
+
+/// The best of the rows so far and those of a tree whose way a name fits, in which the deepest are
+/// looked at first. It takes no memory.
+pub fn best_below<C: Contest>(
+    tree: &Tree,
+    contest: &C,
+    rows: &[C::Row],
+    name: &[u32],
+    best: Option<usize>,
+) -> Option<usize>
+    requires { IsFit (C.passes contest.now) rows.now best }
+    ensures later { IsLater (C.passes contest.now) (C.beats contest.now) rows.now best result }
+    ensures found { (way : List Step) (n : ℕ) → leads tree.now way n ≡ true
+        → fits way name.now ≡ true
+        → Covers (C.passes contest.now) (C.beats contest.now) rows.now result n }
+{
+    let Tree::Fork(node) = tree else {
+        return best;
+    };
+    let [first, after @ ..] = name else {
+        return best;
+    };
+    if node.loose {
+        let best = best_below(&node.less, contest, rows, name, best);
+        let best = best_below(&node.greater, contest, rows, name, best);
+        let best = best_below(&node.equal, contest, rows, after, best);
+        return better(contest, rows, best, node.row);
+    }
+    if *first < node.part {
+        return best_below(&node.less, contest, rows, name, best);
+    }
+    if node.part < *first {
+        return best_below(&node.greater, contest, rows, name, best);
+    }
+    if node.row.is_none() {
+        return best_below(&node.equal, contest, rows, after, best);
+    }
+    let best = best_below(&node.equal, contest, rows, after, best);
+    better(contest, rows, best, node.row)
+}
