@@ -7,11 +7,11 @@ ghost use Rattle.message_core.specs.Canon.{canon_int, canon_binding, canon_bindi
 ghost use Rattle.message_core.specs.declared.binding.Binding.{Binding};
 
 use crate::binding::Binding;
+use crate::lengths::{name_len, tlv_len, value_len};
 use crate::limits::{MAX_COMMUNITY, MAX_REPLY};
 use crate::request::Request;
 use crate::status::ErrorStatus;
 use crate::tag;
-use crate::writing::put_binding;
 use ber_core::{Out, Tag};
 
 // A tag and the length of 256 to 65,535 octets (X.690, 8.1.3.5).
@@ -34,12 +34,18 @@ pub fn encoded_len(binding: &Binding, most: usize) -> Option<usize>
     ensures { MatchOption result (most < length (canon_binding binding.now)) (λ len.
         (len ≡ length (canon_binding binding.now)) × (len ≤ most)) }
 {
-    let mut room = [0u8; MAX_REPLY];
-    let mut out = Out::new(&mut room[..most]);
-    match put_binding(&mut out, binding) {
-        Ok(()) => Some(out.len()),
-        Err(_) => None,
+    let name = tlv_len(name_len(binding.name.as_slice()));
+    match value_len(&binding.value, most) {
+        None => None,
+        Some(value) => len_within(tlv_len(name + value), most),
     }
+}
+
+// This length, where it is at most `most`.
+fn len_within(len: usize, most: usize) -> Option<usize>
+    ensures { MatchOption result (most < len) (λ same. (same ≡ len) × (same ≤ most)) }
+{
+    if len <= most { Some(len) } else { None }
 }
 
 // The octets of an INTEGER with its tag and its length.

@@ -47,7 +47,10 @@ fn put_oid(out: &mut Out<'_>, name: &Oid) -> Result<(), BerFault>
     out.put_tlv_head(Tag(tag::OBJECT_IDENTIFIER), len)
 }
 
-fn put_value(out: &mut Out<'_>, value: &Value) -> Result<(), BerFault>
+/// Writes the shortest encoding of a value in front of what is written.
+///
+/// `NoRoom` where it does not fit. A name that cannot be encoded is the caller's to keep out.
+pub fn put_value(out: &mut Out<'_>, value: &Value) -> Result<(), BerFault>
     requires { IsEncodableValue value.now }
     ensures same_reference { out.new.room.ghost_name ≡ out.old.room.ghost_name }
     ensures puts { Prepends out.old out.new result (canon_value value.now) }

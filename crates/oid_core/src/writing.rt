@@ -1,6 +1,7 @@
 //! Writes the coded numbers of a name (X.690, 8.19.2 and 8.19.4).
-ghost use Rattle.std.specs.Prelude.{◌≡◌, length, OnOk, OnErr};
-ghost use Rattle.ber_core.specs.Writing.{written_octets, Prepends, KeepsFront};
+ghost use Rattle.std.specs.Prelude.{◌≡◌, ◌≤◌, ◌+◌, ◌-◌, ◌++◌, length, take, drop, OnOk, OnErr};
+ghost use Rattle.std.specs.List.{flat_map};
+ghost use Rattle.ber_core.specs.Writing.{written_octets, capacity, Prepends, KeepsFront};
 ghost use Rattle.oid_core.specs.Name.{HasRoot, canon_coded, canon_name};
 ghost use Rattle.oid_core.specs.Writing.{Extends};
 
@@ -23,6 +24,42 @@ fn put_coded(out: &mut Out<'_>, number: u64) -> Result<(), BerFault>
     Ok(())
 }
 
+/// Writes the last numbers of a name that have one octet each, as far as there is room, into a
+/// slice in front of `start`, and says how many. The first two numbers are left.
+fn put_short(room: &mut [u8], start: usize, name: &[u32]) -> usize
+    requires start { start ≤ length room.old }
+    requires root { 2 ≤ length name.now }
+    ensures octets { drop (start - result) room.new
+        ≡ flat_map canon_coded (drop (length name.now - result) name.now) ++ drop start room.old }
+    ensures front { take (start - result) room.new ≡ take (start - result) room.old }
+    ensures len { length room.new ≡ length room.old }
+    ensures within { result ≤ start }
+    ensures most { result + 2 ≤ length name.now }
+{
+    let mut count = 0;
+    while count < start && count + 2 < name.len() && name[name.len() - count - 1] < 128 {
+        count += 1;
+        room[start - count] = name[name.len() - count] as u8;
+    }
+    count
+}
+
+/// Writes the last numbers of a name that have one octet each, as far as there is room, and says
+/// how many. The first two numbers are left.
+fn put_last(out: &mut Out<'_>, name: &[u32]) -> usize
+    requires { 2 ≤ length name.now }
+    ensures same_reference { out.new.room.ghost_name ≡ out.old.room.ghost_name }
+    ensures octets { written_octets out.new
+        ≡ flat_map canon_coded (drop (length name.now - result) name.now) ++ written_octets out.old }
+    ensures room { capacity out.new ≡ capacity out.old }
+    ensures front { KeepsFront out.old out.new }
+    ensures most { result + 2 ≤ length name.now }
+{
+    let count = put_short(out.room, out.start, name);
+    out.start -= count;
+    count
+}
+
 /// Writes the coded numbers of a name, the last one first.
 fn put_numbers(out: &mut Out<'_>, name: &[u32]) -> Result<(), BerFault>
     requires { HasRoot name.now }
@@ -31,7 +68,7 @@ fn put_numbers(out: &mut Out<'_>, name: &[u32]) -> Result<(), BerFault>
     ensures front { OnOk result (KeepsFront out.old out.new) }
     ensures behind { Extends (written_octets out.old) (written_octets out.new) }
 {
-    let mut i = name.len();
+    let mut i = name.len() - put_last(out, name);
     while i > 2 {
         i -= 1;
         put_coded(out, u64::from(name[i]))?;

@@ -1,24 +1,28 @@
-use Rattle.std.proofs.Common.{◌≡◌, List, ℕ, ◌-◌, ◌++◌, ◌∙◌, sym, append_assoc, refl, ap, [], take, length, get_or, arith, Ok}
+use Rattle.std.proofs.Common.{◌≡◌, List, ℕ, ◌-◌, ◌++◌, ◌∙◌, sym, append_assoc, refl, ap, take, drop, length, get_or, arith, Ok}
 use Rattle.std.specs.List.{flat_map}
 use Rattle.std.proofs.lemmas.Result.{err_from_is_err_and}
-use Rattle.std.proofs.lemmas.List.{take_all}
 use Rattle.ber_core.specs.Writing.{written_octets, capacity}
 use Rattle.ber_core.proofs.Puts.{front_then}
 use Rattle.oid_core.specs.Name.{coded_numbers, canon_coded, canon_name}
-use Rattle.oid_core.proofs.Written.{root_len, last_number, no_room, extends_then}
+use Rattle.oid_core.proofs.Written.{root_len, last_number, last_written, no_room, extends_then}
 use Rattle.oid_core.proofs.writing.put_numbers.Goals as goal
 
 pub loop-i-init : goal.loop-i-init
 unfolding canon_name
-loop-i-init c = record {
-  all = rw (take_all (length c.args.name.now) c.args.name.now (omega arith)) refl;
-  room = refl;
-  front = refl;
-  behind = record { more = []; parts = refl };
-  same = refl;
-  low = root_len c.args.name.now c.requires;
-  high = omega arith;
-}
+loop-i-init c =
+    let octets = c.put_last.ensures.octets in
+    record {
+      all = last_written c.args.name.now (written_octets c.put_last.new.out) (written_octets c.args.out.now) _ c.put_last.result refl c.put_last.ensures.most octets;
+      room = c.put_last.ensures.room;
+      front = c.put_last.ensures.front;
+      behind = record { more = flat_map canon_coded (drop (length c.args.name.now - c.put_last.result) c.args.name.now); parts = octets };
+      same = c.put_last.ensures.same_reference;
+      low = omega (arith, c.put_last.ensures.most);
+      high = omega arith;
+    }
+
+pub put_last-requires : goal.put_last-requires
+put_last-requires c = root_len c.args.name.now c.requires
 
 pub returns-in_err-put_coded-clause-puts : goal.returns-in_err-put_coded-clause-puts
 returns-in_err-put_coded-clause-puts c =
