@@ -1,5 +1,5 @@
 //! The bridge: one event at a time.
-ghost use Rattle.std.specs.Prelude.{◌≡◌, ◌≤◌, length, true, Some, None, Ok, Err, IfOk};
+ghost use Rattle.std.specs.Prelude.{◌≡◌, ◌↔◌, ◌≤◌, length, true, Some, None, Ok, Err, IfOk, IsTrue};
 ghost use Rattle.rstp_settings.specs.Table.{get, HasKey, IsInRange};
 ghost use Rattle.bridge_core.specs.Bridge.{HasPort, port_count, is_on};
 ghost use Rattle.bridge_core.specs.Opening.{fault_of, opening_bridge};
@@ -168,6 +168,21 @@ impl Bridge {
         ensures in_range { IsInRange key result }
     {
         self.settings.get(key)
+    }
+
+    /// A copy of the settings, to look later by `has_settings` whether they are still the same. It
+    /// takes no memory.
+    pub fn copied_settings(&self) -> Settings
+        ensures { result ≡ self.now.settings }
+    {
+        self.settings.copy()
+    }
+
+    /// Whether the settings are the same as these, so that there is nothing to settle after a Set.
+    pub fn has_settings(&self, settings: &Settings) -> bool
+        ensures { IsTrue result ↔ (self.now.settings ≡ settings.now) }
+    {
+        self.settings.is_same(settings)
     }
 
     /// Gives a setting that there is a value in its range, and answers the one before. Every event

@@ -4,7 +4,8 @@
 //!
 //! # Entry points
 //! [`Bridge`]: `new`, `frame`, `tick`, `link`, `settle`; `ports`, `facts`, `port_facts`, `fdb`,
-//! `get_setting`, `put_setting`. Only `frame` may take memory, for a learned address.
+//! `get_setting`, `put_setting`, `copied_settings`, `has_settings`. Only `frame` may take memory, for
+//! a learned address.
 //!
 //! # Definitions
 //! `specs/Bridge.antt`, `specs/Opening.antt`: what a bridge is, and is at first;

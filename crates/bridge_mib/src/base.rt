@@ -4,37 +4,44 @@ ghost use Rattle.message_core.specs.declared.value.Value.TheVariants.{ObjectIden
 ghost use Rattle.bridge_core.specs.Bridge.{port_count};
 ghost use Rattle.setphase_core.specs.Names.{base_name, base_port_name};
 ghost use Rattle.setphase_core.specs.Columns.{base_value, base_port_value};
+ghost use Rattle.bridge_mib.specs.Written.{idle};
 
 use crate::values::{integer, string};
 use bridge_core::Bridge;
 use message_core::Value;
 use oid_core::Oid;
 use setphase_core::{
-    Base, BasePort, Index, MibObject, World, is_scalar, port_after, port_at, scalar_after,
+    Base, BasePort, DeviceFault, Index, MibObject, SetFault, Slot, Slots, World, assignment_by,
+    is_scalar, port_after, port_at, scalar_after,
 };
 use std::alloc::Global;
 use std::marker::Model;
 
-/// A scalar of dot1dBase, seen as its descriptor.
+/// A scalar of dot1dBase, seen as its descriptor, and what it has reserved.
 #[derive(Drop)]
 pub struct BaseScalar {
     which: Base,
+    slots: Slots,
 }
 
 impl Model for BaseScalar {
     ghost use Rattle.setphase_core.specs.declared.column.Base.{Base as Descriptor};
+    ghost use Rattle.bridge_mib.specs.Written.{Written};
 
-    ghost Value = { Descriptor };
+    ghost Value = { Written Descriptor };
 
-    ghost view = { λ o. o.which };
+    ghost view = { λ o. record { which = o.which; reserved = o.slots } };
 }
 
 impl BaseScalar {
     /// The scalar of this descriptor.
     pub fn new(which: Base) -> BaseScalar
-        ensures { result ≡ which }
+        ensures { result ≡ idle which }
     {
-        BaseScalar { which }
+        BaseScalar {
+            which,
+            slots: Slots::new(),
+        }
     }
 }
 
@@ -60,13 +67,12 @@ fn base_value(alloc: Global, which: Base, bridge: &Bridge) -> Value
 }
 
 impl MibObject for BaseScalar {
-    ghost use Rattle.std.specs.Prelude.{[]};
     ghost use Rattle.setphase_core.specs.Names.{row_of};
     ghost use Rattle.setphase_core.specs.declared.column.Column.TheVariants as column;
 
-    ghost state = { λ which. record {
-      row = row_of (column.Base which);
-      reserved = [];
+    ghost state = { λ o. record {
+      row = row_of (column.Base o.which);
+      reserved = o.reserved;
       failures = 0;
     } };
 
@@ -87,28 +93,56 @@ impl MibObject for BaseScalar {
     fn next(&self, _world: &World, after: Option<&[u32]>) -> Option<Index> {
         scalar_after(after)
     }
+
+    // It is never written: each test is refused, and reserves nothing.
+    fn test(&mut self, world: &World, at: &[u32], value: &Value) -> Result<Slot, SetFault> {
+        self.slots.reserve(assignment_by(None, world, at, value))
+    }
+
+    fn commit(&mut self, world: &mut World, slot: Slot) -> Result<(), DeviceFault> {
+        self.slots.commit(world, slot);
+        Ok(())
+    }
+
+    fn undo(&mut self, world: &mut World, slot: Slot) -> Result<(), DeviceFault> {
+        world.put_setting(slot.key, self.slots.before(slot));
+        Ok(())
+    }
+
+    fn release(&mut self) {
+        self.slots.release()
+    }
+
+    fn held(&self) -> usize {
+        self.slots.len()
+    }
 }
 
-/// A column of dot1dBasePortTable, seen as its descriptor.
+/// A column of dot1dBasePortTable, seen as its descriptor, and what it has reserved.
 #[derive(Drop)]
 pub struct BasePortColumn {
     which: BasePort,
+    slots: Slots,
 }
 
 impl Model for BasePortColumn {
     ghost use Rattle.setphase_core.specs.declared.column.BasePort.{BasePort as Descriptor};
+    ghost use Rattle.bridge_mib.specs.Written.{Written};
 
-    ghost Value = { Descriptor };
+    ghost Value = { Written Descriptor };
 
-    ghost view = { λ o. o.which };
+    ghost view = { λ o. record { which = o.which; reserved = o.slots } };
 }
 
 impl BasePortColumn {
     /// The column of this descriptor.
     pub fn new(which: BasePort) -> BasePortColumn
-        ensures { result ≡ which }
+        ensures { result ≡ idle which }
     {
-        BasePortColumn { which }
+        BasePortColumn {
+            which,
+            slots: Slots::new(),
+        }
     }
 }
 
@@ -148,13 +182,12 @@ fn base_port_value(alloc: Global, which: BasePort, bridge: &Bridge, port: u16) -
 }
 
 impl MibObject for BasePortColumn {
-    ghost use Rattle.std.specs.Prelude.{[]};
     ghost use Rattle.setphase_core.specs.Names.{row_of};
     ghost use Rattle.setphase_core.specs.declared.column.Column.TheVariants as column;
 
-    ghost state = { λ which. record {
-      row = row_of (column.BasePort which);
-      reserved = [];
+    ghost state = { λ o. record {
+      row = row_of (column.BasePort o.which);
+      reserved = o.reserved;
       failures = 0;
     } };
 
@@ -171,5 +204,28 @@ impl MibObject for BasePortColumn {
     #[tactic(auto, unfolding(setphase_core::specs::Columns::shown_by))]
     fn next(&self, world: &World, after: Option<&[u32]>) -> Option<Index> {
         port_after(world.bridge.ports(), after)
+    }
+
+    // It is never written: each test is refused, and reserves nothing.
+    fn test(&mut self, world: &World, at: &[u32], value: &Value) -> Result<Slot, SetFault> {
+        self.slots.reserve(assignment_by(None, world, at, value))
+    }
+
+    fn commit(&mut self, world: &mut World, slot: Slot) -> Result<(), DeviceFault> {
+        self.slots.commit(world, slot);
+        Ok(())
+    }
+
+    fn undo(&mut self, world: &mut World, slot: Slot) -> Result<(), DeviceFault> {
+        world.put_setting(slot.key, self.slots.before(slot));
+        Ok(())
+    }
+
+    fn release(&mut self) {
+        self.slots.release()
+    }
+
+    fn held(&self) -> usize {
+        self.slots.len()
     }
 }

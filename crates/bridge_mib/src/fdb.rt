@@ -13,35 +13,43 @@ ghost use Rattle.message_core.specs.declared.value.Value.{Value as AnyValue};
 ghost use Rattle.setphase_core.specs.Names.{tp_fdb_name};
 ghost use Rattle.setphase_core.specs.Values.{by_address, value_at, index_after};
 ghost use Rattle.setphase_core.specs.Columns.{tp_fdb_value};
+ghost use Rattle.bridge_mib.specs.Written.{idle};
 
 use crate::values::{integer, string};
 use fdb_core::{Fdb, Row};
 use frame_core::Mac;
 use message_core::Value;
-use setphase_core::{Index, MibObject, TpFdb, World};
+use setphase_core::{
+    DeviceFault, Index, MibObject, SetFault, Slot, Slots, TpFdb, World, assignment_by,
+};
 use std::alloc::Global;
 use std::marker::Model;
 
-/// A column of dot1dTpFdbTable, seen as its descriptor.
+/// A column of dot1dTpFdbTable, seen as its descriptor, and what it has reserved.
 #[derive(Drop)]
 pub struct FdbColumn {
     which: TpFdb,
+    slots: Slots,
 }
 
 impl Model for FdbColumn {
     ghost use Rattle.setphase_core.specs.declared.column.TpFdb.{TpFdb as Descriptor};
+    ghost use Rattle.bridge_mib.specs.Written.{Written};
 
-    ghost Value = { Descriptor };
+    ghost Value = { Written Descriptor };
 
-    ghost view = { λ o. o.which };
+    ghost view = { λ o. record { which = o.which; reserved = o.slots } };
 }
 
 impl FdbColumn {
     /// The column of this descriptor.
     pub fn new(which: TpFdb) -> FdbColumn
-        ensures { result ≡ which }
+        ensures { result ≡ idle which }
     {
-        FdbColumn { which }
+        FdbColumn {
+            which,
+            slots: Slots::new(),
+        }
     }
 }
 
@@ -183,13 +191,12 @@ fn value_under(alloc: Global, which: TpFdb, fdb: &Fdb, at: &[u32]) -> Option<Val
 }
 
 impl MibObject for FdbColumn {
-    ghost use Rattle.std.specs.Prelude.{[]};
     ghost use Rattle.setphase_core.specs.Names.{row_of};
     ghost use Rattle.setphase_core.specs.declared.column.Column.TheVariants as column;
 
-    ghost state = { λ which. record {
-      row = row_of (column.TpFdb which);
-      reserved = [];
+    ghost state = { λ o. record {
+      row = row_of (column.TpFdb o.which);
+      reserved = o.reserved;
       failures = 0;
     } };
 
@@ -206,5 +213,28 @@ impl MibObject for FdbColumn {
     fn next(&self, world: &World, after: Option<&[u32]>) -> Option<Index> {
         let row = row_after(world.bridge.fdb(), after)?;
         Some(index_of(row.address))
+    }
+
+    // It is never written: each test is refused, and reserves nothing.
+    fn test(&mut self, world: &World, at: &[u32], value: &Value) -> Result<Slot, SetFault> {
+        self.slots.reserve(assignment_by(None, world, at, value))
+    }
+
+    fn commit(&mut self, world: &mut World, slot: Slot) -> Result<(), DeviceFault> {
+        self.slots.commit(world, slot);
+        Ok(())
+    }
+
+    fn undo(&mut self, world: &mut World, slot: Slot) -> Result<(), DeviceFault> {
+        world.put_setting(slot.key, self.slots.before(slot));
+        Ok(())
+    }
+
+    fn release(&mut self) {
+        self.slots.release()
+    }
+
+    fn held(&self) -> usize {
+        self.slots.len()
     }
 }

@@ -1,29 +1,39 @@
-//! The managed objects of BRIDGE-MIB (RFC 4188) that show a bridge.
+//! The managed objects of BRIDGE-MIB (RFC 4188) that show a bridge, and by which a Set writes it.
 //!
 //! # Entry points
-//! [`BaseScalar`], [`BasePortColumn`]: dot1dBase; [`StpScalar`], [`StpPortColumn`]: dot1dStp;
-//! [`TpScalar`], [`FdbColumn`], [`TpPortColumn`]: dot1dTp. Each is made by `new` of a descriptor,
-//! and is a `MibObject`: it shows its row, whatever was asked of it before.
+//! [`BaseScalar`], [`BasePortColumn`]: dot1dBase; [`StpScalar`], [`StpPortColumn`], [`PortEnable`]:
+//! dot1dStp; [`TpScalar`], [`FdbColumn`], [`TpPortColumn`]: dot1dTp. Each is made by `new` of a
+//! descriptor, and is a `MibObject`: it shows its row, whatever was asked of it before.
+//! `PortEnable` is made of a [`LineDriver`] in place of a descriptor, and tells it what the line of
+//! a port is to be before it writes the setting, whatever the line is already; [`Steady`] never
+//! fails, and [`Planned`] fails by plan.
 //!
 //! # Definitions
-//! What each object shows stands in `setphase_core`: `specs/Columns.antt`, and the objects' names
-//! in
-//! `specs/Names.antt`. [`values`] has the values of both modules, as `rstp_mib` uses them too.
+//! What each object shows stands in `setphase_core`: `specs/Columns.antt`, the objects' names in
+//! `specs/Names.antt`, and how a Set writes each in `specs/Writing.antt`. Here
+//! `specs/Written.antt`: an object that may be written as plain data; `specs/Line.antt`: the same
+//! over a driver, and a driver that fails by plan. [`values`] has the values of both modules, and
+//! [`written`] the rows of their tables of settings, as `rstp_mib` uses them too.
 //!
 //! # Laws
-//! None: each object is its row.
+//! None: each object is its row, what it has reserved, and how often its driver has failed.
 //!
 //! # Not claimed
-//! That a world's settings are in force.
+//! That a world's settings are in force. That a driver switches a line.
 #![tactic(auto)]
 
 mod base;
 mod fdb;
+mod line;
+mod port_enable;
 mod stp;
 mod tp;
 pub mod values;
+pub mod written;
 
 pub use base::{BasePortColumn, BaseScalar};
 pub use fdb::FdbColumn;
+pub use line::{LineDriver, Planned, Steady};
+pub use port_enable::PortEnable;
 pub use stp::{StpPortColumn, StpScalar};
 pub use tp::{TpPortColumn, TpScalar};

@@ -1,39 +1,50 @@
 //! dot1dTp: learned addresses, and what ports pass on (RFC 4188).
-ghost use Rattle.std.specs.Prelude.{◌≡◌, ◌≤◌};
+ghost use Rattle.std.specs.Prelude.{◌≡◌, ◌<◌, ◌≤◌, IfSome};
 ghost use Rattle.bridge_core.specs.Bridge.{port_count};
 ghost use Rattle.setphase_core.specs.Names.{tp_name, tp_port_name};
 ghost use Rattle.setphase_core.specs.Columns.{tp_value, tp_port_value};
+ghost use Rattle.setphase_core.specs.Writing.{writable_of};
+ghost use Rattle.setphase_core.specs.declared.column.Column.TheVariants as column;
+ghost use Rattle.bridge_mib.specs.Written.{idle};
 
 use crate::values::{bridge_setting, integer};
+use crate::written::scalar_of;
 use bridge_core::Bridge;
 use message_core::Value;
 use rstp_core::BridgeKey;
+use rstp_settings::key::{MAX_AGING, MIN_AGING};
 use setphase_core::{
-    Index, MAX_INFO, MibObject, Tp, TpPort, World, is_scalar, port_after, port_at, scalar_after,
+    DeviceFault, Index, MAX_INFO, MibObject, SetFault, Slot, Slots, Tp, TpPort, World, Writable,
+    assignment_by, is_scalar, port_after, port_at, scalar_after,
 };
 use std::alloc::Global;
 use std::marker::Model;
 
-/// A scalar of dot1dTp, seen as its descriptor.
+/// A scalar of dot1dTp, seen as its descriptor, and what it has reserved.
 #[derive(Drop)]
 pub struct TpScalar {
     which: Tp,
+    slots: Slots,
 }
 
 impl Model for TpScalar {
     ghost use Rattle.setphase_core.specs.declared.column.Tp.{Tp as Descriptor};
+    ghost use Rattle.bridge_mib.specs.Written.{Written};
 
-    ghost Value = { Descriptor };
+    ghost Value = { Written Descriptor };
 
-    ghost view = { λ o. o.which };
+    ghost view = { λ o. record { which = o.which; reserved = o.slots } };
 }
 
 impl TpScalar {
     /// The scalar of this descriptor.
     pub fn new(which: Tp) -> TpScalar
-        ensures { result ≡ which }
+        ensures { result ≡ idle which }
     {
-        TpScalar { which }
+        TpScalar {
+            which,
+            slots: Slots::new(),
+        }
     }
 }
 
@@ -55,14 +66,24 @@ fn tp_value(which: Tp, bridge: &Bridge) -> Value
     }
 }
 
+// How a scalar is written: its setting, the least and the most that it takes, and the step.
+fn tp_writable(which: Tp) -> Option<Writable>
+    ensures writable { result ≡ writable_of (column.Tp which) }
+    ensures step { IfSome result (λ w. 0 < w.step) }
+{
+    match which {
+        Tp::LearnedEntryDiscards => None,
+        Tp::AgingTime => scalar_of(BridgeKey::Aging, MIN_AGING, MAX_AGING, 1),
+    }
+}
+
 impl MibObject for TpScalar {
-    ghost use Rattle.std.specs.Prelude.{[]};
     ghost use Rattle.setphase_core.specs.Names.{row_of};
     ghost use Rattle.setphase_core.specs.declared.column.Column.TheVariants as column;
 
-    ghost state = { λ which. record {
-      row = row_of (column.Tp which);
-      reserved = [];
+    ghost state = { λ o. record {
+      row = row_of (column.Tp o.which);
+      reserved = o.reserved;
       failures = 0;
     } };
 
@@ -83,28 +104,56 @@ impl MibObject for TpScalar {
     fn next(&self, _world: &World, after: Option<&[u32]>) -> Option<Index> {
         scalar_after(after)
     }
+
+    fn test(&mut self, world: &World, at: &[u32], value: &Value) -> Result<Slot, SetFault> {
+        self.slots
+            .reserve(assignment_by(tp_writable(self.which), world, at, value))
+    }
+
+    fn commit(&mut self, world: &mut World, slot: Slot) -> Result<(), DeviceFault> {
+        self.slots.commit(world, slot);
+        Ok(())
+    }
+
+    fn undo(&mut self, world: &mut World, slot: Slot) -> Result<(), DeviceFault> {
+        world.put_setting(slot.key, self.slots.before(slot));
+        Ok(())
+    }
+
+    fn release(&mut self) {
+        self.slots.release()
+    }
+
+    fn held(&self) -> usize {
+        self.slots.len()
+    }
 }
 
-/// A column of dot1dTpPortTable, seen as its descriptor.
+/// A column of dot1dTpPortTable, seen as its descriptor, and what it has reserved.
 #[derive(Drop)]
 pub struct TpPortColumn {
     which: TpPort,
+    slots: Slots,
 }
 
 impl Model for TpPortColumn {
     ghost use Rattle.setphase_core.specs.declared.column.TpPort.{TpPort as Descriptor};
+    ghost use Rattle.bridge_mib.specs.Written.{Written};
 
-    ghost Value = { Descriptor };
+    ghost Value = { Written Descriptor };
 
-    ghost view = { λ o. o.which };
+    ghost view = { λ o. record { which = o.which; reserved = o.slots } };
 }
 
 impl TpPortColumn {
     /// The column of this descriptor.
     pub fn new(which: TpPort) -> TpPortColumn
-        ensures { result ≡ which }
+        ensures { result ≡ idle which }
     {
-        TpPortColumn { which }
+        TpPortColumn {
+            which,
+            slots: Slots::new(),
+        }
     }
 }
 
@@ -135,13 +184,12 @@ fn tp_port_value(which: TpPort, bridge: &Bridge, port: u16) -> Value
 }
 
 impl MibObject for TpPortColumn {
-    ghost use Rattle.std.specs.Prelude.{[]};
     ghost use Rattle.setphase_core.specs.Names.{row_of};
     ghost use Rattle.setphase_core.specs.declared.column.Column.TheVariants as column;
 
-    ghost state = { λ which. record {
-      row = row_of (column.TpPort which);
-      reserved = [];
+    ghost state = { λ o. record {
+      row = row_of (column.TpPort o.which);
+      reserved = o.reserved;
       failures = 0;
     } };
 
@@ -158,5 +206,28 @@ impl MibObject for TpPortColumn {
     #[tactic(auto, unfolding(setphase_core::specs::Columns::shown_by))]
     fn next(&self, world: &World, after: Option<&[u32]>) -> Option<Index> {
         port_after(world.bridge.ports(), after)
+    }
+
+    // It is never written: each test is refused, and reserves nothing.
+    fn test(&mut self, world: &World, at: &[u32], value: &Value) -> Result<Slot, SetFault> {
+        self.slots.reserve(assignment_by(None, world, at, value))
+    }
+
+    fn commit(&mut self, world: &mut World, slot: Slot) -> Result<(), DeviceFault> {
+        self.slots.commit(world, slot);
+        Ok(())
+    }
+
+    fn undo(&mut self, world: &mut World, slot: Slot) -> Result<(), DeviceFault> {
+        world.put_setting(slot.key, self.slots.before(slot));
+        Ok(())
+    }
+
+    fn release(&mut self) {
+        self.slots.release()
+    }
+
+    fn held(&self) -> usize {
+        self.slots.len()
     }
 }

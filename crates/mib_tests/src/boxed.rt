@@ -1,6 +1,7 @@
 //! The 51 objects as boxed ones: a registry takes them in the order of their names, and hands each
 //! of them back where it refuses them.
 use crate::walks::say_numbers;
+use bridge_mib::Steady;
 use object_list::{COLUMNS, Object};
 use setphase_core::{Column, MibObject, Registry, RegistryFault, are_named};
 use std::alloc::Global;
@@ -66,8 +67,9 @@ type AnyObject = Box<dyn MibObject + Send>;
 // The objects of columns, boxed.
 fn boxed(alloc: Global, columns: &[Column]) -> Result<Vec<AnyObject>, Fail> {
     let mut objects: Vec<AnyObject> = Vec::new(alloc);
+    let mut driver = Some(Steady);
     for column in columns {
-        objects.push(Box::new(alloc, Object::of(*column))?)?;
+        objects.push(Box::new(alloc, Object::over(*column, &mut driver))?)?;
     }
     Ok(objects)
 }

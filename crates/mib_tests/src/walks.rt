@@ -1,4 +1,5 @@
 //! The text of a walk over all objects.
+use bridge_mib::Steady;
 use message_core::{Binding, Value};
 use object_list::objects;
 use setphase_core::{MibObject, Registry, World};
@@ -83,14 +84,18 @@ fn walk<O: MibObject>(
 
 /// What a walk over all objects of a bridge says, a line for each instance.
 pub fn walk_all(alloc: Global, world: &World) -> Result<Vec<u8>, Fail> {
-    let registry = Registry::new(objects(alloc)?).ok().ok_or("a registry")?;
+    let registry = Registry::new(objects(alloc, Steady)?)
+        .ok()
+        .ok_or("a registry")?;
     walk(alloc, &registry, world)
 }
 
 /// What an object shows under a name: a space, the letter of the type, a space and the value, or
 /// nothing.
 pub fn shown_at(alloc: Global, world: &World, name: &[u32]) -> Result<Vec<u8>, Fail> {
-    let registry = Registry::new(objects(alloc)?).ok().ok_or("a registry")?;
+    let registry = Registry::new(objects(alloc, Steady)?)
+        .ok()
+        .ok_or("a registry")?;
     let mut text = Vec::new(alloc);
     if let Some(value) = registry.read(alloc, world, name) {
         say_value(&value, &mut text)?;

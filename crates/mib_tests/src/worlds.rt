@@ -15,6 +15,18 @@ const OWN: Mac = Mac([0x02, 0x00, 0x00, 0x00, 0x00, 0x0A]);
 // A policy of no rows.
 const NO_POLICY: &str = "contexts = []\ncommunity = []\ngroup = []\naccess = []\nfamily = []\n";
 
+// A policy of no rows but one view, `all`, of all of the bridge.
+const ALL_SEEN: &str = r#"contexts = []
+community = []
+group = []
+access = []
+[[family]]
+view = "all"
+subtree = "1.3.6.1.2.1.17"
+mask = ""
+included = true
+"#;
+
 /// A port of an interface number, a speed in Mb/s, and full duplex or not.
 pub fn port(ifindex: u32, speed: u32, full: bool) -> PortConfig
     requires least { 1 ≤ ifindex }
@@ -29,8 +41,18 @@ pub fn port(ifindex: u32, speed: u32, full: bool) -> PortConfig
 
 /// A bridge of these ports, as it opens, under a policy of no rows.
 pub fn world_of(alloc: Global, ports: &[PortConfig]) -> Result<World, Fail> {
+    world_under(alloc, ports, NO_POLICY)
+}
+
+/// The same under a policy of one view, `all`, in which all of the bridge is.
+pub fn seen_world_of(alloc: Global, ports: &[PortConfig]) -> Result<World, Fail> {
+    world_under(alloc, ports, ALL_SEEN)
+}
+
+// A bridge of these ports, as it opens, under this policy.
+fn world_under(alloc: Global, ports: &[PortConfig], policy: &str) -> Result<World, Fail> {
     let bridge = Bridge::new(alloc, OWN, ports).ok().ok_or("a bridge")?;
-    let policy = policy_in(alloc, NO_POLICY.as_bytes())?.ok_or("a policy")?;
+    let policy = policy_in(alloc, policy.as_bytes())?.ok_or("a policy")?;
     Ok(World {
         bridge,
         policy,

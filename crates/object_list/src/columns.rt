@@ -1,10 +1,11 @@
 //! The list of objects.
 ghost use Rattle.std.specs.Prelude.{◌≡◌, None, IfOk};
 ghost use Rattle.setphase_core.specs.Names.{bridge_rows};
-ghost use Rattle.setphase_core.specs.Registry.{rows_of, first_fault, AreNamed};
+ghost use Rattle.setphase_core.specs.Registry.{rows_of, first_fault, held_count, AreNamed};
 ghost use Rattle.object_list.specs.Objects.{states_of};
 
 use crate::object::Object;
+use bridge_mib::LineDriver;
 use setphase_core::laws::objects_are_accepted;
 use setphase_core::{Base, BasePort, Column, ExtPort, Rapid, Stp, StpPort, Tp, TpFdb, TpPort};
 use std::alloc::{AllocError, Global};
@@ -64,20 +65,24 @@ pub const COLUMNS: [Column; 51] = [
     Column::TpPort(TpPort::InDiscards),
 ];
 
-/// The objects of a bridge in the order of their names.
+/// The objects of a bridge in the order of their names, dot1dStpPortEnable over this driver.
 ///
 /// # Errors
 /// `AllocError` where there is no memory for the list.
-pub fn objects(alloc: Global) -> Result<Vec<Object>, AllocError>
-    ensures all { IfOk result (λ objects. rows_of (states_of objects.items) ≡ bridge_rows) }
+pub fn objects<L: LineDriver>(alloc: Global, driver: L) -> Result<Vec<Object<L>>, AllocError>
+    ensures all { IfOk result (λ objects.
+        rows_of (states_of L.failures objects.items) ≡ bridge_rows) }
+    ensures idle { IfOk result (λ objects. held_count (states_of L.failures objects.items) ≡ 0) }
     // So they make a registry.
-    ensures named { IfOk result (λ objects. AreNamed (rows_of (states_of objects.items))) }
+    ensures named { IfOk result (λ objects.
+        AreNamed (rows_of (states_of L.failures objects.items))) }
     ensures accepted { IfOk result (λ objects.
-        first_fault (rows_of (states_of objects.items)) ≡ None) }
+        first_fault (rows_of (states_of L.failures objects.items)) ≡ None) }
 {
+    let mut driver = Some(driver);
     let mut objects = Vec::new(alloc);
     for column in COLUMNS {
-        objects.push(Object::of(column))?;
+        objects.push(Object::over(column, &mut driver))?;
     }
     objects_are_accepted();
     Ok(objects)

@@ -2,19 +2,20 @@
 //! all of them.
 //!
 //! # Entry points
-//! [`Object`]: a managed object of any of the nine kinds, by `of` a column. [`COLUMNS`]: the
-//! columns of the 51 objects in the order of their names; [`objects`]: the objects themselves, of
-//! which
-//! `Registry::new` makes a registry.
+//! [`Object`]: a managed object of any of the nine kinds, by `of` a column, or by `over` a column
+//! and a driver, which dot1dStpPortEnable takes. [`COLUMNS`]: the columns of the 51 objects in the
+//! order of their names; [`objects`]: the objects themselves, dot1dStpPortEnable over a driver, of
+//! which `Registry::new` makes a registry.
 //!
 //! # Definitions
-//! `specs/Objects.antt`: the column of an object, and so what it is to a registry.
+//! `specs/Objects.antt`: the column of an object, and what it is to a registry.
 //!
 //! # Laws
-//! On [`objects`]: their rows are those of all objects, and they make a registry.
+//! On [`objects`]: their rows are those of all objects, they have reserved nothing, and they make a
+//! registry.
 //!
 //! # Not claimed
-//! That there is memory for the list.
+//! That there is memory for the list. That dot1dStpPortEnable among [`objects`] is over the driver.
 #![tactic(auto)]
 
 mod columns;

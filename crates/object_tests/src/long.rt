@@ -5,7 +5,10 @@ use crate::registry::number_at;
 use crate::worlds::opening_world;
 use message_core::Value;
 use oid_core::MAX_NUMBERS;
-use setphase_core::{Index, MAX_INDEX, MibObject, Registry, World, scalar_after};
+use setphase_core::{
+    DeviceFault, Index, MAX_INDEX, MibObject, Registry, SetFault, Slot, Slots, World,
+    assignment_by, scalar_after,
+};
 use std::alloc::Global;
 use std::test::Fail;
 
@@ -13,16 +16,16 @@ use std::test::Fail;
 #[derive(Drop)]
 struct Long {
     name: Vec<u32>,
+    slots: Slots,
 }
 
 impl MibObject for Long {
-    ghost use Rattle.std.specs.Prelude.{[]};
     ghost use Rattle.setphase_core.specs.declared.column.Base.TheVariants as base;
     ghost use Rattle.setphase_core.specs.declared.column.Column.TheVariants as column;
 
     ghost state = { λ o. record {
       row = record { prefix = o.name.items; column = column.Base base.Type };
-      reserved = [];
+      reserved = o.slots;
       failures = 0;
     } };
 
@@ -39,6 +42,29 @@ impl MibObject for Long {
     fn next(&self, _world: &World, after: Option<&[u32]>) -> Option<Index> {
         scalar_after(after)
     }
+
+    // It is never written: each test is refused, and reserves nothing.
+    fn test(&mut self, world: &World, at: &[u32], value: &Value) -> Result<Slot, SetFault> {
+        self.slots.reserve(assignment_by(None, world, at, value))
+    }
+
+    fn commit(&mut self, world: &mut World, slot: Slot) -> Result<(), DeviceFault> {
+        self.slots.commit(world, slot);
+        Ok(())
+    }
+
+    fn undo(&mut self, world: &mut World, slot: Slot) -> Result<(), DeviceFault> {
+        world.put_setting(slot.key, self.slots.before(slot));
+        Ok(())
+    }
+
+    fn release(&mut self) {
+        self.slots.release()
+    }
+
+    fn held(&self) -> usize {
+        self.slots.len()
+    }
 }
 
 // The object of a name of so many numbers below 1.3.
@@ -47,7 +73,10 @@ fn long_object(alloc: Global, numbers: usize) -> Result<Long, Fail> {
     for _ in 2..numbers {
         name.push(1)?;
     }
-    Ok(Long { name })
+    Ok(Long {
+        name,
+        slots: Slots::new(),
+    })
 }
 
 // The length of the first name that an object shows, and the number that stands under it.

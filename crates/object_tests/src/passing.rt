@@ -41,7 +41,8 @@ fn open_after<O: MibObject, L: Ledger>(
     requires some { 0 < blank.parts }
 {
     let mut steps: Steps<L> = Steps::new(blank);
-    match registry.next_open(alloc, world, name, &Hidden(hidden), &mut steps)? {
+    let mut near = 0;
+    match registry.next_open(alloc, world, name, &mut near, &Hidden(hidden), &mut steps)? {
         Some(Binding { name, value: _ }) => match name.as_slice() {
             [_, _, object, index] => Ok((*object, *index)),
             _ => Ok((0, 0)),

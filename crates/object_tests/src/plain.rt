@@ -5,7 +5,10 @@ ghost use Rattle.setphase_core.specs.Values.{scalar, by_port, value_at};
 ghost use Rattle.setphase_core.specs.Columns.{number};
 
 use message_core::Value;
-use setphase_core::{Index, MibObject, World, is_scalar, port_after, port_at, scalar_after};
+use setphase_core::{
+    DeviceFault, Index, MibObject, SetFault, Slot, Slots, World, assignment_by, is_scalar,
+    port_after, port_at, scalar_after,
+};
 use std::alloc::Global;
 
 /// dot1dBaseType or dot1dBasePort, under a name of three numbers.
@@ -13,10 +16,11 @@ use std::alloc::Global;
 pub struct Plain {
     pub name: [u32; 3],
     pub by_port: bool,
+    pub slots: Slots,
 }
 
 impl MibObject for Plain {
-    ghost use Rattle.std.specs.Prelude.{[], if◌then◌else◌};
+    ghost use Rattle.std.specs.Prelude.{if◌then◌else◌};
     ghost use Rattle.setphase_core.specs.declared.column.Base.TheVariants as base;
     ghost use Rattle.setphase_core.specs.declared.column.BasePort.TheVariants as base_port;
     ghost use Rattle.setphase_core.specs.declared.column.Column.TheVariants as column;
@@ -26,7 +30,7 @@ impl MibObject for Plain {
         prefix = o.name;
         column = if o.by_port then column.BasePort base_port.Port else column.Base base.Type;
       };
-      reserved = [];
+      reserved = o.slots;
       failures = 0;
     } };
 
@@ -50,6 +54,29 @@ impl MibObject for Plain {
         } else {
             scalar_after(after)
         }
+    }
+
+    // It is never written: each test is refused, and reserves nothing.
+    fn test(&mut self, world: &World, at: &[u32], value: &Value) -> Result<Slot, SetFault> {
+        self.slots.reserve(assignment_by(None, world, at, value))
+    }
+
+    fn commit(&mut self, world: &mut World, slot: Slot) -> Result<(), DeviceFault> {
+        self.slots.commit(world, slot);
+        Ok(())
+    }
+
+    fn undo(&mut self, world: &mut World, slot: Slot) -> Result<(), DeviceFault> {
+        world.put_setting(slot.key, self.slots.before(slot));
+        Ok(())
+    }
+
+    fn release(&mut self) {
+        self.slots.release()
+    }
+
+    fn held(&self) -> usize {
+        self.slots.len()
     }
 }
 
@@ -82,5 +109,6 @@ pub fn make_plain(last: u32, by_port: bool) -> Plain
     Plain {
         name: [1, 3, last],
         by_port,
+        slots: Slots::new(),
     }
 }

@@ -3,9 +3,9 @@
 //! the bridge and its ports, which no setting changes.
 //!
 //! # Entry points
-//! [`settings::Settings`] with `get` and `put` by [`key::Key`], and `copy`; [`config::PortConfig`],
-//! its interface number [`config::IfIndex`], and [`config::BridgeConfig`]. Nothing here takes
-//! memory.
+//! [`settings::Settings`] with `get` and `put` by [`key::Key`], `copy` and `is_same`;
+//! [`config::PortConfig`], its interface number [`config::IfIndex`], and [`config::BridgeConfig`].
+//! Nothing here takes memory.
 //!
 //! # Definitions
 //! `specs/Table.antt`: the map; `specs/Values.antt`: ranges and steps; `specs/Config.antt`: what a

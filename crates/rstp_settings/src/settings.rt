@@ -1,5 +1,5 @@
 //! The settings of a bridge as a finite map.
-ghost use Rattle.std.specs.Prelude.{◌≡◌, ◌≤◌, ◌<◌, length, replicate, map};
+ghost use Rattle.std.specs.Prelude.{◌≡◌, ◌↔◌, ◌≤◌, ◌<◌, length, replicate, map, IsTrue};
 ghost use Rattle.rstp_settings.specs.Table.{get, put, HasKey, IsInRange, opening, opening_port, without_migration_checks, without_migration_check};
 ghost use Rattle.rstp_settings.specs.Values.{bridge_value, with_bridge_value, port_value, with_port_value};
 
@@ -144,6 +144,13 @@ impl Settings {
             bridge: self.bridge,
             ports: copied(self.ports.as_slice()),
         }
+    }
+
+    /// Whether the settings are equal, for whether a Set changed anything.
+    pub fn is_same(&self, other: &Settings) -> bool
+        ensures { IsTrue result ↔ (self.now ≡ other.now) }
+    {
+        self.bridge == other.bridge && self.ports.as_slice() == other.ports.as_slice()
     }
 
     /// Puts each protocol migration check to 0, and changes no other setting.

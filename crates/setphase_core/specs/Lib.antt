@@ -2,9 +2,15 @@ pub mod Settings
 pub mod Values
 pub mod Columns
 pub mod Objects
+pub mod Writing
 pub mod Names
 pub mod Searching
 pub mod Registry
 pub mod Passing
 pub mod Opening
 pub mod InUse
+pub mod Variables
+pub mod Together
+pub mod Outcomes
+pub mod Staging
+pub mod Tested

@@ -64,3 +64,8 @@ instances rows w = flat_map (λ row. instances_under row w) rows
 -- The instance that is found, if one is, has a name that takes no memory.
 abbrev pub HasShortName : Option Binding → Type 0
 HasShortName found = IfSome found (λ b. length b.name ≤ INLINE_NUMBERS)
+
+-- How many slots the objects have reserved.
+abbrev pub held_count : List ObjectState → ℕ
+held_count [] = 0
+held_count (o ∷ os) = length o.reserved + held_count os

@@ -1,6 +1,6 @@
 -- The settings of a world as one finite map from keys to values (RFC 4188, RFC 4318; IEEE
 -- 802.1D-2004 17.13, 17.14).
-use Rattle.std.specs.Prelude.{Bool}
+use Rattle.std.specs.Prelude.{Bool, ◌==◌}
 use Rattle.rstp_settings.specs.Table.{Table, get, HasKey, IsInRange, same_key}
 use Rattle.setting_keys.specs.declared.SettingKey.{SettingKey}
 use Rattle.setting_keys.specs.declared.SettingKey.TheVariants.{Bridge}
@@ -27,6 +27,9 @@ IsSettingInRange (Bridge k) (Number n) = IsInRange k n
 
 abbrev pub same_setting : SettingKey → SettingKey → Bool
 same_setting (Bridge k) (Bridge l) = same_key k l
+
+abbrev pub same_value : SettingValue → SettingValue → Bool
+same_value (Number n) (Number m) = n == m
 
 -- The same world but for its settings.
 abbrev pub with_settings : World → Table → World

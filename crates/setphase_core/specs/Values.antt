@@ -1,5 +1,5 @@
 -- What an object shows: values by index (RFC 2578, section 7.7). Indexes are in the order of names.
-use Rattle.std.specs.Prelude.{ℕ, ◌+◌, List, [], ◌∷◌, map, find, slice_get, Option, Some, None}
+use Rattle.std.specs.Prelude.{ℕ, ◌+◌, nat_le, ◌&&◌, if◌then◌else◌, List, [], ◌∷◌, map, find, slice_get, Option, Some, None}
 use Rattle.std.specs.Option.{option_map}
 use Rattle.std.proofs.Common.{zero, suc}
 use Rattle.fdb_core.specs.declared.row.Row.{Row}
@@ -23,6 +23,11 @@ numbers_from first (suc count) = first ∷ numbers_from (first + 1) count
 -- The instances of a table of so many ports have the ports' numbers for index, from 1 on.
 abbrev pub by_port : ℕ → (ℕ → Value) → List IndexedValue
 by_port count f = map (λ n. record { index = n ∷ []; value = f n }) (numbers_from 1 count)
+
+-- The port, of so many, whose number is an index.
+abbrev pub port_index : ℕ → List ℕ → Option ℕ
+port_index count (n ∷ []) = if nat_le 1 n && nat_le n count then Some n else None
+port_index count at = None
 
 -- The instances of a table of learned addresses have the six octets of the address for index.
 abbrev pub by_address : List Row → (Row → Value) → List IndexedValue

@@ -1,6 +1,6 @@
 //! A boxed object is an object.
 
-use crate::object::{Index, MibObject};
+use crate::object::{DeviceFault, Index, MibObject, SetFault, Slot};
 use crate::world::World;
 use message_core::Value;
 use std::alloc::Global;
@@ -18,5 +18,29 @@ impl MibObject for Box<dyn MibObject + Send> {
 
     fn next(&self, world: &World, after: Option<&[u32]>) -> Option<Index> {
         (**self).next(world, after)
+    }
+
+    fn test(&mut self, world: &World, at: &[u32], value: &Value) -> Result<Slot, SetFault> {
+        (**self).test(world, at, value)
+    }
+
+    fn commit(&mut self, world: &mut World, slot: Slot) -> Result<(), DeviceFault> {
+        (**self).commit(world, slot)
+    }
+
+    fn undo(&mut self, world: &mut World, slot: Slot) -> Result<(), DeviceFault> {
+        (**self).undo(world, slot)
+    }
+
+    fn release(&mut self) {
+        (**self).release()
+    }
+
+    fn held(&self) -> usize {
+        (**self).held()
+    }
+
+    fn arm(&mut self, plan: u64) {
+        (**self).arm(plan)
     }
 }

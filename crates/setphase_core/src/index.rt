@@ -1,8 +1,9 @@
 //! The indexes of scalars and of tables of ports, as the objects that show them read and give them.
 ghost use Rattle.std.specs.Prelude.{◌≡◌, ◌≤◌, ℕ, [], ◌∷◌, if◌then◌else◌, Some, None, IfSome, slice_get, unwrap_or};
 ghost use Rattle.std.specs.Option.{option_copied, option_map};
+ghost use Rattle.oid_core.specs.Order.{name_eq};
 ghost use Rattle.message_core.specs.declared.value.Value.{Value as AnyValue};
-ghost use Rattle.setphase_core.specs.Values.{scalar, by_port, value_at, index_after};
+ghost use Rattle.setphase_core.specs.Values.{scalar, by_port, port_index, value_at, index_after};
 
 use crate::object::Index;
 use oid_core::same_name;
@@ -19,7 +20,9 @@ fn one_number(number: u32) -> Index
 
 /// Whether an index is that of a scalar's instance.
 pub fn is_scalar(at: &[u32]) -> bool
-    ensures { (v : AnyValue) → value_at (scalar v) at.now ≡ (if result then Some v else None) }
+    ensures value { (v : AnyValue) → value_at (scalar v) at.now
+        ≡ (if result then Some v else None) }
+    ensures index { result ≡ name_eq (0 ∷ []) at.now }
 {
     same_name(&[0], at)
 }
@@ -39,6 +42,7 @@ pub fn scalar_after(after: Option<&[u32]>) -> Option<Index>
 pub fn port_at(ports: usize, at: &[u32]) -> Option<u16>
     requires { ports ≤ MAX_PORTS }
     ensures value { (f : ℕ → AnyValue) → value_at (by_port ports f) at.now ≡ option_map f result }
+    ensures number { result ≡ port_index ports at.now }
     ensures range { IfSome result (λ n. (1 ≤ n) × (n ≤ ports)) }
 {
     match at {

@@ -17,7 +17,7 @@ ghost use Rattle.setphase_core.specs.Passing.{open_instances, passed_after, Pass
 ghost use Rattle.setphase_core.specs.Opening.{opening_world, opening_instances};
 ghost use Rattle.setphase_core.specs.InUse.{world_in_use, instances_in_use};
 
-use crate::limits::{MAX_COST, MAX_INDEX, MAX_INFO, MAX_PATH_COST, MAX_SLOTS};
+use crate::limits::{MAX_COST, MAX_INDEX, MAX_INFO, MAX_PATH_COST, MAX_SLOTS, MAX_VARIABLES};
 
 /// A setting has the value that it was last given, and each other setting the one it had.
 pub fn setting_after_put()
@@ -115,10 +115,11 @@ pub fn bridge_in_use_shows_135()
         → instances bridge_rows (world_in_use policy) ≡ instances_in_use }
 {}
 
-/// The limits of objects and of what they show.
+/// The limits of objects, of what they show, and of a Set.
 pub fn limits_are_fixed()
     ensures index { MAX_INDEX ≡ 8 }
     ensures slots { MAX_SLOTS ≡ 64 }
+    ensures variables { MAX_VARIABLES ≡ 64 }
     ensures cost { MAX_COST ≡ 2147483647 }
     ensures path_cost { MAX_PATH_COST ≡ 65535 }
     ensures info { MAX_INFO ≡ 1500 }

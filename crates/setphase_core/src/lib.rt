@@ -3,20 +3,27 @@
 //!
 //! # Entry points
 //! [`World`]: the bridge, the policy, and what was dropped, with `get_setting` and `put_setting` by
-//! key. [`MibObject`]: a managed object, with `prefix`, `read` and `next`; a boxed one is one too.
+//! key. [`MibObject`]: a managed object: what it shows, by `prefix`, `read` and `next`; and what a
+//! Set does to it, by `test`, `commit`, `undo`, `release`, `held` and `arm`; a boxed one is one too.
 //! [`Registry`]: objects by rising name, with `owner`, `owner_steps`, `read`, `next`, and
 //! `next_open`, which passes over objects as a whole by a test of their names, a [`Passing`];
-//! `known` hands on that no object's name begins another's and that what they show can be served.
-//! [`are_named`]: whether objects have names that a registry asks for, of objects of which nothing
-//! else is known.
-//! [`is_scalar`], [`scalar_after`], [`port_at`], [`port_after`]: the indexes of scalars and ports,
-//! for those who write objects.
+//! `known` hands on that no object's name begins another's and that what they show can be served;
+//! `held`, `release` and `arm` of all objects. [`are_named`]: whether objects have names that a
+//! registry asks for, of objects of which nothing else is known.
+//! [`run_set`]: a Set over a registry and a world, all its variables or none, told as a
+//! [`SetOutcome`], with its [`Refusal`]; [`Staging`]: its steps.
+//! [`is_scalar`], [`scalar_after`], [`port_at`], [`port_after`]: the indexes of scalars and ports;
+//! [`Writable`], [`assignment_by`], [`Slots`]: how an object is written, what a variable of it
+//! writes, and what it reserved; for those who write objects.
 //!
 //! # Definitions
 //! `specs/Settings.antt`: the settings of a world as a finite map; `specs/Columns.antt`: what each
-//! object shows, row by row; `specs/Names.antt`: the objects' names; `specs/Values.antt`: values by
-//! index; `specs/Objects.antt`: an object as plain data; `specs/Registry.antt`: the order of
-//! objects, and all their instances; `specs/Searching.antt`: where a name stands among those of
+//! object shows, row by row; `specs/Writing.antt`: how each is written; `specs/Names.antt`: the
+//! objects' names; `specs/Values.antt`: values by index; `specs/Objects.antt`: an object as plain
+//! data; `specs/Registry.antt`: the order of objects, and all their instances;
+//! `specs/Variables.antt`, `specs/Together.antt`: why a Set is refused, by its variables one by one
+//! and together; `specs/Outcomes.antt`: how it ends; `specs/Staging.antt`, `specs/Tested.antt`:
+//! what stands between its steps; `specs/Searching.antt`: where a name stands among those of
 //! objects; `specs/Passing.antt`: the objects that a walk does not pass over, and how many it does;
 //! `specs/Opening.antt`: all that a bridge of two ports shows as it opens; `specs/InUse.antt`: all
 //! that a bridge of four ports shows, made by hand as if in use.
@@ -31,13 +38,17 @@
 //! use, most of whose facts differ from one another.
 //!
 //! # Not claimed
-//! That changed settings are in force: `Bridge::settle` comes behind them. That the objects of a
-//! program are the 51. dot1dStaticTable (RFC 4188, 1.3.6.1.2.1.17.5.1) is left out: no address is
+//! That changed settings are in force: `Bridge::settle` comes behind them. Which of several
+//! variables of one object is told where one of its calls failed. That a plan reaches a device. That
+//! the objects of a program are the 51. dot1dStaticTable (RFC 4188, 1.3.6.1.2.1.17.5.1) is left out: no address is
 //! configured, so it would have no rows.
 #![tactic(auto)]
 
 mod boxed;
+mod changing;
 mod column;
+mod committing;
+mod held;
 mod index;
 pub mod laws;
 mod limits;
@@ -46,14 +57,23 @@ mod object;
 mod passing;
 mod registry;
 mod search;
+mod sets;
+mod slots;
+mod staging;
+mod testing;
 mod walk;
 mod world;
+mod writable;
 
 pub use column::{Base, BasePort, Column, ExtPort, Rapid, Stp, StpPort, Tp, TpFdb, TpPort};
 pub use index::{is_scalar, port_after, port_at, scalar_after};
-pub use limits::{MAX_COST, MAX_INDEX, MAX_INFO, MAX_PATH_COST, MAX_SLOTS};
+pub use limits::{MAX_COST, MAX_INDEX, MAX_INFO, MAX_PATH_COST, MAX_SLOTS, MAX_VARIABLES};
 pub use named::are_named;
-pub use object::{DeviceFault, Index, MibObject, Reservation, SetFault, Slot};
+pub use object::{Assignment, DeviceFault, Index, MibObject, Reservation, SetFault, Slot};
 pub use passing::Passing;
 pub use registry::{Registry, RegistryFault};
+pub use sets::{Refusal, SetOutcome, run_set};
+pub use slots::Slots;
+pub use staging::{Staged, Staging, Standing, TestedVariable, VariableFault};
 pub use world::World;
+pub use writable::{Target, Writable, assignment_by};

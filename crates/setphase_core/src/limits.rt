@@ -6,6 +6,9 @@ pub const MAX_INDEX: usize = 8;
 /// The most slots that an object reserves for one Set.
 pub const MAX_SLOTS: usize = 64;
 
+/// The most variables of one Set.
+pub const MAX_VARIABLES: usize = 64;
+
 /// The greatest cost of a path that is shown: the greatest INTEGER (RFC 2578, 7.1.1).
 pub const MAX_COST: u32 = 2_147_483_647;
 

@@ -1,5 +1,5 @@
 //! A managed object, as the registry sees each of them.
-ghost use Rattle.std.specs.Prelude.{◌≡◌};
+ghost use Rattle.std.specs.Prelude.{◌≡◌, length, slice_get, Some, IfOk, OnOk, OnErr};
 ghost use Rattle.std.specs.Option.{option_copied, option_map};
 
 use crate::limits::MAX_INDEX;
@@ -12,6 +12,15 @@ use thiserror::Error;
 
 /// What follows an object's name in the name of an instance (RFC 2578, 7.7).
 pub type Index = ArrayVec<u32, MAX_INDEX>;
+
+/// What a variable of a Set writes: a setting, and what it is to get.
+#[derive(Clone, Copy, Debug, Default, PartialEq, Eq)]
+pub struct Assignment {
+    /// The setting.
+    pub key: SettingKey,
+    /// What it is to get.
+    pub value: SettingValue,
+}
 
 /// What a test reserves: a setting, what it is to get, and one of the object's places.
 #[derive(Clone, Copy, Debug, Default, PartialEq, Eq)]
@@ -72,12 +81,15 @@ pub enum SetFault {
 #[error("the device did not take the setting")]
 pub struct DeviceFault;
 
-/// A managed object: a name, and what it shows of a world by index. None of its calls changes what
-/// it shows of a given world.
+/// A managed object: a name, what it shows of a world by index, and the slots that it has reserved
+/// for the Set that is being made. None of its calls changes what it shows of a given world.
 pub trait MibObject: Drop {
-    ghost use Rattle.setphase_core.specs.Objects.{ObjectState};
+    ghost use Rattle.setting_keys.specs.declared.SettingValue.{SettingValue as AnySetting};
+    ghost use Rattle.setphase_core.specs.Objects.{ObjectState, IsReserved, IsCommitted, reserve, committed, released, failed_once, made};
+    ghost use Rattle.setphase_core.specs.Settings.{setting, put, IsSettingInRange};
     ghost use Rattle.setphase_core.specs.Columns.{shown_by};
     ghost use Rattle.setphase_core.specs.Values.{value_at, index_after};
+    ghost use Rattle.setphase_core.specs.Writing.{test_answer};
 
     // Its name and what it shows, what it has reserved, and how often its device has failed.
     ghost state: { Self → ObjectState };
@@ -95,4 +107,58 @@ pub trait MibObject: Drop {
         ensures { option_map (λ index. index.items) result
             ≡ index_after (shown_by (state self.now).row.column world.now)
             (option_copied after.entry) };
+
+    /// Tests the variable of this index, and reserves the next of its places for it (RFC 3416,
+    /// 4.2.5). It takes no memory.
+    ///
+    /// # Errors
+    /// The first fault of the variable; `ResourceUnavailable` where it has none and all places are
+    /// taken. Nothing is reserved then.
+    fn test(&mut self, world: &World, at: &[u32], value: &Value) -> Result<Slot, SetFault>
+        ensures answer { result ≡ test_answer (state self.old).row.column world.now
+            (state self.old).reserved at.now value.now }
+        ensures reserved { IfOk result (λ slot. state self.new ≡ reserve (state self.old) slot) }
+        ensures refused { OnErr result (state self.new ≡ state self.old) };
+
+    /// Gives the setting of a reserved slot its value, and keeps the one before. It takes no
+    /// memory.
+    ///
+    /// # Errors
+    /// The object's device did not take it: its failures are one more, and nothing else changed.
+    fn commit(&mut self, world: &mut World, slot: Slot) -> Result<(), DeviceFault>
+        requires { IsReserved world.old (state self.old) slot }
+        ensures put { OnOk result (world.new ≡ put world.old slot.key slot.value) }
+        ensures kept { OnOk result
+            (state self.new ≡ committed (state self.old) slot (setting world.old slot.key)) }
+        ensures before { OnOk result (IsSettingInRange slot.key (setting world.old slot.key)) }
+        ensures unchanged { OnErr result (world.new ≡ world.old) }
+        ensures failed { OnErr result (state self.new ≡ failed_once (state self.old)) };
+
+    /// Gives the setting of a committed slot back what it had before the commit, whatever became of
+    /// other settings since. It takes no memory.
+    ///
+    /// # Errors
+    /// The object's device did not take it: its failures are one more, and nothing else changed.
+    fn undo(&mut self, world: &mut World, slot: Slot) -> Result<(), DeviceFault>
+        requires { (before : AnySetting) × IsCommitted world.old (state self.old) slot before }
+        ensures put { OnOk result ((before : AnySetting)
+            → slice_get (state self.old).reserved slot.place ≡ Some (made slot before)
+            → world.new ≡ put world.old slot.key before) }
+        ensures kept { OnOk result (state self.new ≡ state self.old) }
+        ensures unchanged { OnErr result (world.new ≡ world.old) }
+        ensures failed { OnErr result (state self.new ≡ failed_once (state self.old)) };
+
+    /// Drops all slots.
+    fn release(&mut self)
+        ensures { state self.new ≡ released (state self.old) };
+
+    /// How many slots are reserved.
+    fn held(&self) -> usize
+        ensures { result ≡ length (state self.now).reserved };
+
+    /// Hands a plan down to the object's device: bit k - 1 says that its k-th call from now fails.
+    /// An object without a device does nothing. It takes no memory.
+    fn arm(&mut self, _plan: u64)
+        ensures { state self.new ≡ state self.old }
+    {}
 }

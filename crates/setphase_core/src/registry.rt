@@ -7,7 +7,7 @@ ghost use Rattle.setphase_core.specs.Passing.{open_instances, passed_after, pass
 
 use crate::object::MibObject;
 use crate::passing::{Passing, next_open_from};
-use crate::search::{owner_name, place_of, place_uncounted, start_of, value_there};
+use crate::search::{owner_name, place_near, place_of, place_uncounted, start_of, value_there};
 use crate::walk::next_from;
 use crate::world::World;
 use message_core::{Binding, Value};
@@ -33,7 +33,7 @@ pub enum RegistryFault {
 /// their states.
 #[derive(Drop)]
 pub struct Registry<O: MibObject> {
-    objects: Vec<O>,
+    pub(crate) objects: Vec<O>,
 }
 
 impl<O: MibObject> Model for Registry<O> {
@@ -107,7 +107,7 @@ impl<O: MibObject> Registry<O> {
             → IsServable (open_instances passes (rows_of self.now) world.now) }
     {
         let _objects = self.objects.as_slice();
-        let _row = world.bridge.fdb().next_after(None);
+        world.bridge.fdb().known();
     }
 
     /// The name of the object whose name begins a name, where there is one. It takes no memory.
@@ -163,11 +163,15 @@ impl<O: MibObject> Registry<O> {
     /// passed over. It takes memory as `next` does. It is one step, and one for each object that is
     /// passed over between the name and the instance, or the end: so the steps, and the objects
     /// ahead that are to be passed over, are together as many as before, and one more.
+    ///
+    /// `near` may be any number, and only time hangs on it: the place that the last call of a walk
+    /// left there spares this one the search for the object of the name.
     pub fn next_open<P: Passing, L: Ledger>(
         &self,
         alloc: Global,
         world: &World,
         name: &[u32],
+        near: &mut usize,
         passing: &P,
         steps: &mut Steps<L>,
     ) -> Result<Option<Binding>, AllocError>
@@ -181,8 +185,8 @@ impl<O: MibObject> Registry<O> {
             ≡ steps.old + passed_after (P.passes passing.now) (rows_of self.now) name.now + 1 }
     {
         let objects = self.objects.as_slice();
-        let place = place_uncounted::<O, Brand>(objects, name, Blank::new(1));
-        let start = start_of(objects, name, place);
+        let start = start_of(objects, name, place_near(objects, name, *near));
+        *near = start;
         steps.tick();
         next_open_from(alloc, objects, world, name, start, passing, steps)
     }

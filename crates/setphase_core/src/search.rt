@@ -1,5 +1,5 @@
 //! The search for the object of a name, among objects by rising name.
-ghost use Rattle.std.specs.Prelude.{◌≡◌, ◌<◌, ◌≤◌, ◌-◌, ◌+◌, ◌*◌, ◌^◌, length, map, true, None};
+ghost use Rattle.std.specs.Prelude.{◌≡◌, ◌<◌, ◌≤◌, ◌-◌, ◌+◌, ◌*◌, ◌^◌, length, map, true, None, Ok};
 ghost use Rattle.std.specs.Option.{option_copied};
 ghost use Rattle.oid_core.specs.Order.{is_prefix};
 ghost use Rattle.message_core.specs.Instances.{value_of};
@@ -12,6 +12,7 @@ use message_core::Value;
 use oid_core::{begins, precedes};
 use std::alloc::Global;
 use std::cmp::Ordering;
+use std::marker::Brand;
 use std::sync::ledger::{Blank, Ledger};
 use steps::Steps;
 
@@ -78,6 +79,33 @@ pub fn place_uncounted<O: MibObject, L: Ledger>(
 {
     let mut steps: Steps<L> = Steps::new(blank);
     place_of(objects, name, &mut steps)
+}
+
+// Whether the object at this place has a name that begins a name: so that is the name's place.
+fn is_owner<O: MibObject>(objects: &[O], name: &[u32], place: usize) -> bool
+    requires ordered { first_fault (rows_of (map O.state objects.now)) ≡ None }
+    requires within { place < length objects.now }
+    ensures { result ≡ true → IsPlace (prefixes_of (rows_of (map O.state objects.now))) name.now
+        (Ok place) }
+{
+    let prefix = objects[place].prefix();
+    begins(prefix, name)
+}
+
+/// The same, with a look at two places ahead of the search: `near`, and the one behind it. `near`
+/// may be any number; a walk hands in the place that it found last.
+pub fn place_near<O: MibObject>(objects: &[O], name: &[u32], near: usize) -> Result<usize, usize>
+    requires { first_fault (rows_of (map O.state objects.now)) ≡ None }
+    ensures { IsPlace (prefixes_of (rows_of (map O.state objects.now))) name.now result }
+{
+    if near < objects.len() && is_owner(objects, name, near) {
+        return Ok(near);
+    }
+    let behind = near.saturating_add(1);
+    if behind < objects.len() && is_owner(objects, name, behind) {
+        return Ok(behind);
+    }
+    place_uncounted::<O, Brand>(objects, name, Blank::new(1))
 }
 
 /// The name of the object at the place of a name.

@@ -1,0 +1,154 @@
+//! dot1dStpPortEnable over a device that switches lines (RFC 4188).
+ghost use Rattle.std.specs.Prelude.{◌≡◌, ◌+◌, ℕ, [], slice_get, Some, OnOk, OnErr};
+ghost use Rattle.setting_keys.specs.declared.SettingValue.{SettingValue as AnySetting};
+ghost use Rattle.setphase_core.specs.Objects.{IsReserved, IsCommitted, committed, failed_once, made};
+ghost use Rattle.setphase_core.specs.Settings.{setting, put, IsSettingInRange};
+ghost use Rattle.bridge_mib.specs.Line.{state_of, port_enable, is_enabled};
+
+use crate::line::LineDriver;
+use crate::stp::{stp_port_prefix, stp_port_value, stp_port_writable};
+use message_core::Value;
+use rstp_core::{Key, PortKey};
+use setphase_core::{
+    DeviceFault, Index, MibObject, SetFault, Slot, Slots, StpPort, World, assignment_by,
+    port_after, port_at,
+};
+use setting_keys::{SettingKey, SettingValue};
+use std::alloc::Global;
+use std::marker::Model;
+
+/// dot1dStpPortEnable, whose writes switch lines first. It is seen as its driver, and what it has
+/// reserved.
+#[derive(Drop)]
+pub struct PortEnable<L: LineDriver> {
+    driver: L,
+    slots: Slots,
+}
+
+impl<L: LineDriver> Model for PortEnable<L> {
+    ghost use Rattle.bridge_mib.specs.Line.{Driven};
+
+    ghost Value = { Driven L };
+
+    ghost view = { λ o. record { driver = o.driver; reserved = o.slots } };
+}
+
+impl<L: LineDriver> PortEnable<L> {
+    /// The object over this driver.
+    pub fn new(driver: L) -> PortEnable<L>
+        ensures { result ≡ record { driver = driver; reserved = [] } }
+    {
+        PortEnable {
+            driver,
+            slots: Slots::new(),
+        }
+    }
+
+    // Tells the driver what the line of the port whose setting this is is to be. No other setting
+    // is ever reserved.
+    fn tell(&mut self, key: SettingKey, value: SettingValue) -> Result<(), DeviceFault>
+        ensures reserved { self.new.reserved ≡ self.old.reserved }
+        ensures told { (port : ℕ) → key ≡ port_enable port
+            → L.told self.old.driver port (is_enabled value) result self.new.driver }
+        ensures done { OnOk result (L.failures self.new.driver ≡ L.failures self.old.driver) }
+        ensures failed { OnErr result
+            (L.failures self.new.driver ≡ L.failures self.old.driver + 1) }
+    {
+        match key {
+            SettingKey::Bridge(Key::Port(port, PortKey::Enable)) => {
+                self.driver.set_enabled(port, is_enabled(value))
+            }
+            _ => Ok(()),
+        }
+    }
+}
+
+// Whether a value of dot1dStpPortEnable is enabled (RFC 4188).
+fn is_enabled(value: SettingValue) -> bool
+    ensures { result ≡ is_enabled value }
+{
+    value == SettingValue::Number(1)
+}
+
+impl<L: LineDriver> MibObject for PortEnable<L> {
+    ghost use Rattle.bridge_mib.specs.Line.{state_of};
+
+    ghost state = { state_of L.failures };
+
+    fn prefix(&self) -> &[u32] {
+        stp_port_prefix(StpPort::Enable)
+    }
+
+    #[tactic(auto, unfolding(setphase_core::specs::Columns::shown_by))]
+    fn read(&self, alloc: Global, world: &World, at: &[u32]) -> Option<Value> {
+        let port = port_at(world.bridge.ports(), at)?;
+        Some(stp_port_value(alloc, StpPort::Enable, &world.bridge, port))
+    }
+
+    #[tactic(auto, unfolding(setphase_core::specs::Columns::shown_by))]
+    fn next(&self, world: &World, after: Option<&[u32]>) -> Option<Index> {
+        port_after(world.bridge.ports(), after)
+    }
+
+    fn test(&mut self, world: &World, at: &[u32], value: &Value) -> Result<Slot, SetFault> {
+        let writable = stp_port_writable(StpPort::Enable);
+        self.slots
+            .reserve(assignment_by(writable, world, at, value))
+    }
+
+    fn commit(&mut self, world: &mut World, slot: Slot) -> Result<(), DeviceFault>
+        requires { IsReserved world.old (state_of L.failures self.old) slot }
+        ensures put { OnOk result (world.new ≡ put world.old slot.key slot.value) }
+        ensures kept { OnOk result (state_of L.failures self.new
+            ≡ committed (state_of L.failures self.old) slot (setting world.old slot.key)) }
+        ensures before { OnOk result (IsSettingInRange slot.key (setting world.old slot.key)) }
+        ensures unchanged { OnErr result (world.new ≡ world.old) }
+        ensures failed { OnErr result
+            (state_of L.failures self.new ≡ failed_once (state_of L.failures self.old)) }
+        // The driver is told, whatever the line is already.
+        ensures told { (port : ℕ) → slot.key ≡ port_enable port
+            → L.told self.old.driver port (is_enabled slot.value) result self.new.driver }
+    {
+        self.tell(slot.key, slot.value)?;
+        self.slots.commit(world, slot);
+        Ok(())
+    }
+
+    fn undo(&mut self, world: &mut World, slot: Slot) -> Result<(), DeviceFault>
+        requires { (before : AnySetting)
+            × IsCommitted world.old (state_of L.failures self.old) slot before }
+        ensures put { OnOk result ((before : AnySetting)
+            → slice_get self.old.reserved slot.place ≡ Some (made slot before)
+            → world.new ≡ put world.old slot.key before) }
+        ensures kept { OnOk result
+            (state_of L.failures self.new ≡ state_of L.failures self.old) }
+        ensures unchanged { OnErr result (world.new ≡ world.old) }
+        ensures failed { OnErr result
+            (state_of L.failures self.new ≡ failed_once (state_of L.failures self.old)) }
+        // The driver is told, whatever the line is already.
+        ensures told { (before : AnySetting) (port : ℕ)
+            → slice_get self.old.reserved slot.place ≡ Some (made slot before)
+            → slot.key ≡ port_enable port
+            → L.told self.old.driver port (is_enabled before) result self.new.driver }
+    {
+        let before = self.slots.before(slot);
+        self.tell(slot.key, before)?;
+        world.put_setting(slot.key, before);
+        Ok(())
+    }
+
+    fn release(&mut self) {
+        self.slots.release()
+    }
+
+    fn held(&self) -> usize {
+        self.slots.len()
+    }
+
+    fn arm(&mut self, plan: u64)
+        ensures kept { state_of L.failures self.new ≡ state_of L.failures self.old }
+        ensures armed { L.armed self.old.driver plan self.new.driver }
+    {
+        self.driver.arm(plan)
+    }
+}

@@ -1,0 +1,189 @@
+-- The slots of a Set that stand while one after the other is committed.
+use Rattle.std.proofs.Common.{◌≡◌, ◌≢◌, ℕ, ◌+◌, ◌<◌, ◌≤◌, ◌∙◌, sym, ap, subst, List, length, map, take, slice_set, arith, inl, inr}
+use Rattle.std.proofs.lemmas.List.{length-set}
+use Rattle.std.proofs.lemmas.Bool.Decides.{eqb_tells}
+use Rattle.setphase_core.specs.declared.object.Assignment.{Assignment}
+use Rattle.setphase_core.specs.declared.staging.Staged.{Staged}
+use Rattle.setphase_core.specs.declared.world.World.{World}
+use Rattle.setphase_core.specs.Objects.{ObjectState, IsCommitted, pending, made, committed, released, failed_once}
+use Rattle.setphase_core.specs.Settings.{setting, put, HasSetting, IsSettingInRange}
+use Rattle.setphase_core.specs.Staging.{object_at, entry_at, assignments_of, IsDistinct, StandsReserved, StandsCommitted, ArePending, AreCommitted}
+use Rattle.setphase_core.specs.Together.{assign}
+use Rattle.setphase_core.proofs.Puts.{keys-kept}
+use Rattle.setphase_core.proofs.Assigns.{HasAll, has_before, has_all-taken, setting-assign, assign_more, distinct_below, without_before}
+use Rattle.setphase_core.proofs.Holding.{Holds, holds_reserved, holds_committed, holds_others, holds_made, holds_after_failure, released-committed, released-failed}
+
+-- The objects after the commit of an entry.
+abbrev pub after_commit : List ObjectState → World → Staged → List ObjectState
+after_commit os w e =
+    slice_set os e.object (committed (object_at os e.object) e.slot (setting w e.slot.key))
+
+abbrev pub put_entry : World → Staged → World
+put_entry w e = put w e.slot.key e.slot.value
+
+-- The objects after the device of an entry's object failed.
+abbrev pub after_failure : List ObjectState → Staged → List ObjectState
+after_failure os e = slice_set os e.object (failed_once (object_at os e.object))
+
+-- The settings of the committed entries were there before.
+pub had_key : (before w : World) (os : List ObjectState) (es : List Staged) (n : ℕ)
+    (qs : List Assignment) → AreCommitted before w os es n → w ≡ assign qs before → (k : ℕ) →
+    k < n → HasSetting before (entry_at es k).slot.key
+had_key before w os es n qs done is k low =
+    has_before qs before (entry_at es k).slot.key (subst (λ v. HasSetting v (entry_at es k).slot.key) is (done.stands k low).committed.key)
+
+had_all : (before w : World) (os : List ObjectState) (es : List Staged) (n : ℕ)
+    (qs : List Assignment) → n ≤ length es → AreCommitted before w os es n →
+    w ≡ assign qs before → HasAll before (take n (assignments_of es))
+had_all before w os es n qs h done is =
+    has_all-taken es n before h (had_key before w os es n qs done is)
+
+pending_more : (w : World) (os : List ObjectState) (es : List Staged) (i : ℕ) →
+    IsDistinct (assignments_of es) → i < length es → ArePending w os es i →
+    ArePending (put_entry w (entry_at es i)) (after_commit os w (entry_at es i)) es (i + 1)
+pending_more w os es i d h pends = record {
+  stands = λ k low high.
+      let e = entry_at es i in
+      let f = entry_at es k in
+      let here : StandsReserved w os (entry_at es i) = pends.stands i (omega arith) h in
+      let there : StandsReserved w os (entry_at es k) = pends.stands k (omega arith) high in
+      let after : Holds (object_at (after_commit os w (entry_at es i)) (entry_at es k).object) (entry_at es k).slot.place (pending (entry_at es k).slot)
+      = holds_others os e.object e.slot (setting w e.slot.key) (pending e.slot) f.object f.slot.place (pending f.slot) here.within (holds_reserved w (object_at os e.object) e.slot here.reserved) (holds_reserved w (object_at os f.object) f.slot there.reserved) (distinct_below es i k d (omega arith) high) in
+      record {
+        within = omega (arith, there.within, length-set {A = ObjectState});
+        reserved = record {
+          key = (keys-kept w e.slot.key f.slot.key e.slot.value).1 there.reserved.key;
+          value = there.reserved.value;
+          place = after.within;
+          stands = after.stands;
+        };
+      };
+}
+
+-- The entry that was committed just now.
+just_committed : (before w : World) (os : List ObjectState) (e : Staged) →
+    StandsReserved w os e → setting w e.slot.key ≡ setting before e.slot.key →
+    IsSettingInRange e.slot.key (setting w e.slot.key) →
+    StandsCommitted before (put_entry w e) (after_commit os w e) e
+just_committed before w os e here was range =
+    let after : Holds (object_at (after_commit os w e) e.object) e.slot.place (made e.slot (setting w e.slot.key))
+    = holds_made os e.object e.slot (setting w e.slot.key) here.within here.reserved.place in
+    record {
+      within = omega (arith, here.within, length-set {A = ObjectState});
+      committed = subst (λ v. IsCommitted (put_entry w e) (object_at (after_commit os w e) e.object) e.slot v) was (record {
+        key = (keys-kept w e.slot.key e.slot.key e.slot.value).1 here.reserved.key;
+        value = range;
+        place = after.within;
+        stands = after.stands;
+      });
+    }
+
+-- An entry that was committed before.
+still_committed : (before w : World) (os : List ObjectState) (e f : Staged) →
+    StandsReserved w os e → StandsCommitted before w os f → f.slot.key ≢ e.slot.key →
+    StandsCommitted before (put_entry w e) (after_commit os w e) f
+still_committed before w os e f here there ne =
+    let after : Holds (object_at (after_commit os w e) f.object) f.slot.place (made f.slot (setting before f.slot.key))
+    = holds_others os e.object e.slot (setting w e.slot.key) (pending e.slot) f.object f.slot.place (made f.slot (setting before f.slot.key)) here.within (holds_reserved w (object_at os e.object) e.slot here.reserved) (holds_committed w (object_at os f.object) f.slot (setting before f.slot.key) there.committed) ne in
+    record {
+      within = omega (arith, there.within, length-set {A = ObjectState});
+      committed = record {
+        key = (keys-kept w e.slot.key f.slot.key e.slot.value).1 there.committed.key;
+        value = there.committed.value;
+        place = after.within;
+        stands = after.stands;
+      };
+    }
+
+-- What stands while slots are committed.
+pub record Commits (before w : World) (os : List ObjectState) (es : List Staged) (i : ℕ) :
+    Type 0 where
+  pub world : w ≡ assign (take i (assignments_of es)) before
+  pub pending : ArePending w os es i
+  pub done : AreCommitted before w os es i
+
+committed_more : (before w : World) (os : List ObjectState) (es : List Staged) (i : ℕ) →
+    IsDistinct (assignments_of es) → i < length es → Commits before w os es i →
+    IsSettingInRange (entry_at es i).slot.key (setting w (entry_at es i).slot.key) →
+    AreCommitted before (put_entry w (entry_at es i)) (after_commit os w (entry_at es i)) es (i + 1)
+committed_more before w os es i d h commits range =
+    let here : StandsReserved w os (entry_at es i) = commits.pending.stands i (omega arith) h in
+    let has : HasSetting before (entry_at es i).slot.key
+    = has_before (take i (assignments_of es)) before (entry_at es i).slot.key (subst (λ v. HasSetting v (entry_at es i).slot.key) commits.world here.reserved.key) in
+    let was : setting w (entry_at es i).slot.key ≡ setting before (entry_at es i).slot.key
+    = ap (λ v. setting v (entry_at es i).slot.key) commits.world
+    ∙ setting-assign (take i (assignments_of es)) before (entry_at es i).slot.key (without_before es i d h) (had_all before w os es i (take i (assignments_of es)) (omega arith) commits.done commits.world) has in
+    record {
+      stands = λ k low. elim (eqb_tells k i) [
+        | inl e ↦ subst (λ n. StandsCommitted before (put_entry w (entry_at es i)) (after_commit os w (entry_at es i)) (entry_at es n)) (sym e.1) (just_committed before w os (entry_at es i) here was range)
+        | inr e ↦
+            let less : k < i = omega (arith, low, e.1) in
+            still_committed before w os (entry_at es i) (entry_at es k) here (commits.done.stands k less) (λ q. distinct_below es k i d less h (sym q))
+      ];
+    }
+
+pub entry_is : (es ds : List Staged) (i n : ℕ) → ds ≡ es → n ≡ i → entry_at ds n ≡ entry_at es i
+entry_is es ds i n e f = ap (λ xs. entry_at xs n) e ∙ ap (entry_at es) f
+
+-- One more entry is committed.
+pub commit_step : (before w v : World) (os ns : List ObjectState) (es ds : List Staged) (i n : ℕ) →
+    ds ≡ es → n ≡ i → IsDistinct (assignments_of es) → i < length es →
+    Commits before w os es i → v ≡ put_entry w (entry_at ds n) →
+    ns ≡ after_commit os w (entry_at ds n) →
+    IsSettingInRange (entry_at ds n).slot.key (setting w (entry_at ds n).slot.key) →
+    Commits before v ns es (i + 1)
+commit_step before w v os ns es ds i n e f d h commits puts sets range =
+    let same : entry_at ds n ≡ entry_at es i = entry_is es ds i n e f in
+    let world : v ≡ put_entry w (entry_at es i) = puts ∙ ap (put_entry w) same in
+    let after : ns ≡ after_commit os w (entry_at es i) = sets ∙ ap (after_commit os w) same in
+    let in_range : IsSettingInRange (entry_at es i).slot.key (setting w (entry_at es i).slot.key)
+    = subst (λ (z : Staged). IsSettingInRange z.slot.key (setting w z.slot.key)) same range in
+    record {
+      world = world ∙ assign_more before w es i h commits.world;
+      pending = subst (λ u. ArePending u ns es (i + 1)) (sym world) (subst (λ xs. ArePending (put_entry w (entry_at es i)) xs es (i + 1)) (sym after) (pending_more w os es i d h commits.pending));
+      done = subst (λ u. AreCommitted before u ns es (i + 1)) (sym world) (subst (λ xs. AreCommitted before (put_entry w (entry_at es i)) xs es (i + 1)) (sym after) (committed_more before w os es i d h commits in_range));
+    }
+
+-- The committed entries after a failure.
+pub committed_after_failure : (before w v : World) (os ns : List ObjectState) (es : List Staged)
+    (n : ℕ) (e : Staged) → e.object < length os → v ≡ w → ns ≡ after_failure os e →
+    AreCommitted before w os es n → AreCommitted before v ns es n
+committed_after_failure before w v os ns es n e h world objects done =
+    subst (λ u. AreCommitted before u ns es n) (sym world) (subst (λ xs. AreCommitted before w xs es n) (sym objects) (record {
+      stands = λ k low.
+          let f = entry_at es k in
+          let there : StandsCommitted before w os (entry_at es k) = done.stands k low in
+          let after : Holds (object_at (after_failure os e) (entry_at es k).object) (entry_at es k).slot.place (made (entry_at es k).slot (setting before (entry_at es k).slot.key))
+          = holds_after_failure os e.object f.object f.slot.place (made f.slot (setting before f.slot.key)) h (holds_committed w (object_at os f.object) f.slot (setting before f.slot.key) there.committed) in
+          record {
+            within = omega (arith, there.within, length-set {A = ObjectState});
+            committed = record {
+              key = there.committed.key;
+              value = there.committed.value;
+              place = after.within;
+              stands = after.stands;
+            };
+          };
+    }))
+
+-- What the next commit asks for.
+pub next_pending : (w : World) (os : List ObjectState) (es ds : List Staged) (i n : ℕ) → ds ≡ es →
+    n ≡ i → i < length es → ArePending w os es i → StandsReserved w os (entry_at ds n)
+next_pending w os es ds i n e f h pends =
+    subst (StandsReserved w os) (sym (entry_is es ds i n e f)) (pends.stands i (omega arith) h)
+
+-- What all objects are, once all is dropped, after a commit and after a failure.
+pub released_after_commit : (w : World) (os ns zs : List ObjectState) (e : Staged) →
+    ns ≡ after_commit os w e → map released os ≡ zs → map released ns ≡ zs
+released_after_commit w os ns zs e after same =
+    ap (map released) after
+    ∙ released-committed os e.object e.slot (setting w e.slot.key)
+    ∙ same
+
+pub released_after_failure : (os ns zs : List ObjectState) (e : Staged) →
+    ns ≡ after_failure os e → map released os ≡ zs →
+    map released ns ≡ slice_set zs e.object (failed_once (object_at zs e.object))
+released_after_failure os ns zs e after same =
+    ap (map released) after
+    ∙ released-failed os e.object
+    ∙ ap (λ ys. slice_set ys e.object (failed_once (object_at ys e.object))) same

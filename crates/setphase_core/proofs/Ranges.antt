@@ -1,0 +1,193 @@
+-- What a test lets pass is a setting that there is, and a value that it may have.
+use Rattle.std.proofs.Common.{◌≡◌, ℕ, zero, suc, ◌≤◌, ◌%◌, subst, refl, Bool, true, false, cond, nat_le, List, [], ◌∷◌, length, Option, Some, None, Ok, Err, arith, ◌⊎◌, inl, inr, ◌==◌, ◌&&◌, pos, negsuc}
+use Rattle.std.specs.Option.{option_map}
+use Rattle.std.proofs.lemmas.Bool.Decides.{nat_tests}
+use Rattle.oid_core.specs.Order.{name_eq}
+use Rattle.message_core.specs.declared.value.Value.{Value}
+use Rattle.message_core.specs.declared.value.Value.TheVariants as value
+use Rattle.rstp_settings.specs.Values.{IsBridgeRange, IsPortRange}
+use Rattle.rstp_settings.specs.declared.key.BridgeKey.{BridgeKey}
+use Rattle.rstp_settings.specs.declared.key.PortKey.{PortKey}
+use Rattle.rstp_settings.specs.declared.key.Key.TheVariants as key
+use Rattle.bridge_core.specs.Bridge.{port_count}
+use Rattle.setting_keys.specs.declared.SettingKey.TheVariants as setting
+use Rattle.setting_keys.specs.declared.SettingValue.TheVariants.{Number}
+use Rattle.setphase_core.specs.declared.world.World.{World}
+use Rattle.setphase_core.specs.declared.object.Assignment.{Assignment}
+use Rattle.setphase_core.specs.declared.object.SetFault.TheVariants.{WrongValue}
+use Rattle.setphase_core.specs.declared.writable.Target.{Target}
+use Rattle.setphase_core.specs.declared.writable.Target.TheVariants as target
+use Rattle.setphase_core.specs.declared.writable.Writable.{Writable}
+use Rattle.setphase_core.specs.declared.column.Stp.{Stp}
+use Rattle.setphase_core.specs.declared.column.Stp.TheVariants as stp
+use Rattle.setphase_core.specs.declared.column.StpPort.{StpPort}
+use Rattle.setphase_core.specs.declared.column.StpPort.TheVariants as stp_port
+use Rattle.setphase_core.specs.declared.column.Rapid.{Rapid}
+use Rattle.setphase_core.specs.declared.column.Rapid.TheVariants as rapid
+use Rattle.setphase_core.specs.declared.column.ExtPort.{ExtPort}
+use Rattle.setphase_core.specs.declared.column.ExtPort.TheVariants as ext_port
+use Rattle.setphase_core.specs.declared.column.Tp.{Tp}
+use Rattle.setphase_core.specs.declared.column.Tp.TheVariants as tp
+use Rattle.setphase_core.specs.declared.column.Column.{Column}
+use Rattle.setphase_core.specs.declared.column.Column.TheVariants as column
+use Rattle.setphase_core.specs.Settings.{HasSetting, IsSettingInRange}
+use Rattle.setphase_core.specs.Values.{port_index}
+use Rattle.setphase_core.specs.Writing.{writable_of, takes, given, key_at, assignment_at, assignment_by, assignment_of, stp_writable, stp_port_writable, rapid_writable, ext_port_writable, tp_writable}
+
+-- A number that an object takes.
+record Taken (x : Writable) (n : ℕ) : Type 0 where
+  pub least : x.least ≤ n
+  pub most : n ≤ x.most
+  pub step : n % x.step ≡ 0
+
+taken : (x : Writable) (n : ℕ) → takes x n ≡ true → Taken x n
+taken x n e = record {
+  least = grind (arith, nat_tests, e);
+  most = grind (arith, nat_tests, e);
+  step = grind (arith, nat_tests, e);
+}
+
+-- What the target's setting may have.
+abbrev IsTargetRange : Target → ℕ → Type 0
+IsTargetRange (target.Bridge k) v = IsBridgeRange k v
+IsTargetRange (target.Port k) v = IsPortRange k v
+
+-- What each object that is written gives is in the range of its setting.
+abbrev GivesRange : Option Writable → Type 0
+GivesRange None = Unit {0}
+GivesRange (Some x) = (n : ℕ) → Taken x n → IsTargetRange x.target (given x.target n)
+
+two_or_none : (n : ℕ) → n ≤ 2 → n % 2 ≡ 0 → (n ≡ 0) ⊎ (n ≡ 2)
+two_or_none zero h e = inl refl
+two_or_none (suc zero) h e = absurd (cc)
+two_or_none (suc (suc zero)) h e = inr refl
+two_or_none (suc (suc (suc n))) h e = absurd (omega (arith, h))
+
+asked : (b : Bool) → cond b 1 0 ≤ 1
+asked true = omega arith
+asked false = omega arith
+
+stp_gives : (c : Stp) → GivesRange (stp_writable c)
+stp_gives stp.ProtocolSpecification = tt
+stp_gives stp.Priority = λ n t. (t.least, t.most, t.step)
+stp_gives stp.TimeSinceTopologyChange = tt
+stp_gives stp.TopChanges = tt
+stp_gives stp.DesignatedRoot = tt
+stp_gives stp.RootCost = tt
+stp_gives stp.RootPort = tt
+stp_gives stp.MaxAge = tt
+stp_gives stp.HelloTime = tt
+stp_gives stp.HoldTime = tt
+stp_gives stp.ForwardDelay = tt
+stp_gives stp.BridgeMaxAge = λ n t. (t.least, t.most, t.step)
+stp_gives stp.BridgeHelloTime = λ n t. (t.least, t.most, t.step)
+stp_gives stp.BridgeForwardDelay = λ n t. (t.least, t.most, t.step)
+
+stp_port_gives : (c : StpPort) → GivesRange (stp_port_writable c)
+stp_port_gives stp_port.Port = tt
+stp_port_gives stp_port.Priority = λ n t. (t.least, t.most, t.step)
+stp_port_gives stp_port.State = tt
+stp_port_gives stp_port.Enable = λ n t. (t.least, t.most)
+stp_port_gives stp_port.PathCost = λ n t. omega (arith, t.most)
+stp_port_gives stp_port.DesignatedRoot = tt
+stp_port_gives stp_port.DesignatedCost = tt
+stp_port_gives stp_port.DesignatedBridge = tt
+stp_port_gives stp_port.DesignatedPort = tt
+stp_port_gives stp_port.ForwardTransitions = tt
+stp_port_gives stp_port.PathCost32 = λ n t. t.most
+
+rapid_gives : (c : Rapid) → GivesRange (rapid_writable c)
+rapid_gives rapid.Version = λ n t. two_or_none n t.most t.step
+rapid_gives rapid.TxHoldCount = λ n t. (t.least, t.most)
+
+ext_port_gives : (c : ExtPort) → GivesRange (ext_port_writable c)
+ext_port_gives ext_port.ProtocolMigration = λ n t. asked (n == 1)
+ext_port_gives ext_port.AdminEdgePort = λ n t. (t.least, t.most)
+ext_port_gives ext_port.OperEdgePort = tt
+ext_port_gives ext_port.AdminPointToPoint = λ n t. t.most
+ext_port_gives ext_port.OperPointToPoint = tt
+ext_port_gives ext_port.AdminPathCost = λ n t. t.most
+
+tp_gives : (c : Tp) → GivesRange (tp_writable c)
+tp_gives tp.LearnedEntryDiscards = tt
+tp_gives tp.AgingTime = λ n t. (t.least, t.most)
+
+gives : (c : Column) → GivesRange (writable_of c)
+gives (column.Base c) = tt
+gives (column.BasePort c) = tt
+gives (column.Stp c) = stp_gives c
+gives (column.StpPort c) = stp_port_gives c
+gives (column.Rapid c) = rapid_gives c
+gives (column.ExtPort c) = ext_port_gives c
+gives (column.Tp c) = tp_gives c
+gives (column.TpFdb c) = tt
+gives (column.TpPort c) = tt
+
+-- An assignment that a world can take.
+pub record IsLegal (w : World) (a : Assignment) : Type 0 where
+  pub key : HasSetting w a.key
+  pub value : IsSettingInRange a.key a.value
+
+within : (n m : ℕ) → (nat_le 1 n && nat_le n m) ≡ true → n ≤ m
+within n m is = grind (arith, nat_tests, is)
+
+bridge_legal : (k : BridgeKey) (w : World) (b : Bool) (v : ℕ) (a : Assignment) → IsBridgeRange k v →
+    assignment_at (cond b (Some (setting.Bridge (key.Bridge k))) None) v ≡ Ok a → IsLegal w a
+bridge_legal k w true v a range e =
+    let same : record { key = setting.Bridge (key.Bridge k); value = Number v } ≡ a = cc in
+    subst (IsLegal w) same (record { key = tt; value = range })
+bridge_legal k w false v a range e = absurd (cc)
+
+port_legal : (k : PortKey) (w : World) (at : List ℕ) (v : ℕ) (a : Assignment) →
+    port_count w.bridge ≡ length w.bridge.settings.ports → IsPortRange k v →
+    assignment_at (option_map (λ n. setting.Bridge (key.Port n k)) (port_index (port_count w.bridge) at)) v ≡ Ok a →
+    IsLegal w a
+port_legal k w [] v a even range e = absurd (cc)
+port_legal k w (n ∷ []) v a even range e = one (nat_le 1 n && nat_le n (port_count w.bridge)) refl e
+  where
+    most : (nat_le 1 n && nat_le n (port_count w.bridge)) ≡ true → n ≤ port_count w.bridge
+    most is = within n (port_count w.bridge) is
+
+    one : (b : Bool) → (nat_le 1 n && nat_le n (port_count w.bridge)) ≡ b →
+        assignment_at (option_map (λ n. setting.Bridge (key.Port n k)) (cond b (Some n) None)) v ≡ Ok a → IsLegal w a
+    one true is e =
+        let same : record { key = setting.Bridge (key.Port n k); value = Number v } ≡ a = cc in
+        subst (IsLegal w) same (record { key = (grind (arith, nat_tests, is), omega (arith, even, most is)); value = range })
+    one false is e = absurd (cc)
+port_legal k w (n ∷ m ∷ at) v a even range e = absurd (cc)
+
+target_legal : (t : Target) (w : World) (at : List ℕ) (v : ℕ) (a : Assignment) →
+    port_count w.bridge ≡ length w.bridge.settings.ports → IsTargetRange t v → assignment_at (key_at t w at) v ≡ Ok a → IsLegal w a
+target_legal (target.Bridge k) w at v a even range e = bridge_legal k w (name_eq (0 ∷ []) at) v a range e
+target_legal (target.Port k) w at v a even range e = port_legal k w at v a even range e
+
+integer_legal : (x : Writable) (w : World) (at : List ℕ) (n : ℕ) (a : Assignment) (b : Bool) →
+    port_count w.bridge ≡ length w.bridge.settings.ports → GivesRange (Some x) → takes x n ≡ b →
+    cond b (assignment_at (key_at x.target w at) (given x.target n)) (Err WrongValue) ≡ Ok a → IsLegal w a
+integer_legal x w at n a true even range is e =
+    target_legal x.target w at (given x.target n) a even (range n (taken x n is)) e
+integer_legal x w at n a false even range is e = absurd (cc)
+
+by_legal : (x : Option Writable) (w : World) (at : List ℕ) (v : Value) (a : Assignment) →
+    port_count w.bridge ≡ length w.bridge.settings.ports → GivesRange x → assignment_by x w at v ≡ Ok a → IsLegal w a
+by_legal None w at v a even range e = absurd (cc)
+by_legal (Some x) w at (value.Integer (pos n)) a even range e =
+    integer_legal x w at n a (takes x n) even range refl e
+by_legal (Some x) w at (value.Integer (negsuc n)) a even range e = absurd (cc)
+by_legal (Some x) w at (value.OctetString v) a even range e = absurd (cc)
+by_legal (Some x) w at value.Null a even range e = absurd (cc)
+by_legal (Some x) w at (value.ObjectIdentifier v) a even range e = absurd (cc)
+by_legal (Some x) w at (value.IpAddress v) a even range e = absurd (cc)
+by_legal (Some x) w at (value.Counter32 v) a even range e = absurd (cc)
+by_legal (Some x) w at (value.Gauge32 v) a even range e = absurd (cc)
+by_legal (Some x) w at (value.TimeTicks v) a even range e = absurd (cc)
+by_legal (Some x) w at (value.Opaque v) a even range e = absurd (cc)
+by_legal (Some x) w at (value.Counter64 v) a even range e = absurd (cc)
+by_legal (Some x) w at value.NoSuchObject a even range e = absurd (cc)
+by_legal (Some x) w at value.NoSuchInstance a even range e = absurd (cc)
+by_legal (Some x) w at value.EndOfMibView a even range e = absurd (cc)
+
+-- What a variable of a column writes, a world can take.
+pub legal : (c : Column) (w : World) (at : List ℕ) (v : Value) (a : Assignment) →
+    port_count w.bridge ≡ length w.bridge.settings.ports → assignment_of c w at v ≡ Ok a → IsLegal w a
+legal c w at v a even e = by_legal (writable_of c) w at v a even (gives c) e

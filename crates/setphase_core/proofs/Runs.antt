@@ -1,0 +1,132 @@
+-- The run of a Set, from its tests to its end.
+use Rattle.std.proofs.Common.{◌≡◌, ℕ, ◌∙◌, sym, ap, subst, refl, Bool, true, false, cond, List, [], ◌∷◌, ◌++◌, map, take, slice_get, Option, Some, None}
+use Rattle.std.specs.Option.{option_map}
+use Rattle.message_core.specs.declared.binding.Binding.{Binding}
+use Rattle.setting_keys.specs.declared.SettingKey.{SettingKey}
+use Rattle.setphase_core.specs.declared.world.World.{World}
+use Rattle.setphase_core.specs.declared.staging.Staged.{Staged}
+use Rattle.setphase_core.specs.Objects.{ObjectRow, ObjectState, released}
+use Rattle.setphase_core.specs.Registry.{rows_of}
+use Rattle.setphase_core.specs.Variables.{Written, writings}
+use Rattle.setphase_core.specs.Together.{assign, assignments, contradicting, timer_numbers, timers_agree, disagreeing, inconsistent, joint_refusals, refusal_of}
+use Rattle.setphase_core.specs.Outcomes.{CanFail, failed_by, stuck, object_after}
+use Rattle.setphase_core.specs.Staging.{assignments_of, entry_at, entries_of, places_of, failed_at, failing_place, AreCommitted, HasFailed, IsDistinct}
+use Rattle.setphase_core.specs.Tested.{first_in, inconsistency, AreStaged, ArePassed}
+use Rattle.setphase_core.proofs.Endings.{stuck_assignments, can_fail, failures_told}
+use Rattle.setphase_core.proofs.Stuck.{entry_keys}
+
+-- ---- the refusal
+
+first-append : (xs ys : List ℕ) → slice_get (xs ++ ys) 0 ≡ first_in (slice_get xs 0) ys
+first-append [] ys = refl
+first-append (x ∷ xs) ys = refl
+
+first-map : {X Y : Type 0} (f : X → Y) (xs : List X) → slice_get (map f xs) 0 ≡ option_map f (slice_get xs 0)
+first-map f [] = refl
+first-map f (x ∷ xs) = refl
+
+first_if : (b : Bool) (ns : List ℕ) → slice_get (cond b [] ns) 0 ≡ cond b None (slice_get ns 0)
+first_if true ns = refl
+first_if false ns = refl
+
+-- What keeps the variables from going together, where each passed its own tests, is the refusal.
+pub refused_together : (rows : List ObjectRow) (w : World) (view : List ℕ) (bs : List Binding)
+    (os : List ObjectState) (es : List Staged) (c t : Option ℕ) →
+    ArePassed rows w view bs os es c t →
+    option_map inconsistent (inconsistency c (timers_agree (assign (assignments_of es) w)) t)
+    ≡ refusal_of rows w view bs
+refused_together rows w view bs os es c t h =
+    let ps = assignments (writings rows w bs) in
+    ap (option_map inconsistent) (by_first c h.same
+    ∙ ap (λ o. first_in o (disagreeing w ps)) h.contradictions
+    ∙ sym (first-append (contradicting [] ps) (disagreeing w ps)))
+    ∙ sym (first-map inconsistent (contradicting [] ps ++ disagreeing w ps))
+    ∙ ap (λ rs. slice_get (rs ++ joint_refusals w ps) 0) (sym h.single)
+  where
+    by_first : (o : Option ℕ) → (o ≡ None → assign (assignments (writings rows w bs)) w ≡ assign (assignments_of es) w) →
+        inconsistency o (timers_agree (assign (assignments_of es) w)) t
+        ≡ first_in o (disagreeing w (assignments (writings rows w bs)))
+    by_first None same =
+        ap (λ o. cond (timers_agree (assign (assignments_of es) w)) None o) h.timers
+        ∙ sym (first_if (timers_agree (assign (assignments_of es) w)) (timer_numbers 1 (assignments (writings rows w bs))))
+        ∙ ap (λ v. slice_get (cond (timers_agree v) [] (timer_numbers 1 (assignments (writings rows w bs)))) 0) (sym (same refl))
+    by_first (Some n) same = refl
+
+pub refused_for : (rows : List ObjectRow) (w : World) (view : List ℕ) (bs : List Binding)
+    (os : List ObjectState) (es : List Staged) (c t : Option ℕ) (n : ℕ) →
+    ArePassed rows w view bs os es c t →
+    inconsistency c (timers_agree (assign (assignments_of es) w)) t ≡ Some n →
+    Some (inconsistent n) ≡ refusal_of rows w view bs
+refused_for rows w view bs os es c t n h e =
+    sym (ap (option_map inconsistent) e) ∙ refused_together rows w view bs os es c t h
+
+pub not_refused : (rows : List ObjectRow) (w : World) (view : List ℕ) (bs : List Binding)
+    (os : List ObjectState) (es : List Staged) (c t : Option ℕ) →
+    ArePassed rows w view bs os es c t →
+    inconsistency c (timers_agree (assign (assignments_of es) w)) t ≡ None →
+    None ≡ refusal_of rows w view bs
+not_refused rows w view bs os es c t h e =
+    sym (ap (option_map inconsistent) e) ∙ refused_together rows w view bs os es c t h
+
+-- ---- a commit that failed, and the undoing of those before it
+
+module _ (os os₁ os₂ : List ObjectState) (w v u : World) (ws : List Written)
+    (es fs gs : List Staged) (i n : ℕ) (keys : List SettingKey)
+    (staged : AreStaged (rows_of os) ws es) (distinct : IsDistinct (assignments_of es))
+    (kept : fs ≡ es) (looked : gs ≡ fs) (at : n ≡ i) (failed : HasFailed w v os₁ es i)
+    (commits : map released os₁ ≡ failed_at (failing_place es (Some i)) (map released os))
+    (told : keys ≡ entry_keys (entries_of keys (take n fs)))
+    (undone : (before : World) → AreCommitted before v os₁ fs n →
+    v ≡ assign (take n (assignments_of fs)) before →
+    u ≡ assign (assignments_of (entries_of keys (take n fs))) before)
+    (undos : map released os₂ ≡ failed_at (places_of (entries_of keys (take n fs))) (map released os₁)) where
+  front : take n fs ≡ take i es
+  front = ap (λ m. take m fs) at ∙ ap (take i) kept
+
+  number : (entry_at gs i).number ≡ (entry_at es i).number
+  number = ap (λ xs. (entry_at xs i).number) (looked ∙ kept)
+
+  told_front : keys ≡ entry_keys (entries_of keys (take i es))
+  told_front = subst (λ xs. keys ≡ entry_keys (entries_of keys xs)) front told
+
+  pub ended_notes : CanFail ws (Some (entry_at gs i).number) keys
+  ended_notes =
+      subst (λ m. CanFail ws (Some m) keys) (sym number) (can_fail os ws es i keys staged failed.within distinct told_front)
+
+  pub ended_world : u ≡ assign (assignments (stuck ws (entry_at gs i).number keys)) w
+  ended_world =
+      undone w
+      (subst (λ xs. AreCommitted w v os₁ xs n) (sym kept) (subst (λ m. AreCommitted w v os₁ es m) (sym at) failed.stands))
+      (failed.world ∙ ap (λ m. assign (take m (assignments_of es)) w) (sym at) ∙ ap (λ xs. assign (take n (assignments_of xs)) w) (sym kept))
+      ∙ ap (λ xs. assign (assignments_of (entries_of keys xs)) w) front
+      ∙ ap (λ ps. assign ps w) (stuck_assignments os ws es i keys staged failed.within distinct)
+      ∙ ap (λ m. assign (assignments (stuck ws m keys)) w) (sym number)
+
+  pub ended_objects : map released os₂ ≡ map (object_after (failed_by ws (Some (entry_at gs i).number) keys)) os
+  ended_objects =
+      undos
+      ∙ ap (λ xs. failed_at (places_of (entries_of keys xs)) (map released os₁)) front
+      ∙ ap (failed_at (places_of (entries_of keys (take i es)))) commits
+      ∙ failures_told os ws es i keys staged failed.within distinct
+      ∙ ap (λ m. map (object_after (failed_by ws (Some m) keys)) os) (sym number)
+
+-- ---- a registry that was released
+
+pub released-twice : (os : List ObjectState) → map released (map released os) ≡ map released os
+released-twice [] = refl
+released-twice (o ∷ os) = ap (λ zs. released o ∷ zs) (released-twice os)
+
+pub fresh : (os ns : List ObjectState) → ns ≡ map released os → ns ≡ map released ns
+fresh os ns e = e ∙ sym (released-twice os) ∙ ap (map released) (sym e)
+
+pub after-released : (names : List (List ℕ)) (os : List ObjectState) →
+    map (object_after names) (map released os) ≡ map (object_after names) os
+after-released names [] = refl
+after-released names (o ∷ os) = ap (λ zs. object_after names o ∷ zs) (after-released names os)
+
+-- The registry of a Set, once its staging is dropped.
+pub dropped : (os now ns before : List ObjectState) (names : List (List ℕ)) →
+    ns ≡ map released now → map released now ≡ map (object_after names) before →
+    before ≡ map released os → ns ≡ map (object_after names) os
+dropped os now ns before names e done released =
+    e ∙ done ∙ ap (map (object_after names)) released ∙ after-released names os

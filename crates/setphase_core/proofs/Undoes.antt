@@ -1,0 +1,138 @@
+-- The slots of a Set while their commits are undone, the last one first.
+use Rattle.std.proofs.Common.{◌≡◌, ℕ, ◌+◌, ◌-◌, ◌<◌, ◌≤◌, ◌∙◌, sym, ap, subst, List, [], ◌∷◌, ◌++◌, length, map, take, drop, slice_get, slice_set, Some, arith, append-nil}
+use Rattle.setting_keys.specs.declared.SettingKey.{SettingKey}
+use Rattle.setting_keys.specs.declared.SettingValue.{SettingValue}
+use Rattle.setphase_core.specs.declared.staging.Staged.{Staged}
+use Rattle.setphase_core.specs.declared.world.World.{World}
+use Rattle.setphase_core.specs.Objects.{ObjectState, made, released, failed_once}
+use Rattle.setphase_core.specs.Settings.{setting, put, HasSetting}
+use Rattle.setphase_core.specs.Staging.{object_at, entry_at, assignment_of_entry, assignments_of, IsDistinct, StandsCommitted, AreCommitted, failed_at, entries_of, places_of}
+use Rattle.setphase_core.specs.Together.{assign}
+use Rattle.setphase_core.proofs.Puts.{keys-kept}
+use Rattle.setphase_core.proofs.Assigns.{has_all-taken, has_all-between, put_back, take_last, without_before}
+use Rattle.setphase_core.proofs.Commits.{after_failure, had_key, committed_after_failure, released_after_failure}
+use Rattle.setphase_core.proofs.Stuck.{entry_keys, entries_none, without_entries, has_all-entries, behind, stay_same, stay_more}
+
+-- What stands while commits are undone: of a world and objects where n entries were committed there
+-- are now others, where m are, and the settings that could not be undone have these keys.
+pub record Undoes (w₁ : World) (os₁ : List ObjectState) (es : List Staged) (n : ℕ) (w : World)
+    (os : List ObjectState) (m : ℕ) (keys : List SettingKey) : Type 0 where
+  pub stands : (before : World) → AreCommitted before w₁ os₁ es n → AreCommitted before w os es m
+  pub told : keys ≡ entry_keys (entries_of keys (drop m (take n es)))
+  pub world : (before : World) → AreCommitted before w₁ os₁ es n →
+      w₁ ≡ assign (take n (assignments_of es)) before →
+      w ≡ assign (take m (assignments_of es)
+      ++ assignments_of (entries_of keys (drop m (take n es)))) before
+  pub objects : map released os
+      ≡ failed_at (places_of (entries_of keys (drop m (take n es)))) (map released os₁)
+
+pub undo_start : (w : World) (os : List ObjectState) (es : List Staged) (n : ℕ) →
+    Undoes w os es n w os n []
+undo_start w os es n =
+    let none : entries_of [] (drop n (take n es)) ≡ [] = entries_none (drop n (take n es)) in
+    record {
+      stands = λ before done. done;
+      told = sym (ap entry_keys none);
+      world = λ before done was.
+          was
+          ∙ ap (λ ps. assign ps before) (sym (ap (λ xs. take n (assignments_of es) ++ assignments_of xs) none ∙ append-nil (take n (assignments_of es))));
+      objects = sym (ap (λ xs. failed_at (places_of xs) (map released os)) none);
+    }
+
+pub undo_end : (w₁ w : World) (os₁ os : List ObjectState) (es : List Staged) (n m : ℕ)
+    (keys : List SettingKey) → m ≡ 0 → Undoes w₁ os₁ es n w os m keys →
+    Undoes w₁ os₁ es n w os 0 keys
+undo_end w₁ w os₁ os es n m keys e undoes = subst (λ j. Undoes w₁ os₁ es n w os j keys) e undoes
+
+-- The entries below a place, of those that are committed, where one setting was given a value.
+committed_after_put : (before w v : World) (os ns : List ObjectState) (es : List Staged)
+    (m k : ℕ) (key : SettingKey) (value : SettingValue) → k ≤ m → v ≡ put w key value →
+    ns ≡ os → AreCommitted before w os es m → AreCommitted before v ns es k
+committed_after_put before w v os ns es m k key value h world objects done =
+    subst (λ u. AreCommitted before u ns es k) (sym world) (subst (λ xs. AreCommitted before (put w key value) xs es k) (sym objects) (record {
+      stands = λ j low.
+          let there : StandsCommitted before w os (entry_at es j) = done.stands j (omega arith) in
+          record {
+            within = there.within;
+            committed = record {
+              key = (keys-kept w key (entry_at es j).slot.key value).1 there.committed.key;
+              value = there.committed.value;
+              place = there.committed.place;
+              stands = there.committed.stands;
+            };
+          };
+    }))
+
+fewer : (before w : World) (os : List ObjectState) (es : List Staged) (m k : ℕ) → k ≤ m →
+    AreCommitted before w os es m → AreCommitted before w os es k
+fewer before w os es m k h done = record { stands = λ j low. done.stands j (omega arith) }
+
+-- What the call that undoes the last commit has as its entry, by the place that it leaves.
+last_is : (es ds : List Staged) (m k : ℕ) → ds ≡ es → k + 1 ≡ m →
+    entry_at ds (m - 1) ≡ entry_at es k
+last_is es ds m k e one = ap (λ xs. entry_at xs (m - 1)) e ∙ ap (entry_at es) (omega arith)
+
+pub last_stands : (before w : World) (os : List ObjectState) (es ds : List Staged) (m : ℕ) →
+    ds ≡ es → 0 < m → AreCommitted before w os es m →
+    StandsCommitted before w os (entry_at ds (m - 1))
+last_stands before w os es ds m e h done =
+    subst (λ xs. StandsCommitted before w os (entry_at xs (m - 1))) (sym e) (done.stands (m - 1) (omega arith))
+
+module _ (w₁ w v : World) (os₁ os ns : List ObjectState) (es ds : List Staged) (n m k : ℕ)
+    (keys : List SettingKey) (same : ds ≡ es) (distinct : IsDistinct (assignments_of es))
+    (high : n ≤ length es) (low : m ≤ n) (one : k + 1 ≡ m)
+    (undoes : Undoes w₁ os₁ es n w os m keys) where
+  -- The last commit was undone.
+  pub undo_step : ns ≡ os →
+      ((value : SettingValue) → slice_get (object_at os (entry_at ds (m - 1)).object).reserved (entry_at ds (m - 1)).slot.place
+      ≡ Some (made (entry_at ds (m - 1)).slot value) →
+      v ≡ put w (entry_at ds (m - 1)).slot.key value) →
+      Undoes w₁ os₁ es n v ns k keys
+  undo_step objects puts =
+      let e = entry_at es k in
+      let at : entry_at ds (m - 1) ≡ entry_at es k = last_is es ds m k same one in
+      let stay : entries_of keys (drop k (take n es)) ≡ entries_of keys (drop m (take n es))
+      = stay_same es k m n one low high distinct keys undoes.told in
+      let put_old : (before : World) → AreCommitted before w₁ os₁ es n → v ≡ put w (entry_at es k).slot.key (setting before (entry_at es k).slot.key)
+      = λ before done.
+      subst (λ (z : Staged). slice_get (object_at os z.object).reserved z.slot.place ≡ Some (made z.slot (setting before e.slot.key)) → v ≡ put w z.slot.key (setting before e.slot.key)) at (puts (setting before e.slot.key)) ((undoes.stands before done).stands k (omega arith)).committed.stands in
+      record {
+        stands = λ before done. committed_after_put before w v os ns es m k e.slot.key (setting before e.slot.key) (omega arith) (put_old before done) objects (undoes.stands before done);
+        told = undoes.told ∙ ap entry_keys (sym stay);
+        world = λ before done was.
+            let had : (j : ℕ) → j < n → HasSetting before (entry_at es j).slot.key = had_key before w₁ os₁ es n (take n (assignments_of es)) done was in
+            put_old before done
+            ∙ ap (λ u. put u e.slot.key (setting before e.slot.key)) (undoes.world before done was ∙ ap (λ ps. assign ps before) (take_last es m k (assignments_of (entries_of keys (drop m (take n es)))) one (omega arith)))
+            ∙ put_back (take k (assignments_of es)) (assignments_of (entries_of keys (drop m (take n es)))) before (assignment_of_entry e)
+            (without_before es k distinct (omega arith))
+            (without_entries keys (drop m (take n es)) e.slot.key (behind es k m n one low high distinct))
+            (has_all-taken es k before (omega arith) (λ j less. had j (omega arith)))
+            (has_all-entries keys (drop m (take n es)) before (has_all-between es m n before (has_all-taken es n before high had)))
+            (had k (omega arith))
+            ∙ ap (λ xs. assign (take k (assignments_of es) ++ assignments_of xs) before) (sym stay);
+        objects = ap (map released) objects ∙ undoes.objects ∙ ap (λ xs. failed_at (places_of xs) (map released os₁)) (sym stay);
+      }
+
+  -- The device failed that was to undo the last commit.
+  pub undo_failed : (key : SettingKey) → key ≡ (entry_at ds (m - 1)).slot.key →
+      (entry_at ds (m - 1)).object < length os → v ≡ w →
+      ns ≡ after_failure os (entry_at ds (m - 1)) →
+      Undoes w₁ os₁ es n v ns k (key ∷ keys)
+  undo_failed key is within world objects =
+      let e = entry_at es k in
+      let at : entry_at ds (m - 1) ≡ entry_at es k = last_is es ds m k same one in
+      let stay : entries_of ((entry_at es k).slot.key ∷ keys) (drop k (take n es)) ≡ entry_at es k ∷ entries_of keys (drop m (take n es))
+      = stay_more es k m n one low high distinct keys in
+      subst (λ z. Undoes w₁ os₁ es n v ns k (z ∷ keys)) (sym (is ∙ ap (λ (z : Staged). z.slot.key) at)) (record {
+        stands = λ before done. committed_after_failure before w v os ns es k (entry_at ds (m - 1)) within world objects (fewer before w os es m k (omega arith) (undoes.stands before done));
+        told = ap (λ ks. e.slot.key ∷ ks) undoes.told ∙ ap entry_keys (sym stay);
+        world = λ before done was.
+            world
+            ∙ undoes.world before done was
+            ∙ ap (λ ps. assign ps before) (take_last es m k (assignments_of (entries_of keys (drop m (take n es)))) one (omega arith))
+            ∙ ap (λ xs. assign (take k (assignments_of es) ++ assignments_of xs) before) (sym stay);
+        objects =
+            released_after_failure os ns (failed_at (places_of (entries_of keys (drop m (take n es)))) (map released os₁)) (entry_at ds (m - 1)) objects undoes.objects
+            ∙ ap (λ (z : Staged). slice_set (failed_at (places_of (entries_of keys (drop m (take n es)))) (map released os₁)) z.object (failed_once (object_at (failed_at (places_of (entries_of keys (drop m (take n es)))) (map released os₁)) z.object))) at
+            ∙ ap (λ xs. failed_at (places_of xs) (map released os₁)) (sym stay);
+      })

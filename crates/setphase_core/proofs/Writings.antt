@@ -1,0 +1,145 @@
+-- What a variable that passed writes, and why one that did not pass is refused.
+use Rattle.std.proofs.Common.{◌≡◌, ℕ, zero, suc, ◌<◌, ◌≤◌, ◌∙◌, sym, ap, refl, Bool, true, false, cond, nat_lt, List, [], ◌∷◌, length, drop, Some, None, Result, Ok, Err, arith, ◌⊎◌, inl, inr}
+use Rattle.std.proofs.lemmas.Bool.Decides.{nat_tests}
+use Rattle.message_core.specs.declared.binding.Binding.{Binding}
+use Rattle.vacm_core.specs.Families.{family_answer, in_view, is_included}
+use Rattle.vacm_core.specs.declared.verdict.FamilyAnswer.{FamilyAnswer}
+use Rattle.setphase_core.specs.declared.limits.TheConstants.{MAX_SLOTS, MAX_VARIABLES}
+use Rattle.setphase_core.specs.declared.object.Assignment.{Assignment}
+use Rattle.setphase_core.specs.declared.object.Reservation.{Reservation}
+use Rattle.setphase_core.specs.declared.object.SetFault.{SetFault}
+use Rattle.setphase_core.specs.declared.object.SetFault.TheVariants.{NotWritable, ResourceUnavailable}
+use Rattle.setphase_core.specs.declared.object.Slot.{Slot}
+use Rattle.setphase_core.specs.declared.staging.VariableFault.{VariableFault}
+use Rattle.setphase_core.specs.declared.staging.VariableFault.TheVariants.{NoAccess, Refused}
+use Rattle.setphase_core.specs.declared.world.World.{World}
+use Rattle.setphase_core.specs.Objects.{ObjectState}
+use Rattle.setphase_core.specs.Registry.{rows_of, prefixes_of}
+use Rattle.setphase_core.specs.Searching.{IsOwnerPlace}
+use Rattle.setphase_core.specs.Staging.{object_at}
+use Rattle.setphase_core.specs.Tested.{answer_at, IsFaulty}
+use Rattle.setphase_core.specs.Variables.{object_of, assignment_in, assignment_for, with_room, in_answer, variable}
+use Rattle.setphase_core.specs.Writing.{assignment_of, placed}
+
+-- ---- the object of a name
+
+pub owner_row : (os : List ObjectState) (name : List ℕ) (p : ℕ) →
+    IsOwnerPlace (prefixes_of (rows_of os)) name (Some p) →
+    object_of (rows_of os) name ≡ Some (object_at os p).row
+owner_row [] name p (within, begins, others) = absurd (omega (arith, within))
+owner_row (o ∷ os) name zero (within, begins, others) = rw begins refl
+owner_row (o ∷ os) name (suc p) (within, begins, others) =
+    rw (others 0 (omega arith) (omega arith))
+    (owner_row os name p (omega (arith, within), begins, λ k below other. others (suc k) (omega (arith, below)) (λ e. other (omega (arith, e)))))
+
+pub no_owner_row : (os : List ObjectState) (name : List ℕ) →
+    IsOwnerPlace (prefixes_of (rows_of os)) name None → object_of (rows_of os) name ≡ None
+no_owner_row [] name none = refl
+no_owner_row (o ∷ os) name none =
+    rw (none 0 (omega arith)) (no_owner_row os name (λ k below. none (suc k) (omega (arith, below))))
+
+-- ---- places
+
+-- What was placed is what was to be, at the next place.
+pub record IsPlacedAs (r : Result Assignment SetFault) (reserved : List Reservation)
+    (slot : Slot) : Type 0 where
+  pub assigned : r ≡ Ok (record { key = slot.key; value = slot.value })
+  pub place : slot.place ≡ length reserved
+
+placed_as : (a : Assignment) (reserved : List Reservation) (slot : Slot) (b : Bool) →
+    cond {A = Result Slot SetFault} b (Ok (record { key = a.key; value = a.value; place = length reserved })) (Err ResourceUnavailable) ≡ Ok slot →
+    IsPlacedAs (Ok a) reserved slot
+placed_as a reserved slot true e =
+    let same : record { key = a.key; value = a.value; place = length reserved } ≡ slot = cc in
+    record {
+      assigned = ap (λ (s : Slot). Ok (record { key = s.key; value = s.value })) same;
+      place = ap (λ (s : Slot). s.place) (sym same);
+    }
+placed_as a reserved slot false e = absurd (cc)
+
+pub placed_ok : (r : Result Assignment SetFault) (reserved : List Reservation) (slot : Slot) →
+    placed reserved r ≡ Ok slot → IsPlacedAs r reserved slot
+placed_ok (Ok a) reserved slot e = placed_as a reserved slot (nat_lt (length reserved) MAX_SLOTS) e
+placed_ok (Err f) reserved slot e = absurd (cc)
+
+-- Why a slot was not placed: a fault, or all places were taken.
+full_or_not : (a : Assignment) (reserved : List Reservation) (f : SetFault) (b : Bool) →
+    nat_lt (length reserved) MAX_SLOTS ≡ b →
+    cond {A = Result Slot SetFault} b (Ok (record { key = a.key; value = a.value; place = length reserved })) (Err ResourceUnavailable) ≡ Err f →
+    (f ≡ ResourceUnavailable) × (MAX_SLOTS ≤ length reserved)
+full_or_not a reserved f true is e = absurd (cc)
+full_or_not a reserved f false is e = (cc, grind (arith, nat_tests, is))
+
+with_none_left : (a : Assignment) (before : ℕ) → MAX_VARIABLES ≤ before →
+    with_room before (Ok a) ≡ Err (Refused ResourceUnavailable)
+with_none_left a before full =
+    let none : nat_lt before MAX_VARIABLES ≡ false = grind (arith, nat_tests, full) in rw none refl
+
+with_some_left : (a : Assignment) (before : ℕ) → before < MAX_VARIABLES →
+    with_room before (Ok a) ≡ Ok a
+with_some_left a before room =
+    let some : nat_lt before MAX_VARIABLES ≡ true = grind (arith, nat_tests, room) in rw some refl
+
+refused_by : (r : Result Assignment SetFault) (reserved : List Reservation) (before : ℕ)
+    (f : SetFault) → length reserved ≤ before → placed reserved r ≡ Err f →
+    with_room before r ≡ Err (Refused f)
+refused_by (Err g) reserved before f few e = ap (λ (h : SetFault). Err (Refused h)) (same e)
+  where
+    same : ◌≡◌ {A = Result Slot SetFault} (Err g) (Err f) → g ≡ f
+    same e = cc
+refused_by (Ok a) reserved before f few e =
+    let full = full_or_not a reserved f (nat_lt (length reserved) MAX_SLOTS) refl e in
+    with_none_left a before (omega (arith, full.1, few)) ∙ ap (λ (h : SetFault). Err (Refused h)) (sym full.0)
+
+-- ---- variables
+
+module _ (os : List ObjectState) (w : World) (view : List ℕ) (before : ℕ) (b : Binding) where
+  -- What the object at the place of a variable's name writes is what the variable writes.
+  at_owner : (p : ℕ) → IsOwnerPlace (prefixes_of (rows_of os)) b.name (Some p) →
+      assignment_for (rows_of os) w b
+      ≡ assignment_of (object_at os p).row.column w (drop (length (object_at os p).row.prefix) b.name) b.value
+  at_owner p owner = ap (λ row. assignment_in row w b) (owner_row os b.name p owner)
+
+  pub assigned_ok : (p : ℕ) (slot : Slot) →
+      IsOwnerPlace (prefixes_of (rows_of os)) b.name (Some p) → answer_at os p w b ≡ Ok slot →
+      assignment_for (rows_of os) w b ≡ Ok (record { key = slot.key; value = slot.value })
+  assigned_ok p slot owner answer =
+      at_owner p owner ∙ (placed_ok _ (object_at os p).reserved slot answer).assigned
+
+  seen_through : (r : Result Assignment VariableFault) →
+      in_view w.policy.vacm.families view b.name ≡ true →
+      in_answer (family_answer w.policy.vacm.families view b.name) r ≡ r
+  seen_through r seen = rw seen refl
+
+  pub variable_ok : (p : ℕ) (slot : Slot) → in_view w.policy.vacm.families view b.name ≡ true →
+      before < MAX_VARIABLES → IsOwnerPlace (prefixes_of (rows_of os)) b.name (Some p) →
+      answer_at os p w b ≡ Ok slot →
+      variable (rows_of os) w view before b ≡ Ok (record { key = slot.key; value = slot.value })
+  variable_ok p slot seen room owner answer =
+      seen_through _ seen
+      ∙ ap (with_room before) (assigned_ok p slot owner answer)
+      ∙ with_some_left _ before room
+
+  pub variable_err : (fault : VariableFault) →
+      ((p : ℕ) → length (object_at os p).reserved ≤ before) →
+      IsFaulty os w view before b fault → variable (rows_of os) w view before b ≡ Err fault
+  variable_err (NoAccess answer) few (is, hidden) =
+      rw (ap is_included (sym is) ∙ hidden) (ap (λ (a : FamilyAnswer). Err (NoAccess a)) (sym is))
+  variable_err (Refused f) few (seen, why) = seen_through _ seen ∙ because why
+    where
+      because : ((f ≡ NotWritable) × IsOwnerPlace (prefixes_of (rows_of os)) b.name None)
+          ⊎ ((p : ℕ) × IsOwnerPlace (prefixes_of (rows_of os)) b.name (Some p)
+          × ((answer_at os p w b ≡ Err f)
+          ⊎ ((f ≡ ResourceUnavailable) × (MAX_VARIABLES ≤ before)
+          × ((slot : Slot) × (answer_at os p w b ≡ Ok slot))))) →
+          with_room before (assignment_for (rows_of os) w b) ≡ Err (Refused f)
+      because (inl (is, none)) =
+          ap (λ row. with_room before (assignment_in row w b)) (no_owner_row os b.name none)
+          ∙ ap (λ (h : SetFault). Err (Refused h)) (sym is)
+      because (inr (p, owner, inl answer)) =
+          ap (with_room before) (at_owner p owner)
+          ∙ refused_by _ (object_at os p).reserved before f (few p) answer
+      because (inr (p, owner, inr (is, full, (slot, answer)))) =
+          ap (with_room before) (assigned_ok p slot owner answer)
+          ∙ with_none_left _ before full
+          ∙ ap (λ (h : SetFault). Err (Refused h)) (sym is)

@@ -1,0 +1,32 @@
+use Rattle.std.proofs.Common.{◌∙◌, ◌+◌, ap, arith, map, slice_set}
+use Rattle.setphase_core.specs.declared.staging.Staged.{Staged}
+use Rattle.setphase_core.specs.Objects.{released, failed_once}
+use Rattle.setphase_core.specs.Staging.{entry_at, object_at}
+use Rattle.setphase_core.proofs.Commits.{Commits, commit_step, entry_is, next_pending, released_after_commit, released_after_failure}
+use Rattle.setphase_core.proofs.committing.commit_all.Goals as goal
+
+pub commit_next-requires-clause-reserved : goal.commit_next-requires-clause-reserved
+commit_next-requires-clause-reserved g c =
+    let i = c.loop-i.invariant in
+    (next_pending c.loop-i.world c.loop-i.staging.registry.now c.args.staging.now.staged.items c.loop-i.staging.staged.items c.loop-i.i c.loop-i.staging.committed i.staged i.counted (omega arith) i.pending).reserved
+
+pub loop-i-preserved : goal.loop-i-preserved
+loop-i-preserved g c =
+    let i = c.loop-i.invariant in
+    let after : Commits c.args.world.now c.commit_next.new.world c.commit_next.new.self.registry.now c.args.staging.now.staged.items (c.loop-i.i + 1)
+    = commit_step c.args.world.now c.loop-i.world _ c.loop-i.staging.registry.now _ c.args.staging.now.staged.items c.loop-i.staging.staged.items c.loop-i.i c.loop-i.staging.committed i.staged i.counted c.requires.distinct (omega arith) (record { world = i.world; pending = i.pending; done = i.done }) c.in-Ok.ensures.put c.in-Ok.ensures.kept c.in-Ok.ensures.before in
+    record {
+      same_reference = c.commit_next.ensures.same_reference ∙ i.same_reference;
+      staged = c.commit_next.ensures.staged ∙ i.staged;
+      counted = c.in-Ok.ensures.committed ∙ ap (λ n. n + 1) i.counted;
+      world = after.world;
+      pending = after.pending;
+      done = after.done;
+      objects = released_after_commit c.loop-i.world c.loop-i.staging.registry.now _ _ (entry_at c.loop-i.staging.staged.items c.loop-i.staging.committed) c.in-Ok.ensures.kept i.objects;
+    }
+
+pub returns-in_default-clause-objects : goal.returns-in_default-clause-objects
+returns-in_default-clause-objects g c =
+    let i = c.loop-i.invariant in
+    released_after_failure c.loop-i.staging.registry.now _ (map released c.args.staging.now.registry.now) (entry_at c.loop-i.staging.staged.items c.loop-i.staging.committed) c.in_default.ensures.failed i.objects
+    ∙ ap (λ (z : Staged). slice_set (map released c.args.staging.now.registry.now) z.object (failed_once (object_at (map released c.args.staging.now.registry.now) z.object))) (entry_is c.args.staging.now.staged.items c.loop-i.staging.staged.items c.loop-i.i c.loop-i.staging.committed i.staged i.counted)

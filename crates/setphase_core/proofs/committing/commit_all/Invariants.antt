@@ -1,0 +1,16 @@
+use Rattle.std.proofs.Common.{◌≡◌, take, map}
+use Rattle.setphase_core.specs.Objects.{released}
+use Rattle.setphase_core.specs.Staging.{assignments_of, ArePending, AreCommitted}
+use Rattle.setphase_core.specs.Together.{assign}
+use Rattle.setphase_core.proofs.committing.commit_all.Given as goal
+
+abbrev pub invariant-loop-i : goal.invariant-loop-i
+invariant-loop-i g l = record {
+  same_reference : l.staging.registry.ghost_name ≡ l.fn.staging.registry.ghost_name;
+  staged : l.staging.staged.items ≡ l.fn.staging.staged.items;
+  counted : l.staging.committed ≡ l.i;
+  world : l.world ≡ assign (take l.i (assignments_of l.fn.staging.staged.items)) l.fn.world;
+  pending : ArePending l.world l.staging.registry.now l.fn.staging.staged.items l.i;
+  done : AreCommitted l.fn.world l.world l.staging.registry.now l.fn.staging.staged.items l.i;
+  objects : map released l.staging.registry.now ≡ map released l.fn.staging.registry.now;
+}

@@ -1,0 +1,18 @@
+use Rattle.std.proofs.lemmas.Result.{on_ok_weaker, on_err_weaker}
+use Rattle.setphase_core.specs.Objects.{failed_once}
+use Rattle.setphase_core.proofs.States.{row_after_undo, right-set, states-same, states-step}
+use Rattle.setphase_core.proofs.registry.Registry.undo.Goals as goal
+
+pub invariant_of-self : goal.invariant_of-self
+invariant_of-self g c =
+    right-set g.O.MibObject.state c.self.inside.objects.items c.args.self.now c.args.place c.index_mut.result.now c.undo.new.self c.self.view_is c.requires.within c.index_mut.ensures.value
+    (row_after_undo c.undo.result _ _ c.undo.ensures.kept c.undo.ensures.failed)
+    c.self.invariant
+
+pub returns-clause-kept : goal.returns-clause-kept
+returns-clause-kept g c =
+    on_ok_weaker c.undo.result (λ h. states-same g.O.MibObject.state c.self.inside.objects.items c.args.self.now c.args.place c.index_mut.result.now c.undo.new.self c.self.view_is c.requires.within c.index_mut.ensures.value h) c.undo.ensures.kept
+
+pub returns-clause-failed : goal.returns-clause-failed
+returns-clause-failed g c =
+    on_err_weaker c.undo.result (λ h. states-step g.O.MibObject.state c.self.inside.objects.items c.args.self.now c.args.place c.index_mut.result.now c.undo.new.self c.self.view_is c.requires.within c.index_mut.ensures.value failed_once h) c.undo.ensures.failed

@@ -1,0 +1,108 @@
+-- One Set while it is being made: what is staged, and what stands between the calls.
+use Rattle.std.specs.Prelude.{◌≡◌, ℕ, ◌<◌, ◌≤◌, ◌≢◌, List, [], ◌∷◌, map, filter, length, slice_index_or, slice_set, take, Option, Some, None}
+use Rattle.rstp_settings.specs.declared.key.Key.TheVariants as key
+use Rattle.rstp_settings.specs.declared.key.BridgeKey.TheVariants as bridge
+use Rattle.setting_keys.specs.declared.SettingKey.{SettingKey}
+use Rattle.setting_keys.specs.declared.SettingKey.TheVariants.{Bridge}
+use Rattle.setting_keys.specs.declared.SettingValue.TheVariants.{Number}
+use Rattle.setphase_core.specs.declared.world.World.{World}
+use Rattle.setphase_core.specs.declared.column.Base.TheVariants as base
+use Rattle.setphase_core.specs.declared.column.Column.TheVariants as column
+use Rattle.setphase_core.specs.declared.object.Assignment.{Assignment}
+use Rattle.setphase_core.specs.declared.staging.Staged.{Staged}
+use Rattle.setphase_core.specs.Settings.{setting, HasSetting}
+use Rattle.setphase_core.specs.Objects.{ObjectState, IsReserved, IsCommitted, failed_once}
+use Rattle.setphase_core.specs.Together.{assign}
+use Rattle.setphase_core.specs.Outcomes.{has_key}
+
+-- read where no object is
+abbrev pub no_object : ObjectState
+no_object = record {
+  row = record { prefix = []; column = column.Base base.BridgeAddress };
+  reserved = [];
+  failures = 0;
+}
+
+-- The object at a place.
+abbrev pub object_at : List ObjectState → ℕ → ObjectState
+object_at os p = slice_index_or os p no_object
+
+abbrev pub no_entry : Staged
+no_entry = record {
+  object = 0;
+  slot = record { key = Bridge (key.Bridge bridge.Priority); value = Number 0; place = 0 };
+  number = 0;
+}
+
+abbrev pub entry_at : List Staged → ℕ → Staged
+entry_at es k = slice_index_or es k no_entry
+
+-- What the slots write.
+abbrev pub assignment_of_entry : Staged → Assignment
+assignment_of_entry e = record { key = e.slot.key; value = e.slot.value }
+
+abbrev pub assignments_of : List Staged → List Assignment
+assignments_of es = map assignment_of_entry es
+
+-- No assignment is to this setting.
+abbrev pub Without : SettingKey → List Assignment → Type 0
+Without k [] = Unit {0}
+Without k (a ∷ ps) = (a.key ≢ k) × Without k ps
+
+-- No two assignments are to one setting.
+abbrev pub IsDistinct : List Assignment → Type 0
+IsDistinct [] = Unit {0}
+IsDistinct (a ∷ ps) = Without a.key ps × IsDistinct ps
+
+-- The world has the settings of all assignments.
+abbrev pub HaveSettings : World → List Assignment → Type 0
+HaveSettings w [] = Unit {0}
+HaveSettings w (p ∷ ps) = HasSetting w p.key × HaveSettings w ps
+
+-- The slot of an entry is reserved at its object, and not committed.
+pub record StandsReserved (w : World) (os : List ObjectState) (e : Staged) : Type 0 where
+  pub within : e.object < length os
+  pub reserved : IsReserved w (object_at os e.object) e.slot
+
+-- The slot of an entry was committed at its object, over the value that its setting has in a world
+-- of before.
+pub record StandsCommitted (before w : World) (os : List ObjectState) (e : Staged) :
+    Type 0 where
+  pub within : e.object < length os
+  pub committed : IsCommitted w (object_at os e.object) e.slot (setting before e.slot.key)
+
+-- The entries from a place on are reserved.
+pub record ArePending (w : World) (os : List ObjectState) (es : List Staged) (n : ℕ) :
+    Type 0 where
+  pub stands : (k : ℕ) → n ≤ k → k < length es → StandsReserved w os (entry_at es k)
+
+-- The entries below a place were committed over the settings of a world of before.
+pub record AreCommitted (before w : World) (os : List ObjectState) (es : List Staged) (n : ℕ) :
+    Type 0 where
+  pub stands : (k : ℕ) → k < n → StandsCommitted before w os (entry_at es k)
+
+-- The objects after the devices of those at these places failed, one after the other from the last
+-- to the first.
+abbrev pub failed_at : List ℕ → List ObjectState → List ObjectState
+failed_at [] os = os
+failed_at (p ∷ ps) os =
+    slice_set (failed_at ps os) p (failed_once (object_at (failed_at ps os) p))
+
+-- The place of the object of the commit that failed, if one did.
+abbrev pub failing_place : List Staged → Option ℕ → List ℕ
+failing_place es None = []
+failing_place es (Some i) = (entry_at es i).object ∷ []
+
+-- The entries whose settings are among these.
+abbrev pub entries_of : List SettingKey → List Staged → List Staged
+entries_of keys es = filter (λ e. has_key keys e.slot.key) es
+
+abbrev pub places_of : List Staged → List ℕ
+places_of es = map (λ e. e.object) es
+
+-- What is known where the commit of the entry at place i failed: those before it are committed.
+pub record HasFailed (before w : World) (os : List ObjectState) (es : List Staged) (i : ℕ) :
+    Type 0 where
+  pub within : i < length es
+  pub world : w ≡ assign (take i (assignments_of es)) before
+  pub stands : AreCommitted before w os es i

@@ -1,0 +1,91 @@
+-- The variables of a Set one by one: what each writes, or its first fault (RFC 3416, 4.2.5).
+use Rattle.std.specs.Prelude.{ℕ, ◌+◌, nat_lt, if◌then◌else◌, List, [], ◌∷◌, ◌++◌, length, drop, find, Option, Some, None, Result, Ok, Err}
+use Rattle.std.specs.List.{flat_map}
+use Rattle.oid_core.specs.Order.{is_prefix}
+use Rattle.message_core.specs.declared.binding.Binding.{Binding}
+use Rattle.message_core.specs.declared.status.ErrorStatus.{ErrorStatus}
+use Rattle.message_core.specs.declared.status.ErrorStatus.TheVariants as status
+use Rattle.vacm_core.specs.Families.{family_answer, is_included}
+use Rattle.vacm_core.specs.declared.verdict.FamilyAnswer.{FamilyAnswer}
+use Rattle.setphase_core.specs.declared.world.World.{World}
+use Rattle.setphase_core.specs.declared.limits.TheConstants.{MAX_VARIABLES}
+use Rattle.setphase_core.specs.declared.object.Assignment.{Assignment}
+use Rattle.setphase_core.specs.declared.object.SetFault.{SetFault}
+use Rattle.setphase_core.specs.declared.object.SetFault.TheVariants as fault
+use Rattle.setphase_core.specs.declared.sets.Refusal.{Refusal}
+use Rattle.setphase_core.specs.declared.staging.VariableFault.{VariableFault}
+use Rattle.setphase_core.specs.declared.staging.VariableFault.TheVariants.{NoAccess, Refused}
+use Rattle.setphase_core.specs.Objects.{ObjectRow}
+use Rattle.setphase_core.specs.Writing.{assignment_of}
+
+-- The object of a name: its own name begins it.
+abbrev pub object_of : List ObjectRow → List ℕ → Option ObjectRow
+object_of rows name = find (λ row. is_prefix row.prefix name) rows
+
+-- What a variable writes, by its object. One that no object has is not writable.
+abbrev pub assignment_in : Option ObjectRow → World → Binding → Result Assignment SetFault
+assignment_in None w b = Err fault.NotWritable
+assignment_in (Some row) w b = assignment_of row.column w (drop (length row.prefix) b.name) b.value
+
+abbrev pub assignment_for : List ObjectRow → World → Binding → Result Assignment SetFault
+assignment_for rows w b = assignment_in (object_of rows b.name) w b
+
+-- A Set has room for so many variables: one behind so many others, that passed the rest, has none
+-- where they are as many.
+abbrev pub with_room : ℕ → Result Assignment SetFault → Result Assignment VariableFault
+with_room before (Err f) = Err (Refused f)
+with_room before (Ok a) =
+    if nat_lt before MAX_VARIABLES then Ok a else Err (Refused fault.ResourceUnavailable)
+
+-- A variable whose name is not in the view is not looked at.
+abbrev pub in_answer : FamilyAnswer → Result Assignment VariableFault →
+    Result Assignment VariableFault
+in_answer answer seen = if is_included answer then seen else Err (NoAccess answer)
+
+-- What a variable behind so many others writes, or its first fault.
+abbrev pub variable : List ObjectRow → World → List ℕ → ℕ → Binding →
+    Result Assignment VariableFault
+variable rows w view before b =
+    in_answer (family_answer w.policy.vacm.families view b.name)
+    (with_room before (assignment_for rows w b))
+
+-- The error-status of a fault (RFC 3416, section 3).
+abbrev pub status_of : SetFault → ErrorStatus
+status_of fault.NotWritable = status.NotWritable
+status_of fault.WrongType = status.WrongType
+status_of fault.WrongLength = status.WrongLength
+status_of fault.WrongValue = status.WrongValue
+status_of fault.NoCreation = status.NoCreation
+status_of fault.InconsistentName = status.InconsistentName
+status_of fault.InconsistentValue = status.InconsistentValue
+status_of fault.ResourceUnavailable = status.ResourceUnavailable
+
+-- The refusal of a Set for the fault of the variable of this number, counted from 1.
+abbrev pub refusal_for : ℕ → VariableFault → Refusal
+refusal_for i (NoAccess answer) =
+    record { status = status.NoAccess; index = i; family = Some answer }
+refusal_for i (Refused f) = record { status = status_of f; index = i; family = None }
+
+abbrev pub refusals_for : ℕ → Result Assignment VariableFault → List Refusal
+refusals_for i (Ok a) = []
+refusals_for i (Err f) = refusal_for i f ∷ []
+
+-- The refusals for the faults of variables that stand behind so many others, by rising number.
+abbrev pub single_refusals : List ObjectRow → World → List ℕ → ℕ → List Binding → List Refusal
+single_refusals rows w view before [] = []
+single_refusals rows w view before (b ∷ bs) =
+    refusals_for (before + 1) (variable rows w view before b)
+    ++ single_refusals rows w view (before + 1) bs
+
+-- What the variable of a name writes.
+pub record Written : Type 0 where
+  pub name : List ℕ
+  pub assignment : Assignment
+
+abbrev pub written : List ℕ → Result Assignment SetFault → List Written
+written name (Ok a) = record { name = name; assignment = a } ∷ []
+written name (Err f) = []
+
+-- What the variables of a Set write, in their order.
+abbrev pub writings : List ObjectRow → World → List Binding → List Written
+writings rows w bs = flat_map (λ b. written b.name (assignment_for rows w b)) bs

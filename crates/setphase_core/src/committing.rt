@@ -1,0 +1,72 @@
+//! All commits of a Set, and the undoing of all.
+ghost use Rattle.std.specs.Prelude.{◌≡◌, ℕ, ◌≤◌, length, map, take, IfSome, IfNone};
+ghost use Rattle.setphase_core.specs.declared.world.World.{World as AnyWorld};
+ghost use Rattle.setphase_core.specs.Objects.{released};
+ghost use Rattle.setphase_core.specs.Together.{assign};
+ghost use Rattle.setphase_core.specs.Staging.{failing_place, assignments_of, IsDistinct, ArePending, AreCommitted, HasFailed, failed_at, entries_of, places_of};
+
+use crate::object::MibObject;
+use crate::staging::Staging;
+use crate::world::World;
+use setting_keys::SettingKeys;
+
+/// Commits all that is staged, and answers the place of the first commit that failed.
+pub(crate) fn commit_all<O: MibObject>(
+    staging: &mut Staging<'_, O>,
+    world: &mut World,
+) -> Option<usize>
+    requires none { staging.old.committed ≡ 0 }
+    requires distinct { IsDistinct (assignments_of staging.old.staged.items) }
+    requires pending { ArePending world.old staging.old.registry.now staging.old.staged.items 0 }
+    ensures same_reference { staging.new.registry.ghost_name ≡ staging.old.registry.ghost_name }
+    ensures staged { staging.new.staged.items ≡ staging.old.staged.items }
+    ensures done { IfNone result
+        (world.new ≡ assign (assignments_of staging.old.staged.items) world.old) }
+    ensures failed { IfSome result (HasFailed world.old world.new staging.new.registry.now
+        staging.old.staged.items) }
+    ensures committed { IfSome result (λ i. staging.new.committed ≡ i) }
+    ensures objects { map released staging.new.registry.now
+        ≡ failed_at (failing_place staging.old.staged.items result)
+        (map released staging.old.registry.now) }
+{
+    for i in 0..staging.staged.len() {
+        let Ok(()) = staging.commit_next(world) else {
+            return Some(i);
+        };
+    }
+    None
+}
+
+/// Undoes all commits, and answers the settings whose undoing failed, in the order of their
+/// variables.
+pub(crate) fn undo_all<O: MibObject>(staging: &mut Staging<'_, O>, world: &mut World) -> SettingKeys
+    requires counted { staging.old.committed ≤ length staging.old.staged.items }
+    requires distinct { IsDistinct (assignments_of staging.old.staged.items) }
+    requires committed { (before : AnyWorld) × AreCommitted before world.old
+        staging.old.registry.now staging.old.staged.items staging.old.committed }
+    ensures same_reference { staging.new.registry.ghost_name ≡ staging.old.registry.ghost_name }
+    ensures staged { staging.new.staged.items ≡ staging.old.staged.items }
+    ensures keys { result ≡ map (λ e. e.slot.key)
+        (entries_of result (take staging.old.committed staging.old.staged.items)) }
+    ensures undone { (before : AnyWorld)
+        → AreCommitted before world.old staging.old.registry.now staging.old.staged.items
+        staging.old.committed
+        → world.old ≡ assign (take staging.old.committed
+        (assignments_of staging.old.staged.items)) before
+        → world.new ≡ assign (assignments_of
+        (entries_of result (take staging.old.committed staging.old.staged.items))) before }
+    ensures objects { map released staging.new.registry.now
+        ≡ failed_at (places_of
+        (entries_of result (take staging.old.committed staging.old.staged.items)))
+        (map released staging.old.registry.now) }
+{
+    let mut stuck = SettingKeys::new();
+    while staging.committed > 0 {
+        let key = staging.staged.as_slice()[staging.committed - 1].slot.key;
+        let Ok(()) = staging.undo_last(world) else {
+            stuck.put_first(key);
+            continue;
+        };
+    }
+    stuck
+}

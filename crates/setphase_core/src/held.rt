@@ -1,0 +1,38 @@
+//! What the objects of a registry have reserved.
+ghost use Rattle.std.specs.Prelude.{◌≡◌, ◌-◌, ◌^◌, map, min};
+ghost use Rattle.setphase_core.specs.Objects.{released};
+ghost use Rattle.setphase_core.specs.Registry.{held_count};
+
+use crate::object::MibObject;
+use crate::registry::Registry;
+
+impl<O: MibObject> Registry<O> {
+    /// How many slots all objects have reserved; a count above `usize::MAX` is told as that.
+    pub fn held(&self) -> usize
+        ensures { result ≡ min (held_count self.now) (2 ^ 64 - 1) }
+    {
+        let mut count: usize = 0;
+        for object in &self.objects {
+            count = count.saturating_add(object.held());
+        }
+        count
+    }
+
+    /// Lets each object drop its slots.
+    pub fn release(&mut self)
+        ensures { self.new ≡ map released self.old }
+    {
+        for object in self.objects.iter_mut() {
+            object.release();
+        }
+    }
+
+    /// Hands a plan down to the objects' devices ([`MibObject::arm`]).
+    pub fn arm(&mut self, plan: u64)
+        ensures { self.new ≡ self.old }
+    {
+        for object in self.objects.iter_mut() {
+            object.arm(plan);
+        }
+    }
+}

@@ -1,0 +1,329 @@
+//! A Set: all variables are tested, then all are committed, and where a device fails the earlier
+//! ones are undone (RFC 3416, 4.2.5).
+ghost use Rattle.std.specs.Prelude.{◌≡◌, ◌↔◌, ◌<◌, ◌≤◌, ◌^◌, [], ◌∷◌, if◌then◌else◌, length, map, slice_get, Some, IfOk, IfErr, IfNone, IfSome, IsSome};
+ghost use Rattle.vacm_core.specs.Families.{NamesFamilyOf};
+ghost use Rattle.setphase_core.specs.Objects.{released};
+ghost use Rattle.setphase_core.specs.Registry.{rows_of, held_count};
+ghost use Rattle.setphase_core.specs.Settings.{setting, HasSetting, with_settings};
+ghost use Rattle.setphase_core.specs.Variables.{status_of, refusal_for, single_refusals, writings};
+ghost use Rattle.setphase_core.specs.Together.{assign, is_timer, timer, timers_agree, refusal_of};
+ghost use Rattle.setphase_core.specs.Outcomes.{refusal_in, notes_in, world_after_set, AreNotes, NamesASetting, failed_names, object_after};
+ghost use Rattle.setphase_core.specs.Staging.{assignments_of, IsDistinct, HaveSettings};
+ghost use Rattle.setphase_core.specs.Tested.{first_in, is_contradicting, inconsistency, ArePassed, AreReady};
+
+use crate::committing::{commit_all, undo_all};
+use crate::object::{MibObject, SetFault};
+use crate::registry::Registry;
+use crate::staging::{Staged, Staging, Standing, TestedVariable, VariableFault, value_among};
+use crate::world::World;
+use message_core::{Binding, ErrorStatus};
+use rstp_settings::key::{BridgeKey, Key};
+use setting_keys::{SettingKey, SettingKeys, SettingValue};
+use vacm_core::{FamilyAnswer, Name};
+
+// Two seconds, in hundredths of a second.
+const TWO_SECONDS: u64 = 200;
+
+/// Why a Set is refused.
+#[derive(Clone, Copy, Debug, PartialEq, Eq)]
+pub struct Refusal {
+    /// The error-status.
+    pub status: ErrorStatus,
+    /// The number of the variable, counted from 1.
+    pub index: usize,
+    /// By which family row its name is not in the view, where the status is noAccess.
+    pub family: Option<FamilyAnswer>,
+}
+
+/// How a Set ended.
+#[derive(Drop)]
+pub enum SetOutcome {
+    /// All variables have their values.
+    Done,
+    /// Nothing was changed.
+    Refused(Refusal),
+    /// The commit of the variable of this number, counted from 1, failed, and those committed
+    /// before it were undone: nothing is changed (RFC 3416, 4.2.5).
+    CommitFailed(usize),
+    /// The commit of the variable of this number failed, and so did the undoing of these settings,
+    /// which keep their new values; in the order of their variables. A response has index 0 for it
+    /// (RFC 3416, 4.2.5).
+    UndoFailed(usize, SettingKeys),
+}
+
+// The numbers of the first variable that contradicts an earlier one, and of the first that writes a
+// timer.
+#[derive(Clone, Copy)]
+struct Joint {
+    contradiction: Option<usize>,
+    timer: Option<usize>,
+}
+
+// Whether a setting is a timer of the bridge.
+fn is_timer(key: SettingKey) -> bool
+    ensures { result ≡ is_timer key }
+{
+    match key {
+        SettingKey::Bridge(Key::Bridge(key)) => {
+            matches!(
+                key,
+                BridgeKey::MaxAge | BridgeKey::Hello | BridgeKey::ForwardDelay
+            )
+        }
+        SettingKey::Bridge(Key::Port(..)) => false,
+    }
+}
+
+// The number that was found, or else this one, where it counts.
+fn first_in(found: Option<usize>, counts: bool, number: usize) -> Option<usize>
+    ensures { result ≡ first_in found (if counts then number ∷ [] else []) }
+{
+    match found {
+        Some(found) => Some(found),
+        None => counts.then_some(number),
+    }
+}
+
+// What is noted of one variable more.
+fn noted(joint: Joint, number: usize, variable: TestedVariable) -> Joint
+    ensures contradiction { result.contradiction ≡ first_in joint.contradiction
+        (if is_contradicting variable.standing then number ∷ [] else []) }
+    ensures timer { result.timer ≡ first_in joint.timer
+        (if is_timer variable.key then number ∷ [] else []) }
+{
+    Joint {
+        contradiction: first_in(
+            joint.contradiction,
+            variable.standing == Standing::Contradicts,
+            number,
+        ),
+        timer: first_in(joint.timer, is_timer(variable.key), number),
+    }
+}
+
+impl SetFault {
+    /// The error-status of a fault (RFC 3416, section 3).
+    pub fn status(self) -> ErrorStatus
+        ensures { result ≡ status_of self }
+    {
+        match self {
+            SetFault::NotWritable => ErrorStatus::NotWritable,
+            SetFault::WrongType => ErrorStatus::WrongType,
+            SetFault::WrongLength => ErrorStatus::WrongLength,
+            SetFault::WrongValue => ErrorStatus::WrongValue,
+            SetFault::NoCreation => ErrorStatus::NoCreation,
+            SetFault::InconsistentName => ErrorStatus::InconsistentName,
+            SetFault::InconsistentValue => ErrorStatus::InconsistentValue,
+            SetFault::ResourceUnavailable => ErrorStatus::ResourceUnavailable,
+        }
+    }
+}
+
+// The refusal for the fault of the variable of a number.
+fn refusal_for(number: usize, fault: VariableFault) -> Refusal
+    ensures { result ≡ refusal_for number fault }
+{
+    match fault {
+        VariableFault::NoAccess(answer) => Refusal {
+            status: ErrorStatus::NoAccess,
+            index: number,
+            family: Some(answer),
+        },
+        VariableFault::Refused(fault) => Refusal {
+            status: fault.status(),
+            index: number,
+            family: None,
+        },
+    }
+}
+
+// Tests all variables by themselves.
+fn stage_all<O: MibObject>(
+    staging: &mut Staging<'_, O>,
+    world: &World,
+    view: &Name,
+    bindings: &[Binding],
+) -> Result<Joint, Refusal>
+    requires fresh { staging.old.registry.now ≡ map released staging.old.registry.now }
+    requires staged { staging.old.staged.items ≡ [] }
+    requires tested { staging.old.tested ≡ 0 }
+    ensures same_reference { staging.new.registry.ghost_name ≡ staging.old.registry.ghost_name }
+    ensures committed { staging.new.committed ≡ staging.old.committed }
+    ensures released { map released staging.new.registry.now
+        ≡ map released staging.old.registry.now }
+    ensures refused { IfErr result (λ refusal. Some refusal ≡ slice_get (single_refusals
+        (rows_of staging.old.registry.now) world.now view.now 0 bindings.now) 0) }
+    ensures passed { IfOk result (λ joint. ArePassed (rows_of staging.old.registry.now) world.now
+        view.now bindings.now staging.new.registry.now staging.new.staged.items
+        joint.contradiction joint.timer) }
+{
+    let _ports = world.bridge.ports();
+    let mut joint = Joint {
+        contradiction: None,
+        timer: None,
+    };
+    for (i, binding) in bindings.iter().enumerate() {
+        match staging.stage(world, view, binding) {
+            Ok(variable) => joint = noted(joint, i + 1, variable),
+            Err(fault) => return Err(refusal_for(i + 1, fault)),
+        }
+    }
+    Ok(joint)
+}
+
+// The value of a setting once all that is staged is assigned.
+fn value_after(world: &World, staged: &[Staged], key: SettingKey) -> SettingValue
+    requires has { HasSetting world.now key }
+    requires distinct { IsDistinct (assignments_of staged.now) }
+    requires have { HaveSettings world.now (assignments_of staged.now) }
+    ensures { result ≡ setting (assign (assignments_of staged.now) world.now) key }
+{
+    match value_among(staged, key) {
+        Some(value) => value,
+        None => world.get_setting(key),
+    }
+}
+
+// A timer of the bridge once all that is staged is assigned, in hundredths of a second.
+fn timer_after(world: &World, staged: &[Staged], key: BridgeKey) -> u64
+    requires distinct { IsDistinct (assignments_of staged.now) }
+    requires have { HaveSettings world.now (assignments_of staged.now) }
+    ensures value { result ≡ timer (assign (assignments_of staged.now) world.now) key }
+    ensures most { result < 2 ^ 32 }
+{
+    match value_after(world, staged, SettingKey::Bridge(Key::Bridge(key))) {
+        SettingValue::Number(number) => u64::from(number),
+    }
+}
+
+// Whether the timers agree once all that is staged is assigned (IEEE 802.1D-2004 17.14).
+fn timers_agree(world: &World, staged: &[Staged]) -> bool
+    requires distinct { IsDistinct (assignments_of staged.now) }
+    requires have { HaveSettings world.now (assignments_of staged.now) }
+    ensures { result ≡ timers_agree (assign (assignments_of staged.now) world.now) }
+{
+    let max_age = timer_after(world, staged, BridgeKey::MaxAge);
+    let hello = timer_after(world, staged, BridgeKey::Hello);
+    let forward_delay = timer_after(world, staged, BridgeKey::ForwardDelay);
+    max_age + TWO_SECONDS <= 2 * forward_delay && 2 * hello + TWO_SECONDS <= max_age
+}
+
+// The number of the variable that keeps all from going together, where one does.
+fn inconsistency(world: &World, staged: &[Staged], joint: Joint) -> Option<usize>
+    requires distinct { IsDistinct (assignments_of staged.now) }
+    requires have { HaveSettings world.now (assignments_of staged.now) }
+    ensures { result ≡ inconsistency joint.contradiction
+        (timers_agree (assign (assignments_of staged.now) world.now)) joint.timer }
+{
+    match joint.contradiction {
+        Some(number) => Some(number),
+        None if timers_agree(world, staged) => None,
+        None => joint.timer,
+    }
+}
+
+// Tests a Set: why it is refused, or nothing.
+fn refused<O: MibObject>(
+    staging: &mut Staging<'_, O>,
+    world: &World,
+    view: &Name,
+    bindings: &[Binding],
+) -> Option<Refusal>
+    requires fresh { staging.old.registry.now ≡ map released staging.old.registry.now }
+    requires staged { staging.old.staged.items ≡ [] }
+    requires tested { staging.old.tested ≡ 0 }
+    ensures same_reference { staging.new.registry.ghost_name ≡ staging.old.registry.ghost_name }
+    ensures committed { staging.new.committed ≡ staging.old.committed }
+    ensures released { map released staging.new.registry.now
+        ≡ map released staging.old.registry.now }
+    ensures refusal { result ≡ refusal_of (rows_of staging.old.registry.now) world.now view.now
+        bindings.now }
+    ensures ready { IfNone result (AreReady (rows_of staging.old.registry.now) world.now
+        bindings.now staging.new.registry.now staging.new.staged.items) }
+{
+    match stage_all(staging, world, view, bindings) {
+        Err(refusal) => Some(refusal),
+        Ok(joint) => match inconsistency(world, staging.staged.as_slice(), joint) {
+            None => None,
+            Some(number) => Some(Refusal {
+                status: ErrorStatus::InconsistentValue,
+                index: number,
+                family: None,
+            }),
+        },
+    }
+}
+
+// Makes the Set that a staging is for.
+fn run_staged<O: MibObject>(
+    staging: &mut Staging<'_, O>,
+    world: &mut World,
+    view: &Name,
+    bindings: &[Binding],
+) -> SetOutcome
+    requires fresh { staging.old.registry.now ≡ map released staging.old.registry.now }
+    requires staged { staging.old.staged.items ≡ [] }
+    requires tested { staging.old.tested ≡ 0 }
+    requires committed { staging.old.committed ≡ 0 }
+    ensures same_reference { staging.new.registry.ghost_name ≡ staging.old.registry.ghost_name }
+    ensures refusal { refusal_in result ≡ refusal_of (rows_of staging.old.registry.now) world.old
+        view.now bindings.now }
+    ensures notes { AreNotes (writings (rows_of staging.old.registry.now) world.old bindings.now)
+        (notes_in result) }
+    ensures undos { NamesASetting result }
+    ensures world { world.new ≡ world_after_set (refusal_in result)
+        (writings (rows_of staging.old.registry.now) world.old bindings.now) world.old
+        (notes_in result) }
+    ensures objects { map released staging.new.registry.now ≡ map (object_after (failed_names
+        (writings (rows_of staging.old.registry.now) world.old bindings.now) (notes_in result)))
+        staging.old.registry.now }
+{
+    if let Some(refusal) = refused(staging, world, view, bindings) {
+        return SetOutcome::Refused(refusal);
+    }
+    let Some(failed) = commit_all(staging, world) else {
+        return SetOutcome::Done;
+    };
+    let number = staging.staged.as_slice()[failed].number;
+    let keys = undo_all(staging, world);
+    if keys.is_empty() {
+        SetOutcome::CommitFailed(number)
+    } else {
+        SetOutcome::UndoFailed(number, keys)
+    }
+}
+
+/// Sets all variables in a view, or none but those that could not be undone. Changed settings are
+/// not in force yet: `Bridge::settle` comes behind. No object holds a reservation afterwards. It
+/// takes no memory.
+pub fn run_set<O: MibObject>(
+    registry: &mut Registry<O>,
+    world: &mut World,
+    bindings: &[Binding],
+    view: &Name,
+) -> SetOutcome
+    ensures refusal { refusal_in result
+        ≡ refusal_of (rows_of registry.old) world.old view.now bindings.now }
+    ensures notes { AreNotes (writings (rows_of registry.old) world.old bindings.now)
+        (notes_in result) }
+    ensures undos { NamesASetting result }
+    ensures world { world.new ≡ world_after_set (refusal_in result)
+        (writings (rows_of registry.old) world.old bindings.now) world.old (notes_in result) }
+    ensures objects { registry.new ≡ map (object_after
+        (failed_names (writings (rows_of registry.old) world.old bindings.now) (notes_in result)))
+        registry.old }
+    ensures refused_index { IfSome (refusal_in result)
+        (λ r. (1 ≤ r.index) × (r.index ≤ length bindings.now)) }
+    ensures failed_index { IfSome (notes_in result).commit
+        (λ i. (1 ≤ i) × (i ≤ length bindings.now)) }
+    ensures family { IfSome (refusal_in result) (λ r. IfSome r.family
+        (λ answer. NamesFamilyOf world.old.policy.vacm.families answer)) }
+    ensures no_access { IfSome (refusal_in result)
+        (λ r. (r.status ≡ ErrorStatus.NoAccess) ↔ IsSome r.family) }
+    ensures settings { world.new ≡ with_settings world.old world.new.bridge.settings }
+    ensures rows { rows_of registry.new ≡ rows_of registry.old }
+    ensures held { held_count registry.new ≡ 0 }
+{
+    let mut staging = Staging::new(registry);
+    run_staged(&mut staging, world, view, bindings)
+}

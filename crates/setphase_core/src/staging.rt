@@ -1,0 +1,271 @@
+//! One Set over a registry: the slots that it has reserved, and how many of them are committed (RFC
+//! 3416, 4.2.5).
+ghost use Rattle.std.specs.Prelude.{◌≡◌, ◌+◌, ◌-◌, ◌≤◌, ◌<◌, [], length, map, slice_get, slice_set, Some, OnOk, OnErr, IfOk, IfErr};
+ghost use Rattle.setting_keys.specs.declared.SettingValue.{SettingValue as AnySetting};
+ghost use Rattle.setphase_core.specs.Objects.{released, committed, made, failed_once, IsReserved, IsCommitted};
+ghost use Rattle.setphase_core.specs.Settings.{put, setting, IsSettingInRange};
+ghost use Rattle.setphase_core.specs.declared.object.SetFault.TheVariants.{ResourceUnavailable};
+ghost use Rattle.setphase_core.specs.Staging.{object_at, entry_at, assignments_of};
+ghost use Rattle.setphase_core.specs.Tested.{value_among, standing_by, staged_by, IsPassed, IsFaulty};
+
+use crate::limits::MAX_VARIABLES;
+use crate::object::{DeviceFault, MibObject, SetFault, Slot};
+use crate::registry::Registry;
+use crate::world::World;
+use arrayvec::ArrayVec;
+use message_core::Binding;
+use setting_keys::{SettingKey, SettingValue};
+use vacm_core::{FamilyAnswer, Name};
+
+/// Why a variable of a Set is refused by itself.
+#[derive(Clone, Copy, Debug, PartialEq, Eq)]
+pub enum VariableFault {
+    /// Its name is not in the view: by this family row, or by none.
+    NoAccess(FamilyAnswer),
+    /// Its object refuses it, or no object has it, or the Set has no room for it.
+    Refused(SetFault),
+}
+
+/// What a variable that passed its tests is to those before it.
+#[derive(Clone, Copy, Debug, PartialEq, Eq)]
+pub enum Standing {
+    /// None of them writes its setting.
+    First,
+    /// One of them gives its setting the same value.
+    Repeats,
+    /// One of them gives its setting another value.
+    Contradicts,
+}
+
+/// What a variable that passed its tests writes.
+#[derive(Clone, Copy, Debug, PartialEq, Eq)]
+pub struct TestedVariable {
+    /// The setting.
+    pub key: SettingKey,
+    /// What the variable is to those before it.
+    pub standing: Standing,
+}
+
+/// A slot that is to be committed.
+#[derive(Clone, Copy, Debug, Default, PartialEq, Eq)]
+pub struct Staged {
+    /// The place of its object in the registry.
+    pub object: usize,
+    /// The slot.
+    pub slot: Slot,
+    /// The number of its variable, counted from 1.
+    pub number: usize,
+}
+
+/// A Set that is being made. When it is dropped every reservation is released; what is committed
+/// stays committed.
+pub struct Staging<'a, O: MibObject> {
+    pub(crate) registry: &'a mut Registry<O>,
+    pub(crate) staged: ArrayVec<Staged, MAX_VARIABLES>,
+    pub(crate) tested: usize,
+    pub(crate) committed: usize,
+}
+
+/// The value that a setting is to get, where a slot is staged for it.
+pub(crate) fn value_among(staged: &[Staged], key: SettingKey) -> Option<SettingValue>
+    ensures { result ≡ value_among (assignments_of staged.now) key }
+{
+    let (first, others) = staged.split_first()?;
+    if first.slot.key == key {
+        Some(first.slot.value)
+    } else {
+        value_among(others, key)
+    }
+}
+
+// What a slot is to those that are staged.
+fn standing_of(staged: &[Staged], slot: Slot) -> Standing
+    ensures { result
+        ≡ standing_by (value_among (assignments_of staged.now) slot.key) slot.value }
+{
+    match value_among(staged, slot.key) {
+        None => Standing::First,
+        Some(value) if value == slot.value => Standing::Repeats,
+        Some(_) => Standing::Contradicts,
+    }
+}
+
+impl<'a, O: MibObject> Staging<'a, O> {
+    /// A Set of which nothing is tested yet. It takes no memory.
+    pub fn new(registry: &'a mut Registry<O>) -> Staging<'a, O>
+        ensures same_reference { result.registry.ghost_name ≡ registry.entry.ghost_name }
+        ensures registry { result.registry.now ≡ map released registry.old }
+        ensures staged { result.staged.items ≡ [] }
+        ensures tested { result.tested ≡ 0 }
+        ensures committed { result.committed ≡ 0 }
+    {
+        registry.release();
+        Staging {
+            registry,
+            staged: ArrayVec::new(),
+            tested: 0,
+            committed: 0,
+        }
+    }
+
+    /// Tests a variable in a view, behind those that passed before. It takes no memory.
+    ///
+    /// # Errors
+    /// The first fault of the variable. Nothing is staged then; where it is the want of room in the
+    /// Set, the slot that the object reserved stays until this is dropped.
+    pub fn stage(
+        &mut self,
+        world: &World,
+        view: &Name,
+        binding: &Binding,
+    ) -> Result<TestedVariable, VariableFault>
+        requires { length self.old.staged.items ≤ self.old.tested }
+        ensures same_reference { self.new.registry.ghost_name ≡ self.old.registry.ghost_name }
+        ensures committed { self.new.committed ≡ self.old.committed }
+        ensures tested { OnOk result (self.new.tested ≡ self.old.tested + 1) }
+        ensures counted { OnOk result (length self.new.staged.items ≤ self.new.tested) }
+        ensures passed { IfOk result (λ passed. IsPassed self.old.registry.now
+            self.new.registry.now world.now view.now self.old.tested binding.now
+            self.old.staged.items self.new.staged.items passed) }
+        ensures fault { IfErr result (λ fault. IsFaulty self.old.registry.now world.now view.now
+            self.old.tested binding.now fault) }
+        ensures released { OnErr result
+            (map released self.new.registry.now ≡ map released self.old.registry.now) }
+        ensures same_staged { OnErr result (self.new.staged.items ≡ self.old.staged.items) }
+        ensures same_tested { OnErr result (self.new.tested ≡ self.old.tested) }
+    {
+        let answer = world.policy.vacm().in_view(view, &binding.name);
+        if !answer.is_included() {
+            return Err(VariableFault::NoAccess(answer));
+        }
+        let Some(place) = self.registry.place(binding.name.as_slice()) else {
+            return Err(VariableFault::Refused(SetFault::NotWritable));
+        };
+        match self.registry.test(place, world, binding) {
+            Ok(slot) => self.keep(place, slot),
+            Err(fault) => Err(VariableFault::Refused(fault)),
+        }
+    }
+
+    // Keeps the slot of a variable, where the Set has room for it, and stages it where it is the
+    // first of its setting.
+    fn keep(&mut self, object: usize, slot: Slot) -> Result<TestedVariable, VariableFault>
+        requires { length self.old.staged.items ≤ self.old.tested }
+        ensures same_reference { self.new.registry.ghost_name ≡ self.old.registry.ghost_name }
+        ensures registry { self.new.registry.now ≡ self.old.registry.now }
+        ensures committed { self.new.committed ≡ self.old.committed }
+        ensures room { OnOk result (self.old.tested < MAX_VARIABLES) }
+        ensures tested { OnOk result (self.new.tested ≡ self.old.tested + 1) }
+        ensures counted { OnOk result (length self.new.staged.items ≤ self.new.tested) }
+        ensures standing { IfOk result (λ passed. passed ≡ record {
+          key = slot.key;
+          standing = standing_by
+              (value_among (assignments_of self.old.staged.items) slot.key) slot.value;
+        }) }
+        ensures staged { IfOk result (λ passed. self.new.staged.items
+            ≡ staged_by passed.standing self.old.staged.items
+            (record { object = object; slot = slot; number = self.old.tested + 1 })) }
+        ensures full { IfErr result (λ fault. (MAX_VARIABLES ≤ self.old.tested)
+            × (fault ≡ VariableFault.Refused ResourceUnavailable)) }
+        ensures same_staged { OnErr result (self.new.staged.items ≡ self.old.staged.items) }
+        ensures same_tested { OnErr result (self.new.tested ≡ self.old.tested) }
+    {
+        if self.tested >= MAX_VARIABLES {
+            return Err(VariableFault::Refused(SetFault::ResourceUnavailable));
+        }
+        self.tested += 1;
+        let standing = standing_of(self.staged.as_slice(), slot);
+        if standing == Standing::First {
+            let number = self.tested;
+            self.staged.push(Staged {
+                object,
+                slot,
+                number,
+            });
+        }
+        let key = slot.key;
+        Ok(TestedVariable { key, standing })
+    }
+
+    /// Commits the first slot that is staged and not committed.
+    ///
+    /// # Errors
+    /// The device of its object failed: it stays uncommitted, and no setting changed.
+    pub fn commit_next(&mut self, world: &mut World) -> Result<(), DeviceFault>
+        requires pending { self.old.committed < length self.old.staged.items }
+        requires within { (entry_at self.old.staged.items self.old.committed).object
+            < length self.old.registry.now }
+        requires reserved { let e = entry_at self.old.staged.items self.old.committed in
+            IsReserved world.old (object_at self.old.registry.now e.object) e.slot }
+        ensures same_reference { self.new.registry.ghost_name ≡ self.old.registry.ghost_name }
+        ensures staged { self.new.staged.items ≡ self.old.staged.items }
+        ensures tested { self.new.tested ≡ self.old.tested }
+        ensures committed { OnOk result (self.new.committed ≡ self.old.committed + 1) }
+        ensures put { OnOk result (let e = entry_at self.old.staged.items self.old.committed in
+            world.new ≡ put world.old e.slot.key e.slot.value) }
+        ensures kept { OnOk result (let e = entry_at self.old.staged.items self.old.committed in
+            self.new.registry.now ≡ slice_set self.old.registry.now e.object
+            (committed (object_at self.old.registry.now e.object) e.slot
+            (setting world.old e.slot.key))) }
+        ensures before { OnOk result (let e = entry_at self.old.staged.items self.old.committed in
+            IsSettingInRange e.slot.key (setting world.old e.slot.key)) }
+        ensures not_committed { OnErr result (self.new.committed ≡ self.old.committed) }
+        ensures unchanged { OnErr result (world.new ≡ world.old) }
+        ensures failed { OnErr result (let e = entry_at self.old.staged.items self.old.committed in
+            self.new.registry.now ≡ slice_set self.old.registry.now e.object
+            (failed_once (object_at self.old.registry.now e.object))) }
+    {
+        let entry = self.staged.as_slice()[self.committed];
+        self.registry.commit(entry.object, world, entry.slot)?;
+        self.committed += 1;
+        Ok(())
+    }
+
+    /// Undoes the last commit, which counts as committed no more, also where that fails.
+    ///
+    /// # Errors
+    /// The device of its object failed: the setting keeps its new value.
+    pub fn undo_last(&mut self, world: &mut World) -> Result<(), DeviceFault>
+        requires pending { 0 < self.old.committed }
+        requires counted { self.old.committed ≤ length self.old.staged.items }
+        requires within { (entry_at self.old.staged.items (self.old.committed - 1)).object
+            < length self.old.registry.now }
+        requires committed { let e = entry_at self.old.staged.items (self.old.committed - 1) in
+            (before : AnySetting)
+            × IsCommitted world.old (object_at self.old.registry.now e.object) e.slot before }
+        ensures same_reference { self.new.registry.ghost_name ≡ self.old.registry.ghost_name }
+        ensures staged { self.new.staged.items ≡ self.old.staged.items }
+        ensures tested { self.new.tested ≡ self.old.tested }
+        ensures committed { self.new.committed + 1 ≡ self.old.committed }
+        ensures put { OnOk result
+            (let e = entry_at self.old.staged.items (self.old.committed - 1) in
+            (before : AnySetting)
+            → slice_get (object_at self.old.registry.now e.object).reserved e.slot.place
+            ≡ Some (made e.slot before)
+            → world.new ≡ put world.old e.slot.key before) }
+        ensures kept { OnOk result (self.new.registry.now ≡ self.old.registry.now) }
+        ensures unchanged { OnErr result (world.new ≡ world.old) }
+        ensures failed { OnErr result
+            (let e = entry_at self.old.staged.items (self.old.committed - 1) in
+            self.new.registry.now ≡ slice_set self.old.registry.now e.object
+            (failed_once (object_at self.old.registry.now e.object))) }
+    {
+        self.committed -= 1;
+        let entry = self.staged.as_slice()[self.committed];
+        self.registry.undo(entry.object, world, entry.slot)
+    }
+}
+
+impl<O: MibObject> Drop for Staging<'_, O> {
+    fn drop(self)
+        ensures { self.exit.0.now ≡ map released self.entry.registry.now }
+    {
+        let Staging {
+            registry,
+            staged: _,
+            tested: _,
+            committed: _,
+        } = self;
+        registry.release();
+    }
+}

@@ -1,0 +1,105 @@
+//! How a Set writes an object, and what one of its variables writes.
+ghost use Rattle.std.specs.Prelude.{◌≡◌, ◌<◌, IfSome};
+ghost use Rattle.setphase_core.specs.Writing.{takes, given, key_at, integer_assignment, assignment_by};
+
+use crate::index::{is_scalar, port_at};
+use crate::object::{Assignment, SetFault};
+use crate::world::World;
+use message_core::Value;
+use rstp_settings::key::{BridgeKey, Key, MIGRATION_CHECK, PortKey};
+use setting_keys::{SettingKey, SettingValue};
+
+/// Which setting the instances of an object write.
+#[derive(Clone, Copy, Debug, PartialEq, Eq)]
+pub enum Target {
+    /// That of the bridge, by the instance of a scalar.
+    Bridge(BridgeKey),
+    /// That of the port whose number is the index.
+    Port(PortKey),
+}
+
+impl Target {
+    // What the setting gets for a number that the object takes.
+    fn given(self, number: u32) -> u32
+        ensures { result ≡ given self number }
+    {
+        match self {
+            Target::Port(PortKey::Migrate) => { if number == 1 { MIGRATION_CHECK } else { 0 } }
+            _ => number,
+        }
+    }
+
+    // The setting that the instance of an index writes, where there can be one.
+    fn key_at(self, world: &World, at: &[u32]) -> Option<SettingKey>
+        ensures { result ≡ key_at self world.now at.now }
+    {
+        match self {
+            Target::Bridge(key) => is_scalar(at).then_some(SettingKey::Bridge(Key::Bridge(key))),
+            Target::Port(key) => {
+                let port = port_at(world.bridge.ports(), at)?;
+                Some(SettingKey::Bridge(Key::Port(port, key)))
+            }
+        }
+    }
+}
+
+/// How the instances of an object are written: the setting, and the INTEGERs from the least to the
+/// most that are multiples of the step, which is above 0.
+#[derive(Clone, Copy, Debug, PartialEq, Eq)]
+pub struct Writable {
+    /// The setting.
+    pub target: Target,
+    /// The least that it takes.
+    pub least: u32,
+    /// The most that it takes.
+    pub most: u32,
+    /// Each that it takes is a multiple of this.
+    pub step: u32,
+}
+
+impl Writable {
+    // Whether the object takes this number.
+    fn takes(self, number: u32) -> bool
+        requires { 0 < self.step }
+        ensures { result ≡ takes self number }
+    {
+        self.least <= number && number <= self.most && number % self.step == 0
+    }
+
+    // What the instance of an index writes for an INTEGER.
+    fn integer_assignment(
+        self,
+        world: &World,
+        at: &[u32],
+        integer: i32,
+    ) -> Result<Assignment, SetFault>
+        requires { 0 < self.step }
+        ensures { result ≡ integer_assignment self world.now at.now integer }
+    {
+        if integer < 0 || !self.takes(integer as u32) {
+            return Err(SetFault::WrongValue);
+        }
+        let key = self.target.key_at(world, at).ok_or(SetFault::NoCreation)?;
+        let value = SettingValue::Number(self.target.given(integer as u32));
+        Ok(Assignment { key, value })
+    }
+}
+
+/// What a variable of an object that is written so writes, or the first fault that the object's
+/// places do not decide; an object that is read-only refuses each (RFC 3416, 4.2.5). It takes no
+/// memory.
+pub fn assignment_by(
+    writable: Option<Writable>,
+    world: &World,
+    at: &[u32],
+    value: &Value,
+) -> Result<Assignment, SetFault>
+    requires step { IfSome writable (λ w. 0 < w.step) }
+    ensures { result ≡ assignment_by writable world.now at.now value.now }
+{
+    let writable = writable.ok_or(SetFault::NotWritable)?;
+    match value {
+        Value::Integer(integer) => writable.integer_assignment(world, at, *integer),
+        _ => Err(SetFault::WrongType),
+    }
+}
