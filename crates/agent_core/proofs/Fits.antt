@@ -1,16 +1,17 @@
 -- Repetitions, and as much of them as there is room for.
 use Rattle.std.proofs.Common.{◌≡◌, ℕ, zero, suc, ◌+◌, ◌-◌, ◌<◌, ◌≤◌, ◌∙◌, sym, ap, subst, refl, Bool, true, false, List, [], ◌∷◌, ◌++◌, length, take, drop, get_or, arith, drop-cons, append_assoc, append-nil, length-append, length-drop}
+use Rattle.std.specs.Prelude.{Result, Ok, Err, OnOk}
 use Rattle.std.specs.List.{AllByRecursion}
-use Rattle.std.proofs.lemmas.List.{take_more, map-append, length-map, take-append-drop}
+use Rattle.std.proofs.lemmas.List.{take_more, map-append, length-map, length-take, take-append-drop}
 use Rattle.std.proofs.lemmas.Grind.{flat_map-append}
-use Rattle.std.proofs.Math.Seq.{drop-append_seam, take-length}
+use Rattle.std.proofs.Math.Seq.{drop-append_seam}
 use Rattle.oid_core.specs.Name.{HasRoot}
 use Rattle.message_core.specs.Canon.{canon_binding}
 use Rattle.message_core.specs.Encodable.{AreEncodable}
 use Rattle.message_core.specs.declared.binding.Binding.{Binding}
 use Rattle.message_core.specs.Instances.{names_of}
 use Rattle.agent_core.specs.Reading.{next_answer, next_answers}
-use Rattle.agent_core.specs.Bulk.{all_end, repetitions, bulk_list}
+use Rattle.agent_core.specs.Bulk.{all_end, repetitions, further, bulk_list}
 use Rattle.agent_core.specs.Fitting.{total, fit_into, IsFilled}
 
 pub total-append : (xs ys : List Binding) → total (xs ++ ys) ≡ total xs + total ys
@@ -58,6 +59,10 @@ filled_whole room all sent e = record { rest = []; front = append-nil sent ∙ e
 pub filled_at : (room other : ℕ) (all whole sent : List Binding) → room ≡ other → all ≡ whole → IsFilled room all sent → IsFilled other whole sent
 filled_at room other all whole sent e k h = subst (λ r. IsFilled r whole sent) e (subst (λ a. IsFilled room a sent) k h)
 
+pub filled_ok : {A E : Type 0} (result : Result A E) (room other : ℕ) (all whole sent : List Binding) → room ≡ other → all ≡ whole → OnOk result (IsFilled room all sent) → OnOk result (IsFilled other whole sent)
+filled_ok (Ok x) room other all whole sent e k h = filled_at room other all whole sent e k h
+filled_ok (Err x) room other all whole sent e k h = h
+
 -- the next binding does not fit
 pub once_cut : (rows : List Binding) (names : List (List ℕ)) (i : ℕ) (name : List ℕ) (room : ℕ) (old now new more : List Binding) → i < length names → name ≡ get_or names i name →
     now ≡ old ++ next_answers rows (take i names) → new ≡ now → fit_into room (now ++ next_answer rows name ∷ []) ≡ false →
@@ -89,68 +94,16 @@ once_more rows names i name old now new h at so push =
     ∙ ap (λ n. next_answers rows (take i names) ++ next_answer rows n ∷ []) (sym at) in
     push ∙ ap (λ z. z ++ next_answer rows name ∷ []) so ∙ append_assoc old (next_answers rows (take i names)) (next_answer rows name ∷ []) ∙ ap (λ z. old ++ z) (sym step)
 
--- one repetition and what follows it
-record Follows (rows : List Binding) (k : ℕ) (names : List (List ℕ)) : Type 0 where
-  more : List Binding
-  is : repetitions rows (suc k) names ≡ next_answers rows names ++ more
-  ended : all_end (next_answers rows names) ≡ true → more ≡ []
-  going : all_end (next_answers rows names) ≡ false → more ≡ repetitions rows k (names_of (next_answers rows names))
-
-follows : (rows : List Binding) (k : ℕ) (names : List (List ℕ)) (b : Bool) → all_end (next_answers rows names) ≡ b → Follows rows k names
+-- one repetition more than none: it, and those behind it
+repeats_by : (rows : List Binding) (k : ℕ) (names : List (List ℕ)) (b : Bool) → all_end (next_answers rows names) ≡ b →
+    repetitions rows (suc k) names ≡ next_answers rows names ++ further rows k (next_answers rows names)
 unfolding repetitions
-follows rows k names true h = record {
-  more = [];
-  is = rw h (sym (append-nil (next_answers rows names)));
-  ended = λ _. refl;
-  going = λ e. absurd (cc);
-}
-follows rows k names false h = record {
-  more = repetitions rows k (names_of (next_answers rows names));
-  is = rw h refl;
-  ended = λ e. absurd (cc);
-  going = λ _. refl;
-}
+repeats_by rows k names true h = rw h (sym (append-nil (next_answers rows names)))
+repeats_by rows k names false h = rw h refl
 
--- the loop over repetitions, with some of them left: a repetition for which there is no room
-pub repeat_cut : (rows : List Binding) (m i room other : ℕ) (names : List (List ℕ)) (all sent new : List Binding) → i < m → room ≡ other →
-    all ≡ sent ++ repetitions rows (m - i) names →
-    ((more : List Binding) → IsFilled room (sent ++ (next_answers rows names ++ more)) new) → IsFilled other all new
-repeat_cut rows m i room other names all sent new h same so told =
-    let left : m - i ≡ suc (m - (i + 1)) = omega arith in
-    let f : Follows rows (m - (i + 1)) names = follows rows (m - (i + 1)) names _ refl in
-    filled_at room other _ all new same (sym (so ∙ ap (λ n. sent ++ repetitions rows n names) left ∙ ap (λ z. sent ++ z) f.is)) (told f.more)
-
--- a repetition that is all endOfMibView
-pub repeat_ended : (rows : List Binding) (m i room : ℕ) (names : List (List ℕ)) (all sent new : List Binding) → i < m →
-    all ≡ sent ++ repetitions rows (m - i) names → all_end (next_answers rows names) ≡ true →
-    new ≡ sent ++ next_answers rows names → IsFilled room all new
-repeat_ended rows m i room names all sent new h so end is =
-    let left : m - i ≡ suc (m - (i + 1)) = omega arith in
-    let f : Follows rows (m - (i + 1)) names = follows rows (m - (i + 1)) names _ refl in
-    filled_whole room all new (sym (so ∙ ap (λ n. sent ++ repetitions rows n names) left ∙ ap (λ z. sent ++ z) f.is
-    ∙ ap (λ z. sent ++ (next_answers rows names ++ z)) (f.ended end) ∙ ap (λ z. sent ++ z) (append-nil (next_answers rows names)) ∙ sym is))
-
--- a repetition after which there is another
-pub repeat_more : (rows : List Binding) (m i : ℕ) (names next : List (List ℕ)) (all sent new : List Binding) → i < m →
-    all ≡ sent ++ repetitions rows (m - i) names → all_end (next_answers rows names) ≡ false →
-    new ≡ sent ++ next_answers rows names → next ≡ names_of (next_answers rows names) →
-    all ≡ new ++ repetitions rows (m - (i + 1)) next
-repeat_more rows m i names next all sent new h so end is are =
-    let left : m - i ≡ suc (m - (i + 1)) = omega arith in
-    let f : Follows rows (m - (i + 1)) names = follows rows (m - (i + 1)) names _ refl in
-    so ∙ ap (λ n. sent ++ repetitions rows n names) left ∙ ap (λ z. sent ++ z) f.is
-    ∙ ap (λ z. sent ++ (next_answers rows names ++ z)) (f.going end)
-    ∙ sym (append_assoc sent (next_answers rows names) (repetitions rows (m - (i + 1)) (names_of (next_answers rows names))))
-    ∙ ap (λ z. z ++ repetitions rows (m - (i + 1)) (names_of (next_answers rows names))) (sym is)
-    ∙ ap (λ ns. new ++ repetitions rows (m - (i + 1)) ns) (sym are)
-
--- no repetition is left
-pub repeat_done : (rows : List Binding) (m i room : ℕ) (names : List (List ℕ)) (all sent : List Binding) → m ≤ i →
-    all ≡ sent ++ repetitions rows (m - i) names → IsFilled room all sent
-unfolding repetitions
-repeat_done rows m i room names all sent h so =
-    let none : m - i ≡ 0 = omega arith in
-    filled_whole room all sent (sym (so ∙ ap (λ n. sent ++ repetitions rows n names) none ∙ append-nil sent))
+repeats : (rows : List Binding) (m k : ℕ) (names : List (List ℕ)) → m ≡ suc k →
+    repetitions rows m names ≡ next_answers rows names ++ further rows k (next_answers rows names)
+repeats rows m k names left = ap (λ n. repetitions rows n names) left ∙ repeats_by rows k names _ refl
 
 -- the last bindings are the repetition
 pub last_is : (rows : List Binding) (names : List (List ℕ)) (n : ℕ) (sent new : List Binding) → n ≡ length names → new ≡ sent ++ next_answers rows names → drop (length new - n) new ≡ next_answers rows names
@@ -166,20 +119,119 @@ last_count rows names n sent new h is =
     let count : length (next_answers rows names) ≡ length names = length-map names (next_answer rows) in
     omega (arith, len, count, h)
 
+-- a repetition for which there is no room
+pub repeat_cut : (rows : List Binding) (m k room other : ℕ) (names : List (List ℕ)) (all sent new : List Binding) → m ≡ suc k → room ≡ other →
+    all ≡ sent ++ repetitions rows m names →
+    ((more : List Binding) → IsFilled room (sent ++ (next_answers rows names ++ more)) new) → IsFilled other all new
+repeat_cut rows m k room other names all sent new left same so told =
+    filled_at room other _ all new same (sym (so ∙ ap (λ z. sent ++ z) (repeats rows m k names left))) (told (further rows k (next_answers rows names)))
+
+-- a repetition, and those behind it
+pub repeat_more : (rows : List Binding) (m k n : ℕ) (names : List (List ℕ)) (all sent new : List Binding) → m ≡ suc k →
+    all ≡ sent ++ repetitions rows m names → new ≡ sent ++ next_answers rows names → n ≡ length names →
+    all ≡ new ++ further rows k (drop (length new - n) new)
+repeat_more rows m k n names all sent new left so is count =
+    so ∙ ap (λ z. sent ++ z) (repeats rows m k names left)
+    ∙ sym (append_assoc sent (next_answers rows names) (further rows k (next_answers rows names)))
+    ∙ ap (λ z. z ++ further rows k (next_answers rows names)) (sym is)
+    ∙ ap (λ row. new ++ further rows k row) (sym (last_is rows names n sent new count is))
+
+-- no repetition is left
+pub repeat_none : (rows : List Binding) (m room : ℕ) (names : List (List ℕ)) (sent : List Binding) → m ≡ 0 → IsFilled room (sent ++ repetitions rows m names) sent
+unfolding repetitions
+repeat_none rows m room names sent none = filled_whole room _ sent (sym (ap (λ n. sent ++ repetitions rows n names) none ∙ append-nil sent))
+
+-- behind a repetition that is all endOfMibView
+pub further_ended : (rows : List Binding) (k room : ℕ) (row all sent : List Binding) → all ≡ sent ++ further rows k row → all_end row ≡ true → IsFilled room all sent
+further_ended rows k room row all sent so end =
+    let none : further rows k row ≡ [] = rw end refl in
+    filled_whole room all sent (sym (so ∙ ap (λ z. sent ++ z) none ∙ append-nil sent))
+
+-- behind another one
+pub further_going : (rows : List Binding) (k : ℕ) (row all sent : List Binding) → all ≡ sent ++ further rows k row → all_end row ≡ false → all ≡ sent ++ repetitions rows k (names_of row)
+further_going rows k row all sent so going =
+    let are : further rows k row ≡ repetitions rows k (names_of row) = rw going refl in
+    so ∙ ap (λ z. sent ++ z) are
+
+-- where no repetition is left
+pub further_done : (rows : List Binding) (k room : ℕ) (row all sent : List Binding) (b : Bool) → all_end row ≡ b → k ≡ 0 → all ≡ sent ++ further rows k row → IsFilled room all sent
+further_done rows k room row all sent true end none so = further_ended rows k room row all sent so end
+further_done rows k room row all sent false going none so =
+    filled_at room room _ all sent refl (sym (further_going rows k row all sent so going)) (repeat_none rows k room (names_of row) sent none)
+
+-- ---- names of bindings that were asked, and of those sent before
+
+pub names-length : (bs : List Binding) → length (names_of bs) ≡ length bs
+names-length bs = length-map bs (λ b. b.name)
+
+pub names-at : (bs : List Binding) (i : ℕ) (b : Binding) → i < length bs → b ≡ get_or bs i b → b.name ≡ get_or (names_of bs) i b.name
+names-at [] i b h at = absurd (omega (arith, h))
+names-at (x ∷ bs) zero b h at = ap (λ z. z.name) at
+names-at (x ∷ bs) (suc i) b h at = names-at bs i b (omega (arith, h)) at
+
+names-front : (xs ys : List Binding) (i : ℕ) (d e : List ℕ) → i < length xs → get_or (names_of (xs ++ ys)) i d ≡ get_or (names_of xs) i e
+names-front [] ys i d e h = absurd (omega (arith, h))
+names-front (x ∷ xs) ys zero d e h = refl
+names-front (x ∷ xs) ys (suc i) d e h = names-front xs ys i d e (omega (arith, h))
+
+names-behind : (n : ℕ) (bs : List Binding) (i j : ℕ) (d : List ℕ) → j ≡ n + i → get_or (names_of bs) j d ≡ get_or (names_of (drop n bs)) i d
+names-behind zero bs i j d e = ap (λ k. get_or (names_of bs) k d) (let same : j ≡ i = omega (arith, e) in same)
+names-behind (suc n) [] i j d e = refl
+names-behind (suc n) (b ∷ bs) i zero d e = absurd (omega (arith, e))
+names-behind (suc n) (b ∷ bs) i (suc j) d e = names-behind n bs i j d (omega (arith, e))
+
+names-inside : (bs : List Binding) (i : ℕ) (d e : List ℕ) → i < length bs → get_or (names_of bs) i d ≡ get_or (names_of bs) i e
+names-inside [] i d e h = absurd (omega (arith, h))
+names-inside (b ∷ bs) zero d e h = refl
+names-inside (b ∷ bs) (suc i) d e h = names-inside bs i d e (omega (arith, h))
+
+-- the first of the last so many bindings
+pub first_name : (bs : List Binding) (n : ℕ) (row : List Binding) (b : Binding) → 1 ≤ n → n ≤ length bs → row ≡ drop (length bs - n) bs → b ≡ get_or row 0 b →
+    b.name ≡ get_or (names_of bs) (length bs - n) []
+first_name bs n row b some within is at =
+    let there : 0 < length row = omega (arith, some, within, ap length is, length-drop (length bs - n) bs) in
+    names-at row 0 b there at ∙ ap (λ r. get_or (names_of r) 0 b.name) is
+    ∙ sym (names-behind (length bs - n) bs 0 (length bs - n) b.name (omega arith))
+    ∙ names-inside bs (length bs - n) b.name [] (omega (arith, some, within))
+
+-- the names of the last so many bindings
+pub last_names : (bs : List Binding) (n : ℕ) → n ≤ length bs → n ≡ length (names_of (drop (length bs - n) bs))
+last_names bs n within = omega (arith, within, names-length (drop (length bs - n) bs), length-drop (length bs - n) bs)
+
+pub columns_within : (bs : List Binding) (n i : ℕ) → n ≤ length bs → i < n → i < length (names_of (drop (length bs - n) bs))
+columns_within bs n i within few = omega (arith, few, last_names bs n within)
+
+-- so many bindings were sent beside those of a repetition so far
+pub sent_length : (rows old now : List Binding) (n i : ℕ) → n ≤ length old → i ≤ n → now ≡ old ++ next_answers rows (take i (names_of (drop (length old - n) old))) → length now ≡ length old + i
+sent_length rows old now n i within few so =
+    let names : List (List ℕ) = names_of (drop (length old - n) old) in
+    let last : length names ≡ length old - (length old - n) = names-length (drop (length old - n) old) ∙ length-drop (length old - n) old in
+    omega (arith, within, few, last, ap length so, length-append old (next_answers rows (take i names)), length-map (take i names) (next_answer rows), length-take i names)
+
+-- the binding so many places back is the one of the same column in the repetition that was sent last
+pub name_back : (rows old now : List Binding) (n i : ℕ) (name : List ℕ) → n ≤ length old → i < n → now ≡ old ++ next_answers rows (take i (names_of (drop (length old - n) old))) →
+    name ≡ get_or (names_of now) (length now - n) [] → name ≡ get_or (names_of (drop (length old - n) old)) i name
+name_back rows old now n i name within few so is =
+    let names : List (List ℕ) = names_of (drop (length old - n) old) in
+    let len : length now ≡ length old + i = sent_length rows old now n i within (omega (arith, few)) so in
+    let inside : length now - n < length old = omega (arith, len, within, few) in
+    let place : length now - n ≡ (length old - n) + i = omega (arith, len, within, few) in
+    is ∙ ap (λ bs. get_or (names_of bs) (length now - n) []) so
+    ∙ names-front old (next_answers rows (take i names)) (length now - n) [] name inside
+    ∙ names-behind (length old - n) old i (length now - n) name place
+
 -- the list in its two parts
-pub list_parts : (rows : List Binding) (once most : ℕ) (asked : List Binding) (first : List (List ℕ)) → first ≡ names_of (take once asked) →
-    next_answers rows first ++ repetitions rows most (names_of (drop once asked)) ≡ bulk_list rows once most (names_of asked)
-list_parts rows once most asked first is =
-    ap (λ ns. next_answers rows ns ++ repetitions rows most (names_of (drop once asked))) (is ∙ sym (names-take once asked))
+pub list_parts : (rows : List Binding) (once most : ℕ) (asked first columns : List Binding) → first ≡ take once asked → columns ≡ drop once asked →
+    next_answers rows (names_of first) ++ repetitions rows most (names_of columns) ≡ bulk_list rows once most (names_of asked)
+list_parts rows once most asked first columns is are =
+    ap (λ bs. next_answers rows (names_of bs) ++ repetitions rows most (names_of columns)) is
+    ∙ ap (λ bs. next_answers rows (names_of (take once asked)) ++ repetitions rows most (names_of bs)) are
+    ∙ ap (λ ns. next_answers rows ns ++ repetitions rows most (names_of (drop once asked))) (sym (names-take once asked))
     ∙ ap (λ ns. next_answers rows (take once (names_of asked)) ++ repetitions rows most ns) (sym (names-drop once asked))
 
-pub list_whole : (rows : List Binding) (once most : ℕ) (asked : List Binding) (first columns : List (List ℕ)) (old now : List Binding) → now ≡ old ++ next_answers rows first →
-    first ≡ names_of (take once asked) → columns ≡ names_of (drop once asked) → now ++ repetitions rows most columns ≡ old ++ bulk_list rows once most (names_of asked)
+pub list_whole : (rows : List Binding) (once most : ℕ) (asked first columns : List Binding) (old now : List Binding) → now ≡ old ++ next_answers rows (names_of first) →
+    first ≡ take once asked → columns ≡ drop once asked → now ++ repetitions rows most (names_of columns) ≡ old ++ bulk_list rows once most (names_of asked)
 list_whole rows once most asked first columns old now so is are =
-    ap (λ z. z ++ repetitions rows most columns) so
-    ∙ append_assoc old (next_answers rows first) (repetitions rows most columns)
-    ∙ ap (λ ns. old ++ (next_answers rows first ++ repetitions rows most ns)) are
-    ∙ ap (λ z. old ++ z) (list_parts rows once most asked first is)
-
-pub rest_whole : (n : ℕ) (xs : List Binding) → take (length xs - n) (drop n xs) ≡ drop n xs
-rest_whole n xs = ap (λ k. take k (drop n xs)) (sym (length-drop n xs)) ∙ take-length (drop n xs)
+    ap (λ z. z ++ repetitions rows most (names_of columns)) so
+    ∙ append_assoc old (next_answers rows (names_of first)) (repetitions rows most (names_of columns))
+    ∙ ap (λ z. old ++ z) (list_parts rows once most asked first columns is are)

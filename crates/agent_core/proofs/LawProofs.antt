@@ -1,5 +1,5 @@
 -- The laws of replies.
-use Rattle.std.proofs.Common.{◌≡◌, ℕ, pos, suc, ◌+◌, ◌*◌, ◌≤◌, ◌∙◌, ap, sym, refl, Bool, List, [], ◌∷◌, ◌++◌, length, append-nil, arith, All, Some}
+use Rattle.std.proofs.Common.{◌≡◌, ◌≢◌, ℕ, pos, suc, ◌+◌, ◌*◌, ◌≤◌, ◌∙◌, ap, sym, refl, Bool, List, [], ◌∷◌, ◌++◌, length, append-nil, arith, All, Some}
 use Rattle.std.proofs.Math.Nat.{mul-le-mul_right}
 use Rattle.std.proofs.lemmas.List.Concat.{flat_map-cons}
 use Rattle.std.proofs.lemmas.List.Elements.{All-head, All-tail}
@@ -66,10 +66,11 @@ kind_same objects others_objects first second rows others request GetBulk e h = 
 pub reply_same : (shown other : Shown) (request : Request) (row other_row : AccessKey) (view other_view : List ℕ) →
     decision_on shown.policy request ≡ Allowed row view → decision_on other.policy request ≡ Allowed other_row other_view →
     visible (in_view shown.policy.vacm.families view) shown.instances ≡ visible (in_view other.policy.vacm.families other_view) other.instances →
+    request.kind ≢ Set →
     (request.kind ≡ Get → AgreesOnAsked shown other view other_view request) →
     reply_of shown request ≡ reply_of other request
 unfolding outcome_of
-reply_same shown other request row other_row view other_view d f e h =
+reply_same shown other request row other_row view other_view d f e reads h =
     let first : List ℕ → Bool = in_view shown.policy.vacm.families view in
     let second : List ℕ → Bool = in_view other.policy.vacm.families other_view in
     let same : kind_reply shown.objects first shown.instances request request.kind ≡ kind_reply other.objects second other.instances request request.kind =

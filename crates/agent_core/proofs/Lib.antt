@@ -1,4 +1,7 @@
 pub mod Pairs
+pub mod Changed
+pub mod SetProofs
+pub mod SetSteps
 pub mod Apart
 pub mod Rest
 pub mod Looks

@@ -1,7 +1,6 @@
 -- Objects that are passed over as a whole: the value under a name among the others' instances, and the reply over them.
-use Rattle.std.proofs.Common.{◌≡◌, ◌∙◌, ℕ, sym, ap, refl, Bool, true, false, cond, not, List, [], ◌∷◌, ◌++◌, Option, Some, None, All, IsTrue}
+use Rattle.std.proofs.Common.{◌≡◌, ◌∙◌, ℕ, sym, ap, refl, Bool, true, false, cond, not, List, [], ◌∷◌, ◌++◌, Option, Some, None, IsTrue}
 use Rattle.std.specs.Option.{option_or}
-use Rattle.std.proofs.lemmas.List.Elements.{All-head, All-tail}
 use Rattle.oid_core.specs.Order.{name_eq, is_prefix}
 use Rattle.message_core.specs.declared.binding.Binding.{Binding}
 use Rattle.message_core.specs.declared.request.Kind.{Kind}
@@ -18,7 +17,6 @@ use Rattle.setphase_core.specs.Registry.{prefixes_of, is_apart, AreApart, owner_
 use Rattle.setphase_core.specs.Passing.{open_rows, open_instances}
 use Rattle.setphase_core.proofs.Found.{instances-cons, instances-nil, value_not_under}
 use Rattle.setphase_core.proofs.Passed.{nothing_missed}
-use Rattle.agent_core.specs.Reading.{object_of}
 use Rattle.agent_core.specs.Replies.{kind_reply}
 use Rattle.agent_core.proofs.Apart.{no_other}
 use Rattle.agent_core.proofs.LawProofs.{kind_same}

@@ -25,15 +25,15 @@ front n octets rest buffer e b = ap (λ (m : ℕ). take m buffer) e ∙ ap (take
 
 -- what is put of a reply that fits
 pub sent_fits : (r : Reply) (len : ℕ) (octets : List ℕ) → length (canon_reply r) ≤ MAX_REPLY → octets ≡ canon_reply r → len ≡ length (canon_reply r) →
-    IsSent (reply_within_limit r) (record { length = len; status = r.status; index = r.index }) (record { reply = octets })
+    IsSent (reply_within_limit r) (record { length = len; status = r.status; index = r.index }) octets
 sent_fits r len octets fits o l =
-    subst (λ (reply : Reply). IsSent reply (record { length = len; status = r.status; index = r.index }) (record { reply = octets })) (sym (sized-fits r fits))
+    subst (λ (reply : Reply). IsSent reply (record { length = len; status = r.status; index = r.index }) octets) (sym (sized-fits r fits))
     (record { octets = o; len = l; status = refl; index = refl })
 
 -- what is put in place of one that does not
 pub sent_long : (r : Reply) (len : ℕ) (octets : List ℕ) → MAX_REPLY < length (canon_reply r) →
     octets ≡ canon_reply (record r { status = TooBig; index = pos 0; bindings = [] }) → len ≡ length (canon_reply (record r { status = TooBig; index = pos 0; bindings = [] })) →
-    IsSent (reply_within_limit r) (record { length = len; status = TooBig; index = pos 0 }) (record { reply = octets })
+    IsSent (reply_within_limit r) (record { length = len; status = TooBig; index = pos 0 }) octets
 sent_long r len octets long o l =
-    subst (λ (reply : Reply). IsSent reply (record { length = len; status = TooBig; index = pos 0 }) (record { reply = octets })) (sym (sized-long r long))
+    subst (λ (reply : Reply). IsSent reply (record { length = len; status = TooBig; index = pos 0 }) octets) (sym (sized-long r long))
     (record { octets = o; len = l; status = refl; index = refl })

@@ -1,12 +1,13 @@
--- What objects show of a world, and one step of a request: what it is answered, its audit, and the
--- world after it.
-use Rattle.std.specs.Prelude.{◌≡◌, ◌≢◌, ℕ, ◌≤◌, pos, ◌+◌, ◌%◌, ◌^◌, All, [], List, length, Option, Some, None, Result, Ok, Err}
+-- What objects show of a world, and one step of a request: what it is answered, its audit, and what
+-- it leaves.
+use Rattle.std.specs.Prelude.{◌≡◌, ◌≢◌, ℕ, ◌≤◌, pos, ◌+◌, ◌%◌, ◌^◌, All, [], List, length, map, Option, Some, None, Result, Ok, Err}
 use Rattle.std.specs.declared.alloc.AllocError.{AllocError}
 use Rattle.message_core.specs.Canon.{canon_reply, answer_to}
 use Rattle.message_core.specs.declared.binding.Binding.{Binding}
 use Rattle.message_core.specs.declared.limits.TheConstants.{MAX_COMMUNITY}
 use Rattle.message_core.specs.declared.reply.Reply.{Reply}
-use Rattle.message_core.specs.declared.request.Kind.TheVariants.{Set}
+use Rattle.message_core.specs.declared.request.Kind.{Kind}
+use Rattle.message_core.specs.declared.request.Kind.TheVariants.{Get, GetNext, GetBulk, Set}
 use Rattle.message_core.specs.declared.request.Request.{Request}
 use Rattle.message_core.specs.declared.status.ErrorStatus.TheVariants.{NoError}
 use Rattle.vacm_core.specs.Families.{in_view}
@@ -20,11 +21,15 @@ use Rattle.decision.specs.declared.keys.AccessKey.{AccessKey}
 use Rattle.audit_core.specs.declared.audit.Audit.{Audit}
 use Rattle.audit_core.specs.declared.denied.Denied.{Denied}
 use Rattle.setphase_core.specs.declared.world.World.{World}
-use Rattle.setphase_core.specs.Objects.{ObjectRow}
-use Rattle.setphase_core.specs.Registry.{prefixes_of, instances}
+use Rattle.frame_core.specs.declared.bpdu.Bpdu.{Bpdu}
+use Rattle.setting_keys.specs.declared.SettingKey.{SettingKey}
+use Rattle.setphase_core.specs.Objects.{ObjectRow, ObjectState, released}
+use Rattle.setphase_core.specs.Outcomes.{SetNotes}
+use Rattle.setphase_core.specs.Registry.{rows_of, prefixes_of, instances}
 use Rattle.agent_core.specs.Buffered.{Buffered}
 use Rattle.agent_core.specs.Denying.{denied_in}
 use Rattle.agent_core.specs.Replies.{reply_within_limit, refusal_reply, kind_reply}
+use Rattle.agent_core.specs.Sets.{SetStep, set_step, no_notes, MayFailInSet, IsDeniedSet}
 use Rattle.agent_core.specs.declared.answered.Answered.{Answered}
 use Rattle.agent_core.specs.declared.answered.Answered.TheVariants as answered
 use Rattle.agent_core.specs.declared.sent_reply.SentReply.{SentReply}
@@ -60,28 +65,30 @@ drop_audit request cause = record {
   index = pos 0;
   decision = Drop cause;
   denied = [];
+  unrestored = [];
 }
 
 abbrev pub drop_outcome : Request → Cause → Outcome
 drop_outcome request cause = dropped cause (drop_audit request cause)
 
 -- A request that has a reply is audited by its kind, the status and the index as they are sent, the
--- decision, and the denied bindings.
-abbrev pub reply_audit : Request → Decision → List Denied → Reply → Audit
-reply_audit request decision denied reply = record {
+-- decision, the denied bindings, and the settings that a Set could not undo.
+abbrev pub reply_audit : Request → Decision → List Denied → List SettingKey → Reply → Audit
+reply_audit request decision denied unrestored reply = record {
   kind = request.kind;
   status = reply.status;
   index = reply.index;
   decision = decision;
   denied = denied;
+  unrestored = unrestored;
 }
 
 abbrev pub reply_outcome : Request → Decision → List Denied → Reply → Outcome
 reply_outcome request decision denied reply =
-    replied reply (reply_audit request decision denied reply)
+    replied reply (reply_audit request decision denied [] reply)
 
--- The outcome by the decision. A request with no bindings is answered noError with none, whatever
--- its kind; the standard says nothing of it.
+-- The outcome of a request that writes nothing, by the decision. A request with no bindings is
+-- answered noError with none, whatever its kind; the standard says nothing of it.
 abbrev pub outcome_by : Shown → Request → Decision → Outcome
 outcome_by shown request (Drop cause) = drop_outcome request cause
 outcome_by shown request Empty =
@@ -106,11 +113,11 @@ abbrev pub audit_in : Outcome → Audit
 audit_in (dropped cause audit) = audit
 audit_in (replied reply audit) = audit
 
--- the reply to a request, or none where it is dropped
+-- the reply to a request that writes nothing, or none where it is dropped
 abbrev pub reply_of : Shown → Request → Option Reply
 reply_of shown request = reply_in (outcome_of shown request)
 
--- the audit of a request
+-- the audit of a request that writes nothing
 abbrev pub audit_of : Shown → Request → Audit
 audit_of shown request = audit_in (outcome_of shown request)
 
@@ -121,12 +128,20 @@ pub record AgreesOnAsked (shown other : Shown) (view other_view : List ℕ) (req
   pub asked : All (λ b. in_view shown.policy.vacm.families view b.name
       ≡ in_view other.policy.vacm.families other_view b.name) request.bindings
 
--- Answering a request may take memory: it is let in to a view, and reads.
-pub record TakesMemory (shown : Shown) (request : Request) : Type 0 where
+-- Answering a request of this kind in a view may take memory: it reads, or it is a Set whose audit
+-- names a variable to which the view gives no access.
+abbrev pub TakesInView : List ObjectRow → World → List ℕ → Request → Kind → Type 0
+TakesInView rows world view request Get = Unit {0}
+TakesInView rows world view request GetNext = Unit {0}
+TakesInView rows world view request GetBulk = Unit {0}
+TakesInView rows world view request Set = IsDeniedSet rows world view request
+
+-- Answering a request may take memory: it is let in to a view, and takes some there.
+pub record TakesMemory (rows : List ObjectRow) (world : World) (request : Request) : Type 0 where
   pub row : AccessKey
   pub view : List ℕ
-  pub allowed : decision_on shown.policy request ≡ Allowed row view
-  pub reads : request.kind ≢ Set
+  pub allowed : decision_on world.policy request ≡ Allowed row view
+  pub takes : TakesInView rows world view request request.kind
 
 -- a count, and one more
 abbrev pub one_more : ℕ → ℕ
@@ -139,7 +154,7 @@ with_count_of world UnknownCommunity =
 with_count_of world (NoSuchContext name) =
     record world { unknown_contexts = one_more world.unknown_contexts }
 
--- A request that is dropped is counted, and nothing else changes.
+-- A request that writes nothing is counted where it is dropped, and nothing else changes.
 abbrev pub world_by : World → Decision → World
 world_by world (Drop cause) = with_count_of world cause
 world_by world Empty = world
@@ -149,22 +164,74 @@ world_by world (Allowed row view) = world
 unfoldable pub world_after : World → Request → World
 world_after world request = world_by world (decision_on world.policy request)
 
--- One step of a request: its outcome, and the world after it. It sends no BPDU, since nothing can
--- be written.
+-- One step of a request: its outcome, the world and the objects after it, and what the ports send,
+-- from port 1 on.
 pub record Step : Type 0 where
   pub outcome : Outcome
   pub world : World
+  pub objects : List ObjectState
+  pub bpdus : List (Option Bpdu)
 
--- the step of a request over objects of these rows and a world
-abbrev pub step_of : List ObjectRow → World → Request → Step
-step_of rows world request = record {
-  outcome = outcome_of (shown_of rows world) request;
+-- A request that writes nothing leaves the objects, and sends nothing.
+abbrev pub reading_step : List ObjectState → World → Request → Step
+reading_step objects world request = record {
+  outcome = outcome_of (shown_of (rows_of objects) world) request;
   world = world_after world request;
+  objects = objects;
+  bpdus = [];
 }
 
--- a reply stands in the buffer in its minimal encoding, and this is told of it
-pub record IsSent (reply : Reply) (sent : SentReply) (buffer : Buffered) : Type 0 where
-  pub octets : buffer.reply ≡ canon_reply reply
+-- A Set that is let in by this row to a view.
+abbrev pub writing_step : Request → AccessKey → List ℕ → SetStep → Step
+writing_step request row view set = record {
+  outcome = replied set.reply
+      (reply_audit request (Allowed row view) set.denied set.unrestored set.reply);
+  world = set.world;
+  objects = set.objects;
+  bpdus = set.bpdus;
+}
+
+abbrev pub allowed_step : List ObjectState → World → Request → SetNotes → AccessKey → List ℕ →
+    Kind → Step
+allowed_step objects world request notes row view Get = reading_step objects world request
+allowed_step objects world request notes row view GetNext = reading_step objects world request
+allowed_step objects world request notes row view GetBulk = reading_step objects world request
+allowed_step objects world request notes row view Set =
+    writing_step request row view (set_step objects world view request notes)
+
+abbrev pub step_by : List ObjectState → World → Request → SetNotes → Decision → Step
+step_by objects world request notes (Drop cause) = reading_step objects world request
+step_by objects world request notes Empty = reading_step objects world request
+step_by objects world request notes (Refused why) = reading_step objects world request
+step_by objects world request notes (Allowed row view) =
+    allowed_step objects world request notes row view request.kind
+
+-- The step of a request over objects and a world, where these calls of devices failed.
+unfoldable pub step_of : List ObjectState → World → Request → SetNotes → Step
+step_of objects world request notes =
+    step_by objects world request notes (decision_on world.policy request)
+
+-- Which calls of devices may fail: those of a Set alone, and of one that is let in to a view.
+abbrev pub MayFailInView : List ObjectRow → World → List ℕ → Request → SetNotes → Kind → Type 0
+MayFailInView rows world view request notes Get = notes ≡ no_notes
+MayFailInView rows world view request notes GetNext = notes ≡ no_notes
+MayFailInView rows world view request notes GetBulk = notes ≡ no_notes
+MayFailInView rows world view request notes Set = MayFailInSet rows world view request notes
+
+abbrev pub MayFailBy : List ObjectRow → World → Request → SetNotes → Decision → Type 0
+MayFailBy rows world request notes (Drop cause) = notes ≡ no_notes
+MayFailBy rows world request notes Empty = notes ≡ no_notes
+MayFailBy rows world request notes (Refused why) = notes ≡ no_notes
+MayFailBy rows world request notes (Allowed row view) =
+    MayFailInView rows world view request notes request.kind
+
+unfoldable pub MayHave : List ObjectRow → World → Request → SetNotes → Type 0
+MayHave rows world request notes =
+    MayFailBy rows world request notes (decision_on world.policy request)
+
+-- these octets are a reply in its minimal encoding, and this is told of it
+pub record IsSent (reply : Reply) (sent : SentReply) (sent_octets : List ℕ) : Type 0 where
+  pub octets : sent_octets ≡ canon_reply reply
   pub len : sent.length ≡ length (canon_reply reply)
   pub status : sent.status ≡ reply.status
   pub index : sent.index ≡ reply.index
@@ -172,31 +239,66 @@ pub record IsSent (reply : Reply) (sent : SentReply) (buffer : Buffered) : Type 
 -- A reply stands in the buffer in its minimal encoding, or the request is dropped and the buffer is
 -- empty; and the audit is told.
 abbrev pub IsAnswered : Outcome → Answered → Buffered → Type 0
-IsAnswered (replied reply audit) (answered.Reply len told) buffer =
+IsAnswered (replied reply audit) (answered.Reply len told failed) buffer =
     (buffer.reply ≡ canon_reply reply) × (len ≡ length (canon_reply reply)) × (told ≡ audit)
 IsAnswered (replied reply audit) (answered.NoReply told) buffer = ⊥
-IsAnswered (dropped cause audit) (answered.Reply len told) buffer = ⊥
+IsAnswered (dropped cause audit) (answered.Reply len told failed) buffer = ⊥
 IsAnswered (dropped cause audit) (answered.NoReply told) buffer =
     (buffer.reply ≡ []) × (told ≡ audit)
 
--- the step is done: the outcome is told, and the world is as it makes it
-pub record IsDone (step : Step) (told : Answered) (buffer : Buffered) (later : World) :
-    Type 0 where
+-- A reply stands in the buffer, and is told with this decision and these denied bindings; no device
+-- failed.
+abbrev pub IsReply : Reply → Request → Decision → List Denied → Answered → List ℕ → Type 0
+IsReply reply request decision denied (answered.Reply len told failed) octets =
+    (octets ≡ canon_reply reply) × (len ≡ length (canon_reply reply))
+    × (told ≡ reply_audit request decision denied [] reply) × (failed ≡ None)
+IsReply reply request decision denied (answered.NoReply told) octets = ⊥
+
+-- Which calls of devices are told to have failed: a commit, and the undoing of the settings that
+-- the audit has.
+abbrev pub notes_told : Answered → SetNotes
+notes_told (answered.Reply len audit failed) =
+    record { commit = failed; undos = audit.unrestored }
+notes_told (answered.NoReply audit) = no_notes
+
+-- The step is done: the outcome is told, and all is as it makes it.
+pub record IsDone (step : Step) (told : Answered) (buffer : Buffered) (later : World)
+    (objects : List ObjectState) : Type 0 where
   pub answer : IsAnswered step.outcome told buffer
   pub world : later ≡ step.world
+  pub objects_after : objects ≡ step.objects
+  pub bpdus : buffer.bpdus ≡ step.bpdus
 
--- There was no memory for the step: nothing is changed and nothing told, and the request is one
--- whose answer may take some.
-pub record IsShort (rows : List ObjectRow) (before : World) (request : Request)
-    (buffer : Buffered) (later : World) : Type 0 where
+-- What a Set leaves of the objects where there was no memory for its audit: nothing is reserved.
+abbrev pub without_answer : Kind → List ObjectState → List ObjectState
+without_answer Get objects = objects
+without_answer GetNext objects = objects
+without_answer GetBulk objects = objects
+without_answer Set objects = map released objects
+
+-- There was no memory for the step: nothing that is shown has changed and nothing is told, and the
+-- request is one whose answer may take some.
+pub record IsShort (objects : List ObjectState) (before : World) (request : Request)
+    (buffer : Buffered) (later : World) (objects_later : List ObjectState) : Type 0 where
   pub empty : buffer.reply ≡ []
+  pub silent : buffer.bpdus ≡ []
   pub unchanged : later ≡ before
-  pub kept : TakesMemory (shown_of rows before) request
+  pub kept : objects_later ≡ without_answer request.kind objects
+  pub takes : TakesMemory (rows_of objects) before request
   pub community : length request.community ≤ MAX_COMMUNITY
 
--- a step over objects of these rows and a world, as far as there is memory for it
-abbrev pub IsStep : List ObjectRow → World → Request → Result Answered AllocError → Buffered →
-    World → Type 0
-IsStep rows before request (Ok told) buffer later =
-    IsDone (step_of rows before request) told buffer later
-IsStep rows before request (Err e) buffer later = IsShort rows before request buffer later
+-- The step that is told, with calls of devices that may have failed so.
+pub record IsTold (objects : List ObjectState) (before : World) (request : Request)
+    (told : Answered) (buffer : Buffered) (later : World) (objects_later : List ObjectState) :
+    Type 0 where
+  pub may : MayHave (rows_of objects) before request (notes_told told)
+  pub done : IsDone (step_of objects before request (notes_told told)) told buffer later
+      objects_later
+
+-- A step over objects and a world, as far as there is memory for it.
+abbrev pub IsStep : List ObjectState → World → Request → Result Answered AllocError → Buffered →
+    World → List ObjectState → Type 0
+IsStep objects before request (Ok told) buffer later objects_later =
+    IsTold objects before request told buffer later objects_later
+IsStep objects before request (Err e) buffer later objects_later =
+    IsShort objects before request buffer later objects_later

@@ -24,6 +24,11 @@ repetitions rows (suc most) names =
     if all_end (next_answers rows names) then next_answers rows names
     else next_answers rows names ++ repetitions rows most (names_of (next_answers rows names))
 
+-- At most so many repetitions behind one: none behind one that is all endOfMibView, and else those
+-- from its names on.
+abbrev pub further : List Binding → ℕ → List Binding → List Binding
+further rows most row = if all_end row then [] else repetitions rows most (names_of row)
+
 -- The first names once, and the others up to so many times.
 abbrev pub bulk_list : List Binding → ℕ → ℕ → List (List ℕ) → List Binding
 bulk_list rows once most names =

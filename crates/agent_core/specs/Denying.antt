@@ -1,5 +1,5 @@
 -- The bindings of a request whose names are not in the view.
-use Rattle.std.specs.Prelude.{ℕ, ◌+◌, false, List, [], ◌∷◌, ◌++◌, slice_index_or, Some, None}
+use Rattle.std.specs.Prelude.{ℕ, ◌+◌, false, List, [], ◌∷◌, ◌++◌, slice_index_or, Option, Some, None}
 use Rattle.message_core.specs.declared.binding.Binding.{Binding}
 use Rattle.message_core.specs.declared.request.Kind.{Kind}
 use Rattle.message_core.specs.declared.request.Kind.TheVariants.{Get, GetNext, Set, GetBulk}
@@ -29,8 +29,13 @@ denials families view i [] = []
 denials families view i (b ∷ bs) =
     denial families i (family_answer families view b.name) ++ denials families view (i + 1) bs
 
+-- The variable of this number of a Set, where its name is not in the view.
+abbrev pub denied_variable : List FamilyRow → ℕ → Option FamilyAnswer → List Denied
+denied_variable families i None = []
+denied_variable families i (Some answer) = denial families i answer
+
 -- A Get tells each binding that is not in the view. GetNext and GetBulk pass over what they may not
--- see.
+-- see. What is told of a Set is said in Sets.
 abbrev pub denied_in : List FamilyRow → List ℕ → Request → Kind → List Denied
 denied_in families view request Get = denials families view 1 request.bindings
 denied_in families view request GetNext = []

@@ -6,4 +6,5 @@ pub mod Bulk
 pub mod Fitting
 pub mod Sending
 pub mod Replies
+pub mod Sets
 pub mod Answers

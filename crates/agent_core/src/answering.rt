@@ -1,12 +1,14 @@
 //! Answers a request: the decision, the reply by its kind, the audit (RFC 3416, 4.2).
-ghost use Rattle.std.specs.Prelude.{◌≡◌, ◌≢◌, ◌≤◌, ◌<◌, length, IfOk, OnErr};
+ghost use Rattle.std.specs.Prelude.{◌≡◌, ◌≢◌, ◌≤◌, ◌<◌, [], None, length, IfOk, OnErr};
 ghost use Rattle.message_core.specs.Canon.{canon_reply};
 ghost use Rattle.message_core.specs.Encodable.{AreEncodable};
 ghost use Rattle.message_core.specs.declared.limits.TheConstants.{MAX_COMMUNITY};
 ghost use Rattle.vacm_core.specs.Families.{in_view};
+ghost use Rattle.decision.specs.Deciding.{decision_on};
 ghost use Rattle.setphase_core.specs.Registry.{rows_of, prefixes_of, instances};
 ghost use Rattle.agent_core.specs.Replies.{kind_reply, failure_reply};
-ghost use Rattle.agent_core.specs.Answers.{IsSent, IsStep, drop_audit, with_count_of};
+ghost use Rattle.agent_core.specs.Denying.{denied_in};
+ghost use Rattle.agent_core.specs.Answers.{IsSent, IsReply, IsStep, drop_audit, with_count_of};
 
 use crate::answered::Answered;
 use crate::buffer::Buffer;
@@ -16,12 +18,14 @@ use crate::getting::get_all;
 use crate::nexts::get_next_all;
 use crate::sent_reply::SentReply;
 use crate::served::Served;
+use crate::sets::answer_set;
 use crate::source::{Source, View};
 use crate::views::PolicyView;
 use audit_core::{Audit, DeniedBindings};
-use decision::{Cause, Decision, decide};
+use decision::{AccessKey, Cause, Decision, decide};
 use message_core::{ErrorStatus, Kind, Request};
 use setphase_core::{MibObject, Registry, World};
+use setting_keys::SettingKeys;
 use std::alloc::{AllocError, Global};
 use std::marker::Brand;
 use std::sync::ledger::{Blank, Ledger};
@@ -30,8 +34,11 @@ use vacm_core::Name;
 
 /// Answers a request by RFC 3416, 4.2, over what the objects show of the world, as its policy lets
 /// the caller see it (RFC 3415, 3.2). The buffer holds the reply in its minimal encoding, or
-/// nothing where the request is dropped; a drop is counted, modulo 2^32, and nothing else changes
-/// in the world, and nothing in the objects.
+/// nothing where the request is dropped; a drop is counted, modulo 2^32.
+/// A Set that is let in tests all its variables, and then gives all of them their values, or none
+/// but those that could not be undone where a device failed (4.2.5). Settings that differ from
+/// those of before are settled once, and the buffer holds what each port sends. A request of
+/// another kind changes nothing else in the world, and nothing in the objects.
 /// Objects that the view is seen to hide whole (`Vacm::hides_all`) are passed over: their instances
 /// are neither looked for nor read. No clause says so: the reply is that over all instances.
 /// How often a GetBulk looks for a successor is said by `get_bulk`, and by no clause here.
@@ -41,9 +48,8 @@ use vacm_core::Name;
 ///
 /// # Errors
 /// Only memory can fail: then the buffer is empty, the world is as before, and the request is one
-/// that is let in to a view and reads.
-/// A request that is dropped or refused, one without bindings and a Set take none.
-#[tactic(auto, unfolding(crate::specs::Answers::outcome_of, crate::specs::Answers::world_after))]
+/// that is let in to a view and reads, or a Set that is refused with noAccess.
+/// A request that is dropped or refused, one without bindings and every other Set take none.
 pub fn answer<O: MibObject>(
     alloc: Global,
     registry: &mut Registry<O>,
@@ -52,8 +58,7 @@ pub fn answer<O: MibObject>(
     buffer: &mut Buffer,
 ) -> Result<Answered, AllocError>
     requires { AreEncodable request.now.bindings }
-    ensures step { IsStep (rows_of registry.old) world.old request.now result buffer.new world.new }
-    ensures objects { registry.new ≡ registry.old }
+    ensures { IsStep registry.old world.old request.now result buffer.new world.new registry.new }
 {
     buffer.clear();
     match decide(&world.policy, request) {
@@ -63,21 +68,49 @@ pub fn answer<O: MibObject>(
         }
         Decision::Empty => {
             let none = DeniedBindings::new(alloc);
-            let sent = buffer.put(request, ErrorStatus::NoError, &[]);
+            let sent = buffer.put(request, ErrorStatus::NoError, 0, &[]);
             Ok(reply_with(request, Decision::Empty, none, sent))
         }
         Decision::Refused(why) => {
             let none = DeniedBindings::new(alloc);
             let asked = request.bindings.as_slice();
-            let sent = buffer.put(request, ErrorStatus::AuthorizationError, asked);
+            let sent = buffer.put(request, ErrorStatus::AuthorizationError, 0, asked);
             Ok(reply_with(request, Decision::Refused(why), none, sent))
         }
-        Decision::Allowed { row, view } => {
-            let denied = denied_bindings(alloc, world.policy.vacm(), &view, request)?;
-            let sent = send_allowed(alloc, registry, world, &view, request, buffer)?;
-            Ok(reply_with(request, Decision::Allowed { row, view }, denied, sent))
-        }
+        Decision::Allowed { row, view } => match request.kind {
+            Kind::Set => answer_set(alloc, registry, world, request, row, view, buffer),
+            Kind::Get | Kind::GetNext | Kind::GetBulk => {
+                answer_read(alloc, registry, world, request, row, view, buffer)
+            }
+        },
     }
+}
+
+// Answers a request that reads in a view.
+fn answer_read<O: MibObject>(
+    alloc: Global,
+    registry: &Registry<O>,
+    world: &World,
+    request: &Request,
+    row: AccessKey,
+    view: Name,
+    buffer: &mut Buffer,
+) -> Result<Answered, AllocError>
+    requires community { length request.now.community ≤ MAX_COMMUNITY }
+    requires encodable { AreEncodable request.now.bindings }
+    requires reads { request.now.kind ≢ Kind.Set }
+    ensures reply { IfOk result (λ told. IsReply (kind_reply (prefixes_of (rows_of registry.now))
+        (in_view world.now.policy.vacm.families view)
+        (instances (rows_of registry.now) world.now) request.now request.now.kind)
+        request.now (Decision.Allowed row view)
+        (denied_in world.now.policy.vacm.families view request.now request.now.kind)
+        told buffer.new.reply) }
+    ensures bpdus { buffer.new.bpdus ≡ buffer.old.bpdus }
+    ensures err { OnErr result (buffer.new ≡ buffer.old) }
+{
+    let denied = denied_bindings(alloc, world.policy.vacm(), &view, request)?;
+    let sent = send_allowed(alloc, registry, world, &view, request, buffer)?;
+    Ok(reply_with(request, Decision::Allowed { row, view }, denied, sent))
 }
 
 // Counts a request that this cause drops (RFC 3418, snmpInBadCommunityNames; RFC 3413,
@@ -105,6 +138,7 @@ fn drop_request(alloc: Global, request: &Request, cause: Cause) -> Answered
         index: 0,
         decision: Decision::Drop(cause),
         denied: DeniedBindings::new(alloc),
+        unrestored: SettingKeys::new(),
     })
 }
 
@@ -121,7 +155,8 @@ fn reply_with(
       index = sent.index;
       decision = decision;
       denied = denied;
-    }) }
+      unrestored = [];
+    }) None }
 {
     Answered::Reply(
         sent.length,
@@ -131,7 +166,9 @@ fn reply_with(
             index: sent.index,
             decision,
             denied,
+            unrestored: SettingKeys::new(),
         },
+        None,
     )
 }
 
@@ -145,9 +182,10 @@ pub fn short_reply(request: &Request, buffer: &mut Buffer) -> usize
     requires encodable { AreEncodable request.now.bindings }
     ensures reply { buffer.new.reply ≡ canon_reply (failure_reply request.now) }
     ensures len { result ≡ length buffer.new.reply }
+    ensures bpdus { buffer.new.bpdus ≡ buffer.old.bpdus }
 {
     buffer
-        .put(request, ErrorStatus::GenErr, request.bindings.as_slice())
+        .put(request, ErrorStatus::GenErr, 0, request.bindings.as_slice())
         .length
 }
 
@@ -163,12 +201,13 @@ fn send_allowed<O: MibObject>(
 ) -> Result<SentReply, AllocError>
     requires community { length request.now.community ≤ MAX_COMMUNITY }
     requires encodable { AreEncodable request.now.bindings }
+    requires reads { request.now.kind ≢ Kind.Set }
     ensures sent { IfOk result (λ sent. IsSent (kind_reply (prefixes_of (rows_of registry.now))
         (in_view world.now.policy.vacm.families view.now)
         (instances (rows_of registry.now) world.now) request.now request.now.kind)
-        sent buffer.new) }
+        sent buffer.new.reply) }
+    ensures bpdus { buffer.new.bpdus ≡ buffer.old.bpdus }
     ensures err { OnErr result (buffer.new ≡ buffer.old) }
-    ensures takes { OnErr result (request.now.kind ≢ Kind.Set) }
 {
     send_served::<O, Brand>(alloc, registry, world, view, request, buffer, Blank::new(1))
 }
@@ -188,12 +227,13 @@ fn send_served<O: MibObject, L: Ledger>(
     requires name { blank.name ≡ L.name }
     requires parts { blank.parts ≡ L.parts }
     requires some { 0 < blank.parts }
+    requires reads { request.now.kind ≢ Kind.Set }
     ensures sent { IfOk result (λ sent. IsSent (kind_reply (prefixes_of (rows_of registry.now))
         (in_view world.now.policy.vacm.families view.now)
         (instances (rows_of registry.now) world.now) request.now request.now.kind)
-        sent buffer.new) }
+        sent buffer.new.reply) }
+    ensures bpdus { buffer.new.bpdus ≡ buffer.old.bpdus }
     ensures err { OnErr result (buffer.new ≡ buffer.old) }
-    ensures takes { OnErr result (request.now.kind ≢ Kind.Set) }
 {
     let mut steps: Steps<L> = Steps::new(blank);
     let vacm = world.policy.vacm();
@@ -218,11 +258,12 @@ fn send_kind<S: Source<L>, V: View, L: Ledger>(
 ) -> Result<SentReply, AllocError>
     requires community { length request.now.community ≤ MAX_COMMUNITY }
     requires encodable { AreEncodable request.now.bindings }
+    requires reads { request.now.kind ≢ Kind.Set }
     ensures sent { IfOk result (λ sent.
         IsSent (kind_reply (S.objects source.now) (V.shows view.now)
-        (S.instances source.now) request.now request.now.kind) sent buffer.new) }
+        (S.instances source.now) request.now request.now.kind) sent buffer.new.reply) }
+    ensures bpdus { buffer.new.bpdus ≡ buffer.old.bpdus }
     ensures err { OnErr result (buffer.new ≡ buffer.old) }
-    ensures takes { OnErr result (request.now.kind ≢ Kind.Set) }
 {
     let asked = request.bindings.as_slice();
     source.known();
@@ -230,7 +271,7 @@ fn send_kind<S: Source<L>, V: View, L: Ledger>(
         Kind::Get => get_all(alloc, source, view, asked, steps)?,
         Kind::GetNext => get_next_all(alloc, source, view, asked, steps)?,
         Kind::GetBulk => get_bulk(alloc, source, view, request, steps)?,
-        Kind::Set => return Ok(buffer.put(request, ErrorStatus::GenErr, asked)),
+        Kind::Set => unreachable!(),
     };
-    Ok(buffer.put(request, ErrorStatus::NoError, answers.as_slice()))
+    Ok(buffer.put(request, ErrorStatus::NoError, 0, answers.as_slice()))
 }

@@ -1,22 +1,28 @@
-//! The room for one reply, and what is put into it (RFC 3416, 4.2: tooBig).
-ghost use Rattle.std.specs.Prelude.{◌≡◌, ◌≤◌, [], length, pos, take};
+//! What an event gives to send: the room for one reply, and what is put into it (RFC 3416, 4.2:
+//! tooBig), and the BPDUs of the ports.
+ghost use Rattle.std.specs.Prelude.{◌≡◌, ◌≤◌, ℤ, [], length, pos, take};
 ghost use Rattle.message_core.specs.Canon.{canon_reply, answer_to};
 ghost use Rattle.message_core.specs.Encodable.{AreEncodable};
 ghost use Rattle.message_core.specs.declared.limits.TheConstants.{MAX_COMMUNITY};
 ghost use Rattle.agent_core.specs.Replies.{reply_within_limit};
+ghost use Rattle.agent_core.specs.Sets.{is_too_long, too_long_reply};
 ghost use Rattle.agent_core.specs.Answers.{IsSent};
 
 use crate::sent_reply::SentReply;
+use arrayvec::ArrayVec;
+use bridge_core::Bpdus;
+use frame_core::Bpdu;
 use message_core::laws::short_reply_fits;
 use message_core::{Binding, ErrorStatus, MAX_REPLY, Request, TooBig, encode_answer};
 use std::marker::Model;
 
-/// Room for what one event gives to send: one reply of at most `MAX_REPLY`, 1,472, octets. It takes
-/// no memory.
+/// Room for what one event gives to send: one reply of at most `MAX_REPLY`, 1,472, octets, and what
+/// each port sends. It takes no memory.
 #[derive(Drop)]
 pub struct Buffer {
     octets: [u8; MAX_REPLY],
     length: usize,
+    bpdus: Bpdus,
 }
 
 impl Model for Buffer {
@@ -26,7 +32,7 @@ impl Model for Buffer {
 
     ghost Value = { Buffered };
 
-    ghost view = { λ b. record { reply = take b.length b.octets } };
+    ghost view = { λ b. record { reply = take b.length b.octets; bpdus = b.bpdus.items } };
 
     ghost invariant = { λ b. b.length ≤ MAX_REPLY };
 }
@@ -34,11 +40,13 @@ impl Model for Buffer {
 impl Buffer {
     /// A buffer with nothing in it.
     pub fn new() -> Buffer
-        ensures { result.reply ≡ [] }
+        ensures reply { result.reply ≡ [] }
+        ensures bpdus { result.bpdus ≡ [] }
     {
         Buffer {
             octets: [0; MAX_REPLY],
             length: 0,
+            bpdus: ArrayVec::new(),
         }
     }
 
@@ -49,11 +57,21 @@ impl Buffer {
         &self.octets[..self.length]
     }
 
+    /// What the ports send, from port 1 on; none where a Set settled nothing (IEEE 802.1D-2004,
+    /// 17.21.20).
+    pub fn bpdus(&self) -> &[Option<Bpdu>]
+        ensures { result.now ≡ self.now.bpdus }
+    {
+        self.bpdus.as_slice()
+    }
+
     /// Empties the buffer.
     pub fn clear(&mut self)
-        ensures { self.new.reply ≡ [] }
+        ensures reply { self.new.reply ≡ [] }
+        ensures bpdus { self.new.bpdus ≡ [] }
     {
         self.length = 0;
+        self.bpdus = ArrayVec::new();
     }
 
     /// Puts the reply to a request in, or tooBig without bindings where that is too long (RFC 3416,
@@ -62,16 +80,55 @@ impl Buffer {
         &mut self,
         request: &Request,
         status: ErrorStatus,
+        index: i32,
         bindings: &[Binding],
     ) -> SentReply
         requires community { length request.now.community ≤ MAX_COMMUNITY }
         requires encodable { AreEncodable bindings.now }
-        ensures { IsSent (reply_within_limit (answer_to request.now status
-            (pos 0) bindings.now)) result self.new }
+        ensures sent { IsSent (reply_within_limit (answer_to request.now status index bindings.now))
+            result self.new.reply }
+        ensures bpdus { self.new.bpdus ≡ self.old.bpdus }
     {
-        let sent = put_sized(request, status, bindings, &mut self.octets);
+        let sent = put_sized(request, status, index, bindings, &mut self.octets);
         self.length = sent.length;
         sent
+    }
+
+    /// Puts tooBig without bindings in, whatever the length of the request's own (RFC 3416, 4.2.5),
+    /// and says what was put. Takes no memory.
+    pub(crate) fn put_too_long(&mut self, request: &Request) -> SentReply
+        requires { length request.now.community ≤ MAX_COMMUNITY }
+        ensures sent { IsSent (too_long_reply request.now) result self.new.reply }
+        ensures bpdus { self.new.bpdus ≡ self.old.bpdus }
+    {
+        self.length = put_too_big(request, &mut self.octets);
+        SentReply {
+            length: self.length,
+            status: ErrorStatus::TooBig,
+            index: 0,
+        }
+    }
+
+    /// Whether the response to a Set may be too long for a reply: its own bindings beside a status
+    /// of one octet and an index of four. It leaves no reply. Takes no memory.
+    pub(crate) fn is_too_long(&mut self, request: &Request) -> bool
+        requires { AreEncodable request.now.bindings }
+        ensures too_long { result ≡ is_too_long request.now }
+        ensures reply { self.new.reply ≡ [] }
+        ensures bpdus { self.new.bpdus ≡ self.old.bpdus }
+    {
+        self.length = 0;
+        let bindings = request.bindings.as_slice();
+        let status = ErrorStatus::GenErr;
+        encode_answer(request, status, i32::MAX, bindings, &mut self.octets).is_err()
+    }
+
+    /// Keeps what the ports send.
+    pub(crate) fn send(&mut self, bpdus: Bpdus)
+        ensures bpdus { self.new.bpdus ≡ bpdus.items }
+        ensures reply { self.new.reply ≡ self.old.reply }
+    {
+        self.bpdus = bpdus;
     }
 }
 
@@ -79,21 +136,21 @@ impl Buffer {
 fn put_sized(
     request: &Request,
     status: ErrorStatus,
+    index: i32,
     bindings: &[Binding],
     octets: &mut [u8; MAX_REPLY],
 ) -> SentReply
     requires community { length request.now.community ≤ MAX_COMMUNITY }
     requires encodable { AreEncodable bindings.now }
-    ensures sent { IsSent (reply_within_limit (answer_to request.now status (pos 0) bindings.now))
-        result
-        (record { reply = take result.length octets.new }) }
+    ensures sent { IsSent (reply_within_limit (answer_to request.now status index bindings.now))
+        result (take result.length octets.new) }
     ensures most { result.length ≤ MAX_REPLY }
 {
-    match encode_answer(request, status, 0, bindings, octets) {
+    match encode_answer(request, status, index, bindings, octets) {
         Ok(length) => SentReply {
             length,
             status,
-            index: 0,
+            index,
         },
         Err(TooBig) => SentReply {
             length: put_too_big(request, octets),

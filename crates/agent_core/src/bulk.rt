@@ -1,19 +1,18 @@
 //! GetBulk: non-repeaters, repetitions, and where they stop (RFC 3416, 4.2.3).
-ghost use Rattle.std.specs.Prelude.{◌≡◌, ◌≤◌, ◌+◌, ◌*◌, ◌++◌, [], ◌∷◌, List, false, length, min, IfOk, OnOk, OnErr, IsTrue, take, drop};
-ghost use Rattle.std.specs.List.{AllByRecursion};
+ghost use Rattle.std.specs.Prelude.{◌≡◌, ◌≤◌, ◌+◌, ◌-◌, ◌*◌, ◌++◌, [], ◌∷◌, List, false, length, min, get_or, IfOk, OnOk, OnErr, IsTrue, drop};
 ghost use Rattle.oid_core.specs.Name.{HasRoot};
 ghost use Rattle.message_core.specs.Encodable.{AreEncodable};
 ghost use Rattle.message_core.specs.declared.limits.TheConstants.{MAX_COMMUNITY};
 ghost use Rattle.message_core.specs.Instances.{names_of};
 ghost use Rattle.agent_core.specs.Reading.{visible, next_answer, next_answers};
 ghost use Rattle.agent_core.specs.Looking.{most_looks};
-ghost use Rattle.agent_core.specs.Bulk.{all_end, repetitions, bulk_list, count_of, asked_list};
+ghost use Rattle.agent_core.specs.Bulk.{all_end, repetitions, further, bulk_list, count_of, asked_list};
 ghost use Rattle.agent_core.specs.Fitting.{fitting_front, fit_into, most_successors, IsFilled};
 ghost use Rattle.message_core.specs.declared.binding.Binding.{Binding};
 
-use crate::nexts::get_next;
+use crate::nexts::get_next_near;
 use crate::sent::Sent;
-use crate::source::{Successors, View};
+use crate::source::{NOWHERE, Successors, View};
 use message_core::{Binding, Bindings, Request, Value, bindings_room};
 use oid_core::Oid;
 use std::alloc::{AllocError, Global};
@@ -26,6 +25,7 @@ fn send_next<S: Successors<L>, V: View, L: Ledger>(
     source: &S,
     view: &V,
     name: &Oid,
+    near: &mut usize,
     sent: &mut Sent,
     steps: &mut Steps<L>,
 ) -> Result<bool, AllocError>
@@ -41,27 +41,28 @@ fn send_next<S: Successors<L>, V: View, L: Ledger>(
     ensures err { OnErr result (sent.new.bindings ≡ sent.old.bindings) }
     ensures work { steps.new ≤ steps.old + most_looks (V.shows view.now) (S.instances source.now) }
 {
-    let row = get_next(alloc, source, view, name, steps)?;
+    let row = get_next_near(alloc, source, view, name, near, steps)?;
     sent.offer(row)
 }
 
-// Sends one repetition, GetNext of each name, as far as there is room, and says whether there was
-// room for all of it.
+// Sends one repetition, GetNext of the name of each of these bindings, as far as there is room, and
+// says whether there was room for all of it.
 fn repeat_once<S: Successors<L>, V: View, L: Ledger>(
     alloc: Global,
     source: &S,
     view: &V,
-    names: &[Oid],
+    asked: &[Binding],
+    near: &mut usize,
     sent: &mut Sent,
     steps: &mut Steps<L>,
 ) -> Result<bool, AllocError>
-    requires { AllByRecursion HasRoot names.now }
+    requires { AreEncodable asked.now }
     ensures whole { IfOk result (λ whole. IsTrue whole →
         sent.new.bindings ≡ sent.old.bindings ++ next_answers
-        (visible (V.shows view.now) (S.instances source.now)) names.now) }
+        (visible (V.shows view.now) (S.instances source.now)) (names_of asked.now)) }
     ensures cut { IfOk result (λ whole. whole ≡ false → (more : List Binding) →
         IsFilled sent.new.room (sent.old.bindings ++ (next_answers
-        (visible (V.shows view.now) (S.instances source.now)) names.now ++ more))
+        (visible (V.shows view.now) (S.instances source.now)) (names_of asked.now) ++ more))
         sent.new.bindings) }
     ensures room { sent.new.room ≡ sent.old.room }
     ensures work { let most = most_looks (V.shows view.now) (S.instances source.now) in
@@ -71,26 +72,82 @@ fn repeat_once<S: Successors<L>, V: View, L: Ledger>(
         IfOk result (λ whole. IsTrue whole →
         steps.new + length sent.old.bindings * most ≤ steps.old + length sent.new.bindings * most) }
 {
-    for name in names {
-        if !send_next(alloc, source, view, name, sent, steps)? {
+    for binding in asked {
+        if !send_next(alloc, source, view, &binding.name, near, sent, steps)? {
             return Ok(false);
         }
     }
     Ok(true)
 }
 
-// Copies of the names of bindings.
-fn copied_names(alloc: Global, row: &[Binding]) -> Result<Vec<Oid>, AllocError>
-    ensures { IfOk result (λ names. names.items ≡ names_of row.now) }
+// Sends what GetNext answers under the name of the binding so many places back, where there is room
+// for it, and says whether there was.
+fn send_successor<S: Successors<L>, V: View, L: Ledger>(
+    alloc: Global,
+    source: &S,
+    view: &V,
+    back: usize,
+    near: &mut usize,
+    sent: &mut Sent,
+    steps: &mut Steps<L>,
+) -> Result<bool, AllocError>
+    requires some { 1 ≤ back }
+    requires there { back ≤ length sent.old.bindings }
+    ensures taken { let name = get_or (names_of sent.old.bindings)
+        (length sent.old.bindings - back) [] in
+        IfOk result (λ taken. IsTrue taken →
+        sent.new.bindings ≡ sent.old.bindings ++ next_answer (visible (V.shows view.now)
+        (S.instances source.now)) name ∷ []) }
+    ensures full { IfOk result (λ taken. taken ≡ false → sent.new.bindings ≡ sent.old.bindings) }
+    ensures fits { let name = get_or (names_of sent.old.bindings)
+        (length sent.old.bindings - back) [] in
+        IfOk result (λ taken.
+        taken ≡ fit_into sent.old.room (sent.old.bindings ++ next_answer
+        (visible (V.shows view.now) (S.instances source.now)) name ∷ [])) }
+    ensures room { sent.new.room ≡ sent.old.room }
+    ensures err { OnErr result (sent.new.bindings ≡ sent.old.bindings) }
+    ensures work { steps.new ≤ steps.old + most_looks (V.shows view.now) (S.instances source.now) }
 {
-    let mut names = Vec::new(alloc);
-    for binding in row {
-        let Ok(name) = binding.name.try_copy(alloc) else {
-            return Err(AllocError);
-        };
-        names.push(name)?;
+    let before = &sent.last(back)[0];
+    let row = get_next_near(alloc, source, view, &before.name, near, steps)?;
+    sent.offer(row)
+}
+
+// Sends one repetition more, GetNext of the names of the one that was sent last, which has so many
+// bindings, as far as there is room, and says whether there was room for all of it.
+fn repeat_last<S: Successors<L>, V: View, L: Ledger>(
+    alloc: Global,
+    source: &S,
+    view: &V,
+    columns: usize,
+    near: &mut usize,
+    sent: &mut Sent,
+    steps: &mut Steps<L>,
+) -> Result<bool, AllocError>
+    requires { columns ≤ length sent.old.bindings }
+    ensures whole { let last = drop (length sent.old.bindings - columns) sent.old.bindings in
+        IfOk result (λ whole. IsTrue whole →
+        sent.new.bindings ≡ sent.old.bindings ++ next_answers
+        (visible (V.shows view.now) (S.instances source.now)) (names_of last)) }
+    ensures cut { let last = drop (length sent.old.bindings - columns) sent.old.bindings in
+        IfOk result (λ whole. whole ≡ false → (more : List Binding) →
+        IsFilled sent.new.room (sent.old.bindings ++ (next_answers
+        (visible (V.shows view.now) (S.instances source.now)) (names_of last) ++ more))
+        sent.new.bindings) }
+    ensures room { sent.new.room ≡ sent.old.room }
+    ensures work { let most = most_looks (V.shows view.now) (S.instances source.now) in
+        steps.new + length sent.old.bindings * most
+        ≤ steps.old + (length sent.new.bindings + 1) * most }
+    ensures whole_work { let most = most_looks (V.shows view.now) (S.instances source.now) in
+        IfOk result (λ whole. IsTrue whole →
+        steps.new + length sent.old.bindings * most ≤ steps.old + length sent.new.bindings * most) }
+{
+    for column in 0..columns {
+        if !send_successor(alloc, source, view, columns, near, sent, steps)? {
+            return Ok(false);
+        }
     }
-    Ok(names)
+    Ok(true)
 }
 
 // Whether each binding is endOfMibView.
@@ -100,40 +157,77 @@ fn has_ended(row: &[Binding]) -> bool
     row.iter().all(|b| matches!(b.value, Value::EndOfMibView))
 }
 
-// Sends up to `most` repetitions from the names on, as far as there is room.
+// Sends up to `most` repetitions more from the names of the one that was sent last, which has so
+// many bindings, as far as there is room.
 //
 // Each but the last sends a binding for each name and so takes room: there are no more repetitions
 // than bindings that fit, and one, whatever `most` is.
-fn repeat<S: Successors<L>, V: View, L: Ledger>(
+fn go_on<S: Successors<L>, V: View, L: Ledger>(
     alloc: Global,
     source: &S,
     view: &V,
-    columns: Vec<Oid>,
+    columns: usize,
     most: u32,
+    near: &mut usize,
     sent: &mut Sent,
     steps: &mut Steps<L>,
 ) -> Result<(), AllocError>
-    requires { AllByRecursion HasRoot columns.items }
-    ensures filled { OnOk result (IsFilled sent.old.room (sent.old.bindings ++ repetitions
-        (visible (V.shows view.now)
-        (S.instances source.now)) most columns.items) sent.new.bindings) }
+    requires { columns ≤ length sent.old.bindings }
+    ensures filled { let last = drop (length sent.old.bindings - columns) sent.old.bindings in
+        OnOk result (IsFilled sent.old.room (sent.old.bindings ++ further
+        (visible (V.shows view.now) (S.instances source.now)) most last) sent.new.bindings) }
     ensures room { sent.new.room ≡ sent.old.room }
     ensures work { let most = most_looks (V.shows view.now) (S.instances source.now) in
         steps.new + length sent.old.bindings * most
         ≤ steps.old + (length sent.new.bindings + 1) * most }
 {
-    let mut names = columns;
     for i in 0..most {
-        if !repeat_once(alloc, source, view, names.as_slice(), sent, steps)? {
+        if has_ended(sent.last(columns)) {
             return Ok(());
         }
-        let row = sent.last(names.len());
-        if has_ended(row) {
+        if !repeat_last(alloc, source, view, columns, near, sent, steps)? {
             return Ok(());
         }
-        names = copied_names(alloc, row)?;
     }
     Ok(())
+}
+
+// Sends up to `most` repetitions from the names of these bindings on, as far as there is room.
+fn repeat<S: Successors<L>, V: View, L: Ledger>(
+    alloc: Global,
+    source: &S,
+    view: &V,
+    asked: &[Binding],
+    most: u32,
+    sent: &mut Sent,
+    steps: &mut Steps<L>,
+) -> Result<(), AllocError>
+    requires { AreEncodable asked.now }
+    ensures filled { OnOk result (IsFilled sent.old.room (sent.old.bindings ++ repetitions
+        (visible (V.shows view.now)
+        (S.instances source.now)) most (names_of asked.now)) sent.new.bindings) }
+    ensures room { sent.new.room ≡ sent.old.room }
+    ensures work { let most = most_looks (V.shows view.now) (S.instances source.now) in
+        steps.new + length sent.old.bindings * most
+        ≤ steps.old + (length sent.new.bindings + 1) * most }
+{
+    if most == 0 {
+        return Ok(());
+    }
+    let mut near = NOWHERE;
+    if !repeat_once(alloc, source, view, asked, &mut near, sent, steps)? {
+        return Ok(());
+    }
+    go_on(
+        alloc,
+        source,
+        view,
+        asked.len(),
+        most - 1,
+        &mut near,
+        sent,
+        steps,
+    )
 }
 
 // Sends the first `once` names once, and the others up to `most` times, as far as there is room.
@@ -157,13 +251,12 @@ fn send_list<S: Successors<L>, V: View, L: Ledger>(
         steps.new + length sent.old.bindings * most
         ≤ steps.old + (length sent.new.bindings + 1) * most }
 {
-    let first = copied_names(alloc, &asked[..once])?;
-    if !repeat_once(alloc, source, view, first.as_slice(), sent, steps)? {
+    let (first, columns) = asked.split_at(once);
+    let mut near = NOWHERE;
+    if !repeat_once(alloc, source, view, first, &mut near, sent, steps)? {
         return Ok(());
     }
-    let columns = copied_names(alloc, &asked[once..])?;
-    repeat(alloc, source, view, columns, most, sent, steps)?;
-    Ok(())
+    repeat(alloc, source, view, columns, most, sent, steps)
 }
 
 // A number of a request as a count, 0 where it is negative.

@@ -1,7 +1,7 @@
 //! The bindings whose names are not in the view.
-ghost use Rattle.std.specs.Prelude.{◌≡◌, ◌<◌, ◌++◌, OnOk, OnErr, IfOk, length};
+ghost use Rattle.std.specs.Prelude.{◌≡◌, ◌<◌, ◌++◌, OnOk, OnErr, IfOk, IfSome, IsSome, length};
 ghost use Rattle.vacm_core.specs.Families.{family_answer, NamesFamilyOf};
-ghost use Rattle.agent_core.specs.Denying.{denial, denials, denied_in};
+ghost use Rattle.agent_core.specs.Denying.{denial, denials, denied_in, denied_variable};
 
 use audit_core::{Denied, DeniedBindings, FamilyKey};
 use message_core::{Binding, Kind, Request};
@@ -74,4 +74,24 @@ pub fn denied_bindings(
         Kind::Get => denials(alloc, vacm, view, request.bindings.as_slice()),
         Kind::GetNext | Kind::GetBulk | Kind::Set => Ok(DeniedBindings::new(alloc)),
     }
+}
+
+/// The variable of this number of a Set, where its name is not in the view, by the answer on it.
+/// Only memory can fail, and only where there is an answer.
+pub(crate) fn denied_variable(
+    alloc: Global,
+    vacm: &Vacm,
+    index: usize,
+    family: Option<FamilyAnswer>,
+) -> Result<DeniedBindings, AllocError>
+    requires { IfSome family (λ answer. NamesFamilyOf vacm.now.families answer) }
+    ensures denied { IfOk result (λ denied.
+        denied ≡ denied_variable vacm.now.families index family) }
+    ensures takes { OnErr result (IsSome family) }
+{
+    let mut denied = DeniedBindings::new(alloc);
+    if let Some(answer) = family {
+        deny(alloc, vacm, index, answer, &mut denied)?;
+    }
+    Ok(denied)
 }

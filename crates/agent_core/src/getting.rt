@@ -9,7 +9,7 @@ ghost use Rattle.agent_core.specs.Reading.{visible, get_answer, get_answers, is_
 ghost use Rattle.agent_core.specs.Looking.{most_looks};
 
 use crate::reading::next_shown;
-use crate::source::{Source, View};
+use crate::source::{NOWHERE, Source, View};
 use message_core::{Binding, Bindings, Value};
 use oid_core::Oid;
 use std::alloc::{AllocError, Global};
@@ -49,7 +49,8 @@ fn shows_below<S: Source<L>, V: View, L: Ledger>(
     if let Some(_itself) = shown_value(alloc, source, view, object)? {
         return Ok(true);
     }
-    match next_shown(alloc, source, view, object, steps)? {
+    let mut near = NOWHERE;
+    match next_shown(alloc, source, view, object, &mut near, steps)? {
         Some(row) => Ok(object.is_prefix(&row.name)),
         None => Ok(false),
     }

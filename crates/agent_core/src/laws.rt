@@ -1,9 +1,9 @@
 //! Laws of what a manager can see, over the definitions alone. Each stands on a function that does
 //! nothing.
-ghost use Rattle.std.specs.Prelude.{◌≡◌, ◌*◌, ◌≤◌, ℕ, suc, Bool, List, [], ◌∷◌, ◌++◌, length, All, IsTrue, Some};
+ghost use Rattle.std.specs.Prelude.{◌≡◌, ◌≢◌, ◌*◌, ◌≤◌, ℕ, suc, Bool, List, [], ◌∷◌, ◌++◌, length, All, IsTrue, Some};
 ghost use Rattle.message_core.specs.declared.binding.Binding.{Binding};
 ghost use Rattle.message_core.specs.declared.request.Request.{Request};
-ghost use Rattle.message_core.specs.declared.request.Kind.TheVariants.{Get};
+ghost use Rattle.message_core.specs.declared.request.Kind.TheVariants.{Get, Set};
 ghost use Rattle.vacm_core.specs.Families.{in_view};
 ghost use Rattle.decision.specs.declared.keys.AccessKey.{AccessKey};
 ghost use Rattle.decision.specs.declared.choice.Decision.TheVariants.{Allowed};
@@ -43,6 +43,7 @@ pub fn same_visible()
         decision_on other.policy request ≡ Allowed other_row other_view →
         visible (in_view shown.policy.vacm.families view) shown.instances ≡ visible
         (in_view other.policy.vacm.families other_view) other.instances →
+        request.kind ≢ Set →
         (request.kind ≡ Get → AgreesOnAsked shown other view other_view request) →
         reply_of shown request ≡ reply_of other request }
 {}

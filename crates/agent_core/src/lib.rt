@@ -3,7 +3,8 @@
 //!
 //! # Entry points
 //! [`answer`] is one step of a request over a `Registry` of managed objects and the `World` that
-//! they show: its reply stands in a [`Buffer`], its audit is given, a drop is counted. Objects that
+//! they show: its reply and what the ports send stand in a [`Buffer`], its audit is given, a drop is
+//! counted, a Set changes all its variables or none but what could not be undone. Objects that
 //! the view is seen to hide whole are passed over, however many instances they show.
 //! [`short_reply`] writes the reply for a want of memory, and takes none. Under any [`View`]
 //! [`get`] answers from any [`Source`], and [`get_next`] and [`get_bulk`] from any [`Successors`],
@@ -11,7 +12,7 @@
 //!
 //! # Definitions
 //! `specs/Answers.antt`: what objects show of a world, and the step; `specs/Replies.antt`: replies
-//! by kind, and the size rule; `specs/Reading.antt`: what is visible, Get and GetNext;
+//! by kind, and the size rule; `specs/Sets.antt`: what a Set comes to; `specs/Reading.antt`: what is visible, Get and GetNext;
 //! `specs/Looking.antt`: the looks that a successor takes; `specs/Bulk.antt`, `specs/Fitting.antt`:
 //! GetBulk; `specs/Denying.antt`: denied bindings.
 //!
@@ -21,7 +22,8 @@
 //! nothing is hidden.
 //!
 //! # Not claimed
-//! That memory was refused where want of it is answered; Set, which is genErr today.
+//! That memory was refused where want of it is answered; which calls a device fails, and which of
+//! several variables of one object is told as failed.
 #![tactic(auto)]
 
 mod answered;
@@ -36,6 +38,7 @@ mod reading;
 mod sent;
 mod sent_reply;
 mod served;
+mod sets;
 mod source;
 mod views;
 
@@ -46,5 +49,5 @@ pub use bulk::get_bulk;
 pub use denying::denied_bindings;
 pub use getting::get;
 pub use nexts::get_next;
-pub use source::{Source, Successors, View};
+pub use source::{NOWHERE, Source, Successors, View};
 pub use views::PolicyView;

@@ -7,7 +7,7 @@ ghost use Rattle.agent_core.specs.Reading.{visible, next_answer, next_answers, e
 ghost use Rattle.agent_core.specs.Looking.{most_looks};
 
 use crate::reading::next_shown;
-use crate::source::{Successors, View};
+use crate::source::{NOWHERE, Successors, View};
 use message_core::{Binding, Bindings, Value};
 use oid_core::Oid;
 use std::alloc::{AllocError, Global};
@@ -30,6 +30,31 @@ fn end_under(alloc: Global, name: &Oid) -> Result<Binding, AllocError>
 /// What GetNext answers under a name (RFC 3416, 4.2.2), over the instances that the view shows.
 /// Only memory can fail.
 ///
+/// It looks at the source at most once for each instance that the view hides, and once more. `near`
+/// is the source's note of a walk (`Successors::next`).
+pub fn get_next_near<S: Successors<L>, V: View, L: Ledger>(
+    alloc: Global,
+    source: &S,
+    view: &V,
+    name: &Oid,
+    near: &mut usize,
+    steps: &mut Steps<L>,
+) -> Result<Binding, AllocError>
+    ensures answer { IfOk result (λ b.
+        b ≡ next_answer (visible (V.shows view.now) (S.instances source.now)) name.now) }
+    ensures encodable { IfOk result (λ b. HasRoot name.now → IsEncodableBinding b) }
+    ensures work { steps.new ≤ steps.old + most_looks (V.shows view.now) (S.instances source.now) }
+{
+    source.known();
+    match next_shown(alloc, source, view, name, near, steps)? {
+        Some(row) => Ok(row),
+        None => end_under(alloc, name),
+    }
+}
+
+/// What GetNext answers under a name (RFC 3416, 4.2.2), over the instances that the view shows.
+/// Only memory can fail.
+///
 /// It looks at the source at most once for each instance that the view hides, and once more.
 pub fn get_next<S: Successors<L>, V: View, L: Ledger>(
     alloc: Global,
@@ -43,11 +68,8 @@ pub fn get_next<S: Successors<L>, V: View, L: Ledger>(
     ensures encodable { IfOk result (λ b. HasRoot name.now → IsEncodableBinding b) }
     ensures work { steps.new ≤ steps.old + most_looks (V.shows view.now) (S.instances source.now) }
 {
-    source.known();
-    match next_shown(alloc, source, view, name, steps)? {
-        Some(row) => Ok(row),
-        None => end_under(alloc, name),
-    }
+    let mut near = NOWHERE;
+    get_next_near(alloc, source, view, name, &mut near, steps)
 }
 
 /// What GetNext answers under each asked name, in order (RFC 3416, 4.2.2), by the looks of one

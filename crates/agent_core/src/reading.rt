@@ -18,6 +18,7 @@ pub fn next_shown<S: Successors<L>, V: View, L: Ledger>(
     source: &S,
     view: &V,
     name: &Oid,
+    near: &mut usize,
     steps: &mut Steps<L>,
 ) -> Result<Option<Binding>, AllocError>
     ensures found { IfOk result (λ found.
@@ -25,12 +26,12 @@ pub fn next_shown<S: Successors<L>, V: View, L: Ledger>(
     ensures work { steps.new ≤ steps.old + most_looks (V.shows view.now) (S.instances source.now) }
 {
     source.known();
-    let mut found = source.next(alloc, name, steps)?;
+    let mut found = source.next(alloc, name, near, steps)?;
     while let Some(row) = found {
         if view.has_name(&row.name) {
             return Ok(Some(row));
         }
-        found = next_row(alloc, source, row, steps)?;
+        found = next_row(alloc, source, row, near, steps)?;
     }
     Ok(None)
 }
@@ -41,10 +42,11 @@ fn next_row<S: Successors<L>, L: Ledger>(
     alloc: Global,
     source: &S,
     row: Binding,
+    near: &mut usize,
     steps: &mut Steps<L>,
 ) -> Result<Option<Binding>, AllocError>
     ensures found { IfOk result (λ found. found ≡ next_of (S.instances source.now) row.name) }
     ensures work { steps.new ≡ steps.old + 1 }
 {
-    source.next(alloc, &row.name, steps)
+    source.next(alloc, &row.name, near, steps)
 }

@@ -49,6 +49,7 @@ fn next_uncounted<O: MibObject, L: Ledger>(
     alloc: Global,
     source: &Served<'_, O>,
     name: &Oid,
+    near: &mut usize,
     blank: Blank,
 ) -> Result<Option<Binding>, AllocError>
     requires name { blank.name ≡ L.name }
@@ -62,7 +63,7 @@ fn next_uncounted<O: MibObject, L: Ledger>(
     let name = name.as_slice();
     source
         .registry
-        .next_open(alloc, source.world, name, source, &mut passed)
+        .next_open(alloc, source.world, name, near, source, &mut passed)
 }
 
 impl<O: MibObject> Passing for Served<'_, O> {
@@ -91,11 +92,12 @@ impl<O: MibObject, L: Ledger> Successors<L> for Served<'_, O> {
         &self,
         alloc: Global,
         name: &Oid,
+        near: &mut usize,
         steps: &mut Steps<L>,
     ) -> Result<Option<Binding>, AllocError> {
         // A step is one look here: the objects that it passes over have a ledger of their own.
         steps.tick();
-        next_uncounted::<O, Brand>(alloc, self, name, Blank::new(1))
+        next_uncounted::<O, Brand>(alloc, self, name, near, Blank::new(1))
     }
 }
 

@@ -7,6 +7,9 @@ use std::alloc::{AllocError, Global};
 use std::sync::ledger::Ledger;
 use steps::Steps;
 
+/// The note of a walk that has found nothing yet.
+pub const NOWHERE: usize = usize::MAX;
+
 /// A view of names (RFC 3415, 2.4): which of them may be read.
 pub trait View {
     ghost use Rattle.std.specs.Prelude.{List, ℕ, Bool};
@@ -37,10 +40,14 @@ pub trait Successors<L: Ledger> {
 
     /// A copy of the first instance after a name, where there is one (RFC 3416, 4.2.2). It is one
     /// step. Only memory can fail.
+    ///
+    /// `near` is the source's own note of where it found the name before, and may be any number;
+    /// only time hangs on it.
     fn next(
         &self,
         alloc: Global,
         name: &Oid,
+        near: &mut usize,
         steps: &mut Steps<L>,
     ) -> Result<Option<Binding>, AllocError>
         ensures found { IfOk result (λ found. found ≡ next_of (instances self.now) name.now) }

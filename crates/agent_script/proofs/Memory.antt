@@ -1,7 +1,7 @@
 -- What may be given up for want of memory.
 use Rattle.std.proofs.Common.{Option, None, Some, Result, Ok, Err}
 use Rattle.std.specs.Prelude.{OnErr}
-use Rattle.agent_script.specs.Commands.{Command, request, frame, tick, link, policy, audit, counts, HasOctets}
+use Rattle.agent_script.specs.Commands.{Command, request, frame, tick, link, policy, audit, counts, driver, HasOctets}
 use Rattle.agent_script.specs.Notes.{MayGiveUpCommand}
 
 -- where anything may
@@ -19,3 +19,4 @@ octets_give_up (Some (link port up)) h = tt
 octets_give_up (Some policy) h = absurd h
 octets_give_up (Some (audit on)) h = absurd h
 octets_give_up (Some counts) h = tt
+octets_give_up (Some (driver plan)) h = absurd h

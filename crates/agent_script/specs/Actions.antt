@@ -15,13 +15,13 @@ use Rattle.community_core.specs.Communities.{PolicyTables}
 use Rattle.policy_text.specs.Texts.{policy_in}
 use Rattle.setphase_core.specs.declared.world.World.{World}
 use Rattle.agent_core.specs.Answers.{one_more}
-use Rattle.agent_script.specs.Commands.{Command, request, frame, tick, link, policy, audit, counts, command_of}
+use Rattle.agent_script.specs.Commands.{Command, request, frame, tick, link, policy, audit, counts, driver, command_of}
 use Rattle.agent_script.specs.Events as event
 use Rattle.agent_script.specs.Events.{System, Event, after_event}
 use Rattle.agent_script.specs.Outputs.{drop_text, event_text, seconds_text, after_seconds}
 use Rattle.agent_script.specs.State.{Agent}
 use Rattle.agent_script.specs.declared.drops.Drops.{Drops}
-use Rattle.agent_script.specs.Notes.{is_unread, is_unanswered, is_unlearned, is_lost}
+use Rattle.agent_script.specs.Notes.{is_unread, is_unlearned, is_lost, met_of}
 use Rattle.agent_script.specs.declared.note.Note.{Note}
 
 pub data Action : Type 0 where
@@ -44,12 +44,14 @@ pub data Action : Type 0 where
   switch : (on : Bool) → Action
   -- it is told what was dropped
   tell : Action
+  -- the objects' devices are to fail by this plan
+  arm : (plan : ℕ) → Action
 
 -- ---- which action
 
 -- a request
 abbrev pub request_action : Request → Note → Action
-request_action r note = happen (event.request r (is_unanswered note))
+request_action r note = happen (event.request r (met_of note))
 
 abbrev pub reading_action : Result Request DropCause → Note → Action
 reading_action (Ok r) note = request_action r note
@@ -75,6 +77,7 @@ command_action (Some (link port up)) note = happen (event.link port up)
 command_action (Some policy) note = keep []
 command_action (Some (audit on)) note = switch on
 command_action (Some counts) note = tell
+command_action (Some (driver plan)) note = arm plan
 
 abbrev pub ending : Option PolicyTables → Action
 ending (Some tables) = accept tables
@@ -93,7 +96,7 @@ action_in agent (Some lines) line note = policy_action lines line note
 action_in agent None line note =
     command_action (command_of (port_count agent.system.world.bridge) line) note
 
--- A line, inside a policy or outside, where it met this want of memory.
+-- A line, inside a policy or outside, where this is noted of it.
 unfoldable pub action_of : Agent → List ℕ → Note → Action
 action_of agent line note = action_in agent agent.policy_lines line note
 
@@ -139,6 +142,7 @@ action_text agent (accept tables) = event_text agent.is_auditing agent.system (e
 action_text agent refuse = codes "policy refused\n"
 action_text agent (switch on) = []
 action_text agent tell = counts_text agent.drops agent.system.world
+action_text agent (arm plan) = []
 
 -- ---- what it changes
 
@@ -162,3 +166,5 @@ after_action agent (accept tables) =
 after_action agent refuse = record agent { policy_lines = None }
 after_action agent (switch on) = record agent { is_auditing = on }
 after_action agent tell = agent
+-- a plan is the devices' own, and nothing that is shown
+after_action agent (arm plan) = agent

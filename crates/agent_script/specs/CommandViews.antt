@@ -1,7 +1,7 @@
 -- What the code's commands stand for.
 use Rattle.agent_script.specs.declared.commands.Command.{Command as Read}
-use Rattle.agent_script.specs.declared.commands.Command.TheVariants.{Request, Frame, Tick, Link, Policy, Audit, Counts}
-use Rattle.agent_script.specs.Commands.{Command, request, frame, tick, link, policy, audit, counts}
+use Rattle.agent_script.specs.declared.commands.Command.TheVariants.{Request, Frame, Tick, Link, Policy, Audit, Counts, Driver}
+use Rattle.agent_script.specs.Commands.{Command, request, frame, tick, link, policy, audit, counts, driver}
 
 abbrev pub command_view : Read → Command
 command_view (Request datagram) = request datagram.items
@@ -11,3 +11,4 @@ command_view (Link port up) = link port up
 command_view Policy = policy
 command_view (Audit on) = audit on
 command_view Counts = counts
+command_view (Driver plan) = driver plan

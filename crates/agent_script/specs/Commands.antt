@@ -1,9 +1,10 @@
 -- What a line of a script asks for.
 use Rattle.rstp_settings.specs.Table.{IsPortOf}
-use Rattle.std.specs.Prelude.{ℕ, zero, suc, ◌≤◌, Bool, true, false, codes, if◌then◌else◌, List, Option, Some, None, option_map, option_and_then}
+use Rattle.std.specs.Prelude.{ℕ, zero, suc, ◌-◌, ◌^◌, ◌==◌, Bool, true, false, bit_or, codes, if◌then◌else◌, List, [], ◌∷◌, Option, Some, None, option_map, option_and_then}
+use Rattle.std.specs.List.{fold, slice_split}
 use Rattle.std.specs.Str.{bytes_eq}
 use Rattle.script_core.specs.Words.{split_word, number_of, octets_of}
-use Rattle.agent_script.specs.declared.commands.TheConstants.{MAX_SECONDS}
+use Rattle.agent_script.specs.declared.commands.TheConstants.{MAX_SECONDS, PLANNED_CALLS}
 
 pub data Command : Type 0 where
   -- `request HEX`: answer a datagram
@@ -20,6 +21,8 @@ pub data Command : Type 0 where
   audit : (on : Bool) → Command
   -- `counts`: tell what was dropped
   counts : Command
+  -- `driver N..`: the next calls of the objects' devices fail by this plan
+  driver : (plan : ℕ) → Command
 
 abbrev pub positive : Option ℕ → Option ℕ
 positive (Some (suc n)) = Some (suc n)
@@ -29,6 +32,27 @@ positive None = None
 -- a number from 1 up to this
 abbrev pub counting_of : ℕ → List ℕ → Option ℕ
 counting_of most word = positive (number_of most word)
+
+-- the words of a text, between single spaces
+abbrev pub words_of : List ℕ → List (List ℕ)
+words_of text = slice_split (λ b. b == 32) text
+
+-- the words of what is left, if anything is
+abbrev pub words_left : Option (List ℕ) → List (List ℕ)
+words_left None = []
+words_left (Some text) = words_of text
+
+-- the numbers of words, each from 1 up to this
+abbrev pub countings_of : ℕ → List (List ℕ) → Option (List ℕ)
+countings_of most [] = Some []
+countings_of most (word ∷ words) =
+    option_and_then (λ n. option_map (λ ns. n ∷ ns) (countings_of most words))
+    (counting_of most word)
+
+-- The plan by which the calls of these numbers fail: its bit k - 1 says that the k-th does. The
+-- numbers come in any order, and one may come again.
+abbrev pub plan_of : List ℕ → ℕ
+plan_of calls = fold (λ plan call. bit_or plan (2 ^ (call - 1))) 0 calls
 
 -- `on` or `off`
 abbrev pub switch_of : List ℕ → Option Bool
@@ -59,6 +83,8 @@ command_with ports p =
     else if bytes_eq p.0 (codes "tick") then option_map tick (counting_of MAX_SECONDS p.1)
     else if bytes_eq p.0 (codes "link") then option_and_then (link_with ports) (split_word p.1)
     else if bytes_eq p.0 (codes "audit") then option_map audit (switch_of p.1)
+    else if bytes_eq p.0 (codes "driver") then
+    option_map (λ calls. driver (plan_of calls)) (countings_of PLANNED_CALLS (words_of p.1))
     else None
 
 -- a word alone
@@ -86,6 +112,7 @@ HasOctets (Some (link port up)) = ⊥
 HasOctets (Some policy) = ⊥
 HasOctets (Some (audit on)) = ⊥
 HasOctets (Some counts) = ⊥
+HasOctets (Some (driver plan)) = ⊥
 
 -- the port that a command names, if it names one, is one of so many
 abbrev pub NamesPortOf : ℕ → Option Command → Type 0
@@ -97,3 +124,4 @@ NamesPortOf ports (Some (link port up)) = IsPortOf ports port
 NamesPortOf ports (Some policy) = Unit {0}
 NamesPortOf ports (Some (audit on)) = Unit {0}
 NamesPortOf ports (Some counts) = Unit {0}
+NamesPortOf ports (Some (driver plan)) = Unit {0}

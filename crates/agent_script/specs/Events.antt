@@ -1,5 +1,5 @@
 -- What an event is, what it makes of the world, and what comes out.
-use Rattle.std.specs.Prelude.{ℕ, Bool, true, false, List, [], Option}
+use Rattle.std.specs.Prelude.{ℕ, Bool, List, Option}
 use Rattle.message_core.specs.declared.request.Request.{Request}
 use Rattle.message_core.specs.declared.reply.Reply.{Reply}
 use Rattle.audit_core.specs.declared.audit.Audit.{Audit}
@@ -10,10 +10,10 @@ use Rattle.frame_core.specs.declared.frame.FrameIn.{FrameIn}
 use Rattle.bridge_core.specs.Bridge.{BridgeState}
 use Rattle.bridge_core.specs.Events.{frame_result, tick_of, after_tick, link_of, after_link}
 use Rattle.setphase_core.specs.Objects.{ObjectState}
-use Rattle.setphase_core.specs.Registry.{rows_of}
+use Rattle.setphase_core.specs.Outcomes.{SetNotes}
 use Rattle.setphase_core.specs.declared.world.World.{World}
 use Rattle.agent_core.specs.Answers as answers
-use Rattle.agent_core.specs.Answers.{Outcome, Shown, shown_of, outcome_of, world_after}
+use Rattle.agent_core.specs.Answers.{Outcome, without_answer}
 use Rattle.agent_core.specs.Replies.{failure_reply}
 
 -- what events happen to: managed objects, and the world that they show, with its bridge
@@ -21,17 +21,20 @@ pub record System : Type 0 where
   pub objects : List ObjectState
   pub world : World
 
--- what the objects show of the world
-abbrev pub shown_in : System → Shown
-shown_in s = shown_of (rows_of s.objects) s.world
-
 -- the bridge of the world as an event leaves it, and nothing else changed
 abbrev pub with_bridge : System → BridgeState → System
 with_bridge s bridge = record s { world = record s.world { bridge = bridge } }
 
+-- what a request met
+pub data Met : Type 0 where
+  -- there was no memory for its answer
+  no_memory : Met
+  -- it was answered, and these calls of devices failed
+  devices : (notes : SetNotes) → Met
+
 pub data Event : Type 0 where
-  -- a request comes; `no_memory` notes that there was none for its answer
-  request : (request : Request) (no_memory : Bool) → Event
+  -- a request comes, and meets this
+  request : (request : Request) (met : Met) → Event
   -- a frame comes in by a port; `no_room` notes that the growth for the row of its source was
   -- refused
   frame : (port : ℕ) (fields : FrameIn) (no_room : Bool) → Event
@@ -61,19 +64,27 @@ pub record Step : Type 0 where
   pub system : System
   pub output : Output
 
--- what comes out of a request; it sends no BPDU, since nothing can be written
-abbrev pub answer_output : Outcome → Output
-answer_output (answers.dropped cause audit) = dropped cause audit
-answer_output (answers.replied reply audit) = replied reply audit []
+-- what comes out of a request, with what the ports send
+abbrev pub answer_output : Outcome → List (Option Bpdu) → Output
+answer_output (answers.dropped cause audit) bpdus = dropped cause audit
+answer_output (answers.replied reply audit) bpdus = replied reply audit bpdus
 
--- One step. Where there was no memory for an answer, genErr is replied, and nothing changes.
+-- a request that was answered by this step
+abbrev pub answered_step : answers.Step → Step
+answered_step step = record {
+  system = record { objects = step.objects; world = step.world };
+  output = answer_output step.outcome step.bpdus;
+}
+
+-- One step. Where there was no memory for an answer, genErr is replied, and nothing that is shown
+-- changes.
 abbrev pub step_of : System → Event → Step
-step_of s (request r true) = record { system = s; output = unanswered (failure_reply r) }
-step_of s (request r false) =
-    record {
-      system = record s { world = world_after s.world r };
-      output = answer_output (outcome_of (shown_in s) r);
-    }
+step_of s (request r no_memory) = record {
+  system = record s { objects = without_answer r.kind s.objects };
+  output = unanswered (failure_reply r);
+}
+step_of s (request r (devices notes)) =
+    answered_step (answers.step_of s.objects s.world r notes)
 step_of s (frame port fields no_room) =
     let step = frame_result s.world.bridge port fields no_room in
     record { system = with_bridge s step.bridge; output = forwarded step.egress step.bpdus }

@@ -1,4 +1,4 @@
--- Which want of memory each line may meet.
+-- Which want of memory, and which failures of devices, each line may meet.
 use Rattle.std.specs.Prelude.{◌≡◌, ℕ, Bool, true, false, codes, List, Option, Some, None, Result, Ok, Err}
 use Rattle.std.specs.Str.{bytes_eq}
 use Rattle.message_core.specs.Message.{IsCause}
@@ -12,40 +12,39 @@ use Rattle.frame_core.specs.Reading.{frame_at}
 use Rattle.policy_text.specs.Texts.{HasContent}
 use Rattle.bridge_core.specs.Bridge.{BridgeState, port_count}
 use Rattle.bridge_core.specs.Forwarding.{MayLackMemory}
-use Rattle.agent_core.specs.Answers.{TakesMemory}
-use Rattle.agent_script.specs.Commands.{Command, request, frame, tick, link, policy, audit, counts, command_of}
-use Rattle.agent_script.specs.Events.{System, shown_in}
+use Rattle.setting_keys.specs.declared.SettingKey.{SettingKey}
+use Rattle.setphase_core.specs.Registry.{rows_of}
+use Rattle.agent_core.specs.Answers.{TakesMemory, MayHave}
+use Rattle.agent_core.specs.Sets.{no_notes}
+use Rattle.agent_script.specs.Commands.{Command, request, frame, tick, link, policy, audit, counts, driver, command_of}
+use Rattle.agent_script.specs.Events.{System, Met, no_memory, devices}
 use Rattle.agent_script.specs.State.{Agent}
 use Rattle.agent_script.specs.declared.note.Note.{Note}
-use Rattle.agent_script.specs.declared.note.Note.TheVariants.{Nothing, RequestNotRead, RequestNotAnswered, SourceNotLearned, PolicyNotRead}
+use Rattle.agent_script.specs.declared.note.Note.TheVariants.{Nothing, RequestNotRead, RequestNotAnswered, DevicesFailed, SourceNotLearned, PolicyNotRead}
 
+-- no want of memory was met
 abbrev pub is_nothing : Note → Bool
 is_nothing Nothing = true
 is_nothing RequestNotRead = false
 is_nothing RequestNotAnswered = false
+is_nothing (DevicesFailed commit undos) = true
 is_nothing SourceNotLearned = false
 is_nothing PolicyNotRead = false
 
--- there was no memory for a datagram's request, for the reply to a request, for the row of a
--- frame's source, for a policy
+-- there was no memory for a datagram's request, for the row of a frame's source, for a policy
 abbrev pub is_unread : Note → Bool
 is_unread Nothing = false
 is_unread RequestNotRead = true
 is_unread RequestNotAnswered = false
+is_unread (DevicesFailed commit undos) = false
 is_unread SourceNotLearned = false
 is_unread PolicyNotRead = false
-
-abbrev pub is_unanswered : Note → Bool
-is_unanswered Nothing = false
-is_unanswered RequestNotRead = false
-is_unanswered RequestNotAnswered = true
-is_unanswered SourceNotLearned = false
-is_unanswered PolicyNotRead = false
 
 abbrev pub is_unlearned : Note → Bool
 is_unlearned Nothing = false
 is_unlearned RequestNotRead = false
 is_unlearned RequestNotAnswered = false
+is_unlearned (DevicesFailed commit undos) = false
 is_unlearned SourceNotLearned = true
 is_unlearned PolicyNotRead = false
 
@@ -53,8 +52,24 @@ abbrev pub is_lost : Note → Bool
 is_lost Nothing = false
 is_lost RequestNotRead = false
 is_lost RequestNotAnswered = false
+is_lost (DevicesFailed commit undos) = false
 is_lost SourceNotLearned = false
 is_lost PolicyNotRead = true
+
+-- what is noted of a request that was answered, where the commit of a variable failed, and the
+-- undoing of these settings
+abbrev pub answered_note : List SettingKey → Option ℕ → Note
+answered_note undos (Some commit) = DevicesFailed commit undos
+answered_note undos None = Nothing
+
+-- what a request met
+abbrev pub met_of : Note → Met
+met_of Nothing = devices no_notes
+met_of RequestNotRead = devices no_notes
+met_of RequestNotAnswered = no_memory
+met_of (DevicesFailed commit undos) = devices (record { commit = Some commit; undos = undos })
+met_of SourceNotLearned = devices no_notes
+met_of PolicyNotRead = devices no_notes
 
 -- what is noted of a datagram that this cause drops
 abbrev pub note_of : DropCause → Note
@@ -69,11 +84,13 @@ abbrev pub Case : Bool → Type 0 → Type 0 → Type 0
 Case true A B = A
 Case false A B = B
 
--- A request: its answer may find no memory, where it takes some.
+-- A request: its answer may find no memory, where it takes some, and devices may fail in a Set.
 abbrev pub MayMeetRequest : System → Request → Note → Type 0
 MayMeetRequest s r Nothing = Unit {0}
 MayMeetRequest s r RequestNotRead = ⊥
-MayMeetRequest s r RequestNotAnswered = TakesMemory (shown_in s) r
+MayMeetRequest s r RequestNotAnswered = TakesMemory (rows_of s.objects) s.world r
+MayMeetRequest s r (DevicesFailed commit undos) =
+    MayHave (rows_of s.objects) s.world r (record { commit = Some commit; undos = undos })
 MayMeetRequest s r SourceNotLearned = ⊥
 MayMeetRequest s r PolicyNotRead = ⊥
 
@@ -91,6 +108,7 @@ abbrev pub MayMeetFields : BridgeState → ℕ → FrameIn → Note → Type 0
 MayMeetFields b port fields Nothing = Unit {0}
 MayMeetFields b port fields RequestNotRead = ⊥
 MayMeetFields b port fields RequestNotAnswered = ⊥
+MayMeetFields b port fields (DevicesFailed commit undos) = ⊥
 MayMeetFields b port fields SourceNotLearned = MayLackMemory b port fields
 MayMeetFields b port fields PolicyNotRead = ⊥
 
@@ -109,6 +127,7 @@ MayMeetCommand s (Some (link port up)) note = note ≡ Nothing
 MayMeetCommand s (Some policy) note = note ≡ Nothing
 MayMeetCommand s (Some (audit on)) note = note ≡ Nothing
 MayMeetCommand s (Some counts) note = note ≡ Nothing
+MayMeetCommand s (Some (driver plan)) note = note ≡ Nothing
 
 -- The end of a policy of these lines: the policy may find none, where they are a text that is not
 -- blank.
@@ -116,6 +135,7 @@ abbrev pub MayMeetEnd : List ℕ → Note → Type 0
 MayMeetEnd lines Nothing = Unit {0}
 MayMeetEnd lines RequestNotRead = ⊥
 MayMeetEnd lines RequestNotAnswered = ⊥
+MayMeetEnd lines (DevicesFailed commit undos) = ⊥
 MayMeetEnd lines SourceNotLearned = ⊥
 MayMeetEnd lines PolicyNotRead = HasContent lines
 
@@ -129,7 +149,7 @@ MayMeetIn agent (Some lines) line note = MayMeetPolicyLine lines line note
 MayMeetIn agent None line note =
     MayMeetCommand agent.system (command_of (port_count agent.system.world.bridge) line) note
 
--- A line may meet this want of memory.
+-- A line may meet this.
 unfoldable pub MayMeet : Agent → List ℕ → Note → Type 0
 MayMeet agent line note = MayMeetIn agent agent.policy_lines line note
 
@@ -144,6 +164,7 @@ MayGiveUpCommand (Some (link port up)) = Unit {0}
 MayGiveUpCommand (Some policy) = ⊥
 MayGiveUpCommand (Some (audit on)) = ⊥
 MayGiveUpCommand (Some counts) = Unit {0}
+MayGiveUpCommand (Some (driver plan)) = ⊥
 
 -- any line of a policy may, since the policy is kept
 abbrev pub MayGiveUpIn : Agent → Option (List ℕ) → List ℕ → Type 0

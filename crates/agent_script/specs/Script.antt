@@ -9,14 +9,14 @@ use Rattle.agent_script.specs.declared.note.Note.{Note}
 use Rattle.agent_script.specs.declared.session.Run.{Run}
 use Rattle.agent_script.specs.declared.session.Run.TheVariants.{Whole, Short}
 
--- what is said to a line that met this want of memory, and the agent after it
+-- what is said to a line that met this, and the agent after it
 abbrev pub line_text : Agent → List ℕ → Note → List ℕ
 line_text agent line note = action_text agent (action_of agent line note)
 
 abbrev pub after_line : Agent → List ℕ → Note → Agent
 after_line agent line note = after_action agent (action_of agent line note)
 
--- a line, and the want of memory that it met
+-- a line, and what is noted of it
 pub record Noted : Type 0 where
   pub line : List ℕ
   pub note : Note

@@ -7,16 +7,17 @@ ghost use Rattle.frame_core.specs.Reading.{frame_at};
 ghost use Rattle.agent_script.specs.CommandViews.{command_view};
 ghost use Rattle.agent_script.specs.Commands.{NamesPortOf};
 ghost use Rattle.agent_script.specs.State.{Agent as State, opening_agent};
-ghost use Rattle.agent_script.specs.Notes.{is_unread, MayMeetRequest, MayMeetDatagram, MayMeetFrame, MayMeetCommand, MayMeetEnd, MayMeetPolicyLine, MayMeet, MayGiveUpCommand, MayGiveUp};
+ghost use Rattle.agent_script.specs.Notes.{is_unread, answered_note, MayMeetRequest, MayMeetDatagram, MayMeetFrame, MayMeetCommand, MayMeetEnd, MayMeetPolicyLine, MayMeet, MayGiveUpCommand, MayGiveUp};
 ghost use Rattle.agent_script.specs.Actions.{request_action, datagram_action, frame_action, command_action, end_action, policy_action, action_text, after_action};
 ghost use Rattle.agent_script.specs.Script.{line_text, after_line, end_text, after_end};
 
-use crate::bridging::{say_bad_frame, say_frame, say_link, say_ticks};
+use crate::bridging::{address_of, say_bad_frame, say_bpdus, say_frame, say_link, say_ticks};
 use crate::commands::{Command, read_command};
 use crate::drops::Drops;
 use crate::note::{Note, note_of};
 use crate::saying::{cause_name, say_audit, say_counts, say_drop, say_dropped, say_reply};
 use agent_core::{Answered, Buffer, answer, short_reply};
+use audit_core::Audit;
 use frame_core::read_frame;
 use message_core::{Request, decode};
 use policy_text::policy_in;
@@ -61,7 +62,7 @@ impl<O: MibObject> Agent<O> {
         }
     }
 
-    /// Answers a line, and tells what want of memory it met.
+    /// Answers a line, and tells what want of memory it met, or which devices failed.
     #[tactic(auto, using(crate::proofs::Memory::any_gives_up, crate::proofs::Memory::octets_give_up), unfolding(crate::specs::Actions::action_of, crate::specs::Notes::MayMeet, crate::specs::Notes::MayGiveUp))]
     pub fn line(
         &mut self,
@@ -119,16 +120,37 @@ impl<O: MibObject> Agent<O> {
         ensures given_up { OnErr result (MayGiveUpCommand (option_map command_view command)) }
     {
         match command {
-            None => out.extend_from_slice(b"badline\n")?,
-            Some(Command::Request(datagram)) => return self.datagram(alloc, &datagram, out),
-            Some(Command::Frame(port, octets)) => return self.frame(port, &octets, out),
-            Some(Command::Tick(seconds)) => say_ticks(&mut self.world.bridge, seconds, out)?,
-            Some(Command::Link(port, up)) => say_link(&mut self.world.bridge, port, up, out)?,
-            Some(Command::Policy) => self.policy_lines = Some(Vec::new(alloc)),
-            Some(Command::Audit(on)) => self.is_auditing = on,
-            Some(Command::Counts) => say_counts(&self.drops, &self.world, out)?,
+            None => {
+                out.extend_from_slice(b"badline\n")?;
+                Ok(Note::Nothing)
+            }
+            Some(Command::Request(datagram)) => self.datagram(alloc, &datagram, out),
+            Some(Command::Frame(port, octets)) => self.frame(port, &octets, out),
+            Some(Command::Tick(seconds)) => {
+                say_ticks(&mut self.world.bridge, seconds, out)?;
+                Ok(Note::Nothing)
+            }
+            Some(Command::Link(port, up)) => {
+                say_link(&mut self.world.bridge, port, up, out)?;
+                Ok(Note::Nothing)
+            }
+            Some(Command::Policy) => {
+                self.policy_lines = Some(Vec::new(alloc));
+                Ok(Note::Nothing)
+            }
+            Some(Command::Audit(on)) => {
+                self.is_auditing = on;
+                Ok(Note::Nothing)
+            }
+            Some(Command::Counts) => {
+                say_counts(&self.drops, &self.world, out)?;
+                Ok(Note::Nothing)
+            }
+            Some(Command::Driver(plan)) => {
+                self.registry.arm(plan);
+                Ok(Note::Nothing)
+            }
         }
-        Ok(Note::Nothing)
     }
 
     // Answers a datagram.
@@ -156,8 +178,8 @@ impl<O: MibObject> Agent<O> {
         }
     }
 
-    // Answers a request, and counts it where it is dropped. Where there was no memory for its
-    // reply, genErr is replied, and the world is as before.
+    // Answers a request, and counts it where it is dropped; what the ports send comes behind its
+    // audit. Where there was no memory for its reply, genErr is replied, and the world is as before.
     #[tactic(auto, unfolding(crate::specs::Outputs::sent_text))]
     fn request(
         &mut self,
@@ -174,6 +196,7 @@ impl<O: MibObject> Agent<O> {
         ensures after { IfOk result (λ note.
             self.new ≡ after_action self.old (request_action request.now note)) }
     {
+        let address = address_of(&self.world.bridge);
         match answer(
             alloc,
             &mut self.registry,
@@ -181,10 +204,11 @@ impl<O: MibObject> Agent<O> {
             request,
             &mut self.buffer,
         ) {
-            Ok(Answered::Reply(_, audit)) => {
+            Ok(Answered::Reply(_, audit, failed)) => {
                 say_reply(self.buffer.reply(), out)?;
                 say_audit(alloc, self.is_auditing, &audit, out)?;
-                Ok(Note::Nothing)
+                say_bpdus(address, self.buffer.bpdus(), out)?;
+                Ok(answered_note(audit, failed))
             }
             Ok(Answered::NoReply(audit)) => {
                 say_dropped(&audit.decision, out)?;
@@ -281,5 +305,15 @@ impl<O: MibObject> Agent<O> {
                 Ok(Note::PolicyNotRead)
             }
         }
+    }
+}
+
+// What is noted of a request that was answered so, where the commit of this variable failed.
+fn answered_note(audit: Audit, failed: Option<usize>) -> Note
+    ensures { result ≡ answered_note audit.unrestored failed }
+{
+    match failed {
+        Some(commit) => Note::DevicesFailed(commit, audit.unrestored),
+        None => Note::Nothing,
     }
 }

@@ -15,9 +15,9 @@ use script_core::words::write_hex;
 use std::alloc::AllocError;
 use std::io::Write;
 
-// The address of a bridge.
+/// The address of a bridge.
 #[tactic(auto, unfolding(bridge_core::specs::Facts::facts_of))]
-fn address_of(bridge: &Bridge) -> Mac
+pub fn address_of(bridge: &Bridge) -> Mac
     ensures { result ≡ address_of bridge.now }
 {
     bridge.facts().address
@@ -52,8 +52,8 @@ fn say_sent(
     }
 }
 
-// Appends what the ports send, in their order.
-fn say_bpdus(address: Mac, bpdus: &[Option<Bpdu>], out: &mut Vec<u8>) -> Result<(), AllocError>
+/// Appends what the ports send, in their order.
+pub fn say_bpdus(address: Mac, bpdus: &[Option<Bpdu>], out: &mut Vec<u8>) -> Result<(), AllocError>
     ensures { OnOk result (out.new.items ≡ out.old.items ++ bpdu_lines address 1 bpdus.now) }
 {
     for (i, bpdu) in bpdus.iter().enumerate() {

@@ -1,9 +1,10 @@
 //! What a line of a script asks for.
-ghost use Rattle.std.specs.Prelude.{◌≡◌, ◌≤◌, ℕ, is_some, IsSome, IfOk, IfSome, OnErr, option_map, option_and_then};
+ghost use Rattle.std.specs.Prelude.{◌≡◌, ◌≤◌, ◌∷◌, ℕ, is_some, IsSome, IfOk, IfSome, OnErr, option_map, option_and_then};
 ghost use Rattle.std.specs.List.{list_all};
+ghost use Rattle.std.specs.Option.{option_copied};
 ghost use Rattle.hex.specs.Hex.{is_hex_digit};
 ghost use Rattle.rstp_settings.specs.Table.{IsPortOf};
-ghost use Rattle.agent_script.specs.Commands.{request, counting_of, switch_of, direction_of, NamesPortOf, frame_with, link_with, command_with, command_alone, command_of, HasOctets};
+ghost use Rattle.agent_script.specs.Commands.{request, counting_of, switch_of, direction_of, words_of, words_left, countings_of, plan_of, NamesPortOf, frame_with, link_with, command_with, command_alone, command_of, HasOctets};
 ghost use Rattle.agent_script.specs.CommandViews.{command_view};
 ghost use Rattle.script_core.specs.Words.{split_word, octets_of};
 
@@ -13,6 +14,9 @@ use std::alloc::{AllocError, Global};
 
 /// The most seconds that one line lets pass.
 pub const MAX_SECONDS: u32 = 100_000;
+
+/// How many calls of a device a plan speaks of: one bit of it is a call.
+pub const PLANNED_CALLS: u32 = 64;
 
 /// What a line asks for.
 #[derive(Debug, Drop)]
@@ -31,6 +35,9 @@ pub enum Command {
     Audit(bool),
     /// `counts`: tell what was dropped.
     Counts,
+    /// `driver N..`: the next calls of the objects' devices fail by this plan, whose bit k - 1 says
+    /// that the k-th from now does. Each number is 1 to [`PLANNED_CALLS`].
+    Driver(u64),
 }
 
 /// Reads a line, which may be no command, where there are so many ports. Only memory can fail, and
@@ -89,6 +96,9 @@ fn read_with(
     }
     if word == b"audit".as_slice() {
         return Ok(read_switch(rest).map(Command::Audit));
+    }
+    if word == b"driver".as_slice() {
+        return Ok(read_plan(rest).map(Command::Driver));
     }
     Ok(None)
 }
@@ -217,6 +227,31 @@ fn read_counting(word: &[u8], most: u32) -> Option<u32>
         Some(0) => None,
         number => number,
     }
+}
+
+// The first word of a text, and what is behind the space that follows it, if one does.
+fn first_word(text: &[u8]) -> (&[u8], Option<&[u8]>)
+    ensures { words_of text.now ≡ result.0.now ∷ words_left (option_copied result.1) }
+{
+    match split_word(text) {
+        Some((word, rest)) => (word, Some(rest)),
+        None => (text, None),
+    }
+}
+
+// The plan of the calls that a text numbers: one number or more, with one space between them.
+fn read_plan(text: &[u8]) -> Option<u64>
+    ensures { result ≡ option_map plan_of (countings_of PLANNED_CALLS (words_of text.now)) }
+{
+    let mut plan = 0u64;
+    let mut left = Some(text);
+    while let Some(here) = left {
+        let (word, rest) = first_word(here);
+        let call = read_counting(word, PLANNED_CALLS)?;
+        plan |= 1 << (call - 1);
+        left = rest;
+    }
+    Some(plan)
 }
 
 // `on` or `off`.

@@ -77,7 +77,7 @@ pub fn run_script<O: MibObject, R: Read, W: Write>(
     writer: &mut W,
 ) -> Result<Run, RunFault>
     // What is written is the script's text by notes that its lines may have, and the run is whole
-    // exactly where all of them are none.
+    // exactly where none of them is a want of memory.
     ensures written { IfOk result (λ run. IfSome (R.remaining reader.old) (λ input.
         Writes (W.contents writer.old) (W.contents writer.new) (λ text.
         IsSaid (opening_agent registry world) (lines_of input) text run))) }

@@ -37,6 +37,7 @@ ghost use Rattle.std.specs.IoError.{error_kind};
 ghost use Rattle.std.specs.Vec.Iter.{into_iter_items};
 ghost use Rattle.std.specs.declared.io.ErrorKind.TheVariants.{OutOfMemory};
 
+use bridge_mib::Planned;
 use failure::{Failure, report};
 use files::SystemFiles;
 use object_list::{COLUMNS, Object};
@@ -53,9 +54,11 @@ fn main(rt: HostRuntime) -> ExitCode {
         Err(error) => return ExitCode::from(report(&Failure::from(error), &mut errors).status),
     };
     let mut objects: Vec<Box<dyn MibObject + Send>> = Vec::new(rt.alloc());
+    // dot1dStpPortEnable tells this driver. None of its calls fails until the script arms it.
+    let mut driver = Some(Planned::new());
     let mut has_all = true;
     for column in COLUMNS {
-        match Box::new(rt.alloc(), Object::of(column)) {
+        match Box::new(rt.alloc(), Object::over(column, &mut driver)) {
             Ok(object) => has_all = objects.push(object).is_ok() && has_all,
             Err(_) => has_all = false,
         }

@@ -7,6 +7,7 @@ use crate::failure::{Failure, report};
 use crate::files::{NotRead, ReadFile, SystemFiles};
 use crate::run::run_words;
 use crate::telling::NotTaken;
+use bridge_mib::Planned;
 use bumpalo::Bump;
 use configuration::BUILT_IN;
 use object_list::{Object, objects};
@@ -73,7 +74,7 @@ fn answers_a_script(rt: HostRuntime) -> Result<(), Fail> {
     let ended = run_words(
         rt.alloc(),
         &SystemFiles(&rt),
-        objects(rt.alloc())?,
+        objects(rt.alloc(), Planned::new())?,
         &words,
         &mut { GET },
         &mut out,
@@ -95,7 +96,7 @@ fn fails_with_its_input(rt: HostRuntime) -> Result<(), Fail> {
     let ended = run_words(
         rt.alloc(),
         &SystemFiles(&rt),
-        objects(rt.alloc())?,
+        objects(rt.alloc(), Planned::new())?,
         &words,
         &mut reader,
         &mut out,
@@ -115,7 +116,7 @@ fn fails_with_its_output(rt: HostRuntime) -> Result<(), Fail> {
     let ended = run_words(
         rt.alloc(),
         &SystemFiles(&rt),
-        objects(rt.alloc())?,
+        objects(rt.alloc(), Planned::new())?,
         &words,
         &mut { GET },
         &mut Full,
@@ -181,7 +182,7 @@ fn ran_over<F: ReadFile>(
     texts: &[&str],
     script: &[u8],
 ) -> Result<Finished, Fail> {
-    ran_with(alloc, files, objects(alloc)?, texts, script)
+    ran_with(alloc, files, objects(alloc, Planned::new())?, texts, script)
 }
 
 // A run of these words on a script, over the files of the system.
@@ -271,7 +272,7 @@ fn takes_no_other_words(rt: HostRuntime) -> Result<(), Fail> {
 }
 
 /// Lines of the help, whole.
-const HELP_LINES: [&str; 10] = [
+const HELP_LINES: [&str; 11] = [
     "  agentd script --config FILE   runs it by the configuration in FILE, a TOML document",
     "  agentd check --config FILE    tells whether FILE is a configuration, and if not, what would be right",
     "--config=FILE in one word is the same as --config FILE.",
@@ -279,6 +280,7 @@ const HELP_LINES: [&str; 10] = [
     "  link P up         the link of port P goes up: the BPDUs that are sent",
     "  link P down       the link of port P goes down: the same",
     "  policy, end       the lines of TOML between them are the policy from there on: policy ok, or policy",
+    "  driver N..        the ports' devices fail at these of their next 64 calls, and at no other",
     "  any other line    badline",
     "Without words the built-in configuration runs: address 02000000000A, two ports, the communities public and admin.",
     "Example: printf 'link 1 up\\ntick 2\\n' | agentd script --config agentd.toml",
@@ -533,7 +535,7 @@ fn runs_by_what_is_given_for_a_file(rt: HostRuntime) -> Result<(), Fail> {
 }
 
 // The objects of these columns, in this order.
-fn objects_of(alloc: Global, columns: &[Column]) -> Result<Vec<Object>, Fail> {
+fn objects_of(alloc: Global, columns: &[Column]) -> Result<Vec<Object<Planned>>, Fail> {
     let mut objects = Vec::new(alloc);
     for column in columns {
         objects.push(Object::of(*column))?;

@@ -25,6 +25,7 @@ Lines of a script, from standard input:
                     refused
   audit on          each request's audit is told; audit off: no longer
   counts            how many datagrams were dropped, by cause
+  driver N..        the ports' devices fail at these of their next 64 calls, and at no other
   any other line    badline
 
 Without words the built-in configuration runs: address 02000000000A, two ports, the communities public and admin.

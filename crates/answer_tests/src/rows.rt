@@ -20,7 +20,7 @@ pub fn reply_to<O: MibObject>(
     let request = decode(alloc, datagram).ok().ok_or("a request")?;
     let mut buffer = Buffer::new();
     match answer(alloc, registry, world, &request, &mut buffer)? {
-        Answered::Reply(_, _) => Ok(Vec::from_slice(alloc, buffer.reply())?),
+        Answered::Reply(_, _, _) => Ok(Vec::from_slice(alloc, buffer.reply())?),
         Answered::NoReply(_) => Ok(Vec::new(alloc)),
     }
 }

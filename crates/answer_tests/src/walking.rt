@@ -36,6 +36,7 @@ impl<L: Ledger> Successors<L> for Ports<'_> {
         &self,
         alloc: Global,
         name: &Oid,
+        _near: &mut usize,
         steps: &mut Steps<L>,
     ) -> Result<Option<Binding>, AllocError> {
         steps.tick();

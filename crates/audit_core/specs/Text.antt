@@ -1,7 +1,7 @@
 -- The text of an audit: the PDU type of the request, then 'drop' and why it is dropped (RFC 3418,
 -- snmpInBadCommunityNames; RFC 3413, snmpUnknownContexts), or the reply's status and index (RFC
--- 3416, section 3), the decision (RFC 3415, section 3.2) with the key of its row, and the denied
--- bindings.
+-- 3416, section 3), the decision (RFC 3415, section 3.2) with the key of its row, the denied
+-- bindings, and the settings that a Set could not put back (RFC 3416, 4.2.5).
 use Rattle.std.specs.Prelude.{ℕ, codes, decimal, List, [], ◌∷◌, ◌++◌, Option, Some, None}
 use Rattle.std.specs.Fmt.{signed_decimal}
 use Rattle.std.specs.List.{flat_map}
@@ -17,6 +17,13 @@ use Rattle.decision.specs.declared.choice.Refusal.TheVariants.{NoGroupName, NoAc
 use Rattle.decision.specs.declared.choice.Decision.{Decision}
 use Rattle.decision.specs.declared.choice.Decision.TheVariants.{Drop, Empty, Refused, Allowed}
 use Rattle.decision.specs.declared.keys.AccessKey.{AccessKey}
+use Rattle.rstp_settings.specs.declared.key.BridgeKey.{BridgeKey}
+use Rattle.rstp_settings.specs.declared.key.BridgeKey.TheVariants.{Priority, MaxAge, Hello, ForwardDelay, Version, HoldCount, Aging}
+use Rattle.rstp_settings.specs.declared.key.PortKey.{PortKey}
+use Rattle.rstp_settings.specs.declared.key.PortKey.TheVariants.{Priority as PortPriority, Enable, Cost, Migrate, Edge, PointToPoint}
+use Rattle.rstp_settings.specs.declared.key.Key.TheVariants.{Bridge, Port}
+use Rattle.setting_keys.specs.declared.SettingKey.{SettingKey}
+use Rattle.setting_keys.specs.declared.SettingKey.TheVariants.{Bridge as OfBridge}
 use Rattle.audit_core.specs.declared.keys.FamilyKey.{FamilyKey}
 use Rattle.audit_core.specs.declared.denied.Denied.{Denied}
 use Rattle.audit_core.specs.declared.audit.Audit.{Audit}
@@ -45,6 +52,34 @@ abbrev pub denied_text : Denied → List ℕ
 denied_text denied =
     codes " denied " ++ decimal denied.index ++ codes " " ++ deciding_text denied.family
 
+-- a setting of the bridge as a whole
+abbrev pub bridge_key_text : BridgeKey → List ℕ
+bridge_key_text Priority = codes "priority"
+bridge_key_text MaxAge = codes "maxage"
+bridge_key_text Hello = codes "hello"
+bridge_key_text ForwardDelay = codes "fwddelay"
+bridge_key_text Version = codes "version"
+bridge_key_text HoldCount = codes "holdcount"
+bridge_key_text Aging = codes "aging"
+
+-- a setting of a port
+abbrev pub port_key_text : PortKey → List ℕ
+port_key_text PortPriority = codes "portpriority"
+port_key_text Enable = codes "enable"
+port_key_text Cost = codes "cost"
+port_key_text Migrate = codes "migrate"
+port_key_text Edge = codes "edge"
+port_key_text PointToPoint = codes "p2p"
+
+-- a setting by its name, a port's with the number of the port
+abbrev pub key_text : SettingKey → List ℕ
+key_text (OfBridge (Bridge key)) = bridge_key_text key
+key_text (OfBridge (Port port key)) = port_key_text key ++ codes "(" ++ decimal port ++ codes ")"
+
+-- a setting that a Set left at its new value, since undoing failed (RFC 3416, 4.2.5)
+abbrev pub unrestored_text : SettingKey → List ℕ
+unrestored_text key = codes " unrestored " ++ key_text key
+
 -- a view that there is not: with no name, or of no family
 abbrev pub named_view_text : List ℕ → List ℕ
 named_view_text [] = codes "empty"
@@ -67,12 +102,12 @@ refusal_text (NoSuchView row view) =
 unfoldable pub leave_text : AccessKey → List ℕ → List ℕ
 leave_text row view = codes "ok " ++ access_text row ++ codes " view " ++ view
 
--- what stands behind the PDU type where there is a reply: its status and index, the decision, and
--- the denied bindings
+-- what stands behind the PDU type where there is a reply: its status and index, the decision, the
+-- denied bindings, and the settings that are not restored
 abbrev pub reply_text : Audit → List ℕ → List ℕ
 reply_text audit decision =
     signed_decimal (code_of audit.status) ++ codes " " ++ signed_decimal audit.index ++ codes " "
-    ++ decision ++ flat_map denied_text audit.denied
+    ++ decision ++ flat_map denied_text audit.denied ++ flat_map unrestored_text audit.unrestored
 
 -- what stands behind the PDU type
 abbrev pub said_text : Audit → Decision → List ℕ

@@ -3,9 +3,11 @@ ghost use Rattle.std.specs.Prelude.{◌≡◌, Some};
 ghost use Rattle.audit_core.specs.Text.{audit_text, kind_text};
 
 use crate::denied::DeniedBindings;
+use crate::unrestored::WrittenUnrestored;
 use crate::written::{WrittenCause, WrittenLeave, WrittenRefusal};
 use decision::Decision;
 use message_core::{ErrorStatus, Kind};
+use setting_keys::SettingKeys;
 use std::fmt;
 
 /// What was decided on a request, by which rows, and the status of the reply as it is sent.
@@ -24,6 +26,9 @@ pub struct Audit {
     /// The variable bindings that the view does not let through; none unless the request is
     /// allowed.
     pub denied: DeniedBindings,
+    /// The settings that a Set left at their new values, since undoing failed (RFC 3416, 4.2.5), in
+    /// the order of their variables; none but where the status is undoFailed.
+    pub unrestored: SettingKeys,
 }
 
 // The word for a PDU type.
@@ -49,22 +54,24 @@ impl fmt::Display for Audit {
             index,
             decision,
             denied,
+            unrestored,
         } = self;
         let kind = kind_word(*kind);
         let status = status.code();
+        let unrestored = WrittenUnrestored(unrestored);
         match decision {
             Decision::Drop(cause) => {
                 let cause = WrittenCause(cause);
                 write!(f, "{kind} drop {cause}")
             }
-            Decision::Empty => write!(f, "{kind} {status} {index} empty{denied}"),
+            Decision::Empty => write!(f, "{kind} {status} {index} empty{denied}{unrestored}"),
             Decision::Refused(why) => {
                 let why = WrittenRefusal(why);
-                write!(f, "{kind} {status} {index} {why}{denied}")
+                write!(f, "{kind} {status} {index} {why}{denied}{unrestored}")
             }
             Decision::Allowed { row, view } => {
                 let leave = WrittenLeave { row, view };
-                write!(f, "{kind} {status} {index} {leave}{denied}")
+                write!(f, "{kind} {status} {index} {leave}{denied}{unrestored}")
             }
         }
     }

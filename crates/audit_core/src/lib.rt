@@ -2,8 +2,8 @@
 //!
 //! # Entry points
 //! [`Audit`] is a plain record: the PDU type, status and index as sent, the decision with the keys
-//! of its rows, and the denied variable bindings. [`audit_line`] and [`write_audit`] write its
-//! line.
+//! of its rows, the denied variable bindings, and the settings that a Set could not put back.
+//! [`audit_line`] and [`write_audit`] write its line.
 //!
 //! # Definitions
 //! `specs/Text.antt`: the line, to the octet.
@@ -20,6 +20,7 @@ mod audit;
 mod denied;
 mod keys;
 mod line;
+mod unrestored;
 mod written;
 
 pub use audit::Audit;

@@ -15,7 +15,8 @@ const TURNS: u32 = 20_000;
 /// How many family rows there are.
 const FAMILIES: [u32; 3] = [10, 100, 1_000];
 
-/// The rows but for the families: `public` may read the view `last`, whose family is the last row.
+/// The rows but for the families: `public` may read and write the view `last`, whose family is the
+/// last row.
 const HEAD: &str = "contexts = []
 [[community]]
 index = \"p\"
@@ -33,7 +34,7 @@ model = 2
 level = 1
 exact = true
 read = \"last\"
-write = \"\"
+write = \"last\"
 notify = \"\"
 ";
 
@@ -45,7 +46,7 @@ fn policy_of(alloc: Global, text: &[u8]) -> io::Result<Policy> {
     }
 }
 
-/// A policy of these rows of `[[family]]`, in TOML, where `public` may read the view `last`.
+/// A policy of these rows of `[[family]]`, in TOML, where `public` may read and write the view `last`.
 pub fn policy_of_families(alloc: Global, families: &str) -> io::Result<Policy> {
     let mut text = Vec::from_slice(alloc, HEAD.as_bytes())?;
     text.extend_from_slice(families.as_bytes())?;

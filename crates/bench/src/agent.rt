@@ -1,16 +1,9 @@
 //! An agent, and what is measured of it.
-ghost use Rattle.std.specs.Prelude.{◌≤◌, ◌+◌, [], ◌∷◌, map, length, IsTrue};
-ghost use Rattle.oid_core.specs.Order.{is_prefix};
-ghost use Rattle.oid_core.specs.declared.limits.TheConstants.{MAX_NUMBERS};
-ghost use Rattle.setphase_core.specs.declared.limits.TheConstants.{MAX_INDEX};
-ghost use Rattle.setphase_core.specs.Registry.{rows_of, AreNamed};
-
 use crate::print::print_nanos;
 use crate::replies::{bindings_in, count_in};
 use agent_core::{Answered, Buffer, answer};
 use message_core::decode;
-use oid_core::{MAX_NUMBERS, begins};
-use setphase_core::{MAX_INDEX, MibObject, Registry, World};
+use setphase_core::{MibObject, Registry, World, are_named};
 use std::alloc::Global;
 use std::io;
 use std::io::{Error, ErrorKind};
@@ -54,24 +47,6 @@ pub fn wrong() -> Error {
     Error::from(ErrorKind::InvalidData)
 }
 
-// Whether a name stands under 1.3 and leaves room for any index.
-fn is_named(name: &[u32]) -> bool
-    ensures root { IsTrue result → IsTrue (is_prefix (1 ∷ 3 ∷ []) name.now) }
-    ensures most { IsTrue result → length name.now + MAX_INDEX ≤ MAX_NUMBERS }
-{
-    begins(&[1, 3], name) && name.len() <= MAX_NUMBERS - MAX_INDEX
-}
-
-// Whether each object has a name that an object may have.
-fn are_named<O: MibObject>(objects: &[O]) -> bool
-    ensures { IsTrue result → AreNamed (rows_of (map O.state objects.now)) }
-{
-    match objects.split_first() {
-        None => true,
-        Some((object, others)) => is_named(object.prefix()) && are_named(others),
-    }
-}
-
 /// The registry of these objects.
 pub fn registry_of<O: MibObject>(objects: Vec<O>) -> io::Result<Registry<O>> {
     if are_named(objects.as_slice()) {
@@ -107,7 +82,7 @@ impl<O: MibObject> Agent<O> {
             buffer,
         } = self;
         match answer(alloc, registry, world, &request, buffer)? {
-            Answered::Reply(length, _) => Ok(length),
+            Answered::Reply(length, _, _) => Ok(length),
             Answered::NoReply(_) => Err(wrong()),
         }
     }

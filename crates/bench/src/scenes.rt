@@ -4,6 +4,7 @@ use crate::agent::{Agent, Trial, registry_of, wrong};
 use crate::forwarding::{bridge_of, prepare, station};
 use crate::messages::measure_lines;
 use crate::trials::{trials_in_all, trials_in_row, trials_past_rows, walk_of};
+use bridge_mib::Steady;
 use object_list::objects;
 use setphase_core::{MibObject, World};
 use std::alloc::{AllocError, Global};
@@ -210,7 +211,7 @@ fn work_over<O: MibObject>(rt: &HostRuntime, objects: Vec<O>, work: Work) -> io:
 /// Does the work over all objects of a bridge, each in a box.
 pub fn do_work(rt: &HostRuntime, work: Work) -> io::Result<()> {
     let mut boxes: Vec<Box<dyn MibObject + Send>> = Vec::new(rt.alloc());
-    for object in objects(rt.alloc())? {
+    for object in objects(rt.alloc(), Steady)? {
         boxes.push(Box::new(rt.alloc(), object)?)?;
     }
     work_over(rt, boxes, work)

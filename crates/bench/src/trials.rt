@@ -1,7 +1,7 @@
 //! What is asked of an agent, and how many bindings the standard answers (RFC 3416, 4.2).
 use crate::agent::{Agent, Trial, wrong};
 use crate::replies::{bindings_in, first_in};
-use crate::requests::{GET, GET_BULK, GET_NEXT, name_of, request};
+use crate::requests::{GET, GET_BULK, GET_NEXT, name_of, request, set_request};
 use frame_core::Mac;
 use setphase_core::MibObject;
 use std::alloc::{AllocError, Global};
@@ -15,6 +15,9 @@ const NUM_PORTS: &[u8] = &[1, 2, 0];
 
 /// dot1dStpPortState.1.
 const STATE_1: &[u8] = &[2, 15, 1, 3, 1];
+
+/// dot1dStpTxHoldCount.0, which is 6 at first.
+const HOLD_COUNT: &[u8] = &[2, 17, 0];
 
 /// dot1dTpAgingTime.0, behind which the learned rows are.
 const AGING_TIME: &[u8] = &[4, 2, 0];
@@ -99,8 +102,31 @@ fn get_bulk_of(
     Ok(Trial { bindings, ..trial })
 }
 
+// Sets of so many times dot1dStpTxHoldCount.0, one for each of these numbers.
+fn sets_of(
+    alloc: Global,
+    what: &'static str,
+    times: u32,
+    numbers: &[u8],
+) -> Result<Trial, AllocError> {
+    let mut names = Vec::new(alloc);
+    for _ in 0..times {
+        names.push(name_of(alloc, HOLD_COUNT)?)?;
+    }
+    let mut datagrams = Vec::new(alloc);
+    for number in numbers {
+        datagrams.push(set_request(alloc, &names, *number)?)?;
+    }
+    Ok(Trial {
+        what,
+        datagrams,
+        bindings: names.len(),
+    })
+}
+
 /// What is asked where all of the bridge is seen: reads of a scalar, of a port and of the learned
-/// row of an address. Of 60 names 60 successors of 16 octets fit, and then 26 of 18.
+/// row of an address; of 60 names 60 successors of 16 octets fit, and then 26 of 18. Then Sets: of
+/// the number that is there, of another and back, and of 64 times the same.
 pub fn trials_in_all(alloc: Global, address: Mac) -> Result<Vec<Trial>, AllocError> {
     let learned = port_of(address);
     let mut trials = Vec::new(alloc);
@@ -116,6 +142,9 @@ pub fn trials_in_all(alloc: Global, address: Mac) -> Result<Vec<Trial>, AllocErr
     trials.push(get_bulk_of(alloc, ten, TEN, 60, NUM_PORTS, 86)?)?;
     let most = "GetBulk of 60 names, 2147483647 repetitions";
     trials.push(get_bulk_of(alloc, most, MOST, 60, NUM_PORTS, 86)?)?;
+    trials.push(sets_of(alloc, "Set that changes nothing", 1, &[6])?)?;
+    trials.push(sets_of(alloc, "two Sets that change a setting", 1, &[5, 6])?)?;
+    trials.push(sets_of(alloc, "Set of 64 variables", 64, &[6])?)?;
     Ok(trials)
 }
 

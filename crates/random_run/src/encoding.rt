@@ -2,6 +2,7 @@
 ghost use Rattle.std.specs.Prelude.{◌<◌};
 
 use crate::draws::Draws;
+use bridge_mib::Planned;
 use object_list::{COLUMNS, Object};
 use setphase_core::MibObject;
 use std::alloc::{AllocError, Global};
@@ -71,7 +72,7 @@ fn put_more(draws: &mut Draws, most: u32, out: &mut Vec<u8>) -> Result<(), Alloc
 
 /// The content of the name of one of the 51 managed objects, which all begin with 1.3.
 fn draw_object(alloc: Global, draws: &mut Draws) -> Result<Vec<u8>, AllocError> {
-    let object = Object::of(draws.pick(&COLUMNS));
+    let object: Object<Planned> = Object::of(draws.pick(&COLUMNS));
     let mut name = Vec::from_slice(alloc, &[0x2B])?;
     put_numbers(&mut name, object.prefix().get(2..).unwrap_or(&[]))?;
     Ok(name)

@@ -27,6 +27,7 @@ mod script;
 
 use agent_script::{Run, run_script};
 use bridge_core::Bridge;
+use bridge_mib::Planned;
 use configuration::{BUILT_IN, Configuration, configuration_of_text};
 use counts::missing_kind;
 use draws::Draws;
@@ -74,8 +75,10 @@ fn judge(rt: &HostRuntime, script: &[u8]) -> io::Result<()> {
 fn run_over(alloc: Global, script: &[u8], output: &mut Vec<u8>) -> io::Result<Run> {
     let world = open_world(alloc)?;
     let mut objects: Vec<Box<dyn MibObject + Send>> = Vec::new(alloc);
+    // dot1dStpPortEnable tells this driver. None of its calls fails, since no line arms it.
+    let mut driver = Some(Planned::new());
     for column in COLUMNS {
-        objects.push(Box::new(alloc, Object::of(column))?)?;
+        objects.push(Box::new(alloc, Object::over(column, &mut driver))?)?;
     }
     run_by(alloc, objects, world, script, output)
 }

@@ -26,10 +26,10 @@ fn audits_what_is_refused(rt: HostRuntime) -> Result<(), Fail> {
                 "set 16 0 noSuchView access(readers,,2,1) empty",
             ),
             audited(
-                "a write view, and nothing that can be written",
+                "a write view",
                 of("admin", set(&bindings)),
-                Reply(of("admin", failed(5, &bindings))),
-                "set 5 0 ok access(writers,,2,1) view bridge",
+                Reply(of("admin", reply(&bindings))),
+                "set 0 0 ok access(writers,,2,1) view bridge",
             ),
             audited(
                 "no such community",
@@ -58,6 +58,8 @@ fn answers_a_set_without_a_write_view(rt: HostRuntime) -> Result<(), Fail> {
                     "audit set 16 0 noSuchView access(readers,,2,1) empty\n",
                 ],
             ),
+            told("audit off", &[]),
+            Row::Shown("nothing is changed", &[(PRIORITY, Integer(32768))]),
         ],
     )
 }

@@ -67,6 +67,28 @@ fn answers_repetition_by_repetition(rt: HostRuntime) -> Result<(), Fail> {
     assert_rows(&rt, built_in(rt.alloc())?, &REPETITIONS)
 }
 
+// A GetBulk of one name once and three repetitions of another, and its reply, as other encoders
+// write them.
+#[test]
+fn answers_the_octets_of_another_encoder(rt: HostRuntime) -> Result<(), Fail> {
+    assert_rows(
+        &rt,
+        built_in(rt.alloc())?,
+        &[Row::Line(
+            "request 303602010104067075626C6963A529020101020101020103\
+             301E300C06082B060102011101020500\
+             300E060A2B0601020111010401020500",
+            &[
+                "reply 305E02010104067075626C6963A251020101020100020100",
+                "3046300E06092B0601020111010200020102",
+                "3010060B2B06010201110104010201020101",
+                "3010060B2B06010201110104010202020102",
+                "3010060B2B06010201110104010301060100\n",
+            ],
+        )],
+    )
+}
+
 const COUNTS: [Row<'static>; 4] = [
     Row::Bulk(
         "fewer than no repetitions",

@@ -1,6 +1,6 @@
-//! Get, Set and requests of no names (RFC 3416, 4.2.1 and 4.2.5).
+//! Get, and requests of no names (RFC 3416, 4.2.1).
 use crate::message::Held::{Counter, Integer, Name, NoInstance, NoObject, Null, Octets, Ticks};
-use crate::message::{Held, Message, bulk, failed, get, next, of, reply, set};
+use crate::message::{Held, Message, bulk, get, next, of, reply, set};
 use crate::names::{ADDRESS, LAST, PRIORITY, ROOT, SINCE};
 use crate::rows::{Row, assert_rows, replied};
 use crate::support::{GET, TWO_PORTS, assert_answers, repeated};
@@ -159,23 +159,6 @@ fn answers_no_names_with_none(rt: HostRuntime) -> Result<(), Fail> {
             replied("a GetNext", numbers(next(&[])), none),
             replied("a Set", numbers(set(&[])), none),
             replied("a GetBulk", bulk(3, 4, &[]), none),
-        ],
-    )
-}
-
-#[test]
-fn fails_a_set(rt: HostRuntime) -> Result<(), Fail> {
-    let bindings = [(PRIORITY, Integer(4096))];
-    assert_rows(
-        &rt,
-        built_in(rt.alloc())?,
-        &[
-            replied(
-                "genErr, since nothing can be written",
-                of("admin", set(&bindings)),
-                of("admin", failed(5, &bindings)),
-            ),
-            Row::Shown("the priority as before", &[(PRIORITY, Integer(32768))]),
         ],
     )
 }

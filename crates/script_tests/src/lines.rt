@@ -123,9 +123,33 @@ fn takes_other_lines_for_bad(rt: HostRuntime) -> Result<(), Fail> {
             "audit",
             "audit ON",
             "counts ",
+            "driver",
+            "driver ",
+            "driver 0",
+            "driver 65",
+            "driver 01",
+            "driver 1 ",
+            "driver  1",
+            "driver 1  2",
+            "driver 1 65",
+            "driver x",
+            "driver 1\t2",
+            "driver 18446744073709551617",
             "end",
             "policy ",
             "count\u{E9}s",
+        ],
+    )
+}
+
+#[test]
+fn says_nothing_to_a_plan_of_calls(rt: HostRuntime) -> Result<(), Fail> {
+    assert_scripts(
+        &rt,
+        &[
+            ("driver 1", ""),
+            ("driver 64", ""),
+            ("driver 64 1 1\ndriver 3 2\n", ""),
         ],
     )
 }

@@ -17,6 +17,8 @@ pub enum Held<'a> {
     Name(&'a str),
     /// Counter32.
     Counter(u32),
+    /// Gauge32.
+    Gauge(u32),
     /// TimeTicks, in hundredths of a second.
     Ticks(u32),
     /// noSuchObject.
@@ -103,6 +105,11 @@ pub fn failed<'a>(status: i32, bindings: &'a [Bound<'a>]) -> Message<'a> {
     public(Pdu::Response, status, 0, bindings)
 }
 
+/// A reply of this error-status and this error-index.
+pub fn failed_at<'a>(status: i32, index: i32, bindings: &'a [Bound<'a>]) -> Message<'a> {
+    public(Pdu::Response, status, index, bindings)
+}
+
 /// The same message for another community.
 pub fn of<'a>(community: &'a str, message: Message<'a>) -> Message<'a> {
     Message {
@@ -182,6 +189,7 @@ fn binding_of(alloc: Global, name: &str, held: Held<'_>) -> Result<Vec<u8>, Fail
         Held::Octets(octets) => push_tagged(&mut content, 4, octets)?,
         Held::Name(text) => push_name(alloc, &mut content, text)?,
         Held::Counter(count) => push_unsigned(&mut content, 0x41, count)?,
+        Held::Gauge(number) => push_unsigned(&mut content, 0x42, number)?,
         Held::Ticks(ticks) => push_unsigned(&mut content, 0x43, ticks)?,
         Held::NoObject => push_tagged(&mut content, 0x80, &[])?,
         Held::NoInstance => push_tagged(&mut content, 0x81, &[])?,

@@ -27,7 +27,8 @@ write = ""
 notify = ""
 "#;
 
-// Beside the readers of `bridge`: `admin` may read and write what they see.
+// Beside the readers of `bridge`: `admin` may read what they see, and write the view that comes
+// behind.
 const WRITERS: &str = r#"[[community]]
 index = "a"
 name = "admin"
@@ -44,8 +45,25 @@ model = 2
 level = 1
 exact = true
 read = "bridge"
-write = "bridge"
 notify = ""
+"#;
+
+// The line that the writers write the view `bridge`.
+const WRITE_BRIDGE: &str = "write = \"bridge\"\n";
+
+// The line that the writers write the view `w`, and that view: all of the bridge, but port 1 in the
+// columns of the port table.
+const WRITE_W: &str = r#"write = "w"
+[[family]]
+view = "w"
+subtree = "1.3.6.1.2.1.17"
+mask = ""
+included = true
+[[family]]
+view = "w"
+subtree = "1.3.6.1.2.1.17.2.15.1.0.1"
+mask = "FFD0"
+included = false
 "#;
 
 /// A community of no group, and one of a context that is not known.
@@ -94,7 +112,10 @@ included = true
 "#;
 
 /// `public` reads, and `admin` reads and writes, all of the bridge.
-pub const WHOLE_BRIDGE: &[&str] = &[READERS, READ_BRIDGE, WRITERS];
+pub const WHOLE_BRIDGE: &[&str] = &[READERS, READ_BRIDGE, WRITERS, WRITE_BRIDGE];
+
+/// `public` and `admin` read all of the bridge, and `admin` writes the view `w`.
+pub const ALL_BUT_PORT_1: &[&str] = &[READERS, READ_BRIDGE, WRITERS, WRITE_W];
 
 /// `public` reads the view `p2`.
 pub const MASKED: &[&str] = &[READERS, READ_P2, P2];

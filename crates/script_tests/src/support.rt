@@ -1,6 +1,7 @@
 //! Scripts, and what is said to them. Texts are given in pieces.
 use crate::worlds::{Served, built_in};
 use agent_script::{Run, run_script};
+use bridge_mib::Planned;
 use object_list::{COLUMNS, Object};
 use setphase_core::{MibObject, Registry, World, are_named};
 use std::alloc::{AllocGlobal, Global};
@@ -61,8 +62,10 @@ fn said_by<O: MibObject>(
 /// What is said to a script over boxed objects.
 pub fn said_over(alloc: Global, served: Served, script: &[u8]) -> Result<Vec<u8>, Fail> {
     let mut objects: Vec<Box<dyn MibObject + Send>> = Vec::new(alloc);
+    // dot1dStpPortEnable tells this driver. None of its calls fails until the script arms it.
+    let mut driver = Some(Planned::new());
     for column in COLUMNS.iter().take(served.objects) {
-        objects.push(Box::new(alloc, Object::of(*column))?)?;
+        objects.push(Box::new(alloc, Object::over(*column, &mut driver))?)?;
     }
     said_by(alloc, objects, served.world, script)
 }

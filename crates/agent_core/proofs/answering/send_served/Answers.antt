@@ -18,7 +18,7 @@ returns-clause-sent g c =
     let rows = rows_of c.args.registry.now in
     let request = c.args.request.now in
     let view = c.args.view.now in
-    let sends : Reply → Type 0 = λ (reply : Reply). IfOk c.send_kind.result (λ (sent : SentReply). IsSent reply sent c.send_kind.new.buffer) in
+    let sends : Reply → Type 0 = λ (reply : Reply). IfOk c.send_kind.result (λ (sent : SentReply). IsSent reply sent c.send_kind.new.buffer.reply) in
     let over : List FamilyRow → Reply = λ (families : List FamilyRow). kind_reply (prefixes_of rows) (in_view families view) (open_instances (hides_all families view) rows world) request request.kind in
     let tables : c.vacm-vacm.result.now ≡ world.policy.vacm = c.vacm-vacm.ensures in
     subst sends (reply_open world.policy.vacm.families view rows world request request.kind)

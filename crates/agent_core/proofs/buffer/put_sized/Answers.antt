@@ -1,4 +1,5 @@
-use Rattle.std.proofs.Common.{pos, arith}
+use Rattle.std.proofs.Common.{FitsSigned, w32, arith, rules}
+use Rattle.std.proofs.lemmas.Int.{to_z-of_z}
 use Rattle.message_core.specs.Canon.{canon_reply, answer_to}
 use Rattle.message_core.specs.declared.reply.Reply.{Reply}
 use Rattle.agent_core.proofs.Sizes.{sent_fits, sent_long, front}
@@ -6,11 +7,16 @@ use Rattle.agent_core.proofs.buffer.put_sized.Goals as goal
 
 pub returns-in-Ok-clause-sent : goal.returns-in-Ok-clause-sent
 returns-in-Ok-clause-sent c =
-    let r : Reply = answer_to c.args.request.now c.args.status (pos 0) c.args.bindings.now in
-    let e = c.in-Ok.ensures in
-    sent_fits r _ _ (omega (arith, e.len.0, e.len.1)) (front _ (canon_reply r) _ _ e.len.0 e.ok) e.len.0
+    let r : Reply = answer_to c.args.request.now c.args.status c.args.index c.args.bindings.now in
+    let index_fits : FitsSigned w32 c.args.index = search rules in
+    let ok = simp to_z-of_z at c.in-Ok.ensures.ok in
+    let len = simp to_z-of_z at c.in-Ok.ensures.len in
+    rw (to_z-of_z w32 c.args.index index_fits)
+    (sent_fits r _ _ (omega (arith, len.0, len.1)) (front _ (canon_reply r) _ _ len.0 ok) len.0)
 
 pub returns-in-Err-clause-sent : goal.returns-in-Err-clause-sent
 returns-in-Err-clause-sent c =
-    let r : Reply = answer_to c.args.request.now c.args.status (pos 0) c.args.bindings.now in
-    sent_long r _ _ c.in-Err.ensures.too_big c.put_too_big.ensures.reply c.put_too_big.ensures.len
+    let r : Reply = answer_to c.args.request.now c.args.status c.args.index c.args.bindings.now in
+    let index_fits : FitsSigned w32 c.args.index = search rules in
+    let too_big = simp to_z-of_z at c.in-Err.ensures.too_big in
+    sent_long r _ _ too_big c.put_too_big.ensures.reply c.put_too_big.ensures.len

@@ -1,11 +1,12 @@
 use Rattle.std.proofs.Common.{◌≡◌, ◌≤◌, ◌+◌, ◌*◌, ◌++◌, length, take}
+use Rattle.message_core.specs.Instances.{names_of}
 use Rattle.agent_core.specs.Reading.{visible, next_answers}
 use Rattle.agent_core.specs.Looking.{most_looks}
 use Rattle.agent_core.proofs.bulk.repeat_once.Given as goal
 
-abbrev pub invariant-loop-name : goal.invariant-loop-name
-invariant-loop-name g l = record {
-  whole : l.sent.bindings ≡ l.fn.sent.bindings ++ next_answers (visible (g.V.View.shows l.view) (g.S.Successors.instances l.source)) (take l.name-index l.names);
+abbrev pub invariant-loop-binding : goal.invariant-loop-binding
+invariant-loop-binding g l = record {
+  whole : l.sent.bindings ≡ l.fn.sent.bindings ++ next_answers (visible (g.V.View.shows l.view) (g.S.Successors.instances l.source)) (take l.binding-index (names_of l.asked));
   room : l.sent.room ≡ l.fn.sent.room;
   work :
       let most = most_looks (g.V.View.shows l.view) (g.S.Successors.instances l.source) in

@@ -1,7 +1,7 @@
 use Rattle.std.proofs.Common.{sym, subst, rules}
 use Rattle.message_core.specs.Encodable.{IsEncodableBinding}
 use Rattle.agent_core.proofs.Encodings.{next_answer_encodable}
-use Rattle.agent_core.proofs.nexts.get_next.Goals as goal
+use Rattle.agent_core.proofs.nexts.get_next_near.Goals as goal
 
 pub returns-in-Some-clause-encodable : goal.returns-in-Some-clause-encodable
 returns-in-Some-clause-encodable g c = λ root.

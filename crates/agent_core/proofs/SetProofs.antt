@@ -1,0 +1,111 @@
+-- What a Set that is answered can tell.
+use Rattle.std.proofs.Common.{◌≡◌, ◌∙◌, ℕ, ◌+◌, ◌≤◌, ◌*◌, Bool, true, false, List, [], ◌∷◌, length, map, Option, Some, None, IfSome, IsSome, ap, refl, sym, subst, arith}
+use Rattle.std.proofs.lemmas.Bool.{ltb-false}
+use Rattle.message_core.specs.Canon.{canon_reply}
+use Rattle.message_core.specs.declared.binding.Binding.{Binding}
+use Rattle.message_core.specs.declared.limits.TheConstants.{MAX_REPLY}
+use Rattle.message_core.specs.declared.request.Kind.{Kind}
+use Rattle.message_core.specs.declared.request.Kind.TheVariants.{Get, GetNext, GetBulk, Set}
+use Rattle.message_core.specs.declared.request.Request.{Request}
+use Rattle.message_core.proofs.Smallest.{reply_some}
+use Rattle.decision.specs.Deciding.{decision_on}
+use Rattle.decision.specs.declared.choice.Decision.{Decision}
+use Rattle.decision.specs.declared.choice.Decision.TheVariants.{Drop, Empty, Refused, Allowed}
+use Rattle.setting_keys.specs.declared.SettingKey.{SettingKey}
+use Rattle.setphase_core.specs.declared.sets.Refusal.{Refusal}
+use Rattle.setphase_core.specs.declared.sets.SetOutcome.{SetOutcome}
+use Rattle.setphase_core.specs.declared.sets.SetOutcome.TheVariants as ended
+use Rattle.setphase_core.specs.declared.world.World.{World}
+use Rattle.setphase_core.specs.Objects.{ObjectRow, ObjectState, released}
+use Rattle.setphase_core.specs.Variables.{Written}
+use Rattle.setphase_core.specs.Outcomes.{SetNotes, CanFail, refusal_in, notes_in, world_after_set, failed_names, object_after}
+use Rattle.agent_core.specs.Fitting.{total}
+use Rattle.agent_core.specs.Sets.{greatest_index, longest_response, is_too_long, no_notes, IsDenied, MayFail, MayFailWhere, MayFailInSet}
+use Rattle.agent_core.specs.Answers.{MayHave, MayFailBy, MayFailInView}
+use Rattle.agent_core.proofs.LawProofs.{total_some}
+
+-- ---- how many variables there are
+
+few_variables : (request : Request) → is_too_long request ≡ false → length request.bindings ≤ greatest_index
+few_variables request fits =
+    omega (arith, ltb-false _ _ fits, reply_some (longest_response request), total_some request.bindings)
+
+pub index_within : (request : Request) (refusal : Option Refusal) → is_too_long request ≡ false
+    → IfSome refusal (λ r. (1 ≤ r.index) × (r.index ≤ length request.bindings))
+    → IfSome refusal (λ r. r.index ≤ greatest_index)
+index_within request None fits h = tt
+index_within request (Some r) fits h = omega (arith, h.1, few_variables request fits)
+
+pub number_within : (request : Request) (number : Option ℕ) → is_too_long request ≡ false
+    → IfSome number (λ n. (1 ≤ n) × (n ≤ length request.bindings))
+    → IfSome number (λ n. n ≤ greatest_index)
+number_within request None fits h = tt
+number_within request (Some n) fits h = omega (arith, h.1, few_variables request fits)
+
+-- ---- a Set that is denied
+
+pub denied_world : (outcome : SetOutcome) (ws : List Written) (w : World) → IsDenied (refusal_in outcome)
+    → world_after_set (refusal_in outcome) ws w (notes_in outcome) ≡ w
+denied_world ended.Done ws w h = absurd h
+denied_world (ended.Refused refusal) ws w h = refl
+denied_world (ended.CommitFailed i) ws w h = absurd h
+denied_world (ended.UndoFailed i keys) ws w h = absurd h
+
+released_each : (objects : List ObjectState) → map (object_after []) objects ≡ map released objects
+released_each [] = refl
+released_each (o ∷ os) =
+    let more : o.failures + 0 ≡ o.failures = omega arith in
+    ap (λ (n : ℕ). record o { reserved = []; failures = n } ∷ map (object_after []) os) more ∙ ap (λ (xs : List ObjectState). released o ∷ xs) (released_each os)
+
+pub denied_objects : (outcome : SetOutcome) (ws : List Written) (objects : List ObjectState) → IsDenied (refusal_in outcome)
+    → map (object_after (failed_names ws (notes_in outcome))) objects ≡ map released objects
+denied_objects ended.Done ws objects h = absurd h
+denied_objects (ended.Refused refusal) ws objects h = released_each objects
+denied_objects (ended.CommitFailed i) ws objects h = absurd h
+denied_objects (ended.UndoFailed i keys) ws objects h = absurd h
+
+-- ---- notes
+
+same_notes : (notes : SetNotes) → notes.commit ≡ None → notes.undos ≡ [] → notes ≡ no_notes
+same_notes notes e f i = record { commit = e i; undos = f i }
+
+none_unrefused : (ws : List Written) (refusal : Option Refusal) (notes : SetNotes) → MayFail refusal ws notes → notes.commit ≡ None → notes ≡ no_notes
+none_unrefused ws (Some refusal) notes h e = h
+none_unrefused ws None notes h e =
+    same_notes notes e (subst (λ (commit : Option ℕ). CanFail ws commit notes.undos) e h)
+
+none_tested : (too_long : Bool) (refusal : Option Refusal) (ws : List Written) (notes : SetNotes) → MayFailWhere too_long refusal ws notes → notes.commit ≡ None → notes ≡ no_notes
+none_tested true refusal ws notes h e = h
+none_tested false refusal ws notes h e = none_unrefused ws refusal notes h e
+
+none_in_view : (rows : List ObjectRow) (w : World) (view : List ℕ) (request : Request) (notes : SetNotes) (kind : Kind) → MayFailInView rows w view request notes kind → notes.commit ≡ None → notes ≡ no_notes
+none_in_view rows w view request notes Get h e = h
+none_in_view rows w view request notes GetNext h e = h
+none_in_view rows w view request notes GetBulk h e = h
+none_in_view rows w view request notes Set h e = none_tested (is_too_long request) _ _ notes h e
+
+none_by : (rows : List ObjectRow) (w : World) (request : Request) (notes : SetNotes) (decision : Decision) → MayFailBy rows w request notes decision → notes.commit ≡ None → notes ≡ no_notes
+none_by rows w request notes (Drop cause) h e = h
+none_by rows w request notes Empty h e = h
+none_by rows w request notes (Refused why) h e = h
+none_by rows w request notes (Allowed row view) h e = none_in_view rows w view request notes request.kind h e
+
+-- where no commit failed, no device did
+pub none_failed : (rows : List ObjectRow) (w : World) (request : Request) (notes : SetNotes) → MayHave rows w request notes → notes.commit ≡ None → notes ≡ no_notes
+unfolding MayHave
+none_failed rows w request notes h e = none_by rows w request notes (decision_on w.policy request) h e
+
+-- the notes of the run of a Set are those that it may have
+pub may_fail : (outcome : SetOutcome) (request : Request) (refusal : Option Refusal) (ws : List Written) → is_too_long request ≡ false → refusal_in outcome ≡ refusal
+    → CanFail ws (notes_in outcome).commit (notes_in outcome).undos → MayFailWhere (is_too_long request) refusal ws (notes_in outcome)
+may_fail outcome request refusal ws fits e h = subst (λ (b : Bool). MayFailWhere b refusal ws (notes_in outcome)) (sym fits) (by outcome refusal e h)
+  where
+    by : (o : SetOutcome) (r : Option Refusal) → refusal_in o ≡ r → CanFail ws (notes_in o).commit (notes_in o).undos → MayFail r ws (notes_in o)
+    by ended.Done None e h = h
+    by ended.Done (Some refusal) e h = cc e
+    by (ended.Refused refusal) None e h = cc e
+    by (ended.Refused refusal) (Some other) e h = refl
+    by (ended.CommitFailed i) None e h = h
+    by (ended.CommitFailed i) (Some refusal) e h = cc e
+    by (ended.UndoFailed i keys) None e h = h
+    by (ended.UndoFailed i keys) (Some refusal) e h = cc e

@@ -1,0 +1,285 @@
+-- The step of a Set, and the steps of other requests, from what was called.
+use Rattle.std.proofs.Common.{◌≡◌, ◌≢◌, ◌∙◌, ℕ, ℤ, pos, ◌≤◌, Bool, true, false, List, [], length, map, Option, Some, None, Result, Ok, Err, IfOk, OnErr, ap, refl, sym, subst}
+use Rattle.std.specs.declared.alloc.AllocError.{AllocError}
+use Rattle.message_core.specs.Canon.{answer_to}
+use Rattle.message_core.specs.declared.limits.TheConstants.{MAX_COMMUNITY}
+use Rattle.message_core.specs.declared.reply.Reply.{Reply}
+use Rattle.message_core.specs.declared.request.Kind.{Kind}
+use Rattle.message_core.specs.declared.request.Kind.TheVariants.{Get, GetNext, GetBulk, Set}
+use Rattle.message_core.specs.declared.request.Request.{Request}
+use Rattle.message_core.specs.declared.status.ErrorStatus.{ErrorStatus}
+use Rattle.message_core.specs.declared.status.ErrorStatus.TheVariants.{NoError}
+use Rattle.vacm_core.specs.Families.{in_view}
+use Rattle.vacm_core.specs.declared.tables.FamilyRow.{FamilyRow}
+use Rattle.audit_core.specs.declared.audit.Audit.{Audit}
+use Rattle.audit_core.specs.declared.denied.Denied.{Denied}
+use Rattle.decision.specs.Deciding.{decision_on}
+use Rattle.decision.specs.declared.keys.AccessKey.{AccessKey}
+use Rattle.decision.specs.declared.choice.Cause.{Cause}
+use Rattle.decision.specs.declared.choice.Refusal.{Refusal as Why}
+use Rattle.decision.specs.declared.choice.Decision.{Decision}
+use Rattle.decision.specs.declared.choice.Decision.TheVariants.{Drop, Empty, Refused, Allowed}
+use Rattle.setting_keys.specs.declared.SettingKey.{SettingKey}
+use Rattle.setphase_core.specs.declared.sets.Refusal.{Refusal}
+use Rattle.setphase_core.specs.declared.sets.SetOutcome.{SetOutcome}
+use Rattle.setphase_core.specs.declared.world.World.{World}
+use Rattle.setphase_core.specs.Objects.{ObjectRow, ObjectState, released}
+use Rattle.setphase_core.specs.Registry.{rows_of, prefixes_of, instances}
+use Rattle.setphase_core.specs.Variables.{Written, writings}
+use Rattle.setphase_core.specs.Together.{refusal_of}
+use Rattle.setphase_core.specs.Outcomes.{SetNotes, refusal_in, notes_in, world_after_set, failed_names, object_after}
+use Rattle.agent_core.specs.Buffered.{Buffered}
+use Rattle.agent_core.specs.Denying.{denied_in}
+use Rattle.agent_core.specs.Replies.{reply_within_limit, refusal_reply, kind_reply}
+use Rattle.agent_core.specs.Sets.{SetStep, SetAnswer, is_too_long, too_long_reply, no_notes, set_answer, set_reply, set_step, settled, settling_bpdus, untested, tested, tested_by, IsToldOf, IsDeniedSet, MayFailInSet}
+use Rattle.agent_core.specs.Answers.{Outcome, replied, Step, shown_of, outcome_by, outcome_of, world_by, world_after, with_count_of, drop_audit, reply_audit, step_of, step_by, reading_step, allowed_step, writing_step, IsSent, IsAnswered, IsReply, IsDone, IsTold, IsShort, IsStep, MayHave, MayFailBy, MayFailInView, TakesMemory, TakesInView, notes_told, without_answer}
+use Rattle.agent_core.specs.declared.answered.Answered.{Answered}
+use Rattle.agent_core.specs.declared.answered.Answered.TheVariants as answered
+use Rattle.agent_core.specs.declared.sent_reply.SentReply.{SentReply}
+use Rattle.agent_core.specs.declared.sets.SetTold.{SetTold}
+
+-- ---- a Set
+
+-- the audit of a Set as it is told
+abbrev pub told_audit : Request → AccessKey → List ℕ → SentReply → List Denied → List SettingKey → Audit
+told_audit request row view sent denied unrestored =
+    record { kind = request.kind; status = sent.status; index = sent.index; decision = Allowed row view; denied = denied; unrestored = unrestored }
+
+audit_same : (request : Request) (row : AccessKey) (view : List ℕ) (set : SetStep) (sent : SentReply) (denied : List Denied) (unrestored : List SettingKey)
+    → sent.status ≡ set.reply.status → sent.index ≡ set.reply.index → denied ≡ set.denied → unrestored ≡ set.unrestored
+    → told_audit request row view sent denied unrestored ≡ reply_audit request (Allowed row view) set.denied set.unrestored set.reply
+audit_same request row view set sent denied unrestored s n d u i =
+    record { kind = request.kind; status = s i; index = n i; decision = Allowed row view; denied = d i; unrestored = u i }
+
+pub done_of : (request : Request) (row : AccessKey) (view : List ℕ) (set : SetStep) (sent : SentReply) (denied : List Denied) (unrestored : List SettingKey) (failed : Option ℕ)
+    (told : Answered) (buffer : Buffered) (later : World) (objects : List ObjectState)
+    → told ≡ answered.Reply sent.length (told_audit request row view sent denied unrestored) failed
+    → IsSent set.reply sent buffer.reply → denied ≡ set.denied → unrestored ≡ set.unrestored
+    → buffer.bpdus ≡ set.bpdus → later ≡ set.world → objects ≡ set.objects
+    → IsDone (writing_step request row view set) told buffer later objects
+done_of request row view set sent denied unrestored failed told buffer later objects e s d u b w o =
+    record {
+      answer = subst (λ (t : Answered). IsAnswered (writing_step request row view set).outcome t buffer) (sym e)
+          (s.octets, s.len, audit_same request row view set sent denied unrestored s.status s.index d u);
+      world = w;
+      objects_after = o;
+      bpdus = b;
+    }
+
+notes_are : (told : Answered) (len : ℕ) (audit : Audit) (failed : Option ℕ) (notes : SetNotes) → told ≡ answered.Reply len audit failed
+    → failed ≡ notes.commit → audit.unrestored ≡ notes.undos → notes_told told ≡ notes
+notes_are told len audit failed notes e f u = ap notes_told e ∙ (λ i. record { commit = f i; undos = u i })
+
+too_long_step : (objects : List ObjectState) (world : World) (view : List ℕ) (request : Request) (notes : SetNotes) → is_too_long request ≡ true
+    → set_step objects world view request notes ≡ untested objects world request
+unfolding set_step
+too_long_step objects world view request notes e = rw e refl
+
+fitting_step : (objects : List ObjectState) (world : World) (view : List ℕ) (request : Request) (notes : SetNotes) → is_too_long request ≡ false
+    → set_step objects world view request notes ≡ tested objects world view request notes
+unfolding set_step
+fitting_step objects world view request notes e = rw e refl
+
+pub too_long_done : (objects : List ObjectState) (world : World) (request : Request) (row : AccessKey) (view : List ℕ) (sent : SentReply) (told : Answered) (buffer : Buffered)
+    → is_too_long request ≡ true → IsSent (too_long_reply request) sent buffer.reply → buffer.bpdus ≡ []
+    → told ≡ answered.Reply sent.length (told_audit request row view sent [] []) None
+    → IsDone (writing_step request row view (set_step objects world view request (notes_told told))) told buffer world objects
+too_long_done objects world request row view sent told buffer e s b t =
+    subst (λ (set : SetStep). IsDone (writing_step request row view set) told buffer world objects) (sym (too_long_step objects world view request (notes_told told) e))
+    (done_of request row view (untested objects world request) sent [] [] None told buffer world objects t s refl refl b refl refl)
+
+sent_as : (request : Request) (answer : SetAnswer) (status : ErrorStatus) (index : ℤ) (sent : SentReply) (octets : List ℕ) → status ≡ answer.status → index ≡ pos answer.index
+    → IsSent (reply_within_limit (answer_to request status index request.bindings)) sent octets → IsSent (set_reply request answer) sent octets
+sent_as request answer status index sent octets e f s =
+    subst (λ (n : ℤ). IsSent (reply_within_limit (answer_to request answer.status n request.bindings)) sent octets) f
+    (subst (λ (x : ErrorStatus). IsSent (reply_within_limit (answer_to request x index request.bindings)) sent octets) e s)
+
+pub notes_told_of : (families : List FamilyRow) (outcome : SetOutcome) (answer : SetTold) (told : Answered) (request : Request) (row : AccessKey) (view : List ℕ) (sent : SentReply)
+    → IsToldOf families outcome answer → told ≡ answered.Reply sent.length (told_audit request row view sent answer.denied answer.unrestored) answer.failed
+    → notes_told told ≡ notes_in outcome
+notes_told_of families outcome answer told request row view sent t e =
+    notes_are told sent.length (told_audit request row view sent answer.denied answer.unrestored) answer.failed (notes_in outcome) e t.failed_commit t.unrestored
+
+pub set_done : (objects : List ObjectState) (world : World) (request : Request) (row : AccessKey) (view : List ℕ) (outcome : SetOutcome) (answer : SetTold) (sent : SentReply)
+    (buffer : Buffered) (after later : World) (objects_later : List ObjectState) (told : Answered) (families : List FamilyRow)
+    → is_too_long request ≡ false
+    → refusal_in outcome ≡ refusal_of (rows_of objects) world view request.bindings
+    → after ≡ world_after_set (refusal_in outcome) (writings (rows_of objects) world request.bindings) world (notes_in outcome)
+    → families ≡ world.policy.vacm.families
+    → IsToldOf families outcome answer
+    → later ≡ settled world.bridge.settings after
+    → buffer.bpdus ≡ settling_bpdus world.bridge.settings after
+    → IsSent (reply_within_limit (answer_to request answer.status answer.index request.bindings)) sent buffer.reply
+    → objects_later ≡ map (object_after (failed_names (writings (rows_of objects) world request.bindings) (notes_in outcome))) objects
+    → told ≡ answered.Reply sent.length (told_audit request row view sent answer.denied answer.unrestored) answer.failed
+    → IsDone (writing_step request row view (set_step objects world view request (notes_told told))) told buffer later objects_later
+set_done objects world request row view outcome answer sent buffer after later objects_later told families fits refusal after_is families_are t later_is bpdus_are s objects_are told_is =
+    let ws : List Written = writings (rows_of objects) world request.bindings in
+    let kept : List FamilyRow = world.policy.vacm.families in
+    let notes : SetNotes = notes_in outcome in
+    let by : Option Refusal → SetStep = λ (r : Option Refusal). tested_by objects world request notes (set_answer kept r notes) (world_after_set r ws world notes) in
+    let is : IsToldOf kept outcome answer = subst (λ (rows : List FamilyRow). IsToldOf rows outcome answer) families_are t in
+    let main : IsDone (writing_step request row view (by (refusal_in outcome))) told buffer later objects_later =
+    done_of request row view (by (refusal_in outcome)) sent answer.denied answer.unrestored answer.failed told buffer later objects_later told_is
+    (sent_as request (set_answer kept (refusal_in outcome) notes) answer.status answer.index sent buffer.reply is.status is.index s) is.denied is.unrestored
+    (bpdus_are ∙ ap (settling_bpdus world.bridge.settings) after_is) (later_is ∙ ap (settled world.bridge.settings) after_is) objects_are in
+    subst (λ (ns : SetNotes). IsDone (writing_step request row view (set_step objects world view request ns)) told buffer later objects_later)
+    (sym (notes_told_of families outcome answer told request row view sent t told_is))
+    (subst (λ (set : SetStep). IsDone (writing_step request row view set) told buffer later objects_later) (sym (fitting_step objects world view request notes fits))
+    (subst (λ (r : Option Refusal). IsDone (writing_step request row view (by r)) told buffer later objects_later) refusal main))
+
+-- ---- the steps of a request
+
+-- a request that writes nothing, by the decision on it
+module _ (objects : List ObjectState) (world : World) (request : Request) (decision : Decision) (d : decision_on world.policy request ≡ decision) where
+  read_by : (told : Answered) (buffer : Buffered) (later : World) → IsAnswered (outcome_by (shown_of (rows_of objects) world) request decision) told buffer
+      → later ≡ world_by world decision → buffer.bpdus ≡ [] → IsDone (reading_step objects world request) told buffer later objects
+  unfolding outcome_of world_after
+  read_by told buffer later a l b = record {
+    answer = subst (λ (x : Decision). IsAnswered (outcome_by (shown_of (rows_of objects) world) request x) told buffer) (sym d) a;
+    world = l ∙ ap (world_by world) (sym d);
+    objects_after = refl;
+    bpdus = b;
+  }
+
+  told_by : (later_objects : List ObjectState) (told : Answered) (buffer : Buffered) (later : World) → MayFailBy (rows_of objects) world request (notes_told told) decision
+      → IsDone (step_by objects world request (notes_told told) decision) told buffer later later_objects
+      → IsTold objects world request told buffer later later_objects
+  unfolding MayHave step_of
+  told_by later_objects told buffer later m e = record {
+    may = subst (λ (x : Decision). MayFailBy (rows_of objects) world request (notes_told told) x) (sym d) m;
+    done = subst (λ (x : Decision). IsDone (step_by objects world request (notes_told told) x) told buffer later later_objects) (sym d) e;
+  }
+
+pub dropped_step : (objects : List ObjectState) (world later : World) (request : Request) (cause : Cause) (told : Answered) (buffer : Buffered)
+    → decision_on world.policy request ≡ Drop cause → told ≡ answered.NoReply (drop_audit request cause) → buffer.reply ≡ [] → buffer.bpdus ≡ [] → later ≡ with_count_of world cause
+    → IsTold objects world request told buffer later objects
+dropped_step objects world later request cause told buffer d t e b l =
+    let is : Answered = answered.NoReply (drop_audit request cause) in
+    subst (λ (x : Answered). IsTold objects world request x buffer later objects) (sym t)
+    (told_by objects world request (Drop cause) d objects is buffer later refl (read_by objects world request (Drop cause) d is buffer later (e, refl) l b))
+
+-- what is told of a request that reads
+abbrev plain_told : Request → Decision → SentReply → Answered
+plain_told request decision sent =
+    answered.Reply sent.length (record { kind = request.kind; status = sent.status; index = sent.index; decision = decision; denied = []; unrestored = [] }) None
+
+sent_step : (request : Request) (decision : Decision) (reply : Reply) (sent : SentReply) (buffer : Buffered) → IsSent reply sent buffer.reply
+    → IsAnswered (replied reply (reply_audit request decision [] [] reply)) (plain_told request decision sent) buffer
+sent_step request decision reply sent buffer s =
+    (s.octets, s.len, λ i. record { kind = request.kind; status = s.status i; index = s.index i; decision = decision; denied = []; unrestored = [] })
+
+pub empty_step : (objects : List ObjectState) (world : World) (request : Request) (sent : SentReply) (told : Answered) (buffer : Buffered)
+    → decision_on world.policy request ≡ Empty → IsSent (reply_within_limit (answer_to request NoError (pos 0) [])) sent buffer.reply → buffer.bpdus ≡ []
+    → told ≡ plain_told request Empty sent → IsTold objects world request told buffer world objects
+empty_step objects world request sent told buffer d s b t =
+    let is : Answered = plain_told request Empty sent in
+    subst (λ (x : Answered). IsTold objects world request x buffer world objects) (sym t)
+    (told_by objects world request Empty d objects is buffer world refl (read_by objects world request Empty d is buffer world (sent_step request Empty _ sent buffer s) refl b))
+
+pub refused_step : (objects : List ObjectState) (world : World) (request : Request) (why : Why) (sent : SentReply) (told : Answered) (buffer : Buffered)
+    → decision_on world.policy request ≡ Refused why → IsSent (refusal_reply request) sent buffer.reply → buffer.bpdus ≡ []
+    → told ≡ plain_told request (Refused why) sent → IsTold objects world request told buffer world objects
+refused_step objects world request why sent told buffer d s b t =
+    let is : Answered = plain_told request (Refused why) sent in
+    subst (λ (x : Answered). IsTold objects world request x buffer world objects) (sym t)
+    (told_by objects world request (Refused why) d objects is buffer world refl (read_by objects world request (Refused why) d is buffer world (sent_step request (Refused why) _ sent buffer s) refl b))
+
+pub set_told : (objects later_objects : List ObjectState) (world later : World) (request : Request) (row : AccessKey) (view : List ℕ) (told : Answered) (buffer : Buffered)
+    → decision_on world.policy request ≡ Allowed row view → request.kind ≡ Set
+    → MayFailInSet (rows_of objects) world view request (notes_told told)
+    → IsDone (writing_step request row view (set_step objects world view request (notes_told told))) told buffer later later_objects
+    → IsTold objects world request told buffer later later_objects
+set_told objects later_objects world later request row view told buffer d k m e =
+    told_by objects world request (Allowed row view) d later_objects told buffer later
+    (subst (λ (kind : Kind). MayFailInView (rows_of objects) world view request (notes_told told) kind) (sym k) m)
+    (subst (λ (kind : Kind). IsDone (allowed_step objects world request (notes_told told) row view kind) told buffer later later_objects) (sym k) e)
+
+pub set_short : (objects later_objects : List ObjectState) (world later : World) (request : Request) (row : AccessKey) (view : List ℕ) (buffer : Buffered)
+    → decision_on world.policy request ≡ Allowed row view → request.kind ≡ Set → length request.community ≤ MAX_COMMUNITY
+    → IsDeniedSet (rows_of objects) world view request → buffer.reply ≡ [] → buffer.bpdus ≡ [] → later ≡ world → later_objects ≡ map released objects
+    → IsShort objects world request buffer later later_objects
+set_short objects later_objects world later request row view buffer d k c t e b w o =
+    record {
+      empty = e;
+      silent = b;
+      unchanged = w;
+      kept = o ∙ ap (λ (kind : Kind). without_answer kind objects) (sym k);
+      takes = record { row = row; view = view; allowed = d; takes = subst (λ (kind : Kind). TakesInView (rows_of objects) world view request kind) (sym k) t };
+      community = c;
+    }
+
+pub set_stepped : (objects later_objects : List ObjectState) (world later : World) (request : Request) (row : AccessKey) (view : List ℕ) (r : Result Answered AllocError) (buffer : Buffered)
+    → decision_on world.policy request ≡ Allowed row view → request.kind ≡ Set → length request.community ≤ MAX_COMMUNITY
+    → IfOk r (λ told. MayFailInSet (rows_of objects) world view request (notes_told told))
+    → IfOk r (λ told. IsDone (writing_step request row view (set_step objects world view request (notes_told told))) told buffer later later_objects)
+    → OnErr r (IsDeniedSet (rows_of objects) world view request) → OnErr r (buffer.reply ≡ []) → OnErr r (buffer.bpdus ≡ [])
+    → OnErr r (later ≡ world) → OnErr r (later_objects ≡ map released objects)
+    → IsStep objects world request r buffer later later_objects
+set_stepped objects later_objects world later request row view (Ok told) buffer d k c m e t x b w o =
+    set_told objects later_objects world later request row view told buffer d k m e
+set_stepped objects later_objects world later request row view (Err err) buffer d k c m e t x b w o =
+    set_short objects later_objects world later request row view buffer d k c t x b w o
+
+-- a request that reads
+reads : (objects : List ObjectState) (world : World) (request : Request) (notes : SetNotes) (row : AccessKey) (view : List ℕ) (kind : Kind) → kind ≢ Set
+    → reading_step objects world request ≡ allowed_step objects world request notes row view kind
+reads objects world request notes row view Get h = refl
+reads objects world request notes row view GetNext h = refl
+reads objects world request notes row view GetBulk h = refl
+reads objects world request notes row view Set h = absurd (h refl)
+
+read_may : (rows : List ObjectRow) (world : World) (request : Request) (row : AccessKey) (view : List ℕ) (notes : SetNotes) (kind : Kind) → kind ≢ Set → notes ≡ no_notes
+    → MayFailInView rows world view request notes kind
+read_may rows world request row view notes Get h e = e
+read_may rows world request row view notes GetNext h e = e
+read_may rows world request row view notes GetBulk h e = e
+read_may rows world request row view notes Set h e = absurd (h refl)
+
+read_takes : (rows : List ObjectRow) (world : World) (view : List ℕ) (request : Request) (kind : Kind) → kind ≢ Set → TakesInView rows world view request kind
+read_takes rows world view request Get h = tt
+read_takes rows world view request GetNext h = tt
+read_takes rows world view request GetBulk h = tt
+read_takes rows world view request Set h = absurd (h refl)
+
+read_keeps : (objects : List ObjectState) (kind : Kind) → kind ≢ Set → objects ≡ without_answer kind objects
+read_keeps objects Get h = refl
+read_keeps objects GetNext h = refl
+read_keeps objects GetBulk h = refl
+read_keeps objects Set h = absurd (h refl)
+
+module _ (objects : List ObjectState) (world : World) (request : Request) (row : AccessKey) (view : List ℕ) (buffer : Buffered)
+    (d : decision_on world.policy request ≡ Allowed row view) (k : request.kind ≢ Set) (b : buffer.bpdus ≡ []) where
+  abbrev reply : Reply
+  reply = kind_reply (prefixes_of (rows_of objects)) (in_view world.policy.vacm.families view) (instances (rows_of objects) world) request request.kind
+
+  abbrev denied : List Denied
+  denied = denied_in world.policy.vacm.families view request request.kind
+
+  read_done : (told : Answered) → IsReply reply request (Allowed row view) denied told buffer.reply → IsDone (reading_step objects world request) told buffer world objects
+  read_done (answered.Reply len told failed) h =
+      read_by objects world request (Allowed row view) d (answered.Reply len told failed) buffer world (h.0, h.1, h.2) refl b
+  read_done (answered.NoReply told) h = absurd h
+
+  no_note : (told : Answered) → IsReply reply request (Allowed row view) denied told buffer.reply → notes_told told ≡ no_notes
+  no_note (answered.Reply len told failed) h = λ i. record { commit = h.3 i; undos = (h.2 i).unrestored }
+  no_note (answered.NoReply told) h = absurd h
+
+  read_told : (told : Answered) → IsReply reply request (Allowed row view) denied told buffer.reply → IsTold objects world request told buffer world objects
+  read_told told h =
+      told_by objects world request (Allowed row view) d objects told buffer world
+      (read_may (rows_of objects) world request row view (notes_told told) request.kind k (no_note told h))
+      (subst (λ (step : Step). IsDone step told buffer world objects) (reads objects world request (notes_told told) row view request.kind k) (read_done told h))
+
+  pub read_stepped : (r : Result Answered AllocError) → length request.community ≤ MAX_COMMUNITY
+      → IfOk r (λ told. IsReply reply request (Allowed row view) denied told buffer.reply) → OnErr r (buffer.reply ≡ [])
+      → IsStep objects world request r buffer world objects
+  read_stepped (Ok told) c h e = read_told told h
+  read_stepped (Err err) c h e = record {
+    empty = e;
+    silent = b;
+    unchanged = refl;
+    kept = read_keeps objects request.kind k;
+    takes = record { row = row; view = view; allowed = d; takes = read_takes (rows_of objects) world view request request.kind k };
+    community = c;
+  }

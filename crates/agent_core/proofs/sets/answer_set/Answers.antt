@@ -1,0 +1,90 @@
+use Rattle.std.proofs.Common.{◌≡◌, ◌∙◌, ℕ, ◌≤◌, [], List, length, map, Option, None, IfSome, FitsSigned, w32, rules, ap, sym, subst}
+use Rattle.std.proofs.lemmas.Int.{to_z-of_z}
+use Rattle.message_core.specs.Canon.{answer_to}
+use Rattle.message_core.specs.declared.binding.Binding.{Binding}
+use Rattle.message_core.specs.declared.request.Request.{Request}
+use Rattle.vacm_core.specs.Tables.{Tables}
+use Rattle.audit_core.specs.declared.denied.Denied.{Denied}
+use Rattle.rstp_settings.specs.Table.{Table}
+use Rattle.setting_keys.specs.declared.SettingKey.{SettingKey}
+use Rattle.setphase_core.specs.declared.sets.SetOutcome.{SetOutcome}
+use Rattle.setphase_core.specs.declared.world.World.{World}
+use Rattle.setphase_core.specs.Objects.{ObjectRow, ObjectState}
+use Rattle.setphase_core.specs.Registry.{rows_of}
+use Rattle.setphase_core.specs.Variables.{writings}
+use Rattle.setphase_core.specs.Together.{refusal_of}
+use Rattle.setphase_core.specs.Outcomes.{SetNotes, AreNotes, refusal_in, notes_in, world_after_set, failed_names, object_after}
+use Rattle.agent_core.specs.Replies.{reply_within_limit}
+use Rattle.agent_core.specs.Sets.{settled, settling_bpdus, MayFailInSet}
+use Rattle.agent_core.specs.Answers.{IsSent}
+use Rattle.agent_core.specs.declared.answered.Answered.{Answered}
+use Rattle.agent_core.specs.declared.answered.Answered.TheVariants as answered
+use Rattle.agent_core.specs.declared.sent_reply.SentReply.{SentReply}
+use Rattle.agent_core.specs.declared.sets.SetTold.{SetTold}
+use Rattle.agent_core.proofs.SetProofs.{index_within, number_within, may_fail}
+use Rattle.agent_core.proofs.SetSteps.{told_audit, too_long_done, set_done, notes_told_of}
+use Rattle.agent_core.proofs.sets.answer_set.Goals as goal
+
+pub returns-then-is_too_long-clause-done : goal.returns-then-is_too_long-clause-done
+returns-then-is_too_long-clause-done g c =
+    let request : Request = c.args.request.now in
+    let sent : SentReply = c.put_too_long-sent.result in
+    let told_as : List Denied → List SettingKey → Option ℕ → Answered =
+    λ (denied : List Denied) (keys : List SettingKey) (failed : Option ℕ). answered.Reply sent.length (told_audit request c.args.row c.args.view sent denied keys) failed in
+    too_long_done c.args.registry.now c.args.world.now request c.args.row c.args.view sent c.told.result c.put_too_long-sent.new.self
+    (sym c.is_too_long.ensures.too_long ∙ c.if-is_too_long.true) c.put_too_long-sent.ensures.sent
+    (c.put_too_long-sent.ensures.bpdus ∙ c.is_too_long.ensures.bpdus ∙ c.requires.silent)
+    (c.told.ensures ∙ ap (λ (a : SetTold). told_as a.denied a.unrestored a.failed) c.plain_answer-none.ensures ∙ ap (λ (keys : List SettingKey). told_as [] keys None) c.new.ensures)
+
+pub set_answer-requires-clause-refused : goal.set_answer-requires-clause-refused
+set_answer-requires-clause-refused g c =
+    index_within c.args.request.now (refusal_in c.run_set-outcome.result) (sym c.is_too_long.ensures.too_long ∙ c.if-is_too_long.false)
+    (subst (λ (bs : List Binding). IfSome (refusal_in c.run_set-outcome.result) (λ r. (1 ≤ r.index) × (r.index ≤ length bs))) c.as_slice-bindings.ensures c.run_set-outcome.ensures.refused_index)
+
+pub set_answer-requires-clause-failed : goal.set_answer-requires-clause-failed
+set_answer-requires-clause-failed g c =
+    number_within c.args.request.now (notes_in c.run_set-outcome.result).commit (sym c.is_too_long.ensures.too_long ∙ c.if-is_too_long.false)
+    (subst (λ (bs : List Binding). IfSome (notes_in c.run_set-outcome.result).commit (λ n. (1 ≤ n) × (n ≤ length bs))) c.as_slice-bindings.ensures c.run_set-outcome.ensures.failed_index)
+
+pub returns-clause-may : goal.returns-clause-may
+returns-clause-may g c =
+    let request : Request = c.args.request.now in
+    let world : World = c.args.world.now in
+    let rows : List ObjectRow = rows_of c.args.registry.now in
+    let outcome : SetOutcome = c.run_set-outcome.result in
+    let refusal : refusal_in outcome ≡ refusal_of rows world c.args.view request.bindings =
+    subst (λ (bs : List Binding). refusal_in outcome ≡ refusal_of rows world c.args.view bs) c.as_slice-bindings.ensures c.run_set-outcome.ensures.refusal in
+    let notes : AreNotes (writings rows world request.bindings) (notes_in outcome) =
+    subst (λ (bs : List Binding). AreNotes (writings rows world bs) (notes_in outcome)) c.as_slice-bindings.ensures c.run_set-outcome.ensures.notes in
+    subst (λ (ns : SetNotes). MayFailInSet rows world c.args.view request ns)
+    (sym (notes_told_of c.vacm.result.now.families outcome c.in_ok-answer.answer c.told-2.result request c.args.row c.args.view c.put-sent.result c.in_ok-answer.ensures.told c.told-2.ensures))
+    (may_fail outcome request (refusal_of rows world c.args.view request.bindings) (writings rows world request.bindings)
+    (sym c.is_too_long.ensures.too_long ∙ c.if-is_too_long.false) refusal notes)
+
+pub returns-clause-done : goal.returns-clause-done
+returns-clause-done g c =
+    let request : Request = c.args.request.now in
+    let world : World = c.args.world.now in
+    let objects : List ObjectState = c.args.registry.now in
+    let rows : List ObjectRow = rows_of objects in
+    let outcome : SetOutcome = c.run_set-outcome.result in
+    let after : World = c.run_set-outcome.new.world in
+    let answer : SetTold = c.in_ok-answer.answer in
+    let same = c.as_slice-bindings.ensures in
+    let refusal : refusal_in outcome ≡ refusal_of rows world c.args.view request.bindings =
+    subst (λ (bs : List Binding). refusal_in outcome ≡ refusal_of rows world c.args.view bs) same c.run_set-outcome.ensures.refusal in
+    let after_is : after ≡ world_after_set (refusal_in outcome) (writings rows world request.bindings) world (notes_in outcome) =
+    subst (λ (bs : List Binding). after ≡ world_after_set (refusal_in outcome) (writings rows world bs) world (notes_in outcome)) same c.run_set-outcome.ensures.world in
+    let objects_are : c.run_set-outcome.new.registry ≡ map (object_after (failed_names (writings rows world request.bindings) (notes_in outcome))) objects =
+    subst (λ (bs : List Binding). c.run_set-outcome.new.registry ≡ map (object_after (failed_names (writings rows world bs) (notes_in outcome))) objects) same c.run_set-outcome.ensures.objects in
+    let index_fits : FitsSigned w32 answer.index = search rules in
+    let put : IsSent (reply_within_limit (answer_to request answer.status answer.index request.bindings)) c.put-sent.result c.put-sent.new.self.reply =
+    subst (λ (bs : List Binding). IsSent (reply_within_limit (answer_to request answer.status answer.index bs)) c.put-sent.result c.put-sent.new.self.reply) same (rw (to_z-of_z w32 answer.index index_fits) at c.put-sent.ensures.sent) in
+    set_done objects world request c.args.row c.args.view outcome answer c.put-sent.result c.put-sent.new.self after c.settle_changed.new.world c.run_set-outcome.new.registry
+    c.told-2.result c.vacm.result.now.families
+    (sym c.is_too_long.ensures.too_long ∙ c.if-is_too_long.false) refusal after_is
+    (ap (λ (t : Tables). t.families) c.vacm.ensures ∙ ap (λ (w : World). w.policy.vacm.families) c.run_set-outcome.ensures.settings)
+    c.in_ok-answer.ensures.told
+    (c.settle_changed.ensures.world ∙ ap (λ (t : Table). settled t after) c.copied_settings-before.ensures)
+    (c.put-sent.ensures.bpdus ∙ c.settle_changed.ensures.bpdus ∙ ap (λ (t : Table). settling_bpdus t after) c.copied_settings-before.ensures)
+    put objects_are c.told-2.ensures

@@ -1,0 +1,198 @@
+-- What answers a Set that is let in to a view, and what it leaves (RFC 3416, 4.2.5).
+use Rattle.std.specs.Prelude.{◌≡◌, ℕ, pos, Bool, true, false, ◌&&◌, ◌==◌, nat_lt, if◌then◌else◌, List, [], ◌∷◌, length, map, Option, Some, None, IsSome}
+use Rattle.std.specs.Cmp.Lexicographic.{pointwise}
+use Rattle.message_core.specs.Canon.{canon_reply, answer_to}
+use Rattle.message_core.specs.declared.limits.TheConstants.{MAX_REPLY}
+use Rattle.message_core.specs.declared.reply.Reply.{Reply}
+use Rattle.message_core.specs.declared.request.Request.{Request}
+use Rattle.message_core.specs.declared.status.ErrorStatus.{ErrorStatus}
+use Rattle.message_core.specs.declared.status.ErrorStatus.TheVariants.{NoError, TooBig, GenErr, CommitFailed, UndoFailed}
+use Rattle.vacm_core.specs.declared.tables.FamilyRow.{FamilyRow}
+use Rattle.audit_core.specs.declared.denied.Denied.{Denied}
+use Rattle.frame_core.specs.declared.bpdu.Bpdu.{Bpdu}
+use Rattle.rstp_settings.specs.Table.{Table}
+use Rattle.rstp_settings.specs.declared.key.BridgeValues.{BridgeValues}
+use Rattle.rstp_settings.specs.declared.key.PortValues.{PortValues}
+use Rattle.bridge_core.specs.Events.{settling_of, after_settling}
+use Rattle.setting_keys.specs.declared.SettingKey.{SettingKey}
+use Rattle.setphase_core.specs.declared.sets.Refusal.{Refusal}
+use Rattle.setphase_core.specs.declared.sets.SetOutcome.{SetOutcome}
+use Rattle.setphase_core.specs.declared.world.World.{World}
+use Rattle.setphase_core.specs.Objects.{ObjectRow, ObjectState}
+use Rattle.setphase_core.specs.Registry.{rows_of}
+use Rattle.setphase_core.specs.Variables.{Written, writings}
+use Rattle.setphase_core.specs.Together.{refusal_of}
+use Rattle.setphase_core.specs.Outcomes.{SetNotes, AreNotes, refusal_in, notes_in, world_after_set, failed_names, object_after}
+use Rattle.agent_core.specs.Denying.{denied_variable}
+use Rattle.agent_core.specs.Replies.{reply_within_limit}
+use Rattle.agent_core.specs.declared.sets.SetTold.{SetTold}
+
+-- The greatest error-index: four octets (RFC 3416, section 3).
+abbrev pub greatest_index : ℕ
+greatest_index = 2147483647
+
+-- The response to a Set is measured before anything is tested: with its own bindings, beside a
+-- status of one octet and an index of four.
+abbrev pub longest_response : Request → Reply
+longest_response request = answer_to request GenErr (pos greatest_index) request.bindings
+
+abbrev pub is_too_long : Request → Bool
+is_too_long request = nat_lt MAX_REPLY (length (canon_reply (longest_response request)))
+
+-- What answers a Set that is too long, and is not tested.
+abbrev pub too_long_reply : Request → Reply
+too_long_reply request = answer_to request TooBig (pos 0) []
+
+-- No call of a device failed.
+abbrev pub no_notes : SetNotes
+no_notes = record { commit = None; undos = [] }
+
+-- What is told of a Set: status, index, and the variable to which the view gives no access.
+pub record SetAnswer : Type 0 where
+  pub status : ErrorStatus
+  pub index : ℕ
+  pub denied : List Denied
+
+abbrev pub refused : List FamilyRow → Refusal → SetAnswer
+refused families refusal = record {
+  status = refusal.status;
+  index = refusal.index;
+  denied = denied_variable families refusal.index refusal.family;
+}
+
+-- A commit failed: all was undone, or some could not be, which has index 0.
+abbrev pub failed : ℕ → List SettingKey → SetAnswer
+failed i [] = record { status = CommitFailed; index = i; denied = [] }
+failed i (key ∷ keys) = record { status = UndoFailed; index = 0; denied = [] }
+
+abbrev pub told_by : Option ℕ → List SettingKey → SetAnswer
+told_by None undos = record { status = NoError; index = 0; denied = [] }
+told_by (Some i) undos = failed i undos
+
+abbrev pub set_answer : List FamilyRow → Option Refusal → SetNotes → SetAnswer
+set_answer families (Some refusal) notes = refused families refusal
+set_answer families None notes = told_by notes.commit notes.undos
+
+-- A response to a Set has the bindings of the request, whatever its status.
+abbrev pub set_reply : Request → SetAnswer → Reply
+set_reply request answer =
+    reply_within_limit (answer_to request answer.status (pos answer.index) request.bindings)
+
+-- What is told of a Set that ended so.
+pub record IsToldOf (families : List FamilyRow) (outcome : SetOutcome) (told : SetTold) :
+    Type 0 where
+  pub status : told.status
+      ≡ (set_answer families (refusal_in outcome) (notes_in outcome)).status
+  pub index : told.index
+      ≡ pos (set_answer families (refusal_in outcome) (notes_in outcome)).index
+  pub denied : told.denied
+      ≡ (set_answer families (refusal_in outcome) (notes_in outcome)).denied
+  pub failed_commit : told.failed ≡ (notes_in outcome).commit
+  pub unrestored : told.unrestored ≡ (notes_in outcome).undos
+
+-- ---- what it leaves
+
+abbrev pub same_bridge_values : BridgeValues → BridgeValues → Bool
+same_bridge_values a b =
+    a.priority == b.priority && (a.max_age == b.max_age && (a.hello == b.hello
+    && (a.forward_delay == b.forward_delay && (a.version == b.version
+    && (a.hold_count == b.hold_count && a.aging == b.aging)))))
+
+abbrev pub same_port_values : PortValues → PortValues → Bool
+same_port_values a b =
+    a.priority == b.priority && (a.enable == b.enable && (a.cost == b.cost
+    && (a.migrate == b.migrate && (a.edge == b.edge && a.point_to_point == b.point_to_point))))
+
+-- Each setting has the same value.
+abbrev pub same_settings : Table → Table → Bool
+same_settings a b =
+    same_bridge_values a.bridge b.bridge && pointwise same_port_values a.ports b.ports
+
+-- Settings that differ from those of before are settled, once.
+unfoldable pub settled : Table → World → World
+settled before after =
+    if same_settings before after.bridge.settings then after
+    else record after { bridge = after_settling after.bridge }
+
+unfoldable pub settling_bpdus : Table → World → List (Option Bpdu)
+settling_bpdus before after =
+    if same_settings before after.bridge.settings then []
+    else (settling_of after.bridge).bpdus
+
+-- ---- in all
+
+-- What a Set comes to.
+pub record SetStep : Type 0 where
+  pub reply : Reply
+  pub denied : List Denied
+  pub unrestored : List SettingKey
+  pub world : World
+  pub objects : List ObjectState
+  -- what the ports send, from port 1 on
+  pub bpdus : List (Option Bpdu)
+
+-- One that is too long changes nothing.
+abbrev pub untested : List ObjectState → World → Request → SetStep
+untested objects world request = record {
+  reply = too_long_reply request;
+  denied = [];
+  unrestored = [];
+  world = world;
+  objects = objects;
+  bpdus = [];
+}
+
+-- The other ones, by what they are refused for, and by what they leave before it is settled.
+abbrev pub tested_by : List ObjectState → World → Request → SetNotes → SetAnswer → World →
+    SetStep
+tested_by objects world request notes answer after = record {
+  reply = set_reply request answer;
+  denied = answer.denied;
+  unrestored = notes.undos;
+  world = settled world.bridge.settings after;
+  objects = map (object_after (failed_names
+      (writings (rows_of objects) world request.bindings) notes)) objects;
+  bpdus = settling_bpdus world.bridge.settings after;
+}
+
+abbrev pub tested : List ObjectState → World → List ℕ → Request → SetNotes → SetStep
+tested objects world view request notes =
+    tested_by objects world request notes
+    (set_answer world.policy.vacm.families
+    (refusal_of (rows_of objects) world view request.bindings) notes)
+    (world_after_set (refusal_of (rows_of objects) world view request.bindings)
+    (writings (rows_of objects) world request.bindings) world notes)
+
+-- A Set in a view, where its calls of devices failed so.
+unfoldable pub set_step : List ObjectState → World → List ℕ → Request → SetNotes → SetStep
+set_step objects world view request notes =
+    if is_too_long request then untested objects world request
+    else tested objects world view request notes
+
+-- ---- what it may meet
+
+-- Which calls of devices may fail: none where the Set is refused.
+abbrev pub MayFail : Option Refusal → List Written → SetNotes → Type 0
+MayFail (Some refusal) ws notes = notes ≡ no_notes
+MayFail None ws notes = AreNotes ws notes
+
+abbrev pub MayFailWhere : Bool → Option Refusal → List Written → SetNotes → Type 0
+MayFailWhere true refusal ws notes = notes ≡ no_notes
+MayFailWhere false refusal ws notes = MayFail refusal ws notes
+
+-- and none where nothing is tested.
+abbrev pub MayFailInSet : List ObjectRow → World → List ℕ → Request → SetNotes → Type 0
+MayFailInSet rows world view request notes =
+    MayFailWhere (is_too_long request) (refusal_of rows world view request.bindings)
+    (writings rows world request.bindings) notes
+
+-- A refusal since the view gives no access to a variable.
+abbrev pub IsDenied : Option Refusal → Type 0
+IsDenied (Some refusal) = IsSome refusal.family
+IsDenied None = ⊥
+
+-- A Set is refused so; its audit names the variable.
+pub record IsDeniedSet (rows : List ObjectRow) (world : World) (view : List ℕ)
+    (request : Request) : Type 0 where
+  pub fits : is_too_long request ≡ false
+  pub denied : IsDenied (refusal_of rows world view request.bindings)

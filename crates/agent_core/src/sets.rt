@@ -1,0 +1,193 @@
+//! Answers a Set that is let in to a view (RFC 3416, 4.2.5).
+ghost use Rattle.std.specs.Prelude.{◌≡◌, ◌≤◌, ◌<◌, ◌^◌, [], IfOk, IfSome, OnErr, length, map, pos};
+ghost use Rattle.message_core.specs.Encodable.{AreEncodable};
+ghost use Rattle.message_core.specs.declared.limits.TheConstants.{MAX_COMMUNITY};
+ghost use Rattle.vacm_core.specs.Families.{NamesFamilyOf};
+ghost use Rattle.setphase_core.specs.Objects.{released};
+ghost use Rattle.setphase_core.specs.Registry.{rows_of};
+ghost use Rattle.setphase_core.specs.Outcomes.{refusal_in, notes_in, NamesASetting};
+ghost use Rattle.agent_core.specs.Sets.{greatest_index, set_step, settled, settling_bpdus, IsDenied, IsDeniedSet, IsToldOf, MayFailInSet};
+ghost use Rattle.agent_core.specs.Answers.{IsDone, notes_told, writing_step};
+
+use crate::answered::Answered;
+use crate::buffer::Buffer;
+use crate::denying::denied_variable;
+use crate::sent_reply::SentReply;
+use audit_core::{Audit, DeniedBindings};
+use decision::{AccessKey, Decision};
+use message_core::{ErrorStatus, Request};
+use rstp_settings::settings::Settings;
+use setphase_core::{MibObject, Refusal, Registry, SetOutcome, World, run_set};
+use setting_keys::SettingKeys;
+use std::alloc::{AllocError, Global};
+use vacm_core::{Name, Vacm};
+
+// What is told of a Set, and which commit failed.
+#[derive(Drop)]
+struct SetTold {
+    status: ErrorStatus,
+    index: i32,
+    denied: DeniedBindings,
+    failed: Option<usize>,
+    unrestored: SettingKeys,
+}
+
+// What is told of a Set that no variable of the request is denied in.
+fn plain_answer(
+    alloc: Global,
+    status: ErrorStatus,
+    index: i32,
+    failed: Option<usize>,
+    unrestored: SettingKeys,
+) -> SetTold
+    ensures { result ≡ record {
+      status = status;
+      index = index;
+      denied = [];
+      failed = failed;
+      unrestored = unrestored;
+    } }
+{
+    SetTold {
+        status,
+        index,
+        denied: DeniedBindings::new(alloc),
+        failed,
+        unrestored,
+    }
+}
+
+// What is told of a Set that is refused.
+fn refusal_answer(alloc: Global, vacm: &Vacm, refusal: Refusal) -> Result<SetTold, AllocError>
+    requires index { refusal.index ≤ greatest_index }
+    requires family { IfSome refusal.family (λ answer. NamesFamilyOf vacm.now.families answer) }
+    ensures told { IfOk result (λ answer. IsToldOf vacm.now.families (SetOutcome.Refused refusal) answer) }
+    ensures takes { OnErr result (IsDenied (Some refusal)) }
+{
+    let denied = denied_variable(alloc, vacm, refusal.index, refusal.family)?;
+    Ok(SetTold {
+        status: refusal.status,
+        index: refusal.index as i32,
+        denied,
+        failed: None,
+        unrestored: SettingKeys::new(),
+    })
+}
+
+// What is told of a Set that ended so. Only memory can fail, and only where a variable is denied.
+fn set_answer(alloc: Global, vacm: &Vacm, outcome: SetOutcome) -> Result<SetTold, AllocError>
+    requires refused { IfSome (refusal_in outcome) (λ refusal. refusal.index ≤ greatest_index) }
+    requires failed { IfSome (notes_in outcome).commit (λ number. number ≤ greatest_index) }
+    requires family { IfSome (refusal_in outcome) (λ refusal.
+        IfSome refusal.family (λ answer. NamesFamilyOf vacm.now.families answer)) }
+    requires undos { NamesASetting outcome }
+    ensures told { IfOk result (λ answer. IsToldOf vacm.now.families outcome answer) }
+    ensures takes { OnErr result (IsDenied (refusal_in outcome)) }
+{
+    let none = SettingKeys::new();
+    match outcome {
+        SetOutcome::Done => Ok(plain_answer(alloc, ErrorStatus::NoError, 0, None, none)),
+        SetOutcome::Refused(refusal) => refusal_answer(alloc, vacm, refusal),
+        SetOutcome::CommitFailed(number) => Ok(plain_answer(
+            alloc,
+            ErrorStatus::CommitFailed,
+            number as i32,
+            Some(number),
+            none,
+        )),
+        SetOutcome::UndoFailed(number, keys) => Ok(plain_answer(
+            alloc,
+            ErrorStatus::UndoFailed,
+            0,
+            Some(number),
+            keys,
+        )),
+    }
+}
+
+// Settles settings that differ from those of before, and keeps what the ports send.
+fn settle_changed(before: &Settings, world: &mut World, buffer: &mut Buffer)
+    requires { buffer.old.bpdus ≡ [] }
+    ensures world { world.new ≡ settled before.now world.old }
+    ensures bpdus { buffer.new.bpdus ≡ settling_bpdus before.now world.old }
+    ensures reply { buffer.new.reply ≡ buffer.old.reply }
+{
+    if !world.bridge.has_settings(before) {
+        let bpdus = world.bridge.settle();
+        buffer.send(bpdus);
+    }
+}
+
+// What a Set is answered whose reply stands in the buffer.
+fn told(request: &Request, row: AccessKey, view: Name, answer: SetTold, sent: SentReply) -> Answered
+    ensures { result ≡ Answered.Reply sent.length (record {
+      kind = request.now.kind;
+      status = sent.status;
+      index = sent.index;
+      decision = Decision.Allowed row view;
+      denied = answer.denied;
+      unrestored = answer.unrestored;
+    }) answer.failed }
+{
+    let SetTold {
+        status: _,
+        index: _,
+        denied,
+        failed,
+        unrestored,
+    } = answer;
+    Answered::Reply(
+        sent.length,
+        Audit {
+            kind: request.kind,
+            status: sent.status,
+            index: sent.index,
+            decision: Decision::Allowed { row, view },
+            denied,
+            unrestored,
+        },
+        failed,
+    )
+}
+
+/// Answers a Set that this row lets in to this view: tested, committed whole or not at all but for
+/// what could not be undone, and settled once where a setting differs from before.
+///
+/// # Errors
+/// Only memory can fail, for the audit of a variable that is not in the view: nothing is changed.
+pub(crate) fn answer_set<O: MibObject>(
+    alloc: Global,
+    registry: &mut Registry<O>,
+    world: &mut World,
+    request: &Request,
+    row: AccessKey,
+    view: Name,
+    buffer: &mut Buffer,
+) -> Result<Answered, AllocError>
+    requires community { length request.now.community ≤ MAX_COMMUNITY }
+    requires encodable { AreEncodable request.now.bindings }
+    requires silent { buffer.old.bpdus ≡ [] }
+    ensures may { IfOk result (λ told. MayFailInSet (rows_of registry.old) world.old view
+        request.now (notes_told told)) }
+    ensures done { IfOk result (λ told. IsDone (writing_step request.now row view
+        (set_step registry.old world.old view request.now (notes_told told)))
+        told buffer.new world.new registry.new) }
+    ensures takes { OnErr result (IsDeniedSet (rows_of registry.old) world.old view request.now) }
+    ensures empty { OnErr result (buffer.new.reply ≡ []) }
+    ensures unsent { OnErr result (buffer.new.bpdus ≡ []) }
+    ensures unchanged { OnErr result (world.new ≡ world.old) }
+    ensures kept { OnErr result (registry.new ≡ map released registry.old) }
+{
+    if buffer.is_too_long(request) {
+        let sent = buffer.put_too_long(request);
+        let none = plain_answer(alloc, sent.status, sent.index, None, SettingKeys::new());
+        return Ok(told(request, row, view, none, sent));
+    }
+    let bindings = request.bindings.as_slice();
+    let before = world.bridge.copied_settings();
+    let outcome = run_set(registry, world, bindings, &view);
+    let answer = set_answer(alloc, world.policy.vacm(), outcome)?;
+    settle_changed(&before, world, buffer);
+    let sent = buffer.put(request, answer.status, answer.index, bindings);
+    Ok(told(request, row, view, answer, sent))
+}
