@@ -3,7 +3,7 @@
 //!
 //! # Entry points
 //! [`SettingKey`], [`SettingValue`]: plain data. Of what stands above, the world of `setphase_core`
-//! alone tells their kinds apart.
+//! alone tells their kinds apart. [`SettingKeys`]: a list of keys.
 //!
 //! # Definitions
 //! None.
@@ -15,9 +15,11 @@
 //! What a key's range is: that is said where the settings are kept.
 #![tactic(auto)]
 
-ghost use Rattle.std.specs.Prelude.{◌≡◌};
+ghost use Rattle.std.specs.Prelude.{◌≡◌, ◌<◌, ◌↔◌, [], ◌∷◌, length, IsTrue};
 
+use arrayvec::ArrayVec;
 use rstp_settings::key::{BridgeKey, Key};
+use std::marker::Model;
 
 /// The name of a setting.
 #[derive(Clone, Copy, Debug, PartialEq, Eq)]
@@ -48,5 +50,56 @@ impl Default for SettingValue {
         ensures { result ≡ SettingValue.Number 0 }
     {
         SettingValue::Number(0)
+    }
+}
+
+/// The most keys that a list of them has: as many as a Set has variables.
+pub const MAX_KEYS: usize = 64;
+
+/// At most `MAX_KEYS` keys of settings, seen as their list.
+#[derive(Drop)]
+pub struct SettingKeys {
+    keys: ArrayVec<SettingKey, MAX_KEYS>,
+}
+
+impl Model for SettingKeys {
+    ghost use Rattle.std.specs.Prelude.{List};
+    ghost use Rattle.setting_keys.specs.declared.SettingKey.{SettingKey as AnyKey};
+
+    ghost Value = { List AnyKey };
+
+    ghost view = { λ k. k.keys.items };
+}
+
+impl SettingKeys {
+    /// No keys.
+    pub fn new() -> SettingKeys
+        ensures { result ≡ [] }
+    {
+        SettingKeys {
+            keys: ArrayVec::new(),
+        }
+    }
+
+    /// Whether there are none.
+    pub fn is_empty(&self) -> bool
+        ensures { IsTrue result ↔ (self.now ≡ []) }
+    {
+        self.keys.is_empty()
+    }
+
+    /// The keys.
+    pub fn as_slice(&self) -> &[SettingKey]
+        ensures { result.now ≡ self.now }
+    {
+        self.keys.as_slice()
+    }
+
+    /// Puts a key in front, where there is room for it.
+    pub fn put_first(&mut self, key: SettingKey)
+        requires { length self.old < MAX_KEYS }
+        ensures { self.new ≡ key ∷ self.old }
+    {
+        self.keys.insert(0, key);
     }
 }
