@@ -1,9 +1,10 @@
 //! Communities, and who they stand for (RFC 3584, section 5: snmpCommunityTable).
 ghost use Rattle.std.specs.Prelude.{◌≡◌, ◌<◌, length};
 ghost use Rattle.std.specs.Option.{ForSome};
-ghost use Rattle.community_core.specs.Communities.{community_lengths, community_fields, community_row, same_index, has_name, index_before, deciding_community};
+ghost use Rattle.community_core.specs.Communities.{community_lengths, community_fields, community_row, written_community, same_index, has_name, index_before, deciding_community};
 
-use vacm_core::{Contest, MAX_NAME, Name, Text, Written, deciding_row};
+use std::alloc::{AllocError, Global};
+use vacm_core::{Contest, CopiedAs, MAX_NAME, Name, Same, Text, Written, deciding_row};
 
 /// The most octets of a community's name.
 pub const MAX_COMMUNITY_NAME: usize = 255;
@@ -76,6 +77,41 @@ impl Written for WrittenCommunity {
 
     fn is_same_key(one: &CommunityRow, other: &CommunityRow) -> bool {
         one.index.is(&other.index)
+    }
+}
+
+impl CopiedAs<CommunityRow> for CommunityRow {
+    ghost copy_of = { λ row. row };
+
+    fn copy_as(&self, alloc: Global) -> Result<CommunityRow, AllocError> {
+        Ok(CommunityRow {
+            index: self.index.copy(),
+            name: Text::new(alloc, self.name.as_str())?,
+            security: self.security.copy(),
+            context: self.context.copy(),
+        })
+    }
+}
+
+impl CopiedAs<WrittenCommunity> for CommunityRow {
+    ghost copy_of = { written_community };
+
+    fn copy_as(&self, alloc: Global) -> Result<WrittenCommunity, AllocError> {
+        Ok(WrittenCommunity {
+            index: Text::new(alloc, self.index.as_str())?,
+            name: Text::new(alloc, self.name.as_str())?,
+            security: Text::new(alloc, self.security.as_str())?,
+            context: Text::new(alloc, self.context.as_str())?,
+        })
+    }
+}
+
+impl Same for WrittenCommunity {
+    fn same(&self, other: &WrittenCommunity) -> bool {
+        self.index.same(&other.index)
+            && self.name.same(&other.name)
+            && self.security.same(&other.security)
+            && self.context.same(&other.context)
     }
 }
 

@@ -3,7 +3,8 @@
 //!
 //! # Entry points
 //! `Policy::caller` says whom a community stands for; `Policy::new` takes written communities or
-//! names the first fault.
+//! names the first fault. `Policy::try_copy` is a copy, and `Policy::rows` its rows as they are
+//! written, of which `PolicyRows::same` tells whether two are the same.
 //!
 //! # Definitions
 //! `specs/Communities.antt`: rules of the rows and the caller; `specs/Orders.antt`: which row comes
@@ -26,4 +27,4 @@ mod policy;
 
 pub use community::{Caller, CommunityRow, MAX_COMMUNITY_NAME, WrittenCommunity};
 pub use fault::{PolicyFault, PolicyTable};
-pub use policy::Policy;
+pub use policy::{Policy, PolicyRows};

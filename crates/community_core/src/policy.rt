@@ -8,9 +8,9 @@ use crate::community::{
     Caller, CommunityRow, MAX_COMMUNITY_NAME, WrittenCommunity, deciding_community,
 };
 use crate::fault::{PolicyFault, PolicyTable};
-use std::alloc::Global;
+use std::alloc::{AllocError, Global};
 use std::marker::Model;
-use vacm_core::{Rows, Vacm, checked_rows};
+use vacm_core::{Rows, Same, Vacm, VacmRows, checked_rows, copied_rows};
 
 /// Who may read and write what, seen as five lists of rows. No two communities have one index, and
 /// each community's lengths and fields are right.
@@ -30,6 +30,21 @@ impl Model for Policy {
     ghost invariant = { λ p. AreSound p.communities };
 }
 
+/// A policy as it is written: what [`Policy::new`] and [`Vacm::new`] take.
+#[derive(Drop)]
+pub struct PolicyRows {
+    /// The communities.
+    pub communities: Rows<WrittenCommunity>,
+    /// The tables of access control.
+    pub vacm: VacmRows,
+}
+
+impl Same for PolicyRows {
+    fn same(&self, other: &PolicyRows) -> bool {
+        self.communities.same(&other.communities) && self.vacm.same(&other.vacm)
+    }
+}
+
 // The rows that written communities stand for, or the first fault, as `Policy::new` says it.
 fn right_communities(
     alloc: Global,
@@ -46,6 +61,7 @@ fn right_communities(
 
 impl Policy {
     ghost use Rattle.vacm_core.specs.Rules.{AreRight, BeginsRight};
+    ghost use Rattle.vacm_core.specs.Tables.{rows_of};
     ghost use Rattle.community_core.specs.Faults.{IsCommunityFault};
     ghost use Rattle.community_core.specs.Communities.{community_row, written_community, community_rules, caller_of, caller_of_row};
 
@@ -71,6 +87,40 @@ impl Policy {
     {
         let communities = right_communities(alloc, communities)?;
         Ok(Policy { communities, vacm })
+    }
+
+    /// A policy that is equal to this one.
+    ///
+    /// # Errors
+    ///
+    /// Where there is no memory for it.
+    pub fn try_copy(&self, alloc: Global) -> Result<Policy, AllocError>
+        ensures { IfOk result (λ copy. copy ≡ self.now) }
+    {
+        let copies = copied_rows(alloc, self.communities.as_slice())?;
+        Ok(Policy {
+            communities: copies,
+            vacm: self.vacm.try_copy(alloc)?,
+        })
+    }
+
+    /// The rows of this policy as they are written. [`Vacm::new`] and [`Policy::new`] take them and
+    /// give this policy again, as the laws [`Vacm::rows_are_right`] and
+    /// [`Policy::communities_are_right`] say.
+    ///
+    /// # Errors
+    ///
+    /// Where there is no memory for them.
+    pub fn rows(&self, alloc: Global) -> Result<PolicyRows, AllocError>
+        ensures { IfOk result (λ rows. rows ≡ record {
+          communities = map written_community self.now.communities;
+          vacm = rows_of self.now.vacm;
+        }) }
+    {
+        Ok(PolicyRows {
+            communities: copied_rows(alloc, self.communities.as_slice())?,
+            vacm: self.vacm.rows(alloc)?,
+        })
     }
 
     /// The tables of access control.

@@ -9,3 +9,5 @@ pub mod HiddenNames
 pub mod Ways
 pub mod FamilyWays
 pub mod Unbeaten
+pub mod Indexes
+pub mod GroupRows

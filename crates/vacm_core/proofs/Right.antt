@@ -11,11 +11,13 @@ use Rattle.vacm_core.specs.declared.fault.Wrong.TheVariants.{Duplicate}
 use Rattle.vacm_core.specs.declared.fault.TableFault.{TableFault}
 use Rattle.vacm_core.specs.declared.fault.TableFault.TheVariants.{Memory, Row}
 use Rattle.vacm_core.specs.declared.fault.VacmTable.{VacmTable}
-use Rattle.vacm_core.specs.declared.fault.VacmTable.TheVariants.{Families}
+use Rattle.vacm_core.specs.declared.fault.VacmTable.TheVariants.{Groups, Access, Families}
+use Rattle.vacm_core.specs.declared.tables.AccessRow.{AccessRow}
 use Rattle.vacm_core.specs.declared.tables.FamilyRow.{FamilyRow}
+use Rattle.vacm_core.specs.declared.tables.GroupRow.{GroupRow}
 use Rattle.vacm_core.specs.declared.written.VacmRows.{VacmRows}
 use Rattle.vacm_core.specs.Faults.{TakesMemory}
-use Rattle.vacm_core.specs.Rows.{group_rules, access_rules, family_rules, family_row}
+use Rattle.vacm_core.specs.Rows.{group_rules, access_rules, family_rules, group_row, access_row, family_row}
 use Rattle.vacm_core.specs.Rules.{Rules, has_earlier, wrong_of, wrong_at, AreRight, IsFirstWrong, IsFirstFault, BeginsRight, row_behind}
 
 get_front : {W : Type 0} (xs ys : List W) (k : ℕ) → k < length xs → slice_get (xs ++ ys) k ≡ slice_get xs k
@@ -141,6 +143,26 @@ module _ {W R : Type 0} (rules : Rules W R) (written yielded rest after : List W
 begins_where_right : {W R : Type 0} (rules : Rules W R) (ws : List W) → AreRight rules ws → 0 < length ws → BeginsRight rules ws
 begins_where_right rules [] right some = absurd (omega arith)
 begins_where_right rules (w ∷ ws) right some = right 0
+
+-- where there is a group row, and nothing is wrong with them, memory may be lacking
+pub group_memory : {X : Type 0} (rows : VacmRows) (result : Result X (TableFault VacmTable)) (kept : List GroupRow)
+    → AreRight group_rules rows.groups → kept ≡ map group_row rows.groups → 0 < length kept → IfErr result (λ e. e ≡ Memory → TakesMemory rows)
+group_memory rows result kept groups is some =
+    if_memory result (TakesMemory rows) (record {
+      table = Groups;
+      before = tt;
+      begins = begins_where_right group_rules rows.groups groups (omega (arith, ap length is, length-map rows.groups group_row));
+    })
+
+-- where there is an access row, and nothing is wrong up to the last of them
+pub access_memory : {X : Type 0} (rows : VacmRows) (result : Result X (TableFault VacmTable)) (kept : List AccessRow)
+    → AreRight group_rules rows.groups → AreRight access_rules rows.access → kept ≡ map access_row rows.access → 0 < length kept → IfErr result (λ e. e ≡ Memory → TakesMemory rows)
+access_memory rows result kept groups access is some =
+    if_memory result (TakesMemory rows) (record {
+      table = Access;
+      before = groups;
+      begins = begins_where_right access_rules rows.access access (omega (arith, ap length is, length-map rows.access access_row));
+    })
 
 -- where there is a family row, and nothing is wrong up to the last of them, memory may be lacking
 pub tree_memory : {X : Type 0} (rows : VacmRows) (result : Result X (TableFault VacmTable)) (kept : List FamilyRow)

@@ -26,11 +26,11 @@ pub and_true : (x y : Bool) → (x && y) ≡ true → (x ≡ true) × (y ≡ tru
 and_true true y e = (refl, e)
 and_true false y e = absurd cc
 
-record Placed {W : Type 0} (ws : List W) (j : ℕ) : Type 0 where
-  w : W
-  is : slice_get ws j ≡ Some w
+pub record Placed {W : Type 0} (ws : List W) (j : ℕ) : Type 0 where
+  pub w : W
+  pub is : slice_get ws j ≡ Some w
 
-placed : {W : Type 0} (ws : List W) (j : ℕ) → j < length ws → Placed ws j
+pub placed : {W : Type 0} (ws : List W) (j : ℕ) → j < length ws → Placed ws j
 placed [] j h = absurd (omega arith)
 placed (w ∷ ws) zero h = record { w = w; is = refl }
 placed (w ∷ ws) (suc j) h = let p = placed ws j (omega arith) in record { w = p.w; is = p.is }

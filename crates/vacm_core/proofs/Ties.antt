@@ -80,7 +80,7 @@ neither cmp total a b Greater e f g =
     let turned : cmp b a ≡ Less = total.antisymm b a ∙ ap ordering_reverse e in
     absurd (true≢false (rw turned at g))
 
-then_equal : (o p : Ordering) → ordering_then o p ≡ Equal → (o ≡ Equal) × (p ≡ Equal)
+pub then_equal : (o p : Ordering) → ordering_then o p ≡ Equal → (o ≡ Equal) × (p ≡ Equal)
 then_equal Equal p e = (refl, e)
 then_equal Less p e = absurd cc
 then_equal Greater p e = absurd cc

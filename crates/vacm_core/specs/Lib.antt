@@ -10,3 +10,4 @@ pub mod Hiding
 pub mod Access
 pub mod Orders
 pub mod Trees
+pub mod Keys

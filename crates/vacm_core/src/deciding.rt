@@ -3,12 +3,17 @@ ghost use Rattle.std.specs.Prelude.{◌≡◌, ◌<◌, length, option_map, find
 ghost use Rattle.std.specs.List.{list_any};
 ghost use Rattle.std.specs.Option.{ForSome};
 ghost use Rattle.vacm_core.specs.Families.{mask_bit, agrees_at, agrees_from, matches, family_beats};
+ghost use Rattle.vacm_core.specs.Rows.{same_group, same_access};
+ghost use Rattle.vacm_core.specs.Tables.{KeysDiffer};
+ghost use Rattle.vacm_core.specs.Keys.{group_key, access_key, IsIndex};
 ghost use Rattle.vacm_core.specs.Access.{is_known, is_of, fits_context, candidate, access_beats, deciding_access, has_view, view_of};
 
-use crate::contest::{Contest, deciding_row};
+use crate::contest::Contest;
+use crate::index::{Keyed, with_key};
 use crate::name::Name;
 use crate::tables::{AccessRow, FamilyRow, GroupRow};
 use crate::verdict::{Ask, ViewType};
+use crate::walk::best_among;
 
 /// Whether the bit of this number is 1 in a mask; a short mask is extended by ones.
 pub fn mask_bit(mask: &[u8], k: usize) -> bool
@@ -99,13 +104,27 @@ fn is_listed(contexts: &[Name], context: &Name) -> bool
     contexts.iter().any(|known| known.is(context))
 }
 
-/// The group row of a security name under a model.
-pub fn group_row<'a>(rows: &'a [GroupRow], ask: &Ask) -> Option<&'a GroupRow>
+impl Keyed for GroupRow {
+    ghost key = { group_key };
+
+    fn key_number(&self) -> u32 {
+        self.model
+    }
+
+    fn key_name(&self) -> &Name {
+        &self.name
+    }
+}
+
+/// The group row of a security name under a model, by the index of the rows.
+pub fn group_row<'a>(rows: &'a [GroupRow], index: &[usize], ask: &Ask) -> Option<&'a GroupRow>
+    requires index { IsIndex group_key rows.now index.now }
+    requires differ { KeysDiffer same_group rows.now }
     ensures { option_map (λ row.
         row.now) result ≡ find (is_of ask.now.model ask.now.security) rows.now }
 {
-    rows.iter()
-        .find(|row| row.model == ask.model && row.name.is(&ask.security))
+    let n = with_key(rows, index, ask.model, ask.security.as_bytes()).first()?;
+    Some(&rows[*n])
 }
 
 fn fits_context(row: &AccessRow, context: &Name) -> bool
@@ -162,12 +181,33 @@ impl<'a> Contest for AccessContest<'a> {
     }
 }
 
-/// The number of the access row that decides.
-pub fn deciding_access(rows: &[AccessRow], ask: &Ask, group: &Name) -> Option<usize>
+impl Keyed for AccessRow {
+    ghost key = { access_key };
+
+    fn key_number(&self) -> u32 {
+        0
+    }
+
+    fn key_name(&self) -> &Name {
+        &self.group
+    }
+}
+
+/// The number of the access row that decides. Only the rows of the group are looked at, by the
+/// index of the rows.
+pub fn deciding_access(
+    rows: &[AccessRow],
+    index: &[usize],
+    ask: &Ask,
+    group: &Name,
+) -> Option<usize>
+    requires index { IsIndex access_key rows.now index.now }
+    requires differ { KeysDiffer same_access rows.now }
     ensures place { result ≡ deciding_access rows.now ask.now group.now }
     ensures within { ForSome result (λ n. n < length rows.now) }
 {
-    deciding_row(&AccessContest { ask, group }, rows)
+    let numbers = with_key(rows, index, 0, group.as_bytes());
+    best_among(&AccessContest { ask, group }, rows, numbers)
 }
 
 /// The view of an access row that is asked for.

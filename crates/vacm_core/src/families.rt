@@ -8,6 +8,7 @@ ghost use Rattle.vacm_core.specs.Trees.{leads, fixed, view_way, way_of, IsPlaced
 ghost use Rattle.vacm_core.specs.declared.tree.Step.{Step};
 ghost use Rattle.vacm_core.specs.declared.tables.FamilyRow.{FamilyRow};
 
+use crate::copying::copied_rows;
 use crate::deciding::{FamilyContest, mask_bit};
 use crate::name::Name;
 use crate::rows::Rows;
@@ -58,6 +59,18 @@ impl Families {
     {
         let tree = tree_of(alloc, rows.as_slice())?;
         Ok(Families { rows, tree })
+    }
+
+    /// The same rows, with a tree of their own.
+    ///
+    /// # Errors
+    ///
+    /// Where there is no memory for them.
+    pub fn try_copy(&self, alloc: Global) -> Result<Families, AllocError>
+        ensures { IfOk result (λ copy. copy ≡ self.now) }
+    {
+        let rows = copied_rows(alloc, self.rows.as_slice())?;
+        Families::new(alloc, rows)
     }
 
     /// The rows.

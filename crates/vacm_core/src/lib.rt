@@ -5,9 +5,10 @@
 //! `Vacm::new` takes the written rows or names the first fault; `Vacm::decide` is the verdict on a
 //! request up to its names, `Vacm::in_view` the answer on a name. Each names its row.
 //! `Vacm::hides_all` tells where a view is seen to hide every name that begins with a prefix. None
-//! of these but `new` takes memory. [`checked_rows`] checks a table of any rows that are
-//! [`Written`], and [`deciding_row`] finds the row that decides a [`Contest`]; `community_core`
-//! uses both.
+//! of these but `new` takes memory. `Vacm::try_copy` is a copy, and `Vacm::rows` the rows as they
+//! are written, of which [`Same`] tells whether two are the same. [`checked_rows`] checks a table of
+//! any rows that are [`Written`], [`copied_rows`] copies any that are [`CopiedAs`] others, and
+//! [`deciding_row`] finds the row that decides a [`Contest`]; `community_core` uses all three.
 //!
 //! # Definitions
 //! `specs/Access.antt`: which access rows may decide and which beats which; `specs/Families.antt`:
@@ -17,7 +18,8 @@
 //! lengths, fields and keys of rows, the first fault, and where checking the rows takes memory.
 //! `specs/Trees.antt`, inside the crate: which family rows a tree leads to, by which numbers. A
 //! `Vacm` keeps such a tree of its family rows, and `Vacm::in_view` goes by it: the row that it
-//! finds is the one that decides among all of them.
+//! finds is the one that decides among all of them. `specs/Keys.antt`, inside the crate too: the
+//! order of rows by their keys, by which a `Vacm` finds a group row, and the access rows of a group.
 //!
 //! # Laws
 //! In [`laws`]: a row decides wherever one fits; of the names below a prefix, which a family has;
@@ -26,21 +28,25 @@
 //! `Vacm::rows_are_right`, kept rows break no rule.
 //!
 //! # Not claimed
-//! How long a decision takes: `Vacm::decide` and `Vacm::hides_all` look at each row of a table,
-//! `Vacm::in_view` at those that its tree leads to.
+//! How long a decision takes: `Vacm::decide` finds the group row by halves, and looks at the access
+//! rows of the group, at each context and at the family rows up to the first of the view;
+//! `Vacm::hides_all` looks at each family row, `Vacm::in_view` at those that its tree leads to.
 #![tactic(auto)]
 
 mod checking;
 mod contest;
+mod copying;
 mod deciding;
 mod families;
 mod fault;
 mod hiding;
+mod index;
 pub mod laws;
 mod limits;
 mod name;
 mod reading;
 mod rows;
+mod same;
 mod tables;
 mod text;
 mod tree;
@@ -51,10 +57,12 @@ mod written;
 
 pub use checking::{Written, checked_rows};
 pub use contest::{Contest, deciding_row};
+pub use copying::{CopiedAs, copied_rows};
 pub use fault::{TableFault, VacmTable, Wrong};
 pub use limits::{MAX_FAMILY, MAX_MASK, MAX_MODEL, MAX_NAME};
 pub use name::{Mask, Name};
 pub use rows::Rows;
+pub use same::Same;
 pub use tables::{AccessRow, FamilyRow, GroupRow, Level};
 pub use text::{Octets, Text};
 pub use vacm::Vacm;

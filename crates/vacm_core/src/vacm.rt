@@ -1,9 +1,12 @@
 //! The tables of access control.
-ghost use Rattle.std.specs.Prelude.{◌≡◌, ◌≢◌, ◌<◌, ◌≤◌, ◌+◌, ℕ, List, length, false, IsTrue, IfOk, IfErr, OnOk, slice_get, Some};
+ghost use Rattle.std.specs.Prelude.{◌≡◌, ◌≢◌, ◌<◌, ◌≤◌, ◌+◌, ℕ, List, length, false, IsTrue, IfOk, IfErr, OnOk, slice_get, option_map, find, Some};
+ghost use Rattle.std.specs.Option.{ForSome};
 
 use crate::checking::checked_rows;
+use crate::copying::copied_rows;
 use crate::families::Families;
 use crate::fault::{TableFault, VacmTable};
+use crate::index::index_of;
 use crate::limits::MAX_FAMILY;
 use crate::name::Name;
 use crate::rows::Rows;
@@ -12,7 +15,7 @@ use crate::verdict::{Ask, FamilyAnswer, Verdict};
 use crate::written::VacmRows;
 use crate::{deciding, hiding};
 use oid_core::Oid;
-use std::alloc::Global;
+use std::alloc::{AllocError, Global};
 use std::marker::Model;
 
 /// The tables of the View-based Access Control Model (RFC 3415), seen as four lists of rows. No two
@@ -21,12 +24,17 @@ use std::marker::Model;
 #[derive(Drop)]
 pub struct Vacm {
     groups: Rows<GroupRow>,
+    // By model and name.
+    group_index: Rows<usize>,
     access: Rows<AccessRow>,
+    // By group.
+    access_index: Rows<usize>,
     families: Families,
     contexts: Rows<Name>,
 }
 
 impl Model for Vacm {
+    ghost use Rattle.vacm_core.specs.Keys.{IsIndex, group_key, access_key};
     ghost use Rattle.vacm_core.specs.Tables.{Tables, IsSound};
 
     ghost Value = { Tables };
@@ -43,7 +51,8 @@ impl Model for Vacm {
       access = v.access;
       families = v.families;
       contexts = v.contexts;
-    }) };
+    }) × IsIndex group_key v.groups v.group_index
+        × IsIndex access_key v.access v.access_index };
 }
 
 impl Vacm {
@@ -54,7 +63,7 @@ impl Vacm {
     ghost use Rattle.vacm_core.specs.Families.{family_answer, in_view, by_type, matches, family_beats, NamesFamilyOf};
     ghost use Rattle.vacm_core.specs.Hiding.{hides_all};
     ghost use Rattle.oid_core.specs.Order.{is_prefix};
-    ghost use Rattle.vacm_core.specs.Access.{verdict_of, by_access, by_view, deciding_access, candidate, access_beats, NamesRowOf};
+    ghost use Rattle.vacm_core.specs.Access.{is_of, verdict_of, by_access, by_view, deciding_access, candidate, access_beats, NamesRowOf};
 
     /// The tables that the written rows stand for.
     ///
@@ -74,8 +83,51 @@ impl Vacm {
         let access = checked_rows(alloc, VacmTable::Access, rows.access)?;
         let families = checked_rows(alloc, VacmTable::Families, rows.families)?;
         let contexts = checked_rows(alloc, VacmTable::Contexts, rows.contexts)?;
+        let group_index = index_of(alloc, groups.as_slice())?;
+        let access_index = index_of(alloc, access.as_slice())?;
         let families = Families::new(alloc, families)?;
         Ok(Vacm {
+            groups,
+            group_index,
+            access,
+            access_index,
+            families,
+            contexts,
+        })
+    }
+
+    /// Tables that are equal to these.
+    ///
+    /// # Errors
+    ///
+    /// Where there is no memory for them.
+    pub fn try_copy(&self, alloc: Global) -> Result<Vacm, AllocError>
+        ensures { IfOk result (λ copy. copy ≡ self.now) }
+    {
+        Ok(Vacm {
+            groups: copied_rows(alloc, self.groups.as_slice())?,
+            group_index: copied_rows(alloc, self.group_index.as_slice())?,
+            access: copied_rows(alloc, self.access.as_slice())?,
+            access_index: copied_rows(alloc, self.access_index.as_slice())?,
+            families: self.families.try_copy(alloc)?,
+            contexts: copied_rows(alloc, self.contexts.as_slice())?,
+        })
+    }
+
+    /// The rows of these tables as they are written. [`Vacm::new`] takes them and gives these
+    /// tables again, as the law [`Vacm::rows_are_right`] says.
+    ///
+    /// # Errors
+    ///
+    /// Where there is no memory for them.
+    pub fn rows(&self, alloc: Global) -> Result<VacmRows, AllocError>
+        ensures { IfOk result (λ rows. rows ≡ rows_of self.now) }
+    {
+        let groups = copied_rows(alloc, self.groups.as_slice())?;
+        let access = copied_rows(alloc, self.access.as_slice())?;
+        let families = copied_rows(alloc, self.families.as_slice())?;
+        let contexts = copied_rows(alloc, self.contexts.as_slice())?;
+        Ok(VacmRows {
             groups,
             access,
             families,
@@ -91,10 +143,27 @@ impl Vacm {
         if !deciding::is_known(self.contexts.as_slice(), &ask.context) {
             return Verdict::NoSuchContext(ask.context.copy());
         }
-        match deciding::group_row(self.groups.as_slice(), ask) {
+        match self.group_row(ask) {
             Some(row) => self.decide_access(ask, &row.group),
             None => Verdict::NoGroupName(ask.model, ask.security.copy()),
         }
+    }
+
+    // The group row of who asks.
+    fn group_row(&self, ask: &Ask) -> Option<&GroupRow>
+        ensures { option_map (λ row. row.now) result
+            ≡ find (is_of ask.now.model ask.now.security) self.now.groups }
+    {
+        deciding::group_row(self.groups.as_slice(), self.group_index.as_slice(), ask)
+    }
+
+    // The number of the access row that decides for a group.
+    fn deciding_access(&self, ask: &Ask, group: &Name) -> Option<usize>
+        ensures place { result ≡ deciding_access self.now.access ask.now group.now }
+        ensures within { ForSome result (λ n. n < length self.now.access) }
+    {
+        let index = self.access_index.as_slice();
+        deciding::deciding_access(self.access.as_slice(), index, ask, group)
     }
 
     // The decision for a group.
@@ -103,7 +172,7 @@ impl Vacm {
             (deciding_access self.now.access ask.now group.now) }
         ensures row { NamesRowOf self.now.access result }
     {
-        match deciding::deciding_access(self.access.as_slice(), ask, group) {
+        match self.deciding_access(ask, group) {
             Some(n) => self.decide_view(n, deciding::view_of(self.access_row(n), ask.view)),
             None => Verdict::NoAccessEntry(group.copy(), ask.context.copy(), ask.model, ask.level),
         }

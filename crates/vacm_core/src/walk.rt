@@ -1,5 +1,5 @@
-//! The best of the rows of a tree whose way a name fits.
-ghost use Rattle.std.specs.Prelude.{◌≡◌, ◌<◌, ◌&&◌, ℕ, List, true, Some, length};
+//! The best of the rows of these numbers, and of the rows of a tree whose way a name fits.
+ghost use Rattle.std.specs.Prelude.{◌≡◌, ◌<◌, ◌&&◌, ℕ, List, Contains, true, Some, length};
 ghost use Rattle.std.specs.Option.{ForSome};
 ghost use Rattle.vacm_core.specs.Best.{takes_over};
 ghost use Rattle.vacm_core.specs.Trees.{leads, fits, IsFit, Covers, IsLater};
@@ -33,6 +33,19 @@ fn better<C: Contest>(
         Some(n) if n < rows.len() && is_better(contest, rows, best, &rows[n]) => Some(n),
         _ => best,
     }
+}
+
+/// The best of the rows of these numbers. It takes no memory.
+pub fn best_among<C: Contest>(contest: &C, rows: &[C::Row], numbers: &[usize]) -> Option<usize>
+    ensures fit { IsFit (C.passes contest.now) rows.now result }
+    ensures found { (n : ℕ) → Contains numbers.now n
+        → Covers (C.passes contest.now) (C.beats contest.now) rows.now result n }
+{
+    let mut best = None;
+    for n in numbers {
+        best = better(contest, rows, best, Some(*n));
+    }
+    best
 }
 
 /// The best of the rows so far and those of a tree whose way a name fits, in which the deepest are

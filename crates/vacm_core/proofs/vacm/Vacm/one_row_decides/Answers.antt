@@ -8,10 +8,10 @@ use Rattle.vacm_core.proofs.vacm.Vacm.one_row_decides.Goals as goal
 
 pub returns-clause-access : goal.returns-clause-access
 returns-clause-access c ask group n m x y =
-    let differ = subst (λ (t : Tables). KeysDiffer same_access t.access) c.self.view_is c.self.invariant.access in
+    let differ = subst (λ (t : Tables). KeysDiffer same_access t.access) c.self.view_is c.self.invariant.0.access in
     one_only (candidate ask group) (access_beats ask) same_access c.args.self.now.access differ (access_ties ask group) n m x y
 
 pub returns-clause-family : goal.returns-clause-family
 returns-clause-family c view name n m x y =
-    let differ = subst (λ (t : Tables). KeysDiffer same_family t.families) c.self.view_is c.self.invariant.families in
+    let differ = subst (λ (t : Tables). KeysDiffer same_family t.families) c.self.view_is c.self.invariant.0.families in
     one_only (matches view name) family_beats same_family c.args.self.now.families differ (family_ties view name) n m x y

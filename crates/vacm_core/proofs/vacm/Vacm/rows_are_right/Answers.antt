@@ -8,7 +8,7 @@ use Rattle.vacm_core.proofs.vacm.Vacm.rows_are_right.Goals as goal
 pub returns-clause-right : goal.returns-clause-right
 returns-clause-right c =
     let t = c.args.self.now in
-    let sound : IsSound t = subst IsSound c.self.view_is c.self.invariant in (
+    let sound : IsSound t = subst IsSound c.self.view_is c.self.invariant.0 in (
       right_again group_rules written_group (λ r. refl) t.groups sound.groups sound.group_rows,
       right_again access_rules written_access access_back t.access sound.access sound.access_rows,
       right_again family_rules written_family (λ r. refl) t.families sound.families sound.family_rows,

@@ -1,0 +1,9 @@
+use Rattle.std.proofs.Common.{ℕ, ◌<◌, All, Contains}
+use Rattle.vacm_core.proofs.index.numbers_below.Given as goal
+
+-- the numbers so far
+abbrev pub invariant-loop-n : goal.invariant-loop-n
+invariant-loop-n l = record {
+  below : All (λ k. k < l.n) l.numbers.items;
+  all : (k : ℕ) → k < l.n → Contains l.numbers.items k;
+}
