@@ -1,14 +1,35 @@
 //! The lines of audits with denied bindings.
 use crate::keys::{audit_of, family_of, line_of, row_of};
 use crate::names::{long_name, named};
-use audit_core::Denied;
+use audit_core::{Audit, Denied};
 use decision::Decision;
 use message_core::{ErrorStatus, Kind};
 use std::alloc::Global;
 use std::test::Fail;
 
-// The line of a request that a group's row lets in to a view, a family of which excludes the first
+// The audit of a request that a group's row lets in to a view, a family of which excludes the first
 // binding.
+fn denied_audit(
+    alloc: Global,
+    kind: Kind,
+    status: ErrorStatus,
+    index: i32,
+    group: &str,
+    view: &str,
+    subtree: &str,
+) -> Result<Audit, Fail> {
+    let family = family_of(alloc, view, subtree)?;
+    let row = row_of(group)?;
+    let view = named(view)?;
+    let mut audit = audit_of(alloc, kind, status, index, Decision::Allowed { row, view });
+    audit.denied.push(Denied {
+        index: 1,
+        family: Some(family),
+    })?;
+    Ok(audit)
+}
+
+// The line of such an audit.
 fn denied_line(
     alloc: Global,
     kind: Kind,
@@ -18,14 +39,7 @@ fn denied_line(
     view: &str,
     subtree: &str,
 ) -> Result<Vec<u8>, Fail> {
-    let family = family_of(alloc, view, subtree)?;
-    let row = row_of(group)?;
-    let view = named(view)?;
-    let mut audit = audit_of(alloc, kind, status, index, Decision::Allowed { row, view });
-    audit.denied.push(Denied {
-        index: 1,
-        family: Some(family),
-    })?;
+    let audit = denied_audit(alloc, kind, status, index, group, view, subtree)?;
     line_of(alloc, &audit)
 }
 
@@ -79,5 +93,24 @@ fn names_a_long_subtree(rt: HostRuntime) -> Result<(), Fail> {
         )?;
         assert_eq!(rt; line.as_slice(), said.as_slice());
     }
+    Ok(())
+}
+
+#[test]
+fn copies_an_audit(rt: HostRuntime) -> Result<(), Fail> {
+    let subtree = long_name(rt.alloc(), 25)?;
+    let audit = denied_audit(
+        rt.alloc(),
+        Kind::Set,
+        ErrorStatus::NoAccess,
+        1,
+        "writers",
+        "w",
+        subtree.as_str(),
+    )?;
+    let copy = audit.try_copy(rt.alloc())?;
+    let line = line_of(rt.alloc(), &audit)?;
+    let copied = line_of(rt.alloc(), &copy)?;
+    assert_eq!(rt; copied.as_slice(), line.as_slice());
     Ok(())
 }

@@ -16,6 +16,8 @@
 #[cfg(test)]
 mod access;
 #[cfg(test)]
+mod copies;
+#[cfg(test)]
 mod denied;
 #[cfg(test)]
 mod drawn;

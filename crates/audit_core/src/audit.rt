@@ -1,5 +1,5 @@
 //! The record of a request's decision.
-ghost use Rattle.std.specs.Prelude.{◌≡◌, Some};
+ghost use Rattle.std.specs.Prelude.{◌≡◌, ◌≢◌, [], Some, IfOk, OnErr};
 ghost use Rattle.audit_core.specs.Text.{audit_text, kind_text};
 
 use crate::denied::DeniedBindings;
@@ -8,6 +8,7 @@ use crate::written::{WrittenCause, WrittenLeave, WrittenRefusal};
 use decision::Decision;
 use message_core::{ErrorStatus, Kind};
 use setting_keys::SettingKeys;
+use std::alloc::{AllocError, Global};
 use std::fmt;
 
 /// What was decided on a request, by which rows, and the status of the reply as it is sent.
@@ -29,6 +30,24 @@ pub struct Audit {
     /// The settings that a Set left at their new values, since undoing failed (RFC 3416, 4.2.5), in
     /// the order of their variables; none but where the status is undoFailed.
     pub unrestored: SettingKeys,
+}
+
+impl Audit {
+    /// A copy. Takes memory only for denied variable bindings.
+    pub fn try_copy(&self, alloc: Global) -> Result<Audit, AllocError>
+        ensures value { IfOk result (λ copy. copy ≡ self.now) }
+        ensures denied { OnErr result (self.now.denied ≢ []) }
+    {
+        let denied = self.denied.try_copy(alloc)?;
+        Ok(Audit {
+            kind: self.kind,
+            status: self.status,
+            index: self.index,
+            decision: self.decision.copy(),
+            denied,
+            unrestored: self.unrestored.copy(),
+        })
+    }
 }
 
 // The word for a PDU type.

@@ -1,9 +1,10 @@
 //! The variable bindings of a request that are not in the view.
-ghost use Rattle.std.specs.Prelude.{◌≡◌, [], ◌∷◌, ◌++◌, Some, OnOk, OnErr};
+ghost use Rattle.std.specs.Prelude.{◌≡◌, ◌≢◌, [], ◌∷◌, ◌++◌, ◌<◌, length, Some, None, IfSome, IsOk, IfOk, OnOk, OnErr};
 ghost use Rattle.std.specs.List.{flat_map};
 ghost use Rattle.audit_core.specs.Text.{denied_text};
 
 use crate::keys::FamilyKey;
+use oid_core::INLINE_NUMBERS;
 use std::alloc::{AllocError, Global};
 use std::fmt;
 use std::marker::Model;
@@ -15,6 +16,26 @@ pub struct Denied {
     pub index: usize,
     /// The family that excludes the name, or none where no family of the view has it.
     pub family: Option<FamilyKey>,
+}
+
+impl Denied {
+    /// A copy. There can be no memory for it only where the subtree of its family has more than
+    /// `INLINE_NUMBERS` sub-identifiers.
+    pub fn try_copy(&self, alloc: Global) -> Result<Denied, AllocError>
+        ensures value { IfOk result (λ copy. copy ≡ self.now) }
+        ensures inline { OnErr result (IfSome self.now.family (λ family.
+            INLINE_NUMBERS < length family.subtree)) }
+        ensures none { self.now.family ≡ None → IsOk result }
+    {
+        let family = match &self.family {
+            Some(family) => Some(family.try_copy(alloc)?),
+            None => None,
+        };
+        Ok(Denied {
+            index: self.index,
+            family,
+        })
+    }
 }
 
 /// As ` denied 1 family(bridge,1.3.6.1.2.1.17)` or ` denied 1 none`.
@@ -68,6 +89,18 @@ impl DeniedBindings {
     {
         let DeniedBindings { items } = self;
         items
+    }
+
+    /// A copy. Takes memory, but for no denied bindings.
+    pub fn try_copy(&self, alloc: Global) -> Result<DeniedBindings, AllocError>
+        ensures value { IfOk result (λ copy. copy ≡ self.now) }
+        ensures some { OnErr result (self.now ≢ []) }
+    {
+        let mut items = Vec::with_capacity(alloc, self.items.len())?;
+        for denied in self.as_slice() {
+            items.push(denied.try_copy(alloc)?)?;
+        }
+        Ok(DeniedBindings { items })
     }
 
     /// Adds a denied binding at the end. Takes memory; without it, nothing changes and the denied

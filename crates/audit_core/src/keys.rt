@@ -28,6 +28,17 @@ impl FamilyKey {
         let view = row.view.copy();
         Ok(FamilyKey { view, subtree })
     }
+
+    /// A copy. There can be no memory for it only where the subtree has more than
+    /// [`INLINE_NUMBERS`] sub-identifiers.
+    pub fn try_copy(&self, alloc: Global) -> Result<FamilyKey, AllocError>
+        ensures value { IfOk result (λ copy. copy ≡ self.now) }
+        ensures inline { OnErr result (INLINE_NUMBERS < length self.now.subtree) }
+    {
+        let subtree = self.subtree.try_copy(alloc)?;
+        let view = self.view.copy();
+        Ok(FamilyKey { view, subtree })
+    }
 }
 
 /// As `family(bridge,1.3.6.1.2.1.17)`: the view and the subtree.

@@ -1,4 +1,6 @@
 //! What is decided on a request.
+ghost use Rattle.std.specs.Prelude.{◌≡◌};
+
 use crate::keys::AccessKey;
 use vacm_core::Name;
 
@@ -10,6 +12,18 @@ pub enum Cause {
     UnknownCommunity,
     /// This context is not known (RFC 3415, section 3.2, step 1; snmpUnknownContexts of RFC 3413).
     NoSuchContext(Name),
+}
+
+impl Cause {
+    /// The cause again. Takes no memory.
+    pub fn copy(&self) -> Cause
+        ensures { result ≡ self.now }
+    {
+        match self {
+            Cause::UnknownCommunity => Cause::UnknownCommunity,
+            Cause::NoSuchContext(name) => Cause::NoSuchContext(name.copy()),
+        }
+    }
 }
 
 /// Why a request is answered that it may not (RFC 3415, section 3.2, steps 2 to 5).
@@ -33,6 +47,25 @@ pub enum Refusal {
     },
 }
 
+impl Refusal {
+    /// The refusal again. Takes no memory.
+    pub fn copy(&self) -> Refusal
+        ensures { result ≡ self.now }
+    {
+        match self {
+            Refusal::NoGroupName { model, name } => Refusal::NoGroupName {
+                model: *model,
+                name: name.copy(),
+            },
+            Refusal::NoAccessEntry(asked) => Refusal::NoAccessEntry(asked.copy()),
+            Refusal::NoSuchView { row, view } => Refusal::NoSuchView {
+                row: row.copy(),
+                view: view.copy(),
+            },
+        }
+    }
+}
+
 /// The decision on a request, up to its names, with the keys of its rows.
 #[derive(Drop)]
 pub enum Decision {
@@ -49,4 +82,21 @@ pub enum Decision {
         /// The view that it names.
         view: Name,
     },
+}
+
+impl Decision {
+    /// The decision again. Takes no memory.
+    pub fn copy(&self) -> Decision
+        ensures { result ≡ self.now }
+    {
+        match self {
+            Decision::Drop(cause) => Decision::Drop(cause.copy()),
+            Decision::Empty => Decision::Empty,
+            Decision::Refused(why) => Decision::Refused(why.copy()),
+            Decision::Allowed { row, view } => Decision::Allowed {
+                row: row.copy(),
+                view: view.copy(),
+            },
+        }
+    }
 }

@@ -29,4 +29,16 @@ impl AccessKey {
             level: row.level,
         }
     }
+
+    /// The key again. Takes no memory.
+    pub fn copy(&self) -> AccessKey
+        ensures { result ≡ self.now }
+    {
+        AccessKey {
+            group: self.group.copy(),
+            prefix: self.prefix.copy(),
+            model: self.model,
+            level: self.level,
+        }
+    }
 }

@@ -3,3 +3,4 @@ pub mod Same
 pub mod Sent
 pub mod Bits
 pub mod Readings
+pub mod Equal

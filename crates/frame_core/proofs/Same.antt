@@ -31,7 +31,7 @@ same_bridge_id octets x y h k =
     ap₂ of (h.priority ∙ sym k.priority) (same_mac _ _ (h.address ∙ sym k.address))
 
 -- functions that are the same give the same of the same
-also : {A B : Type 0} {f g : A → B} {a b : A} → f ≡ g → a ≡ b → f a ≡ g b
+pub also : {A B : Type 0} {f g : A → B} {a b : A} → f ≡ g → a ≡ b → f a ≡ g b
 also e h = ap₂ (λ f a. f a) e h
 
 same_vector : (octets : List ℕ) (x y : PriorityVector) → IsVector octets x → IsVector octets y → x ≡ y

@@ -1,4 +1,5 @@
 //! Frames.
+ghost use Rattle.std.specs.Prelude.{◌≡◌, ◌↔◌, IsTrue};
 
 use crate::bpdu::Bpdu;
 use crate::mac::Mac;
@@ -23,4 +24,13 @@ pub struct FrameIn {
     pub source: Mac,
     /// The BPDU, where the destination is the bridges' group address, and none elsewhere.
     pub bpdu: Option<Bpdu>,
+}
+
+impl FrameIn {
+    /// Whether two are one. Takes no memory.
+    pub fn same(&self, other: &FrameIn) -> bool
+        ensures { IsTrue result ↔ (self.now ≡ other.now) }
+    {
+        *self == *other
+    }
 }

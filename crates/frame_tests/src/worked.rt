@@ -69,6 +69,15 @@ fn reads_the_worked_frame_with_and_without_padding(rt: HostRuntime) {
 }
 
 #[test]
+fn tells_frames_by_their_bpdus(rt: HostRuntime) {
+    let frame = worked_frame();
+    let mut other = frame;
+    assert!(rt; frame.same(&other));
+    other.bpdu = None;
+    assert!(rt; !frame.same(&other));
+}
+
+#[test]
 fn refuses_a_frame_without_its_last_octet(rt: HostRuntime) {
     assert_eq!(rt; read_frame(&PROPOSES[..52]), Err(FrameFault::BadBpdu));
 }

@@ -1,5 +1,5 @@
 //! A variable binding, and a list of them (RFC 3416, section 3).
-ghost use Rattle.std.specs.Prelude.{◌≡◌, ◌↔◌, [], ◌∷◌, ◌++◌, IsTrue, IsOk, IfOk, OnOk, OnErr};
+ghost use Rattle.std.specs.Prelude.{◌≡◌, ◌≢◌, ◌↔◌, [], ◌∷◌, ◌++◌, IsTrue, IsOk, IfOk, OnOk, OnErr};
 ghost use Rattle.message_core.specs.Inline.{IsInlineBinding};
 ghost use Rattle.message_core.specs.Encodable.{IsEncodableBinding};
 
@@ -35,6 +35,13 @@ impl Binding {
         ensures { IsTrue result ↔ IsEncodableBinding self.now }
     {
         self.name.is_encodable() && self.value.is_encodable()
+    }
+
+    /// Whether two bindings are one. Takes no memory.
+    pub fn same(&self, other: &Binding) -> bool
+        ensures { IsTrue result ↔ (self.now ≡ other.now) }
+    {
+        self.name == other.name && self.value.same(&other.value)
     }
 }
 
@@ -93,5 +100,25 @@ impl Bindings {
         ensures { result.now ≡ self.now }
     {
         self.items.as_slice()
+    }
+
+    /// A copy. Takes memory, but for no bindings.
+    pub fn try_copy(&self, alloc: Global) -> Result<Bindings, AllocError>
+        ensures value { IfOk result (λ copy. copy ≡ self.now) }
+        ensures some { OnErr result (self.now ≢ []) }
+    {
+        let mut items = Vec::with_capacity(alloc, self.items.len())?;
+        for binding in self.as_slice() {
+            items.push(binding.try_copy(alloc)?)?;
+        }
+        Ok(Bindings { items })
+    }
+
+    /// Whether two lists are one, in their order too. Takes no memory.
+    pub fn same(&self, other: &Bindings) -> bool
+        ensures { IsTrue result ↔ (self.now ≡ other.now) }
+    {
+        let (items, others) = (self.as_slice(), other.as_slice());
+        items.len() == others.len() && items.iter().zip(others).all(|(one, two)| one.same(two))
     }
 }

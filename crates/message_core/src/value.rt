@@ -72,4 +72,26 @@ impl Value {
             _ => true,
         }
     }
+
+    /// Whether two values are one, their types too. Takes no memory.
+    pub fn same(&self, other: &Value) -> bool
+        ensures { IsTrue result ↔ (self.now ≡ other.now) }
+    {
+        match (self, other) {
+            (Value::Integer(a), Value::Integer(b)) => *a == *b,
+            (Value::OctetString(a), Value::OctetString(b)) => a.same(b),
+            (Value::Null, Value::Null) => true,
+            (Value::ObjectIdentifier(a), Value::ObjectIdentifier(b)) => a == b,
+            (Value::IpAddress(a), Value::IpAddress(b)) => *a == *b,
+            (Value::Counter32(a), Value::Counter32(b)) => *a == *b,
+            (Value::Gauge32(a), Value::Gauge32(b)) => *a == *b,
+            (Value::TimeTicks(a), Value::TimeTicks(b)) => *a == *b,
+            (Value::Opaque(a), Value::Opaque(b)) => a.same(b),
+            (Value::Counter64(a), Value::Counter64(b)) => *a == *b,
+            (Value::NoSuchObject, Value::NoSuchObject) => true,
+            (Value::NoSuchInstance, Value::NoSuchInstance) => true,
+            (Value::EndOfMibView, Value::EndOfMibView) => true,
+            _ => false,
+        }
+    }
 }

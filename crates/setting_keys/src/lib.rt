@@ -95,6 +95,17 @@ impl SettingKeys {
         self.keys.as_slice()
     }
 
+    /// The keys again. Takes no memory.
+    pub fn copy(&self) -> SettingKeys
+        ensures { result ≡ self.now }
+    {
+        let mut keys = ArrayVec::new();
+        match keys.try_extend_from_slice(self.keys.as_slice()) {
+            Ok(()) => SettingKeys { keys },
+            Err(_) => unreachable!(),
+        }
+    }
+
     /// Puts a key in front, where there is room for it.
     pub fn put_first(&mut self, key: SettingKey)
         requires { length self.old < MAX_KEYS }
