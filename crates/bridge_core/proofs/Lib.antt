@@ -6,3 +6,4 @@ pub mod Relayed
 pub mod Tallied
 pub mod Reserved
 pub mod RunLaws
+pub mod Same

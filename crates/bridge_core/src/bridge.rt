@@ -12,6 +12,7 @@ ghost use Rattle.bridge_core.specs.Facts.{facts_of, port_facts_of};
 use crate::counters::{PortCounters, count_bpdus, count_discards};
 use crate::facts::{Facts, PortFacts};
 use crate::fault::{BridgeFault, find_fault};
+use crate::flat::FlatBridge;
 use crate::forwarding::{find_way, send_out};
 use crate::learning::{lacks_memory, learn_from};
 use crate::opening;
@@ -24,7 +25,7 @@ use rstp_core::{
 };
 use rstp_rules::lines::is_enabled;
 use rstp_settings::copies::copied;
-use std::alloc::Global;
+use std::alloc::{AllocError, Global};
 use std::marker::Model;
 
 /// The most addresses that a bridge learns.
@@ -92,6 +93,43 @@ impl Bridge {
             Some(fault) => Err(fault),
             None => Ok(open(alloc, address, ports)),
         }
+    }
+
+    /// A copy: the same settings, spanning tree, learned rows with their ages, and counters. Only
+    /// the copied rows take memory.
+    ///
+    /// # Errors
+    ///
+    /// `AllocError` where there is no memory for the copied rows.
+    pub fn try_copy(&self) -> Result<Bridge, AllocError>
+        ensures { IfOk result (λ copy. copy ≡ self.now) }
+    {
+        let fdb = self.fdb.try_copy()?;
+        Ok(Bridge {
+            settings: self.copied_settings(),
+            tree: self.tree.copy(),
+            fdb,
+            entry_discards: self.entry_discards,
+            counters: copied(self.counters.as_slice()),
+        })
+    }
+
+    /// A flat copy, to be kept and compared. Only its learned rows take memory.
+    ///
+    /// # Errors
+    ///
+    /// `AllocError` where there is no memory for the learned rows.
+    pub fn flat(&self, alloc: Global) -> Result<FlatBridge, AllocError>
+        ensures { IfOk result (λ flat. flat ≡ self.now) }
+    {
+        let learned = self.fdb.try_rows(alloc)?;
+        Ok(FlatBridge::of(
+            self.copied_settings(),
+            self.tree.copy(),
+            learned,
+            self.entry_discards,
+            copied(self.counters.as_slice()),
+        ))
     }
 
     /// The number of ports, 1 to 32. Each has settings, a configuration and counters.

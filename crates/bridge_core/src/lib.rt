@@ -4,8 +4,9 @@
 //!
 //! # Entry points
 //! [`Bridge`]: `new`, `frame`, `tick`, `link`, `settle`; `ports`, `facts`, `port_facts`, `fdb`,
-//! `get_setting`, `put_setting`, `copied_settings`, `has_settings`. Only `frame` may take memory, for
-//! a learned address.
+//! `get_setting`, `put_setting`, `copied_settings`, `has_settings`; `try_copy` and `flat`, which
+//! gives a [`FlatBridge`] with `same`. Only `frame` may take memory, for a learned address, and the
+//! two copies, for their learned rows.
 //!
 //! # Definitions
 //! `specs/Bridge.antt`, `specs/Opening.antt`: what a bridge is, and is at first;
@@ -26,6 +27,7 @@ mod bridge;
 mod counters;
 mod facts;
 mod fault;
+mod flat;
 mod forwarding;
 pub mod laws;
 mod learning;
@@ -34,3 +36,4 @@ mod opening;
 pub use bridge::{Bpdus, Bridge, Forwarding, MAX_LEARNED_ROWS};
 pub use facts::{Facts, PortFacts};
 pub use fault::BridgeFault;
+pub use flat::FlatBridge;

@@ -107,6 +107,18 @@ fn frames_go_where_their_destination_is(rt: HostRuntime) -> Result<(), Fail> {
 }
 
 #[test]
+fn a_flat_copy_is_the_bridge_until_it_changes(rt: HostRuntime) -> Result<(), Fail> {
+    let mut bridge = running(rt.alloc())?;
+    assert_goes(&rt, &come(&mut bridge, 1, &TO_ALL)?, &[2]);
+    let before = bridge.flat(rt.alloc())?;
+    let copy = bridge.try_copy()?;
+    pass(&mut bridge, 1);
+    assert!(rt; !before.same(&bridge.flat(rt.alloc())?));
+    assert!(rt; before.same(&copy.flat(rt.alloc())?));
+    Ok(())
+}
+
+#[test]
 fn frames_are_counted(rt: HostRuntime) -> Result<(), Fail> {
     let mut bridge = running(rt.alloc())?;
     let _ = come(&mut bridge, 1, &TO_ALL)?;

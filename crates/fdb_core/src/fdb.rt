@@ -1,5 +1,5 @@
 //! The table of learned addresses.
-ghost use Rattle.std.specs.Prelude.{◌≡◌, ◌≢◌, ◌≤◌, ◌<◌, [], length, map, Some};
+ghost use Rattle.std.specs.Prelude.{◌≡◌, ◌≢◌, ◌≤◌, ◌<◌, [], length, map, Some, IfOk};
 ghost use Rattle.std.specs.List.{AllByRecursion};
 ghost use Rattle.fdb_core.specs.Rows.{IsAddress};
 
@@ -8,7 +8,7 @@ use crate::row::{MAX_AGING_TIME, MIN_AGING_TIME, Row};
 use crate::seen::LAST_TICK;
 use crate::sightings::Sightings;
 use frame_core::Mac;
-use std::alloc::Global;
+use std::alloc::{AllocError, Global};
 use std::marker::Model;
 
 /// The table of learned addresses, seen as the list of its rows by rising address and the most rows
@@ -54,6 +54,32 @@ impl Fdb {
             sightings: Sightings::new(alloc, tick),
             limit,
         }
+    }
+
+    /// A copy: the same rows with their ages, and the same limit. Only the copy takes memory.
+    ///
+    /// # Errors
+    ///
+    /// `AllocError` where there is no memory for the copied rows.
+    pub fn try_copy(&self) -> Result<Fdb, AllocError>
+        ensures { IfOk result (λ copy. copy ≡ self.now) }
+    {
+        let sightings = self.sightings.try_copy()?;
+        Ok(Fdb {
+            sightings,
+            limit: self.limit,
+        })
+    }
+
+    /// The rows by rising address, for a flat copy of the bridge. Only the vector takes memory.
+    ///
+    /// # Errors
+    ///
+    /// `AllocError` where there is no memory for the vector.
+    pub fn try_rows(&self, alloc: Global) -> Result<Vec<Row>, AllocError>
+        ensures { IfOk result (λ rows. rows.items ≡ self.now.rows) }
+    {
+        self.sightings.try_rows(alloc)
     }
 
     /// How many rows there are.

@@ -3,8 +3,8 @@
 //!
 //! # Entry points
 //! [`Fdb`] is seen as its rows by rising address and the most it may have: `learn`, `age`,
-//! `flush_ports`, and without change `find`, `next_after` and `known`. Only `learn` takes memory,
-//! and only for a new address that has a place.
+//! `flush_ports`, and without change `find`, `next_after`, `known`, `try_copy` and `try_rows`. Only
+//! `learn` takes memory, for a new address that has a place, and the two copies, for their rows.
 //!
 //! # Definitions
 //! `specs/Rows.antt`: filters of the whole list; `specs/Learning.antt`: what learning answers and

@@ -1,6 +1,6 @@
 //! The addresses by the moment at which each was learned (IEEE 802.1D-2004, 7.8 and 7.9): a second
 //! in which none is old enough to go touches none of them.
-ghost use Rattle.std.specs.Prelude.{◌≡◌, ◌≢◌, ◌≤◌, ◌<◌, ◌+◌, ◌-◌, [], length, map};
+ghost use Rattle.std.specs.Prelude.{◌≡◌, ◌≢◌, ◌≤◌, ◌<◌, ◌+◌, ◌-◌, [], length, map, IfOk};
 ghost use Rattle.std.specs.BTreeMap.{values};
 ghost use Rattle.std.specs.BTreeMap.Range.{entries_between};
 ghost use Rattle.std.specs.declared.ops.Bound.TheVariants.{Unbounded};
@@ -14,7 +14,7 @@ use crate::learnt::Learnt;
 use crate::row::{MAX_AGING_TIME, Row};
 use crate::seen::{LAST_TICK, Seen};
 use frame_core::Mac;
-use std::alloc::Global;
+use std::alloc::{AllocError, Global};
 use std::collections::BTreeMap;
 use std::ops::Bound;
 
@@ -77,6 +77,35 @@ impl Sightings {
             tick,
             oldest: tick,
         }
+    }
+
+    /// The same addresses, learned at the same moments. Only the copy takes memory.
+    pub fn try_copy(&self) -> Result<Sightings, AllocError>
+        ensures seen { IfOk result (λ copy. copy.seen.entries ≡ self.now.seen.entries) }
+        ensures tick { IfOk result (λ copy. copy.tick ≡ self.now.tick) }
+        ensures oldest { IfOk result (λ copy. copy.oldest ≡ self.now.oldest) }
+    {
+        let Sightings { seen, tick, oldest } = self;
+        Ok(Sightings {
+            seen: seen.clone()?,
+            tick: *tick,
+            oldest: *oldest,
+        })
+    }
+
+    /// The rows by rising address. Only the vector takes memory.
+    pub fn try_rows(&self, alloc: Global) -> Result<Vec<Row>, AllocError>
+        ensures { IfOk result (λ rows.
+            rows.items ≡ rows_at self.now.tick self.now.seen.entries) }
+    {
+        self.seen
+            .iter()
+            .map(|(address, seen)| Row {
+                address: *address,
+                port: seen.port,
+                age: seen.age(self.tick),
+            })
+            .collect(alloc)
     }
 
     /// The port of the address, if it is known (7.9).

@@ -12,3 +12,4 @@ pub mod Functions
 pub mod TurnsClosed
 pub mod Numbered
 pub mod Restarted
+pub mod Same

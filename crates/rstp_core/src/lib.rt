@@ -4,7 +4,7 @@
 //!
 //! # Entry points
 //! [`Rstp`] with `on_bpdu`, `tick`, `link` and `settle`, each with its [`Outcome`]; `role`,
-//! `state`, `facts`, `bridge_facts`, `copy`.
+//! `state`, `facts`, `bridge_facts`, `copy`, `is_same`.
 //!
 //! # Definitions
 //! `specs/Tree.antt`: the tree and the four events as relations; `specs/Steps.antt`: the same as

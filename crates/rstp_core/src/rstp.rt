@@ -1,5 +1,5 @@
 //! The spanning tree of a bridge, one event at a time (IEEE 802.1D-2004 clause 17).
-ghost use Rattle.std.specs.Prelude.{◌≡◌, ◌≤◌, length};
+ghost use Rattle.std.specs.Prelude.{◌≡◌, ◌↔◌, ◌≤◌, length, IsTrue};
 ghost use Rattle.rstp_core.specs.Tree.{HasPort, port_at, config_at, rows_of, opening_port_of, opening_ports, opening_tree, Ends, Ticks, Arrives, Links, Settles};
 ghost use Rattle.rstp_settings.specs.Table.{without_migration_checks};
 ghost use Rattle.rstp_rules.specs.Lines.{AreTimers, times_in_force};
@@ -127,6 +127,18 @@ impl Rstp {
             facts: self.facts,
             settled: self.settled.copy(),
         }
+    }
+
+    /// Whether the spanning trees are equal in all that they keep, for whether two copies of a
+    /// bridge are. It takes no memory.
+    pub fn is_same(&self, other: &Rstp) -> bool
+        ensures { IsTrue result ↔ (self.now ≡ other.now) }
+    {
+        self.facts == other.facts
+            && self.address == other.address
+            && self.config.as_slice() == other.config.as_slice()
+            && self.ports.as_slice() == other.ports.as_slice()
+            && self.settled.is_same(&other.settled)
     }
 
     /// The number of ports.

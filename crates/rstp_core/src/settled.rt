@@ -1,5 +1,5 @@
 //! What is kept of the settings when they are settled.
-ghost use Rattle.std.specs.Prelude.{◌≡◌, length, map};
+ghost use Rattle.std.specs.Prelude.{◌≡◌, ◌↔◌, length, map, IsTrue};
 ghost use Rattle.rstp_settings.specs.Table.{IsPortOf};
 ghost use Rattle.rstp_rules.specs.Lines.{AreTimers, settled_port_of};
 ghost use Rattle.rstp_core.specs.Settled.{settled_of, settled_port};
@@ -70,6 +70,15 @@ impl Settled {
             timers: self.timers,
             ports: copied(self.ports.as_slice()),
         }
+    }
+
+    /// Whether the values are equal. It takes no memory.
+    pub fn is_same(&self, other: &Settled) -> bool
+        ensures { IsTrue result ↔ (self.now ≡ other.now) }
+    {
+        self.version == other.version
+            && self.timers == other.timers
+            && self.ports.as_slice() == other.ports.as_slice()
     }
 
     /// The version setting as it was settled.

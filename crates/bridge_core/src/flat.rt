@@ -1,0 +1,72 @@
+//! A flat copy of a bridge, to be kept and compared.
+ghost use Rattle.std.specs.Prelude.{◌≡◌, ◌↔◌, IsTrue};
+
+use crate::counters::PortCounters;
+use arrayvec::ArrayVec;
+use fdb_core::Row;
+use rstp_core::{MAX_PORTS, Rstp, Settings};
+use std::marker::Model;
+
+/// A flat copy of a bridge, seen as the bridge is. The settings, the spanning tree (the address,
+/// the ports' configurations, what was settled, what each port holds, the times in force) and the
+/// counters stand in fixed arrays for [`MAX_PORTS`] ports; only the learned rows are in a vector,
+/// by rising address. No event changes it.
+#[derive(Drop)]
+pub struct FlatBridge {
+    settings: Settings,
+    tree: Rstp,
+    learned: Vec<Row>,
+    entry_discards: u32,
+    counters: ArrayVec<PortCounters, MAX_PORTS>,
+}
+
+impl Model for FlatBridge {
+    ghost use Rattle.bridge_core.specs.Bridge.{BridgeState};
+
+    ghost Value = { BridgeState };
+
+    ghost view = { λ b. record {
+      settings = b.settings;
+      tree = b.tree;
+      learned = b.learned.items;
+      counters = record { entry_discards = b.entry_discards; ports = b.counters.items };
+    } };
+}
+
+impl FlatBridge {
+    // The flat copy that has these parts.
+    pub(crate) fn of(
+        settings: Settings,
+        tree: Rstp,
+        learned: Vec<Row>,
+        entry_discards: u32,
+        counters: ArrayVec<PortCounters, MAX_PORTS>,
+    ) -> FlatBridge
+        ensures { result ≡ record {
+          settings = settings;
+          tree = tree;
+          learned = learned.items;
+          counters = record { entry_discards = entry_discards; ports = counters.items };
+        } }
+    {
+        FlatBridge {
+            settings,
+            tree,
+            learned,
+            entry_discards,
+            counters,
+        }
+    }
+
+    /// Whether the two bridges are equal in all that they keep: settings, spanning tree, learned
+    /// rows with their ages, and counters. It takes no memory.
+    pub fn same(&self, other: &FlatBridge) -> bool
+        ensures { IsTrue result ↔ (self.now ≡ other.now) }
+    {
+        self.settings.is_same(&other.settings)
+            && self.tree.is_same(&other.tree)
+            && self.entry_discards == other.entry_discards
+            && self.counters.as_slice() == other.counters.as_slice()
+            && self.learned.as_slice() == other.learned.as_slice()
+    }
+}
