@@ -111,8 +111,8 @@ impl<'a, O: MibObject> Staging<'a, O> {
     /// Tests a variable in a view, behind those that passed before. It takes no memory.
     ///
     /// # Errors
-    /// The first fault of the variable. Nothing is staged then; where it is the want of room in the
-    /// Set, the slot that the object reserved stays until this is dropped.
+    /// The first fault of the variable. Nothing is staged then, and nothing reserved; but where it is
+    /// the want of room in the Set, the slot that the object reserved stays until this is dropped.
     pub fn stage(
         &mut self,
         world: &World,
@@ -129,6 +129,9 @@ impl<'a, O: MibObject> Staging<'a, O> {
             self.old.staged.items self.new.staged.items passed) }
         ensures fault { IfErr result (λ fault. IsFaulty self.old.registry.now world.now view.now
             self.old.tested binding.now fault) }
+        ensures unchanged { IfErr result (λ fault.
+            ¬ (fault ≡ VariableFault.Refused ResourceUnavailable)
+            → self.new.registry.now ≡ self.old.registry.now) }
         ensures released { OnErr result
             (map released self.new.registry.now ≡ map released self.old.registry.now) }
         ensures same_staged { OnErr result (self.new.staged.items ≡ self.old.staged.items) }
