@@ -1,10 +1,10 @@
 //! Learned addresses under a view that hides each object of their table whole (RFC 4188,
 //! dot1dTpFdbTable; RFC 3415, vacmViewTreeFamilyTable).
 use crate::messages::{ALL, ALL_BUT_LEARNED, GET, GET_NEXT, NULL, opening_world};
-use crate::objects::{learned, passed_on};
+use crate::requests::plain;
 use crate::rows::{Row, assert_answers};
 use frame_core::{FrameIn, Mac};
-use setphase_core::{TpFdb, TpPort, World};
+use setphase_core::{Column, TpFdb, TpPort, World};
 use std::alloc::Global;
 use std::process::Abort;
 use std::test::Fail;
@@ -50,10 +50,10 @@ fn assert_tp_rows(
     rows: &[Row<'_>],
 ) -> Result<(), Fail> {
     let mut objects = Vec::new(alloc);
-    objects.push(learned(TpFdb::Address))?;
-    objects.push(learned(TpFdb::Port))?;
-    objects.push(learned(TpFdb::Status))?;
-    objects.push(passed_on(TpPort::Port))?;
+    objects.push(plain(Column::TpFdb(TpFdb::Address)))?;
+    objects.push(plain(Column::TpFdb(TpFdb::Port)))?;
+    objects.push(plain(Column::TpFdb(TpFdb::Status)))?;
+    objects.push(plain(Column::TpPort(TpPort::Port)))?;
     let mut world = opening_world(alloc, families)?;
     hear_stations(&mut world)?;
     assert_answers(rt, alloc, objects, &mut world, rows)

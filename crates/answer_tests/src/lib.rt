@@ -20,8 +20,6 @@ mod hiding;
 #[cfg(test)]
 mod messages;
 #[cfg(test)]
-mod objects;
-#[cfg(test)]
 mod reading;
 #[cfg(test)]
 mod requests;

@@ -1,22 +1,24 @@
 //! Whole requests over managed objects and the world that they show (RFC 3416, 4.2).
-ghost use Rattle.std.specs.Prelude.{map};
-ghost use Rattle.setphase_core.specs.Registry.{rows_of, AreNamed};
-
 use crate::messages::{ALL, GET, GET_BULK, GET_NEXT, NULL, PORT_2, message, opening_world};
-use crate::objects::{column, scalar};
-use crate::rows::{assert_rows, reply_to};
-use bridge_mib::StpPortColumn;
-use setphase_core::{Base, BasePort, MibObject, Registry, StpPort};
+use crate::rows::{assert_rows, registry_of, reply_to};
+use bridge_mib::{Steady, StpPortColumn};
+use object_list::Object;
+use setphase_core::{Base, BasePort, Column, MibObject, StpPort};
 use std::alloc::Global;
 use std::test::Fail;
+
+/// The object of a column, without a device.
+pub fn plain(column: Column) -> Object<Steady> {
+    Object::of(column)
+}
 
 // How many ports there are, and of each port its ifIndex and its circuit.
 #[test]
 fn answers_from_the_base_group(rt: HostRuntime) -> Result<(), Fail> {
     let mut objects = Vec::new(rt.alloc());
-    objects.push(scalar(Base::NumPorts))?;
-    objects.push(column(BasePort::IfIndex))?;
-    objects.push(column(BasePort::Circuit))?;
+    objects.push(plain(Column::Base(Base::NumPorts)))?;
+    objects.push(plain(Column::BasePort(BasePort::IfIndex)))?;
+    objects.push(plain(Column::BasePort(BasePort::Circuit)))?;
     assert_rows(
         &rt,
         rt.alloc(),
@@ -115,10 +117,8 @@ fn counts_after<O: MibObject>(
     alloc: Global,
     objects: Vec<O>,
     communities: &[&str],
-) -> Result<(u32, u32), Fail>
-    requires { AreNamed (rows_of (map O.state objects.items)) }
-{
-    let mut registry = Registry::new(objects).ok().ok_or("a registry")?;
+) -> Result<(u32, u32), Fail> {
+    let mut registry = registry_of(objects)?;
     let mut world = opening_world(alloc, ALL)?;
     for community in communities {
         let asked = message(alloc, community, GET, (0, 0), &[(&[1, 2, 0], NULL)])?;
@@ -132,7 +132,7 @@ fn counts_after<O: MibObject>(
 #[test]
 fn counts_drops_in_the_world(rt: HostRuntime) -> Result<(), Fail> {
     let mut objects = Vec::new(rt.alloc());
-    objects.push(scalar(Base::NumPorts))?;
+    objects.push(plain(Column::Base(Base::NumPorts)))?;
     let counts = counts_after(rt.alloc(), objects, &["publik", "far", "Public"])?;
     assert_eq!(rt; counts, (2, 1));
     Ok(())

@@ -1,11 +1,8 @@
 //! What is asked over managed objects, and what is answered.
-ghost use Rattle.std.specs.Prelude.{map};
-ghost use Rattle.setphase_core.specs.Registry.{rows_of, AreNamed};
-
 use crate::messages::{Bound, RESPONSE, message, opening_world};
 use agent_core::{Answered, Buffer, answer};
 use message_core::decode;
-use setphase_core::{MibObject, Registry, World};
+use setphase_core::{MibObject, Registry, World, are_named};
 use std::alloc::Global;
 use std::process::Abort;
 use std::test::Fail;
@@ -25,6 +22,15 @@ pub fn reply_to<O: MibObject>(
     }
 }
 
+/// The registry of these objects.
+pub fn registry_of<O: MibObject>(objects: Vec<O>) -> Result<Registry<O>, Fail> {
+    if are_named(objects.as_slice()) {
+        Ok(Registry::new(objects).ok().ok_or("a registry")?)
+    } else {
+        Err(Fail::from("names of objects"))
+    }
+}
+
 /// What is asked of `public`, by a PDU and two numbers, and the bindings that are answered.
 pub type Row<'a> = (&'a str, u8, (u8, u8), &'a [Bound<'a>], &'a [Bound<'a>]);
 
@@ -36,9 +42,7 @@ pub fn assert_rows<O: MibObject>(
     objects: Vec<O>,
     families: &str,
     rows: &[Row<'_>],
-) -> Result<(), Fail>
-    requires { AreNamed (rows_of (map O.state objects.items)) }
-{
+) -> Result<(), Fail> {
     let mut world = opening_world(alloc, families)?;
     assert_answers(rt, alloc, objects, &mut world, rows)
 }
@@ -50,10 +54,8 @@ pub fn assert_answers<O: MibObject>(
     objects: Vec<O>,
     world: &mut World,
     rows: &[Row<'_>],
-) -> Result<(), Fail>
-    requires { AreNamed (rows_of (map O.state objects.items)) }
-{
-    let mut registry = Registry::new(objects).ok().ok_or("a registry")?;
+) -> Result<(), Fail> {
+    let mut registry = registry_of(objects)?;
     for (what, pdu, numbers, asked, answered) in rows {
         let asked = message(alloc, "public", *pdu, *numbers, asked)?;
         let want = message(alloc, "public", RESPONSE, (0, 0), answered)?;

@@ -10,58 +10,19 @@ ghost use Rattle.fdb_core.specs.Rows.{IsAddress};
 ghost use Rattle.fdb_core.specs.declared.row.Row.{Row as LearnedRow};
 ghost use Rattle.oid_core.specs.Order.{name_lt, name_eq};
 ghost use Rattle.message_core.specs.declared.value.Value.{Value as AnyValue};
-ghost use Rattle.setphase_core.specs.Names.{tp_fdb_name};
 ghost use Rattle.setphase_core.specs.Values.{by_address, value_at, index_after};
 ghost use Rattle.setphase_core.specs.Columns.{tp_fdb_value};
-ghost use Rattle.bridge_mib.specs.Written.{idle};
 
+use crate::described::{Described, Descriptor};
 use crate::values::{integer, string};
 use fdb_core::{Fdb, Row};
 use frame_core::Mac;
 use message_core::Value;
-use setphase_core::{
-    DeviceFault, Index, MibObject, SetFault, Slot, Slots, TpFdb, World, assignment_by,
-};
+use setphase_core::{Index, TpFdb, World, Writable};
 use std::alloc::Global;
-use std::marker::Model;
 
-/// A column of dot1dTpFdbTable, seen as its descriptor, and what it has reserved.
-#[derive(Drop)]
-pub struct FdbColumn {
-    which: TpFdb,
-    slots: Slots,
-}
-
-impl Model for FdbColumn {
-    ghost use Rattle.setphase_core.specs.declared.column.TpFdb.{TpFdb as Descriptor};
-    ghost use Rattle.bridge_mib.specs.Written.{Written};
-
-    ghost Value = { Written Descriptor };
-
-    ghost view = { λ o. record { which = o.which; reserved = o.slots } };
-}
-
-impl FdbColumn {
-    /// The column of this descriptor.
-    pub fn new(which: TpFdb) -> FdbColumn
-        ensures { result ≡ idle which }
-    {
-        FdbColumn {
-            which,
-            slots: Slots::new(),
-        }
-    }
-}
-
-fn fdb_prefix(which: TpFdb) -> &'static [u32]
-    ensures { result.now ≡ tp_fdb_name which }
-{
-    match which {
-        TpFdb::Address => &[1, 3, 6, 1, 2, 1, 17, 4, 3, 1, 1],
-        TpFdb::Port => &[1, 3, 6, 1, 2, 1, 17, 4, 3, 1, 2],
-        TpFdb::Status => &[1, 3, 6, 1, 2, 1, 17, 4, 3, 1, 3],
-    }
-}
+/// The managed object of a column of dot1dTpFdbTable.
+pub type FdbColumn = Described<TpFdb>;
 
 // Writes an index as octets, so many, where it is such octets.
 fn write_octets(octets: &mut [u8], index: &[u32]) -> bool
@@ -190,51 +151,31 @@ fn value_under(alloc: Global, which: TpFdb, fdb: &Fdb, at: &[u32]) -> Option<Val
     Some(fdb_value(alloc, which, address, port))
 }
 
-impl MibObject for FdbColumn {
-    ghost use Rattle.setphase_core.specs.Names.{row_of};
-    ghost use Rattle.setphase_core.specs.declared.column.Column.TheVariants as column;
+impl Descriptor for TpFdb {
+    ghost use Rattle.setphase_core.specs.declared.column.Column.TheVariants as columns;
 
-    ghost state = { λ o. record {
-      row = row_of (column.TpFdb o.which);
-      reserved = o.reserved;
-      failures = 0;
-    } };
+    ghost column = { columns.TpFdb };
 
-    fn prefix(&self) -> &[u32] {
-        fdb_prefix(self.which)
+    fn prefix(self) -> &'static [u32] {
+        match self {
+            TpFdb::Address => &[1, 3, 6, 1, 2, 1, 17, 4, 3, 1, 1],
+            TpFdb::Port => &[1, 3, 6, 1, 2, 1, 17, 4, 3, 1, 2],
+            TpFdb::Status => &[1, 3, 6, 1, 2, 1, 17, 4, 3, 1, 3],
+        }
     }
 
     #[tactic(auto, unfolding(setphase_core::specs::Columns::shown_by))]
-    fn read(&self, alloc: Global, world: &World, at: &[u32]) -> Option<Value> {
-        value_under(alloc, self.which, world.bridge.fdb(), at)
+    fn read(self, alloc: Global, world: &World, at: &[u32]) -> Option<Value> {
+        value_under(alloc, self, world.bridge.fdb(), at)
     }
 
     #[tactic(auto, unfolding(setphase_core::specs::Columns::shown_by))]
-    fn next(&self, world: &World, after: Option<&[u32]>) -> Option<Index> {
+    fn next(self, world: &World, after: Option<&[u32]>) -> Option<Index> {
         let row = row_after(world.bridge.fdb(), after)?;
         Some(index_of(row.address))
     }
 
-    // It is never written: each test is refused, and reserves nothing.
-    fn test(&mut self, world: &World, at: &[u32], value: &Value) -> Result<Slot, SetFault> {
-        self.slots.reserve(assignment_by(None, world, at, value))
-    }
-
-    fn commit(&mut self, world: &mut World, slot: Slot) -> Result<(), DeviceFault> {
-        self.slots.commit(world, slot);
-        Ok(())
-    }
-
-    fn undo(&mut self, world: &mut World, slot: Slot) -> Result<(), DeviceFault> {
-        world.put_setting(slot.key, self.slots.before(slot));
-        Ok(())
-    }
-
-    fn release(&mut self) {
-        self.slots.release()
-    }
-
-    fn held(&self) -> usize {
-        self.slots.len()
+    fn writable(self) -> Option<Writable> {
+        None
     }
 }

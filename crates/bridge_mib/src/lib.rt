@@ -3,10 +3,11 @@
 //! # Entry points
 //! [`BaseScalar`], [`BasePortColumn`]: dot1dBase; [`StpScalar`], [`StpPortColumn`], [`PortEnable`]:
 //! dot1dStp; [`TpScalar`], [`FdbColumn`], [`TpPortColumn`]: dot1dTp. Each is made by `new` of a
-//! descriptor, and is a `MibObject`: it shows its row, whatever was asked of it before.
-//! `PortEnable` is made of a [`LineDriver`] in place of a descriptor, and tells it what the line of
-//! a port is to be before it writes the setting, whatever the line is already; [`Steady`] never
-//! fails, and [`Planned`] fails by plan.
+//! descriptor, and is a `MibObject`: it shows its row, whatever was asked of it before. All but
+//! `PortEnable` are [`Described`] by a [`Descriptor`], which says what the object is called, what
+//! it shows and how it is written. `PortEnable` is made of a [`LineDriver`] in place of a
+//! descriptor, and tells it what the line of a port is to be before it writes the setting, whatever
+//! the line is already; [`Steady`] never fails, and [`Planned`] fails by plan.
 //!
 //! # Definitions
 //! What each object shows stands in `setphase_core`: `specs/Columns.antt`, the objects' names in
@@ -23,6 +24,7 @@
 #![tactic(auto)]
 
 mod base;
+mod described;
 mod fdb;
 mod line;
 mod port_enable;
@@ -32,6 +34,7 @@ pub mod values;
 pub mod written;
 
 pub use base::{BasePortColumn, BaseScalar};
+pub use described::{Described, Descriptor};
 pub use fdb::FdbColumn;
 pub use line::{LineDriver, Planned, Steady};
 pub use port_enable::PortEnable;

@@ -5,13 +5,12 @@ ghost use Rattle.setphase_core.specs.Objects.{IsReserved, IsCommitted, committed
 ghost use Rattle.setphase_core.specs.Settings.{setting, put, IsSettingInRange};
 ghost use Rattle.bridge_mib.specs.Line.{state_of, port_enable, is_enabled};
 
+use crate::described::Descriptor;
 use crate::line::LineDriver;
-use crate::stp::{stp_port_prefix, stp_port_value, stp_port_writable};
 use message_core::Value;
 use rstp_core::{Key, PortKey};
 use setphase_core::{
     DeviceFault, Index, MibObject, SetFault, Slot, Slots, StpPort, World, assignment_by,
-    port_after, port_at,
 };
 use setting_keys::{SettingKey, SettingValue};
 use std::alloc::Global;
@@ -76,22 +75,19 @@ impl<L: LineDriver> MibObject for PortEnable<L> {
     ghost state = { state_of L.failures };
 
     fn prefix(&self) -> &[u32] {
-        stp_port_prefix(StpPort::Enable)
+        StpPort::Enable.prefix()
     }
 
-    #[tactic(auto, unfolding(setphase_core::specs::Columns::shown_by))]
     fn read(&self, alloc: Global, world: &World, at: &[u32]) -> Option<Value> {
-        let port = port_at(world.bridge.ports(), at)?;
-        Some(stp_port_value(alloc, StpPort::Enable, &world.bridge, port))
+        StpPort::Enable.read(alloc, world, at)
     }
 
-    #[tactic(auto, unfolding(setphase_core::specs::Columns::shown_by))]
     fn next(&self, world: &World, after: Option<&[u32]>) -> Option<Index> {
-        port_after(world.bridge.ports(), after)
+        StpPort::Enable.next(world, after)
     }
 
     fn test(&mut self, world: &World, at: &[u32], value: &Value) -> Result<Slot, SetFault> {
-        let writable = stp_port_writable(StpPort::Enable);
+        let writable = StpPort::Enable.writable();
         self.slots
             .reserve(assignment_by(writable, world, at, value))
     }

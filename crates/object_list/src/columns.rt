@@ -1,11 +1,11 @@
 //! The list of objects.
-ghost use Rattle.std.specs.Prelude.{◌≡◌, None, IfOk};
+ghost use Rattle.std.specs.Prelude.{◌≡◌, [], slice_get, None, Some, IfOk};
 ghost use Rattle.setphase_core.specs.Names.{bridge_rows};
 ghost use Rattle.setphase_core.specs.Registry.{rows_of, first_fault, held_count, AreNamed};
 ghost use Rattle.object_list.specs.Objects.{states_of};
 
 use crate::object::Object;
-use bridge_mib::LineDriver;
+use bridge_mib::{LineDriver, PortEnable};
 use setphase_core::laws::objects_are_accepted;
 use setphase_core::{Base, BasePort, Column, ExtPort, Rapid, Stp, StpPort, Tp, TpFdb, TpPort};
 use std::alloc::{AllocError, Global};
@@ -65,6 +65,9 @@ pub const COLUMNS: [Column; 51] = [
     Column::TpPort(TpPort::InDiscards),
 ];
 
+/// The place of dot1dStpPortEnable in [`COLUMNS`], counted from 0.
+pub const ENABLE: usize = 25;
+
 /// The objects of a bridge in the order of their names, dot1dStpPortEnable over this driver.
 ///
 /// # Errors
@@ -73,17 +76,19 @@ pub fn objects<L: LineDriver>(alloc: Global, driver: L) -> Result<Vec<Object<L>>
     ensures all { IfOk result (λ objects.
         rows_of (states_of L.failures objects.items) ≡ bridge_rows) }
     ensures idle { IfOk result (λ objects. held_count (states_of L.failures objects.items) ≡ 0) }
+    ensures driven { IfOk result (λ objects. slice_get objects.items ENABLE
+        ≡ Some (Object.PortEnable (record { driver = driver; reserved = [] }))) }
     // So they make a registry.
     ensures named { IfOk result (λ objects.
         AreNamed (rows_of (states_of L.failures objects.items))) }
     ensures accepted { IfOk result (λ objects.
         first_fault (rows_of (states_of L.failures objects.items)) ≡ None) }
 {
-    let mut driver = Some(driver);
     let mut objects = Vec::new(alloc);
     for column in COLUMNS {
-        objects.push(Object::over(column, &mut driver))?;
+        objects.push(Object::of(column))?;
     }
+    objects[ENABLE] = Object::PortEnable(PortEnable::new(driver));
     objects_are_accepted();
     Ok(objects)
 }

@@ -11,15 +11,15 @@
 //! `specs/Objects.antt`: the column of an object, and what it is to a registry.
 //!
 //! # Laws
-//! On [`objects`]: their rows are those of all objects, they have reserved nothing, and they make a
-//! registry.
+//! On [`objects`]: their rows are those of all objects, they have reserved nothing, dot1dStpPortEnable
+//! is over the driver, and they make a registry.
 //!
 //! # Not claimed
-//! That there is memory for the list. That dot1dStpPortEnable among [`objects`] is over the driver.
+//! That there is memory for the list.
 #![tactic(auto)]
 
 mod columns;
 mod object;
 
-pub use columns::{COLUMNS, objects};
+pub use columns::{COLUMNS, ENABLE, objects};
 pub use object::Object;

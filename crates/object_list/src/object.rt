@@ -7,7 +7,7 @@ use bridge_mib::{
     TpPortColumn, TpScalar,
 };
 use message_core::Value;
-use rstp_mib::{ExtPortColumn, RstpScalar};
+use rstp_mib::{ExtPortColumn, ExtPortDescriptor, RapidDescriptor, RstpScalar};
 use setphase_core::{Column, DeviceFault, Index, MibObject, SetFault, Slot, StpPort, World};
 use std::alloc::Global;
 
@@ -47,8 +47,10 @@ impl<L: LineDriver> Object<L> {
             Column::BasePort(which) => Object::BasePort(BasePortColumn::new(which)),
             Column::Stp(which) => Object::Stp(StpScalar::new(which)),
             Column::StpPort(which) => Object::StpPort(StpPortColumn::new(which)),
-            Column::Rapid(which) => Object::Rapid(RstpScalar::new(which)),
-            Column::ExtPort(which) => Object::ExtPort(ExtPortColumn::new(which)),
+            Column::Rapid(which) => Object::Rapid(RstpScalar::new(RapidDescriptor(which))),
+            Column::ExtPort(which) => {
+                Object::ExtPort(ExtPortColumn::new(ExtPortDescriptor(which)))
+            },
             Column::Tp(which) => Object::Tp(TpScalar::new(which)),
             Column::TpFdb(which) => Object::TpFdb(FdbColumn::new(which)),
             Column::TpPort(which) => Object::TpPort(TpPortColumn::new(which)),

@@ -1,9 +1,9 @@
 //! The managed objects of RSTP-MIB (RFC 4318) that show a bridge, and by which a Set writes it.
 //!
 //! # Entry points
-//! [`RstpScalar`]: dot1dStpVersion and dot1dStpTxHoldCount; [`ExtPortColumn`]:
-//! dot1dStpExtPortTable. Each is made by `new` of a descriptor, and is a `MibObject`: it shows its
-//! row, whatever was asked of it before.
+//! [`RstpScalar`]: dot1dStpVersion and dot1dStpTxHoldCount, by [`RapidDescriptor`];
+//! [`ExtPortColumn`]: dot1dStpExtPortTable, by [`ExtPortDescriptor`]. Each is made by `new` of a
+//! descriptor, and is a `MibObject`: it shows its row, whatever was asked of it before.
 //!
 //! # Definitions
 //! What each object shows stands in `setphase_core`: `specs/Columns.antt`, the objects' names in
@@ -20,5 +20,5 @@
 mod ports;
 mod scalars;
 
-pub use ports::ExtPortColumn;
-pub use scalars::RstpScalar;
+pub use ports::{ExtPortColumn, ExtPortDescriptor};
+pub use scalars::{RapidDescriptor, RstpScalar};

@@ -1,59 +1,22 @@
 //! The scalars that RSTP-MIB adds to dot1dStp (RFC 4318).
-ghost use Rattle.std.specs.Prelude.{◌≡◌, ◌<◌, IfSome};
-ghost use Rattle.setphase_core.specs.Names.{rapid_name};
+ghost use Rattle.std.specs.Prelude.{◌≡◌};
 ghost use Rattle.setphase_core.specs.Columns.{rapid_value};
-ghost use Rattle.setphase_core.specs.Writing.{writable_of};
-ghost use Rattle.setphase_core.specs.declared.column.Column.TheVariants as column;
-ghost use Rattle.bridge_mib.specs.Written.{idle};
 
 use bridge_core::Bridge;
 use bridge_mib::values::bridge_setting;
 use bridge_mib::written::scalar_of;
+use bridge_mib::{Described, Descriptor};
 use message_core::Value;
 use rstp_core::BridgeKey;
-use setphase_core::{
-    DeviceFault, Index, MibObject, Rapid, SetFault, Slot, Slots, World, Writable, assignment_by,
-    is_scalar, scalar_after,
-};
+use setphase_core::{Index, Rapid, World, Writable, is_scalar, scalar_after};
 use std::alloc::Global;
-use std::marker::Model;
 
-/// A scalar of RSTP-MIB, seen as its descriptor, and what it has reserved.
-#[derive(Drop)]
-pub struct RstpScalar {
-    which: Rapid,
-    slots: Slots,
-}
+/// A scalar of RSTP-MIB, by its descriptor.
+#[derive(Clone, Copy, Debug)]
+pub struct RapidDescriptor(pub Rapid);
 
-impl Model for RstpScalar {
-    ghost use Rattle.setphase_core.specs.declared.column.Rapid.{Rapid as Descriptor};
-    ghost use Rattle.bridge_mib.specs.Written.{Written};
-
-    ghost Value = { Written Descriptor };
-
-    ghost view = { λ o. record { which = o.which; reserved = o.slots } };
-}
-
-impl RstpScalar {
-    /// The scalar of this descriptor.
-    pub fn new(which: Rapid) -> RstpScalar
-        ensures { result ≡ idle which }
-    {
-        RstpScalar {
-            which,
-            slots: Slots::new(),
-        }
-    }
-}
-
-fn rapid_prefix(which: Rapid) -> &'static [u32]
-    ensures { result.now ≡ rapid_name which }
-{
-    match which {
-        Rapid::Version => &[1, 3, 6, 1, 2, 1, 17, 2, 16],
-        Rapid::TxHoldCount => &[1, 3, 6, 1, 2, 1, 17, 2, 17],
-    }
-}
+/// The managed object of a scalar of RSTP-MIB.
+pub type RstpScalar = Described<RapidDescriptor>;
 
 fn rapid_value(which: Rapid, bridge: &Bridge) -> Value
     ensures { result ≡ rapid_value which bridge.now }
@@ -64,64 +27,36 @@ fn rapid_value(which: Rapid, bridge: &Bridge) -> Value
     }
 }
 
-// How a scalar is written: its setting, the least and the most that it takes, and the step.
-fn rapid_writable(which: Rapid) -> Option<Writable>
-    ensures writable { result ≡ writable_of (column.Rapid which) }
-    ensures step { IfSome result (λ w. 0 < w.step) }
-{
-    match which {
-        Rapid::Version => scalar_of(BridgeKey::Version, 0, 2, 2),
-        Rapid::TxHoldCount => scalar_of(BridgeKey::HoldCount, 1, 10, 1),
-    }
-}
+impl Descriptor for RapidDescriptor {
+    ghost use Rattle.setphase_core.specs.declared.column.Column.TheVariants as columns;
 
-impl MibObject for RstpScalar {
-    ghost use Rattle.setphase_core.specs.Names.{row_of};
-    ghost use Rattle.setphase_core.specs.declared.column.Column.TheVariants as column;
+    ghost column = { λ d. columns.Rapid d.0 };
 
-    ghost state = { λ o. record {
-      row = row_of (column.Rapid o.which);
-      reserved = o.reserved;
-      failures = 0;
-    } };
-
-    fn prefix(&self) -> &[u32] {
-        rapid_prefix(self.which)
+    fn prefix(self) -> &'static [u32] {
+        match self.0 {
+            Rapid::Version => &[1, 3, 6, 1, 2, 1, 17, 2, 16],
+            Rapid::TxHoldCount => &[1, 3, 6, 1, 2, 1, 17, 2, 17],
+        }
     }
 
     #[tactic(auto, unfolding(setphase_core::specs::Columns::shown_by))]
-    fn read(&self, _alloc: Global, world: &World, at: &[u32]) -> Option<Value> {
+    fn read(self, _alloc: Global, world: &World, at: &[u32]) -> Option<Value> {
         if is_scalar(at) {
-            Some(rapid_value(self.which, &world.bridge))
+            Some(rapid_value(self.0, &world.bridge))
         } else {
             None
         }
     }
 
     #[tactic(auto, unfolding(setphase_core::specs::Columns::shown_by))]
-    fn next(&self, _world: &World, after: Option<&[u32]>) -> Option<Index> {
+    fn next(self, _world: &World, after: Option<&[u32]>) -> Option<Index> {
         scalar_after(after)
     }
 
-    fn test(&mut self, world: &World, at: &[u32], value: &Value) -> Result<Slot, SetFault> {
-        self.slots.reserve(assignment_by(rapid_writable(self.which), world, at, value))
-    }
-
-    fn commit(&mut self, world: &mut World, slot: Slot) -> Result<(), DeviceFault> {
-        self.slots.commit(world, slot);
-        Ok(())
-    }
-
-    fn undo(&mut self, world: &mut World, slot: Slot) -> Result<(), DeviceFault> {
-        world.put_setting(slot.key, self.slots.before(slot));
-        Ok(())
-    }
-
-    fn release(&mut self) {
-        self.slots.release()
-    }
-
-    fn held(&self) -> usize {
-        self.slots.len()
+    fn writable(self) -> Option<Writable> {
+        match self.0 {
+            Rapid::Version => scalar_of(BridgeKey::Version, 0, 2, 2),
+            Rapid::TxHoldCount => scalar_of(BridgeKey::HoldCount, 1, 10, 1),
+        }
     }
 }

@@ -1,0 +1,116 @@
+//! Managed objects without a device: each shows what its descriptor says.
+ghost use Rattle.std.specs.Prelude.{◌≡◌, ◌<◌, IfSome};
+ghost use Rattle.std.specs.Option.{option_copied, option_map};
+ghost use Rattle.bridge_mib.specs.Written.{idle};
+
+use message_core::Value;
+use setphase_core::{
+    DeviceFault, Index, MibObject, SetFault, Slot, Slots, World, Writable, assignment_by,
+};
+use std::alloc::Global;
+use std::marker::Model;
+
+/// What a descriptor of RFC 4188 or RFC 4318 says of its object: the name, what it shows of a
+/// world, and how it is written.
+pub trait Descriptor: Copy {
+    ghost use Rattle.setphase_core.specs.declared.column.Column.{Column};
+    ghost use Rattle.setphase_core.specs.Columns.{shown_by};
+    ghost use Rattle.setphase_core.specs.Names.{row_of};
+    ghost use Rattle.setphase_core.specs.Values.{value_at, index_after};
+    ghost use Rattle.setphase_core.specs.Writing.{writable_of};
+
+    // The object's column among all objects.
+    ghost column: { Self → Column };
+
+    /// The object's name.
+    fn prefix(self) -> &'static [u32]
+        ensures { result.now ≡ (row_of (column self)).prefix };
+
+    /// The value of the instance of this index, where there is one. It takes no memory.
+    fn read(self, alloc: Global, world: &World, at: &[u32]) -> Option<Value>
+        ensures { result ≡ value_at (shown_by (column self) world.now) at.now };
+
+    /// The first index after this one, or the first of all. It takes no memory.
+    fn next(self, world: &World, after: Option<&[u32]>) -> Option<Index>
+        ensures { option_map (λ index. index.items) result
+            ≡ index_after (shown_by (column self) world.now) (option_copied after.entry) };
+
+    /// How the object is written: its setting, the least and the most that it takes, and the step.
+    /// None: it is never written.
+    fn writable(self) -> Option<Writable>
+        ensures writable { result ≡ writable_of (column self) }
+        ensures step { IfSome result (λ w. 0 < w.step) };
+}
+
+/// The managed object of a descriptor. It has no device, so that no commit and no undo fails. It is
+/// seen as its descriptor, and what it has reserved.
+#[derive(Drop)]
+pub struct Described<D: Descriptor> {
+    which: D,
+    slots: Slots,
+}
+
+impl<D: Descriptor> Model for Described<D> {
+    ghost use Rattle.bridge_mib.specs.Written.{Written};
+
+    ghost Value = { Written D };
+
+    ghost view = { λ o. record { which = o.which; reserved = o.slots } };
+}
+
+impl<D: Descriptor> Described<D> {
+    /// The object of this descriptor.
+    pub fn new(which: D) -> Described<D>
+        ensures { result ≡ idle which }
+    {
+        Described {
+            which,
+            slots: Slots::new(),
+        }
+    }
+}
+
+impl<D: Descriptor> MibObject for Described<D> {
+    ghost use Rattle.setphase_core.specs.Names.{row_of};
+
+    ghost state = { λ o. record {
+      row = row_of (D.column o.which);
+      reserved = o.reserved;
+      failures = 0;
+    } };
+
+    fn prefix(&self) -> &[u32] {
+        self.which.prefix()
+    }
+
+    fn read(&self, alloc: Global, world: &World, at: &[u32]) -> Option<Value> {
+        self.which.read(alloc, world, at)
+    }
+
+    fn next(&self, world: &World, after: Option<&[u32]>) -> Option<Index> {
+        self.which.next(world, after)
+    }
+
+    fn test(&mut self, world: &World, at: &[u32], value: &Value) -> Result<Slot, SetFault> {
+        self.slots
+            .reserve(assignment_by(self.which.writable(), world, at, value))
+    }
+
+    fn commit(&mut self, world: &mut World, slot: Slot) -> Result<(), DeviceFault> {
+        self.slots.commit(world, slot);
+        Ok(())
+    }
+
+    fn undo(&mut self, world: &mut World, slot: Slot) -> Result<(), DeviceFault> {
+        world.put_setting(slot.key, self.slots.before(slot));
+        Ok(())
+    }
+
+    fn release(&mut self) {
+        self.slots.release()
+    }
+
+    fn held(&self) -> usize {
+        self.slots.len()
+    }
+}
