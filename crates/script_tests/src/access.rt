@@ -1,12 +1,12 @@
 //! Access, its audit, and what is dropped (RFC 3415, 3.2; RFC 3416, 4.2).
-use crate::message::Held::{Integer, NoInstance, Null};
-use crate::message::{Bound, failed, get, of, reply, set};
-use crate::names::{PORTS, PRIORITY};
-use crate::policies::{READERS, STRANGERS};
-use crate::rows::Said::{Drop, Reply};
-use crate::rows::{AUDIT_ON, Row, assert_rows, audited, dropped, told};
-use crate::support::{assert_said, joined, repeated};
-use crate::worlds::{built_in, built_in_for};
+use fixtures::message::Held::{Integer, NoInstance, Null};
+use fixtures::message::{Bound, failed, get, of, reply, set};
+use fixtures::names::{PORTS, PRIORITY};
+use fixtures::policies::{READERS, STRANGERS};
+use fixtures::rows::Said::{Drop, Reply};
+use fixtures::rows::{AUDIT_ON, Row, assert_rows, audited, dropped, told};
+use fixtures::support::{assert_said, joined, repeated};
+use fixtures::worlds::{built_in, built_in_for};
 use std::alloc::{AllocGlobal, Global};
 use std::process::Abort;
 use std::test::Fail;

@@ -1,8 +1,8 @@
 //! Frames, links and seconds: what is said to them.
-use crate::bpdus::{AGREEMENT, BETTER, FORWARDING_1, FORWARDING_2, PROPOSAL};
-use crate::rows::{Row, assert_rows};
-use crate::support::{assert_said, assert_scripts};
-use crate::worlds::{all_of, edges};
+use fixtures::bpdus::{AGREEMENT, BETTER, FORWARDING_1, FORWARDING_2, PROPOSAL};
+use fixtures::rows::{Row, assert_rows};
+use fixtures::support::{assert_said, assert_scripts};
+use fixtures::worlds::{all_of, edges};
 use std::test::Fail;
 
 #[test]

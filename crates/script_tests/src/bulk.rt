@@ -1,8 +1,8 @@
 //! GetBulk (RFC 3416, 4.2.3).
-use crate::message::Held::{Counter, End, Integer, Name, Null};
-use crate::names::{LAST, PORTS, TYPE};
-use crate::rows::{Row, assert_rows};
-use crate::worlds::{all_of, bridge_of, built_in, port};
+use fixtures::message::Held::{Counter, End, Integer, Name, Null};
+use fixtures::names::{LAST, PORTS, TYPE};
+use fixtures::rows::{Row, assert_rows};
+use fixtures::worlds::{all_of, bridge_of, built_in, port};
 use rstp_core::IfIndex;
 use std::test::Fail;
 

@@ -1,10 +1,10 @@
 //! Get, and requests of no names (RFC 3416, 4.2.1).
-use crate::message::Held::{Counter, Integer, Name, NoInstance, NoObject, Null, Octets, Ticks};
-use crate::message::{Held, Message, bulk, get, next, of, reply, set};
-use crate::names::{ADDRESS, LAST, PRIORITY, ROOT, SINCE};
-use crate::rows::{Row, assert_rows, replied};
-use crate::support::{GET, TWO_PORTS, assert_answers, repeated};
-use crate::worlds::{OWN_ADDRESS, OWN_IDENTIFIER, built_in, first_objects};
+use fixtures::message::Held::{Counter, Integer, Name, NoInstance, NoObject, Null, Octets, Ticks};
+use fixtures::message::{Held, Message, bulk, get, next, of, reply, set};
+use fixtures::names::{ADDRESS, LAST, PRIORITY, ROOT, SINCE};
+use fixtures::rows::{Row, assert_rows, replied};
+use fixtures::support::{GET, TWO_PORTS, assert_answers, repeated};
+use fixtures::worlds::{OWN_ADDRESS, OWN_IDENTIFIER, built_in, first_objects};
 use std::alloc::AllocGlobal;
 use std::process::Abort;
 use std::test::Fail;

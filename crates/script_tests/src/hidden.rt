@@ -1,10 +1,10 @@
 //! What a view hides: columns, ports, and whole objects (RFC 3415, 2.4; RFC 3416, 4.2).
-use crate::message::Held::{End, Integer, NoInstance, NoObject, Null, Octets};
-use crate::message::{get, next, reply};
-use crate::policies::MASKED;
-use crate::rows::Said::Reply;
-use crate::rows::{AUDIT_ON, Row, assert_rows, audited};
-use crate::worlds::{OWN_IDENTIFIER, built_in_for};
+use fixtures::message::Held::{End, Integer, NoInstance, NoObject, Null, Octets};
+use fixtures::message::{get, next, reply};
+use fixtures::policies::MASKED;
+use fixtures::rows::Said::Reply;
+use fixtures::rows::{AUDIT_ON, Row, assert_rows, audited};
+use fixtures::worlds::{OWN_IDENTIFIER, built_in_for};
 use std::test::Fail;
 
 // The columns of port 2 that the tests ask for: its priority, its state, whether it is enabled,

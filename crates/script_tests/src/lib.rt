@@ -1,10 +1,10 @@
 //! Tests of the script over a running bridge, its 51 managed objects and a policy, by subject:
 //! lines, and what is said to each.
 //!
-//! Requests and replies are built from names and values by an encoder of the tests' own
-//! (`message`), beside some that stand as octets of other encoders. The answers to requests are
-//! those of RFC 3416 and RFC 3415, what objects show is that of RFC 4188 and RFC 4318, the frames
-//! and the times those of IEEE 802.1D.
+//! Requests and replies are built from names and values by the encoder of `fixtures`, beside some
+//! that stand as octets of other encoders. The answers to requests are those of RFC 3416 and RFC
+//! 3415, what objects show is that of RFC 4188 and RFC 4318, the frames and the times those of IEEE
+//! 802.1D.
 //!
 //! # Entry points
 //! None: the tests run `agent_script::run_script`.
@@ -22,8 +22,6 @@
 #[cfg(test)]
 mod access;
 #[cfg(test)]
-mod bpdus;
-#[cfg(test)]
 mod bridge;
 #[cfg(test)]
 mod bulk;
@@ -38,18 +36,8 @@ mod live;
 #[cfg(test)]
 mod message;
 #[cfg(test)]
-mod names;
-#[cfg(test)]
 mod next;
-#[cfg(test)]
-mod policies;
 #[cfg(test)]
 mod policy;
 #[cfg(test)]
-mod rows;
-#[cfg(test)]
 mod sizes;
-#[cfg(test)]
-mod support;
-#[cfg(test)]
-mod worlds;

@@ -1,10 +1,10 @@
 //! Lines that are none, and datagrams that give no request.
-use crate::message::Held::Null;
-use crate::message::{Bound, Message, Pdu, get, of};
-use crate::names::PORTS;
-use crate::rows::{Row, assert_rows, dropped};
-use crate::support::{GET, assert_answers, assert_said, assert_scripts, repeated, said_to};
-use crate::worlds::built_in;
+use fixtures::message::Held::Null;
+use fixtures::message::{Bound, Message, Pdu, get, of};
+use fixtures::names::PORTS;
+use fixtures::rows::{Row, assert_rows, dropped};
+use fixtures::support::{GET, assert_answers, assert_said, assert_scripts, repeated, said_to};
+use fixtures::worlds::built_in;
 use std::alloc::AllocGlobal;
 use std::process::Abort;
 use std::test::Fail;

@@ -1,15 +1,15 @@
 //! The bridge as it runs: a frame, a link or a second changes what the next request reads.
-use crate::bpdus::{
+use fixtures::bpdus::{
     AGREEMENT, BETTER, BETTER_ROOT, CHANGE, FORWARDING_1, FORWARDING_2, HELLO_TIME, LEARNING,
     PROPOSAL,
 };
-use crate::message::Held::{Counter, Integer, Null, Octets, Ticks};
-use crate::names::{
+use fixtures::message::Held::{Counter, Integer, Null, Octets, Ticks};
+use fixtures::names::{
     DISCARDS_1, IN_FRAMES_1, LEARNED_PORT, OUT_FRAMES_1, ROOT, ROOT_COST, ROOT_PORT, SINCE,
     STATE_1, TOP_CHANGES, TP_PORT_1, TRANSITIONS_1,
 };
-use crate::rows::{Row, assert_rows};
-use crate::worlds::{OWN_IDENTIFIER, all_of, built_in, edges};
+use fixtures::rows::{Row, assert_rows};
+use fixtures::worlds::{OWN_IDENTIFIER, all_of, built_in, edges};
 use std::test::Fail;
 
 // After three hello times without a word the other root is forgotten. The change of the topology

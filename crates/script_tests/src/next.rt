@@ -1,10 +1,10 @@
 //! GetNext (RFC 3416, 4.2.2).
-use crate::message::Held::{Counter, End, Integer, Null, Octets};
-use crate::message::{Held, next, reply};
-use crate::names::{ADDRESS, LAST, PORTS, TOP_CHANGES, TYPE};
-use crate::rows::{Row, assert_rows, line_with};
-use crate::support::{assert_said, repeated};
-use crate::worlds::{OWN_ADDRESS, built_in, first_objects};
+use fixtures::message::Held::{Counter, End, Integer, Null, Octets};
+use fixtures::message::{Held, next, reply};
+use fixtures::names::{ADDRESS, LAST, PORTS, TOP_CHANGES, TYPE};
+use fixtures::rows::{Row, assert_rows, line_with};
+use fixtures::support::{assert_said, repeated};
+use fixtures::worlds::{OWN_ADDRESS, built_in, first_objects};
 use std::alloc::AllocGlobal;
 use std::process::Abort;
 use std::test::Fail;

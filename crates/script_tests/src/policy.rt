@@ -1,10 +1,10 @@
 //! Policies in a script.
-use crate::message::Held::NoObject;
-use crate::message::reply;
-use crate::names::PORTS;
-use crate::policies::{MASKED, NO_ROWS, P2, READ_P2, READERS};
-use crate::rows::line_with;
-use crate::support::{GET, TWO_PORTS, assert_said, assert_scripts, joined, said_to};
+use fixtures::message::Held::NoObject;
+use fixtures::message::reply;
+use fixtures::names::PORTS;
+use fixtures::policies::{MASKED, NO_ROWS, P2, READ_P2, READERS};
+use fixtures::rows::line_with;
+use fixtures::support::{GET, TWO_PORTS, assert_said, assert_scripts, joined, said_to};
 use std::alloc::AllocGlobal;
 use std::process::Abort;
 use std::test::Fail;

@@ -1,9 +1,9 @@
 //! Replies of at most 1,472 octets (RFC 3416, 4.2.1 to 4.2.3).
-use crate::message::Held::{End, Integer, Null, Octets};
-use crate::message::{Bound, bulk, failed, get, many, next, reply};
-use crate::names::{PORTS, ROOT, ROOT_COST, TOP_CHANGES};
-use crate::rows::{assert_rows, replied};
-use crate::worlds::{OWN_IDENTIFIER, built_in, first_objects};
+use fixtures::message::Held::{End, Integer, Null, Octets};
+use fixtures::message::{Bound, bulk, failed, get, many, next, reply};
+use fixtures::names::{PORTS, ROOT, ROOT_COST, TOP_CHANGES};
+use fixtures::rows::{assert_rows, replied};
+use fixtures::worlds::{OWN_IDENTIFIER, built_in, first_objects};
 use std::alloc::Global;
 use std::test::Fail;
 

@@ -1,0 +1,347 @@
+//! The values that each of the fifteen writable objects takes: the least and the greatest, and not
+//! one more, nor one between two steps (RFC 4188, RFC 4318; IEEE 802.1D-2004, 17.14). A Get behind
+//! a Set reads what is written.
+use crate::support::assert_sets;
+use fixtures::message::Held::Integer;
+use fixtures::message::{Bound, WRONG_VALUE};
+use fixtures::names::{
+    ADMIN_COST_1, AGING, COST_1, COST_32_1, EDGE_1, ENABLE_1, FORWARD_DELAY, HELLO, HOLD_COUNT,
+    MAX_AGE, MIGRATION_1, POINT_TO_POINT_1, PRIORITY, PRIORITY_1, VERSION,
+};
+use fixtures::rows::Row;
+use std::alloc::{AllocGlobal, Global};
+use std::test::Fail;
+
+// Each of these is taken, and read back.
+fn taken_rows<'a>(alloc: Global, taken: &'a [Bound<'a>]) -> Result<Vec<Row<'a>>, Fail> {
+    let mut rows = Vec::new(alloc);
+    for one in taken.chunks(1) {
+        rows.push(Row::Assigned("a value in the range", one))?;
+        rows.push(Row::Shown("it is read back", one))?;
+    }
+    Ok(rows)
+}
+
+// None of these is taken.
+fn refused_rows<'a>(alloc: Global, refused: &'a [Bound<'a>]) -> Result<Vec<Row<'a>>, Fail> {
+    let mut rows = Vec::new(alloc);
+    for one in refused.chunks(1) {
+        rows.push(Row::Refused("a value out of the range", (WRONG_VALUE, 1), one))?;
+    }
+    Ok(rows)
+}
+
+// The values that an object takes, and some that it does not; the last that it took stays.
+fn assert_range<R: AllocGlobal>(
+    rt: &R,
+    taken: &[Bound<'_>],
+    refused: &[Bound<'_>],
+) -> Result<(), Fail> {
+    let mut rows = taken_rows(rt.alloc(), taken)?;
+    rows.extend_from_slice(&refused_rows(rt.alloc(), refused)?)?;
+    for last in taken.last() {
+        rows.push(Row::Shown("the last stays", std::slice::from_ref(last)))?;
+    }
+    assert_sets(rt, &rows)
+}
+
+#[test]
+fn takes_priorities_of_a_bridge(rt: HostRuntime) -> Result<(), Fail> {
+    assert_range(
+        &rt,
+        &[
+            (PRIORITY, Integer(0)),
+            (PRIORITY, Integer(4096)),
+            (PRIORITY, Integer(61440)),
+        ],
+        &[
+            (PRIORITY, Integer(-1)),
+            (PRIORITY, Integer(1)),
+            (PRIORITY, Integer(4095)),
+            (PRIORITY, Integer(4097)),
+            (PRIORITY, Integer(61441)),
+            (PRIORITY, Integer(65536)),
+            (PRIORITY, Integer(-4096)),
+            (PRIORITY, Integer(i32::MIN)),
+            (PRIORITY, Integer(i32::MAX)),
+        ],
+    )
+}
+
+// Up to twice the forward delay of 15 s but a second.
+#[test]
+fn takes_max_ages(rt: HostRuntime) -> Result<(), Fail> {
+    assert_range(
+        &rt,
+        &[(MAX_AGE, Integer(600)), (MAX_AGE, Integer(2800))],
+        &[
+            (MAX_AGE, Integer(500)),
+            (MAX_AGE, Integer(599)),
+            (MAX_AGE, Integer(650)),
+            (MAX_AGE, Integer(1950)),
+            (MAX_AGE, Integer(4001)),
+            (MAX_AGE, Integer(4100)),
+            (MAX_AGE, Integer(-600)),
+            (MAX_AGE, Integer(i32::MAX)),
+        ],
+    )
+}
+
+// Up to half the max age of 20 s but a second.
+#[test]
+fn takes_hello_times(rt: HostRuntime) -> Result<(), Fail> {
+    assert_range(
+        &rt,
+        &[(HELLO, Integer(100)), (HELLO, Integer(900))],
+        &[
+            (HELLO, Integer(0)),
+            (HELLO, Integer(99)),
+            (HELLO, Integer(150)),
+            (HELLO, Integer(1001)),
+            (HELLO, Integer(1100)),
+            (HELLO, Integer(-100)),
+        ],
+    )
+}
+
+// From half the max age of 20 s and a second.
+#[test]
+fn takes_forward_delays(rt: HostRuntime) -> Result<(), Fail> {
+    assert_range(
+        &rt,
+        &[
+            (FORWARD_DELAY, Integer(1100)),
+            (FORWARD_DELAY, Integer(3000)),
+        ],
+        &[
+            (FORWARD_DELAY, Integer(300)),
+            (FORWARD_DELAY, Integer(399)),
+            (FORWARD_DELAY, Integer(1550)),
+            (FORWARD_DELAY, Integer(3001)),
+            (FORWARD_DELAY, Integer(3100)),
+            (FORWARD_DELAY, Integer(-400)),
+        ],
+    )
+}
+
+#[test]
+fn takes_versions(rt: HostRuntime) -> Result<(), Fail> {
+    assert_range(
+        &rt,
+        &[(VERSION, Integer(0)), (VERSION, Integer(2))],
+        &[
+            (VERSION, Integer(-1)),
+            (VERSION, Integer(1)),
+            (VERSION, Integer(3)),
+        ],
+    )
+}
+
+#[test]
+fn takes_hold_counts(rt: HostRuntime) -> Result<(), Fail> {
+    assert_range(
+        &rt,
+        &[(HOLD_COUNT, Integer(1)), (HOLD_COUNT, Integer(10))],
+        &[
+            (HOLD_COUNT, Integer(0)),
+            (HOLD_COUNT, Integer(11)),
+            (HOLD_COUNT, Integer(-1)),
+        ],
+    )
+}
+
+#[test]
+fn takes_aging_times(rt: HostRuntime) -> Result<(), Fail> {
+    assert_range(
+        &rt,
+        &[(AGING, Integer(10)), (AGING, Integer(1_000_000))],
+        &[
+            (AGING, Integer(9)),
+            (AGING, Integer(1_000_001)),
+            (AGING, Integer(-10)),
+        ],
+    )
+}
+
+#[test]
+fn takes_priorities_of_a_port(rt: HostRuntime) -> Result<(), Fail> {
+    assert_range(
+        &rt,
+        &[
+            (PRIORITY_1, Integer(0)),
+            (PRIORITY_1, Integer(16)),
+            (PRIORITY_1, Integer(240)),
+        ],
+        &[
+            (PRIORITY_1, Integer(-1)),
+            (PRIORITY_1, Integer(8)),
+            (PRIORITY_1, Integer(15)),
+            (PRIORITY_1, Integer(241)),
+            (PRIORITY_1, Integer(256)),
+            (PRIORITY_1, Integer(-16)),
+        ],
+    )
+}
+
+#[test]
+fn takes_enabled_and_disabled(rt: HostRuntime) -> Result<(), Fail> {
+    assert_range(
+        &rt,
+        &[(ENABLE_1, Integer(2)), (ENABLE_1, Integer(1))],
+        &[
+            (ENABLE_1, Integer(0)),
+            (ENABLE_1, Integer(3)),
+            (ENABLE_1, Integer(-1)),
+        ],
+    )
+}
+
+#[test]
+fn takes_path_costs_of_16_bits(rt: HostRuntime) -> Result<(), Fail> {
+    assert_range(
+        &rt,
+        &[(COST_1, Integer(1)), (COST_1, Integer(65535))],
+        &[
+            (COST_1, Integer(0)),
+            (COST_1, Integer(65536)),
+            (COST_1, Integer(-1)),
+        ],
+    )
+}
+
+#[test]
+fn takes_path_costs_of_32_bits(rt: HostRuntime) -> Result<(), Fail> {
+    assert_range(
+        &rt,
+        &[(COST_32_1, Integer(1)), (COST_32_1, Integer(200_000_000))],
+        &[
+            (COST_32_1, Integer(0)),
+            (COST_32_1, Integer(200_000_001)),
+            (COST_32_1, Integer(-1)),
+            (COST_32_1, Integer(i32::MAX)),
+        ],
+    )
+}
+
+#[test]
+fn takes_costs_of_an_administrator(rt: HostRuntime) -> Result<(), Fail> {
+    assert_range(
+        &rt,
+        &[
+            (ADMIN_COST_1, Integer(200_000_000)),
+            (ADMIN_COST_1, Integer(0)),
+        ],
+        &[
+            (ADMIN_COST_1, Integer(-1)),
+            (ADMIN_COST_1, Integer(200_000_001)),
+        ],
+    )
+}
+
+#[test]
+fn takes_edge_or_not(rt: HostRuntime) -> Result<(), Fail> {
+    assert_range(
+        &rt,
+        &[(EDGE_1, Integer(1)), (EDGE_1, Integer(2))],
+        &[
+            (EDGE_1, Integer(0)),
+            (EDGE_1, Integer(3)),
+            (EDGE_1, Integer(-1)),
+        ],
+    )
+}
+
+#[test]
+fn takes_links_of_three_kinds(rt: HostRuntime) -> Result<(), Fail> {
+    assert_range(
+        &rt,
+        &[
+            (POINT_TO_POINT_1, Integer(0)),
+            (POINT_TO_POINT_1, Integer(2)),
+            (POINT_TO_POINT_1, Integer(1)),
+        ],
+        &[
+            (POINT_TO_POINT_1, Integer(-1)),
+            (POINT_TO_POINT_1, Integer(3)),
+        ],
+    )
+}
+
+// Whether it is true, and spent, or false: what is read is false.
+const MIGRATIONS: &[Row<'static>] = &[
+    Row::Assigned("true", &[(MIGRATION_1, Integer(1))]),
+    Row::Shown("true is spent", &[(MIGRATION_1, Integer(2))]),
+    Row::Assigned("false", &[(MIGRATION_1, Integer(2))]),
+    Row::Shown("false", &[(MIGRATION_1, Integer(2))]),
+    Row::Refused("0", (WRONG_VALUE, 1), &[(MIGRATION_1, Integer(0))]),
+    Row::Refused("3", (WRONG_VALUE, 1), &[(MIGRATION_1, Integer(3))]),
+];
+
+#[test]
+fn takes_migrations(rt: HostRuntime) -> Result<(), Fail> {
+    assert_sets(&rt, MIGRATIONS)
+}
+
+// One cost in use, as three objects show it. A port of 1,000 Mb/s has 20,000 by default.
+const COSTS: &[Row<'static>] = &[
+    Row::Assigned("above 16 bits", &[(COST_32_1, Integer(65536))]),
+    Row::Shown(
+        "the greatest of 16 bits",
+        &[
+            (COST_1, Integer(65535)),
+            (COST_32_1, Integer(65536)),
+            (ADMIN_COST_1, Integer(65536)),
+        ],
+    ),
+    Row::Assigned("no cost of its own", &[(ADMIN_COST_1, Integer(0))]),
+    Row::Shown(
+        "the default",
+        &[
+            (COST_1, Integer(20000)),
+            (COST_32_1, Integer(20000)),
+            (ADMIN_COST_1, Integer(0)),
+        ],
+    ),
+    Row::Assigned("the default as its own", &[(COST_1, Integer(20000))]),
+    Row::Shown(
+        "its own",
+        &[(COST_1, Integer(20000)), (ADMIN_COST_1, Integer(20000))],
+    ),
+];
+
+#[test]
+fn shows_a_cost_in_three_ways(rt: HostRuntime) -> Result<(), Fail> {
+    assert_sets(&rt, COSTS)
+}
+
+// All fifteen in one Set.
+const FIFTEEN: &[Bound<'static>] = &[
+    (PRIORITY, Integer(8192)),
+    (MAX_AGE, Integer(4000)),
+    (HELLO, Integer(1000)),
+    (FORWARD_DELAY, Integer(2100)),
+    (PRIORITY_1, Integer(16)),
+    (ENABLE_1, Integer(2)),
+    (COST_1, Integer(7)),
+    (COST_32_1, Integer(7)),
+    (VERSION, Integer(0)),
+    (HOLD_COUNT, Integer(1)),
+    (MIGRATION_1, Integer(2)),
+    (EDGE_1, Integer(1)),
+    (POINT_TO_POINT_1, Integer(1)),
+    (ADMIN_COST_1, Integer(7)),
+    (AGING, Integer(10)),
+];
+
+#[test]
+fn writes_all_at_once(rt: HostRuntime) -> Result<(), Fail> {
+    assert_sets(
+        &rt,
+        &[
+            Row::Assigned("all that is writable", FIFTEEN),
+            Row::Shown("all is read back", FIFTEEN),
+            Row::Assigned("the same again", FIFTEEN),
+            Row::Shown("nothing is changed", FIFTEEN),
+        ],
+    )
+}
