@@ -6,7 +6,7 @@ ghost use Rattle.vacm_core.specs.Families.{mask_bit, agrees_at, agrees_from, mat
 ghost use Rattle.vacm_core.specs.Rows.{same_group, same_access};
 ghost use Rattle.vacm_core.specs.Tables.{KeysDiffer};
 ghost use Rattle.vacm_core.specs.Keys.{group_key, access_key, IsIndex};
-ghost use Rattle.vacm_core.specs.Access.{is_known, is_of, fits_context, candidate, access_beats, deciding_access, has_view, view_of};
+ghost use Rattle.vacm_core.specs.Access.{is_known, is_of, fits_context, candidate, access_beats, deciding_access, view_of};
 
 use crate::contest::Contest;
 use crate::index::{Keyed, with_key};
@@ -218,17 +218,4 @@ pub fn view_of(row: &AccessRow, view: ViewType) -> &Name
         ViewType::Read => &row.read,
         ViewType::Write => &row.write,
     }
-}
-
-/// Whether a view has a name and a family.
-pub fn has_view(rows: &[FamilyRow], view: &Name) -> bool
-    ensures { result ≡ has_view rows.now view.now }
-{
-    !view.is_empty() && has_family(rows, view)
-}
-
-fn has_family(rows: &[FamilyRow], view: &Name) -> bool
-    ensures { result ≡ list_any (λ row. bytes_eq row.view view.now) rows.now }
-{
-    rows.iter().any(|row| row.view.is(view))
 }

@@ -1,8 +1,10 @@
 //! The family rows with their tree, and the row of a view that decides on a name.
-ghost use Rattle.std.specs.Prelude.{◌≡◌, ◌≤◌, ◌<◌, ◌+◌, ℕ, true, List, ◌∷◌, ◌++◌, length, IfOk, OnOk, OnErr, slice_index_or};
+ghost use Rattle.std.specs.Prelude.{◌≡◌, ◌≤◌, ◌<◌, ◌+◌, ℕ, true, List, ◌∷◌, ◌++◌, length, IfOk, OnOk, OnErr, bytes_eq, slice_index_or};
+ghost use Rattle.std.specs.List.{list_any};
 ghost use Rattle.std.specs.Option.{ForSome};
 ghost use Rattle.vacm_core.specs.Rows.{same_family};
 ghost use Rattle.vacm_core.specs.Tables.{KeysDiffer};
+ghost use Rattle.vacm_core.specs.Access.{has_view};
 ghost use Rattle.vacm_core.specs.Families.{deciding_family};
 ghost use Rattle.vacm_core.specs.Trees.{leads, fixed, view_way, way_of, IsPlaced, IsTreeOf};
 ghost use Rattle.vacm_core.specs.declared.tree.Step.{Step};
@@ -87,6 +89,37 @@ impl Families {
     {
         deciding_family(&self.tree, self.rows.as_slice(), view, name)
     }
+
+    /// Whether a view has a name and a family. It takes no memory. The tree is looked at first, so
+    /// only a view without a family costs a look at every row.
+    pub fn has_view(&self, view: &Name) -> bool
+        ensures { result ≡ has_view self.now view.now }
+    {
+        let rows = self.rows.as_slice();
+        !view.is_empty() && (is_of_view(rows, self.first_of(view), view) || has_family(rows, view))
+    }
+
+    // The number of a row that the tree has for a view.
+    fn first_of(&self, view: &Name) -> Option<usize> {
+        rows_of_view(&self.tree, view).first()
+    }
+}
+
+// Whether there is a row of this number, and it is of the view.
+fn is_of_view(rows: &[FamilyRow], n: Option<usize>, view: &Name) -> bool
+    ensures { result ≡ true → list_any (λ row. bytes_eq row.view view.now) rows.now ≡ true }
+{
+    match n.and_then(|n| rows.get(n)) {
+        Some(row) => row.view.is(view),
+        None => false,
+    }
+}
+
+// Whether some row is of the view.
+fn has_family(rows: &[FamilyRow], view: &Name) -> bool
+    ensures { result ≡ list_any (λ row. bytes_eq row.view view.now) rows.now }
+{
+    rows.iter().any(|row| row.view.is(view))
 }
 
 // A step that counts.

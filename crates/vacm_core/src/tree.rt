@@ -62,6 +62,18 @@ impl Tree {
         }
     }
 
+    /// The number of a row that is found by going on after the first step, and after the next, as
+    /// far as there is one.
+    pub fn first(&self) -> Option<usize> {
+        match self {
+            Tree::Empty => None,
+            Tree::Fork(node) => match node.row {
+                Some(row) => Some(row),
+                None => node.equal.first(),
+            },
+        }
+    }
+
     /// Puts a row at the end of its way, which is not empty, in place of what ends there.
     ///
     /// # Errors

@@ -184,7 +184,7 @@ impl Vacm {
         ensures verdict { result ≡ by_view self.now row view.now }
         ensures row { NamesRowOf self.now.access result }
     {
-        if deciding::has_view(self.families.as_slice(), view) {
+        if self.families.has_view(view) {
             Verdict::Allowed(row, view.copy())
         } else {
             Verdict::NoSuchView(row, view.copy())
