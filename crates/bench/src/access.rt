@@ -1,4 +1,4 @@
-//! Access: which row decides, among 10, 100 and 1,000 family rows.
+//! Access: which row decides, among 10, 100 and 1,000 rows.
 use crate::print::print_turns;
 use community_core::Policy;
 use oid_core::Oid;
@@ -10,10 +10,17 @@ use std::time::Instant;
 use vacm_core::{Ask, Level, Name, Vacm, Verdict, ViewType};
 
 /// How often each is asked.
-const TURNS: u32 = 20_000;
+const TURNS: u32 = 100_000;
 
-/// How many family rows there are.
-const FAMILIES: [u32; 3] = [10, 100, 1_000];
+/// How many rows there are.
+const ROWS: [u32; 3] = [10, 100, 1_000];
+
+/// A mask by which a name need not agree with the eighth number of a subtree.
+const ANY_GROUP: &str = "FE";
+
+/// The family of the view `last`, which is all of the bridge.
+const LAST: &[u8] =
+    b"[[family]]\nview = \"last\"\nsubtree = \"1.3.6.1.2.1.17\"\nmask = \"\"\nincluded = true\n";
 
 /// The rows but for the families: `public` may read and write the view `last`, whose family is the
 /// last row.
@@ -53,19 +60,35 @@ pub fn policy_of_families(alloc: Global, families: &str) -> io::Result<Policy> {
     policy_of(alloc, &text)
 }
 
-/// A policy of so many families: those of the view `bridge`, one a group of objects, and last the
-/// one of the view `last`, which is all of the bridge.
-pub fn policy_with(alloc: Global, families: u32) -> io::Result<Policy> {
+/// A policy of so many families: those of the view `bridge`, siblings under one node, one a group of
+/// objects, each with this mask, and last the one of the view `last`, which is all of the bridge.
+fn policy_with_masks(alloc: Global, families: u32, mask: &str) -> io::Result<Policy> {
     let mut text = Vec::from_slice(alloc, HEAD.as_bytes())?;
     for number in 1..families {
         writeln!(
             text,
-            "[[family]]\nview = \"bridge\"\nsubtree = \"1.3.6.1.2.1.17.{number}\"\nmask = \"\"\nincluded = true"
+            "[[family]]\nview = \"bridge\"\nsubtree = \"1.3.6.1.2.1.17.{number}\"\nmask = \"{mask}\"\nincluded = true"
         )?;
     }
-    text.extend_from_slice(
-        b"[[family]]\nview = \"last\"\nsubtree = \"1.3.6.1.2.1.17\"\nmask = \"\"\nincluded = true\n",
-    )?;
+    text.extend_from_slice(LAST)?;
+    policy_of(alloc, &text)
+}
+
+/// A policy of so many families, without masks.
+pub fn policy_with(alloc: Global, families: u32) -> io::Result<Policy> {
+    policy_with_masks(alloc, families, "")
+}
+
+// A policy of so many access rows: one of the group `readers`, and those of other groups.
+fn policy_with_access_rows(alloc: Global, rows: u32) -> io::Result<Policy> {
+    let mut text = Vec::from_slice(alloc, HEAD.as_bytes())?;
+    for number in 1..rows {
+        writeln!(
+            text,
+            "[[access]]\ngroup = \"g{number}\"\nprefix = \"\"\nmodel = 2\nlevel = 1\nexact = true\nread = \"last\"\nwrite = \"last\"\nnotify = \"\""
+        )?;
+    }
+    text.extend_from_slice(LAST)?;
     policy_of(alloc, &text)
 }
 
@@ -83,7 +106,7 @@ fn ask() -> io::Result<Ask> {
     })
 }
 
-fn measure_decide(rt: &HostRuntime, vacm: &Vacm, families: u32) -> io::Result<()> {
+fn measure_decide(rt: &HostRuntime, vacm: &Vacm) -> io::Result<()> {
     let mut ask = ask()?;
     let start = Instant::now(rt)?;
     let mut allowed = 0u32;
@@ -97,15 +120,15 @@ fn measure_decide(rt: &HostRuntime, vacm: &Vacm, families: u32) -> io::Result<()
             allowed = allowed.wrapping_add(1);
         }
     }
-    println!(rt; "{families} family rows, {allowed} allowed")?;
-    print_turns(rt, "decide", TURNS, &start)
+    print_turns(rt, "decide", TURNS, &start)?;
+    println!(rt; "{allowed} allowed")
 }
 
-// Names in eight groups of objects.
+// Names of 12 numbers in eight groups of objects.
 fn names(alloc: Global) -> io::Result<Vec<Oid>> {
     let mut names = Vec::new(alloc);
     for group in 1..9 {
-        let Ok(name) = Oid::from_slice(alloc, &[1, 3, 6, 1, 2, 1, 17, group, 2, 0]) else {
+        let Ok(name) = Oid::from_slice(alloc, &[1, 3, 6, 1, 2, 1, 17, group, 2, 0, 0, 1]) else {
             return Err(Error::from(ErrorKind::OutOfMemory));
         };
         names.push(name)?;
@@ -125,16 +148,31 @@ fn measure_in_view(rt: &HostRuntime, vacm: &Vacm) -> io::Result<()> {
             }
         }
     }
-    println!(rt; "{included} in the view")?;
-    print_turns(rt, "in_view", TURNS, &start)
+    print_turns(rt, "in_view", TURNS, &start)?;
+    println!(rt; "{included} in the view")
 }
 
-/// Decides on a request, and on a name in a view, among more and more family rows.
+fn measure_families(rt: &HostRuntime, families: u32) -> io::Result<()> {
+    println!(rt; "{families} family rows")?;
+    let policy = policy_with(rt.alloc(), families)?;
+    measure_decide(rt, policy.vacm())?;
+    measure_in_view(rt, policy.vacm())?;
+    println!(rt; "{families} family rows, each for any group of objects")?;
+    let policy = policy_with_masks(rt.alloc(), families, ANY_GROUP)?;
+    measure_in_view(rt, policy.vacm())
+}
+
+fn measure_access_rows(rt: &HostRuntime, rows: u32) -> io::Result<()> {
+    println!(rt; "{rows} access rows")?;
+    let policy = policy_with_access_rows(rt.alloc(), rows)?;
+    measure_decide(rt, policy.vacm())
+}
+
+/// Decides on a request, and on a name in a view, among more and more rows.
 pub fn measure_access(rt: &HostRuntime) -> io::Result<()> {
-    for families in FAMILIES {
-        let policy = policy_with(rt.alloc(), families)?;
-        measure_decide(rt, policy.vacm(), families)?;
-        measure_in_view(rt, policy.vacm())?;
+    for rows in ROWS {
+        measure_families(rt, rows)?;
+        measure_access_rows(rt, rows)?;
     }
     Ok(())
 }
