@@ -19,7 +19,8 @@ fn told_by<O: MibObject>(alloc: Global, object: &O, world: &World) -> (i32, usiz
 #[test]
 fn reads_a_boxed_object(rt: HostRuntime) -> Result<(), Fail> {
     let world = opening_world(rt.alloc())?;
-    let object: Box<dyn MibObject + Send> = Box::new(rt.alloc(), make_plain(1, false))?;
+    let plain = make_plain(rt.alloc(), 1, false)?;
+    let object: Box<dyn MibObject + Send> = Box::new(rt.alloc(), plain)?;
     assert_eq!(rt; told_by(rt.alloc(), &object, &world), (2, 3));
     Ok(())
 }
@@ -27,8 +28,8 @@ fn reads_a_boxed_object(rt: HostRuntime) -> Result<(), Fail> {
 #[test]
 fn walks_boxed_objects(rt: HostRuntime) -> Result<(), Fail> {
     let mut objects: Vec<Box<dyn MibObject + Send>> = Vec::new(rt.alloc());
-    objects.push(Box::new(rt.alloc(), make_plain(1, false))?)?;
-    objects.push(Box::new(rt.alloc(), make_plain(2, true))?)?;
-    objects.push(Box::new(rt.alloc(), make_plain(4, false))?)?;
+    objects.push(Box::new(rt.alloc(), make_plain(rt.alloc(), 1, false)?)?)?;
+    objects.push(Box::new(rt.alloc(), make_plain(rt.alloc(), 2, true)?)?)?;
+    objects.push(Box::new(rt.alloc(), make_plain(rt.alloc(), 4, false)?)?)?;
     walks(&rt, rt.alloc(), objects)
 }

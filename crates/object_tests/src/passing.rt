@@ -66,9 +66,9 @@ fn follower<O: MibObject>(
 // another dot1dBaseType.
 fn follows(alloc: Global, hidden: &[u32]) -> Result<[(u32, u32); 4], Fail> {
     let mut objects = Vec::new(alloc);
-    objects.push(make_plain(1, false))?;
-    objects.push(make_plain(2, true))?;
-    objects.push(make_plain(4, false))?;
+    objects.push(make_plain(alloc, 1, false)?)?;
+    objects.push(make_plain(alloc, 2, true)?)?;
+    objects.push(make_plain(alloc, 4, false)?)?;
     let registry = registry_of(objects)?;
     Ok([
         follower(alloc, &registry, &[0, 0], hidden)?,

@@ -1,5 +1,5 @@
 //! Objects made by hand.
-ghost use Rattle.std.specs.Prelude.{◌≡◌, [], ◌∷◌};
+ghost use Rattle.std.specs.Prelude.{◌≡◌, [], ◌∷◌, IfOk};
 ghost use Rattle.bridge_core.specs.Bridge.{port_count};
 ghost use Rattle.setphase_core.specs.Values.{scalar, by_port, value_at};
 ghost use Rattle.setphase_core.specs.Columns.{number};
@@ -10,11 +10,12 @@ use setphase_core::{
     port_after, port_at, scalar_after,
 };
 use std::alloc::Global;
+use std::test::Fail;
 
-/// dot1dBaseType or dot1dBasePort, under a name of three numbers.
+/// dot1dBaseType or dot1dBasePort, under any name.
 #[derive(Drop)]
 pub struct Plain {
-    pub name: [u32; 3],
+    pub name: Vec<u32>,
     pub by_port: bool,
     pub slots: Slots,
 }
@@ -27,7 +28,7 @@ impl MibObject for Plain {
 
     ghost state = { λ o. record {
       row = record {
-        prefix = o.name;
+        prefix = o.name.items;
         column = if o.by_port then column.BasePort base_port.Port else column.Base base.Type;
       };
       reserved = o.slots;
@@ -35,7 +36,7 @@ impl MibObject for Plain {
     } };
 
     fn prefix(&self) -> &[u32] {
-        &self.name
+        self.name.as_slice()
     }
 
     #[tactic(auto, unfolding(setphase_core::specs::Columns::shown_by))]
@@ -80,8 +81,8 @@ impl MibObject for Plain {
     }
 }
 
-/// What dot1dBaseType shows at an index.
-pub fn base_type(at: &[u32]) -> Option<Value>
+// What dot1dBaseType shows at an index.
+fn base_type(at: &[u32]) -> Option<Value>
     ensures { result ≡ value_at (scalar (number 2)) at.now }
 {
     if is_scalar(at) {
@@ -102,13 +103,13 @@ fn port_number(world: &World, at: &[u32]) -> Option<Value>
 }
 
 /// The object of 1.3 and one number more.
-pub fn make_plain(last: u32, by_port: bool) -> Plain
-    ensures name { result.name ≡ 1 ∷ 3 ∷ last ∷ [] }
-    ensures by_port { result.by_port ≡ by_port }
+pub fn make_plain(alloc: Global, last: u32, by_port: bool) -> Result<Plain, Fail>
+    ensures name { IfOk result (λ made. made.name.items ≡ 1 ∷ 3 ∷ last ∷ []) }
+    ensures by_port { IfOk result (λ made. made.by_port ≡ by_port) }
 {
-    Plain {
-        name: [1, 3, last],
+    Ok(Plain {
+        name: Vec::from_array(alloc, [1, 3, last])?,
         by_port,
         slots: Slots::new(),
-    }
+    })
 }

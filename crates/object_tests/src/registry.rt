@@ -79,17 +79,17 @@ pub fn walks<O: MibObject>(rt: &impl Abort, alloc: Global, objects: Vec<O>) -> R
 #[test]
 fn walks_plain_objects(rt: HostRuntime) -> Result<(), Fail> {
     let mut objects = Vec::new(rt.alloc());
-    objects.push(make_plain(1, false))?;
-    objects.push(make_plain(2, true))?;
-    objects.push(make_plain(4, false))?;
+    objects.push(make_plain(rt.alloc(), 1, false)?)?;
+    objects.push(make_plain(rt.alloc(), 2, true)?)?;
+    objects.push(make_plain(rt.alloc(), 4, false)?)?;
     walks(&rt, rt.alloc(), objects)
 }
 
 // The fault of two objects, and how many come back.
 fn refused(alloc: Global, first: u32, second: u32) -> Result<(RegistryFault, usize), Fail> {
     let mut objects = Vec::new(alloc);
-    objects.push(make_plain(first, false))?;
-    objects.push(make_plain(second, false))?;
+    objects.push(make_plain(alloc, first, false)?)?;
+    objects.push(make_plain(alloc, second, false)?)?;
     let (fault, objects) = Registry::new(objects).err().ok_or("refused")?;
     Ok((fault, objects.len()))
 }
@@ -112,8 +112,8 @@ fn owner_of<O: MibObject>(registry: &Registry<O>, name: &[u32]) -> u32 {
 #[test]
 fn finds_the_owner_of_a_name(rt: HostRuntime) -> Result<(), Fail> {
     let mut objects = Vec::new(rt.alloc());
-    objects.push(make_plain(1, false))?;
-    objects.push(make_plain(2, true))?;
+    objects.push(make_plain(rt.alloc(), 1, false)?)?;
+    objects.push(make_plain(rt.alloc(), 2, true)?)?;
     let registry = Registry::new(objects).ok().ok_or("a registry")?;
     let owners = [
         owner_of(&registry, &[1, 3, 2, 7]),
