@@ -50,7 +50,8 @@ fn put_last(out: &mut Out<'_>, name: &[u32]) -> usize
     requires { 2 ≤ length name.now }
     ensures same_reference { out.new.room.ghost_name ≡ out.old.room.ghost_name }
     ensures octets { written_octets out.new
-        ≡ flat_map canon_coded (drop (length name.now - result) name.now) ++ written_octets out.old }
+        ≡ flat_map canon_coded (drop (length name.now - result) name.now)
+        ++ written_octets out.old }
     ensures room { capacity out.new ≡ capacity out.old }
     ensures front { KeepsFront out.old out.new }
     ensures most { result + 2 ≤ length name.now }

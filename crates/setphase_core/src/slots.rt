@@ -87,7 +87,8 @@ impl Slots {
 
     /// What the setting of a committed slot had before.
     pub fn before(&self, slot: Slot) -> SettingValue
-        requires { (before : AnySetting) × (slice_get self.now slot.place ≡ Some (made slot before)) }
+        requires { (before : AnySetting) ×
+            (slice_get self.now slot.place ≡ Some (made slot before)) }
         ensures { slice_get self.now slot.place ≡ Some (made slot result) }
     {
         match self.slots.as_slice()[slot.place].old {
