@@ -58,7 +58,8 @@ fn feed_octet<S: Session>(
     requires { HasNoEnd buffers.old.line.items }
     ensures feeds { OnOk result ((rest : List ℕ) →
         Adds buffers.old.out.items buffers.new.out.items (λ said.
-        Feeds S.line_says session.old (buffers.old.line.items ++ (octet ∷ rest)) session.new (buffers.new.line.items ++ rest) said)) }
+        Feeds S.line_says session.old (buffers.old.line.items ++ (octet ∷ rest))
+        session.new (buffers.new.line.items ++ rest) said)) }
     ensures part { OnOk result (HasNoEnd buffers.new.line.items) }
     ensures same { OnErr result (buffers.new.out.items ≡ buffers.old.out.items) }
     ensures given_up { IfErr result (λ fault. (text rest : List ℕ) → text ≡ octet ∷ rest →
@@ -79,7 +80,8 @@ fn feed<S: Session>(session: &mut S, buffers: &mut Buffers, chunk: &[u8]) -> Res
     requires { HasNoEnd buffers.old.line.items }
     ensures feeds { OnOk result ((rest : List ℕ) →
         Adds buffers.old.out.items buffers.new.out.items (λ said.
-        Feeds S.line_says session.old (buffers.old.line.items ++ (chunk.now ++ rest)) session.new (buffers.new.line.items ++ rest) said)) }
+        Feeds S.line_says session.old (buffers.old.line.items ++ (chunk.now ++ rest))
+        session.new (buffers.new.line.items ++ rest) said)) }
     ensures part { OnOk result (HasNoEnd buffers.new.line.items) }
     ensures given_up { IfErr result (λ fault. (rest : List ℕ) →
         Adds buffers.old.out.items buffers.new.out.items (λ said.
@@ -110,7 +112,8 @@ fn end_session<S: Session>(session: &mut S, buffers: &mut Buffers) -> Result<(),
 fn finish_last_line<S: Session>(session: &mut S, buffers: &mut Buffers) -> Result<(), LineFault>
     requires { HasNoEnd buffers.old.line.items }
     ensures said { OnOk result (Adds buffers.old.out.items buffers.new.out.items (λ said.
-        Says S.line_says session.old (lines_of buffers.old.line.items) said session.new)) }
+        Says S.line_says session.old
+        (lines_of buffers.old.line.items) said session.new)) }
     ensures same { OnErr result (buffers.new.out.items ≡ buffers.old.out.items) }
     ensures some { OnErr result (0 < length buffers.old.line.items) }
     ensures given_up { IfErr result (λ fault.
@@ -127,7 +130,8 @@ fn finish_last_line<S: Session>(session: &mut S, buffers: &mut Buffers) -> Resul
 fn finish<S: Session>(session: &mut S, buffers: &mut Buffers) -> Result<(), LineFault>
     requires { HasNoEnd buffers.old.line.items }
     ensures said { OnOk result (Adds buffers.old.out.items buffers.new.out.items (λ said.
-        SaysAll S.line_says S.end_says session.old (lines_of buffers.old.line.items) said session.new)) }
+        SaysAll S.line_says S.end_says session.old
+        (lines_of buffers.old.line.items) said session.new)) }
     ensures given_up { IfErr result (λ fault.
         Adds buffers.old.out.items buffers.new.out.items (λ said.
         GivesUp S.line_says S.end_says S.may_give_up_line S.may_give_up_end session.old fault
@@ -181,7 +185,8 @@ fn serve<S: Session, W: Write>(
     requires empty { buffers.old.out.items ≡ [] }
     ensures feeds { OnOk result ((rest : List ℕ) →
         Writes (W.contents writer.old) (W.contents writer.new) (λ text.
-        Feeds S.line_says session.old (buffers.old.line.items ++ (chunk.now ++ rest)) session.new (buffers.new.line.items ++ rest) text)) }
+        Feeds S.line_says session.old (buffers.old.line.items ++ (chunk.now ++ rest))
+        session.new (buffers.new.line.items ++ rest) text)) }
     ensures part { OnOk result (HasNoEnd buffers.new.line.items) }
     ensures empty { OnOk result (buffers.new.out.items ≡ []) }
     ensures given_up { IfErr result (λ e. (fault : LineFault) → e ≡ run_fault fault →
@@ -190,7 +195,8 @@ fn serve<S: Session, W: Write>(
         (buffers.old.line.items ++ (chunk.now ++ rest)) rest text)) }
     ensures output { IfErr result (λ e. e ≡ RunFault.Output → (rest : List ℕ) →
         Writes (W.contents writer.old) (W.contents writer.new) (λ text. IsFrontOf (λ whole.
-        FeedsFirst S.line_says session.old (buffers.old.line.items ++ (chunk.now ++ rest)) whole) text)) }
+        FeedsFirst S.line_says session.old
+        (buffers.old.line.items ++ (chunk.now ++ rest)) whole) text)) }
     ensures kind { IfErr result (λ e. e ≢ RunFault.Input) }
 {
     let fed = feed(session, buffers, chunk);
@@ -208,14 +214,16 @@ fn close<S: Session, W: Write>(
     requires part { HasNoEnd buffers.old.line.items }
     requires empty { buffers.old.out.items ≡ [] }
     ensures written { OnOk result (Writes (W.contents writer.old) (W.contents writer.new) (λ text.
-        SaysAll S.line_says S.end_says session.old (lines_of buffers.old.line.items) text session.new)) }
+        SaysAll S.line_says S.end_says session.old
+        (lines_of buffers.old.line.items) text session.new)) }
     ensures given_up { IfErr result (λ e. (fault : LineFault) → e ≡ run_fault fault →
         Writes (W.contents writer.old) (W.contents writer.new) (λ text.
         GivesUp S.line_says S.end_says S.may_give_up_line S.may_give_up_end session.old fault
         buffers.old.line.items [] text)) }
     ensures output { IfErr result (λ e. e ≡ RunFault.Output →
         Writes (W.contents writer.old) (W.contents writer.new) (λ text.
-        IsFrontOf (λ whole. SaysSome S.line_says S.end_says session.old (lines_of buffers.old.line.items) whole) text)) }
+        IsFrontOf (λ whole. SaysSome S.line_says S.end_says session.old
+        (lines_of buffers.old.line.items) whole) text)) }
     ensures kind { IfErr result (λ e. e ≢ RunFault.Input) }
 {
     let finished = finish(session, buffers);
