@@ -1,7 +1,7 @@
 //! dot1dBase: the bridge and its ports (RFC 4188).
-ghost use Rattle.std.specs.Prelude.{◌≡◌, ◌≤◌, [], ◌∷◌};
+ghost use Rattle.std.specs.Prelude.{◌≡◌, [], ◌∷◌};
 ghost use Rattle.message_core.specs.declared.value.Value.TheVariants.{ObjectIdentifier};
-ghost use Rattle.bridge_core.specs.Bridge.{port_count};
+ghost use Rattle.bridge_core.specs.Bridge.{HasPort};
 ghost use Rattle.setphase_core.specs.Columns.{base_value, base_port_value};
 
 use crate::described::{Described, Descriptor};
@@ -74,8 +74,7 @@ fn no_circuit(alloc: Global) -> Value
 }
 
 fn base_port_value(alloc: Global, which: BasePort, bridge: &Bridge, port: u16) -> Value
-    requires first { 1 ≤ port }
-    requires last { port ≤ port_count bridge.now }
+    requires { HasPort bridge.now port }
     ensures { result ≡ base_port_value which bridge.now port }
 {
     match which {

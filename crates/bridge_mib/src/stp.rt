@@ -1,6 +1,6 @@
 //! dot1dStp: the spanning tree and its ports (RFC 4188).
-ghost use Rattle.std.specs.Prelude.{◌≡◌, ◌≤◌};
-ghost use Rattle.bridge_core.specs.Bridge.{port_count};
+ghost use Rattle.std.specs.Prelude.{◌≡◌};
+ghost use Rattle.bridge_core.specs.Bridge.{HasPort};
 ghost use Rattle.setphase_core.specs.Columns.{stp_value, stp_port_value};
 
 use crate::described::{Described, Descriptor};
@@ -96,8 +96,7 @@ impl Descriptor for Stp {
 pub type StpPortColumn = Described<StpPort>;
 
 fn stp_port_value(alloc: Global, which: StpPort, bridge: &Bridge, port: u16) -> Value
-    requires first { 1 ≤ port }
-    requires last { port ≤ port_count bridge.now }
+    requires { HasPort bridge.now port }
     ensures { result ≡ stp_port_value which bridge.now port }
 {
     let facts = bridge.port_facts(port);

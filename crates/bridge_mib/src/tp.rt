@@ -1,6 +1,6 @@
 //! dot1dTp: learned addresses, and what ports pass on (RFC 4188).
-ghost use Rattle.std.specs.Prelude.{◌≡◌, ◌≤◌};
-ghost use Rattle.bridge_core.specs.Bridge.{port_count};
+ghost use Rattle.std.specs.Prelude.{◌≡◌};
+ghost use Rattle.bridge_core.specs.Bridge.{HasPort};
 ghost use Rattle.setphase_core.specs.Columns.{tp_value, tp_port_value};
 
 use crate::described::{Described, Descriptor};
@@ -65,8 +65,7 @@ impl Descriptor for Tp {
 pub type TpPortColumn = Described<TpPort>;
 
 fn tp_port_value(which: TpPort, bridge: &Bridge, port: u16) -> Value
-    requires first { 1 ≤ port }
-    requires last { port ≤ port_count bridge.now }
+    requires { HasPort bridge.now port }
     ensures { result ≡ tp_port_value which bridge.now port }
 {
     match which {

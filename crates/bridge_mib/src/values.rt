@@ -1,6 +1,6 @@
 //! Values as the syntaxes of the modules have them (RFC 2578, 7.1; RFC 4188).
 ghost use Rattle.std.specs.Prelude.{◌≡◌, ◌≤◌, length};
-ghost use Rattle.bridge_core.specs.Bridge.{port_count};
+ghost use Rattle.bridge_core.specs.Bridge.{HasPort};
 ghost use Rattle.bridge_core.specs.Facts.{port_facts_of};
 ghost use Rattle.message_core.specs.declared.value.Value.TheVariants.{OctetString};
 ghost use Rattle.setphase_core.specs.Columns.{number, two_octets, bridge_id, timeout, ticks, cost, port_state, state_number, bridge_setting, port_setting};
@@ -98,8 +98,7 @@ pub fn bridge_setting(bridge: &Bridge, key: BridgeKey) -> Value
 
 /// The value of a setting of a port.
 pub fn port_setting(bridge: &Bridge, port: u16, key: PortKey) -> Value
-    requires first { 1 ≤ port }
-    requires last { port ≤ port_count bridge.now }
+    requires { HasPort bridge.now port }
     ensures { result ≡ port_setting bridge.now port key }
 {
     let _ports = bridge.ports();
@@ -108,8 +107,7 @@ pub fn port_setting(bridge: &Bridge, port: u16, key: PortKey) -> Value
 
 /// The cost of the path by a port that is in use (IEEE 802.1D-2004, 17.14).
 pub fn path_cost(bridge: &Bridge, port: u16) -> u32
-    requires first { 1 ≤ port }
-    requires last { port ≤ port_count bridge.now }
+    requires { HasPort bridge.now port }
     ensures cost { result ≡ (port_facts_of bridge.now port).cost }
     ensures most { result ≤ MAX_COST }
 {

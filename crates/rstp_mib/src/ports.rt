@@ -1,6 +1,6 @@
 //! dot1dStpExtPortTable (RFC 4318).
-ghost use Rattle.std.specs.Prelude.{◌≡◌, ◌≤◌};
-ghost use Rattle.bridge_core.specs.Bridge.{port_count};
+ghost use Rattle.std.specs.Prelude.{◌≡◌};
+ghost use Rattle.bridge_core.specs.Bridge.{HasPort};
 ghost use Rattle.setphase_core.specs.Columns.{truth, ext_port_value};
 
 use bridge_core::Bridge;
@@ -27,8 +27,7 @@ fn truth(is_so: bool) -> Value
 }
 
 fn ext_port_value(which: ExtPort, bridge: &Bridge, port: u16) -> Value
-    requires first { 1 ≤ port }
-    requires last { port ≤ port_count bridge.now }
+    requires { HasPort bridge.now port }
     ensures { result ≡ ext_port_value which bridge.now port }
 {
     match which {
