@@ -60,7 +60,7 @@ fn denials(
 /// The denied bindings of a request that is allowed in a view: those of a Get whose names are not
 /// in the view (RFC 3415, 3.2, notInView), each with the family that excludes its name, if one
 /// does. Only memory can fail, and only a Get takes some.
-pub fn denied_bindings(
+pub(crate) fn denied_bindings(
     alloc: Global,
     vacm: &Vacm,
     view: &Name,

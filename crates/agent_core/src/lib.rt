@@ -46,7 +46,6 @@ pub use answered::Answered;
 pub use answering::{answer, short_reply};
 pub use buffer::Buffer;
 pub use bulk::get_bulk;
-pub use denying::denied_bindings;
 pub use getting::get;
 pub use nexts::get_next;
 pub use source::{NOWHERE, Source, Successors, View};

@@ -61,7 +61,8 @@ fn plain_answer(
 fn refusal_answer(alloc: Global, vacm: &Vacm, refusal: Refusal) -> Result<SetTold, AllocError>
     requires index { refusal.index ≤ greatest_index }
     requires family { IfSome refusal.family (λ answer. NamesFamilyOf vacm.now.families answer) }
-    ensures told { IfOk result (λ answer. IsToldOf vacm.now.families (SetOutcome.Refused refusal) answer) }
+    ensures told { IfOk result (λ answer.
+        IsToldOf vacm.now.families (SetOutcome.Refused refusal) answer) }
     ensures takes { OnErr result (IsDenied (Some refusal)) }
 {
     let denied = denied_variable(alloc, vacm, refusal.index, refusal.family)?;

@@ -23,4 +23,4 @@ mod policies;
 mod rows;
 
 pub use octets::{policy_in, text_of};
-pub use policies::{has_policy_keys, policy_of};
+pub use policies::policy_of;

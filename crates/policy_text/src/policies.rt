@@ -1,5 +1,5 @@
 //! Reads a policy from a TOML table.
-ghost use Rattle.std.specs.Prelude.{◌≡◌, ◌≢◌, ◌⊎◌, IfOk, IfErr, OnOk, option_map, is_some, Some, None};
+ghost use Rattle.std.specs.Prelude.{◌≡◌, ◌≢◌, ◌⊎◌, IfOk, IfErr, OnOk, option_map, Some, None};
 ghost use Rattle.toml.specs.View.{table_view};
 ghost use Rattle.policy_text.specs.Policies.{arrays_in, arrays_of, AreRowsOf, IsUnreadOf, SaysRows, IsUnread, TakesMemoryOf, TakesMemory, RowsTakeMemory, IsPolicyFault, policy_tables, ArePolicyRowsRight, IsPolicy, IsWrongPolicy};
 ghost use Rattle.policy_text.specs.Said.{policy_of_members};
@@ -49,14 +49,6 @@ fn policy_arrays(table: &Table) -> Option<PolicyArrays<'_>>
         contexts,
         communities,
     })
-}
-
-/// Whether a table has exactly the keys of a policy, `contexts`, `community`, `group`, `access` and
-/// `family`, each an array.
-pub fn has_policy_keys(table: &Table) -> bool
-    ensures { result ≡ is_some (arrays_of (table_view table.now)) }
-{
-    policy_arrays(table).is_some()
 }
 
 // Reads the rows of the arrays, or names the first value that is no row.
