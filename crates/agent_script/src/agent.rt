@@ -1,7 +1,7 @@
 //! The agent that a script drives.
-ghost use Rattle.std.specs.Prelude.{◌≡◌, ◌≤◌, ◌++◌, false, IsSome, IfOk, OnOk, OnErr, Some, None, [], option_map, codes};
+ghost use Rattle.std.specs.Prelude.{◌≡◌, ◌++◌, false, IsSome, IfOk, OnOk, OnErr, Some, None, [], option_map, codes};
 ghost use Rattle.message_core.specs.Encodable.{AreEncodable};
-ghost use Rattle.bridge_core.specs.Bridge.{port_count};
+ghost use Rattle.bridge_core.specs.Bridge.{HasPort, port_count};
 ghost use Rattle.policy_text.specs.Texts.{policy_in};
 ghost use Rattle.frame_core.specs.Reading.{frame_at};
 ghost use Rattle.agent_script.specs.CommandViews.{command_view};
@@ -225,8 +225,7 @@ impl<O: MibObject> Agent<O> {
 
     // Answers a frame's octets at a port.
     fn frame(&mut self, port: u16, octets: &[u8], out: &mut Vec<u8>) -> Result<Note, AllocError>
-        requires first { 1 ≤ port }
-        requires last { port ≤ port_count self.old.system.world.bridge }
+        requires { HasPort self.old.system.world.bridge port }
         ensures met { IfOk result (λ note.
             MayMeetFrame self.old.system.world.bridge port (frame_at octets.now) note) }
         ensures said { IfOk result (λ note.

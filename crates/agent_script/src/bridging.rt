@@ -1,8 +1,8 @@
 //! What is said to the events of a bridge.
-ghost use Rattle.std.specs.Prelude.{◌≡◌, ◌≤◌, ◌++◌, codes, decimal, Bool, true, IfOk, OnOk, Some};
+ghost use Rattle.std.specs.Prelude.{◌≡◌, ◌++◌, codes, decimal, Bool, true, IfOk, OnOk, Some};
 ghost use Rattle.std.specs.List.{flat_map};
 ghost use Rattle.frame_core.specs.declared.bpdu.Bpdu.{Bpdu};
-ghost use Rattle.bridge_core.specs.Bridge.{address_of, port_count};
+ghost use Rattle.bridge_core.specs.Bridge.{HasPort, address_of};
 ghost use Rattle.bridge_core.specs.Events.{frame_result, after_tick, tick_of, link_of, after_link};
 ghost use Rattle.bridge_core.specs.Forwarding.{MayLackMemory};
 ghost use Rattle.agent_script.specs.Events.{System, with_bridge};
@@ -134,11 +134,11 @@ pub fn say_frame(
     frame: &FrameIn,
     out: &mut Vec<u8>,
 ) -> Result<bool, AllocError>
-    requires first { 1 ≤ port }
-    requires last { port ≤ port_count bridge.old }
+    requires { HasPort bridge.old port }
     ensures said { IfOk result (λ no_room.
         out.new.items ≡ out.old.items ++ forwarded_text (address_of bridge.old)
-        (frame_result bridge.old port frame.now no_room).egress (frame_result bridge.old port frame.now no_room).bpdus) }
+        (frame_result bridge.old port frame.now no_room).egress
+        (frame_result bridge.old port frame.now no_room).bpdus) }
     ensures after { IfOk result (λ no_room.
         bridge.new ≡ (frame_result bridge.old port frame.now no_room).bridge) }
     ensures note { IfOk result (λ no_room. no_room ≡ true →
@@ -184,8 +184,7 @@ pub fn say_link(
     up: bool,
     out: &mut Vec<u8>,
 ) -> Result<(), AllocError>
-    requires first { 1 ≤ port }
-    requires last { port ≤ port_count bridge.old }
+    requires { HasPort bridge.old port }
     ensures said { OnOk result (out.new.items ≡ out.old.items ++ bpdu_lines
         (address_of bridge.old) 1 (link_of port up bridge.old).bpdus) }
     ensures after { bridge.new ≡ after_link port up bridge.old }
