@@ -9,7 +9,7 @@ use Rattle.rstp_settings.specs.Table.{Table}
 use Rattle.rstp_settings.proofs.Same.{same_port-Decides, same_bridge-Decides}
 use Rattle.bridge_core.specs.Events.{settling_of, after_settling}
 use Rattle.setphase_core.specs.declared.world.World.{World}
-use Rattle.agent_core.specs.Sets.{same_settings, same_port_values, settled, settling_bpdus}
+use Rattle.agent_core.specs.Sets.{same_settings, same_port_values, settled_world, settling_bpdus}
 
 pub same_settings-Decides : (t u : Table) → Decides (same_settings t u) (t ≡ u)
 same_settings-Decides t u =
@@ -26,12 +26,12 @@ same_is before w false h =
     ]
 
 -- the same settings: nothing is settled
-pub unsettled : (before : Table) (w : World) (b : Bool) → (IsTrue b ↔ (w.bridge.settings ≡ before)) → b ≡ true → (w ≡ settled before w) × ([] ≡ settling_bpdus before w)
-unfolding settled settling_bpdus
+pub unsettled : (before : Table) (w : World) (b : Bool) → (IsTrue b ↔ (w.bridge.settings ≡ before)) → b ≡ true → (w ≡ settled_world before w) × ([] ≡ settling_bpdus before w)
+unfolding settled_world settling_bpdus
 unsettled before w b h e = rw (same_is before w b h ∙ e) (refl, refl)
 
 -- others: they are
 pub resettled : (before : Table) (w : World) (b : Bool) → (IsTrue b ↔ (w.bridge.settings ≡ before)) → b ≡ false
-    → (record w { bridge = after_settling w.bridge } ≡ settled before w) × ((settling_of w.bridge).bpdus ≡ settling_bpdus before w)
-unfolding settled settling_bpdus
+    → (record w { bridge = after_settling w.bridge } ≡ settled_world before w) × ((settling_of w.bridge).bpdus ≡ settling_bpdus before w)
+unfolding settled_world settling_bpdus
 resettled before w b h e = rw (same_is before w b h ∙ e) (refl, refl)

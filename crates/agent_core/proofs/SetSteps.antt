@@ -23,7 +23,7 @@ use Rattle.setting_keys.specs.declared.SettingKey.{SettingKey}
 use Rattle.setphase_core.specs.declared.sets.Refusal.{Refusal}
 use Rattle.setphase_core.specs.declared.sets.SetOutcome.{SetOutcome}
 use Rattle.setphase_core.specs.declared.world.World.{World}
-use Rattle.setphase_core.specs.Objects.{ObjectRow, ObjectState, released}
+use Rattle.setphase_core.specs.Objects.{ObjectRow, ObjectState, object_after_release}
 use Rattle.setphase_core.specs.Registry.{rows_of, prefixes_of, instances}
 use Rattle.setphase_core.specs.Variables.{Written, writings}
 use Rattle.setphase_core.specs.Together.{refusal_of}
@@ -31,7 +31,7 @@ use Rattle.setphase_core.specs.Outcomes.{SetNotes, refusal_in, notes_in, world_a
 use Rattle.agent_core.specs.Buffered.{Buffered}
 use Rattle.agent_core.specs.Denying.{denied_in}
 use Rattle.agent_core.specs.Replies.{reply_within_limit, refusal_reply, kind_reply}
-use Rattle.agent_core.specs.Sets.{SetStep, SetAnswer, is_too_long, too_long_reply, no_notes, set_answer, set_reply, set_step, settled, settling_bpdus, untested, tested, tested_by, IsToldOf, IsDeniedSet, MayFailInSet}
+use Rattle.agent_core.specs.Sets.{SetStep, SetAnswer, is_too_long, too_long_reply, no_notes, set_answer, set_reply, set_step, settled_world, settling_bpdus, untested_step, tested_step, tested_step_by, IsToldOf, IsDeniedSet, MayFailInSet}
 use Rattle.agent_core.specs.Answers.{Outcome, replied, Step, shown_of, outcome_by, outcome_of, world_by, world_after, with_count_of, drop_audit, reply_audit, step_of, step_by, reading_step, allowed_step, writing_step, IsSent, IsAnswered, IsReply, IsDone, IsTold, IsShort, IsStep, MayHave, MayFailBy, MayFailInView, TakesMemory, TakesInView, notes_told, without_answer}
 use Rattle.agent_core.specs.declared.answered.Answered.{Answered}
 use Rattle.agent_core.specs.declared.answered.Answered.TheVariants as answered
@@ -71,12 +71,12 @@ notes_are : (told : Answered) (len : ℕ) (audit : Audit) (failed : Option ℕ) 
 notes_are told len audit failed notes e f u = ap notes_told e ∙ (λ i. record { commit = f i; undos = u i })
 
 too_long_step : (objects : List ObjectState) (world : World) (view : List ℕ) (request : Request) (notes : SetNotes) → is_too_long request ≡ true
-    → set_step objects world view request notes ≡ untested objects world request
+    → set_step objects world view request notes ≡ untested_step objects world request
 unfolding set_step
 too_long_step objects world view request notes e = rw e refl
 
 fitting_step : (objects : List ObjectState) (world : World) (view : List ℕ) (request : Request) (notes : SetNotes) → is_too_long request ≡ false
-    → set_step objects world view request notes ≡ tested objects world view request notes
+    → set_step objects world view request notes ≡ tested_step objects world view request notes
 unfolding set_step
 fitting_step objects world view request notes e = rw e refl
 
@@ -86,7 +86,7 @@ pub too_long_done : (objects : List ObjectState) (world : World) (request : Requ
     → IsDone (writing_step request row view (set_step objects world view request (notes_told told))) told buffer world objects
 too_long_done objects world request row view sent told buffer e s b t =
     subst (λ (set : SetStep). IsDone (writing_step request row view set) told buffer world objects) (sym (too_long_step objects world view request (notes_told told) e))
-    (done_of request row view (untested objects world request) sent [] [] None told buffer world objects t s refl refl b refl refl)
+    (done_of request row view (untested_step objects world request) sent [] [] None told buffer world objects t s refl refl b refl refl)
 
 sent_as : (request : Request) (answer : SetAnswer) (status : ErrorStatus) (index : ℤ) (sent : SentReply) (octets : List ℕ) → status ≡ answer.status → index ≡ pos answer.index
     → IsSent (reply_within_limit (answer_to request status index request.bindings)) sent octets → IsSent (set_reply request answer) sent octets
@@ -107,7 +107,7 @@ pub set_done : (objects : List ObjectState) (world : World) (request : Request) 
     → after ≡ world_after_set (refusal_in outcome) (writings (rows_of objects) world request.bindings) world (notes_in outcome)
     → families ≡ world.policy.vacm.families
     → IsToldOf families outcome answer
-    → later ≡ settled world.bridge.settings after
+    → later ≡ settled_world world.bridge.settings after
     → buffer.bpdus ≡ settling_bpdus world.bridge.settings after
     → IsSent (reply_within_limit (answer_to request answer.status answer.index request.bindings)) sent buffer.reply
     → objects_later ≡ map (object_after (failed_names (writings (rows_of objects) world request.bindings) (notes_in outcome))) objects
@@ -117,12 +117,12 @@ set_done objects world request row view outcome answer sent buffer after later o
     let ws : List Written = writings (rows_of objects) world request.bindings in
     let kept : List FamilyRow = world.policy.vacm.families in
     let notes : SetNotes = notes_in outcome in
-    let by : Option Refusal → SetStep = λ (r : Option Refusal). tested_by objects world request notes (set_answer kept r notes) (world_after_set r ws world notes) in
+    let by : Option Refusal → SetStep = λ (r : Option Refusal). tested_step_by objects world request notes (set_answer kept r notes) (world_after_set r ws world notes) in
     let is : IsToldOf kept outcome answer = subst (λ (rows : List FamilyRow). IsToldOf rows outcome answer) families_are t in
     let main : IsDone (writing_step request row view (by (refusal_in outcome))) told buffer later objects_later =
     done_of request row view (by (refusal_in outcome)) sent answer.denied answer.unrestored answer.failed told buffer later objects_later told_is
     (sent_as request (set_answer kept (refusal_in outcome) notes) answer.status answer.index sent buffer.reply is.status is.index s) is.denied is.unrestored
-    (bpdus_are ∙ ap (settling_bpdus world.bridge.settings) after_is) (later_is ∙ ap (settled world.bridge.settings) after_is) objects_are in
+    (bpdus_are ∙ ap (settling_bpdus world.bridge.settings) after_is) (later_is ∙ ap (settled_world world.bridge.settings) after_is) objects_are in
     subst (λ (ns : SetNotes). IsDone (writing_step request row view (set_step objects world view request ns)) told buffer later objects_later)
     (sym (notes_told_of families outcome answer told request row view sent t told_is))
     (subst (λ (set : SetStep). IsDone (writing_step request row view set) told buffer later objects_later) (sym (fitting_step objects world view request notes fits))
@@ -197,7 +197,7 @@ set_told objects later_objects world later request row view told buffer d k m e 
 
 pub set_short : (objects later_objects : List ObjectState) (world later : World) (request : Request) (row : AccessKey) (view : List ℕ) (buffer : Buffered)
     → decision_on world.policy request ≡ Allowed row view → request.kind ≡ Set → length request.community ≤ MAX_COMMUNITY
-    → IsDeniedSet (rows_of objects) world view request → buffer.reply ≡ [] → buffer.bpdus ≡ [] → later ≡ world → later_objects ≡ map released objects
+    → IsDeniedSet (rows_of objects) world view request → buffer.reply ≡ [] → buffer.bpdus ≡ [] → later ≡ world → later_objects ≡ map object_after_release objects
     → IsShort objects world request buffer later later_objects
 set_short objects later_objects world later request row view buffer d k c t e b w o =
     record {
@@ -214,7 +214,7 @@ pub set_stepped : (objects later_objects : List ObjectState) (world later : Worl
     → IfOk r (λ told. MayFailInSet (rows_of objects) world view request (notes_told told))
     → IfOk r (λ told. IsDone (writing_step request row view (set_step objects world view request (notes_told told))) told buffer later later_objects)
     → OnErr r (IsDeniedSet (rows_of objects) world view request) → OnErr r (buffer.reply ≡ []) → OnErr r (buffer.bpdus ≡ [])
-    → OnErr r (later ≡ world) → OnErr r (later_objects ≡ map released objects)
+    → OnErr r (later ≡ world) → OnErr r (later_objects ≡ map object_after_release objects)
     → IsStep objects world request r buffer later later_objects
 set_stepped objects later_objects world later request row view (Ok told) buffer d k c m e t x b w o =
     set_told objects later_objects world later request row view told buffer d k m e

@@ -23,7 +23,7 @@ use Rattle.audit_core.specs.declared.denied.Denied.{Denied}
 use Rattle.setphase_core.specs.declared.world.World.{World}
 use Rattle.frame_core.specs.declared.bpdu.Bpdu.{Bpdu}
 use Rattle.setting_keys.specs.declared.SettingKey.{SettingKey}
-use Rattle.setphase_core.specs.Objects.{ObjectRow, ObjectState, released}
+use Rattle.setphase_core.specs.Objects.{ObjectRow, ObjectState, object_after_release}
 use Rattle.setphase_core.specs.Outcomes.{SetNotes}
 use Rattle.setphase_core.specs.Registry.{rows_of, prefixes_of, instances}
 use Rattle.agent_core.specs.Buffered.{Buffered}
@@ -274,7 +274,7 @@ abbrev pub without_answer : Kind → List ObjectState → List ObjectState
 without_answer Get objects = objects
 without_answer GetNext objects = objects
 without_answer GetBulk objects = objects
-without_answer Set objects = map released objects
+without_answer Set objects = map object_after_release objects
 
 -- There was no memory for the step: nothing that is shown has changed and nothing is told, and the
 -- request is one whose answer may take some.

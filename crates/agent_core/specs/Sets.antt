@@ -53,25 +53,25 @@ pub record SetAnswer : Type 0 where
   pub index : ℕ
   pub denied : List Denied
 
-abbrev pub refused : List FamilyRow → Refusal → SetAnswer
-refused families refusal = record {
+abbrev pub answer_of_refusal : List FamilyRow → Refusal → SetAnswer
+answer_of_refusal families refusal = record {
   status = refusal.status;
   index = refusal.index;
   denied = denied_variable families refusal.index refusal.family;
 }
 
 -- A commit failed: all was undone, or some could not be, which has index 0.
-abbrev pub failed : ℕ → List SettingKey → SetAnswer
-failed i [] = record { status = CommitFailed; index = i; denied = [] }
-failed i (key ∷ keys) = record { status = UndoFailed; index = 0; denied = [] }
+abbrev pub answer_of_failure : ℕ → List SettingKey → SetAnswer
+answer_of_failure i [] = record { status = CommitFailed; index = i; denied = [] }
+answer_of_failure i (key ∷ keys) = record { status = UndoFailed; index = 0; denied = [] }
 
-abbrev pub told_by : Option ℕ → List SettingKey → SetAnswer
-told_by None undos = record { status = NoError; index = 0; denied = [] }
-told_by (Some i) undos = failed i undos
+abbrev pub answer_of_notes : Option ℕ → List SettingKey → SetAnswer
+answer_of_notes None undos = record { status = NoError; index = 0; denied = [] }
+answer_of_notes (Some i) undos = answer_of_failure i undos
 
 abbrev pub set_answer : List FamilyRow → Option Refusal → SetNotes → SetAnswer
-set_answer families (Some refusal) notes = refused families refusal
-set_answer families None notes = told_by notes.commit notes.undos
+set_answer families (Some refusal) notes = answer_of_refusal families refusal
+set_answer families None notes = answer_of_notes notes.commit notes.undos
 
 -- A response to a Set has the bindings of the request, whatever its status.
 abbrev pub set_reply : Request → SetAnswer → Reply
@@ -109,8 +109,8 @@ same_settings a b =
     same_bridge_values a.bridge b.bridge && pointwise same_port_values a.ports b.ports
 
 -- Settings that differ from those of before are settled, once.
-unfoldable pub settled : Table → World → World
-settled before after =
+unfoldable pub settled_world : Table → World → World
+settled_world before after =
     if same_settings before after.bridge.settings then after
     else record after { bridge = after_settling after.bridge }
 
@@ -132,8 +132,8 @@ pub record SetStep : Type 0 where
   pub bpdus : List (Option Bpdu)
 
 -- One that is too long changes nothing.
-abbrev pub untested : List ObjectState → World → Request → SetStep
-untested objects world request = record {
+abbrev pub untested_step : List ObjectState → World → Request → SetStep
+untested_step objects world request = record {
   reply = too_long_reply request;
   denied = [];
   unrestored = [];
@@ -143,21 +143,21 @@ untested objects world request = record {
 }
 
 -- The other ones, by what they are refused for, and by what they leave before it is settled.
-abbrev pub tested_by : List ObjectState → World → Request → SetNotes → SetAnswer → World →
+abbrev pub tested_step_by : List ObjectState → World → Request → SetNotes → SetAnswer → World →
     SetStep
-tested_by objects world request notes answer after = record {
+tested_step_by objects world request notes answer after = record {
   reply = set_reply request answer;
   denied = answer.denied;
   unrestored = notes.undos;
-  world = settled world.bridge.settings after;
+  world = settled_world world.bridge.settings after;
   objects = map (object_after (failed_names
       (writings (rows_of objects) world request.bindings) notes)) objects;
   bpdus = settling_bpdus world.bridge.settings after;
 }
 
-abbrev pub tested : List ObjectState → World → List ℕ → Request → SetNotes → SetStep
-tested objects world view request notes =
-    tested_by objects world request notes
+abbrev pub tested_step : List ObjectState → World → List ℕ → Request → SetNotes → SetStep
+tested_step objects world view request notes =
+    tested_step_by objects world request notes
     (set_answer world.policy.vacm.families
     (refusal_of (rows_of objects) world view request.bindings) notes)
     (world_after_set (refusal_of (rows_of objects) world view request.bindings)
@@ -166,8 +166,8 @@ tested objects world view request notes =
 -- A Set in a view, where its calls of devices failed so.
 unfoldable pub set_step : List ObjectState → World → List ℕ → Request → SetNotes → SetStep
 set_step objects world view request notes =
-    if is_too_long request then untested objects world request
-    else tested objects world view request notes
+    if is_too_long request then untested_step objects world request
+    else tested_step objects world view request notes
 
 -- ---- what it may meet
 

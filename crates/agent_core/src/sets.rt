@@ -3,10 +3,10 @@ ghost use Rattle.std.specs.Prelude.{◌≡◌, ◌≤◌, ◌<◌, ◌^◌, [], 
 ghost use Rattle.message_core.specs.Encodable.{AreEncodable};
 ghost use Rattle.message_core.specs.declared.limits.TheConstants.{MAX_COMMUNITY};
 ghost use Rattle.vacm_core.specs.Families.{NamesFamilyOf};
-ghost use Rattle.setphase_core.specs.Objects.{released};
+ghost use Rattle.setphase_core.specs.Objects.{object_after_release};
 ghost use Rattle.setphase_core.specs.Registry.{rows_of};
 ghost use Rattle.setphase_core.specs.Outcomes.{refusal_in, notes_in, NamesASetting};
-ghost use Rattle.agent_core.specs.Sets.{greatest_index, set_step, settled, settling_bpdus, IsDenied, IsDeniedSet, IsToldOf, MayFailInSet};
+ghost use Rattle.agent_core.specs.Sets.{greatest_index, set_step, settled_world, settling_bpdus, IsDenied, IsDeniedSet, IsToldOf, MayFailInSet};
 ghost use Rattle.agent_core.specs.Answers.{IsDone, notes_told, writing_step};
 
 use crate::answered::Answered;
@@ -109,7 +109,7 @@ fn set_answer(alloc: Global, vacm: &Vacm, outcome: SetOutcome) -> Result<SetTold
 // Settles settings that differ from those of before, and keeps what the ports send.
 fn settle_changed(before: &Settings, world: &mut World, buffer: &mut Buffer)
     requires { buffer.old.bpdus ≡ [] }
-    ensures world { world.new ≡ settled before.now world.old }
+    ensures world { world.new ≡ settled_world before.now world.old }
     ensures bpdus { buffer.new.bpdus ≡ settling_bpdus before.now world.old }
     ensures reply { buffer.new.reply ≡ buffer.old.reply }
 {
@@ -177,7 +177,7 @@ pub(crate) fn answer_set<O: MibObject>(
     ensures empty { OnErr result (buffer.new.reply ≡ []) }
     ensures unsent { OnErr result (buffer.new.bpdus ≡ []) }
     ensures unchanged { OnErr result (world.new ≡ world.old) }
-    ensures kept { OnErr result (registry.new ≡ map released registry.old) }
+    ensures kept { OnErr result (registry.new ≡ map object_after_release registry.old) }
 {
     if buffer.is_too_long(request) {
         let sent = buffer.put_too_long(request);

@@ -1,7 +1,7 @@
 //! dot1dStpPortEnable over a device that switches lines (RFC 4188).
 ghost use Rattle.std.specs.Prelude.{◌≡◌, ◌+◌, ℕ, [], slice_get, Some, OnOk, OnErr};
 ghost use Rattle.setting_keys.specs.declared.SettingValue.{SettingValue as AnySetting};
-ghost use Rattle.setphase_core.specs.Objects.{IsReserved, IsCommitted, committed, failed_once, made};
+ghost use Rattle.setphase_core.specs.Objects.{IsReserved, IsCommitted, object_after_commit, object_after_failure, committed_reservation};
 ghost use Rattle.setphase_core.specs.Settings.{setting, put, IsSettingInRange};
 ghost use Rattle.bridge_mib.specs.Line.{state_of, port_enable, is_enabled};
 
@@ -96,11 +96,12 @@ impl<L: LineDriver> MibObject for PortEnable<L> {
         requires { IsReserved world.old (state_of L.failures self.old) slot }
         ensures put { OnOk result (world.new ≡ put world.old slot.key slot.value) }
         ensures kept { OnOk result (state_of L.failures self.new
-            ≡ committed (state_of L.failures self.old) slot (setting world.old slot.key)) }
+            ≡ object_after_commit (state_of L.failures self.old) slot
+            (setting world.old slot.key)) }
         ensures before { OnOk result (IsSettingInRange slot.key (setting world.old slot.key)) }
         ensures unchanged { OnErr result (world.new ≡ world.old) }
         ensures failed { OnErr result
-            (state_of L.failures self.new ≡ failed_once (state_of L.failures self.old)) }
+            (state_of L.failures self.new ≡ object_after_failure (state_of L.failures self.old)) }
         // The driver is told, whatever the line is already.
         ensures told { (port : ℕ) → slot.key ≡ port_enable port
             → L.told self.old.driver port (is_enabled slot.value) result self.new.driver }
@@ -114,16 +115,16 @@ impl<L: LineDriver> MibObject for PortEnable<L> {
         requires { (before : AnySetting)
             × IsCommitted world.old (state_of L.failures self.old) slot before }
         ensures put { OnOk result ((before : AnySetting)
-            → slice_get self.old.reserved slot.place ≡ Some (made slot before)
+            → slice_get self.old.reserved slot.place ≡ Some (committed_reservation slot before)
             → world.new ≡ put world.old slot.key before) }
         ensures kept { OnOk result
             (state_of L.failures self.new ≡ state_of L.failures self.old) }
         ensures unchanged { OnErr result (world.new ≡ world.old) }
         ensures failed { OnErr result
-            (state_of L.failures self.new ≡ failed_once (state_of L.failures self.old)) }
+            (state_of L.failures self.new ≡ object_after_failure (state_of L.failures self.old)) }
         // The driver is told, whatever the line is already.
         ensures told { (before : AnySetting) (port : ℕ)
-            → slice_get self.old.reserved slot.place ≡ Some (made slot before)
+            → slice_get self.old.reserved slot.place ≡ Some (committed_reservation slot before)
             → slot.key ≡ port_enable port
             → L.told self.old.driver port (is_enabled before) result self.new.driver }
     {

@@ -6,7 +6,7 @@ use Rattle.setphase_core.specs.declared.staging.Staged.{Staged}
 use Rattle.setphase_core.specs.declared.staging.Standing.TheVariants.{First}
 use Rattle.setphase_core.specs.declared.staging.TestedVariable.{TestedVariable}
 use Rattle.setphase_core.specs.declared.world.World.{World}
-use Rattle.setphase_core.specs.Objects.{ObjectState, released}
+use Rattle.setphase_core.specs.Objects.{ObjectState, object_after_release}
 use Rattle.setphase_core.specs.Registry.{rows_of}
 use Rattle.setphase_core.specs.Staging.{assignments_of, ArePending, IsDistinct}
 use Rattle.setphase_core.specs.Tested.{staged_by, IsPassed}
@@ -24,7 +24,7 @@ one_more es e = length-append es (e ∷ [])
 
 pub two_staged : (w : World) (view : List ℕ) (b d : Binding) (os ns zs : List ObjectState)
     (es fs gs : List Staged) (n m : ℕ) (u v : TestedVariable) → n ≡ 0 → es ≡ [] → m ≡ n + 1 →
-    port_count w.bridge ≡ length w.bridge.settings.ports → os ≡ map released os →
+    port_count w.bridge ≡ length w.bridge.settings.ports → os ≡ map object_after_release os →
     IsPassed os ns w view n b es fs u → IsPassed ns zs w view m d fs gs v → v.standing ≡ First →
     AreTwo w zs gs
 two_staged w view b d os ns zs es fs gs n m u v none empty more even fresh p₁ q₁ first =

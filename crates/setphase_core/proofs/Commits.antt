@@ -5,7 +5,7 @@ use Rattle.std.proofs.lemmas.Bool.Decides.{eqb_tells}
 use Rattle.setphase_core.specs.declared.object.Assignment.{Assignment}
 use Rattle.setphase_core.specs.declared.staging.Staged.{Staged}
 use Rattle.setphase_core.specs.declared.world.World.{World}
-use Rattle.setphase_core.specs.Objects.{ObjectState, IsCommitted, pending, made, committed, released, failed_once}
+use Rattle.setphase_core.specs.Objects.{ObjectState, IsCommitted, pending_reservation, committed_reservation, object_after_commit, object_after_release, object_after_failure}
 use Rattle.setphase_core.specs.Settings.{setting, put, HasSetting, IsSettingInRange}
 use Rattle.setphase_core.specs.Staging.{object_at, entry_at, assignments_of, IsDistinct, StandsReserved, StandsCommitted, ArePending, AreCommitted}
 use Rattle.setphase_core.specs.Together.{assign}
@@ -16,14 +16,14 @@ use Rattle.setphase_core.proofs.Holding.{Holds, holds_reserved, holds_committed,
 -- The objects after the commit of an entry.
 abbrev pub after_commit : List ObjectState → World → Staged → List ObjectState
 after_commit os w e =
-    slice_set os e.object (committed (object_at os e.object) e.slot (setting w e.slot.key))
+    slice_set os e.object (object_after_commit (object_at os e.object) e.slot (setting w e.slot.key))
 
 abbrev pub put_entry : World → Staged → World
 put_entry w e = put w e.slot.key e.slot.value
 
 -- The objects after the device of an entry's object failed.
 abbrev pub after_failure : List ObjectState → Staged → List ObjectState
-after_failure os e = slice_set os e.object (failed_once (object_at os e.object))
+after_failure os e = slice_set os e.object (object_after_failure (object_at os e.object))
 
 -- The settings of the committed entries were there before.
 pub had_key : (before w : World) (os : List ObjectState) (es : List Staged) (n : ℕ)
@@ -47,8 +47,8 @@ pending_more w os es i d h pends = record {
       let f = entry_at es k in
       let here : StandsReserved w os (entry_at es i) = pends.stands i (omega arith) h in
       let there : StandsReserved w os (entry_at es k) = pends.stands k (omega arith) high in
-      let after : Holds (object_at (after_commit os w (entry_at es i)) (entry_at es k).object) (entry_at es k).slot.place (pending (entry_at es k).slot)
-      = holds_others os e.object e.slot (setting w e.slot.key) (pending e.slot) f.object f.slot.place (pending f.slot) here.within (holds_reserved w (object_at os e.object) e.slot here.reserved) (holds_reserved w (object_at os f.object) f.slot there.reserved) (distinct_below es i k d (omega arith) high) in
+      let after : Holds (object_at (after_commit os w (entry_at es i)) (entry_at es k).object) (entry_at es k).slot.place (pending_reservation (entry_at es k).slot)
+      = holds_others os e.object e.slot (setting w e.slot.key) (pending_reservation e.slot) f.object f.slot.place (pending_reservation f.slot) here.within (holds_reserved w (object_at os e.object) e.slot here.reserved) (holds_reserved w (object_at os f.object) f.slot there.reserved) (distinct_below es i k d (omega arith) high) in
       record {
         within = omega (arith, there.within, length-set {A = ObjectState});
         reserved = record {
@@ -66,7 +66,7 @@ just_committed : (before w : World) (os : List ObjectState) (e : Staged) →
     IsSettingInRange e.slot.key (setting w e.slot.key) →
     StandsCommitted before (put_entry w e) (after_commit os w e) e
 just_committed before w os e here was range =
-    let after : Holds (object_at (after_commit os w e) e.object) e.slot.place (made e.slot (setting w e.slot.key))
+    let after : Holds (object_at (after_commit os w e) e.object) e.slot.place (committed_reservation e.slot (setting w e.slot.key))
     = holds_made os e.object e.slot (setting w e.slot.key) here.within here.reserved.place in
     record {
       within = omega (arith, here.within, length-set {A = ObjectState});
@@ -83,8 +83,8 @@ still_committed : (before w : World) (os : List ObjectState) (e f : Staged) →
     StandsReserved w os e → StandsCommitted before w os f → f.slot.key ≢ e.slot.key →
     StandsCommitted before (put_entry w e) (after_commit os w e) f
 still_committed before w os e f here there ne =
-    let after : Holds (object_at (after_commit os w e) f.object) f.slot.place (made f.slot (setting before f.slot.key))
-    = holds_others os e.object e.slot (setting w e.slot.key) (pending e.slot) f.object f.slot.place (made f.slot (setting before f.slot.key)) here.within (holds_reserved w (object_at os e.object) e.slot here.reserved) (holds_committed w (object_at os f.object) f.slot (setting before f.slot.key) there.committed) ne in
+    let after : Holds (object_at (after_commit os w e) f.object) f.slot.place (committed_reservation f.slot (setting before f.slot.key))
+    = holds_others os e.object e.slot (setting w e.slot.key) (pending_reservation e.slot) f.object f.slot.place (committed_reservation f.slot (setting before f.slot.key)) here.within (holds_reserved w (object_at os e.object) e.slot here.reserved) (holds_committed w (object_at os f.object) f.slot (setting before f.slot.key) there.committed) ne in
     record {
       within = omega (arith, there.within, length-set {A = ObjectState});
       committed = record {
@@ -153,8 +153,8 @@ committed_after_failure before w v os ns es n e h world objects done =
       stands = λ k low.
           let f = entry_at es k in
           let there : StandsCommitted before w os (entry_at es k) = done.stands k low in
-          let after : Holds (object_at (after_failure os e) (entry_at es k).object) (entry_at es k).slot.place (made (entry_at es k).slot (setting before (entry_at es k).slot.key))
-          = holds_after_failure os e.object f.object f.slot.place (made f.slot (setting before f.slot.key)) h (holds_committed w (object_at os f.object) f.slot (setting before f.slot.key) there.committed) in
+          let after : Holds (object_at (after_failure os e) (entry_at es k).object) (entry_at es k).slot.place (committed_reservation (entry_at es k).slot (setting before (entry_at es k).slot.key))
+          = holds_after_failure os e.object f.object f.slot.place (committed_reservation f.slot (setting before f.slot.key)) h (holds_committed w (object_at os f.object) f.slot (setting before f.slot.key) there.committed) in
           record {
             within = omega (arith, there.within, length-set {A = ObjectState});
             committed = record {
@@ -174,16 +174,16 @@ next_pending w os es ds i n e f h pends =
 
 -- What all objects are, once all is dropped, after a commit and after a failure.
 pub released_after_commit : (w : World) (os ns zs : List ObjectState) (e : Staged) →
-    ns ≡ after_commit os w e → map released os ≡ zs → map released ns ≡ zs
+    ns ≡ after_commit os w e → map object_after_release os ≡ zs → map object_after_release ns ≡ zs
 released_after_commit w os ns zs e after same =
-    ap (map released) after
+    ap (map object_after_release) after
     ∙ released-committed os e.object e.slot (setting w e.slot.key)
     ∙ same
 
 pub released_after_failure : (os ns zs : List ObjectState) (e : Staged) →
-    ns ≡ after_failure os e → map released os ≡ zs →
-    map released ns ≡ slice_set zs e.object (failed_once (object_at zs e.object))
+    ns ≡ after_failure os e → map object_after_release os ≡ zs →
+    map object_after_release ns ≡ slice_set zs e.object (object_after_failure (object_at zs e.object))
 released_after_failure os ns zs e after same =
-    ap (map released) after
+    ap (map object_after_release) after
     ∙ released-failed os e.object
-    ∙ ap (λ ys. slice_set ys e.object (failed_once (object_at ys e.object))) same
+    ∙ ap (λ ys. slice_set ys e.object (object_after_failure (object_at ys e.object))) same

@@ -7,7 +7,7 @@ use Rattle.setting_keys.specs.declared.SettingKey.{SettingKey}
 use Rattle.setphase_core.specs.declared.object.Assignment.{Assignment}
 use Rattle.setphase_core.specs.declared.staging.Staged.{Staged}
 use Rattle.setphase_core.specs.declared.world.World.{World}
-use Rattle.setphase_core.specs.Objects.{ObjectRow, ObjectState, released, failed_once}
+use Rattle.setphase_core.specs.Objects.{ObjectRow, ObjectState, object_after_release, object_after_failure}
 use Rattle.setphase_core.specs.Registry.{rows_of, prefixes_of}
 use Rattle.setphase_core.specs.Searching.{prefix_at, IsOwnerPlace}
 use Rattle.setphase_core.specs.Settings.{same_setting}
@@ -96,22 +96,22 @@ key_for rows (e ∷ es) (y ∷ xs) (suc k) x h at = key_for rows es xs k x h.2 a
 
 -- ---- the failures of objects, told by names
 
-none_failed : (o : ObjectState) → released o ≡ object_after [] o
+none_failed : (o : ObjectState) → object_after_release o ≡ object_after [] o
 none_failed o =
     let same : o.failures ≡ o.failures + 0 = omega arith in
     ap (λ n. record o { reserved = []; failures = n }) same
 
-pub none_failed_all : (os : List ObjectState) → map released os ≡ map (object_after []) os
+pub none_failed_all : (os : List ObjectState) → map object_after_release os ≡ map (object_after []) os
 none_failed_all [] = refl
 none_failed_all (o ∷ os) =
-    ap (λ z. z ∷ map released os) (none_failed o)
+    ap (λ z. z ∷ map object_after_release os) (none_failed o)
     ∙ ap (λ zs. object_after [] o ∷ zs) (none_failed_all os)
 
 abbrev is_own : ObjectState → List ℕ → Bool
 is_own o name = is_prefix o.row.prefix name
 
 failed_own : (o : ObjectState) (name : List ℕ) (names : List (List ℕ)) → is_own o name ≡ true →
-    failed_once (object_after names o) ≡ object_after (name ∷ names) o
+    object_after_failure (object_after names o) ≡ object_after (name ∷ names) o
 failed_own o name names own =
     let more : count_by (is_own o) (name ∷ names) ≡ 1 + count_by (is_own o) names
     = sum_by-cons (λ n. cond (is_own o n) 1 0) name names ∙ ap (λ b. cond b 1 0 + count_by (is_own o) names) own in
@@ -139,14 +139,14 @@ failed_others (o ∷ os) name names h =
 
 failed_more : (os : List ObjectState) (p : ℕ) (name : List ℕ) (names : List (List ℕ)) →
     IsOwnerPlace (names_in os) name (Some p) →
-    slice_set (map (object_after names) os) p (failed_once (object_at (map (object_after names) os) p))
+    slice_set (map (object_after names) os) p (object_after_failure (object_at (map (object_after names) os) p))
     ≡ map (object_after (name ∷ names)) os
 failed_more [] p name names h = absurd (omega (arith, h.0))
 failed_more (o ∷ os) zero name names h =
     ap (λ z. z ∷ map (object_after names) os) (failed_own o name names h.1)
     ∙ ap (λ zs. object_after (name ∷ names) o ∷ zs) (failed_others os name names (λ k low. h.2 (suc k) (omega arith) (omega arith)))
 failed_more (o ∷ os) (suc p) name names h =
-    ap (λ z. z ∷ slice_set (map (object_after names) os) p (failed_once (object_at (map (object_after names) os) p))) (failed_other o name names (h.2 0 (omega arith) (omega arith)))
+    ap (λ z. z ∷ slice_set (map (object_after names) os) p (object_after_failure (object_at (map (object_after names) os) p))) (failed_other o name names (h.2 0 (omega arith) (omega arith)))
     ∙ ap (λ zs. object_after (name ∷ names) o ∷ zs) (failed_more os p name names (omega (arith, h.0), h.1, λ k low ne. h.2 (suc k) (omega arith) (omega arith)))
 
 -- The devices of the objects of entries failed, after others.
@@ -157,7 +157,7 @@ failed_for os zs names [] [] before h = before
 failed_for os zs names [] (x ∷ xs) before h = absurd h
 failed_for os zs names (e ∷ es) [] before h = absurd h
 failed_for os zs names (e ∷ es) (x ∷ xs) before h =
-    ap (λ ys. slice_set ys e.object (failed_once (object_at ys e.object))) (failed_for os zs names es xs before h.2)
+    ap (λ ys. slice_set ys e.object (object_after_failure (object_at ys e.object))) (failed_for os zs names es xs before h.2)
     ∙ failed_more os e.object x.name (map (λ x. x.name) xs ++ names) h.1
 
 -- ---- the settings that variables write, and those of them that are committed
@@ -280,14 +280,14 @@ module _ (os : List ObjectState) (ws : List Written) (es : List Staged) (i : ℕ
       same_value o x y p q = cc
 
   -- What the objects are: the failed commit and the failed undos are counted by their names.
-  pub failures_told : failed_at (places_of (entries_of keys (take i es))) (failed_at (failing_place es (Some i)) (map released os))
+  pub failures_told : failed_at (places_of (entries_of keys (take i es))) (failed_at (failing_place es (Some i)) (map object_after_release os))
       ≡ map (object_after (failed_by ws (Some (entry_at es i).number) keys)) os
   failures_told =
       let x = at.0 in
-      let commit : failed_at (failing_place es (Some i)) (map released os) ≡ map (object_after (at.0.name ∷ [])) os
-      = ap (λ zs. slice_set zs (entry_at es i).object (failed_once (object_at zs (entry_at es i).object))) (none_failed_all os)
+      let commit : failed_at (failing_place es (Some i)) (map object_after_release os) ≡ map (object_after (at.0.name ∷ [])) os
+      = ap (λ zs. slice_set zs (entry_at es i).object (object_after_failure (object_at zs (entry_at es i).object))) (none_failed_all os)
       ∙ failed_more os (entry_at es i).object at.0.name [] (staged.placed i at.0 at.1) in
-      failed_for os (failed_at (failing_place es (Some i)) (map released os)) (x.name ∷ []) (entries_of keys (take i es)) (stuck ws (entry_at es i).number keys) commit stuck_for
+      failed_for os (failed_at (failing_place es (Some i)) (map object_after_release os)) (x.name ∷ []) (entries_of keys (take i es)) (stuck ws (entry_at es i).number keys) commit stuck_for
       ∙ ap (λ names. map (object_after names) os) (ap (λ ys. map (λ (y : Written). y.name) (stuck ws (entry_at es i).number keys) ++ map (λ (y : Written). y.name) ys) (sym (one_at ws ((entry_at es i).number - 1) x number_is.there))
       ∙ sym (map-append (λ (y : Written). y.name) (stuck ws (entry_at es i).number keys) (take 1 (drop ((entry_at es i).number - 1) ws))))
 
@@ -303,11 +303,11 @@ module _ (os : List ObjectState) (ws : List Written) (es : List Staged) (i : ℕ
   -- What the objects are, by what they were before the tests, after them, after the commits and
   -- after the undos.
   pub objects_told : (tested made undone : List ObjectState) →
-      map released tested ≡ map released os →
-      map released made ≡ failed_at (failing_place es (Some i)) (map released tested) →
-      map released undone
-      ≡ failed_at (places_of (entries_of keys (take i es))) (map released made) →
-      map released undone ≡ map (object_after (failed_by ws (Some (entry_at es i).number) keys)) os
+      map object_after_release tested ≡ map object_after_release os →
+      map object_after_release made ≡ failed_at (failing_place es (Some i)) (map object_after_release tested) →
+      map object_after_release undone
+      ≡ failed_at (places_of (entries_of keys (take i es))) (map object_after_release made) →
+      map object_after_release undone ≡ map (object_after (failed_by ws (Some (entry_at es i).number) keys)) os
   objects_told tested made undone same commit undo =
       undo
       ∙ ap (failed_at (places_of (entries_of keys (take i es)))) (commit ∙ ap (failed_at (failing_place es (Some i))) same)

@@ -8,7 +8,7 @@ use Rattle.setting_keys.specs.declared.SettingValue.{SettingValue}
 use Rattle.setphase_core.specs.declared.object.Reservation.{Reservation}
 use Rattle.setphase_core.specs.declared.object.Slot.{Slot}
 use Rattle.setphase_core.specs.declared.world.World.{World}
-use Rattle.setphase_core.specs.Objects.{ObjectState, IsReserved, IsCommitted, pending, made, committed, released, failed_once}
+use Rattle.setphase_core.specs.Objects.{ObjectState, IsReserved, IsCommitted, pending_reservation, committed_reservation, object_after_commit, object_after_release, object_after_failure}
 use Rattle.setphase_core.specs.Staging.{object_at, no_object}
 
 slice_get-set_other : {X : Type 0} (xs : List X) (i j : ℕ) (y : X) → i ≢ j →
@@ -42,20 +42,20 @@ pub record Holds (o : ObjectState) (p : ℕ) (r : Reservation) : Type 0 where
   pub stands : slice_get o.reserved p ≡ Some r
 
 pub holds_reserved : (w : World) (o : ObjectState) (slot : Slot) → IsReserved w o slot →
-    Holds o slot.place (pending slot)
+    Holds o slot.place (pending_reservation slot)
 holds_reserved w o slot h = record { within = h.place; stands = h.stands }
 
 pub holds_committed : (w : World) (o : ObjectState) (slot : Slot) (old : SettingValue) →
-    IsCommitted w o slot old → Holds o slot.place (made slot old)
+    IsCommitted w o slot old → Holds o slot.place (committed_reservation slot old)
 holds_committed w o slot old h = record { within = h.place; stands = h.stands }
 
 -- A commit of a slot keeps what is held for another setting.
 pub holds_others : (os : List ObjectState) (i : ℕ) (slot : Slot) (old : SettingValue)
     (r : Reservation) (j p : ℕ) (t : Reservation) → i < length os →
     Holds (object_at os i) slot.place r → Holds (object_at os j) p t → t.key ≢ r.key →
-    Holds (object_at (slice_set os i (committed (object_at os i) slot old)) j) p t
+    Holds (object_at (slice_set os i (object_after_commit (object_at os i) slot old)) j) p t
 holds_others os i slot old r j p t h here there ne =
-    let o : ObjectState = committed (object_at os i) slot old in
+    let o : ObjectState = object_after_commit (object_at os i) slot old in
     elim (eqb_tells j i) [
       | inl e ↦
           let same : object_at (slice_set os i o) j ≡ o = ap (object_at (slice_set os i o)) e.1 ∙ get_or-set_same os i o no_object h in
@@ -70,19 +70,19 @@ holds_others os i slot old r j p t h here there ne =
 -- The slot that was committed is held so.
 pub holds_made : (os : List ObjectState) (i : ℕ) (slot : Slot) (old : SettingValue) →
     i < length os → slot.place < length (object_at os i).reserved →
-    Holds (object_at (slice_set os i (committed (object_at os i) slot old)) i) slot.place (made slot old)
+    Holds (object_at (slice_set os i (object_after_commit (object_at os i) slot old)) i) slot.place (committed_reservation slot old)
 holds_made os i slot old h place =
-    subst (λ z. Holds z slot.place (made slot old)) (sym (get_or-set_same os i (committed (object_at os i) slot old) no_object h)) (record {
+    subst (λ z. Holds z slot.place (committed_reservation slot old)) (sym (get_or-set_same os i (object_after_commit (object_at os i) slot old) no_object h)) (record {
       within = omega (arith, place, length-set {A = Reservation});
-      stands = slice_get-set_same (object_at os i).reserved slot.place (made slot old) place;
+      stands = slice_get-set_same (object_at os i).reserved slot.place (committed_reservation slot old) place;
     })
 
 -- A failure of a device changes nothing that is held.
 pub holds_after_failure : (os : List ObjectState) (i j p : ℕ) (t : Reservation) →
     i < length os → Holds (object_at os j) p t →
-    Holds (object_at (slice_set os i (failed_once (object_at os i))) j) p t
+    Holds (object_at (slice_set os i (object_after_failure (object_at os i))) j) p t
 holds_after_failure os i j p t h there =
-    let o : ObjectState = failed_once (object_at os i) in
+    let o : ObjectState = object_after_failure (object_at os i) in
     elim (eqb_tells j i) [
       | inl e ↦
           let same : object_at (slice_set os i o) j ≡ o = ap (object_at (slice_set os i o)) e.1 ∙ get_or-set_same os i o no_object h in
@@ -94,21 +94,21 @@ holds_after_failure os i j p t h there =
 -- ---- objects of which all is dropped
 
 object_at-released : (os : List ObjectState) (i : ℕ) →
-    object_at (map released os) i ≡ released (object_at os i)
+    object_at (map object_after_release os) i ≡ object_after_release (object_at os i)
 object_at-released [] i = refl
 object_at-released (o ∷ os) zero = refl
 object_at-released (o ∷ os) (suc i) = object_at-released os i
 
 -- A commit changes only what is reserved.
 pub released-committed : (os : List ObjectState) (i : ℕ) (slot : Slot) (old : SettingValue) →
-    map released (slice_set os i (committed (object_at os i) slot old)) ≡ map released os
+    map object_after_release (slice_set os i (object_after_commit (object_at os i) slot old)) ≡ map object_after_release os
 released-committed os i slot old =
-    map-set_same released os i (committed (object_at os i) slot old) no_object refl
+    map-set_same object_after_release os i (object_after_commit (object_at os i) slot old) no_object refl
 
 -- A failure counts also where all is dropped.
 pub released-failed : (os : List ObjectState) (i : ℕ) →
-    map released (slice_set os i (failed_once (object_at os i)))
-    ≡ slice_set (map released os) i (failed_once (object_at (map released os) i))
+    map object_after_release (slice_set os i (object_after_failure (object_at os i)))
+    ≡ slice_set (map object_after_release os) i (object_after_failure (object_at (map object_after_release os) i))
 released-failed os i =
-    map-set released os i (failed_once (object_at os i))
-    ∙ ap (λ (z : ObjectState). slice_set (map released os) i (failed_once z)) (sym (object_at-released os i))
+    map-set object_after_release os i (object_after_failure (object_at os i))
+    ∙ ap (λ (z : ObjectState). slice_set (map object_after_release os) i (object_after_failure z)) (sym (object_at-released os i))

@@ -4,10 +4,10 @@ use Rattle.std.proofs.lemmas.List.{map-set, length-map, get_or-map}
 use Rattle.std.proofs.lemmas.List.Edits.{map_over_more}
 use Rattle.std.proofs.Math.Seq.{map-set_same}
 use Rattle.std.proofs.lemmas.Grind.{common_steps}
-use Rattle.setphase_core.specs.Objects.{ObjectState, released}
+use Rattle.setphase_core.specs.Objects.{ObjectState, object_after_release}
 use Rattle.setphase_core.specs.Registry.{rows_of, first_fault, AreNamed, held_count}
 
-pub rows_of-released : (os : List ObjectState) → rows_of (map released os) ≡ rows_of os
+pub rows_of-released : (os : List ObjectState) → rows_of (map object_after_release os) ≡ rows_of os
 rows_of-released [] = refl
 rows_of-released (o ∷ os) = ap (λ rows. o.row ∷ rows) (rows_of-released os)
 
@@ -18,20 +18,20 @@ state_at f xs i x h e = ap f e ∙ sym (get_or-map f xs i x (f x) h)
 -- One more object is released.
 pub release_more : {O : Type 0} (state : O → ObjectState) (objects : List O)
     (os : List ObjectState) (i : ℕ) (x y : O) → i < length os → length objects ≡ length os →
-    map state objects ≡ map released (take i os) ++ drop i os → x ≡ get_or objects i x →
-    state y ≡ released (state (get_or objects i x)) →
-    map state (slice_set objects i y) ≡ map released (take (i + 1) os) ++ drop (i + 1) os
+    map state objects ≡ map object_after_release (take i os) ++ drop i os → x ≡ get_or objects i x →
+    state y ≡ object_after_release (state (get_or objects i x)) →
+    map state (slice_set objects i y) ≡ map object_after_release (take (i + 1) os) ++ drop (i + 1) os
 release_more state objects os i x y h len inv at is =
     map-set state objects i y
-    ∙ ap (λ z. slice_set (map state objects) i z) (is ∙ ap (λ z. released (state z)) (sym at))
-    ∙ map_over_more released os (map state objects) i (state x) h inv
+    ∙ ap (λ z. slice_set (map state objects) i z) (is ∙ ap (λ z. object_after_release (state z)) (sym at))
+    ∙ map_over_more object_after_release os (map state objects) i (state x) h inv
     (state_at state objects i x (omega arith) at)
 
 -- All objects are released.
 pub release_end : {O : Type 0} (state : O → ObjectState) (objects : List O)
     (os : List ObjectState) (i : ℕ) → length os ≤ i →
-    map state objects ≡ map released (take i os) ++ drop i os →
-    map state objects ≡ map released os
+    map state objects ≡ map object_after_release (take i os) ++ drop i os →
+    map state objects ≡ map object_after_release os
 release_end state objects os i h inv = grind (arith, common_steps, inv)
 
 -- What a registry knows of its objects, by their rows.

@@ -5,7 +5,7 @@ use Rattle.message_core.specs.declared.binding.Binding.{Binding}
 use Rattle.setting_keys.specs.declared.SettingKey.{SettingKey}
 use Rattle.setphase_core.specs.declared.world.World.{World}
 use Rattle.setphase_core.specs.declared.staging.Staged.{Staged}
-use Rattle.setphase_core.specs.Objects.{ObjectRow, ObjectState, released}
+use Rattle.setphase_core.specs.Objects.{ObjectRow, ObjectState, object_after_release}
 use Rattle.setphase_core.specs.Registry.{rows_of}
 use Rattle.setphase_core.specs.Variables.{Written, writings}
 use Rattle.setphase_core.specs.Together.{assign, assignments, contradicting, timer_numbers, timers_agree, disagreeing, inconsistent, joint_refusals, refusal_of}
@@ -74,12 +74,12 @@ module _ (os os₁ os₂ : List ObjectState) (w v u : World) (ws : List Written)
     (es fs gs : List Staged) (i n : ℕ) (keys : List SettingKey)
     (staged : AreStaged (rows_of os) ws es) (distinct : IsDistinct (assignments_of es))
     (kept : fs ≡ es) (looked : gs ≡ fs) (at : n ≡ i) (failed : HasFailed w v os₁ es i)
-    (commits : map released os₁ ≡ failed_at (failing_place es (Some i)) (map released os))
+    (commits : map object_after_release os₁ ≡ failed_at (failing_place es (Some i)) (map object_after_release os))
     (told : keys ≡ entry_keys (entries_of keys (take n fs)))
     (undone : (before : World) → AreCommitted before v os₁ fs n →
     v ≡ assign (take n (assignments_of fs)) before →
     u ≡ assign (assignments_of (entries_of keys (take n fs))) before)
-    (undos : map released os₂ ≡ failed_at (places_of (entries_of keys (take n fs))) (map released os₁)) where
+    (undos : map object_after_release os₂ ≡ failed_at (places_of (entries_of keys (take n fs))) (map object_after_release os₁)) where
   front : take n fs ≡ take i es
   front = ap (λ m. take m fs) at ∙ ap (take i) kept
 
@@ -102,31 +102,31 @@ module _ (os os₁ os₂ : List ObjectState) (w v u : World) (ws : List Written)
       ∙ ap (λ ps. assign ps w) (stuck_assignments os ws es i keys staged failed.within distinct)
       ∙ ap (λ m. assign (assignments (stuck ws m keys)) w) (sym number)
 
-  pub ended_objects : map released os₂ ≡ map (object_after (failed_by ws (Some (entry_at gs i).number) keys)) os
+  pub ended_objects : map object_after_release os₂ ≡ map (object_after (failed_by ws (Some (entry_at gs i).number) keys)) os
   ended_objects =
       undos
-      ∙ ap (λ xs. failed_at (places_of (entries_of keys xs)) (map released os₁)) front
+      ∙ ap (λ xs. failed_at (places_of (entries_of keys xs)) (map object_after_release os₁)) front
       ∙ ap (failed_at (places_of (entries_of keys (take i es)))) commits
       ∙ failures_told os ws es i keys staged failed.within distinct
       ∙ ap (λ m. map (object_after (failed_by ws (Some m) keys)) os) (sym number)
 
 -- ---- a registry that was released
 
-pub released-twice : (os : List ObjectState) → map released (map released os) ≡ map released os
+pub released-twice : (os : List ObjectState) → map object_after_release (map object_after_release os) ≡ map object_after_release os
 released-twice [] = refl
-released-twice (o ∷ os) = ap (λ zs. released o ∷ zs) (released-twice os)
+released-twice (o ∷ os) = ap (λ zs. object_after_release o ∷ zs) (released-twice os)
 
-pub fresh : (os ns : List ObjectState) → ns ≡ map released os → ns ≡ map released ns
-fresh os ns e = e ∙ sym (released-twice os) ∙ ap (map released) (sym e)
+pub fresh : (os ns : List ObjectState) → ns ≡ map object_after_release os → ns ≡ map object_after_release ns
+fresh os ns e = e ∙ sym (released-twice os) ∙ ap (map object_after_release) (sym e)
 
 pub after-released : (names : List (List ℕ)) (os : List ObjectState) →
-    map (object_after names) (map released os) ≡ map (object_after names) os
+    map (object_after names) (map object_after_release os) ≡ map (object_after names) os
 after-released names [] = refl
 after-released names (o ∷ os) = ap (λ zs. object_after names o ∷ zs) (after-released names os)
 
 -- The registry of a Set, once its staging is dropped.
 pub dropped : (os now ns before : List ObjectState) (names : List (List ℕ)) →
-    ns ≡ map released now → map released now ≡ map (object_after names) before →
-    before ≡ map released os → ns ≡ map (object_after names) os
+    ns ≡ map object_after_release now → map object_after_release now ≡ map (object_after names) before →
+    before ≡ map object_after_release os → ns ≡ map (object_after names) os
 dropped os now ns before names e done released =
     e ∙ done ∙ ap (map (object_after names)) released ∙ after-released names os

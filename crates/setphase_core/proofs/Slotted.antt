@@ -6,7 +6,7 @@ use Rattle.std.proofs.lemmas.Option.{slice_get_within}
 use Rattle.setphase_core.specs.declared.world.World.{World}
 use Rattle.setphase_core.specs.declared.object.Slot.{Slot}
 use Rattle.setphase_core.specs.declared.staging.Staged.{Staged}
-use Rattle.setphase_core.specs.Objects.{ObjectRow, ObjectState, IsReserved, reserve, pending}
+use Rattle.setphase_core.specs.Objects.{ObjectRow, ObjectState, IsReserved, reserve, pending_reservation}
 use Rattle.setphase_core.specs.Registry.{prefixes_of}
 use Rattle.setphase_core.specs.Searching.{IsOwnerPlace}
 use Rattle.setphase_core.specs.Variables.{Written}
@@ -74,8 +74,8 @@ reserved_more : (w : World) (o : ObjectState) (s t : Slot) → IsReserved w o t 
 reserved_more w o s t h = record {
   key = h.key;
   value = h.value;
-  place = omega (arith, h.place, length-append o.reserved (pending s ∷ []));
-  stands = slice_get-append o.reserved (pending s ∷ []) t.place _ h.stands;
+  place = omega (arith, h.place, length-append o.reserved (pending_reservation s ∷ []));
+  stands = slice_get-append o.reserved (pending_reservation s ∷ []) t.place _ h.stands;
 }
 
 stands_more : (w : World) (os : List ObjectState) (p : ℕ) (s : Slot) (e : Staged) →
@@ -111,8 +111,8 @@ pending_more w os es p s n h place legal all = record {
       reserved = subst (λ z. IsReserved w z s) (sym (get_or-set_same os p _ no_object h)) (record {
         key = legal.key;
         value = legal.value;
-        place = omega (arith, place, length-append (object_at os p).reserved (pending s ∷ []));
-        stands = ap (slice_get ((object_at os p).reserved ++ pending s ∷ [])) place ∙ slice_get-last (object_at os p).reserved _;
+        place = omega (arith, place, length-append (object_at os p).reserved (pending_reservation s ∷ []));
+        stands = ap (slice_get ((object_at os p).reserved ++ pending_reservation s ∷ [])) place ∙ slice_get-last (object_at os p).reserved _;
       });
     })
     | inr q ↦
@@ -127,7 +127,7 @@ pub few_more : (os : List ObjectState) (p : ℕ) (s : Slot) (i : ℕ) → p < le
     (q : ℕ) → length (object_at (slice_set os p (reserve (object_at os p) s)) q).reserved ≤ suc i
 few_more os p s i h few q = elim (eqb_tells q p) [
   | inl e ↦ subst (λ z. length z.reserved ≤ suc i) (sym (ap (object_at (slice_set os p (reserve (object_at os p) s))) e.1 ∙ get_or-set_same os p _ no_object h))
-      (omega (arith, few p, length-append (object_at os p).reserved (pending s ∷ [])))
+      (omega (arith, few p, length-append (object_at os p).reserved (pending_reservation s ∷ [])))
   | inr e ↦ subst (λ z. length z.reserved ≤ suc i) (sym (get_or-set_other os p q _ no_object e.1)) (omega (arith, few q))
 ]
 

@@ -11,7 +11,7 @@ use Rattle.setphase_core.specs.declared.staging.Standing.{Standing}
 use Rattle.setphase_core.specs.declared.staging.Standing.TheVariants.{First, Repeats, Contradicts}
 use Rattle.setphase_core.specs.declared.staging.TestedVariable.{TestedVariable}
 use Rattle.setphase_core.specs.declared.staging.VariableFault.{VariableFault}
-use Rattle.setphase_core.specs.Objects.{ObjectRow, ObjectState, reserve, released}
+use Rattle.setphase_core.specs.Objects.{ObjectRow, ObjectState, reserve, object_after_release}
 use Rattle.setphase_core.specs.Registry.{rows_of, prefixes_of}
 use Rattle.setphase_core.specs.Searching.{IsOwnerPlace}
 use Rattle.setphase_core.specs.Settings.{put}
@@ -47,14 +47,14 @@ pub record Stages (rows : List ObjectRow) (w : World) (view : List ℕ) (bs : Li
   pub agrees : contradiction ≡ None → Agrees (assignments_of es) earlier
   pub same : contradiction ≡ None → assign (assignments earlier) w ≡ assign (assignments_of es) w
 
-none_reserved : (os : List ObjectState) (p : ℕ) → length (object_at (map released os) p).reserved ≤ 0
+none_reserved : (os : List ObjectState) (p : ℕ) → length (object_at (map object_after_release os) p).reserved ≤ 0
 none_reserved [] p = omega arith
 none_reserved (o ∷ os) zero = omega arith
 none_reserved (o ∷ os) (suc p) = none_reserved os p
 
 -- Before the first test.
 pub stages_begin : (w : World) (view : List ℕ) (bs : List Binding) (os : List ObjectState) →
-    os ≡ map released os → Stages (rows_of os) w view bs os [] None None 0
+    os ≡ map object_after_release os → Stages (rows_of os) w view bs os [] None None 0
 stages_begin w view bs os released = record {
   earlier = [];
   all = refl;

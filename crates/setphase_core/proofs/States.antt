@@ -5,7 +5,7 @@ use Rattle.std.proofs.Math.Seq.{map-set_same}
 use Rattle.setting_keys.specs.declared.SettingValue.{SettingValue}
 use Rattle.setphase_core.specs.declared.object.SetFault.{SetFault}
 use Rattle.setphase_core.specs.declared.object.Slot.{Slot}
-use Rattle.setphase_core.specs.Objects.{ObjectState, reserve, released, committed, failed_once}
+use Rattle.setphase_core.specs.Objects.{ObjectState, reserve, object_after_release, object_after_commit, object_after_failure}
 use Rattle.setphase_core.specs.Registry.{rows_of, prefixes_of, first_fault, AreNamed}
 use Rattle.setphase_core.specs.Searching.{prefix_at}
 use Rattle.setphase_core.specs.Staging.{object_at, no_object}
@@ -17,13 +17,13 @@ rows_of-set os i o e = map-set_same (λ (o : ObjectState). o.row) os i o no_obje
 
 -- What a call that commits leaves of an object's row, and what one that undoes does.
 pub row_after_commit : {T E : Type 0} (r : Result T E) (o n : ObjectState) (slot : Slot)
-    (before : SettingValue) → OnOk r (n ≡ committed o slot before) →
-    OnErr r (n ≡ failed_once o) → n.row ≡ o.row
+    (before : SettingValue) → OnOk r (n ≡ object_after_commit o slot before) →
+    OnErr r (n ≡ object_after_failure o) → n.row ≡ o.row
 row_after_commit (Ok v) o n slot before kept failed = ap (λ (z : ObjectState). z.row) kept
 row_after_commit (Err e) o n slot before kept failed = ap (λ (z : ObjectState). z.row) failed
 
 pub row_after_undo : {T E : Type 0} (r : Result T E) (o n : ObjectState) → OnOk r (n ≡ o) →
-    OnErr r (n ≡ failed_once o) → n.row ≡ o.row
+    OnErr r (n ≡ object_after_failure o) → n.row ≡ o.row
 row_after_undo (Ok v) o n kept failed = ap (λ (z : ObjectState). z.row) kept
 row_after_undo (Err e) o n kept failed = ap (λ (z : ObjectState). z.row) failed
 
@@ -76,9 +76,9 @@ prefix_of_object (o ∷ os) (suc p) = prefix_of_object os p
 
 -- What an object reserves is gone once it is released.
 pub reserved-released : (os : List ObjectState) (p : ℕ) (slot : Slot) →
-    map released (slice_set os p (reserve (object_at os p) slot)) ≡ map released os
+    map object_after_release (slice_set os p (reserve (object_at os p) slot)) ≡ map object_after_release os
 reserved-released os p slot =
-    map-set_same released os p (reserve (object_at os p) slot) no_object refl
+    map-set_same object_after_release os p (reserve (object_at os p) slot) no_object refl
 
 -- What holds anyway holds also where there is an error.
 pub on_err_always : {T E P : Type 0} (r : Result T E) → P → OnErr r P

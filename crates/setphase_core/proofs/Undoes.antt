@@ -4,7 +4,7 @@ use Rattle.setting_keys.specs.declared.SettingKey.{SettingKey}
 use Rattle.setting_keys.specs.declared.SettingValue.{SettingValue}
 use Rattle.setphase_core.specs.declared.staging.Staged.{Staged}
 use Rattle.setphase_core.specs.declared.world.World.{World}
-use Rattle.setphase_core.specs.Objects.{ObjectState, made, released, failed_once}
+use Rattle.setphase_core.specs.Objects.{ObjectState, committed_reservation, object_after_release, object_after_failure}
 use Rattle.setphase_core.specs.Settings.{setting, put, HasSetting}
 use Rattle.setphase_core.specs.Staging.{object_at, entry_at, assignment_of_entry, assignments_of, IsDistinct, StandsCommitted, AreCommitted, failed_at, entries_of, places_of}
 use Rattle.setphase_core.specs.Together.{assign}
@@ -23,8 +23,8 @@ pub record Undoes (w₁ : World) (os₁ : List ObjectState) (es : List Staged) (
       w₁ ≡ assign (take n (assignments_of es)) before →
       w ≡ assign (take m (assignments_of es)
       ++ assignments_of (entries_of keys (drop m (take n es)))) before
-  pub objects : map released os
-      ≡ failed_at (places_of (entries_of keys (drop m (take n es)))) (map released os₁)
+  pub objects : map object_after_release os
+      ≡ failed_at (places_of (entries_of keys (drop m (take n es)))) (map object_after_release os₁)
 
 pub undo_start : (w : World) (os : List ObjectState) (es : List Staged) (n : ℕ) →
     Undoes w os es n w os n []
@@ -36,7 +36,7 @@ undo_start w os es n =
       world = λ before done was.
           was
           ∙ ap (λ ps. assign ps before) (sym (ap (λ xs. take n (assignments_of es) ++ assignments_of xs) none ∙ append-nil (take n (assignments_of es))));
-      objects = sym (ap (λ xs. failed_at (places_of xs) (map released os)) none);
+      objects = sym (ap (λ xs. failed_at (places_of xs) (map object_after_release os)) none);
     }
 
 pub undo_end : (w₁ w : World) (os₁ os : List ObjectState) (es : List Staged) (n m : ℕ)
@@ -85,7 +85,7 @@ module _ (w₁ w v : World) (os₁ os ns : List ObjectState) (es ds : List Stage
   -- The last commit was undone.
   pub undo_step : ns ≡ os →
       ((value : SettingValue) → slice_get (object_at os (entry_at ds (m - 1)).object).reserved (entry_at ds (m - 1)).slot.place
-      ≡ Some (made (entry_at ds (m - 1)).slot value) →
+      ≡ Some (committed_reservation (entry_at ds (m - 1)).slot value) →
       v ≡ put w (entry_at ds (m - 1)).slot.key value) →
       Undoes w₁ os₁ es n v ns k keys
   undo_step objects puts =
@@ -95,7 +95,7 @@ module _ (w₁ w v : World) (os₁ os ns : List ObjectState) (es ds : List Stage
       = stay_same es k m n one low high distinct keys undoes.told in
       let put_old : (before : World) → AreCommitted before w₁ os₁ es n → v ≡ put w (entry_at es k).slot.key (setting before (entry_at es k).slot.key)
       = λ before done.
-      subst (λ (z : Staged). slice_get (object_at os z.object).reserved z.slot.place ≡ Some (made z.slot (setting before e.slot.key)) → v ≡ put w z.slot.key (setting before e.slot.key)) at (puts (setting before e.slot.key)) ((undoes.stands before done).stands k (omega arith)).committed.stands in
+      subst (λ (z : Staged). slice_get (object_at os z.object).reserved z.slot.place ≡ Some (committed_reservation z.slot (setting before e.slot.key)) → v ≡ put w z.slot.key (setting before e.slot.key)) at (puts (setting before e.slot.key)) ((undoes.stands before done).stands k (omega arith)).committed.stands in
       record {
         stands = λ before done. committed_after_put before w v os ns es m k e.slot.key (setting before e.slot.key) (omega arith) (put_old before done) objects (undoes.stands before done);
         told = undoes.told ∙ ap entry_keys (sym stay);
@@ -110,7 +110,7 @@ module _ (w₁ w v : World) (os₁ os ns : List ObjectState) (es ds : List Stage
             (has_all-entries keys (drop m (take n es)) before (has_all-between es m n before (has_all-taken es n before high had)))
             (had k (omega arith))
             ∙ ap (λ xs. assign (take k (assignments_of es) ++ assignments_of xs) before) (sym stay);
-        objects = ap (map released) objects ∙ undoes.objects ∙ ap (λ xs. failed_at (places_of xs) (map released os₁)) (sym stay);
+        objects = ap (map object_after_release) objects ∙ undoes.objects ∙ ap (λ xs. failed_at (places_of xs) (map object_after_release os₁)) (sym stay);
       }
 
   -- The device failed that was to undo the last commit.
@@ -132,7 +132,7 @@ module _ (w₁ w v : World) (os₁ os ns : List ObjectState) (es ds : List Stage
             ∙ ap (λ ps. assign ps before) (take_last es m k (assignments_of (entries_of keys (drop m (take n es)))) one (omega arith))
             ∙ ap (λ xs. assign (take k (assignments_of es) ++ assignments_of xs) before) (sym stay);
         objects =
-            released_after_failure os ns (failed_at (places_of (entries_of keys (drop m (take n es)))) (map released os₁)) (entry_at ds (m - 1)) objects undoes.objects
-            ∙ ap (λ (z : Staged). slice_set (failed_at (places_of (entries_of keys (drop m (take n es)))) (map released os₁)) z.object (failed_once (object_at (failed_at (places_of (entries_of keys (drop m (take n es)))) (map released os₁)) z.object))) at
-            ∙ ap (λ xs. failed_at (places_of xs) (map released os₁)) (sym stay);
+            released_after_failure os ns (failed_at (places_of (entries_of keys (drop m (take n es)))) (map object_after_release os₁)) (entry_at ds (m - 1)) objects undoes.objects
+            ∙ ap (λ (z : Staged). slice_set (failed_at (places_of (entries_of keys (drop m (take n es)))) (map object_after_release os₁)) z.object (object_after_failure (object_at (failed_at (places_of (entries_of keys (drop m (take n es)))) (map object_after_release os₁)) z.object))) at
+            ∙ ap (λ xs. failed_at (places_of xs) (map object_after_release os₁)) (sym stay);
       })

@@ -20,34 +20,35 @@ pub record ObjectState : Type 0 where
   pub failures : ℕ
 
 -- What stands at the place of a slot before its commit, and after it.
-abbrev pub pending : Slot → Reservation
-pending slot = record { key = slot.key; value = slot.value; old = None }
+abbrev pub pending_reservation : Slot → Reservation
+pending_reservation slot = record { key = slot.key; value = slot.value; old = None }
 
-abbrev pub made : Slot → SettingValue → Reservation
-made slot old = record { key = slot.key; value = slot.value; old = Some old }
+abbrev pub committed_reservation : Slot → SettingValue → Reservation
+committed_reservation slot old = record { key = slot.key; value = slot.value; old = Some old }
 
 -- The object with a slot more.
 abbrev pub reserve : ObjectState → Slot → ObjectState
-reserve o slot = record o { reserved = o.reserved ++ pending slot ∷ [] }
+reserve o slot = record o { reserved = o.reserved ++ pending_reservation slot ∷ [] }
 
 -- The object whose slot was committed over an old value.
-abbrev pub committed : ObjectState → Slot → SettingValue → ObjectState
-committed o slot old = record o { reserved = slice_set o.reserved slot.place (made slot old) }
+abbrev pub object_after_commit : ObjectState → Slot → SettingValue → ObjectState
+object_after_commit o slot old =
+    record o { reserved = slice_set o.reserved slot.place (committed_reservation slot old) }
 
 -- The object with nothing reserved.
-abbrev pub released : ObjectState → ObjectState
-released o = record o { reserved = [] }
+abbrev pub object_after_release : ObjectState → ObjectState
+object_after_release o = record o { reserved = [] }
 
 -- The object whose device failed once more.
-abbrev pub failed_once : ObjectState → ObjectState
-failed_once o = record o { failures = o.failures + 1 }
+abbrev pub object_after_failure : ObjectState → ObjectState
+object_after_failure o = record o { failures = o.failures + 1 }
 
 -- The slot is reserved and not committed, and its setting may get its value.
 pub record IsReserved (w : World) (o : ObjectState) (slot : Slot) : Type 0 where
   pub key : HasSetting w slot.key
   pub value : IsSettingInRange slot.key slot.value
   pub place : slot.place < length o.reserved
-  pub stands : slice_get o.reserved slot.place ≡ Some (pending slot)
+  pub stands : slice_get o.reserved slot.place ≡ Some (pending_reservation slot)
 
 -- The slot was committed over an old value, which its setting may get again.
 pub record IsCommitted (w : World) (o : ObjectState) (slot : Slot) (old : SettingValue) :
@@ -55,4 +56,4 @@ pub record IsCommitted (w : World) (o : ObjectState) (slot : Slot) (old : Settin
   pub key : HasSetting w slot.key
   pub value : IsSettingInRange slot.key old
   pub place : slot.place < length o.reserved
-  pub stands : slice_get o.reserved slot.place ≡ Some (made slot old)
+  pub stands : slice_get o.reserved slot.place ≡ Some (committed_reservation slot old)

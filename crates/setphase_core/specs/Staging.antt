@@ -11,7 +11,7 @@ use Rattle.setphase_core.specs.declared.column.Column.TheVariants as column
 use Rattle.setphase_core.specs.declared.object.Assignment.{Assignment}
 use Rattle.setphase_core.specs.declared.staging.Staged.{Staged}
 use Rattle.setphase_core.specs.Settings.{setting, HasSetting}
-use Rattle.setphase_core.specs.Objects.{ObjectState, IsReserved, IsCommitted, failed_once}
+use Rattle.setphase_core.specs.Objects.{ObjectState, IsReserved, IsCommitted, object_after_failure}
 use Rattle.setphase_core.specs.Together.{assign}
 use Rattle.setphase_core.specs.Outcomes.{has_key}
 
@@ -86,7 +86,7 @@ pub record AreCommitted (before w : World) (os : List ObjectState) (es : List St
 abbrev pub failed_at : List ℕ → List ObjectState → List ObjectState
 failed_at [] os = os
 failed_at (p ∷ ps) os =
-    slice_set (failed_at ps os) p (failed_once (object_at (failed_at ps os) p))
+    slice_set (failed_at ps os) p (object_after_failure (object_at (failed_at ps os) p))
 
 -- The place of the object of the commit that failed, if one did.
 abbrev pub failing_place : List Staged → Option ℕ → List ℕ

@@ -1,7 +1,7 @@
 //! Commits and their undoing by the objects of a registry.
 ghost use Rattle.std.specs.Prelude.{◌≡◌, ◌<◌, length, slice_get, slice_set, Some, OnOk, OnErr};
 ghost use Rattle.setting_keys.specs.declared.SettingValue.{SettingValue as AnySetting};
-ghost use Rattle.setphase_core.specs.Objects.{committed, made, failed_once, IsReserved, IsCommitted};
+ghost use Rattle.setphase_core.specs.Objects.{object_after_commit, committed_reservation, object_after_failure, IsReserved, IsCommitted};
 ghost use Rattle.setphase_core.specs.Settings.{put, setting, IsSettingInRange};
 ghost use Rattle.setphase_core.specs.Staging.{object_at};
 
@@ -21,11 +21,11 @@ impl<O: MibObject> Registry<O> {
         requires reserved { IsReserved world.old (object_at self.old place) slot }
         ensures put { OnOk result (world.new ≡ put world.old slot.key slot.value) }
         ensures kept { OnOk result (self.new ≡ slice_set self.old place
-            (committed (object_at self.old place) slot (setting world.old slot.key))) }
+            (object_after_commit (object_at self.old place) slot (setting world.old slot.key))) }
         ensures before { OnOk result (IsSettingInRange slot.key (setting world.old slot.key)) }
         ensures unchanged { OnErr result (world.new ≡ world.old) }
         ensures failed { OnErr result (self.new
-            ≡ slice_set self.old place (failed_once (object_at self.old place))) }
+            ≡ slice_set self.old place (object_after_failure (object_at self.old place))) }
     {
         self.objects[place].commit(world, slot)
     }
@@ -41,12 +41,13 @@ impl<O: MibObject> Registry<O> {
         requires committed { (before : AnySetting)
             × IsCommitted world.old (object_at self.old place) slot before }
         ensures put { OnOk result ((before : AnySetting)
-            → slice_get (object_at self.old place).reserved slot.place ≡ Some (made slot before)
+            → slice_get (object_at self.old place).reserved slot.place
+            ≡ Some (committed_reservation slot before)
             → world.new ≡ put world.old slot.key before) }
         ensures kept { OnOk result (self.new ≡ self.old) }
         ensures unchanged { OnErr result (world.new ≡ world.old) }
         ensures failed { OnErr result (self.new
-            ≡ slice_set self.old place (failed_once (object_at self.old place))) }
+            ≡ slice_set self.old place (object_after_failure (object_at self.old place))) }
     {
         self.objects[place].undo(world, slot)
     }

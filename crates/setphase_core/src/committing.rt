@@ -1,7 +1,7 @@
 //! All commits of a Set, and the undoing of all.
 ghost use Rattle.std.specs.Prelude.{◌≡◌, ℕ, ◌≤◌, length, map, take, IfSome, IfNone};
 ghost use Rattle.setphase_core.specs.declared.world.World.{World as AnyWorld};
-ghost use Rattle.setphase_core.specs.Objects.{released};
+ghost use Rattle.setphase_core.specs.Objects.{object_after_release};
 ghost use Rattle.setphase_core.specs.Together.{assign};
 ghost use Rattle.setphase_core.specs.Staging.{failing_place, assignments_of, IsDistinct, ArePending, AreCommitted, HasFailed, failed_at, entries_of, places_of};
 
@@ -25,9 +25,9 @@ pub(crate) fn commit_all<O: MibObject>(
     ensures failed { IfSome result (HasFailed world.old world.new staging.new.registry.now
         staging.old.staged.items) }
     ensures committed { IfSome result (λ i. staging.new.committed ≡ i) }
-    ensures objects { map released staging.new.registry.now
+    ensures objects { map object_after_release staging.new.registry.now
         ≡ failed_at (failing_place staging.old.staged.items result)
-        (map released staging.old.registry.now) }
+        (map object_after_release staging.old.registry.now) }
 {
     for i in 0..staging.staged.len() {
         let Ok(()) = staging.commit_next(world) else {
@@ -55,10 +55,10 @@ pub(crate) fn undo_all<O: MibObject>(staging: &mut Staging<'_, O>, world: &mut W
         (assignments_of staging.old.staged.items)) before
         → world.new ≡ assign (assignments_of
         (entries_of result (take staging.old.committed staging.old.staged.items))) before }
-    ensures objects { map released staging.new.registry.now
+    ensures objects { map object_after_release staging.new.registry.now
         ≡ failed_at (places_of
         (entries_of result (take staging.old.committed staging.old.staged.items)))
-        (map released staging.old.registry.now) }
+        (map object_after_release staging.old.registry.now) }
 {
     let mut stuck = SettingKeys::new();
     while staging.committed > 0 {

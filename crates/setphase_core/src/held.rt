@@ -1,6 +1,6 @@
 //! What the objects of a registry have reserved.
 ghost use Rattle.std.specs.Prelude.{◌≡◌, ◌-◌, ◌^◌, map, min};
-ghost use Rattle.setphase_core.specs.Objects.{released};
+ghost use Rattle.setphase_core.specs.Objects.{object_after_release};
 ghost use Rattle.setphase_core.specs.Registry.{held_count};
 
 use crate::object::MibObject;
@@ -20,7 +20,7 @@ impl<O: MibObject> Registry<O> {
 
     /// Lets each object drop its slots.
     pub fn release(&mut self)
-        ensures { self.new ≡ map released self.old }
+        ensures { self.new ≡ map object_after_release self.old }
     {
         for object in self.objects.iter_mut() {
             object.release();

@@ -85,7 +85,7 @@ pub struct DeviceFault;
 /// for the Set that is being made. None of its calls changes what it shows of a given world.
 pub trait MibObject: Drop {
     ghost use Rattle.setting_keys.specs.declared.SettingValue.{SettingValue as AnySetting};
-    ghost use Rattle.setphase_core.specs.Objects.{ObjectState, IsReserved, IsCommitted, reserve, committed, released, failed_once, made};
+    ghost use Rattle.setphase_core.specs.Objects.{ObjectState, IsReserved, IsCommitted, reserve, object_after_commit, object_after_release, object_after_failure, committed_reservation};
     ghost use Rattle.setphase_core.specs.Settings.{setting, put, IsSettingInRange};
     ghost use Rattle.setphase_core.specs.Columns.{shown_by};
     ghost use Rattle.setphase_core.specs.Values.{value_at, index_after};
@@ -129,10 +129,11 @@ pub trait MibObject: Drop {
         requires { IsReserved world.old (state self.old) slot }
         ensures put { OnOk result (world.new ≡ put world.old slot.key slot.value) }
         ensures kept { OnOk result
-            (state self.new ≡ committed (state self.old) slot (setting world.old slot.key)) }
+            (state self.new ≡ object_after_commit (state self.old) slot
+            (setting world.old slot.key)) }
         ensures before { OnOk result (IsSettingInRange slot.key (setting world.old slot.key)) }
         ensures unchanged { OnErr result (world.new ≡ world.old) }
-        ensures failed { OnErr result (state self.new ≡ failed_once (state self.old)) };
+        ensures failed { OnErr result (state self.new ≡ object_after_failure (state self.old)) };
 
     /// Gives the setting of a committed slot back what it had before the commit, whatever became of
     /// other settings since. It takes no memory.
@@ -142,15 +143,16 @@ pub trait MibObject: Drop {
     fn undo(&mut self, world: &mut World, slot: Slot) -> Result<(), DeviceFault>
         requires { (before : AnySetting) × IsCommitted world.old (state self.old) slot before }
         ensures put { OnOk result ((before : AnySetting)
-            → slice_get (state self.old).reserved slot.place ≡ Some (made slot before)
+            → slice_get (state self.old).reserved slot.place
+            ≡ Some (committed_reservation slot before)
             → world.new ≡ put world.old slot.key before) }
         ensures kept { OnOk result (state self.new ≡ state self.old) }
         ensures unchanged { OnErr result (world.new ≡ world.old) }
-        ensures failed { OnErr result (state self.new ≡ failed_once (state self.old)) };
+        ensures failed { OnErr result (state self.new ≡ object_after_failure (state self.old)) };
 
     /// Drops all slots.
     fn release(&mut self)
-        ensures { state self.new ≡ released (state self.old) };
+        ensures { state self.new ≡ object_after_release (state self.old) };
 
     /// How many slots are reserved.
     fn held(&self) -> usize

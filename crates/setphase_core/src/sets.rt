@@ -2,7 +2,7 @@
 //! ones are undone (RFC 3416, 4.2.5).
 ghost use Rattle.std.specs.Prelude.{◌≡◌, ◌↔◌, ◌<◌, ◌≤◌, ◌^◌, [], ◌∷◌, if◌then◌else◌, length, map, slice_get, Some, IfOk, IfErr, IfNone, IfSome, IsSome};
 ghost use Rattle.vacm_core.specs.Families.{NamesFamilyOf};
-ghost use Rattle.setphase_core.specs.Objects.{released};
+ghost use Rattle.setphase_core.specs.Objects.{object_after_release};
 ghost use Rattle.setphase_core.specs.Registry.{rows_of, held_count};
 ghost use Rattle.setphase_core.specs.Settings.{setting, HasSetting, with_settings};
 ghost use Rattle.setphase_core.specs.Variables.{status_of, refusal_for, single_refusals, writings};
@@ -144,13 +144,13 @@ fn stage_all<O: MibObject>(
     view: &Name,
     bindings: &[Binding],
 ) -> Result<Joint, Refusal>
-    requires fresh { staging.old.registry.now ≡ map released staging.old.registry.now }
+    requires fresh { staging.old.registry.now ≡ map object_after_release staging.old.registry.now }
     requires staged { staging.old.staged.items ≡ [] }
     requires tested { staging.old.tested ≡ 0 }
     ensures same_reference { staging.new.registry.ghost_name ≡ staging.old.registry.ghost_name }
     ensures committed { staging.new.committed ≡ staging.old.committed }
-    ensures released { map released staging.new.registry.now
-        ≡ map released staging.old.registry.now }
+    ensures released { map object_after_release staging.new.registry.now
+        ≡ map object_after_release staging.old.registry.now }
     ensures refused { IfErr result (λ refusal. Some refusal ≡ slice_get (single_refusals
         (rows_of staging.old.registry.now) world.now view.now 0 bindings.now) 0) }
     ensures passed { IfOk result (λ joint. ArePassed (rows_of staging.old.registry.now) world.now
@@ -229,13 +229,13 @@ fn refused<O: MibObject>(
     view: &Name,
     bindings: &[Binding],
 ) -> Option<Refusal>
-    requires fresh { staging.old.registry.now ≡ map released staging.old.registry.now }
+    requires fresh { staging.old.registry.now ≡ map object_after_release staging.old.registry.now }
     requires staged { staging.old.staged.items ≡ [] }
     requires tested { staging.old.tested ≡ 0 }
     ensures same_reference { staging.new.registry.ghost_name ≡ staging.old.registry.ghost_name }
     ensures committed { staging.new.committed ≡ staging.old.committed }
-    ensures released { map released staging.new.registry.now
-        ≡ map released staging.old.registry.now }
+    ensures released { map object_after_release staging.new.registry.now
+        ≡ map object_after_release staging.old.registry.now }
     ensures refusal { result ≡ refusal_of (rows_of staging.old.registry.now) world.now view.now
         bindings.now }
     ensures ready { IfNone result (AreReady (rows_of staging.old.registry.now) world.now
@@ -261,7 +261,7 @@ fn run_staged<O: MibObject>(
     view: &Name,
     bindings: &[Binding],
 ) -> SetOutcome
-    requires fresh { staging.old.registry.now ≡ map released staging.old.registry.now }
+    requires fresh { staging.old.registry.now ≡ map object_after_release staging.old.registry.now }
     requires staged { staging.old.staged.items ≡ [] }
     requires tested { staging.old.tested ≡ 0 }
     requires committed { staging.old.committed ≡ 0 }
@@ -274,7 +274,8 @@ fn run_staged<O: MibObject>(
     ensures world { world.new ≡ world_after_set (refusal_in result)
         (writings (rows_of staging.old.registry.now) world.old bindings.now) world.old
         (notes_in result) }
-    ensures objects { map released staging.new.registry.now ≡ map (object_after (failed_names
+    ensures objects { map object_after_release staging.new.registry.now
+        ≡ map (object_after (failed_names
         (writings (rows_of staging.old.registry.now) world.old bindings.now) (notes_in result)))
         staging.old.registry.now }
 {

@@ -1,7 +1,7 @@
 //! The slots that an object has reserved, for those who write objects.
 ghost use Rattle.std.specs.Prelude.{◌≡◌, ◌<◌, ◌≤◌, [], ◌∷◌, ◌++◌, length, slice_get, slice_set, Some, IfOk, OnErr, Ok, Err};
 ghost use Rattle.setting_keys.specs.declared.SettingValue.{SettingValue as AnySetting};
-ghost use Rattle.setphase_core.specs.Objects.{pending, made};
+ghost use Rattle.setphase_core.specs.Objects.{pending_reservation, committed_reservation};
 ghost use Rattle.setphase_core.specs.Settings.{HasSetting, IsSettingInRange, setting, put};
 ghost use Rattle.setphase_core.specs.Writing.{placed};
 
@@ -50,7 +50,8 @@ impl Slots {
     /// The variable's fault, or `ResourceUnavailable` where all places are taken.
     pub fn reserve(&mut self, tested: Result<Assignment, SetFault>) -> Result<Slot, SetFault>
         ensures answer { result ≡ placed self.old tested }
-        ensures reserved { IfOk result (λ slot. self.new ≡ self.old ++ pending slot ∷ []) }
+        ensures reserved { IfOk result (λ slot.
+            self.new ≡ self.old ++ pending_reservation slot ∷ []) }
         ensures refused { OnErr result (self.new ≡ self.old) }
     {
         let Assignment { key, value } = tested?;
@@ -73,7 +74,8 @@ impl Slots {
         requires place { slot.place < length self.old }
         ensures put { world.new ≡ put world.old slot.key slot.value }
         ensures kept { self.new
-            ≡ slice_set self.old slot.place (made slot (setting world.old slot.key)) }
+            ≡ slice_set self.old slot.place
+            (committed_reservation slot (setting world.old slot.key)) }
         ensures before { IsSettingInRange slot.key (setting world.old slot.key) }
     {
         let before = world.get_setting(slot.key);
@@ -88,8 +90,8 @@ impl Slots {
     /// What the setting of a committed slot had before.
     pub fn before(&self, slot: Slot) -> SettingValue
         requires { (before : AnySetting) ×
-            (slice_get self.now slot.place ≡ Some (made slot before)) }
-        ensures { slice_get self.now slot.place ≡ Some (made slot result) }
+            (slice_get self.now slot.place ≡ Some (committed_reservation slot before)) }
+        ensures { slice_get self.now slot.place ≡ Some (committed_reservation slot result) }
     {
         match self.slots.as_slice()[slot.place].old {
             Some(before) => before,

@@ -2,7 +2,7 @@
 //! 3416, 4.2.5).
 ghost use Rattle.std.specs.Prelude.{◌≡◌, ◌+◌, ◌-◌, ◌≤◌, ◌<◌, [], length, map, slice_get, slice_set, Some, OnOk, OnErr, IfOk, IfErr};
 ghost use Rattle.setting_keys.specs.declared.SettingValue.{SettingValue as AnySetting};
-ghost use Rattle.setphase_core.specs.Objects.{released, committed, made, failed_once, IsReserved, IsCommitted};
+ghost use Rattle.setphase_core.specs.Objects.{object_after_release, object_after_commit, committed_reservation, object_after_failure, IsReserved, IsCommitted};
 ghost use Rattle.setphase_core.specs.Settings.{put, setting, IsSettingInRange};
 ghost use Rattle.setphase_core.specs.declared.object.SetFault.TheVariants.{ResourceUnavailable};
 ghost use Rattle.setphase_core.specs.Staging.{object_at, entry_at, assignments_of};
@@ -94,7 +94,7 @@ impl<'a, O: MibObject> Staging<'a, O> {
     /// A Set of which nothing is tested yet. It takes no memory.
     pub fn new(registry: &'a mut Registry<O>) -> Staging<'a, O>
         ensures same_reference { result.registry.ghost_name ≡ registry.entry.ghost_name }
-        ensures registry { result.registry.now ≡ map released registry.old }
+        ensures registry { result.registry.now ≡ map object_after_release registry.old }
         ensures staged { result.staged.items ≡ [] }
         ensures tested { result.tested ≡ 0 }
         ensures committed { result.committed ≡ 0 }
@@ -111,8 +111,9 @@ impl<'a, O: MibObject> Staging<'a, O> {
     /// Tests a variable in a view, behind those that passed before. It takes no memory.
     ///
     /// # Errors
-    /// The first fault of the variable. Nothing is staged then, and nothing reserved; but where it is
-    /// the want of room in the Set, the slot that the object reserved stays until this is dropped.
+    /// The first fault of the variable. Nothing is staged then, and nothing reserved; but where it
+    /// is the want of room in the Set, the slot that the object reserved stays until this is
+    /// dropped.
     pub fn stage(
         &mut self,
         world: &World,
@@ -133,7 +134,8 @@ impl<'a, O: MibObject> Staging<'a, O> {
             ¬ (fault ≡ VariableFault.Refused ResourceUnavailable)
             → self.new.registry.now ≡ self.old.registry.now) }
         ensures released { OnErr result
-            (map released self.new.registry.now ≡ map released self.old.registry.now) }
+            (map object_after_release self.new.registry.now
+            ≡ map object_after_release self.old.registry.now) }
         ensures same_staged { OnErr result (self.new.staged.items ≡ self.old.staged.items) }
         ensures same_tested { OnErr result (self.new.tested ≡ self.old.tested) }
     {
@@ -208,7 +210,7 @@ impl<'a, O: MibObject> Staging<'a, O> {
             world.new ≡ put world.old e.slot.key e.slot.value) }
         ensures kept { OnOk result (let e = entry_at self.old.staged.items self.old.committed in
             self.new.registry.now ≡ slice_set self.old.registry.now e.object
-            (committed (object_at self.old.registry.now e.object) e.slot
+            (object_after_commit (object_at self.old.registry.now e.object) e.slot
             (setting world.old e.slot.key))) }
         ensures before { OnOk result (let e = entry_at self.old.staged.items self.old.committed in
             IsSettingInRange e.slot.key (setting world.old e.slot.key)) }
@@ -216,7 +218,7 @@ impl<'a, O: MibObject> Staging<'a, O> {
         ensures unchanged { OnErr result (world.new ≡ world.old) }
         ensures failed { OnErr result (let e = entry_at self.old.staged.items self.old.committed in
             self.new.registry.now ≡ slice_set self.old.registry.now e.object
-            (failed_once (object_at self.old.registry.now e.object))) }
+            (object_after_failure (object_at self.old.registry.now e.object))) }
     {
         let entry = self.staged.as_slice()[self.committed];
         self.registry.commit(entry.object, world, entry.slot)?;
@@ -244,14 +246,14 @@ impl<'a, O: MibObject> Staging<'a, O> {
             (let e = entry_at self.old.staged.items (self.old.committed - 1) in
             (before : AnySetting)
             → slice_get (object_at self.old.registry.now e.object).reserved e.slot.place
-            ≡ Some (made e.slot before)
+            ≡ Some (committed_reservation e.slot before)
             → world.new ≡ put world.old e.slot.key before) }
         ensures kept { OnOk result (self.new.registry.now ≡ self.old.registry.now) }
         ensures unchanged { OnErr result (world.new ≡ world.old) }
         ensures failed { OnErr result
             (let e = entry_at self.old.staged.items (self.old.committed - 1) in
             self.new.registry.now ≡ slice_set self.old.registry.now e.object
-            (failed_once (object_at self.old.registry.now e.object))) }
+            (object_after_failure (object_at self.old.registry.now e.object))) }
     {
         self.committed -= 1;
         let entry = self.staged.as_slice()[self.committed];
@@ -261,7 +263,7 @@ impl<'a, O: MibObject> Staging<'a, O> {
 
 impl<O: MibObject> Drop for Staging<'_, O> {
     fn drop(self)
-        ensures { self.exit.0.now ≡ map released self.entry.registry.now }
+        ensures { self.exit.0.now ≡ map object_after_release self.entry.registry.now }
     {
         let Staging {
             registry,

@@ -15,7 +15,7 @@ use Rattle.setphase_core.specs.Variables.{writings}
 use Rattle.setphase_core.specs.Together.{refusal_of}
 use Rattle.setphase_core.specs.Outcomes.{SetNotes, AreNotes, refusal_in, notes_in, world_after_set, failed_names, object_after}
 use Rattle.agent_core.specs.Replies.{reply_within_limit}
-use Rattle.agent_core.specs.Sets.{settled, settling_bpdus, MayFailInSet}
+use Rattle.agent_core.specs.Sets.{settled_world, settling_bpdus, MayFailInSet}
 use Rattle.agent_core.specs.Answers.{IsSent}
 use Rattle.agent_core.specs.declared.answered.Answered.{Answered}
 use Rattle.agent_core.specs.declared.answered.Answered.TheVariants as answered
@@ -85,6 +85,6 @@ returns-clause-done g c =
     (sym c.is_too_long.ensures.too_long ∙ c.if-is_too_long.false) refusal after_is
     (ap (λ (t : Tables). t.families) c.vacm.ensures ∙ ap (λ (w : World). w.policy.vacm.families) c.run_set-outcome.ensures.settings)
     c.in_ok-answer.ensures.told
-    (c.settle_changed.ensures.world ∙ ap (λ (t : Table). settled t after) c.copied_settings-before.ensures)
+    (c.settle_changed.ensures.world ∙ ap (λ (t : Table). settled_world t after) c.copied_settings-before.ensures)
     (c.put-sent.ensures.bpdus ∙ c.settle_changed.ensures.bpdus ∙ ap (λ (t : Table). settling_bpdus t after) c.copied_settings-before.ensures)
     put objects_are c.told-2.ensures

@@ -1,6 +1,6 @@
 use Rattle.std.proofs.Common.{◌∙◌, ◌+◌, ap, arith, map, slice_set}
 use Rattle.setphase_core.specs.declared.staging.Staged.{Staged}
-use Rattle.setphase_core.specs.Objects.{released, failed_once}
+use Rattle.setphase_core.specs.Objects.{object_after_release, object_after_failure}
 use Rattle.setphase_core.specs.Staging.{entry_at, object_at}
 use Rattle.setphase_core.proofs.Commits.{Commits, commit_step, entry_is, next_pending, released_after_commit, released_after_failure}
 use Rattle.setphase_core.proofs.committing.commit_all.Goals as goal
@@ -28,5 +28,5 @@ loop-i-preserved g c =
 pub returns-in_default-clause-objects : goal.returns-in_default-clause-objects
 returns-in_default-clause-objects g c =
     let i = c.loop-i.invariant in
-    released_after_failure c.loop-i.staging.registry.now _ (map released c.args.staging.now.registry.now) (entry_at c.loop-i.staging.staged.items c.loop-i.staging.committed) c.in_default.ensures.failed i.objects
-    ∙ ap (λ (z : Staged). slice_set (map released c.args.staging.now.registry.now) z.object (failed_once (object_at (map released c.args.staging.now.registry.now) z.object))) (entry_is c.args.staging.now.staged.items c.loop-i.staging.staged.items c.loop-i.i c.loop-i.staging.committed i.staged i.counted)
+    released_after_failure c.loop-i.staging.registry.now _ (map object_after_release c.args.staging.now.registry.now) (entry_at c.loop-i.staging.staged.items c.loop-i.staging.committed) c.in_default.ensures.failed i.objects
+    ∙ ap (λ (z : Staged). slice_set (map object_after_release c.args.staging.now.registry.now) z.object (object_after_failure (object_at (map object_after_release c.args.staging.now.registry.now) z.object))) (entry_is c.args.staging.now.staged.items c.loop-i.staging.staged.items c.loop-i.i c.loop-i.staging.committed i.staged i.counted)

@@ -1,5 +1,5 @@
 use Rattle.std.proofs.Common.{◌∙◌, refl, sym, ap, subst, arith, add-one, cond, length, map, [], ◌∷◌, Some, None, ◌+◌, ℕ}
-use Rattle.setphase_core.specs.Objects.{released}
+use Rattle.setphase_core.specs.Objects.{object_after_release}
 use Rattle.setphase_core.specs.Registry.{rows_of}
 use Rattle.setphase_core.specs.Together.{is_timer}
 use Rattle.setphase_core.specs.Tested.{first_in, is_contradicting, IsFaulty, IsPassed}
@@ -38,7 +38,7 @@ loop-i-preserved g c =
       committed = c.stage.ensures.committed ∙ i.committed;
       tested = c.in-Ok.ensures.tested ∙ ap (λ n. n + 1) i.tested;
       counted = c.in-Ok.ensures.counted;
-      released = ap (map released) passed.at.reserved ∙ reserved-released c.loop-i.staging.registry.now passed.place passed.slot ∙ i.released;
+      released = ap (map object_after_release) passed.at.reserved ∙ reserved-released c.loop-i.staging.registry.now passed.place passed.slot ∙ i.released;
       stages =
           subst (λ k. Stages (rows_of c.args.staging.now.registry.now) c.args.world.now c.args.view.now c.args.bindings.now c.stage.new.self.registry.now c.stage.new.self.staged.items k c.noted-joint.result.timer (c.loop-i.i + 1)) (sym c.noted-joint.ensures.contradiction)
           (subst (λ k. Stages (rows_of c.args.staging.now.registry.now) c.args.world.now c.args.view.now c.args.bindings.now c.stage.new.self.registry.now c.stage.new.self.staged.items (first_in c.loop-i.joint.contradiction (cond (is_contradicting c.in-Ok.variable.standing) ((c.loop-i.i + 1) ∷ []) [])) k (c.loop-i.i + 1)) (sym c.noted-joint.ensures.timer)

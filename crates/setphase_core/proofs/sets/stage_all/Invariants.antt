@@ -1,5 +1,5 @@
 use Rattle.std.proofs.Common.{◌≡◌, ◌≤◌, map, length}
-use Rattle.setphase_core.specs.Objects.{released}
+use Rattle.setphase_core.specs.Objects.{object_after_release}
 use Rattle.setphase_core.specs.Registry.{rows_of}
 use Rattle.setphase_core.proofs.Stages.{Stages}
 use Rattle.setphase_core.proofs.sets.stage_all.Given as goal
@@ -10,6 +10,6 @@ invariant-loop-i g l = record {
   committed : l.staging.committed ≡ l.fn.staging.committed;
   tested : l.staging.tested ≡ l.i;
   counted : length l.staging.staged.items ≤ l.staging.tested;
-  released : map released l.staging.registry.now ≡ map released l.fn.staging.registry.now;
+  released : map object_after_release l.staging.registry.now ≡ map object_after_release l.fn.staging.registry.now;
   stages : Stages (rows_of l.fn.staging.registry.now) l.world l.view l.bindings l.staging.registry.now l.staging.staged.items l.joint.contradiction l.joint.timer l.i;
 }

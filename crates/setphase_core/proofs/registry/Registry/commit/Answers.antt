@@ -1,5 +1,5 @@
 use Rattle.std.proofs.lemmas.Result.{on_ok_weaker, on_err_weaker}
-use Rattle.setphase_core.specs.Objects.{committed, failed_once}
+use Rattle.setphase_core.specs.Objects.{object_after_commit, object_after_failure}
 use Rattle.setphase_core.specs.Settings.{setting}
 use Rattle.setphase_core.proofs.States.{row_after_commit, right-set, states-step}
 use Rattle.setphase_core.proofs.registry.Registry.commit.Goals as goal
@@ -12,8 +12,8 @@ invariant_of-self g c =
 
 pub returns-clause-kept : goal.returns-clause-kept
 returns-clause-kept g c =
-    on_ok_weaker c.commit.result (λ h. states-step g.O.MibObject.state c.self.inside.objects.items c.args.self.now c.args.place c.index_mut.result.now c.commit.new.self c.self.view_is c.requires.within c.index_mut.ensures.value (λ o. committed o c.args.slot (setting c.args.world.now c.args.slot.key)) h) c.commit.ensures.kept
+    on_ok_weaker c.commit.result (λ h. states-step g.O.MibObject.state c.self.inside.objects.items c.args.self.now c.args.place c.index_mut.result.now c.commit.new.self c.self.view_is c.requires.within c.index_mut.ensures.value (λ o. object_after_commit o c.args.slot (setting c.args.world.now c.args.slot.key)) h) c.commit.ensures.kept
 
 pub returns-clause-failed : goal.returns-clause-failed
 returns-clause-failed g c =
-    on_err_weaker c.commit.result (λ h. states-step g.O.MibObject.state c.self.inside.objects.items c.args.self.now c.args.place c.index_mut.result.now c.commit.new.self c.self.view_is c.requires.within c.index_mut.ensures.value failed_once h) c.commit.ensures.failed
+    on_err_weaker c.commit.result (λ h. states-step g.O.MibObject.state c.self.inside.objects.items c.args.self.now c.args.place c.index_mut.result.now c.commit.new.self c.self.view_is c.requires.within c.index_mut.ensures.value object_after_failure h) c.commit.ensures.failed

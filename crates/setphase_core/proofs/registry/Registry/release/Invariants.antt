@@ -1,9 +1,9 @@
 use Rattle.std.proofs.Common.{◌≡◌, ◌++◌, map, take, drop, length}
-use Rattle.setphase_core.specs.Objects.{released}
+use Rattle.setphase_core.specs.Objects.{object_after_release}
 use Rattle.setphase_core.proofs.registry.Registry.release.Given as goal
 
 abbrev pub invariant-loop-object : goal.invariant-loop-object
 invariant-loop-object g l = record {
-  states : map g.O.MibObject.state l.object-items ≡ map released (take l.object-index l.fn.self) ++ drop l.object-index l.fn.self;
+  states : map g.O.MibObject.state l.object-items ≡ map object_after_release (take l.object-index l.fn.self) ++ drop l.object-index l.fn.self;
   len : length l.object-items ≡ length l.fn.self;
 }

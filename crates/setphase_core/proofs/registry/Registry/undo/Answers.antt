@@ -1,5 +1,5 @@
 use Rattle.std.proofs.lemmas.Result.{on_ok_weaker, on_err_weaker}
-use Rattle.setphase_core.specs.Objects.{failed_once}
+use Rattle.setphase_core.specs.Objects.{object_after_failure}
 use Rattle.setphase_core.proofs.States.{row_after_undo, right-set, states-same, states-step}
 use Rattle.setphase_core.proofs.registry.Registry.undo.Goals as goal
 
@@ -15,4 +15,4 @@ returns-clause-kept g c =
 
 pub returns-clause-failed : goal.returns-clause-failed
 returns-clause-failed g c =
-    on_err_weaker c.undo.result (λ h. states-step g.O.MibObject.state c.self.inside.objects.items c.args.self.now c.args.place c.index_mut.result.now c.undo.new.self c.self.view_is c.requires.within c.index_mut.ensures.value failed_once h) c.undo.ensures.failed
+    on_err_weaker c.undo.result (λ h. states-step g.O.MibObject.state c.self.inside.objects.items c.args.self.now c.args.place c.index_mut.result.now c.undo.new.self c.self.view_is c.requires.within c.index_mut.ensures.value object_after_failure h) c.undo.ensures.failed

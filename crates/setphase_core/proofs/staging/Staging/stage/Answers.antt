@@ -1,6 +1,6 @@
 use Rattle.std.proofs.Common.{◌∙◌, ap, sym, map}
 use Rattle.oid_core.specs.Order.{is_prefix}
-use Rattle.setphase_core.specs.Objects.{released}
+use Rattle.setphase_core.specs.Objects.{object_after_release}
 use Rattle.setphase_core.specs.Registry.{rows_of, prefixes_of}
 use Rattle.setphase_core.specs.Searching.{prefix_at}
 use Rattle.setphase_core.proofs.States.{prefix_of_object, reserved-released, on_err_always}
@@ -15,5 +15,5 @@ test-requires-clause-begun g c =
 pub returns-in-Ok-clause-released : goal.returns-in-Ok-clause-released
 returns-in-Ok-clause-released g c =
     on_err_always c.keep.result
-    (ap (map released) (c.keep.ensures.registry ∙ c.in-Ok.ensures.reserved)
+    (ap (map object_after_release) (c.keep.ensures.registry ∙ c.in-Ok.ensures.reserved)
     ∙ reserved-released c.args.self.now.registry.now c.in-Some.place c.in-Ok.slot)
