@@ -1,4 +1,5 @@
 pub mod Settings
+pub mod Flat
 pub mod Values
 pub mod Columns
 pub mod Objects

@@ -3,8 +3,9 @@
 //!
 //! # Entry points
 //! [`World`]: the bridge, the policy, and what was dropped, with `get_setting` and `put_setting` by
-//! key. [`MibObject`]: a managed object: what it shows, by `prefix`, `read` and `next`; and what a
-//! Set does to it, by `test`, `commit`, `undo`, `release`, `held` and `arm`; a boxed one is one too.
+//! key; `try_copy`, and `flat`, which gives a [`FlatWorld`] with `same`, to be kept and compared.
+//! [`MibObject`]: a managed object: what it shows, by `prefix`, `read` and `next`; and what a Set
+//! does to it, by `test`, `commit`, `undo`, `release`, `held` and `arm`; a boxed one is one too.
 //! [`Registry`]: objects by rising name, with `owner`, `owner_steps`, `read`, `next`, and
 //! `next_open`, which passes over objects as a whole by a test of their names, a [`Passing`];
 //! `known` hands on that no object's name begins another's and that what they show can be served;
@@ -17,9 +18,9 @@
 //! writes, and what it reserved; for those who write objects.
 //!
 //! # Definitions
-//! `specs/Settings.antt`: the settings of a world as a finite map; `specs/Columns.antt`: what each
-//! object shows, row by row; `specs/Writing.antt`: how each is written; `specs/Names.antt`: the
-//! objects' names; `specs/Values.antt`: values by index; `specs/Objects.antt`: an object as plain
+//! `specs/Settings.antt`: the settings of a world as a finite map; `specs/Flat.antt`: a policy as
+//! its rows; `specs/Columns.antt`: what each object shows, row by row; `specs/Writing.antt`: how
+//! each is written; `specs/Names.antt`: the objects' names; `specs/Values.antt`: values by index; `specs/Objects.antt`: an object as plain
 //! data; `specs/Registry.antt`: the order of objects, and all their instances;
 //! `specs/Variables.antt`, `specs/Together.antt`: why a Set is refused, by its variables one by one
 //! and together; `specs/Outcomes.antt`: how it ends; `specs/Staging.antt`, `specs/Tested.antt`:
@@ -48,6 +49,7 @@ mod boxed;
 mod changing;
 mod column;
 mod committing;
+mod flat_world;
 mod held;
 mod index;
 pub mod laws;
@@ -66,6 +68,7 @@ mod world;
 mod writable;
 
 pub use column::{Base, BasePort, Column, ExtPort, Rapid, Stp, StpPort, Tp, TpFdb, TpPort};
+pub use flat_world::FlatWorld;
 pub use index::{is_scalar, port_after, port_at, scalar_after};
 pub use limits::{MAX_COST, MAX_INDEX, MAX_INFO, MAX_PATH_COST, MAX_SLOTS, MAX_VARIABLES};
 pub use named::are_named;

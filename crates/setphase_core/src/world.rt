@@ -1,9 +1,12 @@
 //! What an agent serves.
-ghost use Rattle.std.specs.Prelude.{◌≡◌};
+ghost use Rattle.std.specs.Prelude.{◌≡◌, IfOk};
+ghost use Rattle.setphase_core.specs.Flat.{policy_of_rows, AreRowsOfTheirPolicy};
 
+use crate::flat_world::FlatWorld;
 use bridge_core::Bridge;
-use community_core::Policy;
+use community_core::{Policy, PolicyRows};
 use setting_keys::{SettingKey, SettingValue};
+use std::alloc::{AllocError, Global};
 
 /// A bridge, the policy that says who may see and set what of it, and the counts of requests that
 /// were dropped.
@@ -23,6 +26,37 @@ pub struct World {
 
 impl World {
     ghost use Rattle.setphase_core.specs.Settings.{setting, put, HasSetting, IsSettingInRange};
+
+    /// A copy: the same bridge, policy and counts.
+    ///
+    /// # Errors
+    ///
+    /// `AllocError` where there is no memory for the copied learned rows or the copied policy.
+    pub fn try_copy(&self, alloc: Global) -> Result<World, AllocError>
+        ensures { IfOk result (λ copy. copy ≡ self.now) }
+    {
+        let bridge = self.bridge.try_copy()?;
+        let policy = self.policy.try_copy(alloc)?;
+        Ok(World {
+            bridge,
+            policy,
+            bad_communities: self.bad_communities,
+            unknown_contexts: self.unknown_contexts,
+        })
+    }
+
+    /// A flat copy, to be kept and compared.
+    ///
+    /// # Errors
+    ///
+    /// `AllocError` where there is no memory for the learned rows or the policy's rows.
+    pub fn flat(&self, alloc: Global) -> Result<FlatWorld, AllocError>
+        ensures { IfOk result (λ flat. flat ≡ self.now) }
+    {
+        let bridge = self.bridge.flat(alloc)?;
+        let policy = written_rows(alloc, &self.policy)?;
+        Ok(FlatWorld::of(bridge, policy, self.bad_communities, self.unknown_contexts))
+    }
 
     /// The value of a setting that there is.
     pub fn get_setting(&self, key: SettingKey) -> SettingValue
@@ -49,4 +83,14 @@ impl World {
             }
         }
     }
+}
+
+// The rows of a policy as they are written. They stand for it, and are all that it is written as.
+fn written_rows(alloc: Global, policy: &Policy) -> Result<PolicyRows, AllocError>
+    ensures policy { IfOk result (λ rows. policy_of_rows rows ≡ policy.now) }
+    ensures own { IfOk result AreRowsOfTheirPolicy }
+{
+    policy.communities_are_right();
+    policy.vacm().rows_are_right();
+    policy.rows(alloc)
 }
