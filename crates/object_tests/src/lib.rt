@@ -1,4 +1,4 @@
-//! Tests of the world, its settings, its copies, and the registry of objects, with objects made by hand.
+//! Tests of the world, its settings, and the registry of objects, with objects made by hand.
 //!
 //! # Entry points
 //! None: the tests call what `setphase_core` offers.
@@ -15,10 +15,6 @@
 
 #[cfg(test)]
 mod boxed;
-#[cfg(test)]
-mod busy;
-#[cfg(test)]
-mod copies;
 #[cfg(test)]
 mod long;
 #[cfg(test)]
