@@ -1,7 +1,7 @@
 -- How lines are cut as a text grows, and that they are the text's only lines.
 use Rattle.std.proofs.Common.{◌≡◌, ◌≢◌, ◌⊎◌, inl, inr, ℕ, ◌<◌, List, [], ◌∷◌, ◌++◌, length, All, Contains, eqb, refl, ap, ◌∙◌, ne_eqb, eq-eqb, append_assoc, sym, arith}
 use Rattle.std.proofs.lemmas.Bool.{cases_Bool, eqb-true}
-use Rattle.std.proofs.lemmas.List.Elements.{All-head, All-tail, All-cons, All-nil, Contains-append_right}
+use Rattle.std.proofs.lemmas.List.Elements.{All-head, All-tail, All-cons, All-nil, All-append, Contains-append_right}
 use Rattle.std.specs.List.{flat_map}
 use Rattle.script_core.specs.Lines.{onto_first, lines_of, first_line, with_end, HasNoEnd, IsOpen, AreLines}
 
@@ -56,6 +56,14 @@ first_line-some (b ∷ bs) octet rest h other =
 pub contains_end : (part more : List ℕ) (octet : ℕ) (rest : List ℕ) → more ≡ octet ∷ rest → octet ≡ 10 → Contains (part ++ more) 10
 contains_end part more octet rest begins ended =
     Contains-append_right part more 10 (rw (begins, ended) (0, omega arith, refl))
+
+-- two parts of a line
+pub HasNoEnd-append : (line part : List ℕ) → HasNoEnd line → HasNoEnd part → HasNoEnd (line ++ part)
+HasNoEnd-append line part h k = All-append (λ x. x ≢ 10) line part h k
+
+pub first_line-parts : (line part rest : List ℕ) → HasNoEnd line → HasNoEnd part → first_line (line ++ (part ++ (10 ∷ rest))) ≡ line ++ part
+first_line-parts line part rest h k =
+    ap first_line (sym (append_assoc line part (10 ∷ rest))) ∙ first_line-ended (line ++ part) rest (HasNoEnd-append line part h k)
 
 -- ---- the only lines
 

@@ -5,14 +5,14 @@ use Rattle.std.proofs.lemmas.List.Elements.{All-append, All-cons, All-nil}
 use Rattle.std.proofs.lemmas.List.Concat.{flat_map-append}
 use Rattle.std.specs.Io.KnownBytes.{Appends, Consumes, IsAtEnd, Keeps}
 use Rattle.std.specs.List.{flat_map}
-use Rattle.std.specs.Prelude.{Result, Ok, Err, IfErr, OnOk, IsErrAnd}
+use Rattle.std.specs.Prelude.{Result, Ok, Err, IfErr, OnOk, OnErr, IsErrAnd}
 use Rattle.script_core.specs.Runs.{Adds, Writes, IsFrontOf, Reads, Says, SaysAll, SaysFirst, SaysSome, Feeds, FeedsFirst, StopsBetween, MayGiveUpLine, GivesUpLine, MayGiveUpEnd, GivesUpEnd, GivesUp}
 use Rattle.script_core.specs.declared.fault.RunFault.TheVariants.{Input as RunInput, Output as RunOutput}
 use Rattle.script_core.specs.declared.fault.LineFault.{LineFault}
 use Rattle.script_core.specs.declared.fault.LineFault.TheVariants.{Memory, Stopped}
 use Rattle.script_core.specs.Faults.{run_fault}
 use Rattle.script_core.specs.Lines.{lines_of, first_line, with_end, HasNoEnd}
-use Rattle.script_core.proofs.LinesLemmas.{lines_of-behind, first_line-last}
+use Rattle.script_core.proofs.LinesLemmas.{lines_of-behind, first_line-last, HasNoEnd-append}
 
 -- what holds in any case holds of an error
 pub if_err : {T E : Type 0} (r : Result T E) (P : E → Type 0) → ((e : E) → P e) → IfErr r P
@@ -31,6 +31,11 @@ if_some_weaker (Some x) P Q p f = f x p
 pub if_err_known : {T E : Type 0} (r : Result T E) (K P : E → Type 0) → IsErrAnd r K → ((e : E) → K e → P e) → IfErr r P
 if_err_known (Ok x) K P known f = tt
 if_err_known (Err e) K P known f = f e known
+
+-- what follows from two facts of an error
+pub if_err_both : {T E : Type 0} {A : Type 0} (r : Result T E) (K P : E → Type 0) → IfErr r K → OnErr r A → ((e : E) → K e → A → P e) → IfErr r P
+if_err_both (Ok x) K P known a f = tt
+if_err_both (Err e) K P known a f = f e known a
 
 -- who gives up a line did not fail to write, nor to read
 pub not_output : (fault : LineFault) → RunOutput ≢ run_fault fault
@@ -171,6 +176,12 @@ module _ {X : Type 0} (line_says : X → List ℕ → List ℕ → X → Type 0)
   pub Feeds-then : {a b c : X} {octets left same last s t : List ℕ} → Feeds line_says a octets b left s → left ≡ same
       → Feeds line_says b same c last t → Feeds line_says a octets c last (s ++ t)
   Feeds-then {a} {b} {c} {octets} {left} {same} {last} {s} {t} p e q = Feeds-more p (rw e q)
+
+  -- one line has ended that was read in two parts
+  pub Feeds-parts : {s t : X} {said rest : List ℕ} (line part held : List ℕ) → held ≡ line ++ part → HasNoEnd line → HasNoEnd part
+      → line_says s held said t → Feeds line_says s (line ++ (part ++ (10 ∷ rest))) t rest said
+  Feeds-parts {s} {t} {said} {rest} line part held e h k p =
+      rw (sym (append_assoc line part (10 ∷ rest)), sym e) (Feeds-line (rw e (HasNoEnd-append line part h k)) p)
 
   pub Feeds-first : {a b : X} {octets left s : List ℕ} → Feeds line_says a octets b left s → FeedsFirst line_says a octets s
   Feeds-first {a} {b} {octets} {left} {s} p = record { between = b; left = left; feeds = p }

@@ -1,5 +1,5 @@
 //! Runs a script, a read at a time.
-ghost use Rattle.std.specs.Prelude.{◌≡◌, ◌≢◌, ◌⊎◌, ◌<◌, ℕ, List, [], ◌∷◌, ◌++◌, All, IfSome, IfErr, OnOk, OnErr, length};
+ghost use Rattle.std.specs.Prelude.{◌≡◌, ◌≢◌, ◌⊎◌, ◌<◌, ℕ, List, [], ◌∷◌, ◌++◌, All, IfSome, IfNone, IfErr, OnOk, OnErr, length};
 ghost use Rattle.std.specs.Io.{ReadsAtMost};
 ghost use Rattle.std.specs.Io.KnownBytes.{Appends, ReadConsumes};
 ghost use Rattle.script_core.specs.Lines.{lines_of, first_line, HasNoEnd};
@@ -10,6 +10,7 @@ ghost use Rattle.script_core.specs.declared.fault.LineFault.{LineFault};
 use crate::fault::{LineFault, RunFault};
 use crate::session::Session;
 use crate::writing::write_octets;
+use memchr::memchr;
 use std::alloc::Global;
 use std::io::{Read, Write};
 
@@ -49,29 +50,51 @@ fn finish_line<S: Session>(session: &mut S, buffers: &mut Buffers) -> Result<(),
     Ok(())
 }
 
-// Takes one octet of the input: the end of a line, or more of it.
-fn feed_octet<S: Session>(
+// The octets up to the first end of a line, and those behind it, where there is one.
+fn cut_line(octets: &[u8]) -> Option<(&[u8], &[u8])>
+    ensures cut { IfSome result (λ p. (octets.now ≡ p.0.now ++ (LINE_END ∷ p.1.now)) ×
+        HasNoEnd p.0.now) }
+    ensures whole { IfNone result (HasNoEnd octets.now) }
+{
+    let place = memchr(LINE_END, octets)?;
+    Some((&octets[..place], &octets[place + 1..]))
+}
+
+// Takes more of a line, behind what was read of it.
+fn hold(buffers: &mut Buffers, part: &[u8]) -> Result<(), LineFault>
+    ensures held { OnOk result (buffers.new.line.items ≡ buffers.old.line.items ++ part.now) }
+    ensures same { buffers.new.out.items ≡ buffers.old.out.items }
+    ensures some { OnErr result (0 < length part.now) }
+    ensures memory { IfErr result (λ fault. fault ≡ LineFault.Memory) }
+{
+    if part.is_empty() {
+        return Ok(());
+    }
+    buffers.line.extend_from_slice(part)?;
+    Ok(())
+}
+
+// Takes the last part of a line, up to its end.
+fn feed_line<S: Session>(
     session: &mut S,
     buffers: &mut Buffers,
-    octet: u8,
+    part: &[u8],
 ) -> Result<(), LineFault>
-    requires { HasNoEnd buffers.old.line.items }
+    requires line { HasNoEnd buffers.old.line.items }
+    requires part { HasNoEnd part.now }
     ensures feeds { OnOk result ((rest : List ℕ) →
         Adds buffers.old.out.items buffers.new.out.items (λ said.
-        Feeds S.line_says session.old (buffers.old.line.items ++ (octet ∷ rest))
+        Feeds S.line_says session.old
+        (buffers.old.line.items ++ (part.now ++ (LINE_END ∷ rest)))
         session.new (buffers.new.line.items ++ rest) said)) }
-    ensures part { OnOk result (HasNoEnd buffers.new.line.items) }
+    ensures part { OnOk result (buffers.new.line.items ≡ []) }
     ensures same { OnErr result (buffers.new.out.items ≡ buffers.old.out.items) }
-    ensures given_up { IfErr result (λ fault. (text rest : List ℕ) → text ≡ octet ∷ rest →
+    ensures given_up { IfErr result (λ fault. (rest : List ℕ) →
         MayGiveUpLine S.line_says S.may_give_up_line session.old
-        (first_line (buffers.old.line.items ++ text)) fault) }
-    ensures ended { IfErr result (λ fault. (fault ≡ LineFault.Memory) ⊎ (octet ≡ LINE_END)) }
+        (first_line (buffers.old.line.items ++ (part.now ++ (LINE_END ∷ rest)))) fault) }
 {
-    if octet == LINE_END {
-        finish_line(session, buffers)?;
-    } else if buffers.line.push(octet).is_err() {
-        return Err(LineFault::Memory);
-    }
+    hold(buffers, part)?;
+    finish_line(session, buffers)?;
     Ok(())
 }
 
@@ -88,10 +111,12 @@ fn feed<S: Session>(session: &mut S, buffers: &mut Buffers, chunk: &[u8]) -> Res
         GivesUpLine S.line_says S.may_give_up_line session.old fault
         (buffers.old.line.items ++ (chunk.now ++ rest)) rest said)) }
 {
-    for octet in chunk {
-        feed_octet(session, buffers, *octet)?;
+    let mut left = chunk;
+    while let Some((part, behind)) = cut_line(left) {
+        feed_line(session, buffers, part)?;
+        left = behind;
     }
-    Ok(())
+    hold(buffers, left)
 }
 
 // Ends the session, and keeps what it says.
