@@ -47,10 +47,13 @@ fn lower_all(seen: &mut BTreeMap<Mac, Seen>, by: u32)
     });
 }
 
-// Forgets the addresses of these ports (7.9).
+// Forgets the addresses of these ports (7.9). Where there is no port, no address is looked at.
 fn forget_ports(seen: &mut BTreeMap<Mac, Seen>, ports: &[u16])
     ensures { seen.new.entries ≡ other_entries ports.now seen.old.entries }
 {
+    if ports.is_empty() {
+        return;
+    }
     seen.retain(|_, seen| !ports.contains(&seen.port));
 }
 
