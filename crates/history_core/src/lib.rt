@@ -22,6 +22,8 @@ mod egress;
 mod entry;
 mod event;
 mod receipt;
+#[cfg(test)]
+mod tests;
 
 pub use comparing::{Mismatch, Tally, compare};
 pub use egress::Egress;
