@@ -52,7 +52,8 @@ impl Buffer {
 
     /// The octets of the reply, none where there is no reply.
     pub fn reply(&self) -> &[u8]
-        ensures { result.now ≡ self.now.reply }
+        ensures reply { result.now ≡ self.now.reply }
+        ensures most { length result.now ≤ MAX_REPLY }
     {
         &self.octets[..self.length]
     }
@@ -123,8 +124,8 @@ impl Buffer {
         encode_answer(request, status, i32::MAX, bindings, &mut self.octets).is_err()
     }
 
-    /// Keeps what the ports send.
-    pub(crate) fn send(&mut self, bpdus: Bpdus)
+    /// Keeps what the ports send, from port 1 on.
+    pub fn send(&mut self, bpdus: Bpdus)
         ensures bpdus { self.new.bpdus ≡ bpdus.items }
         ensures reply { self.new.reply ≡ self.old.reply }
     {

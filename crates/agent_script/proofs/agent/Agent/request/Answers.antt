@@ -53,7 +53,7 @@ returns-in_ok-say_bpdus-in-Ok-Reply-clause-said g c =
     ∙ ap (λ (l : List ℕ). l ++ sent) (append_assoc out reply (told_audit on audit))
     ∙ append_assoc out (reply ++ told_audit on audit) sent in
     let text : reply_lines c.reply.result.now on audit sender c.bpdus.result.now ≡ event_text on s (request r (devices notes)) =
-    ap (λ (octets : List ℕ). reply_lines octets on audit sender c.bpdus.result.now) c.reply.ensures
+    ap (λ (octets : List ℕ). reply_lines octets on audit sender c.bpdus.result.now) c.reply.ensures.reply
     ∙ ap (λ (a : Mac). reply_lines c.answer.new.buffer.reply on audit a c.bpdus.result.now) c.address_of-address.ensures
     ∙ ap (λ (bs : List (Option Bpdu)). reply_lines c.answer.new.buffer.reply on audit (address_of s.world.bridge) bs) c.bpdus.ensures
     ∙ sym (replied_text c.in-Ok-Reply.field-0-0 audit c.in-Ok-Reply.failed c.answer.new.buffer on (address_of s.world.bridge)
