@@ -1,2 +1,6 @@
 pub mod Comparing
+pub mod Happening
+pub mod History
+pub mod Keeping
 pub mod Receipts
+pub mod Steps

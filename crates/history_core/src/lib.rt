@@ -17,16 +17,24 @@
 //! That an entry is what its event makes of a world; that is no claim about receipts.
 #![tactic(auto)]
 
+mod applied;
 mod comparing;
 mod egress;
 mod entry;
 mod event;
+mod happening;
+mod kept;
+pub mod laws;
+mod limits;
 mod receipt;
 #[cfg(test)]
 mod tests;
 
+pub use applied::Applied;
 pub use comparing::{Mismatch, Tally, compare};
 pub use egress::Egress;
 pub use entry::Entry;
 pub use event::{Event, ReceiptEvent};
+pub use kept::Kept;
+pub use limits::MAX_ENTRIES;
 pub use receipt::Receipt;

@@ -1,0 +1,179 @@
+-- What an answered request came to is its step.
+use Rattle.std.proofs.Common.{◌≡◌, ◌≢◌, ◌∙◌, ℕ, Bool, true, false, List, [], ◌∷◌, map, Option, Some, None, Result, Ok, Err, IfOk, OnErr, ap, refl, sym, subst}
+use Rattle.std.specs.Prelude.{unwrap_or}
+use Rattle.std.specs.declared.alloc.AllocError.{AllocError}
+use Rattle.message_core.specs.declared.request.Kind.{Kind}
+use Rattle.message_core.specs.declared.request.Kind.TheVariants.{Get, GetNext, GetBulk, Set}
+use Rattle.message_core.specs.declared.request.Request.{Request}
+use Rattle.audit_core.specs.declared.audit.Audit.{Audit}
+use Rattle.decision.specs.Deciding.{decision_on}
+use Rattle.decision.specs.declared.keys.AccessKey.{AccessKey}
+use Rattle.decision.specs.declared.choice.Decision.{Decision}
+use Rattle.decision.specs.declared.choice.Decision.TheVariants.{Drop, Empty, Refused, Allowed}
+use Rattle.setting_keys.specs.declared.SettingKey.{SettingKey}
+use Rattle.setphase_core.specs.declared.world.World.{World}
+use Rattle.setphase_core.specs.Objects.{ObjectRow, ObjectState, object_after_release}
+use Rattle.setphase_core.specs.Registry.{rows_of}
+use Rattle.setphase_core.specs.Outcomes.{SetNotes}
+use Rattle.agent_core.specs.Buffered.{Buffered}
+use Rattle.agent_core.specs.Sets.{no_notes}
+use Rattle.agent_core.specs.Answers as answers
+use Rattle.agent_core.specs.Answers.{Outcome, dropped, replied, audit_in, Shown, shown_of, outcome_of, outcome_by, reading_step, allowed_step, step_by, IsAnswered, IsTold, IsShort, without_answer}
+use Rattle.agent_core.specs.declared.answered.Answered.{Answered}
+use Rattle.agent_core.specs.declared.answered.Answered.TheVariants as answered
+use Rattle.history_core.specs.Steps.{Notes, nothing_noted, step_of, octets_in, AreAtRest}
+use Rattle.history_core.specs.History.{undos_in}
+use Rattle.history_core.specs.Happening.{audit_told, happened_by, HappensBy, Happens, notes_in}
+use Rattle.history_core.specs.declared.event.Event.TheVariants as event
+use Rattle.history_core.specs.declared.happening.Happened.{Happened}
+use Rattle.history_core.proofs.Stepping.{Stays, denied_stays, released-at_rest}
+
+reply_told : (o : Outcome) (len : ℕ) (audit : Audit) (failed : Option ℕ) (b : Buffered)
+    → IsAnswered o (answered.Reply len audit failed) b
+    → (Some b.reply ≡ octets_in o) × (audit ≡ audit_in o) × (b.reply ≡ unwrap_or (octets_in o) [])
+reply_told (dropped cause told) len audit failed b h = absurd h
+reply_told (replied reply told) len audit failed b h = (ap (λ (octets : List ℕ). Some octets) h.0, h.2, h.0)
+
+drop_told : (o : Outcome) (audit : Audit) (b : Buffered) → IsAnswered o (answered.NoReply audit) b
+    → (None ≡ octets_in o) × (audit ≡ audit_in o) × (b.reply ≡ unwrap_or (octets_in o) [])
+drop_told (dropped cause told) audit b h = (refl, h.1, h.0)
+drop_told (replied reply told) audit b h = absurd h
+
+-- ---- a request that is dropped undoes nothing
+
+reading_undoes_none : (shown : Shown) (r : Request) (d : Decision) (audit : Audit) (b : Buffered)
+    → IsAnswered (outcome_by shown r d) (answered.NoReply audit) b → audit.unrestored ≡ []
+reading_undoes_none shown r (Drop cause) audit b h = ap (λ (a : Audit). a.unrestored) h.1
+reading_undoes_none shown r Empty audit b h = absurd h
+reading_undoes_none shown r (Refused why) audit b h = absurd h
+reading_undoes_none shown r (Allowed row view) audit b h = absurd h
+
+reads_undo_none : (os : List ObjectState) (w : World) (r : Request) (audit : Audit) (b : Buffered)
+    → IsAnswered (reading_step os w r).outcome (answered.NoReply audit) b → audit.unrestored ≡ []
+unfolding outcome_of
+reads_undo_none os w r audit b h = reading_undoes_none (shown_of (rows_of os) w) r (decision_on w.policy r) audit b h
+
+allowed_undo_none : (os : List ObjectState) (w : World) (r : Request) (n : SetNotes) (row : AccessKey) (view : List ℕ) (kind : Kind) (audit : Audit) (b : Buffered)
+    → IsAnswered (allowed_step os w r n row view kind).outcome (answered.NoReply audit) b → audit.unrestored ≡ []
+allowed_undo_none os w r n row view Get audit b h = reads_undo_none os w r audit b h
+allowed_undo_none os w r n row view GetNext audit b h = reads_undo_none os w r audit b h
+allowed_undo_none os w r n row view GetBulk audit b h = reads_undo_none os w r audit b h
+allowed_undo_none os w r n row view Set audit b h = absurd h
+
+undo_none_by : (os : List ObjectState) (w : World) (r : Request) (n : SetNotes) (d : Decision) (audit : Audit) (b : Buffered)
+    → IsAnswered (step_by os w r n d).outcome (answered.NoReply audit) b → audit.unrestored ≡ []
+undo_none_by os w r n (Drop cause) audit b h = reads_undo_none os w r audit b h
+undo_none_by os w r n Empty audit b h = reads_undo_none os w r audit b h
+undo_none_by os w r n (Refused why) audit b h = reads_undo_none os w r audit b h
+undo_none_by os w r n (Allowed row view) audit b h = allowed_undo_none os w r n row view r.kind audit b h
+
+undo_none : (os : List ObjectState) (w : World) (r : Request) (n : SetNotes) (audit : Audit) (b : Buffered)
+    → IsAnswered (answers.step_of os w r n).outcome (answered.NoReply audit) b → audit.unrestored ≡ []
+unfolding answers.step_of
+undo_none os w r n audit b h = undo_none_by os w r n (decision_on w.policy r) audit b h
+
+-- ---- what an answered request came to
+
+reply_happens : (os : List ObjectState) (w : World) (r : Request) (len : ℕ) (audit : Audit) (failed : Option ℕ) (b : Buffered) (later : World) (os_later : List ObjectState)
+    → IsTold os w r (answered.Reply len audit failed) b later os_later
+    → Happens os w (event.Request r) (happened_by (answered.Reply len audit failed) b.reply) os_later later b
+unfolding step_of
+reply_happens os w r len audit failed b later os_later h =
+    let t = reply_told _ len audit failed b h.done.answer in
+    record {
+      may = (refl, h.may);
+      world = h.done.world;
+      objects_after = h.done.objects_after;
+      egress = refl;
+      reply = t.0;
+      same_reply = t.0;
+      sent = t.2;
+      audit = ap (λ (a : Audit). Some a) t.1;
+      same_audit = ap (λ (a : Audit). Some a) t.1;
+      bpdus = h.done.bpdus;
+    }
+
+drop_happens_by : (os : List ObjectState) (w : World) (r : Request) (audit : Audit) (b : Buffered) (later : World) (os_later : List ObjectState)
+    → IsTold os w r (answered.NoReply audit) b later os_later
+    → HappensBy os w (event.Request r) nothing_noted (happened_by (answered.NoReply audit) b.reply) os_later later b
+unfolding step_of
+drop_happens_by os w r audit b later os_later h =
+    let t = drop_told _ audit b h.done.answer in
+    record {
+      may = (refl, h.may);
+      world = h.done.world;
+      objects_after = h.done.objects_after;
+      egress = refl;
+      reply = t.0;
+      same_reply = t.0;
+      sent = t.2;
+      audit = ap (λ (a : Audit). Some a) t.1;
+      same_audit = ap (λ (a : Audit). Some a) t.1;
+      bpdus = h.done.bpdus;
+    }
+
+drop_happens : (os : List ObjectState) (w : World) (r : Request) (audit : Audit) (b : Buffered) (later : World) (os_later : List ObjectState)
+    → IsTold os w r (answered.NoReply audit) b later os_later
+    → Happens os w (event.Request r) (happened_by (answered.NoReply audit) b.reply) os_later later b
+drop_happens os w r audit b later os_later h =
+    let none = undo_none os w r no_notes audit b h.done.answer in
+    let same : nothing_noted ≡ notes_in (happened_by (answered.NoReply audit) b.reply) =
+        λ i. record { no_room = false; devices = record { commit = None; undos = sym none i } } in
+    subst (λ (n : Notes). HappensBy os w (event.Request r) n (happened_by (answered.NoReply audit) b.reply) os_later later b) same
+    (drop_happens_by os w r audit b later os_later h)
+
+-- An answered request is its step.
+pub told_happens : (os : List ObjectState) (w : World) (r : Request) (told : Answered) (b : Buffered) (later : World) (os_later : List ObjectState)
+    → IsTold os w r told b later os_later → Happens os w (event.Request r) (happened_by told b.reply) os_later later b
+told_happens os w r (answered.Reply len audit failed) b later os_later h = reply_happens os w r len audit failed b later os_later h
+told_happens os w r (answered.NoReply audit) b later os_later h = drop_happens os w r audit b later os_later h
+
+-- ---- where there was no memory nothing has changed
+
+reply_stays : (os : List ObjectState) (w : World) (r : Request) (len : ℕ) (audit : Audit) (failed : Option ℕ) (b : Buffered) (later : World) (os_later : List ObjectState)
+    → AreAtRest os → IsTold os w r (answered.Reply len audit failed) b later os_later → audit.denied ≢ []
+    → (later ≡ w) × (os_later ≡ os)
+reply_stays os w r len audit failed b later os_later rest h some =
+    let t = reply_told _ len audit failed b h.done.answer in
+    let stays = denied_stays os w r _ rest h.may (λ none. some (ap (λ (a : Audit). a.denied) t.1 ∙ none)) in
+    (h.done.world ∙ stays.world, h.done.objects_after ∙ stays.objects)
+
+drop_stays : (os : List ObjectState) (w : World) (r : Request) (audit : Audit) (b : Buffered) (later : World) (os_later : List ObjectState)
+    → AreAtRest os → IsTold os w r (answered.NoReply audit) b later os_later → audit.denied ≢ []
+    → (later ≡ w) × (os_later ≡ os)
+drop_stays os w r audit b later os_later rest h some =
+    let t = drop_told _ audit b h.done.answer in
+    let stays = denied_stays os w r _ rest h.may (λ none. some (ap (λ (a : Audit). a.denied) t.1 ∙ none)) in
+    (h.done.world ∙ stays.world, h.done.objects_after ∙ stays.objects)
+
+-- Where an audit names a denied variable nothing has changed.
+pub told_stays : (os : List ObjectState) (w : World) (r : Request) (told : Answered) (b : Buffered) (later : World) (os_later : List ObjectState)
+    → AreAtRest os → IsTold os w r told b later os_later → (audit_told told).denied ≢ [] → (later ≡ w) × (os_later ≡ os)
+told_stays os w r (answered.Reply len audit failed) b later os_later rest h some = reply_stays os w r len audit failed b later os_later rest h some
+told_stays os w r (answered.NoReply audit) b later os_later rest h some = drop_stays os w r audit b later os_later rest h some
+
+without_answer-at_rest : (kind : Kind) (os : List ObjectState) → AreAtRest os → without_answer kind os ≡ os
+without_answer-at_rest Get os rest = refl
+without_answer-at_rest GetNext os rest = refl
+without_answer-at_rest GetBulk os rest = refl
+without_answer-at_rest Set os rest = released-at_rest os rest
+
+pub short_stays : (os : List ObjectState) (w : World) (r : Request) (b : Buffered) (later : World) (os_later : List ObjectState)
+    → AreAtRest os → IsShort os w r b later os_later → (later ≡ w) × (os_later ≡ os)
+short_stays os w r b later os_later rest h = (h.unchanged, h.kept ∙ without_answer-at_rest r.kind os rest)
+
+-- ---- the same of what may have found no memory
+
+pub came_happens : (os : List ObjectState) (w : World) (r : Request) (told : Answered) (reply : List ℕ) (b : Buffered) (later : World) (os_later : List ObjectState) (result : Result Happened AllocError)
+    → IsTold os w r told b later os_later → reply ≡ b.reply → IfOk result (λ h. h ≡ happened_by told reply)
+    → IfOk result (λ h. Happens os w (event.Request r) h os_later later b)
+came_happens os w r told reply b later os_later (Ok h) is same came =
+    subst (λ (x : Happened). Happens os w (event.Request r) x os_later later b)
+    (sym (came ∙ ap (λ (octets : List ℕ). happened_by told octets) same)) (told_happens os w r told b later os_later is)
+came_happens os w r told reply b later os_later (Err e) is same came = tt
+
+pub came_stays : (os : List ObjectState) (w : World) (r : Request) (told : Answered) (b : Buffered) (later : World) (os_later : List ObjectState) (result : Result Happened AllocError)
+    → AreAtRest os → IsTold os w r told b later os_later → OnErr result ((audit_told told).denied ≢ [])
+    → OnErr result (later ≡ w) × OnErr result (os_later ≡ os)
+came_stays os w r told b later os_later (Ok h) rest is came = (tt, tt)
+came_stays os w r told b later os_later (Err e) rest is came = told_stays os w r told b later os_later rest is came

@@ -1,0 +1,343 @@
+-- What a step hangs on, what it leaves, and what its audit says.
+use Rattle.std.proofs.Common.{◌≡◌, ◌≢◌, ◌∙◌, ◌+◌, arith, ℕ, Bool, true, false, if◌then◌else◌, List, [], ◌∷◌, map, Option, Some, None, ap, refl, sym, subst}
+use Rattle.std.specs.Prelude.{unwrap_or}
+use Rattle.std.specs.List.{AllByRecursion}
+use Rattle.message_core.specs.declared.reply.Reply.{Reply}
+use Rattle.message_core.specs.declared.request.Kind.{Kind}
+use Rattle.message_core.specs.declared.request.Kind.TheVariants.{Get, GetNext, GetBulk, Set}
+use Rattle.message_core.specs.declared.request.Request.{Request}
+use Rattle.vacm_core.specs.declared.tables.FamilyRow.{FamilyRow}
+use Rattle.audit_core.specs.declared.audit.Audit.{Audit}
+use Rattle.audit_core.specs.declared.denied.Denied.{Denied}
+use Rattle.decision.specs.Deciding.{decision_on}
+use Rattle.decision.specs.declared.keys.AccessKey.{AccessKey}
+use Rattle.decision.specs.declared.choice.Cause.{Cause}
+use Rattle.decision.specs.declared.choice.Decision.{Decision}
+use Rattle.decision.specs.declared.choice.Decision.TheVariants.{Drop, Empty, Refused, Allowed}
+use Rattle.frame_core.specs.declared.bpdu.Bpdu.{Bpdu}
+use Rattle.frame_core.specs.declared.frame.FrameIn.{FrameIn}
+use Rattle.setting_keys.specs.declared.SettingKey.{SettingKey}
+use Rattle.setphase_core.specs.declared.sets.Refusal.{Refusal}
+use Rattle.setphase_core.specs.declared.world.World.{World}
+use Rattle.setphase_core.specs.Objects.{ObjectRow, ObjectState, object_after_release}
+use Rattle.setphase_core.specs.Registry.{rows_of}
+use Rattle.setphase_core.specs.Together.{refusal_of}
+use Rattle.setphase_core.specs.Variables.{Written, writings}
+use Rattle.setphase_core.specs.Outcomes.{SetNotes, world_after_set, failed_names, object_after}
+use Rattle.setphase_core.proofs.Kept.{rows_of-after}
+use Rattle.bridge_core.specs.Events.{frame_result, link_of, after_link}
+use Rattle.agent_core.specs.Sets.{SetStep, SetAnswer, answer_of_failure, answer_of_notes, is_too_long, no_notes, set_answer, set_reply, set_step, settled_world, settling_bpdus, untested_step, tested_step, MayFail, MayFailWhere, MayFailInSet}
+use Rattle.agent_core.specs.Answers as answers
+use Rattle.agent_core.specs.Answers.{Outcome, dropped, replied, audit_in, Shown, shown_of, outcome_of, outcome_by, world_by, world_after, reading_step, writing_step, allowed_step, step_by, MayHave, MayFailBy, MayFailInView}
+use Rattle.agent_core.proofs.Changed.{unsettled}
+use Rattle.history_core.specs.Steps.{Notes, Step, step_of, has_port, silent_step, framed_step, frame_step, bridge_step, link_step, request_step, AreAtRest, IsAtRest}
+use Rattle.history_core.specs.History.{resting}
+use Rattle.history_core.specs.declared.event.Event.{Event}
+use Rattle.history_core.specs.declared.event.Event.TheVariants as event
+
+-- ---- a step hangs on the rows of the objects alone
+
+-- two steps of which the objects alone may differ
+pub record SameStep (a b : Step) : Type 0 where
+  pub world : a.world ≡ b.world
+  pub egress : a.egress ≡ b.egress
+  pub reply : a.reply ≡ b.reply
+  pub audit : a.audit ≡ b.audit
+  pub bpdus : a.bpdus ≡ b.bpdus
+
+record SameAnswer (a b : answers.Step) : Type 0 where
+  outcome : a.outcome ≡ b.outcome
+  world : a.world ≡ b.world
+  bpdus : a.bpdus ≡ b.bpdus
+
+record SameSet (a b : SetStep) : Type 0 where
+  reply : a.reply ≡ b.reply
+  denied : a.denied ≡ b.denied
+  unrestored : a.unrestored ≡ b.unrestored
+  world : a.world ≡ b.world
+  bpdus : a.bpdus ≡ b.bpdus
+
+tested_over : (a b : List ObjectState) (w : World) (view : List ℕ) (r : Request) (n : SetNotes)
+    → rows_of a ≡ rows_of b → SameSet (tested_step a w view r n) (tested_step b w view r n)
+tested_over a b w view r n e =
+    let answer = ap (λ (rows : List ObjectRow). set_answer w.policy.vacm.families (refusal_of rows w view r.bindings) n) e in
+    let after = ap (λ (rows : List ObjectRow). world_after_set (refusal_of rows w view r.bindings) (writings rows w r.bindings) w n) e in
+    record {
+      reply = ap (λ (x : SetAnswer). set_reply r x) answer;
+      denied = ap (λ (x : SetAnswer). x.denied) answer;
+      unrestored = refl;
+      world = ap (λ (x : World). settled_world w.bridge.settings x) after;
+      bpdus = ap (λ (x : World). settling_bpdus w.bridge.settings x) after;
+    }
+
+set_over_by : (a b : List ObjectState) (w : World) (view : List ℕ) (r : Request) (n : SetNotes) (too_long : Bool)
+    → rows_of a ≡ rows_of b
+    → SameSet (if too_long then untested_step a w r else tested_step a w view r n) (if too_long then untested_step b w r else tested_step b w view r n)
+set_over_by a b w view r n true e = record { reply = refl; denied = refl; unrestored = refl; world = refl; bpdus = refl }
+set_over_by a b w view r n false e = tested_over a b w view r n e
+
+set_over : (a b : List ObjectState) (w : World) (view : List ℕ) (r : Request) (n : SetNotes)
+    → rows_of a ≡ rows_of b → SameSet (set_step a w view r n) (set_step b w view r n)
+unfolding set_step
+set_over a b w view r n e = set_over_by a b w view r n (is_too_long r) e
+
+reading_over : (a b : List ObjectState) (w : World) (r : Request) → rows_of a ≡ rows_of b
+    → SameAnswer (reading_step a w r) (reading_step b w r)
+reading_over a b w r e = record {
+  outcome = ap (λ (rows : List ObjectRow). outcome_of (shown_of rows w) r) e;
+  world = refl;
+  bpdus = refl;
+}
+
+writing_over : (a b : SetStep) (r : Request) (row : AccessKey) (view : List ℕ) → SameSet a b
+    → SameAnswer (writing_step r row view a) (writing_step r row view b)
+writing_over a b r row view s = record {
+  outcome = λ i. replied (s.reply i) (answers.reply_audit r (Allowed row view) (s.denied i) (s.unrestored i) (s.reply i));
+  world = s.world;
+  bpdus = s.bpdus;
+}
+
+allowed_over : (a b : List ObjectState) (w : World) (r : Request) (n : SetNotes) (row : AccessKey) (view : List ℕ) (kind : Kind)
+    → rows_of a ≡ rows_of b → SameAnswer (allowed_step a w r n row view kind) (allowed_step b w r n row view kind)
+allowed_over a b w r n row view Get e = reading_over a b w r e
+allowed_over a b w r n row view GetNext e = reading_over a b w r e
+allowed_over a b w r n row view GetBulk e = reading_over a b w r e
+allowed_over a b w r n row view Set e =
+    writing_over (set_step a w view r n) (set_step b w view r n) r row view (set_over a b w view r n e)
+
+answer_over_by : (a b : List ObjectState) (w : World) (r : Request) (n : SetNotes) (d : Decision)
+    → rows_of a ≡ rows_of b → SameAnswer (step_by a w r n d) (step_by b w r n d)
+answer_over_by a b w r n (Drop cause) e = reading_over a b w r e
+answer_over_by a b w r n Empty e = reading_over a b w r e
+answer_over_by a b w r n (Refused why) e = reading_over a b w r e
+answer_over_by a b w r n (Allowed row view) e = allowed_over a b w r n row view r.kind e
+
+answer_over : (a b : List ObjectState) (w : World) (r : Request) (n : SetNotes)
+    → rows_of a ≡ rows_of b → SameAnswer (answers.step_of a w r n) (answers.step_of b w r n)
+unfolding answers.step_of
+answer_over a b w r n e = answer_over_by a b w r n (decision_on w.policy r) e
+
+request_over : (a b : answers.Step) → SameAnswer a b → SameStep (request_step a) (request_step b)
+request_over a b s = record {
+  world = s.world;
+  egress = refl;
+  reply = ap (λ (o : Outcome). (request_step (record a { outcome = o })).reply) s.outcome;
+  audit = ap (λ (o : Outcome). Some (audit_in o)) s.outcome;
+  bpdus = s.bpdus;
+}
+
+frame_over : (a b : List ObjectState) (w : World) (port : ℕ) (f : FrameIn) (no_room there : Bool)
+    → SameStep (if there then framed_step a w (frame_result w.bridge port f no_room) else silent_step a w)
+    (if there then framed_step b w (frame_result w.bridge port f no_room) else silent_step b w)
+frame_over a b w port f no_room true = record { world = refl; egress = refl; reply = refl; audit = refl; bpdus = refl }
+frame_over a b w port f no_room false = record { world = refl; egress = refl; reply = refl; audit = refl; bpdus = refl }
+
+link_over : (a b : List ObjectState) (w : World) (port : ℕ) (up there : Bool)
+    → SameStep (if there then bridge_step a w (after_link port up w.bridge) [] (link_of port up w.bridge).bpdus else silent_step a w)
+    (if there then bridge_step b w (after_link port up w.bridge) [] (link_of port up w.bridge).bpdus else silent_step b w)
+link_over a b w port up true = record { world = refl; egress = refl; reply = refl; audit = refl; bpdus = refl }
+link_over a b w port up false = record { world = refl; egress = refl; reply = refl; audit = refl; bpdus = refl }
+
+-- Over objects of the same rows a step is the same but for the objects.
+pub step_over : (a b : List ObjectState) (w : World) (e : Event) (n : Notes) → rows_of a ≡ rows_of b
+    → SameStep (step_of a w e n) (step_of b w e n)
+unfolding step_of
+step_over a b w (event.Frame port f) n e = frame_over a b w port f n.no_room (has_port w.bridge port)
+step_over a b w event.Tick n e = record { world = refl; egress = refl; reply = refl; audit = refl; bpdus = refl }
+step_over a b w (event.Link port up) n e = link_over a b w port up (has_port w.bridge port)
+step_over a b w (event.Policy tables) n e = record { world = refl; egress = refl; reply = refl; audit = refl; bpdus = refl }
+step_over a b w (event.Request r) n e =
+    request_over (answers.step_of a w r n.devices) (answers.step_of b w r n.devices) (answer_over a b w r n.devices e)
+
+-- the rows of resting objects are those that they are made of
+pub rows_of-resting : (rows : List ObjectRow) → rows_of (resting rows) ≡ rows
+rows_of-resting [] = refl
+rows_of-resting (row ∷ rows) = ap (λ (rest : List ObjectRow). row ∷ rest) (rows_of-resting rows)
+
+-- ---- what a step leaves of the objects: their rows, and nothing reserved
+
+pub record Rests (before after : List ObjectState) : Type 0 where
+  pub rows : rows_of after ≡ rows_of before
+  pub at_rest : AreAtRest after
+
+at_rest-after : (names : List (List ℕ)) (os : List ObjectState) → AreAtRest (map (object_after names) os)
+at_rest-after names [] = tt
+at_rest-after names (o ∷ os) = (refl, at_rest-after names os)
+
+at_rest-released : (os : List ObjectState) → AreAtRest (map object_after_release os)
+at_rest-released [] = tt
+at_rest-released (o ∷ os) = (refl, at_rest-released os)
+
+-- objects at rest are released already
+pub released-at_rest : (os : List ObjectState) → AreAtRest os → map object_after_release os ≡ os
+released-at_rest [] h = refl
+released-at_rest (o ∷ os) h =
+    λ i. record o { reserved = sym h.0 i } ∷ released-at_rest os h.1 i
+
+pub fresh-at_rest : (os : List ObjectState) → AreAtRest (map object_after_release os)
+fresh-at_rest os = at_rest-released os
+
+kept : (os : List ObjectState) → AreAtRest os → Rests os os
+kept os h = record { rows = refl; at_rest = h }
+
+set_rests_by : (os : List ObjectState) (w : World) (view : List ℕ) (r : Request) (n : SetNotes) (too_long : Bool) → AreAtRest os
+    → Rests os (if too_long then untested_step os w r else tested_step os w view r n).objects
+set_rests_by os w view r n true h = kept os h
+set_rests_by os w view r n false h =
+    let names = failed_names (writings (rows_of os) w r.bindings) n in
+    record { rows = rows_of-after names os; at_rest = at_rest-after names os }
+
+set_rests : (os : List ObjectState) (w : World) (view : List ℕ) (r : Request) (n : SetNotes) → AreAtRest os
+    → Rests os (set_step os w view r n).objects
+unfolding set_step
+set_rests os w view r n h = set_rests_by os w view r n (is_too_long r) h
+
+allowed_rests : (os : List ObjectState) (w : World) (r : Request) (n : SetNotes) (row : AccessKey) (view : List ℕ) (kind : Kind) → AreAtRest os
+    → Rests os (allowed_step os w r n row view kind).objects
+allowed_rests os w r n row view Get h = kept os h
+allowed_rests os w r n row view GetNext h = kept os h
+allowed_rests os w r n row view GetBulk h = kept os h
+allowed_rests os w r n row view Set h = set_rests os w view r n h
+
+answer_rests_by : (os : List ObjectState) (w : World) (r : Request) (n : SetNotes) (d : Decision) → AreAtRest os
+    → Rests os (step_by os w r n d).objects
+answer_rests_by os w r n (Drop cause) h = kept os h
+answer_rests_by os w r n Empty h = kept os h
+answer_rests_by os w r n (Refused why) h = kept os h
+answer_rests_by os w r n (Allowed row view) h = allowed_rests os w r n row view r.kind h
+
+answer_rests : (os : List ObjectState) (w : World) (r : Request) (n : SetNotes) → AreAtRest os
+    → Rests os (answers.step_of os w r n).objects
+unfolding answers.step_of
+answer_rests os w r n h = answer_rests_by os w r n (decision_on w.policy r) h
+
+frame_rests : (os : List ObjectState) (w : World) (port : ℕ) (f : FrameIn) (no_room there : Bool) → AreAtRest os
+    → Rests os (if there then framed_step os w (frame_result w.bridge port f no_room) else silent_step os w).objects
+frame_rests os w port f no_room true h = kept os h
+frame_rests os w port f no_room false h = kept os h
+
+link_rests : (os : List ObjectState) (w : World) (port : ℕ) (up there : Bool) → AreAtRest os
+    → Rests os (if there then bridge_step os w (after_link port up w.bridge) [] (link_of port up w.bridge).bpdus else silent_step os w).objects
+link_rests os w port up true h = kept os h
+link_rests os w port up false h = kept os h
+
+-- No event changes the rows of the objects, or leaves anything reserved.
+pub step_rests : (os : List ObjectState) (w : World) (e : Event) (n : Notes) → AreAtRest os
+    → Rests os (step_of os w e n).objects
+unfolding step_of
+step_rests os w (event.Frame port f) n h = frame_rests os w port f n.no_room (has_port w.bridge port) h
+step_rests os w event.Tick n h = kept os h
+step_rests os w (event.Link port up) n h = link_rests os w port up (has_port w.bridge port) h
+step_rests os w (event.Policy tables) n h = kept os h
+step_rests os w (event.Request r) n h = answer_rests os w r n.devices h
+
+-- ---- the audit has the decision
+
+outcome_decided : (shown : Shown) (r : Request) (d : Decision) → (audit_in (outcome_by shown r d)).decision ≡ d
+outcome_decided shown r (Drop cause) = refl
+outcome_decided shown r Empty = refl
+outcome_decided shown r (Refused why) = refl
+outcome_decided shown r (Allowed row view) = refl
+
+reading_decided : (os : List ObjectState) (w : World) (r : Request)
+    → (audit_in (reading_step os w r).outcome).decision ≡ decision_on w.policy r
+unfolding outcome_of
+reading_decided os w r = outcome_decided (shown_of (rows_of os) w) r (decision_on w.policy r)
+
+allowed_decided : (os : List ObjectState) (w : World) (r : Request) (n : SetNotes) (row : AccessKey) (view : List ℕ) (kind : Kind)
+    → decision_on w.policy r ≡ Allowed row view
+    → (audit_in (allowed_step os w r n row view kind).outcome).decision ≡ decision_on w.policy r
+allowed_decided os w r n row view Get e = reading_decided os w r
+allowed_decided os w r n row view GetNext e = reading_decided os w r
+allowed_decided os w r n row view GetBulk e = reading_decided os w r
+allowed_decided os w r n row view Set e = sym e
+
+decided_by : (os : List ObjectState) (w : World) (r : Request) (n : SetNotes) (d : Decision) → decision_on w.policy r ≡ d
+    → (audit_in (step_by os w r n d).outcome).decision ≡ decision_on w.policy r
+decided_by os w r n (Drop cause) e = reading_decided os w r
+decided_by os w r n Empty e = reading_decided os w r
+decided_by os w r n (Refused why) e = reading_decided os w r
+decided_by os w r n (Allowed row view) e = allowed_decided os w r n row view r.kind e
+
+pub audit_decided : (os : List ObjectState) (w : World) (r : Request) (n : SetNotes)
+    → (audit_in (answers.step_of os w r n).outcome).decision ≡ decision_on w.policy r
+unfolding answers.step_of
+audit_decided os w r n = decided_by os w r n (decision_on w.policy r) refl
+
+-- ---- where an audit names a denied variable, nothing has changed
+
+pub record Stays (os : List ObjectState) (w : World) (step : answers.Step) : Type 0 where
+  pub world : step.world ≡ w
+  pub objects : step.objects ≡ os
+
+reading_world : (shown : Shown) (w : World) (r : Request) (d : Decision)
+    → ((audit_in (outcome_by shown r d)).denied ≢ []) → world_by w d ≡ w
+reading_world shown w r (Drop cause) h = absurd (h refl)
+reading_world shown w r Empty h = refl
+reading_world shown w r (Refused why) h = refl
+reading_world shown w r (Allowed row view) h = refl
+
+reading_stays : (os : List ObjectState) (w : World) (r : Request) → ((audit_in (reading_step os w r).outcome).denied ≢ [])
+    → Stays os w (reading_step os w r)
+unfolding outcome_of world_after
+reading_stays os w r h = record { world = reading_world (shown_of (rows_of os) w) w r (decision_on w.policy r) h; objects = refl }
+
+same_after : (os : List ObjectState) → AreAtRest os → map (object_after []) os ≡ os
+same_after [] h = refl
+same_after (o ∷ os) h =
+    let more : o.failures + 0 ≡ o.failures = omega arith in
+    λ i. record o { reserved = sym h.0 i; failures = more i } ∷ same_after os h.1 i
+
+failure_denies_none : (i : ℕ) (undos : List SettingKey) → (answer_of_failure i undos).denied ≡ []
+failure_denies_none i [] = refl
+failure_denies_none i (key ∷ keys) = refl
+
+notes_deny_none : (commit : Option ℕ) (undos : List SettingKey) → (answer_of_notes commit undos).denied ≡ []
+notes_deny_none None undos = refl
+notes_deny_none (Some i) undos = failure_denies_none i undos
+
+tested_stays_by : (os : List ObjectState) (w : World) (view : List ℕ) (r : Request) (n : SetNotes) (refusal : Option Refusal)
+    → AreAtRest os → MayFail refusal (writings (rows_of os) w r.bindings) n
+    → ((set_answer w.policy.vacm.families refusal n).denied ≢ [])
+    → (settled_world w.bridge.settings (world_after_set refusal (writings (rows_of os) w r.bindings) w n) ≡ w)
+    × (map (object_after (failed_names (writings (rows_of os) w r.bindings) n)) os ≡ os)
+tested_stays_by os w view r n None rest may h = absurd (h (notes_deny_none n.commit n.undos))
+tested_stays_by os w view r n (Some refusal) rest may h =
+    (sym (unsettled w.bridge.settings w true ((λ t. refl), (λ e. refl)) refl).0,
+     ap (λ (m : SetNotes). map (object_after (failed_names (writings (rows_of os) w r.bindings) m)) os) may ∙ same_after os rest)
+
+set_stays_by : (os : List ObjectState) (w : World) (view : List ℕ) (r : Request) (n : SetNotes) (too_long : Bool)
+    → AreAtRest os → MayFailWhere too_long (refusal_of (rows_of os) w view r.bindings) (writings (rows_of os) w r.bindings) n
+    → let step = if too_long then untested_step os w r else tested_step os w view r n in
+    (step.denied ≢ []) → (step.world ≡ w) × (step.objects ≡ os)
+set_stays_by os w view r n true rest may h = (refl, refl)
+set_stays_by os w view r n false rest may h = tested_stays_by os w view r n (refusal_of (rows_of os) w view r.bindings) rest may h
+
+set_stays : (os : List ObjectState) (w : World) (view : List ℕ) (r : Request) (n : SetNotes)
+    → AreAtRest os → MayFailInSet (rows_of os) w view r n
+    → ((set_step os w view r n).denied ≢ []) → ((set_step os w view r n).world ≡ w) × ((set_step os w view r n).objects ≡ os)
+unfolding set_step
+set_stays os w view r n rest may h = set_stays_by os w view r n (is_too_long r) rest may h
+
+allowed_stays : (os : List ObjectState) (w : World) (r : Request) (n : SetNotes) (row : AccessKey) (view : List ℕ) (kind : Kind)
+    → AreAtRest os → MayFailInView (rows_of os) w view r n kind
+    → ((audit_in (allowed_step os w r n row view kind).outcome).denied ≢ []) → Stays os w (allowed_step os w r n row view kind)
+allowed_stays os w r n row view Get rest may h = reading_stays os w r h
+allowed_stays os w r n row view GetNext rest may h = reading_stays os w r h
+allowed_stays os w r n row view GetBulk rest may h = reading_stays os w r h
+allowed_stays os w r n row view Set rest may h =
+    let t = set_stays os w view r n rest may h in record { world = t.0; objects = t.1 }
+
+stays_by : (os : List ObjectState) (w : World) (r : Request) (n : SetNotes) (d : Decision)
+    → AreAtRest os → MayFailBy (rows_of os) w r n d
+    → ((audit_in (step_by os w r n d).outcome).denied ≢ []) → Stays os w (step_by os w r n d)
+stays_by os w r n (Drop cause) rest may h = reading_stays os w r h
+stays_by os w r n Empty rest may h = reading_stays os w r h
+stays_by os w r n (Refused why) rest may h = reading_stays os w r h
+stays_by os w r n (Allowed row view) rest may h = allowed_stays os w r n row view r.kind rest may h
+
+pub denied_stays : (os : List ObjectState) (w : World) (r : Request) (n : SetNotes)
+    → AreAtRest os → MayHave (rows_of os) w r n
+    → ((audit_in (answers.step_of os w r n).outcome).denied ≢ []) → Stays os w (answers.step_of os w r n)
+unfolding answers.step_of MayHave
+denied_stays os w r n rest may h = stays_by os w r n (decision_on w.policy r) rest may h

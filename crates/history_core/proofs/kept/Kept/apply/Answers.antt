@@ -1,0 +1,39 @@
+use Rattle.std.proofs.Common.{◌≡◌, ◌≢◌, ◌∙◌, ◌<◌, ◌≤◌, ◌^◌, length, vec_capacity, refl, sym, ap, subst, arith, rules, Option, Some, None}
+use Rattle.std.specs.Prelude.{◌==◌, if◌then◌else◌}
+use Rattle.history_core.specs.History.{History, IsHistory, next_of, last_number, Applies, after}
+use Rattle.history_core.specs.Happening.{notes_in, first_of, second_of}
+use Rattle.history_core.specs.Keeping.{applied_by}
+use Rattle.history_core.specs.declared.limits.TheConstants.{MAX_ENTRIES}
+use Rattle.history_core.specs.declared.receipt.Receipt.{Receipt}
+use Rattle.history_core.specs.declared.applied.Applied.{Applied}
+use Rattle.history_core.proofs.Applying.{left-ok, applies-ok}
+use Rattle.history_core.proofs.kept.Kept.apply.Goals as goal
+
+pub invariant_of-self-2 : goal.invariant_of-self-2
+invariant_of-self-2 g c =
+    let k = c.self.inside in
+    let h : History = record { first = k.first; base_number = k.base_number; base = k.base; entries = k.entries.items; world = k.world; objects = k.registry } in
+    let number = c.next_number-number.ensures ∙ ap next_of (sym c.self.view_is) in
+    let other : next_of h ≢ last_number = (λ e. c.if-number.false (number ∙ e)) in
+    let below : next_of h < 2 ^ 64 = c.self.invariant.0.fits in
+    let base = c.in-Ok.ensures.base ∙ ap (λ (x : History). if length x.entries == MAX_ENTRIES then Some x.world else None) (sym c.self.view_is) in
+    let t = left-ok h c.args.event c.in-Ok-happen.happened _ _ _ _ _ _ _ _ _ _ c.self.invariant.0 number (omega (arith, below, other)) base c.in-Ok-happen.ensures.happens c.apart-reply.ensures.first c.apart-audit.ensures.first c.enter.ensures.entered in
+    (t.1, omega (arith, c.self.invariant.1, c.enter.ensures.capacity))
+
+pub returns : goal.returns
+returns g c =
+    let k = c.self.inside in
+    let h : History = record { first = k.first; base_number = k.base_number; base = k.base; entries = k.entries.items; world = k.world; objects = k.registry } in
+    let later : History = record { first = k.first; base_number = c.enter.new.base_number; base = c.enter.new.base; entries = c.enter.new.entries.items; world = c.happen.new.world; objects = c.happen.new.registry } in
+    let number = c.next_number-number.ensures ∙ ap next_of (sym c.self.view_is) in
+    let other : next_of h ≢ last_number = (λ e. c.if-number.false (number ∙ e)) in
+    let most : next_of h < 2 ^ 64 = c.self.invariant.0.fits in
+    let below : next_of h < last_number = omega (arith, most, other) in
+    let base = c.in-Ok.ensures.base ∙ ap (λ (x : History). if length x.entries == MAX_ENTRIES then Some x.world else None) (sym c.self.view_is) in
+    let happens = c.in-Ok-happen.ensures.happens in
+    let t = left-ok h c.args.event c.in-Ok-happen.happened _ _ _ _ _ _ _ _ _ _ c.self.invariant.0 number below base happens c.apart-reply.ensures.first c.apart-audit.ensures.first c.enter.ensures.entered in
+    let receipt : Receipt = record { number = c.next_number-number.result; event = c.in-Ok.ready.told; egress = c.copy.result; reply = c.apart-reply.result.1 } in
+    let applied = applies-ok h c.args.event c.in-Ok-happen.happened c.happen.new.world c.happen.new.registry c.happen.new.buffer receipt c.apart-audit.result.1 later
+        below happens number c.in-Ok.ensures.told c.copy.ensures c.apart-reply.ensures.second c.apart-audit.ensures.second t.0 in
+    subst (λ (x : History). Applies x c.args.event c.applied.result later c.happen.new.buffer) c.self.view_is
+    (subst (λ (x : Applied). Applies h c.args.event x later c.happen.new.buffer) (sym c.applied.ensures) applied)

@@ -1,0 +1,26 @@
+use Rattle.std.proofs.Common.{◌≡◌, ◌≤◌, vec_capacity, arith, sym, subst}
+use Rattle.history_core.specs.History.{History, IsHistory, fresh}
+use Rattle.history_core.specs.declared.limits.TheConstants.{MAX_ENTRIES}
+use Rattle.history_core.proofs.Histories.{fresh-ok}
+use Rattle.history_core.proofs.kept.Kept.resume.Goals as goal
+
+pub invariant_of-result : goal.invariant_of-result
+invariant_of-result g c =
+    let room = c.in-Ok-with_capacity.ensures in
+    let made : History = record {
+      first = c.args.first;
+      base_number = c.args.first;
+      base = c.in-Ok.base;
+      entries = c.in-Ok-with_capacity.entries.items;
+      world = c.args.world;
+      objects = c.release.new.self;
+    } in
+    let same : fresh c.args.registry c.args.world c.args.first ≡ made = (λ i. record {
+      first = c.args.first;
+      base_number = c.args.first;
+      base = sym c.in-Ok.ensures i;
+      entries = sym room.items i;
+      world = c.args.world;
+      objects = sym c.release.ensures i;
+    }) in
+    (subst (λ (x : History). IsHistory x) same (fresh-ok c.args.registry c.args.world c.args.first c.ranges.first.fits), omega (arith, room.capacity))

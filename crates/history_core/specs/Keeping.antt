@@ -1,0 +1,39 @@
+-- The parts of entering an event, as `apply` hands them on inside the crate.
+use Rattle.std.specs.Prelude.{◌≡◌, ◌==◌, ℕ, if◌then◌else◌, List, [], ◌∷◌, ◌++◌, length, Option, Some, None}
+use Rattle.audit_core.specs.declared.audit.Audit.{Audit}
+use Rattle.decision.specs.declared.choice.Cause.{Cause}
+use Rattle.setphase_core.specs.declared.world.World.{World}
+use Rattle.history_core.specs.Receipts.{told_of}
+use Rattle.history_core.specs.Steps.{cause_in}
+use Rattle.history_core.specs.History.{History}
+use Rattle.history_core.specs.declared.applied.Applied.{Applied}
+use Rattle.history_core.specs.declared.applied.Applied.TheVariants.{Done, Dropped}
+use Rattle.history_core.specs.declared.entry.Entry.{Entry}
+use Rattle.history_core.specs.declared.event.Event.{Event}
+use Rattle.history_core.specs.declared.kept.Ready.{Ready}
+use Rattle.history_core.specs.declared.limits.TheConstants.{MAX_ENTRIES}
+use Rattle.history_core.specs.declared.receipt.Receipt.{Receipt}
+
+-- What is ready before an event happens: what its receipt tells of it, and the present world where
+-- the base is to move.
+pub record IsReady (h : History) (e : Event) (ready : Ready) : Type 0 where
+  pub told : ready.told ≡ told_of e
+  pub base : ready.base ≡ (if length h.entries == MAX_ENTRIES then Some h.world else None)
+
+-- Where there is a new base, it takes the place of the old one and of all entries; then there is an
+-- entry more.
+abbrev pub Enters : Option World → ℕ → List Entry → World → ℕ → Entry → List Entry → World → ℕ →
+    Type 0
+Enters None next es w n entry es_later w_later n_later =
+    (es_later ≡ es ++ entry ∷ []) × (w_later ≡ w) × (n_later ≡ n)
+Enters (Some base) next es w n entry es_later w_later n_later =
+    (es_later ≡ entry ∷ []) × (w_later ≡ base) × (n_later ≡ next)
+
+-- what is told of an event that was entered: that it is dropped, where it is
+abbrev pub applied_because : Receipt → Audit → Option Cause → Applied
+applied_because receipt audit (Some cause) = Dropped receipt cause audit
+applied_because receipt audit None = Done receipt (Some audit)
+
+abbrev pub applied_by : Receipt → Option Audit → Applied
+applied_by receipt None = Done receipt None
+applied_by receipt (Some audit) = applied_because receipt audit (cause_in audit.decision)

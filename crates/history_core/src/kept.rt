@@ -1,0 +1,286 @@
+//! What is kept of a history: its base, its entries, and the world as it is.
+ghost use Rattle.std.specs.Prelude.{◌≡◌, ◌==◌, ◌≤◌, ◌<◌, [], ◌∷◌, ◌++◌, None, Some, if◌then◌else◌, length, IfOk, IfErr, vec_capacity};
+ghost use Rattle.history_core.specs.Happening.{first_of, second_of};
+ghost use Rattle.history_core.specs.Keeping.{IsReady, Enters, applied_by};
+
+use crate::applied::Applied;
+use crate::entry::Entry;
+use crate::event::{Event, ReceiptEvent};
+use crate::happening::{Happened, cause_in, happen, put_failure};
+use crate::limits::MAX_ENTRIES;
+use crate::receipt::Receipt;
+use agent_core::Buffer;
+use audit_core::Audit;
+use setphase_core::{FlatWorld, MibObject, Registry, World};
+use std::alloc::{AllocError, Global};
+use std::marker::Model;
+
+/// A world, the objects that show it, and what is kept of its history, seen as one record: each
+/// event is one entry, whose reply, audit and ports are those of the step of its event at its place.
+/// No object has anything reserved.
+#[derive(Drop)]
+pub struct Kept<O: MibObject> {
+    first: u64,
+    base_number: u64,
+    base: FlatWorld,
+    entries: Vec<Entry>,
+    world: World,
+    registry: Registry<O>,
+}
+
+impl<O: MibObject> Model for Kept<O> {
+    ghost use Rattle.std.specs.Prelude.{◌≤◌, vec_capacity};
+    ghost use Rattle.history_core.specs.declared.limits.TheConstants.{MAX_ENTRIES};
+    ghost use Rattle.history_core.specs.History.{History, IsHistory};
+
+    ghost Value = { History };
+
+    ghost view = { λ k. record {
+      first = k.first;
+      base_number = k.base_number;
+      base = k.base;
+      entries = k.entries.items;
+      world = k.world;
+      objects = k.registry;
+    } };
+
+    ghost invariant = { λ k. IsHistory (record {
+      first = k.first;
+      base_number = k.base_number;
+      base = k.base;
+      entries = k.entries.items;
+      world = k.world;
+      objects = k.registry;
+    }) × (MAX_ENTRIES ≤ vec_capacity k.entries) };
+}
+
+// What is ready before an event happens.
+#[derive(Drop)]
+struct Ready {
+    told: ReceiptEvent,
+    base: Option<FlatWorld>,
+}
+
+impl<O: MibObject> Kept<O> {
+    ghost use Rattle.history_core.specs.Steps.{IsEncodable};
+    ghost use Rattle.history_core.specs.History.{IsHistory, Applies, fresh, next_of};
+
+    /// The history of this world and these objects, in which nothing has happened and the first
+    /// entry is to have the number 0. Every object is released.
+    ///
+    /// # Errors
+    ///
+    /// `AllocError` where there is no memory for a flat copy of the world, or for the room of
+    /// [`MAX_ENTRIES`] entries; the objects and the world come back.
+    pub fn new(
+        alloc: Global,
+        registry: Registry<O>,
+        world: World,
+    ) -> Result<Kept<O>, (AllocError, Registry<O>, World)>
+        ensures kept { IfOk result (λ kept. kept ≡ fresh registry world 0) }
+        ensures back { IfErr result (λ e. (e.1 ≡ registry) × (e.2 ≡ world)) }
+    {
+        Kept::resume(alloc, registry, world, 0)
+    }
+
+    /// The same, where the first entry is to have this number.
+    ///
+    /// # Errors
+    ///
+    /// As of [`Kept::new`].
+    pub fn resume(
+        alloc: Global,
+        mut registry: Registry<O>,
+        world: World,
+        first: u64,
+    ) -> Result<Kept<O>, (AllocError, Registry<O>, World)>
+        ensures kept { IfOk result (λ kept. kept ≡ fresh registry world first) }
+        ensures back { IfErr result (λ e. (e.1 ≡ registry) × (e.2 ≡ world)) }
+    {
+        let Ok(base) = world.flat(alloc) else {
+            return Err((AllocError, registry, world));
+        };
+        let Ok(entries) = Vec::with_capacity(alloc, MAX_ENTRIES) else {
+            return Err((AllocError, registry, world));
+        };
+        registry.release();
+        Ok(Kept {
+            first,
+            base_number: first,
+            base,
+            entries,
+            world,
+            registry,
+        })
+    }
+
+    /// The number of the first entry that is kept, or that is to be made where none was.
+    pub fn base_number(&self) -> u64
+        ensures { result ≡ self.now.base_number }
+    {
+        self.base_number
+    }
+
+    /// The number of the next entry.
+    pub fn next_number(&self) -> u64
+        ensures { result ≡ next_of self.now }
+    {
+        self.base_number + self.entries.len() as u64
+    }
+
+    /// The entries that are kept, from the base number on.
+    pub fn entries(&self) -> &[Entry]
+        ensures { result.now ≡ self.now.entries }
+    {
+        self.entries.as_slice()
+    }
+
+    /// The world before the first entry that is kept.
+    pub fn base(&self) -> &FlatWorld
+        ensures { result.now ≡ self.now.base }
+    {
+        &self.base
+    }
+
+    /// The world as it is.
+    pub fn world(&self) -> &World
+        ensures { result.now ≡ self.now.world }
+    {
+        &self.world
+    }
+
+    /// Hands on that the history is legal: replaying its entries from its base gives the world as it
+    /// is. It does nothing.
+    pub fn legal(&self)
+        ensures { IsHistory self.now }
+    {
+        let _ = &self.first;
+    }
+
+    /// Hands a plan down to the objects' devices ([`MibObject::arm`]). It changes nothing that is
+    /// shown, and takes no memory.
+    pub fn arm(&mut self, plan: u64)
+        ensures { self.new ≡ self.old }
+    {
+        self.registry.arm(plan);
+    }
+
+    // All growths that an event asks for beside its own: what its receipt tells of it, and a flat
+    // copy of the world where the base is to move.
+    fn prepare(&self, alloc: Global, event: &Event) -> Result<Ready, AllocError>
+        ensures { IfOk result (λ ready. IsReady self.now event.now ready) }
+    {
+        let told = event.told(alloc)?;
+        let base = if self.entries.len() == MAX_ENTRIES {
+            Some(self.world.flat(alloc)?)
+        } else {
+            None
+        };
+        Ok(Ready { told, base })
+    }
+
+    /// One event happens, and is entered: one entry more, at the next number. The buffer holds the
+    /// reply in its minimal encoding, and what the ports send. Where [`MAX_ENTRIES`] entries are
+    /// kept, the base moves to the present world first.
+    ///
+    /// The caller hands in requests whose names and OBJECT IDENTIFIER values have an encoding, as
+    /// `decode` gives them. Nothing is entered where no number is left, and where memory was wanting:
+    /// then all is as before, and the event comes back.
+    pub fn apply(&mut self, alloc: Global, event: Event, buffer: &mut Buffer) -> Applied
+        requires { IsEncodable event }
+        ensures { Applies self.old event result self.new buffer.new }
+    {
+        buffer.clear();
+        let number = self.next_number();
+        if number == u64::MAX {
+            return Applied::HistoryFull(event);
+        }
+        let Ok(ready) = self.prepare(alloc, &event) else {
+            put_failure(&self.world, &event, buffer);
+            return Applied::Short(event);
+        };
+        let Ok(happened) = happen(alloc, &mut self.registry, &mut self.world, &event, buffer) else {
+            put_failure(&self.world, &event, buffer);
+            return Applied::Short(event);
+        };
+        let Ready { told, base } = ready;
+        let Happened {
+            no_room,
+            failed,
+            egress,
+            replies,
+            audits,
+        } = happened;
+        let (reply, told_reply) = apart(replies);
+        let (audit, told_audit) = apart(audits);
+        let receipt = Receipt {
+            number,
+            event: told,
+            egress: egress.copy(),
+            reply: told_reply,
+        };
+        let entry = Entry {
+            event,
+            no_room,
+            failed,
+            egress,
+            reply,
+            audit,
+        };
+        let Kept {
+            entries,
+            base: old_base,
+            base_number,
+            ..
+        } = self;
+        enter(entries, old_base, base_number, base, number, entry);
+        applied(receipt, told_audit)
+    }
+}
+
+// Two that come together, or none of them.
+fn apart<X: Drop>(pair: Option<(X, X)>) -> (Option<X>, Option<X>)
+    ensures first { result.0 ≡ first_of pair }
+    ensures second { result.1 ≡ second_of pair }
+{
+    match pair {
+        Some((first, second)) => (Some(first), Some(second)),
+        None => (None, None),
+    }
+}
+
+// Enters an entry: where there is a new base, it takes the place of the old one and all entries.
+fn enter(
+    entries: &mut Vec<Entry>,
+    base: &mut FlatWorld,
+    base_number: &mut u64,
+    new: Option<FlatWorld>,
+    number: u64,
+    entry: Entry,
+)
+    requires room { new ≡ None → length entries.old.items < MAX_ENTRIES }
+    requires reserved { MAX_ENTRIES ≤ vec_capacity entries.old }
+    ensures entered { Enters new number entries.old.items base.old base_number.old entry
+        entries.new.items base.new base_number.new }
+    ensures capacity { vec_capacity entries.new ≡ vec_capacity entries.old }
+{
+    if let Some(new) = new {
+        *base = new;
+        *base_number = number;
+        entries.clear();
+    }
+    entries.push_reserved(entry);
+}
+
+// What is told of an event that was entered.
+fn applied(receipt: Receipt, audit: Option<Audit>) -> Applied
+    ensures { result ≡ applied_by receipt audit }
+{
+    let Some(audit) = audit else {
+        return Applied::Done(receipt, None);
+    };
+    match cause_in(&audit.decision) {
+        Some(cause) => Applied::Dropped(receipt, cause, audit),
+        None => Applied::Done(receipt, Some(audit)),
+    }
+}
