@@ -1,20 +1,26 @@
-//! What an agent keeps of its events: each event, what went out and what was replied, under a
-//! number.
+//! The history of an agent: each event is one step of a world, and one entry under a number.
 //!
 //! # Entry points
-//! [`Event`]: what happens to an agent. [`Entry`]: what is kept of one event. [`Receipt`]: what its
+//! [`Kept`]: a world, the objects that show it, and what is kept of its history, by `new`, or by
+//! `resume` from a number on; `apply` has one event happen and enters it. [`Event`]: what happens;
+//! [`Applied`]: what became of it. [`Entry`]: what is kept of one event. [`Receipt`]: what its
 //! caller is told of it, with `try_copy`, and `same`, which takes no memory. [`compare`] says
 //! whether receipts agree with the entries that are kept, or names the first that does not.
 //!
 //! # Definitions
+//! `specs/Steps.antt`: what an event makes of a world and its objects, and what comes out;
+//! `specs/History.antt`: what is kept, when it is legal, and what an event adds;
 //! `specs/Receipts.antt`: what a receipt tells of an event, when it takes memory, and when it
-//! stands; `specs/Comparing.antt`: when receipts agree with what is kept.
+//! stands; `specs/Comparing.antt`: when receipts agree with what is kept. `specs/Happening.antt`
+//! and `specs/Keeping.antt` speak of parts of `apply` inside the crate.
 //!
 //! # Laws
-//! None.
+//! On [`Kept::legal`]: each entry is that of the step at its place, and replaying the entries from
+//! the base gives the world as it is. [`laws::one_history`]: one base and the same happenings make
+//! the same entries.
 //!
 //! # Not claimed
-//! That an entry is what its event makes of a world; that is no claim about receipts.
+//! That memory was refused where want of it is told; which calls a device fails.
 #![tactic(auto)]
 
 mod applied;

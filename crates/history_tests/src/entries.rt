@@ -1,12 +1,11 @@
 //! Entries one after another: their numbers, their receipts, and what they leave.
-use crate::support::{entered, history_from, request_of};
+use crate::support::{History, entered, history_from, request_of};
 use agent_core::Buffer;
 use decision::Cause;
 use fixtures::message::Held::{Integer, Null};
 use fixtures::message::{get, octets_of, of, reply, set};
 use fixtures::names::PORTS;
-use frame_core::{FrameIn, Mac, read_frame};
-use history_core::{Applied, Event, Mismatch, ReceiptEvent, Tally, compare};
+use history_core::{Applied, Event, Mismatch, Receipt, Tally, compare};
 use std::alloc::Global;
 use std::test::Fail;
 
@@ -76,21 +75,38 @@ fn enters_an_event_of_no_port(rt: HostRuntime) -> Result<(), Fail> {
     Ok(())
 }
 
-// Of three entries the receipts 0, 1 and 1 do not rise; 0, 1 and 2 stand.
+// The receipts of so many seconds.
+fn seconds(alloc: Global, history: &mut History, count: usize) -> Result<Vec<Receipt>, Fail> {
+    let mut receipts = Vec::new(alloc);
+    for _ in 0..count {
+        receipts.push(entered(alloc, history, Event::Tick)?)?;
+    }
+    Ok(receipts)
+}
+
+// What these receipts come to beside a history that began with 0.
+fn compared(history: &History, receipts: &[Receipt]) -> Result<Tally, Mismatch> {
+    compare(0, history.entries(), receipts)
+}
+
 #[test]
-fn compares_receipts(rt: HostRuntime) -> Result<(), Fail> {
+fn compares_three_receipts(rt: HostRuntime) -> Result<(), Fail> {
     let mut history = history_from(rt.alloc(), 0)?;
-    let first = entered(rt.alloc(), &mut history, Event::Tick)?;
-    let second = entered(rt.alloc(), &mut history, Event::Tick)?;
-    let third = entered(rt.alloc(), &mut history, Event::Tick)?;
+    let receipts = seconds(rt.alloc(), &mut history, 3)?;
+    let tally = compared(&history, &receipts);
+    assert_eq!(rt; tally, Ok(Tally { stood: 3, older: 0 }));
+    Ok(())
+}
+
+// The receipts 0, 1 and 1 do not rise.
+#[test]
+fn finds_a_receipt_that_comes_twice(rt: HostRuntime) -> Result<(), Fail> {
+    let mut history = history_from(rt.alloc(), 0)?;
+    let mut receipts = seconds(rt.alloc(), &mut history, 2)?;
+    let second = receipts.get(1).ok_or("a receipt")?;
     let again = second.try_copy(rt.alloc())?;
-    let twice = [first, second, again];
-    assert_eq!(rt; compare(0, history.entries(), &twice), Err(Mismatch(1)));
-    let [first, second, _] = twice;
-    let each = [first, second, third];
-    assert_eq!(rt;
-        compare(0, history.entries(), &each),
-        Ok(Tally { stood: 3, older: 0 })
-    );
+    receipts.push(again)?;
+    let mismatch = compared(&history, &receipts);
+    assert_eq!(rt; mismatch, Err(Mismatch(1)));
     Ok(())
 }
