@@ -1,13 +1,10 @@
-//! Sets of dot1dStpPortEnable, whose device fails by plan, and what they reserve.
+//! Sets of dot1dStpPortEnable, whose device fails by plan, and what they release.
 use crate::worlds::{port, seen_world_of};
-use bridge_mib::{Planned, PortEnable, StpPortColumn};
+use bridge_mib::{Planned, PortEnable};
 use message_core::{Binding, Value};
 use oid_core::Oid;
 use rstp_core::{Key, PortKey};
-use setphase_core::{
-    MibObject, Registry, SetFault, SetOutcome, Staging, Standing, StpPort, World, are_named,
-    run_set,
-};
+use setphase_core::{Registry, SetOutcome, Staging, Standing, World, are_named, run_set};
 use setting_keys::{SettingKey, SettingKeys};
 use std::alloc::Global;
 use std::test::Fail;
@@ -193,31 +190,5 @@ fn releases_what_was_committed_and_undone(rt: HostRuntime) -> Result<(), Fail> {
     assert!(rt; undo_one_and_drop(&mut registry, &mut world, first, second));
     assert_eq!(rt; enables_of(&world), [2, 1, 1]);
     assert_eq!(rt; registry.held(), 0);
-    Ok(())
-}
-
-// Tests an object's instance of index 1 as often as the object has places, and once more: the fault
-// of the last test, and how many slots are reserved then.
-fn tested_65_times<O: MibObject>(
-    world: &World,
-    mut object: O,
-) -> Result<(Option<SetFault>, usize), Fail> {
-    for _ in 0..64 {
-        if object.test(world, &[1], &Value::Integer(2)).is_err() {
-            return Err(Fail::from("a place"));
-        }
-    }
-    let refused = object.test(world, &[1], &Value::Integer(2)).err();
-    Ok((refused, object.held()))
-}
-
-#[test]
-fn has_64_places(rt: HostRuntime) -> Result<(), Fail> {
-    let world = three_ports(rt.alloc())?;
-    let want = (Some(SetFault::ResourceUnavailable), 64);
-    let enable = PortEnable::new(Planned::new());
-    assert_eq!(rt; tested_65_times(&world, enable)?, want);
-    let cost = StpPortColumn::new(StpPort::PathCost);
-    assert_eq!(rt; tested_65_times(&world, cost)?, want);
     Ok(())
 }

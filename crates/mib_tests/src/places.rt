@@ -1,0 +1,132 @@
+//! What each object reserves of its 64 places.
+use crate::worlds::{port, world_of};
+use bridge_mib::Steady;
+use message_core::Value;
+use object_list::{COLUMNS, Object};
+use setphase_core::{Column, ExtPort, MibObject, Rapid, SetFault, Stp, StpPort, Tp, World};
+use std::alloc::Global;
+use std::test::Fail;
+
+// An object that a Set writes, the index of an instance, an INTEGER that it takes, and one that it
+// does not.
+type Written = (Column, u32, i32, i32);
+
+// The objects that a Set writes, by their names (RFC 4188, RFC 4318).
+const WRITTEN: [Written; 15] = [
+    (Column::Stp(Stp::Priority), 0, 61_440, 4_095),
+    (Column::Stp(Stp::BridgeMaxAge), 0, 600, 500),
+    (Column::Stp(Stp::BridgeHelloTime), 0, 1_000, 1_100),
+    (Column::Stp(Stp::BridgeForwardDelay), 0, 3_000, 3_100),
+    (Column::StpPort(StpPort::Priority), 1, 240, 8),
+    (Column::StpPort(StpPort::Enable), 1, 2, 3),
+    (Column::StpPort(StpPort::PathCost), 1, 65_535, 65_536),
+    (Column::StpPort(StpPort::PathCost32), 1, 200_000_000, 0),
+    (Column::Rapid(Rapid::Version), 0, 2, 1),
+    (Column::Rapid(Rapid::TxHoldCount), 0, 1, 0),
+    (Column::ExtPort(ExtPort::ProtocolMigration), 1, 1, 3),
+    (Column::ExtPort(ExtPort::AdminEdgePort), 1, 2, 0),
+    (Column::ExtPort(ExtPort::AdminPointToPoint), 1, 0, 3),
+    (Column::ExtPort(ExtPort::AdminPathCost), 1, 0, -1),
+    (Column::Tp(Tp::AgingTime), 0, 1_000_000, 9),
+];
+
+// A world of one port.
+fn one_port(alloc: Global) -> Result<World, Fail> {
+    world_of(alloc, &[port(1, 1_000, true)])
+}
+
+// The object of a column, of which a test of an instance took all 64 places.
+fn filled(world: &World, column: Column, at: u32, right: i32) -> Result<Object<Steady>, Fail> {
+    let mut object = Object::over(column, &mut Some(Steady));
+    for _ in 0..64 {
+        if object.test(world, &[at], &Value::Integer(right)).is_err() {
+            return Err(Fail::from("a place"));
+        }
+    }
+    Ok(object)
+}
+
+// The fault of a test that finds all places taken, and how many slots are reserved then.
+fn tested_65_times(
+    world: &World,
+    column: Column,
+    at: u32,
+    right: i32,
+) -> Result<(Option<SetFault>, usize), Fail> {
+    let mut object = filled(world, column, at, right)?;
+    let fault = object.test(world, &[at], &Value::Integer(right)).err();
+    Ok((fault, object.held()))
+}
+
+#[test]
+fn has_64_places(rt: HostRuntime) -> Result<(), Fail> {
+    let world = one_port(rt.alloc())?;
+    for (column, at, right, _wrong) in WRITTEN {
+        let told = tested_65_times(&world, column, at, right)?;
+        assert_eq!(rt;
+            told,
+            (Some(SetFault::ResourceUnavailable), 64),
+            "{column:?}"
+        );
+    }
+    Ok(())
+}
+
+// What keeps its fault where all places are taken: another type, a value that the object does not
+// take, an instance that there is not (port 2, and a scalar's at .2).
+fn other_faults(world: &World, written: Written) -> Result<([Option<SetFault>; 3], usize), Fail> {
+    let (column, at, right, wrong) = written;
+    let mut object = filled(world, column, at, right)?;
+    let faults = [
+        object.test(world, &[at], &Value::Gauge32(1)).err(),
+        object.test(world, &[at], &Value::Integer(wrong)).err(),
+        object.test(world, &[2], &Value::Integer(right)).err(),
+    ];
+    Ok((faults, object.held()))
+}
+
+#[test]
+fn tells_other_faults_where_all_places_are_taken(rt: HostRuntime) -> Result<(), Fail> {
+    let world = one_port(rt.alloc())?;
+    let want = [
+        Some(SetFault::WrongType),
+        Some(SetFault::WrongValue),
+        Some(SetFault::NoCreation),
+    ];
+    for written in WRITTEN {
+        assert_eq!(rt;
+            other_faults(&world, written)?,
+            (want, 64),
+            "{:?}",
+            written.0
+        );
+    }
+    Ok(())
+}
+
+// Whether a Set writes an object.
+fn is_written(column: Column) -> bool {
+    WRITTEN.iter().any(|(written, ..)| *written == column)
+}
+
+// The fault of the test of an INTEGER, and how many slots are reserved then.
+fn tested(world: &World, column: Column) -> (Option<SetFault>, usize) {
+    let mut object = Object::over(column, &mut Some(Steady));
+    let fault = object.test(world, &[1], &Value::Integer(1)).err();
+    (fault, object.held())
+}
+
+#[test]
+fn reserves_nothing_of_the_36_others(rt: HostRuntime) -> Result<(), Fail> {
+    let world = one_port(rt.alloc())?;
+    for column in COLUMNS {
+        if !is_written(column) {
+            assert_eq!(rt;
+                tested(&world, column),
+                (Some(SetFault::NotWritable), 0),
+                "{column:?}"
+            );
+        }
+    }
+    Ok(())
+}
