@@ -20,8 +20,6 @@ mod copies;
 #[cfg(test)]
 mod denied;
 #[cfg(test)]
-mod drawn;
-#[cfg(test)]
 mod families;
 #[cfg(test)]
 mod faults;
@@ -30,12 +28,8 @@ mod keys;
 #[cfg(test)]
 mod lines;
 #[cfg(test)]
-mod many_families;
-#[cfg(test)]
 mod names;
 #[cfg(test)]
 mod rows;
-#[cfg(test)]
-mod scan;
 #[cfg(test)]
 mod unrestored;

@@ -1,14 +1,10 @@
 //! Families and names that are drawn, from one seed always the same.
 ghost use Rattle.std.specs.Prelude.{◌<◌};
 
-use crate::scan::Family;
 use rand_core::{Rng, SeedableRng};
 use rand_xoshiro::Xoshiro256PlusPlus;
 use std::alloc::Global;
 use std::test::Fail;
-
-/// The views that are drawn from: the one is how the other begins.
-pub const VIEWS: [&str; 2] = ["v", "vw"];
 
 /// Draws families and names.
 #[derive(Drop)]
@@ -32,14 +28,13 @@ impl Draws {
         self.generator.next_u32() % limit
     }
 
-    /// A view.
-    pub fn view(&mut self) -> &'static str {
-        let [one, other] = VIEWS;
-        if self.below(2) == 0 { one } else { other }
+    /// Whether the one of two comes.
+    pub fn coin(&mut self) -> bool {
+        self.below(2) == 0
     }
 
-    // A mask of 0 to 2 octets, in which one bit of eight is 0.
-    fn mask(&mut self, alloc: Global) -> Result<Vec<u8>, Fail> {
+    /// A mask of 0 to 2 octets, in which one bit of eight is 0.
+    pub fn mask(&mut self, alloc: Global) -> Result<Vec<u8>, Fail> {
         let mut mask = Vec::new(alloc);
         for _ in 0..self.below(3) {
             let [one, two, three, ..] = self.generator.next_u32().to_be_bytes();
@@ -57,13 +52,17 @@ impl Draws {
         Ok(name)
     }
 
-    /// A family of one of the views.
-    pub fn family(&mut self, alloc: Global) -> Result<Family, Fail> {
-        Ok(Family {
-            view: self.view(),
-            subtree: self.name(alloc)?,
-            mask: self.mask(alloc)?,
-            included: self.below(2) == 0,
-        })
+    /// A name that begins as a subtree of 4 to 12 sub-identifiers does, but for at most one of
+    /// them, and goes on for at most two.
+    pub fn name_near(&mut self, alloc: Global, subtree: &[u32]) -> Result<Vec<u32>, Fail> {
+        let mut name = subtree.to_vec(alloc)?;
+        let place = self.below(12) as usize;
+        if let Some(number) = name.get_mut(place) {
+            *number = self.below(3);
+        }
+        for _ in 0..self.below(3) {
+            name.push(self.below(4))?;
+        }
+        Ok(name)
     }
 }

@@ -1,0 +1,21 @@
+//! Tests of views of many families: what decides on a name, beside a plain scan of all families.
+//!
+//! # Entry points
+//! None: the tests call what `vacm_core` offers.
+//!
+//! # Definitions
+//! None.
+//!
+//! # Laws
+//! None.
+//!
+//! # Not claimed
+//! Anything but what each test compares.
+#![tactic(auto)]
+
+#[cfg(test)]
+mod drawn;
+#[cfg(test)]
+mod many_families;
+#[cfg(test)]
+mod scan;
