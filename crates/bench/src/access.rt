@@ -3,7 +3,7 @@ use crate::print::print_turns;
 use community_core::Policy;
 use oid_core::Oid;
 use policy_text::policy_in;
-use std::alloc::Global;
+use std::alloc::{AllocError, Global};
 use std::io;
 use std::io::{Error, ErrorKind, Write};
 use std::time::Instant;
@@ -16,11 +16,11 @@ const TURNS: u32 = 100_000;
 const ROWS: [u32; 3] = [10, 100, 1_000];
 
 /// A mask by which a name need not agree with the eighth number of a subtree.
-const ANY_GROUP: &str = "FE";
+pub const ANY_GROUP: &str = "FE";
 
 /// The family of the view `last`, which is all of the bridge.
-const LAST: &[u8] =
-    b"[[family]]\nview = \"last\"\nsubtree = \"1.3.6.1.2.1.17\"\nmask = \"\"\nincluded = true\n";
+const LAST: &str =
+    "[[family]]\nview = \"last\"\nsubtree = \"1.3.6.1.2.1.17\"\nmask = \"\"\nincluded = true\n";
 
 /// The rows but for the families: `public` may read and write the view `last`, whose family is the
 /// last row.
@@ -60,18 +60,23 @@ pub fn policy_of_families(alloc: Global, families: &str) -> io::Result<Policy> {
     policy_of(alloc, &text)
 }
 
+/// A row of `[[family]]`, in TOML, by which the view `bridge` includes a subtree.
+pub fn family_text(alloc: Global, subtree: &str, mask: &str) -> Result<String, AllocError> {
+    format!(in alloc;
+        "[[family]]\nview = \"bridge\"\nsubtree = \"{subtree}\"\nmask = \"{mask}\"\nincluded = true\n"
+    )
+}
+
 /// A policy of so many families: those of the view `bridge`, siblings under one node, one a group of
 /// objects, each with this mask, and last the one of the view `last`, which is all of the bridge.
 fn policy_with_masks(alloc: Global, families: u32, mask: &str) -> io::Result<Policy> {
-    let mut text = Vec::from_slice(alloc, HEAD.as_bytes())?;
+    let mut rows = String::new(alloc);
     for number in 1..families {
-        writeln!(
-            text,
-            "[[family]]\nview = \"bridge\"\nsubtree = \"1.3.6.1.2.1.17.{number}\"\nmask = \"{mask}\"\nincluded = true"
-        )?;
+        let subtree = format!(in alloc; "1.3.6.1.2.1.17.{number}")?;
+        rows.push_str(&family_text(alloc, &subtree, mask)?)?;
     }
-    text.extend_from_slice(LAST)?;
-    policy_of(alloc, &text)
+    rows.push_str(LAST)?;
+    policy_of_families(alloc, &rows)
 }
 
 /// A policy of so many families, without masks.
@@ -88,7 +93,7 @@ fn policy_with_access_rows(alloc: Global, rows: u32) -> io::Result<Policy> {
             "[[access]]\ngroup = \"g{number}\"\nprefix = \"\"\nmodel = 2\nlevel = 1\nexact = true\nread = \"last\"\nwrite = \"last\"\nnotify = \"\""
         )?;
     }
-    text.extend_from_slice(LAST)?;
+    text.extend_from_slice(LAST.as_bytes())?;
     policy_of(alloc, &text)
 }
 
@@ -124,21 +129,26 @@ fn measure_decide(rt: &HostRuntime, vacm: &Vacm) -> io::Result<()> {
     println!(rt; "{allowed} allowed")
 }
 
+/// The name of these numbers.
+pub fn oid_of(alloc: Global, numbers: &[u32]) -> io::Result<Oid> {
+    match Oid::from_slice(alloc, numbers) {
+        Ok(name) => Ok(name),
+        Err(_) => Err(Error::from(ErrorKind::OutOfMemory)),
+    }
+}
+
 // Names of 12 numbers in eight groups of objects.
 fn names(alloc: Global) -> io::Result<Vec<Oid>> {
     let mut names = Vec::new(alloc);
     for group in 1..9 {
-        let Ok(name) = Oid::from_slice(alloc, &[1, 3, 6, 1, 2, 1, 17, group, 2, 0, 0, 1]) else {
-            return Err(Error::from(ErrorKind::OutOfMemory));
-        };
-        names.push(name)?;
+        names.push(oid_of(alloc, &[1, 3, 6, 1, 2, 1, 17, group, 2, 0, 0, 1])?)?;
     }
     Ok(names)
 }
 
-fn measure_in_view(rt: &HostRuntime, vacm: &Vacm) -> io::Result<()> {
+/// Asks for each of eight names in turn whether it is in the view `bridge`.
+pub fn measure_in_view(rt: &HostRuntime, vacm: &Vacm, names: &[Oid]) -> io::Result<()> {
     let view = name_of("bridge")?;
-    let names = names(rt.alloc())?;
     let start = Instant::now(rt)?;
     let mut included = 0u32;
     for turn in 0..TURNS {
@@ -153,13 +163,14 @@ fn measure_in_view(rt: &HostRuntime, vacm: &Vacm) -> io::Result<()> {
 }
 
 fn measure_families(rt: &HostRuntime, families: u32) -> io::Result<()> {
+    let names = names(rt.alloc())?;
     println!(rt; "{families} family rows")?;
     let policy = policy_with(rt.alloc(), families)?;
     measure_decide(rt, policy.vacm())?;
-    measure_in_view(rt, policy.vacm())?;
+    measure_in_view(rt, policy.vacm(), &names)?;
     println!(rt; "{families} family rows, each for any group of objects")?;
     let policy = policy_with_masks(rt.alloc(), families, ANY_GROUP)?;
-    measure_in_view(rt, policy.vacm())
+    measure_in_view(rt, policy.vacm(), &names)
 }
 
 fn measure_access_rows(rt: &HostRuntime, rows: u32) -> io::Result<()> {

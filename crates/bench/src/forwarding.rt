@@ -1,8 +1,9 @@
-//! Frames through a bridge, by 2 and 32 ports, among 10 and 1,024 learned addresses.
+//! Frames through a bridge and its seconds, by 2 and 32 ports, among 10 and 1,024 learned addresses.
 use crate::print::print_turns;
 use bridge_core::Bridge;
+use fdb_core::MAX_AGING_TIME;
 use frame_core::{FrameIn, Mac};
-use rstp_core::{IfIndex, Key, PortConfig, PortKey};
+use rstp_core::{BridgeKey, IfIndex, Key, PortConfig, PortKey};
 use std::alloc::Global;
 use std::hint::black_box;
 use std::io;
@@ -11,6 +12,9 @@ use std::time::Instant;
 
 /// How many frames go through.
 const FRAMES: u32 = 200_000;
+
+/// How many seconds pass in which no learned row is old enough to go.
+const SECONDS: u32 = 20_000;
 
 /// How many ports the bridges have.
 pub const PORTS: [u16; 2] = [2, 32];
@@ -94,6 +98,18 @@ fn measure_bridge(rt: &HostRuntime, bridge: &mut Bridge, rows: u32) -> io::Resul
     print_turns(rt, "frames to everybody", FRAMES, &start)
 }
 
+// Lets seconds pass, in each of which the learned rows grow older and the spanning tree ticks.
+fn measure_quiet_seconds(rt: &HostRuntime, bridge: &mut Bridge) -> io::Result<()> {
+    bridge.put_setting(Key::Bridge(BridgeKey::Aging), MAX_AGING_TIME);
+    black_box(bridge.settle());
+    let start = Instant::now(rt)?;
+    for _ in 0..SECONDS {
+        black_box(bridge.tick());
+    }
+    print_turns(rt, "seconds in which none goes", SECONDS, &start)?;
+    println!(rt; "{} are left", bridge.fdb().len())
+}
+
 /// A bridge of so many ports, at most 32.
 pub fn bridge_of(alloc: Global, ports: u16) -> io::Result<Bridge> {
     let list = [port(); 32];
@@ -104,7 +120,8 @@ pub fn bridge_of(alloc: Global, ports: u16) -> io::Result<Bridge> {
     }
 }
 
-/// Sends frames through bridges of 2 and 32 ports with 10 and 1,024 learned rows.
+/// Sends frames through bridges of 2 and 32 ports with 10 and 1,024 learned rows, and lets seconds
+/// pass.
 pub fn measure_forwarding(rt: &HostRuntime) -> io::Result<()> {
     for ports in PORTS {
         for rows in ROWS {
@@ -112,6 +129,7 @@ pub fn measure_forwarding(rt: &HostRuntime) -> io::Result<()> {
             let mut bridge = bridge_of(rt.alloc(), ports)?;
             prepare(&mut bridge, ports, rows);
             measure_bridge(rt, &mut bridge, rows)?;
+            measure_quiet_seconds(rt, &mut bridge)?;
         }
     }
     Ok(())

@@ -27,6 +27,7 @@ mod scenes;
 mod sources;
 mod tree;
 mod trials;
+mod views;
 
 use access::measure_access;
 use bridge::{measure_addresses, measure_frames};
@@ -35,9 +36,10 @@ use messages::{measure_decode, measure_encode};
 use scenes::{Work, do_work};
 use std::{env, io};
 use tree::measure_tree;
+use views::measure_views;
 
 /// The names of the measurements.
-const NAMES: [&str; 9] = [
+const NAMES: [&str; 10] = [
     "decode",
     "encode",
     "agent",
@@ -47,6 +49,7 @@ const NAMES: [&str; 9] = [
     "tree",
     "access",
     "forwarding",
+    "views",
 ];
 
 fn main(rt: HostRuntime) -> io::Result<()> {
@@ -67,6 +70,7 @@ fn main(rt: HostRuntime) -> io::Result<()> {
             "tree" => measure_tree(&rt),
             "access" => measure_access(&rt),
             "forwarding" => measure_forwarding(&rt),
+            "views" => measure_views(&rt),
             _ => print_names(&rt),
         },
     }
