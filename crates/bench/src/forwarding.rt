@@ -1,4 +1,4 @@
-//! Frames through a bridge and its seconds, by 2 and 32 ports, among 10 and 1,024 learned addresses.
+//! Frames through a bridge, and its seconds, by 2 and 32 ports, among 10 and 1,024 addresses.
 use crate::print::print_turns;
 use bridge_core::Bridge;
 use fdb_core::MAX_AGING_TIME;
