@@ -122,6 +122,6 @@ pub applies-ok : (h : History) (e : Event) (x : Happened) (world : World) (objec
     → Applies h e (applied_by receipt audit) later b
 applies-ok h e x world objects b receipt audit later fits happens number told egress reply same_audit same_later =
     let receipt_is : receipt ≡ next_receipt h e (notes_in x) =
-        (λ i. record { number = number i; event = told i; egress = (egress ∙ happens.egress) i; reply = (reply ∙ happens.same_reply) i }) in
+    (λ i. record { number = number i; event = told i; egress = (egress ∙ happens.egress) i; reply = (reply ∙ happens.same_reply) i }) in
     applies_by h e (notes_in x) receipt audit later b fits (same_audit ∙ happens.same_audit)
     (entered_is h e x world objects b receipt audit later happens receipt_is same_audit same_later)

@@ -156,8 +156,8 @@ pub entered-ok : (h : History) (e : Event) (n : Notes) (next : ℕ) (new : Optio
 entered-ok h e n next new entry entries base base_number world objects ok m number fits is moves en world_is objects_are =
     let moves' = subst (λ (k : ℕ). Enters new k h.entries h.base h.base_number entry entries base base_number) number moves in
     let same : entered h e n entries base base_number world objects ≡ after h e n =
-        (λ i. entered h e n entries base base_number (world_is i) (objects_are i))
-        ∙ entered-is_by h e n (length h.entries == MAX_ENTRIES) new entry entries base base_number is moves' en in
+    (λ i. entered h e n entries base base_number (world_is i) (objects_are i))
+    ∙ entered-is_by h e n (length h.entries == MAX_ENTRIES) new entry entries base base_number is moves' en in
     (same, subst (λ (x : History). IsHistory x) (sym same) (after-ok h e n ok m fits))
 
 -- ---- one base and the same happenings make one history

@@ -118,7 +118,7 @@ drop_happens : (os : List ObjectState) (w : World) (r : Request) (audit : Audit)
 drop_happens os w r audit b later os_later h =
     let none = undo_none os w r no_notes audit b h.done.answer in
     let same : nothing_noted ≡ notes_in (happened_by (answered.NoReply audit) b.reply) =
-        λ i. record { no_room = false; devices = record { commit = None; undos = sym none i } } in
+    λ i. record { no_room = false; devices = record { commit = None; undos = sym none i } } in
     subst (λ (n : Notes). HappensBy os w (event.Request r) n (happened_by (answered.NoReply audit) b.reply) os_later later b) same
     (drop_happens_by os w r audit b later os_later h)
 

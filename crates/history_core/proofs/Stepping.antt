@@ -302,9 +302,10 @@ tested_stays_by : (os : List ObjectState) (w : World) (view : List ℕ) (r : Req
     → (settled_world w.bridge.settings (world_after_set refusal (writings (rows_of os) w r.bindings) w n) ≡ w)
     × (map (object_after (failed_names (writings (rows_of os) w r.bindings) n)) os ≡ os)
 tested_stays_by os w view r n None rest may h = absurd (h (notes_deny_none n.commit n.undos))
-tested_stays_by os w view r n (Some refusal) rest may h =
-    (sym (unsettled w.bridge.settings w true ((λ t. refl), (λ e. refl)) refl).0,
-     ap (λ (m : SetNotes). map (object_after (failed_names (writings (rows_of os) w r.bindings) m)) os) may ∙ same_after os rest)
+tested_stays_by os w view r n (Some refusal) rest may h = (
+  sym (unsettled w.bridge.settings w true ((λ t. refl), (λ e. refl)) refl).0,
+  ap (λ (m : SetNotes). map (object_after (failed_names (writings (rows_of os) w r.bindings) m)) os) may ∙ same_after os rest,
+)
 
 set_stays_by : (os : List ObjectState) (w : World) (view : List ℕ) (r : Request) (n : SetNotes) (too_long : Bool)
     → AreAtRest os → MayFailWhere too_long (refusal_of (rows_of os) w view r.bindings) (writings (rows_of os) w r.bindings) n

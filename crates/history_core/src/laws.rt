@@ -12,5 +12,4 @@ pub fn one_history()
     ensures { (rows : List ObjectRow) (base : World) (entries others : List Entry) →
         IsLegal rows base entries → IsLegal rows base others →
         happenings_of entries ≡ happenings_of others → entries ≡ others }
-{
-}
+{}

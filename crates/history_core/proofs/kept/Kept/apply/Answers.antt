@@ -34,6 +34,6 @@ returns g c =
     let t = left-ok h c.args.event c.in-Ok-happen.happened _ _ _ _ _ _ _ _ _ _ c.self.invariant.0 number below base happens c.apart-reply.ensures.first c.apart-audit.ensures.first c.enter.ensures.entered in
     let receipt : Receipt = record { number = c.next_number-number.result; event = c.in-Ok.ready.told; egress = c.copy.result; reply = c.apart-reply.result.1 } in
     let applied = applies-ok h c.args.event c.in-Ok-happen.happened c.happen.new.world c.happen.new.registry c.happen.new.buffer receipt c.apart-audit.result.1 later
-        below happens number c.in-Ok.ensures.told c.copy.ensures c.apart-reply.ensures.second c.apart-audit.ensures.second t.0 in
+    below happens number c.in-Ok.ensures.told c.copy.ensures c.apart-reply.ensures.second c.apart-audit.ensures.second t.0 in
     subst (λ (x : History). Applies x c.args.event c.applied.result later c.happen.new.buffer) c.self.view_is
     (subst (λ (x : Applied). Applies h c.args.event x later c.happen.new.buffer) (sym c.applied.ensures) applied)
