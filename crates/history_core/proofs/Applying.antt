@@ -14,12 +14,13 @@ use Rattle.agent_core.specs.Buffered.{Buffered}
 use Rattle.history_core.specs.Receipts.{told_of}
 use Rattle.history_core.specs.Steps.{Notes, Step, step_of, has_port, silent_step, framed_step, bridge_step, cause_in, cause_of}
 use Rattle.history_core.specs.History.{History, undos_in, next_of, IsHistory, next_step, after, next_receipt, IsEntered, Applies, last_number}
-use Rattle.history_core.specs.Happening.{first_of, second_of, notes_in, Happens}
-use Rattle.history_core.specs.Keeping.{Enters, applied_by, applied_because}
+use Rattle.history_core.specs.Happening.{second_of, notes_in, Happens}
+use Rattle.history_core.specs.Keeping.{entry_of, receipt_of, Enters, applied_by, applied_because}
 use Rattle.history_core.specs.declared.applied.Applied.{Applied}
 use Rattle.history_core.specs.declared.entry.Entry.{Entry}
 use Rattle.history_core.specs.declared.event.Event.{Event}
 use Rattle.history_core.specs.declared.event.Event.TheVariants as event
+use Rattle.history_core.specs.declared.event.ReceiptEvent.{ReceiptEvent}
 use Rattle.history_core.specs.declared.happening.Happened.{Happened}
 use Rattle.history_core.specs.declared.limits.TheConstants.{MAX_ENTRIES}
 use Rattle.history_core.specs.declared.receipt.Receipt.{Receipt}
@@ -28,26 +29,21 @@ use Rattle.history_core.proofs.Histories.{MayBe, entered, entered-ok}
 
 -- ---- the entry
 
--- the entry that is made of what happened
-abbrev pub made : Event → Happened → Option (List ℕ) → Option Audit → Entry
-made e x reply audit = record { event = e; no_room = x.no_room; failed = x.failed; egress = x.egress; reply = reply; audit = audit }
-
 may_be : (h : History) (e : Event) (x : Happened) (objects : List ObjectState) (world : World) (b : Buffered)
     → Happens h.objects h.world e x objects world b → MayBe h e (notes_in x)
 may_be h e x objects world b is = record { may = is.may; undos = ap undos_in (sym is.audit) }
 
 -- The fields that `apply` leaves are the history after the event, and it is legal.
-pub left-ok : (h : History) (e : Event) (x : Happened) (next : ℕ) (new : Option World) (entries : List Entry) (base : World) (base_number : ℕ) (world : World) (objects : List ObjectState) (b : Buffered) (reply : Option (List ℕ)) (audit : Option Audit)
+pub left-ok : (h : History) (e : Event) (x : Happened) (next : ℕ) (new : Option World) (entry : Entry) (entries : List Entry) (base : World) (base_number : ℕ) (world : World) (objects : List ObjectState) (b : Buffered)
     → IsHistory h → next ≡ next_of h → next_of h < last_number
     → new ≡ (if length h.entries == MAX_ENTRIES then Some h.world else None)
-    → Happens h.objects h.world e x objects world b
-    → reply ≡ first_of x.replies → audit ≡ first_of x.audits
-    → Enters new next h.entries h.base h.base_number (made e x reply audit) entries base base_number
+    → Happens h.objects h.world e x objects world b → entry ≡ entry_of e x
+    → Enters new next h.entries h.base h.base_number entry entries base base_number
     → (entered h e (notes_in x) entries base base_number world objects ≡ after h e (notes_in x))
     × IsHistory (entered h e (notes_in x) entries base base_number world objects)
-left-ok h e x next new entries base base_number world objects b reply audit ok number fits is happens same_reply same_audit moves =
-    entered-ok h e (notes_in x) next new (made e x reply audit) entries base base_number world objects ok (may_be h e x objects world b happens) number fits is moves
-    (λ i. made e (record x { egress = happens.egress i }) ((same_reply ∙ happens.reply) i) ((same_audit ∙ happens.audit) i))
+left-ok h e x next new entry entries base base_number world objects b ok number fits is happens made moves =
+    entered-ok h e (notes_in x) next new entry entries base base_number world objects ok (may_be h e x objects world b happens) number fits is moves
+    (made ∙ (λ i. record { event = e; no_room = x.no_room; failed = x.failed; egress = happens.egress i; reply = happens.reply i; audit = happens.audit i }))
     happens.world happens.objects_after
 
 -- ---- why a request is dropped
@@ -115,13 +111,13 @@ applies_by h e n receipt None later b fits same is = (fits, no_cause_told h.obje
 applies_by h e n receipt (Some audit) later b fits same is =
     applies_because h e receipt audit later b (cause_in audit.decision) fits (cause_told h.objects h.world e n audit same) is
 
-pub applies-ok : (h : History) (e : Event) (x : Happened) (world : World) (objects : List ObjectState) (b : Buffered) (receipt : Receipt) (audit : Option Audit) (later : History)
+pub applies-ok : (h : History) (e : Event) (x : Happened) (world : World) (objects : List ObjectState) (b : Buffered) (number : ℕ) (told : ReceiptEvent) (receipt : Receipt) (audit : Option Audit) (later : History)
     → next_of h < last_number → Happens h.objects h.world e x objects world b
-    → receipt.number ≡ next_of h → receipt.event ≡ told_of e → receipt.egress ≡ x.egress → receipt.reply ≡ second_of x.replies
+    → number ≡ next_of h → told ≡ told_of e → receipt ≡ receipt_of number told x
     → audit ≡ second_of x.audits → later ≡ after h e (notes_in x)
     → Applies h e (applied_by receipt audit) later b
-applies-ok h e x world objects b receipt audit later fits happens number told egress reply same_audit same_later =
+applies-ok h e x world objects b number told receipt audit later fits happens same_number same_told made same_audit same_later =
     let receipt_is : receipt ≡ next_receipt h e (notes_in x) =
-    (λ i. record { number = number i; event = told i; egress = (egress ∙ happens.egress) i; reply = (reply ∙ happens.same_reply) i }) in
+    made ∙ (λ i. record { number = same_number i; event = same_told i; egress = happens.egress i; reply = happens.same_reply i }) in
     applies_by h e (notes_in x) receipt audit later b fits (same_audit ∙ happens.same_audit)
     (entered_is h e x world objects b receipt audit later happens receipt_is same_audit same_later)

@@ -6,10 +6,13 @@ use Rattle.setphase_core.specs.declared.world.World.{World}
 use Rattle.history_core.specs.Receipts.{told_of}
 use Rattle.history_core.specs.Steps.{cause_in}
 use Rattle.history_core.specs.History.{History}
+use Rattle.history_core.specs.Happening.{first_of, second_of}
 use Rattle.history_core.specs.declared.applied.Applied.{Applied}
 use Rattle.history_core.specs.declared.applied.Applied.TheVariants.{Done, Dropped}
 use Rattle.history_core.specs.declared.entry.Entry.{Entry}
 use Rattle.history_core.specs.declared.event.Event.{Event}
+use Rattle.history_core.specs.declared.event.ReceiptEvent.{ReceiptEvent}
+use Rattle.history_core.specs.declared.happening.Happened.{Happened}
 use Rattle.history_core.specs.declared.kept.Ready.{Ready}
 use Rattle.history_core.specs.declared.limits.TheConstants.{MAX_ENTRIES}
 use Rattle.history_core.specs.declared.receipt.Receipt.{Receipt}
@@ -19,6 +22,25 @@ use Rattle.history_core.specs.declared.receipt.Receipt.{Receipt}
 pub record IsReady (h : History) (e : Event) (ready : Ready) : Type 0 where
   pub told : ready.told ≡ told_of e
   pub base : ready.base ≡ (if length h.entries == MAX_ENTRIES then Some h.world else None)
+
+-- the entry of an event that came to this, and its receipt under a number
+abbrev pub entry_of : Event → Happened → Entry
+entry_of e x = record {
+  event = e;
+  no_room = x.no_room;
+  failed = x.failed;
+  egress = x.egress;
+  reply = first_of x.replies;
+  audit = first_of x.audits;
+}
+
+abbrev pub receipt_of : ℕ → ReceiptEvent → Happened → Receipt
+receipt_of number told x = record {
+  number = number;
+  event = told;
+  egress = x.egress;
+  reply = second_of x.replies;
+}
 
 -- Where there is a new base, it takes the place of the old one and of all entries; then there is an
 -- entry more.

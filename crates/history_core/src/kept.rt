@@ -1,7 +1,7 @@
 //! What is kept of a history: its base, its entries, and the world as it is.
 ghost use Rattle.std.specs.Prelude.{◌≡◌, ◌==◌, ◌≤◌, ◌<◌, [], ◌∷◌, ◌++◌, None, Some, if◌then◌else◌, length, IfOk, IfErr, vec_capacity};
 ghost use Rattle.history_core.specs.Happening.{first_of, second_of};
-ghost use Rattle.history_core.specs.Keeping.{IsReady, Enters, applied_by};
+ghost use Rattle.history_core.specs.Keeping.{IsReady, entry_of, receipt_of, Enters, applied_by};
 
 use crate::applied::Applied;
 use crate::entry::Entry;
@@ -204,29 +204,11 @@ impl<O: MibObject> Kept<O> {
             return Applied::Short(event);
         };
         let Ready { told, base } = ready;
-        let Happened {
-            no_room,
-            failed,
-            egress,
-            replies,
-            audits,
-        } = happened;
-        let (reply, told_reply) = apart(replies);
-        let (audit, told_audit) = apart(audits);
-        let receipt = Receipt {
-            number,
-            event: told,
-            egress: egress.copy(),
-            reply: told_reply,
-        };
-        let entry = Entry {
-            event,
-            no_room,
-            failed,
-            egress,
-            reply,
+        let Made {
+            entry,
+            receipt,
             audit,
-        };
+        } = made_of(number, event, told, happened);
         let Kept {
             entries,
             base: old_base,
@@ -234,7 +216,7 @@ impl<O: MibObject> Kept<O> {
             ..
         } = self;
         enter(entries, old_base, base_number, base, number, entry);
-        applied(receipt, told_audit)
+        applied(receipt, audit)
     }
 }
 
@@ -246,6 +228,50 @@ fn apart<X: Drop>(pair: Option<(X, X)>) -> (Option<X>, Option<X>)
     match pair {
         Some((first, second)) => (Some(first), Some(second)),
         None => (None, None),
+    }
+}
+
+// What is made of an event that happened: its entry, its receipt, and a copy of its audit.
+#[derive(Drop)]
+struct Made {
+    entry: Entry,
+    receipt: Receipt,
+    audit: Option<Audit>,
+}
+
+// What is made of an event that came to this, under this number.
+fn made_of(number: u64, event: Event, told: ReceiptEvent, happened: Happened) -> Made
+    ensures entry { result.entry ≡ entry_of event happened }
+    ensures receipt { result.receipt ≡ receipt_of number told happened }
+    ensures audit { result.audit ≡ second_of happened.audits }
+{
+    let Happened {
+        no_room,
+        failed,
+        egress,
+        replies,
+        audits,
+    } = happened;
+    let (reply, told_reply) = apart(replies);
+    let (audit, told_audit) = apart(audits);
+    let receipt = Receipt {
+        number,
+        event: told,
+        egress: egress.copy(),
+        reply: told_reply,
+    };
+    let entry = Entry {
+        event,
+        no_room,
+        failed,
+        egress,
+        reply,
+        audit,
+    };
+    Made {
+        entry,
+        receipt,
+        audit: told_audit,
     }
 }
 
