@@ -7,7 +7,7 @@ use Rattle.setphase_core.specs.declared.world.World.{World}
 use Rattle.setphase_core.specs.Objects.{ObjectRow, ObjectState}
 use Rattle.setphase_core.specs.Registry.{rows_of}
 use Rattle.history_core.specs.Steps.{Notes, Step, step_of, MayNote, AreAtRest}
-use Rattle.history_core.specs.History.{History, undos_in, notes_of, resting, step_at, Happening, happening_of, happenings_of, replay, IsEntry, IsLegal, next_of, IsHistory, fresh, rebased, moved, next_step, next_entry, with_entry, after, last_number}
+use Rattle.history_core.specs.History.{History, undos_in, notes_of, resting, step_at, EventMet, event_met, events_met, replay, IsEntry, IsLegal, next_of, IsHistory, fresh, rebased, moved, next_step, next_entry, with_entry, after, last_number}
 use Rattle.history_core.specs.Keeping.{Enters}
 use Rattle.history_core.specs.declared.entry.Entry.{Entry}
 use Rattle.history_core.specs.declared.event.Event.{Event}
@@ -163,9 +163,9 @@ entered-ok h e n next new entry entries base base_number world objects ok m numb
 -- ---- one base and the same happenings make one history
 
 entry_same : (rows : List ObjectRow) (w : World) (a b : Entry) → IsEntry rows w a → IsEntry rows w b
-    → happening_of a ≡ happening_of b → a ≡ b
+    → event_met a ≡ event_met b → a ≡ b
 entry_same rows w a b is other e =
-    let step : step_at rows w a ≡ step_at rows w b = ap (λ (x : Happening). step_of (resting rows) w x.event x.notes) e in
+    let step : step_at rows w a ≡ step_at rows w b = ap (λ (x : EventMet). step_of (resting rows) w x.event x.notes) e in
     let egress = is.egress ∙ ap (λ (s : Step). s.egress) step ∙ sym other.egress in
     let reply = is.reply ∙ ap (λ (s : Step). s.reply) step ∙ sym other.reply in
     let audit = is.audit ∙ ap (λ (s : Step). s.audit) step ∙ sym other.audit in
@@ -178,16 +178,16 @@ entry_same rows w a b is other e =
       audit = audit i;
     }
 
-head_same : (a b : Happening) (xs ys : List Happening) → a ∷ xs ≡ b ∷ ys → (a ≡ b) × (xs ≡ ys)
+head_same : (a b : EventMet) (xs ys : List EventMet) → a ∷ xs ≡ b ∷ ys → (a ≡ b) × (xs ≡ ys)
 head_same a b xs ys e = (cc, cc)
 
 pub one_history : (rows : List ObjectRow) (w : World) (es others : List Entry) → IsLegal rows w es → IsLegal rows w others
-    → happenings_of es ≡ happenings_of others → es ≡ others
+    → events_met es ≡ events_met others → es ≡ others
 one_history rows w [] [] legal other e = refl
 one_history rows w [] (b ∷ ys) legal other e = cc
 one_history rows w (a ∷ xs) [] legal other e = cc
 one_history rows w (a ∷ xs) (b ∷ ys) legal other e =
-    let both = head_same (happening_of a) (happening_of b) (happenings_of xs) (happenings_of ys) e in
+    let both = head_same (event_met a) (event_met b) (events_met xs) (events_met ys) e in
     let first = entry_same rows w a b legal.0 other.0 both.0 in
     let rest = subst (λ (x : Entry). IsLegal rows (step_at rows w x).world ys) (sym first) other.1 in
     λ i. first i ∷ one_history rows (step_at rows w a).world xs ys legal.1 rest both.1 i

@@ -30,8 +30,9 @@ use Rattle.agent_core.specs.Sets.{SetStep, SetAnswer, answer_of_failure, answer_
 use Rattle.agent_core.specs.Answers as answers
 use Rattle.agent_core.specs.Answers.{Outcome, dropped, replied, audit_in, Shown, shown_of, outcome_of, outcome_by, world_by, world_after, reading_step, writing_step, allowed_step, step_by, MayHave, MayFailBy, MayFailInView}
 use Rattle.agent_core.proofs.Changed.{unsettled}
-use Rattle.history_core.specs.Steps.{Notes, Step, step_of, has_port, silent_step, framed_step, frame_step, bridge_step, link_step, request_step, AreAtRest, IsAtRest}
+use Rattle.history_core.specs.Steps.{Notes, Step, step_of, has_port, silent_step, framed_step, frame_step, bridge_step, link_step, request_step, AreAtRest, IsAtRest, MayTakeMemory}
 use Rattle.history_core.specs.History.{resting}
+use Rattle.history_core.specs.Receipts.{told_of, TakesMemory}
 use Rattle.history_core.specs.declared.event.Event.{Event}
 use Rattle.history_core.specs.declared.event.Event.TheVariants as event
 
@@ -342,3 +343,12 @@ pub denied_stays : (os : List ObjectState) (w : World) (r : Request) (n : SetNot
     → ((audit_in (answers.step_of os w r n).outcome).denied ≢ []) → Stays os w (answers.step_of os w r n)
 unfolding answers.step_of MayHave
 denied_stays os w r n rest may h = stays_by os w r n (decision_on w.policy r) rest may h
+
+-- ---- where a receipt takes memory
+
+pub taking : (e : Event) → TakesMemory (told_of e) → MayTakeMemory e
+taking (event.Frame port frame) h = absurd h
+taking event.Tick h = absurd h
+taking (event.Link port up) h = absurd h
+taking (event.Policy tables) h = absurd h
+taking (event.Request request) h = tt

@@ -1,5 +1,5 @@
 -- A history: what is kept of it, when it is legal, and what an event adds to it.
-use Rattle.std.specs.Prelude.{◌≡◌, ℕ, ◌+◌, ◌*◌, ◌^◌, ◌<◌, ◌≤◌, ◌==◌, List, [], ◌∷◌, ◌++◌, length, map, Option, Some, None, if◌then◌else◌, unwrap_or}
+use Rattle.std.specs.Prelude.{◌≡◌, ◌⊎◌, ℕ, ◌+◌, ◌*◌, ◌^◌, ◌<◌, ◌≤◌, ◌==◌, List, [], ◌∷◌, ◌++◌, length, map, Option, Some, None, if◌then◌else◌, unwrap_or}
 use Rattle.audit_core.specs.declared.audit.Audit.{Audit}
 use Rattle.setting_keys.specs.declared.SettingKey.{SettingKey}
 use Rattle.setphase_core.specs.Objects.{ObjectRow, ObjectState, object_after_release}
@@ -7,7 +7,7 @@ use Rattle.setphase_core.specs.Registry.{rows_of}
 use Rattle.setphase_core.specs.declared.world.World.{World}
 use Rattle.agent_core.specs.Buffered.{Buffered}
 use Rattle.history_core.specs.Receipts.{told_of}
-use Rattle.history_core.specs.Steps.{Notes, Step, step_of, MayNote, AreAtRest, cause_of, failure_octets}
+use Rattle.history_core.specs.Steps.{Notes, Step, step_of, MayNote, AreAtRest, cause_of, MayTakeMemory, failure_octets}
 use Rattle.history_core.specs.declared.applied.Applied.{Applied}
 use Rattle.history_core.specs.declared.applied.Applied.TheVariants.{Done, Dropped, Short, HistoryFull}
 use Rattle.history_core.specs.declared.entry.Entry.{Entry}
@@ -15,8 +15,8 @@ use Rattle.history_core.specs.declared.event.Event.{Event}
 use Rattle.history_core.specs.declared.limits.TheConstants.{MAX_ENTRIES}
 use Rattle.history_core.specs.declared.receipt.Receipt.{Receipt}
 
--- What is kept: the number of the first entry ever made, the base number and the base, the entries
--- from there on, and the world and the objects as they are now.
+-- What is kept: the number that the first entry of all had, or is to have, the base number and the
+-- base, the entries from there on, and the world and the objects as they are now.
 pub record History : Type 0 where
   pub first : ℕ
   pub base_number : ℕ
@@ -66,15 +66,15 @@ IsLegal rows w [] = Unit {0}
 IsLegal rows w (e ∷ es) = IsEntry rows w e × IsLegal rows (step_at rows w e).world es
 
 -- an event, and what it met
-pub record Happening : Type 0 where
+pub record EventMet : Type 0 where
   pub event : Event
   pub notes : Notes
 
-abbrev pub happening_of : Entry → Happening
-happening_of e = record { event = e.event; notes = notes_of e }
+abbrev pub event_met : Entry → EventMet
+event_met e = record { event = e.event; notes = notes_of e }
 
-abbrev pub happenings_of : List Entry → List Happening
-happenings_of es = map happening_of es
+abbrev pub events_met : List Entry → List EventMet
+events_met es = map event_met es
 
 -- the number of the next entry
 abbrev pub next_of : History → ℕ
@@ -163,7 +163,7 @@ pub record IsEntered (h : History) (e : Event) (receipt : Receipt) (audit : Opti
   pub reply_is : buffer.reply ≡ unwrap_or (next_step h e notes).reply []
   pub bpdus_are : buffer.bpdus ≡ (next_step h e notes).bpdus
 
--- The greatest number is no entry's.
+-- The greatest number, `u64::MAX`, is no entry's.
 abbrev pub last_number : ℕ
 last_number = 18446744073709551615
 
@@ -177,7 +177,8 @@ Applies h e (Dropped receipt cause audit) later buffer =
     (next_of h < last_number) × (cause_of h.world e ≡ Some cause)
     × IsEntered h e receipt (Some audit) later buffer
 Applies h e (Short back) later buffer =
-    (next_of h < last_number) × (back ≡ e) × (later ≡ h)
+    (next_of h < last_number) × ((length h.entries ≡ MAX_ENTRIES) ⊎ MayTakeMemory e)
+    × (back ≡ e) × (later ≡ h)
     × (buffer.reply ≡ failure_octets h.world e) × (buffer.bpdus ≡ [])
 Applies h e (HistoryFull back) later buffer =
     (next_of h ≡ last_number) × (back ≡ e) × (later ≡ h)

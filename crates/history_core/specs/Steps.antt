@@ -26,8 +26,8 @@ use Rattle.agent_core.specs.Sets.{no_notes}
 use Rattle.history_core.specs.declared.event.Event.{Event}
 use Rattle.history_core.specs.declared.event.Event.TheVariants as event
 
--- What an event met that neither it nor the world says: whether the growth for the row of a frame's
--- source was refused, and which calls of devices failed in a Set.
+-- What an event met that neither it nor the world says: whether there was no memory for the learned
+-- row of a frame's source, and which calls of devices failed in a Set.
 pub record Notes : Type 0 where
   pub no_room : Bool
   pub devices : SetNotes
@@ -119,8 +119,9 @@ step_of objects w (event.Policy tables) notes = policy_step objects w tables
 step_of objects w (event.Request request) notes =
     request_step (answers.step_of objects w request notes.devices)
 
--- What may be noted of an event: a refused growth only of a frame at a port that is there whose
--- source is to have a row of its own, and failed calls of devices only of a Set that makes them.
+-- What may be noted of an event: no memory for a learned row only of a frame at a port that is there
+-- whose source is to have a row of its own, and failed calls of devices only of a Set that makes
+-- them.
 pub record MayLackRoom (b : BridgeState) (port : ℕ) (frame : FrameIn) : Type 0 where
   pub port_is_there : IsTrue (has_port b port)
   pub lacks : MayLackMemory b port frame
@@ -142,6 +143,15 @@ IsEncodable event.Tick = Unit {0}
 IsEncodable (event.Link port up) = Unit {0}
 IsEncodable (event.Policy tables) = Unit {0}
 IsEncodable (event.Request request) = AreEncodable request.bindings
+
+-- Events that may take memory of their own: a policy, which is copied into the world, and a request,
+-- which is answered.
+abbrev pub MayTakeMemory : Event → Type 0
+MayTakeMemory (event.Frame port frame) = ⊥
+MayTakeMemory event.Tick = ⊥
+MayTakeMemory (event.Link port up) = ⊥
+MayTakeMemory (event.Policy tables) = Unit {0}
+MayTakeMemory (event.Request request) = Unit {0}
 
 -- why a request is dropped, where it is
 abbrev pub cause_in : Decision → Option Cause

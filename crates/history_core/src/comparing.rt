@@ -60,8 +60,8 @@ fn is_above(before: Option<u64>, number: u64) -> bool
     }
 }
 
-/// Compares receipts, by rising number, with the entries that are kept, the first of which has this
-/// number. Takes no memory.
+/// Compares receipts, by rising number, with entries, the first of which has this number: over a
+/// history [`crate::Kept::compare`] takes its own. Takes no memory.
 ///
 /// # Errors
 ///

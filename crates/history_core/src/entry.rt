@@ -9,10 +9,10 @@ use message_core::Octets;
 pub struct Entry {
     /// The event.
     pub event: Event,
-    /// Whether the growth for the row of a frame's source was refused; false of any other event.
+    /// Whether there was no memory for the learned row of a frame's source.
     pub no_room: bool,
-    /// The number of the variable whose commit failed in a Set, since a device did (RFC 3416,
-    /// 4.2.5), where one did. Which settings could not be put back, the audit has.
+    /// The number of the variable whose commit failed in a Set, where a device failed (RFC 3416,
+    /// 4.2.5). Which settings could not be put back, the audit says.
     pub failed: Option<usize>,
     /// The ports by which a frame went out.
     pub egress: Egress,

@@ -2,7 +2,7 @@
 ghost use Rattle.std.specs.Prelude.{◌≡◌, ◌≢◌, ◌≤◌, false, None, [], List, length, IfOk, OnErr};
 ghost use Rattle.message_core.specs.Encodable.{AreEncodable};
 ghost use Rattle.setphase_core.specs.Objects.{ObjectState};
-ghost use Rattle.history_core.specs.Steps.{has_port, cause_in, IsEncodable, AreAtRest, failure_octets};
+ghost use Rattle.history_core.specs.Steps.{has_port, cause_in, IsEncodable, AreAtRest, MayTakeMemory, failure_octets};
 ghost use Rattle.history_core.specs.Happening.{audit_told, happened_by, Happens};
 
 use crate::egress::Egress;
@@ -19,7 +19,7 @@ use std::alloc::{AllocError, Global};
 /// What an event came to, beside what stands in the buffer.
 #[derive(Drop)]
 pub struct Happened {
-    /// Whether the growth for the row of a frame's source was refused.
+    /// Whether there was no memory for the learned row of a frame's source.
     pub no_room: bool,
     /// The number of the variable whose commit failed in a Set.
     pub failed: Option<usize>,
@@ -184,6 +184,7 @@ pub fn happen<O: MibObject>(
     requires bpdus { buffer.old.bpdus ≡ [] }
     ensures happens { IfOk result (λ happened. Happens registry.old world.old event.now
         happened registry.new world.new buffer.new) }
+    ensures takes { OnErr result (MayTakeMemory event.now) }
     ensures world { OnErr result (world.new ≡ world.old) }
     ensures objects { OnErr result (registry.new ≡ registry.old) }
 {

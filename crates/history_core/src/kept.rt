@@ -1,9 +1,10 @@
 //! What is kept of a history: its base, its entries, and the world as it is.
-ghost use Rattle.std.specs.Prelude.{◌≡◌, ◌==◌, ◌≤◌, ◌<◌, [], ◌∷◌, ◌++◌, None, Some, if◌then◌else◌, length, IfOk, IfErr, vec_capacity};
+ghost use Rattle.std.specs.Prelude.{◌≡◌, ◌==◌, ◌≤◌, ◌<◌, [], ◌∷◌, ◌++◌, None, Some, if◌then◌else◌, length, IfOk, IfErr, vec_capacity, ◌⊎◌, OnErr};
 ghost use Rattle.history_core.specs.Happening.{first_of, second_of};
 ghost use Rattle.history_core.specs.Keeping.{IsReady, entry_of, receipt_of, Enters, applied_by};
 
 use crate::applied::Applied;
+use crate::comparing::{Mismatch, Tally, compare};
 use crate::entry::Entry;
 use crate::event::{Event, ReceiptEvent};
 use crate::happening::{Happened, cause_in, happen, put_failure};
@@ -15,9 +16,9 @@ use setphase_core::{FlatWorld, MibObject, Registry, World};
 use std::alloc::{AllocError, Global};
 use std::marker::Model;
 
-/// A world, the objects that show it, and what is kept of its history, seen as one record: each
-/// event is one entry, whose reply, audit and ports are those of the step of its event at its place.
-/// No object has anything reserved.
+/// A world, the objects that show it, and what is kept of its history, seen as one record: each kept
+/// entry is one event, and its reply, audit and ports are those of the step of that event at its
+/// place. No object has anything reserved.
 #[derive(Drop)]
 pub struct Kept<O: MibObject> {
     first: u64,
@@ -62,7 +63,9 @@ struct Ready {
 }
 
 impl<O: MibObject> Kept<O> {
-    ghost use Rattle.history_core.specs.Steps.{IsEncodable};
+    ghost use Rattle.history_core.specs.Steps.{IsEncodable, MayTakeMemory};
+    ghost use Rattle.std.specs.Prelude.{MatchResult};
+    ghost use Rattle.history_core.specs.Comparing.{IsTallied, BreaksFirst};
     ghost use Rattle.history_core.specs.History.{IsHistory, Applies, fresh, next_of};
 
     /// The history of this world and these objects, in which nothing has happened and the first
@@ -149,6 +152,19 @@ impl<O: MibObject> Kept<O> {
         &self.world
     }
 
+    /// Whether receipts, by rising number, agree with the entries that are kept. Takes no memory.
+    ///
+    /// # Errors
+    ///
+    /// As of [`crate::compare`].
+    pub fn compare(&self, receipts: &[Receipt]) -> Result<Tally, Mismatch>
+        ensures { MatchResult result
+            (IsTallied self.now.base_number self.now.entries receipts.now)
+            (BreaksFirst self.now.base_number self.now.entries receipts.now) }
+    {
+        compare(self.base_number, self.entries.as_slice(), receipts)
+    }
+
     /// Hands on that the history is legal: replaying its entries from its base gives the world as it
     /// is. It does nothing.
     pub fn legal(&self)
@@ -157,8 +173,8 @@ impl<O: MibObject> Kept<O> {
         let _ = &self.first;
     }
 
-    /// Hands a plan down to the objects' devices ([`MibObject::arm`]). It changes nothing that is
-    /// shown, and takes no memory.
+    /// Hands a plan down to the objects' devices ([`MibObject::arm`]); which calls then fail is the
+    /// devices' own, and no clause says it. It changes nothing that is shown, and takes no memory.
     pub fn arm(&mut self, plan: u64)
         ensures { self.new ≡ self.old }
     {
@@ -167,8 +183,11 @@ impl<O: MibObject> Kept<O> {
 
     // All growths that an event asks for beside its own: what its receipt tells of it, and a flat
     // copy of the world where the base is to move.
+    #[tactic(auto, using(crate::proofs::Stepping::taking))]
     fn prepare(&self, alloc: Global, event: &Event) -> Result<Ready, AllocError>
-        ensures { IfOk result (λ ready. IsReady self.now event.now ready) }
+        ensures ready { IfOk result (λ ready. IsReady self.now event.now ready) }
+        ensures takes { OnErr result
+            ((length self.now.entries ≡ MAX_ENTRIES) ⊎ MayTakeMemory event.now) }
     {
         let told = event.told(alloc)?;
         let base = if self.entries.len() == MAX_ENTRIES {
@@ -184,8 +203,10 @@ impl<O: MibObject> Kept<O> {
     /// kept, the base moves to the present world first.
     ///
     /// The caller hands in requests whose names and OBJECT IDENTIFIER values have an encoding, as
-    /// `decode` gives them. Nothing is entered where no number is left, and where memory was wanting:
-    /// then all is as before, and the event comes back.
+    /// `decode` gives them. Nothing is entered where no number is left, at which is looked first, and
+    /// where memory was wanting, of a policy, a request or the copy of the world that is to be the
+    /// base: then all is as before, the event comes back, and the buffer holds nothing but what
+    /// answers a request that is not dropped and found no memory.
     pub fn apply(&mut self, alloc: Global, event: Event, buffer: &mut Buffer) -> Applied
         requires { IsEncodable event }
         ensures { Applies self.old event result self.new buffer.new }

@@ -2,10 +2,11 @@
 //!
 //! # Entry points
 //! [`Kept`]: a world, the objects that show it, and what is kept of its history, by `new`, or by
-//! `resume` from a number on; `apply` has one event happen and enters it. [`Event`]: what happens;
-//! [`Applied`]: what became of it. [`Entry`]: what is kept of one event. [`Receipt`]: what its
+//! `resume` from a number on; `apply` has one event happen and enters it, `compare` looks whether
+//! receipts agree with what is kept, and `entries`, `base`, `world` and the two numbers show it.
+//! [`Event`]: what happens; [`Applied`]: what became of it. [`Entry`]: what is kept of one event. [`Receipt`]: what its
 //! caller is told of it, with `try_copy`, and `same`, which takes no memory. [`compare`] says
-//! whether receipts agree with the entries that are kept, or names the first that does not.
+//! whether receipts agree with any entries, or names the first that does not.
 //!
 //! # Definitions
 //! `specs/Steps.antt`: what an event makes of a world and its objects, and what comes out;
@@ -16,11 +17,12 @@
 //!
 //! # Laws
 //! On [`Kept::legal`]: each entry is that of the step at its place, and replaying the entries from
-//! the base gives the world as it is. [`laws::one_history`]: one base and the same happenings make
+//! the base gives the world as it is. [`laws::one_history`]: one base and the same events that met the same make
 //! the same entries.
 //!
 //! # Not claimed
-//! That memory was refused where want of it is told; which calls a device fails.
+//! That memory was refused where want of it is told, or that there is some; which calls a device
+//! fails, which of several variables of one object is told as failed, and that `arm` arms.
 #![tactic(auto)]
 
 mod applied;
