@@ -1,0 +1,98 @@
+//! The base of a history, and its last number.
+use crate::support::{entered, history_of, request_of};
+use agent_core::Buffer;
+use bridge_mib::Planned;
+use fixtures::message::Held::Null;
+use fixtures::message::get;
+use fixtures::names::PORTS;
+use history_core::{Applied, Event, Kept, MAX_ENTRIES, Receipt, Tally};
+use object_list::objects;
+use setphase_core::MibObject;
+use std::alloc::Global;
+use std::test::Fail;
+
+// The receipts of so many Gets.
+fn gets<O: MibObject>(
+    alloc: Global,
+    history: &mut Kept<O>,
+    count: usize,
+) -> Result<Vec<Receipt>, Fail> {
+    let mut receipts = Vec::new(alloc);
+    for _ in 0..count {
+        let event = request_of(alloc, &get(&[(PORTS, Null)]))?;
+        receipts.push(entered(alloc, history, event)?)?;
+    }
+    Ok(receipts)
+}
+
+// The base number after so many Gets, and what their receipts come to.
+fn after<O: MibObject>(
+    alloc: Global,
+    objects: Vec<O>,
+    count: usize,
+) -> Result<(u64, Option<Tally>), Fail> {
+    let mut history = history_of(alloc, objects, 0)?;
+    let receipts = gets(alloc, &mut history, count)?;
+    let base_number = history.base_number();
+    let tally = history.compare(&receipts).ok();
+    Ok((base_number, tally))
+}
+
+#[test]
+fn keeps_4096_entries(rt: HostRuntime) -> Result<(), Fail> {
+    let all = objects(rt.alloc(), Planned::new())?;
+    let tally = Tally {
+        stood: 4096,
+        older: 0,
+    };
+    assert_eq!(rt; after(rt.alloc(), all, MAX_ENTRIES)?, (0, Some(tally)));
+    Ok(())
+}
+
+#[test]
+fn moves_the_base_with_the_next(rt: HostRuntime) -> Result<(), Fail> {
+    let all = objects(rt.alloc(), Planned::new())?;
+    let tally = Tally {
+        stood: 1,
+        older: 4096,
+    };
+    assert_eq!(rt;
+        after(rt.alloc(), all, MAX_ENTRIES + 1)?,
+        (4096, Some(tally))
+    );
+    Ok(())
+}
+
+// Whether a second finds no number left.
+fn is_full<O: MibObject>(alloc: Global, history: &mut Kept<O>) -> bool {
+    let mut buffer = Buffer::new();
+    matches!(
+        history.apply(alloc, Event::Tick, &mut buffer),
+        Applied::HistoryFull(Event::Tick)
+    )
+}
+
+// How many seconds are entered from this number on, of two at most, until no number is left.
+fn entered_from<O: MibObject>(alloc: Global, objects: Vec<O>, first: u64) -> Result<u64, Fail> {
+    let mut history = history_of(alloc, objects, first)?;
+    for number in 0..2 {
+        if is_full(alloc, &mut history) {
+            return Ok(number);
+        }
+    }
+    Ok(2)
+}
+
+#[test]
+fn ends_before_the_greatest_number(rt: HostRuntime) -> Result<(), Fail> {
+    let all = objects(rt.alloc(), Planned::new())?;
+    assert_eq!(rt; entered_from(rt.alloc(), all, u64::MAX - 1)?, 1);
+    Ok(())
+}
+
+#[test]
+fn is_full_at_the_greatest_number(rt: HostRuntime) -> Result<(), Fail> {
+    let all = objects(rt.alloc(), Planned::new())?;
+    assert_eq!(rt; entered_from(rt.alloc(), all, u64::MAX)?, 0);
+    Ok(())
+}
