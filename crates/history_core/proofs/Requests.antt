@@ -18,26 +18,44 @@ use Rattle.setphase_core.specs.Outcomes.{SetNotes}
 use Rattle.agent_core.specs.Buffered.{Buffered}
 use Rattle.agent_core.specs.Sets.{no_notes}
 use Rattle.agent_core.specs.Answers as answers
-use Rattle.agent_core.specs.Answers.{Outcome, dropped, replied, audit_in, Shown, shown_of, outcome_of, outcome_by, reading_step, allowed_step, step_by, IsAnswered, IsTold, IsShort, without_answer}
+use Rattle.agent_core.specs.Answers.{Outcome, dropped, replied, audit_in, Shown, shown_of, outcome_of, outcome_by, reading_step, allowed_step, step_by, IsAnswered, IsTold, IsShort, without_answer, notes_told}
 use Rattle.agent_core.specs.declared.answered.Answered.{Answered}
 use Rattle.agent_core.specs.declared.answered.Answered.TheVariants as answered
 use Rattle.history_core.specs.Steps.{Notes, nothing_noted, step_of, octets_in, AreAtRest}
 use Rattle.history_core.specs.History.{undos_in}
-use Rattle.history_core.specs.Happening.{audit_told, happened_by, HappensBy, Happens, notes_in}
+use Rattle.history_core.specs.Happening.{first_of, second_of, audit_told, happened_by, HappensBy, Happens, notes_in}
 use Rattle.history_core.specs.declared.event.Event.TheVariants as event
 use Rattle.history_core.specs.declared.happening.Happened.{Happened}
 use Rattle.history_core.proofs.Stepping.{Stays, denied_stays, released-at_rest}
 
-reply_told : (o : Outcome) (len : ℕ) (audit : Audit) (failed : Option ℕ) (b : Buffered)
-    → IsAnswered o (answered.Reply len audit failed) b
-    → (Some b.reply ≡ octets_in o) × (audit ≡ audit_in o) × (b.reply ≡ unwrap_or (octets_in o) [])
-reply_told (dropped cause told) len audit failed b h = absurd h
-reply_told (replied reply told) len audit failed b h = (ap (λ (octets : List ℕ). Some octets) h.0, h.2, h.0)
+-- What came of a request whose outcome this is.
+record ComesOf (o : Outcome) (h : Happened) (b : Buffered) : Type 0 where
+  egress : h.egress ≡ []
+  reply : first_of h.replies ≡ octets_in o
+  same_reply : second_of h.replies ≡ octets_in o
+  sent : b.reply ≡ unwrap_or (octets_in o) []
+  audit : first_of h.audits ≡ Some (audit_in o)
+  same_audit : second_of h.audits ≡ Some (audit_in o)
 
-drop_told : (o : Outcome) (audit : Audit) (b : Buffered) → IsAnswered o (answered.NoReply audit) b
-    → (None ≡ octets_in o) × (audit ≡ audit_in o) × (b.reply ≡ unwrap_or (octets_in o) [])
-drop_told (dropped cause told) audit b h = (refl, h.1, h.0)
-drop_told (replied reply told) audit b h = absurd h
+some_audit : (a b : Audit) → a ≡ b → Some a ≡ Some b
+some_audit a b e = ap (λ (x : Audit). Some x) e
+
+comes_of : (o : Outcome) (told : Answered) (b : Buffered) → IsAnswered o told b → ComesOf o (happened_by told b.reply) b
+comes_of (dropped cause own) (answered.Reply len audit failed) b h = absurd h
+comes_of (dropped cause own) (answered.NoReply audit) b h =
+    let same = some_audit audit own h.1 in
+    record { egress = refl; reply = refl; same_reply = refl; sent = h.0; audit = same; same_audit = same }
+comes_of (replied reply own) (answered.Reply len audit failed) b h =
+    let octets = ap (λ (x : List ℕ). Some x) h.0 in
+    let same = some_audit audit own h.2 in
+    record { egress = refl; reply = octets; same_reply = octets; sent = h.0; audit = same; same_audit = same }
+comes_of (replied reply own) (answered.NoReply audit) b h = absurd h
+
+audit_is : (o : Outcome) (told : Answered) (b : Buffered) → IsAnswered o told b → audit_told told ≡ audit_in o
+audit_is (dropped cause own) (answered.Reply len audit failed) b h = absurd h
+audit_is (dropped cause own) (answered.NoReply audit) b h = h.1
+audit_is (replied reply own) (answered.Reply len audit failed) b h = h.2
+audit_is (replied reply own) (answered.NoReply audit) b h = absurd h
 
 -- ---- a request that is dropped undoes nothing
 
@@ -74,83 +92,53 @@ undo_none os w r n audit b h = undo_none_by os w r n (decision_on w.policy r) au
 
 -- ---- what an answered request came to
 
-reply_happens : (os : List ObjectState) (w : World) (r : Request) (len : ℕ) (audit : Audit) (failed : Option ℕ) (b : Buffered) (later : World) (os_later : List ObjectState)
-    → IsTold os w r (answered.Reply len audit failed) b later os_later
-    → Happens os w (event.Request r) (happened_by (answered.Reply len audit failed) b.reply) os_later later b
+abbrev pub notes_by : Answered → Notes
+notes_by told = record { no_room = false; devices = notes_told told }
+
+told_happens_by : (os : List ObjectState) (w : World) (r : Request) (told : Answered) (b : Buffered) (later : World) (os_later : List ObjectState)
+    → IsTold os w r told b later os_later
+    → HappensBy os w (event.Request r) (notes_by told) (happened_by told b.reply) os_later later b
 unfolding step_of
-reply_happens os w r len audit failed b later os_later h =
-    let t = reply_told _ len audit failed b h.done.answer in
+told_happens_by os w r told b later os_later h =
+    let t = comes_of _ told b h.done.answer in
     record {
       may = (refl, h.may);
       world = h.done.world;
       objects_after = h.done.objects_after;
-      egress = refl;
-      reply = t.0;
-      same_reply = t.0;
-      sent = t.2;
-      audit = ap (λ (a : Audit). Some a) t.1;
-      same_audit = ap (λ (a : Audit). Some a) t.1;
+      egress = t.egress;
+      reply = t.reply;
+      same_reply = t.same_reply;
+      sent = t.sent;
+      audit = t.audit;
+      same_audit = t.same_audit;
       bpdus = h.done.bpdus;
     }
 
-drop_happens_by : (os : List ObjectState) (w : World) (r : Request) (audit : Audit) (b : Buffered) (later : World) (os_later : List ObjectState)
-    → IsTold os w r (answered.NoReply audit) b later os_later
-    → HappensBy os w (event.Request r) nothing_noted (happened_by (answered.NoReply audit) b.reply) os_later later b
-unfolding step_of
-drop_happens_by os w r audit b later os_later h =
-    let t = drop_told _ audit b h.done.answer in
-    record {
-      may = (refl, h.may);
-      world = h.done.world;
-      objects_after = h.done.objects_after;
-      egress = refl;
-      reply = t.0;
-      same_reply = t.0;
-      sent = t.2;
-      audit = ap (λ (a : Audit). Some a) t.1;
-      same_audit = ap (λ (a : Audit). Some a) t.1;
-      bpdus = h.done.bpdus;
-    }
-
-drop_happens : (os : List ObjectState) (w : World) (r : Request) (audit : Audit) (b : Buffered) (later : World) (os_later : List ObjectState)
-    → IsTold os w r (answered.NoReply audit) b later os_later
-    → Happens os w (event.Request r) (happened_by (answered.NoReply audit) b.reply) os_later later b
-drop_happens os w r audit b later os_later h =
-    let none = undo_none os w r no_notes audit b h.done.answer in
-    let same : nothing_noted ≡ notes_in (happened_by (answered.NoReply audit) b.reply) =
-    λ i. record { no_room = false; devices = record { commit = None; undos = sym none i } } in
-    subst (λ (n : Notes). HappensBy os w (event.Request r) n (happened_by (answered.NoReply audit) b.reply) os_later later b) same
-    (drop_happens_by os w r audit b later os_later h)
+-- what is noted of it is what was told
+same_notes : (os : List ObjectState) (w : World) (r : Request) (told : Answered) (b : Buffered)
+    → IsAnswered (answers.step_of os w r (notes_told told)).outcome told b
+    → notes_by told ≡ notes_in (happened_by told b.reply)
+same_notes os w r (answered.Reply len audit failed) b h = refl
+same_notes os w r (answered.NoReply audit) b h =
+    let none = undo_none os w r no_notes audit b h in
+    λ i. record { no_room = false; devices = record { commit = None; undos = sym none i } }
 
 -- An answered request is its step.
 pub told_happens : (os : List ObjectState) (w : World) (r : Request) (told : Answered) (b : Buffered) (later : World) (os_later : List ObjectState)
     → IsTold os w r told b later os_later → Happens os w (event.Request r) (happened_by told b.reply) os_later later b
-told_happens os w r (answered.Reply len audit failed) b later os_later h = reply_happens os w r len audit failed b later os_later h
-told_happens os w r (answered.NoReply audit) b later os_later h = drop_happens os w r audit b later os_later h
+told_happens os w r told b later os_later h =
+    subst (λ (n : Notes). HappensBy os w (event.Request r) n (happened_by told b.reply) os_later later b)
+    (same_notes os w r told b h.done.answer) (told_happens_by os w r told b later os_later h)
 
 -- ---- where there was no memory nothing has changed
-
-reply_stays : (os : List ObjectState) (w : World) (r : Request) (len : ℕ) (audit : Audit) (failed : Option ℕ) (b : Buffered) (later : World) (os_later : List ObjectState)
-    → AreAtRest os → IsTold os w r (answered.Reply len audit failed) b later os_later → audit.denied ≢ []
-    → (later ≡ w) × (os_later ≡ os)
-reply_stays os w r len audit failed b later os_later rest h some =
-    let t = reply_told _ len audit failed b h.done.answer in
-    let stays = denied_stays os w r _ rest h.may (λ none. some (ap (λ (a : Audit). a.denied) t.1 ∙ none)) in
-    (h.done.world ∙ stays.world, h.done.objects_after ∙ stays.objects)
-
-drop_stays : (os : List ObjectState) (w : World) (r : Request) (audit : Audit) (b : Buffered) (later : World) (os_later : List ObjectState)
-    → AreAtRest os → IsTold os w r (answered.NoReply audit) b later os_later → audit.denied ≢ []
-    → (later ≡ w) × (os_later ≡ os)
-drop_stays os w r audit b later os_later rest h some =
-    let t = drop_told _ audit b h.done.answer in
-    let stays = denied_stays os w r _ rest h.may (λ none. some (ap (λ (a : Audit). a.denied) t.1 ∙ none)) in
-    (h.done.world ∙ stays.world, h.done.objects_after ∙ stays.objects)
 
 -- Where an audit names a denied variable nothing has changed.
 pub told_stays : (os : List ObjectState) (w : World) (r : Request) (told : Answered) (b : Buffered) (later : World) (os_later : List ObjectState)
     → AreAtRest os → IsTold os w r told b later os_later → (audit_told told).denied ≢ [] → (later ≡ w) × (os_later ≡ os)
-told_stays os w r (answered.Reply len audit failed) b later os_later rest h some = reply_stays os w r len audit failed b later os_later rest h some
-told_stays os w r (answered.NoReply audit) b later os_later rest h some = drop_stays os w r audit b later os_later rest h some
+told_stays os w r told b later os_later rest h some =
+    let same = audit_is _ told b h.done.answer in
+    let stays = denied_stays os w r _ rest h.may (λ none. some (ap (λ (a : Audit). a.denied) same ∙ none)) in
+    (h.done.world ∙ stays.world, h.done.objects_after ∙ stays.objects)
 
 without_answer-at_rest : (kind : Kind) (os : List ObjectState) → AreAtRest os → without_answer kind os ≡ os
 without_answer-at_rest Get os rest = refl
