@@ -1,8 +1,5 @@
-pub mod Faults
 pub mod Hexadecimal
-pub mod Memory
-pub mod Noting
-pub mod Outcomes
-pub mod Replied
 pub mod Plans
-pub mod Seconds
+pub mod Happenings
+pub mod Lines
+pub mod Noting

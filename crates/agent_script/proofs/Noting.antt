@@ -1,11 +1,13 @@
 -- The notes of the lines that a session answered.
 use Rattle.std.proofs.Common.{◌≡◌, ◌∙◌, inl, inr, ℕ, ◌<◌, length, Bool, true, false, ◌&&◌, if◌then◌else◌, List, [], ◌∷◌, ◌++◌, Option, None, Some, IsSome, ap, sym, refl, subst, arith}
-use Rattle.script_core.specs.Lines.{lines_of}
+use Rattle.std.proofs.KnownBytes.{Appends-nil}
 use Rattle.script_core.specs.declared.fault.LineFault.{LineFault}
-use Rattle.script_core.specs.Runs.{IsFrontOf, Says, SaysAll, SaysFirst, SaysSome, StopsBetween, MayGiveUpEnd, GivesUpEnd, GivesUp}
-use Rattle.agent_script.specs.Notes.{is_nothing}
+use Rattle.script_core.specs.declared.fault.LineFault.TheVariants.{Stopped as IsStopped}
+use Rattle.script_core.specs.Lines.{lines_of, first_line}
+use Rattle.script_core.specs.Runs.{Reads, Writes, IsFrontOf, Says, SaysAll, SaysFirst, SaysSome, StopsBetween, MayGiveUpLine, MayGiveUpEnd, GivesUpEnd, GivesUp}
+use Rattle.agent_script.specs.Notes.{is_whole, MayGiveUp}
 use Rattle.agent_script.specs.State.{Agent}
-use Rattle.agent_script.specs.Script.{Noted, lines_in, lines_text, after_lines, line_text, end_text, end_text_in, AreMet, are_nothing, AreAnswered, IsSaid, IsSaidFirst, IsSaidSome, IsSaidBefore, IsEndGivenUp, IsGivenUp}
+use Rattle.agent_script.specs.Script.{Noted, lines_in, lines_text, after_lines, line_text, end_text, end_text_in, AreMet, are_whole, AreAnswered, IsSaid, IsSaidFirst, IsSaidSome, IsSaidBefore, IsEndGivenUp, IsGivenUp, IsOutAtLine}
 use Rattle.agent_script.specs.Sessions.{Session, SaysToLine, SaysAtEnd, GivesUpLine, GivesUpEnd as EndIsGivenUp}
 use Rattle.agent_script.specs.declared.session.Run.{Run}
 use Rattle.agent_script.specs.declared.session.Run.TheVariants.{Whole, Short}
@@ -25,7 +27,7 @@ pub record HasNotes (s : Session) (lines : List (List ℕ)) (text : List ℕ) (t
   pub met : AreMet s.agent noted
   pub text_is : text ≡ lines_text s.agent noted
   pub after : t.agent ≡ after_lines s.agent noted
-  pub whole : t.is_whole ≡ (s.is_whole && are_nothing noted)
+  pub whole : t.is_whole ≡ (s.is_whole && are_whole noted)
 
 notes_of : (s t : Session) (lines : List (List ℕ)) (text : List ℕ) → Says SaysToLine s lines text t → HasNotes s lines text t
 unfolding Says
@@ -38,16 +40,18 @@ notes_of s t [] text p = record {
   whole = ap (λ (x : Session). x.is_whole) (sym p.1) ∙ and_true s.is_whole;
 }
 notes_of s t (line ∷ lines) text p =
-    let here = p.answered in
+    let here = p.answered.says in
     let rest = notes_of p.between t lines p.rest p.goes_on in
     record {
       noted = record { line = line; note = here.note } ∷ rest.noted;
       each = ap (λ x. line ∷ x) rest.each;
-      met = (here.met, subst (λ (a : Agent). AreMet a rest.noted) here.agent rest.met);
+      met = (here.met, subst (λ (a : Agent). AreMet a rest.noted) here.after rest.met);
       text_is = p.split ∙ ap (λ x. x ++ p.rest) here.text
-          ∙ ap (λ x. line_text s.agent line here.note ++ x) (rest.text_is ∙ ap (λ (a : Agent). lines_text a rest.noted) here.agent);
-      after = rest.after ∙ ap (λ (a : Agent). after_lines a rest.noted) here.agent;
-      whole = rest.whole ∙ ap (λ b. b && are_nothing rest.noted) here.whole ∙ and_assoc s.is_whole (is_nothing here.note) (are_nothing rest.noted);
+          ∙ ap (λ x. line_text s.agent line here.note ++ x) (rest.text_is ∙ ap (λ (a : Agent). lines_text a rest.noted) here.after);
+      after = rest.after ∙ ap (λ (a : Agent). after_lines a rest.noted) here.after;
+      whole = rest.whole
+          ∙ ap (λ b. b && are_whole rest.noted) (p.answered.is_whole ∙ ap (λ b. s.is_whole && b) here.whole_is)
+          ∙ and_assoc s.is_whole (is_whole here.note) (are_whole rest.noted);
     }
 
 answered_of : (s t : Session) (lines : List (List ℕ)) (text : List ℕ) → Says SaysToLine s lines text t → AreAnswered s.agent lines text
@@ -72,6 +76,16 @@ end_given_up_of s fault input rest text p =
       is_open = subst (λ (a : Agent). IsSome a.policy_lines) n.after (open_at_end p.between fault p.may);
     }
 
+-- a line that stops the script has no number left
+stops : (s : Session) (line : List ℕ) → MayGiveUpLine SaysToLine GivesUpLine s line IsStopped → MayGiveUp s.agent line IsStopped
+stops s line (inl may) = may
+stops s line (inr (e, h)) = cc e
+
+-- and its end does not stop it
+ends_not : (s : Session) → MayGiveUpEnd SaysAtEnd EndIsGivenUp s IsStopped → ⊥
+ends_not s (inl may) = cc may.memory
+ends_not s (inr may) = cc may.0
+
 -- From the session that a run opens with, whose agent is this one.
 module _ (agent : Agent) (s : Session) (opened : s.agent ≡ agent) where
   answered_from : (t : Session) (lines : List (List ℕ)) (text : List ℕ) → Says SaysToLine s lines text t → AreAnswered agent lines text
@@ -87,7 +101,7 @@ module _ (agent : Agent) (s : Session) (opened : s.agent ≡ agent) where
         met = n.met;
         text_is = p.split ∙ ap (λ x. x ++ p.last) n.text_is
             ∙ ap (λ x. lines_text s.agent n.noted ++ x) (p.ends.text ∙ ap (λ (a : Agent). end_text a) n.after);
-        run_is = told ∙ ap (λ b. if b then Whole else Short) (p.ends.whole ∙ n.whole ∙ ap (λ b. b && are_nothing n.noted) whole);
+        run_is = told ∙ ap (λ b. if b then Whole else Short) (p.ends.whole ∙ n.whole ∙ ap (λ b. b && are_whole n.noted) whole);
       })
 
   said_first_of : (lines : List (List ℕ)) (text : List ℕ) → SaysFirst SaysToLine s lines text → IsSaidFirst agent lines text
@@ -114,13 +128,41 @@ module _ (agent : Agent) (s : Session) (opened : s.agent ≡ agent) where
 
   pub given_up_of : (fault : LineFault) (input rest text : List ℕ) → GivesUp SaysToLine SaysAtEnd GivesUpLine EndIsGivenUp s fault input rest text
       → IsGivenUp agent input rest text
-  given_up_of fault input rest text (inl p) = inl (record {
+  given_up_of fault input rest text (inl p) = inr (inl (record {
     ended = p.feeds.ended;
     left = p.left;
     no_end = p.feeds.no_end;
     some = p.some;
     split = p.feeds.split;
     answered = answered_from p.between p.feeds.ended text p.feeds.says;
-  })
+  }))
   given_up_of fault input rest text (inr p) =
-      inr (subst (λ (a : Agent). IsEndGivenUp a input rest text) opened (end_given_up_of s fault input rest text p))
+      inr (inr (subst (λ (a : Agent). IsEndGivenUp a input rest text) opened (end_given_up_of s fault input rest text p)))
+
+  pub out_of : (input rest text : List ℕ) → GivesUp SaysToLine SaysAtEnd GivesUpLine EndIsGivenUp s IsStopped input rest text
+      → IsOutAtLine agent input rest text
+  out_of input rest text (inl p) =
+      let n = notes_of s p.between p.feeds.ended text p.feeds.says in
+      subst (λ (a : Agent). IsOutAtLine a input rest text) opened (record {
+        ended = p.feeds.ended;
+        left = p.left;
+        no_end = p.feeds.no_end;
+        some = p.some;
+        split = p.feeds.split;
+        answered = record { noted = n.noted; each = n.each; met = n.met; text_is = n.text_is };
+        is_out = subst (λ (a : Agent). MayGiveUp a (first_line p.left) IsStopped) n.after (stops p.between (first_line p.left) p.may);
+      })
+  out_of input rest text (inr p) = absurd (ends_not p.between p.may)
+
+-- ---- nothing is read
+
+unread : (left : Option (List ℕ)) (P : List ℕ → List ℕ → Type 0) → ((input : List ℕ) → P input input) → Reads left left P
+unread None P f = tt
+unread (Some input) P f = f input
+
+-- where a history finds no memory
+pub not_begun : (agent : Agent) (left took : Option (List ℕ))
+    → Reads left left (λ input rest. Writes took took (λ text. IsGivenUp agent input rest text))
+not_begun agent left took =
+    unread left (λ input rest. Writes took took (λ text. IsGivenUp agent input rest text))
+    (λ input. record { text = []; took = Appends-nil took; holds = inl (record { unread = refl; unsaid = refl }) })

@@ -15,30 +15,28 @@ use Rattle.community_core.specs.Communities.{PolicyTables}
 use Rattle.policy_text.specs.Texts.{policy_in}
 use Rattle.setphase_core.specs.declared.world.World.{World}
 use Rattle.agent_core.specs.Answers.{one_more}
+use Rattle.history_core.specs.declared.event.Event.{Event}
+use Rattle.history_core.specs.declared.event.Event.TheVariants as event
 use Rattle.agent_script.specs.Commands.{Command, request, frame, tick, link, policy, audit, counts, driver, command_of}
-use Rattle.agent_script.specs.Events as event
-use Rattle.agent_script.specs.Events.{System, Event, after_event}
-use Rattle.agent_script.specs.Outputs.{drop_text, event_text, seconds_text, after_seconds}
+use Rattle.agent_script.specs.Events.{Happening, each_met, after_events}
+use Rattle.agent_script.specs.Outputs.{drop_text, events_text}
 use Rattle.agent_script.specs.State.{Agent}
 use Rattle.agent_script.specs.declared.drops.Drops.{Drops}
-use Rattle.agent_script.specs.Notes.{is_unread, is_unlearned, is_lost, met_of}
-use Rattle.agent_script.specs.declared.note.Note.{Note}
+use Rattle.agent_script.specs.Notes.{Note, is_unread, mets_of}
 
 pub data Action : Type 0 where
   -- none: the line is no command
   bad_line : Action
-  -- an event happens
-  happen : (event : Event) → Action
-  -- so many seconds pass
-  pass : (seconds : ℕ) → Action
+  -- events happen, one after another
+  happen : (happenings : List Happening) → Action
   -- a datagram gives no request
   drop : (cause : DropCause) → Action
   -- octets are no frame, and no event
   refuse_frame : (fault : FrameFault) → Action
   -- a policy has these lines so far
   keep : (lines : List ℕ) → Action
-  -- a policy has ended: it comes into force, or is refused
-  accept : (tables : PolicyTables) → Action
+  -- a policy has ended: it comes into force, where these events happen, or is refused
+  accept : (happenings : List Happening) → Action
   refuse : Action
   -- each request's audit is told from here on, or not
   switch : (on : Bool) → Action
@@ -49,12 +47,12 @@ pub data Action : Type 0 where
 
 -- ---- which action
 
--- a request
-abbrev pub request_action : Request → Note → Action
-request_action r note = happen (event.request r (met_of note))
+-- an event happens, each time as it is noted
+abbrev pub happenings_of : Event → Note → List Happening
+happenings_of e note = each_met e (mets_of note)
 
 abbrev pub reading_action : Result Request DropCause → Note → Action
-reading_action (Ok r) note = request_action r note
+reading_action (Ok r) note = happen (happenings_of (event.Request r) note)
 reading_action (Err cause) note = drop cause
 
 -- a datagram
@@ -64,7 +62,7 @@ datagram_action datagram note =
 
 -- a frame, or octets that are none, at a port
 abbrev pub frame_action : ℕ → Result FrameIn FrameFault → Note → Action
-frame_action port (Ok fields) note = happen (event.frame port fields (is_unlearned note))
+frame_action port (Ok fields) note = happen (happenings_of (event.Frame port fields) note)
 frame_action port (Err fault) note = refuse_frame fault
 
 -- a command, or a line that is none
@@ -72,29 +70,31 @@ abbrev pub command_action : Option Command → Note → Action
 command_action None note = bad_line
 command_action (Some (request datagram)) note = datagram_action datagram note
 command_action (Some (frame port octets)) note = frame_action port (frame_at octets) note
-command_action (Some (tick seconds)) note = pass seconds
-command_action (Some (link port up)) note = happen (event.link port up)
+command_action (Some (tick seconds)) note = happen (happenings_of event.Tick note)
+command_action (Some (link port up)) note = happen (happenings_of (event.Link port up) note)
 command_action (Some policy) note = keep []
 command_action (Some (audit on)) note = switch on
 command_action (Some counts) note = tell
 command_action (Some (driver plan)) note = arm plan
 
-abbrev pub ending : Option PolicyTables → Action
-ending (Some tables) = accept tables
-ending None = refuse
+abbrev pub ending : Option PolicyTables → Note → Action
+ending (Some tables) note = accept (happenings_of (event.Policy tables) note)
+ending None note = refuse
 
 -- the end of a policy of these lines
 abbrev pub end_action : List ℕ → Note → Action
-end_action lines note = if is_lost note then refuse else ending (policy_in lines)
+end_action lines note = if is_unread note then refuse else ending (policy_in lines) note
 
 -- a line of a policy behind these lines, or its end
 abbrev pub policy_action : List ℕ → List ℕ → Note → Action
-policy_action lines line note = if bytes_eq line (codes "end") then end_action lines note else keep (lines ++ line ++ codes "\n")
+policy_action lines line note =
+    if bytes_eq line (codes "end") then end_action lines note
+    else keep (lines ++ line ++ codes "\n")
 
 abbrev pub action_in : Agent → Option (List ℕ) → List ℕ → Note → Action
 action_in agent (Some lines) line note = policy_action lines line note
 action_in agent None line note =
-    command_action (command_of (port_count agent.system.world.bridge) line) note
+    command_action (command_of (port_count agent.history.world.bridge) line) note
 
 -- A line, inside a policy or outside, where this is noted of it.
 unfoldable pub action_of : Agent → List ℕ → Note → Action
@@ -133,15 +133,16 @@ counts_text drops world =
 
 abbrev pub action_text : Agent → Action → List ℕ
 action_text agent bad_line = codes "badline\n"
-action_text agent (happen event) = event_text agent.is_auditing agent.system event
-action_text agent (pass seconds) = seconds_text agent.is_auditing seconds agent.system
+action_text agent (happen happenings) =
+    events_text agent.is_auditing agent.history happenings
 action_text agent (drop cause) = drop_text (cause_name cause)
 action_text agent (refuse_frame fault) = codes "badframe " ++ fault_name fault ++ codes "\n"
 action_text agent (keep lines) = []
-action_text agent (accept tables) = event_text agent.is_auditing agent.system (event.policy tables)
+action_text agent (accept happenings) =
+    events_text agent.is_auditing agent.history happenings
 action_text agent refuse = codes "policy refused\n"
 action_text agent (switch on) = []
-action_text agent tell = counts_text agent.drops agent.system.world
+action_text agent tell = counts_text agent.drops agent.history.world
 action_text agent (arm plan) = []
 
 -- ---- what it changes
@@ -156,13 +157,13 @@ dropped_more drops Memory = record drops { memory = one_more drops.memory }
 
 abbrev pub after_action : Agent → Action → Agent
 after_action agent bad_line = agent
-after_action agent (happen event) = record agent { system = after_event agent.system event }
-after_action agent (pass seconds) = record agent { system = after_seconds seconds agent.system }
+after_action agent (happen happenings) =
+    record agent { history = after_events agent.history happenings }
 after_action agent (drop cause) = record agent { drops = dropped_more agent.drops cause }
 after_action agent (refuse_frame fault) = agent
 after_action agent (keep lines) = record agent { policy_lines = Some lines }
-after_action agent (accept tables) =
-    record agent { system = after_event agent.system (event.policy tables); policy_lines = None }
+after_action agent (accept happenings) =
+    record agent { history = after_events agent.history happenings; policy_lines = None }
 after_action agent refuse = record agent { policy_lines = None }
 after_action agent (switch on) = record agent { is_auditing = on }
 after_action agent tell = agent

@@ -1,108 +1,48 @@
--- What an event is, what it makes of the world, and what comes out.
-use Rattle.std.specs.Prelude.{ℕ, Bool, List, Option}
-use Rattle.message_core.specs.declared.request.Request.{Request}
-use Rattle.message_core.specs.declared.reply.Reply.{Reply}
-use Rattle.audit_core.specs.declared.audit.Audit.{Audit}
-use Rattle.decision.specs.declared.choice.Cause.{Cause}
-use Rattle.community_core.specs.Communities.{PolicyTables}
-use Rattle.frame_core.specs.declared.bpdu.Bpdu.{Bpdu}
-use Rattle.frame_core.specs.declared.frame.FrameIn.{FrameIn}
-use Rattle.bridge_core.specs.Bridge.{BridgeState}
-use Rattle.bridge_core.specs.Events.{frame_result, tick_of, after_tick, link_of, after_link}
-use Rattle.setphase_core.specs.Objects.{ObjectState}
-use Rattle.setphase_core.specs.Outcomes.{SetNotes}
-use Rattle.setphase_core.specs.declared.world.World.{World}
-use Rattle.agent_core.specs.Answers as answers
-use Rattle.agent_core.specs.Answers.{Outcome, without_answer}
-use Rattle.agent_core.specs.Replies.{failure_reply}
+-- What an event of a script may meet, and what it makes of the history that is kept.
+use Rattle.std.specs.Prelude.{◌≡◌, ◌⊎◌, Bool, false, not, length, List, [], ◌∷◌, map}
+use Rattle.setphase_core.specs.Registry.{rows_of}
+use Rattle.history_core.specs.History.{History, after}
+use Rattle.history_core.specs.Steps.{Notes, MayNote, MayTakeMemory}
+use Rattle.history_core.specs.declared.event.Event.{Event}
+use Rattle.history_core.specs.declared.limits.TheConstants.{MAX_ENTRIES}
 
--- what events happen to: managed objects, and the world that they show, with its bridge
-pub record System : Type 0 where
-  pub objects : List ObjectState
-  pub world : World
-
--- the bridge of the world as an event leaves it, and nothing else changed
-abbrev pub with_bridge : System → BridgeState → System
-with_bridge s bridge = record s { world = record s.world { bridge = bridge } }
-
--- what a request met
+-- what became of an event
 pub data Met : Type 0 where
-  -- there was no memory for its answer
-  no_memory : Met
-  -- it was answered, and these calls of devices failed
-  devices : (notes : SetNotes) → Met
+  -- it was entered, and met this
+  entered : (notes : Notes) → Met
+  -- there was no memory, and it was not entered
+  short : Met
 
-pub data Event : Type 0 where
-  -- a request comes, and meets this
-  request : (request : Request) (met : Met) → Event
-  -- a frame comes in by a port; `no_room` notes that the growth for the row of its source was
-  -- refused
-  frame : (port : ℕ) (fields : FrameIn) (no_room : Bool) → Event
-  -- a second passes
-  tick : Event
-  -- the link of a port goes up, or down
-  link : (port : ℕ) (up : Bool) → Event
-  -- a policy comes into force in place of the one that was there
-  policy : (tables : PolicyTables) → Event
+-- An event may meet this: what its step may, or want of memory, where it takes some or the base is
+-- to move.
+abbrev pub MayMeetEvent : History → Event → Met → Type 0
+MayMeetEvent h e (entered notes) = MayNote (rows_of h.objects) h.world e notes
+MayMeetEvent h e short = (length h.entries ≡ MAX_ENTRIES) ⊎ MayTakeMemory e
 
-pub data Output : Type 0 where
-  -- a request is dropped for this cause, and audited
-  dropped : (cause : Cause) (audit : Audit) → Output
-  -- a request has this reply, and is audited; and the BPDUs that the ports send, from port 1 on
-  replied : (reply : Reply) (audit : Audit) (bpdus : List (Option Bpdu)) → Output
-  -- a request whose answer found no memory has this reply, and is not audited
-  unanswered : (reply : Reply) → Output
-  -- the ports by which a frame goes out, and the BPDUs that the ports send, from port 1 on
-  forwarded : (egress : List ℕ) (bpdus : List (Option Bpdu)) → Output
-  -- the BPDUs that the ports send, from port 1 on
-  sent : (bpdus : List (Option Bpdu)) → Output
-  -- that a policy is in force
-  in_force : Output
+-- the history after an event that met this
+abbrev pub after_event : History → Event → Met → History
+after_event h e (entered notes) = after h e notes
+after_event h e short = h
 
--- the system after an event, and what comes out
-pub record Step : Type 0 where
-  pub system : System
-  pub output : Output
+-- nothing was given up for want of memory
+abbrev pub is_full : Met → Bool
+is_full (entered notes) = not notes.no_room
+is_full short = false
 
--- what comes out of a request, with what the ports send
-abbrev pub answer_output : Outcome → List (Option Bpdu) → Output
-answer_output (answers.dropped cause audit) bpdus = dropped cause audit
-answer_output (answers.replied reply audit) bpdus = replied reply audit bpdus
+-- an event, and what it met
+pub record Happening : Type 0 where
+  pub event : Event
+  pub met : Met
 
--- a request that was answered by this step
-abbrev pub answered_step : answers.Step → Step
-answered_step step = record {
-  system = record { objects = step.objects; world = step.world };
-  output = answer_output step.outcome step.bpdus;
-}
+-- the same event, once for each of these
+abbrev pub each_met : Event → List Met → List Happening
+each_met e mets = map (λ m. record { event = e; met = m }) mets
 
--- One step. Where there was no memory for an answer, genErr is replied, and nothing that is shown
--- changes.
-abbrev pub step_of : System → Event → Step
-step_of s (request r no_memory) = record {
-  system = record s { objects = without_answer r.kind s.objects };
-  output = unanswered (failure_reply r);
-}
-step_of s (request r (devices notes)) =
-    answered_step (answers.step_of s.objects s.world r notes)
-step_of s (frame port fields no_room) =
-    let step = frame_result s.world.bridge port fields no_room in
-    record { system = with_bridge s step.bridge; output = forwarded step.egress step.bpdus }
-step_of s tick =
-    record {
-      system = with_bridge s (after_tick s.world.bridge);
-      output = sent (tick_of s.world.bridge).bpdus;
-    }
-step_of s (link port up) =
-    record {
-      system = with_bridge s (after_link port up s.world.bridge);
-      output = sent (link_of port up s.world.bridge).bpdus;
-    }
-step_of s (policy tables) =
-    record { system = record s { world = record s.world { policy = tables } }; output = in_force }
+-- Events that happen one after another: each may meet what it met, and the history after them.
+abbrev pub AreMet : History → List Happening → Type 0
+AreMet h [] = Unit {0}
+AreMet h (x ∷ xs) = MayMeetEvent h x.event x.met × AreMet (after_event h x.event x.met) xs
 
-abbrev pub after_event : System → Event → System
-after_event s event = (step_of s event).system
-
-abbrev pub output_of : System → Event → Output
-output_of s event = (step_of s event).output
+abbrev pub after_events : History → List Happening → History
+after_events h [] = h
+after_events h (x ∷ xs) = after_events (after_event h x.event x.met) xs

@@ -7,3 +7,4 @@ pub mod Notes
 pub mod Actions
 pub mod Script
 pub mod Sessions
+pub mod Runs

@@ -1,9 +1,7 @@
 -- How a script writes what comes out of an event.
-use Rattle.std.specs.Prelude.{ℕ, zero, suc, ◌+◌, Bool, codes, decimal, if◌then◌else◌, List, [], ◌∷◌, ◌++◌, Option, Some, None}
+use Rattle.std.specs.Prelude.{ℕ, ◌+◌, Bool, codes, decimal, if◌then◌else◌, List, [], ◌∷◌, ◌++◌, Option, Some, None}
 use Rattle.std.specs.List.{flat_map}
 use Rattle.hex.specs.Hex.{encode_upper}
-use Rattle.message_core.specs.Canon.{canon_reply}
-use Rattle.message_core.specs.declared.reply.Reply.{Reply}
 use Rattle.audit_core.specs.Text.{audit_text}
 use Rattle.audit_core.specs.declared.audit.Audit.{Audit}
 use Rattle.decision.specs.declared.choice.Cause.{Cause}
@@ -12,7 +10,14 @@ use Rattle.frame_core.specs.declared.mac.Mac.{Mac}
 use Rattle.frame_core.specs.declared.bpdu.Bpdu.{Bpdu}
 use Rattle.frame_core.specs.Sending.{frame_octets}
 use Rattle.bridge_core.specs.Bridge.{address_of}
-use Rattle.agent_script.specs.Events.{System, Event, tick, after_event, Output, dropped, replied, unanswered, forwarded, sent, in_force, output_of}
+use Rattle.history_core.specs.History.{History, next_step}
+use Rattle.history_core.specs.Steps.{Step, cause_of, failure_octets}
+use Rattle.history_core.specs.declared.event.Event.{Event}
+use Rattle.history_core.specs.declared.event.ReceiptEvent.{ReceiptEvent}
+use Rattle.history_core.specs.declared.event.ReceiptEvent.TheVariants as told
+use Rattle.history_core.specs.declared.receipt.Receipt.{Receipt}
+use Rattle.history_core.specs.Receipts.{told_of}
+use Rattle.agent_script.specs.Events.{Met, entered, short, Happening, after_event}
 
 -- `drop` and the name of a cause
 abbrev pub drop_text : List ℕ → List ℕ
@@ -23,13 +28,19 @@ abbrev pub dropped_name : Cause → List ℕ
 dropped_name UnknownCommunity = codes "UnknownCommunity"
 dropped_name (NoSuchContext name) = codes "NoSuchContext"
 
--- `reply` and the octets of a reply in its minimal encoding
-unfoldable pub sent_text : Reply → List ℕ
-sent_text reply = codes "reply " ++ encode_upper (canon_reply reply) ++ codes "\n"
+-- `reply` and the octets of a reply
+abbrev pub reply_line : List ℕ → List ℕ
+reply_line octets = codes "reply " ++ encode_upper octets ++ codes "\n"
 
--- the audit, where it is told
-abbrev pub told_audit : Bool → Audit → List ℕ
-told_audit on audit = if on then codes "audit " ++ audit_text audit ++ codes "\n" else []
+-- a reply, if there is one
+abbrev pub reply_text : Option (List ℕ) → List ℕ
+reply_text (Some octets) = reply_line octets
+reply_text None = []
+
+-- an audit, if there is one, where it is told
+abbrev pub told_audit : Bool → Option Audit → List ℕ
+told_audit on (Some audit) = if on then codes "audit " ++ audit_text audit ++ codes "\n" else []
+told_audit on None = []
 
 -- a comma and a port
 abbrev pub another_port : ℕ → List ℕ
@@ -51,31 +62,46 @@ bpdu_lines address port [] = []
 bpdu_lines address port (bpdu ∷ bpdus) =
     bpdu_line address port bpdu ++ bpdu_lines address (port + 1) bpdus
 
--- where a frame goes, and what is sent
-abbrev pub forwarded_text : Mac → List ℕ → List (Option Bpdu) → List ℕ
-forwarded_text address egress bpdus =
-    codes "forward " ++ egress_text egress ++ codes "\n" ++ bpdu_lines address 1 bpdus
+-- where a frame goes
+abbrev pub forward_line : List ℕ → List ℕ
+forward_line egress = codes "forward " ++ egress_text egress ++ codes "\n"
 
--- The text of an output: audits are told where `on`, and the bridge sends from this address.
-abbrev pub output_text : Bool → Mac → Output → List ℕ
-output_text on address (dropped cause audit) = drop_text (dropped_name cause) ++ told_audit on audit
-output_text on address (replied reply audit bpdus) =
-    sent_text reply ++ told_audit on audit ++ bpdu_lines address 1 bpdus
-output_text on address (unanswered reply) = sent_text reply
-output_text on address (forwarded egress bpdus) = forwarded_text address egress bpdus
-output_text on address (sent bpdus) = bpdu_lines address 1 bpdus
-output_text on address in_force = codes "policy ok\n"
+-- What is said to an event that was entered, ahead of what the ports send: where a frame goes,
+-- that a policy is in force, or the reply and the audit of a request.
+abbrev pub answer_text : Bool → ReceiptEvent → List ℕ → Option (List ℕ) → Option Audit → List ℕ
+answer_text on (told.Frame port frame) egress reply audit = forward_line egress
+answer_text on told.Tick egress reply audit = []
+answer_text on (told.Link port up) egress reply audit = []
+answer_text on told.Policy egress reply audit = codes "policy ok\n"
+answer_text on (told.Request request) egress reply audit = reply_text reply ++ told_audit on audit
 
--- what is said to an event
-abbrev pub event_text : Bool → System → Event → List ℕ
-event_text on s event = output_text on (address_of s.world.bridge) (output_of s event)
+-- the same, of a receipt and an audit
+abbrev pub receipt_text : Bool → Receipt → Option Audit → List ℕ
+receipt_text on receipt audit =
+    answer_text on receipt.event receipt.egress receipt.reply audit
 
--- so many seconds, one after another
-abbrev pub seconds_text : Bool → ℕ → System → List ℕ
-seconds_text on zero s = []
-seconds_text on (suc seconds) s =
-    event_text on s tick ++ seconds_text on seconds (after_event s tick)
+-- What is said to an event that was entered, and dropped for this cause, if for any.
+abbrev pub step_text : Bool → Mac → Option Cause → Event → Step → List ℕ
+step_text on address (Some cause) e step =
+    drop_text (dropped_name cause) ++ told_audit on step.audit
+step_text on address None e step =
+    answer_text on (told_of e) step.egress step.reply step.audit
+    ++ bpdu_lines address 1 step.bpdus
 
-abbrev pub after_seconds : ℕ → System → System
-after_seconds zero s = s
-after_seconds (suc seconds) s = after_seconds seconds (after_event s tick)
+-- what is said to an event for which there was no memory: the reply to a request, or that there was
+-- none
+abbrev pub short_text : List ℕ → List ℕ
+short_text [] = codes "short\n"
+short_text (octet ∷ octets) = reply_line (octet ∷ octets)
+
+-- What is said to an event. Audits are told where `on`, and the bridge sends from its address.
+abbrev pub event_text : Bool → History → Event → Met → List ℕ
+event_text on h e (entered notes) =
+    step_text on (address_of h.world.bridge) (cause_of h.world e) e (next_step h e notes)
+event_text on h e short = short_text (failure_octets h.world e)
+
+-- events that happen one after another
+abbrev pub events_text : Bool → History → List Happening → List ℕ
+events_text on h [] = []
+events_text on h (x ∷ xs) =
+    event_text on h x.event x.met ++ events_text on (after_event h x.event x.met) xs

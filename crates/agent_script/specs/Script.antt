@@ -1,11 +1,11 @@
 -- What the agent says to the lines of a script, and what they change.
 use Rattle.std.specs.Prelude.{◌≡◌, ◌⊎◌, ◌<◌, ℕ, Bool, codes, if◌then◌else◌, List, [], ◌∷◌, ◌++◌, All, length, map, Option, Some, None, IsSome}
 use Rattle.std.specs.List.{flat_map, list_all}
-use Rattle.script_core.specs.Lines.{lines_of, with_end, HasNoEnd}
+use Rattle.script_core.specs.Lines.{lines_of, first_line, with_end, HasNoEnd}
+use Rattle.script_core.specs.declared.fault.LineFault.TheVariants.{Stopped}
 use Rattle.agent_script.specs.Actions.{action_of, action_text, after_action}
-use Rattle.agent_script.specs.Notes.{MayMeet, is_nothing}
+use Rattle.agent_script.specs.Notes.{Note, MayMeet, MayGiveUp, is_whole}
 use Rattle.agent_script.specs.State.{Agent}
-use Rattle.agent_script.specs.declared.note.Note.{Note}
 use Rattle.agent_script.specs.declared.session.Run.{Run}
 use Rattle.agent_script.specs.declared.session.Run.TheVariants.{Whole, Short}
 
@@ -53,12 +53,12 @@ abbrev pub script_text : Agent → List Noted → List ℕ
 script_text agent ns = lines_text agent ns ++ end_text (after_lines agent ns)
 
 -- no line met want of memory
-abbrev pub are_nothing : List Noted → Bool
-are_nothing ns = list_all (λ n. is_nothing n.note) ns
+abbrev pub are_whole : List Noted → Bool
+are_whole ns = list_all (λ n. is_whole n.note) ns
 
 -- how a run is told: whole exactly where no line met want of memory
 abbrev pub run_of : List Noted → Run
-run_of ns = if are_nothing ns then Whole else Short
+run_of ns = if are_whole ns then Whole else Short
 
 -- the lines alone
 abbrev pub lines_in : List Noted → List (List ℕ)
@@ -120,6 +120,24 @@ pub record IsEndGivenUp (agent : Agent) (input rest text : List ℕ) : Type 0 wh
   pub answered : AreAnswered agent (lines_of input) text
   pub is_open : IsSome (after_lines agent answered.noted).policy_lines
 
+-- The script is given up before anything is read: there is no memory for what is kept of a history.
+pub record IsNotBegun (input rest text : List ℕ) : Type 0 where
+  pub unread : rest ≡ input
+  pub unsaid : text ≡ []
+
 abbrev pub IsGivenUp : Agent → List ℕ → List ℕ → List ℕ → Type 0
 IsGivenUp agent input rest text =
-    IsLineGivenUp agent input rest text ⊎ IsEndGivenUp agent input rest text
+    IsNotBegun input rest text
+    ⊎ IsLineGivenUp agent input rest text
+    ⊎ IsEndGivenUp agent input rest text
+
+-- A line has no number left for an entry of its own: of an input, `rest` was not read; the lines
+-- before it had ended and are answered; and the line stands at the front of `left`.
+pub record IsOutAtLine (agent : Agent) (input rest text : List ℕ) : Type 0 where
+  pub ended : List (List ℕ)
+  pub left : List ℕ
+  pub no_end : All HasNoEnd ended
+  pub some : 0 < length left
+  pub split : input ≡ flat_map with_end ended ++ (left ++ rest)
+  pub answered : AreAnswered agent ended text
+  pub is_out : MayGiveUp (after_lines agent answered.noted) (first_line left) Stopped

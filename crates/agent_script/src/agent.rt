@@ -1,35 +1,35 @@
 //! The agent that a script drives.
-ghost use Rattle.std.specs.Prelude.{◌≡◌, ◌++◌, false, IsSome, IfOk, OnOk, OnErr, Some, None, [], option_map, codes};
-ghost use Rattle.message_core.specs.Encodable.{AreEncodable};
-ghost use Rattle.bridge_core.specs.Bridge.{HasPort, port_count};
-ghost use Rattle.policy_text.specs.Texts.{policy_in};
+ghost use Rattle.std.specs.Prelude.{◌≡◌, ◌++◌, ◌∷◌, not, List, IsSome, IfOk, IfErr, OnOk, OnErr, Some, None, [], option_map, codes};
 ghost use Rattle.frame_core.specs.Reading.{frame_at};
+ghost use Rattle.history_core.specs.History.{next_of, last_number};
+ghost use Rattle.history_core.specs.Steps.{IsEncodable};
+ghost use Rattle.script_core.specs.Runs.{Adds};
 ghost use Rattle.agent_script.specs.CommandViews.{command_view};
-ghost use Rattle.agent_script.specs.Commands.{NamesPortOf};
-ghost use Rattle.agent_script.specs.State.{Agent as State, opening_agent};
-ghost use Rattle.agent_script.specs.Notes.{is_unread, answered_note, MayMeetRequest, MayMeetDatagram, MayMeetFrame, MayMeetCommand, MayMeetEnd, MayMeetPolicyLine, MayMeet, MayGiveUpCommand, MayGiveUp};
-ghost use Rattle.agent_script.specs.Actions.{request_action, datagram_action, frame_action, command_action, end_action, policy_action, action_text, after_action};
-ghost use Rattle.agent_script.specs.Script.{line_text, after_line, end_text, after_end};
+ghost use Rattle.agent_script.specs.State.{Agent as State, agent_over};
+ghost use Rattle.agent_script.specs.Notes.{MayMeetDatagram, MayMeetFrame, MayMeetCommand, MayMeetEnd, MayMeetPolicyLine, MayGiveUpCommand, MayGiveUpPolicyLine, MayGiveUp, IsOut, lacks_memory};
+ghost use Rattle.history_core.specs.declared.entry.Entry.{Entry};
+ghost use Rattle.agent_script.specs.Actions.{datagram_action, frame_action, command_action, end_action, policy_action};
+ghost use Rattle.agent_script.specs.Sessions.{Says, SaysOfLine, SaysOfEvents};
+ghost use Rattle.agent_script.specs.Script.{end_text, after_end};
 
-use crate::bridging::{address_of, say_bad_frame, say_bpdus, say_frame, say_link, say_ticks};
+use crate::bridging::{address_of, say_bad_frame, say_bpdus};
 use crate::commands::{Command, read_command};
 use crate::drops::Drops;
-use crate::note::{Note, note_of};
-use crate::saying::{cause_name, say_audit, say_counts, say_drop, say_dropped, say_reply};
-use agent_core::{Answered, Buffer, answer, short_reply};
-use audit_core::Audit;
+use crate::saying::{cause_name, say_counts, say_drop, say_dropped, say_receipt, say_short};
+use agent_core::Buffer;
 use frame_core::read_frame;
-use message_core::{Request, decode};
+use history_core::{Applied, Entry, Event, Kept};
+use message_core::{DropCause, decode};
 use policy_text::policy_in;
-use setphase_core::{MibObject, Registry, World};
+use script_core::LineFault;
+use setphase_core::MibObject;
 use std::alloc::{AllocError, Global};
 use std::marker::Model;
 
 /// The agent that a script drives.
 #[derive(Drop)]
 pub struct Agent<O: MibObject> {
-    registry: Registry<O>,
-    world: World,
+    kept: Kept<O>,
     buffer: Buffer,
     is_auditing: bool,
     drops: Drops,
@@ -40,7 +40,7 @@ impl<O: MibObject> Model for Agent<O> {
     ghost Value = { State };
 
     ghost view = { λ a. record {
-      system = record { objects = a.registry; world = a.world };
+      history = a.kept;
       is_auditing = a.is_auditing;
       drops = a.drops;
       policy_lines = option_map (λ v. v.items) a.policy_lines;
@@ -48,13 +48,12 @@ impl<O: MibObject> Model for Agent<O> {
 }
 
 impl<O: MibObject> Agent<O> {
-    /// An agent that serves what these objects show of this world, at the start of a script.
-    pub fn new(registry: Registry<O>, world: World) -> Agent<O>
-        ensures { result ≡ opening_agent registry world }
+    /// An agent that goes on with this history, at the start of a script.
+    pub fn new(kept: Kept<O>) -> Agent<O>
+        ensures { result ≡ agent_over kept }
     {
         Agent {
-            registry,
-            world,
+            kept,
             buffer: Buffer::new(),
             is_auditing: false,
             drops: Drops::none(),
@@ -62,25 +61,25 @@ impl<O: MibObject> Agent<O> {
         }
     }
 
-    /// Answers a line, and tells what want of memory it met, or which devices failed.
-    #[tactic(auto, using(crate::proofs::Memory::any_gives_up, crate::proofs::Memory::octets_give_up), unfolding(crate::specs::Actions::action_of, crate::specs::Notes::MayMeet, crate::specs::Notes::MayGiveUp))]
-    pub fn line(
-        &mut self,
-        alloc: Global,
-        line: &[u8],
-        out: &mut Vec<u8>,
-    ) -> Result<Note, AllocError>
-        ensures met { IfOk result (λ note. MayMeet self.old line.now note) }
-        ensures said { IfOk result (λ note.
-            out.new.items ≡ out.old.items ++ line_text self.old line.now note) }
-        ensures after { IfOk result (λ note. self.new ≡ after_line self.old line.now note) }
-        ensures given_up { OnErr result (MayGiveUp self.old line.now) }
+    /// Answers a line, and tells whether nothing in it was given up for want of memory.
+    ///
+    /// # Errors
+    /// `Memory` where there is none for what the line is or says, `Stopped` where no number is left
+    /// for an entry.
+    #[tactic(auto, unfolding(crate::specs::Actions::action_of, crate::specs::Notes::MayMeet, crate::specs::Notes::MayGiveUp))]
+    pub fn line(&mut self, alloc: Global, line: &[u8], out: &mut Vec<u8>) -> Result<bool, LineFault>
+        ensures said { IfOk result (λ whole. Adds out.old.items out.new.items (λ said.
+            SaysOfLine self.old line.now said self.new whole)) }
+        ensures given_up { IfErr result (MayGiveUp self.old line.now) }
     {
         match self.policy_lines.take() {
             Some(lines) => self.policy_line(alloc, lines, line, out),
             None => {
-                let command = read_command(alloc, self.world.bridge.ports(), line)?;
-                self.command(alloc, command, out)
+                let ports = self.kept.world().bridge.ports();
+                match read_command(alloc, ports, line) {
+                    Ok(command) => self.command(alloc, command, out),
+                    Err(_) => Err(LineFault::Memory),
+                }
             }
         }
     }
@@ -98,57 +97,88 @@ impl<O: MibObject> Agent<O> {
         }
     }
 
+    // One event happens, and what comes of it is said.
+    fn event(&mut self, alloc: Global, event: Event, out: &mut Vec<u8>) -> Result<bool, LineFault>
+        requires { IsEncodable event }
+        ensures said { IfOk result (λ whole. Adds out.old.items out.new.items (λ said.
+            SaysOfEvents event 1 self.old said self.new whole)) }
+        ensures stopped { IfErr result (λ fault. fault ≡ LineFault.Stopped →
+            next_of self.old.history ≡ last_number) }
+    {
+        let address = address_of(&self.kept.world().bridge);
+        match self.kept.apply(alloc, event, &mut self.buffer) {
+            Applied::Done(receipt, audit) => {
+                say_receipt(alloc, self.is_auditing, &receipt, &audit, out)?;
+                say_bpdus(address, self.buffer.bpdus(), out)?;
+                Ok(has_room(self.kept.entries()))
+            }
+            Applied::Dropped(_, cause, audit) => {
+                say_dropped(alloc, self.is_auditing, &cause, &audit, out)?;
+                Ok(has_room(self.kept.entries()))
+            }
+            Applied::Short(_) => {
+                say_short(self.buffer.reply(), out)?;
+                Ok(false)
+            }
+            Applied::HistoryFull(_) => Err(LineFault::Stopped),
+        }
+    }
+
+    // So many seconds pass, one after another.
+    fn ticks(&mut self, alloc: Global, seconds: u32, out: &mut Vec<u8>) -> Result<bool, LineFault>
+        ensures said { IfOk result (λ whole. Adds out.old.items out.new.items (λ said.
+            SaysOfEvents Event.Tick seconds self.old said self.new whole)) }
+        ensures stopped { IfErr result (λ fault. fault ≡ LineFault.Stopped →
+            IsOut self.old.history seconds) }
+    {
+        let mut whole = true;
+        for i in 0..seconds {
+            match self.event(alloc, Event::Tick, out) {
+                Ok(is_full) => whole = whole && is_full,
+                Err(fault) => return Err(fault),
+            }
+        }
+        Ok(whole)
+    }
+
     // Answers a command, or a line that is none.
-    #[tactic(auto, using(crate::proofs::Memory::any_gives_up))]
     fn command(
         &mut self,
         alloc: Global,
         command: Option<Command>,
         out: &mut Vec<u8>,
-    ) -> Result<Note, AllocError>
+    ) -> Result<bool, LineFault>
         requires outside { self.old.policy_lines ≡ None }
-        requires ports { NamesPortOf (port_count self.old.system.world.bridge)
-            (option_map command_view command) }
-        ensures met { IfOk result (λ note.
-            MayMeetCommand self.old.system (option_map command_view command) note) }
-        ensures said { IfOk result (λ note.
-            out.new.items ≡ out.old.items ++ action_text self.old (command_action
-            (option_map command_view command) note)) }
-        ensures after { IfOk result (λ note.
-            self.new ≡ after_action self.old (command_action
-            (option_map command_view command) note)) }
-        ensures given_up { OnErr result (MayGiveUpCommand (option_map command_view command)) }
+        ensures said { IfOk result (λ whole. Adds out.old.items out.new.items (λ said.
+            Says (MayMeetCommand self.old.history (option_map command_view command))
+            (command_action (option_map command_view command)) self.old said self.new whole)) }
+        ensures given_up { IfErr result
+            (MayGiveUpCommand self.old.history (option_map command_view command)) }
     {
         match command {
             None => {
                 out.extend_from_slice(b"badline\n")?;
-                Ok(Note::Nothing)
+                Ok(true)
             }
             Some(Command::Request(datagram)) => self.datagram(alloc, &datagram, out),
-            Some(Command::Frame(port, octets)) => self.frame(port, &octets, out),
-            Some(Command::Tick(seconds)) => {
-                say_ticks(&mut self.world.bridge, seconds, out)?;
-                Ok(Note::Nothing)
-            }
-            Some(Command::Link(port, up)) => {
-                say_link(&mut self.world.bridge, port, up, out)?;
-                Ok(Note::Nothing)
-            }
+            Some(Command::Frame(port, octets)) => self.frame(alloc, port, &octets, out),
+            Some(Command::Tick(seconds)) => self.ticks(alloc, seconds, out),
+            Some(Command::Link(port, up)) => self.event(alloc, Event::Link { port, up }, out),
             Some(Command::Policy) => {
                 self.policy_lines = Some(Vec::new(alloc));
-                Ok(Note::Nothing)
+                Ok(true)
             }
             Some(Command::Audit(on)) => {
                 self.is_auditing = on;
-                Ok(Note::Nothing)
+                Ok(true)
             }
             Some(Command::Counts) => {
-                say_counts(&self.drops, &self.world, out)?;
-                Ok(Note::Nothing)
+                say_counts(&self.drops, self.kept.world(), out)?;
+                Ok(true)
             }
             Some(Command::Driver(plan)) => {
-                self.registry.arm(plan);
-                Ok(Note::Nothing)
+                self.kept.arm(plan);
+                Ok(true)
             }
         }
     }
@@ -159,92 +189,42 @@ impl<O: MibObject> Agent<O> {
         alloc: Global,
         datagram: &[u8],
         out: &mut Vec<u8>,
-    ) -> Result<Note, AllocError>
-        ensures met { IfOk result (λ note.
-            MayMeetDatagram self.old.system datagram.now note) }
-        ensures said { IfOk result (λ note.
-            out.new.items ≡ out.old.items ++ action_text self.old
-            (datagram_action datagram.now note)) }
-        ensures after { IfOk result (λ note.
-            self.new ≡ after_action self.old (datagram_action datagram.now note)) }
+    ) -> Result<bool, LineFault>
+        ensures said { IfOk result (λ whole. Adds out.old.items out.new.items (λ said.
+            Says (MayMeetDatagram self.old.history datagram.now) (datagram_action datagram.now)
+            self.old said self.new whole)) }
+        ensures stopped { IfErr result (λ fault. fault ≡ LineFault.Stopped →
+            IsOut self.old.history 1) }
     {
         match decode(alloc, datagram) {
-            Ok(request) => self.request(alloc, &request, out),
+            Ok(request) => self.event(alloc, Event::Request(request), out),
             Err(cause) => {
                 self.drops.count(cause);
                 say_drop(cause_name(cause), out)?;
-                Ok(note_of(cause))
-            }
-        }
-    }
-
-    // Answers a request, and counts it where it is dropped; what the ports send comes behind its
-    // audit. Where there was no memory for its reply, genErr is replied, and the world is as before.
-    #[tactic(auto, unfolding(crate::specs::Outputs::sent_text))]
-    fn request(
-        &mut self,
-        alloc: Global,
-        request: &Request,
-        out: &mut Vec<u8>,
-    ) -> Result<Note, AllocError>
-        requires { AreEncodable request.now.bindings }
-        ensures met { IfOk result (λ note. MayMeetRequest self.old.system request.now note) }
-        ensures read { IfOk result (λ note. is_unread note ≡ false) }
-        ensures said { IfOk result (λ note.
-            out.new.items ≡ out.old.items ++ action_text self.old
-            (request_action request.now note)) }
-        ensures after { IfOk result (λ note.
-            self.new ≡ after_action self.old (request_action request.now note)) }
-    {
-        let address = address_of(&self.world.bridge);
-        match answer(
-            alloc,
-            &mut self.registry,
-            &mut self.world,
-            request,
-            &mut self.buffer,
-        ) {
-            Ok(Answered::Reply(_, audit, failed)) => {
-                say_reply(self.buffer.reply(), out)?;
-                say_audit(alloc, self.is_auditing, &audit, out)?;
-                say_bpdus(address, self.buffer.bpdus(), out)?;
-                Ok(answered_note(audit, failed))
-            }
-            Ok(Answered::NoReply(audit)) => {
-                say_dropped(&audit.decision, out)?;
-                say_audit(alloc, self.is_auditing, &audit, out)?;
-                Ok(Note::Nothing)
-            }
-            Err(_) => {
-                short_reply(request, &mut self.buffer);
-                say_reply(self.buffer.reply(), out)?;
-                Ok(Note::RequestNotAnswered)
+                Ok(!is_memory(cause))
             }
         }
     }
 
     // Answers a frame's octets at a port.
-    fn frame(&mut self, port: u16, octets: &[u8], out: &mut Vec<u8>) -> Result<Note, AllocError>
-        requires { HasPort self.old.system.world.bridge port }
-        ensures met { IfOk result (λ note.
-            MayMeetFrame self.old.system.world.bridge port (frame_at octets.now) note) }
-        ensures said { IfOk result (λ note.
-            out.new.items ≡ out.old.items ++ action_text self.old (frame_action port
-            (frame_at octets.now) note)) }
-        ensures after { IfOk result (λ note.
-            self.new ≡ after_action self.old (frame_action port (frame_at octets.now) note)) }
+    fn frame(
+        &mut self,
+        alloc: Global,
+        port: u16,
+        octets: &[u8],
+        out: &mut Vec<u8>,
+    ) -> Result<bool, LineFault>
+        ensures said { IfOk result (λ whole. Adds out.old.items out.new.items (λ said.
+            Says (MayMeetFrame self.old.history port (frame_at octets.now))
+            (frame_action port (frame_at octets.now)) self.old said self.new whole)) }
+        ensures stopped { IfErr result (λ fault. fault ≡ LineFault.Stopped →
+            IsOut self.old.history 1) }
     {
         match read_frame(octets) {
-            Ok(fields) => {
-                if say_frame(&mut self.world.bridge, port, &fields, out)? {
-                    Ok(Note::SourceNotLearned)
-                } else {
-                    Ok(Note::Nothing)
-                }
-            }
+            Ok(frame) => self.event(alloc, Event::Frame { port, frame }, out),
             Err(fault) => {
                 say_bad_frame(fault, out)?;
-                Ok(Note::Nothing)
+                Ok(true)
             }
         }
     }
@@ -256,22 +236,19 @@ impl<O: MibObject> Agent<O> {
         mut lines: Vec<u8>,
         line: &[u8],
         out: &mut Vec<u8>,
-    ) -> Result<Note, AllocError>
+    ) -> Result<bool, LineFault>
         requires { self.old.policy_lines ≡ None }
-        ensures met { IfOk result (λ note. MayMeetPolicyLine lines.items line.now note) }
-        ensures said { IfOk result (λ note.
-            out.new.items ≡ out.old.items ++ action_text self.old
-            (policy_action lines.items line.now note)) }
-        ensures after { IfOk result (λ note.
-            self.new ≡ after_action self.old (policy_action lines.items line.now note)) }
+        ensures said { IfOk result (λ whole. Adds out.old.items out.new.items (λ said.
+            Says (MayMeetPolicyLine self.old.history lines.items line.now)
+            (policy_action lines.items line.now) self.old said self.new whole)) }
+        ensures given_up { IfErr result (MayGiveUpPolicyLine self.old.history) }
     {
         if line == b"end".as_slice() {
             return self.end_policy(alloc, &lines, out);
         }
-        lines.extend_from_slice(line)?;
-        lines.push(b'\n')?;
+        keep_line(&mut lines, line)?;
         self.policy_lines = Some(lines);
-        Ok(Note::Nothing)
+        Ok(true)
     }
 
     // Takes the end of a policy. Lines that are no text, or a blank one, are no policy, and take no
@@ -281,38 +258,54 @@ impl<O: MibObject> Agent<O> {
         alloc: Global,
         lines: &[u8],
         out: &mut Vec<u8>,
-    ) -> Result<Note, AllocError>
+    ) -> Result<bool, LineFault>
         requires { self.old.policy_lines ≡ None }
-        ensures met { IfOk result (λ note. MayMeetEnd lines.now note) }
-        ensures said { IfOk result (λ note.
-            out.new.items ≡ out.old.items ++ action_text self.old (end_action lines.now note)) }
-        ensures after { IfOk result (λ note.
-            self.new ≡ after_action self.old (end_action lines.now note)) }
+        ensures said { IfOk result (λ whole. Adds out.old.items out.new.items (λ said.
+            Says (MayMeetEnd self.old.history lines.now) (end_action lines.now)
+            self.old said self.new whole)) }
+        ensures given_up { IfErr result (MayGiveUpPolicyLine self.old.history) }
     {
         match policy_in(alloc, lines) {
-            Ok(Some(policy)) => {
-                self.world.policy = policy;
-                out.extend_from_slice(b"policy ok\n")?;
-                Ok(Note::Nothing)
-            }
+            Ok(Some(policy)) => self.event(alloc, Event::Policy(policy), out),
             Ok(None) => {
                 out.extend_from_slice(b"policy refused\n")?;
-                Ok(Note::Nothing)
+                Ok(true)
             }
             Err(_) => {
                 out.extend_from_slice(b"policy refused\n")?;
-                Ok(Note::PolicyNotRead)
+                Ok(false)
             }
         }
     }
 }
 
-// What is noted of a request that was answered so, where the commit of this variable failed.
-fn answered_note(audit: Audit, failed: Option<usize>) -> Note
-    ensures { result ≡ answered_note audit.unrestored failed }
+// Appends a line and its end.
+fn keep_line(lines: &mut Vec<u8>, line: &[u8]) -> Result<(), AllocError>
+    ensures { OnOk result (lines.new.items ≡ lines.old.items ++ line.now ++ codes "\n") }
 {
-    match failed {
-        Some(commit) => Note::DevicesFailed(commit, audit.unrestored),
-        None => Note::Nothing,
+    lines.extend_from_slice(line)?;
+    lines.push(b'\n')?;
+    Ok(())
+}
+
+// Whether there was room for the learned row of the event that was entered last.
+fn has_room(entries: &[Entry]) -> bool
+    ensures { (before : List Entry) (last : Entry) → entries.now ≡ before ++ last ∷ [] →
+        result ≡ not last.no_room }
+{
+    match entries.last() {
+        Some(entry) => !entry.no_room,
+        None => true,
+    }
+}
+
+// Whether a datagram gave no request for want of memory.
+fn is_memory(cause: DropCause) -> bool
+    ensures { result ≡ lacks_memory cause }
+{
+    match cause {
+        DropCause::Memory => true,
+        DropCause::TooLong | DropCause::Malformed | DropCause::BadVersion | DropCause::BadKind =>
+            false,
     }
 }

@@ -1,16 +1,12 @@
-//! What is said to the events of a bridge.
-ghost use Rattle.std.specs.Prelude.{◌≡◌, ◌++◌, codes, decimal, Bool, true, IfOk, OnOk, Some};
+//! What is said of a bridge: what its ports send, where a frame goes, and what is no frame.
+ghost use Rattle.std.specs.Prelude.{◌≡◌, ◌++◌, codes, decimal, OnOk, Some};
 ghost use Rattle.std.specs.List.{flat_map};
-ghost use Rattle.frame_core.specs.declared.bpdu.Bpdu.{Bpdu};
-ghost use Rattle.bridge_core.specs.Bridge.{HasPort, address_of};
-ghost use Rattle.bridge_core.specs.Events.{frame_result, after_tick, tick_of, link_of, after_link};
-ghost use Rattle.bridge_core.specs.Forwarding.{MayLackMemory};
-ghost use Rattle.agent_script.specs.Events.{System, with_bridge};
-ghost use Rattle.agent_script.specs.Outputs.{bpdu_line, bpdu_lines, another_port, egress_text, forwarded_text, seconds_text, after_seconds};
+ghost use Rattle.bridge_core.specs.Bridge.{address_of};
+ghost use Rattle.agent_script.specs.Outputs.{bpdu_line, bpdu_lines, another_port, egress_text, forward_line};
 ghost use Rattle.agent_script.specs.Actions.{fault_name};
 
 use bridge_core::Bridge;
-use frame_core::{Bpdu, FrameFault, FrameIn, Mac, SENT_FRAME_LEN, write_bpdu};
+use frame_core::{Bpdu, FrameFault, Mac, SENT_FRAME_LEN, write_bpdu};
 use script_core::words::write_hex;
 use std::alloc::AllocError;
 use std::io::Write;
@@ -126,70 +122,11 @@ pub fn say_bad_frame(fault: FrameFault, out: &mut Vec<u8>) -> Result<(), AllocEr
     out.extend_from_slice(b"\n")
 }
 
-/// Appends where a frame at a port goes and what is sent; answers whether the growth for a learned
-/// row was refused.
-pub fn say_frame(
-    bridge: &mut Bridge,
-    port: u16,
-    frame: &FrameIn,
-    out: &mut Vec<u8>,
-) -> Result<bool, AllocError>
-    requires { HasPort bridge.old port }
-    ensures said { IfOk result (λ no_room.
-        out.new.items ≡ out.old.items ++ forwarded_text (address_of bridge.old)
-        (frame_result bridge.old port frame.now no_room).egress
-        (frame_result bridge.old port frame.now no_room).bpdus) }
-    ensures after { IfOk result (λ no_room.
-        bridge.new ≡ (frame_result bridge.old port frame.now no_room).bridge) }
-    ensures note { IfOk result (λ no_room. no_room ≡ true →
-        MayLackMemory bridge.old port frame.now) }
+/// Appends where a frame goes.
+pub fn say_forward(ports: &[u16], out: &mut Vec<u8>) -> Result<(), AllocError>
+    ensures { OnOk result (out.new.items ≡ out.old.items ++ forward_line ports.now) }
 {
-    let address = address_of(bridge);
-    let taken = bridge.frame(port, frame);
     out.extend_from_slice(b"forward ")?;
-    say_egress(taken.egress.as_slice(), out)?;
-    out.extend_from_slice(b"\n")?;
-    say_bpdus(address, taken.bpdus.as_slice(), out)?;
-    Ok(taken.no_room)
-}
-
-// Appends what is sent as one second passes.
-fn say_tick(bridge: &mut Bridge, out: &mut Vec<u8>) -> Result<(), AllocError>
-    ensures said { OnOk result (out.new.items ≡ out.old.items ++ bpdu_lines
-        (address_of bridge.old) 1 (tick_of bridge.old).bpdus) }
-    ensures after { bridge.new ≡ after_tick bridge.old }
-{
-    let address = address_of(bridge);
-    let bpdus = bridge.tick();
-    say_bpdus(address, bpdus.as_slice(), out)
-}
-
-/// Appends what is sent as so many seconds pass.
-pub fn say_ticks(bridge: &mut Bridge, seconds: u32, out: &mut Vec<u8>) -> Result<(), AllocError>
-    ensures said { OnOk result ((on : Bool) (s : System) →
-        out.new.items ≡ out.old.items ++ seconds_text on seconds (with_bridge s bridge.old)) }
-    ensures after { OnOk result ((s : System) →
-        with_bridge s bridge.new ≡ after_seconds seconds (with_bridge s bridge.old)) }
-{
-    for i in 0..seconds {
-        say_tick(bridge, out)?;
-    }
-    Ok(())
-}
-
-/// Appends what is sent as the link of a port goes up or down.
-pub fn say_link(
-    bridge: &mut Bridge,
-    port: u16,
-    up: bool,
-    out: &mut Vec<u8>,
-) -> Result<(), AllocError>
-    requires { HasPort bridge.old port }
-    ensures said { OnOk result (out.new.items ≡ out.old.items ++ bpdu_lines
-        (address_of bridge.old) 1 (link_of port up bridge.old).bpdus) }
-    ensures after { bridge.new ≡ after_link port up bridge.old }
-{
-    let address = address_of(bridge);
-    let bpdus = bridge.link(port, up);
-    say_bpdus(address, bpdus.as_slice(), out)
+    say_egress(ports, out)?;
+    out.extend_from_slice(b"\n")
 }

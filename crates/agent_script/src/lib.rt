@@ -1,15 +1,15 @@
 //! The script of the agent: what it says to each line.
 //!
 //! # Entry points
-//! [`run_script`] reads a script to its end over what managed objects show of a world.
+//! [`run_script`] reads a script to its end over what managed objects show of a world, and
+//! [`run_kept`] over a history that has begun.
 //!
 //! # Definitions
-//! `specs/Commands.antt`: which command a line is; `specs/Events.antt`: the step of an event, what
-//! it makes of the world and what comes out; `specs/Outputs.antt`: how that is written;
-//! `specs/Actions.antt`: what a line does;
-//! `specs/Notes.antt`: which want of memory a line may meet, and may be given up for, and which
-//! calls of devices may fail in it;
-//! `specs/Script.antt`: the text of a script.
+//! `specs/Commands.antt`: which command a line is; `specs/Actions.antt`: what a line does;
+//! `specs/Events.antt`: what an event may meet, and what it adds to the history;
+//! `specs/Outputs.antt`: how what comes out of an event is written; `specs/Notes.antt`: what a
+//! line may meet, and when it may be given up; `specs/Script.antt`: the text of a script;
+//! `specs/Runs.antt`: how a script went. The step of an event is that of `history_core`.
 //!
 //! # Laws
 //! In [`laws`]: how many seconds one line lets pass at most, and how many calls it plans.
@@ -27,9 +27,8 @@ mod bridging;
 mod commands;
 mod drops;
 pub mod laws;
-mod note;
 mod saying;
 mod session;
 
 pub use commands::MAX_SECONDS;
-pub use session::{Run, run_script};
+pub use session::{Run, run_kept, run_script};

@@ -1,14 +1,15 @@
-//! What is said to a datagram and to `counts`.
-ghost use Rattle.std.specs.Prelude.{◌≡◌, ◌++◌, codes, OnOk};
+//! What is said to events, to a datagram that gives none, and to `counts`.
+ghost use Rattle.std.specs.Prelude.{◌≡◌, ◌++◌, Some, codes, OnOk};
 ghost use Rattle.std.specs.List.{flat_map};
-ghost use Rattle.hex.specs.Hex.{encode_upper};
-ghost use Rattle.agent_script.specs.Outputs.{drop_text, dropped_name, told_audit};
+ghost use Rattle.agent_script.specs.Outputs.{drop_text, dropped_name, told_audit, reply_line, reply_text, short_text, receipt_text};
 ghost use Rattle.agent_script.specs.Actions.{cause_name, space_and_number, counts_text};
 
+use crate::bridging::say_forward;
 use crate::drops::Drops;
 use audit_core::{Audit, write_audit};
-use decision::{Cause, Decision};
-use message_core::DropCause;
+use decision::Cause;
+use history_core::{Receipt, ReceiptEvent};
+use message_core::{DropCause, Octets};
 use script_core::words::write_hex;
 use setphase_core::World;
 use std::alloc::{AllocError, Global};
@@ -46,41 +47,98 @@ fn dropped_name(cause: &Cause) -> &'static [u8]
     }
 }
 
-/// Appends what drops a request whose decision is to drop it.
-pub fn say_dropped(decision: &Decision, out: &mut Vec<u8>) -> Result<(), AllocError>
-    ensures { OnOk result ((cause : Cause) → decision.now ≡ Decision.Drop cause →
-        out.new.items ≡ out.old.items ++ drop_text (dropped_name cause)) }
+/// Appends what drops a request, and its audit where it is told.
+pub fn say_dropped(
+    alloc: Global,
+    on: bool,
+    cause: &Cause,
+    audit: &Audit,
+    out: &mut Vec<u8>,
+) -> Result<(), AllocError>
+    ensures { OnOk result (out.new.items ≡ out.old.items
+        ++ (drop_text (dropped_name cause.now) ++ told_audit on (Some audit.now))) }
 {
-    match decision {
-        Decision::Drop(cause) => say_drop(dropped_name(cause), out),
-        Decision::Empty | Decision::Refused(_) | Decision::Allowed { .. } => Ok(()),
-    }
+    say_drop(dropped_name(cause), out)?;
+    say_told(alloc, on, audit, out)
 }
 
-/// Appends `reply` and the octets of a reply.
-pub fn say_reply(octets: &[u8], out: &mut Vec<u8>) -> Result<(), AllocError>
-    ensures { OnOk result (out.new.items ≡ out.old.items ++ (codes "reply "
-        ++ encode_upper octets.now ++ codes "\n")) }
+// Appends `reply` and the octets of a reply.
+fn say_reply(octets: &[u8], out: &mut Vec<u8>) -> Result<(), AllocError>
+    ensures { OnOk result (out.new.items ≡ out.old.items ++ reply_line octets.now) }
 {
     out.extend_from_slice(b"reply ")?;
     write_hex(out, octets)?;
     out.extend_from_slice(b"\n")
 }
 
-/// Appends an audit, where it is told.
-pub fn say_audit(
-    alloc: Global,
-    on: bool,
-    audit: &Audit,
-    out: &mut Vec<u8>,
-) -> Result<(), AllocError>
-    ensures { OnOk result (out.new.items ≡ out.old.items ++ told_audit on audit.now) }
+/// Appends what answers an event for which there was no memory: a reply, or `short` where there is
+/// none.
+pub fn say_short(octets: &[u8], out: &mut Vec<u8>) -> Result<(), AllocError>
+    ensures { OnOk result (out.new.items ≡ out.old.items ++ short_text octets.now) }
+{
+    if octets.is_empty() {
+        return out.extend_from_slice(b"short\n");
+    }
+    say_reply(octets, out)
+}
+
+// Appends a reply, if there is one.
+fn say_reply_of(reply: &Option<Octets>, out: &mut Vec<u8>) -> Result<(), AllocError>
+    ensures { OnOk result (out.new.items ≡ out.old.items ++ reply_text reply.now) }
+{
+    match reply {
+        Some(octets) => say_reply(octets.as_slice(), out),
+        None => Ok(()),
+    }
+}
+
+// Appends an audit, where it is told.
+fn say_told(alloc: Global, on: bool, audit: &Audit, out: &mut Vec<u8>) -> Result<(), AllocError>
+    ensures { OnOk result (out.new.items ≡ out.old.items ++ told_audit on (Some audit.now)) }
 {
     if !on {
         return Ok(());
     }
     out.extend_from_slice(b"audit ")?;
     write_audit(alloc, audit, out)
+}
+
+// Appends an audit, if there is one, where it is told.
+fn say_audit(
+    alloc: Global,
+    on: bool,
+    audit: &Option<Audit>,
+    out: &mut Vec<u8>,
+) -> Result<(), AllocError>
+    ensures { OnOk result (out.new.items ≡ out.old.items ++ told_audit on audit.now) }
+{
+    match audit {
+        Some(audit) => say_told(alloc, on, audit, out),
+        None => Ok(()),
+    }
+}
+
+/// Appends what came of an event that was entered, ahead of what the ports send: where a frame
+/// goes, that a policy is in force, or the reply and the audit of a request.
+pub fn say_receipt(
+    alloc: Global,
+    on: bool,
+    receipt: &Receipt,
+    audit: &Option<Audit>,
+    out: &mut Vec<u8>,
+) -> Result<(), AllocError>
+    ensures { OnOk result (out.new.items ≡ out.old.items
+        ++ receipt_text on receipt.now audit.now) }
+{
+    match receipt.event {
+        ReceiptEvent::Frame { .. } => say_forward(receipt.egress.as_slice(), out),
+        ReceiptEvent::Tick | ReceiptEvent::Link { .. } => Ok(()),
+        ReceiptEvent::Policy => out.extend_from_slice(b"policy ok\n"),
+        ReceiptEvent::Request(_) => {
+            say_reply_of(&receipt.reply, out)?;
+            say_audit(alloc, on, audit, out)
+        }
+    }
 }
 
 // Appends a space and a number.

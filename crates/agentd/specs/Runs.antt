@@ -1,11 +1,8 @@
 -- What a run by the octets of a configuration promises.
-use Rattle.std.specs.Prelude.{◌≡◌, ◌≢◌, ℕ, List, Option, Result, Ok, Err, IfOk, IfErr, IfSome}
-use Rattle.script_core.specs.Lines.{lines_of}
-use Rattle.script_core.specs.Runs.{Reads, Writes, IsFrontOf}
+use Rattle.std.specs.Prelude.{◌≡◌, ℕ, List, Option, Result, Ok, Err}
 use Rattle.script_core.specs.declared.fault.RunFault.{RunFault}
-use Rattle.script_core.specs.declared.fault.RunFault.TheVariants.{Input, Output, Memory as NoMemory, Stopped as IsStopped}
 use Rattle.policy_text.specs.Texts.{HasContent}
-use Rattle.agent_script.specs.Script.{IsSaid, IsSaidBefore, IsGivenUp, IsSaidSome}
+use Rattle.agent_script.specs.Runs.{IsScriptRun}
 use Rattle.setphase_core.specs.Objects.{ObjectState}
 use Rattle.setphase_core.specs.declared.world.World.{World}
 use Rattle.agent_script.specs.State.{Agent, opening_agent}
@@ -29,33 +26,12 @@ module _ {I O : Type 0} (remaining : I → Option (List ℕ)) (contents : O → 
     pub unread : reader' ≡ reader
     pub unwritten : writer' ≡ writer
 
-  -- A script was run over this agent, and went so.
-  pub record IsScriptRun (agent : Agent) (reader reader' : I) (writer writer' : O) (went : Result Run RunFault) : Type 0 where
-    -- to its end: what is written is the script's text, and it is told whether all lines were
-    -- answered in full
-    pub written : IfOk went (λ run. IfSome (remaining reader) (λ input.
-        Writes (contents writer) (contents writer') (λ text. IsSaid agent (lines_of input) text run)))
-    -- until the input failed: each line that had ended was answered
-    pub input : IfErr went (λ fault. fault ≡ Input → Reads (remaining reader) (remaining reader') (λ input rest.
-        Writes (contents writer) (contents writer') (λ text. IsSaidBefore agent input rest text)))
-    -- until a line was given up: each line before it is answered, and it was read, in part at least
-    pub given_up : IfErr went (λ fault. fault ≡ NoMemory →
-        Reads (remaining reader) (remaining reader') (λ input rest.
-        Writes (contents writer) (contents writer') (λ text. IsGivenUp agent input rest text)))
-    -- until a write failed: what is written is a front of what was said to the first lines, or to
-    -- all of them and the end
-    pub output : IfErr went (λ fault. fault ≡ Output → IfSome (remaining reader) (λ input.
-        Writes (contents writer) (contents writer') (λ text. IsFrontOf (λ whole.
-        IsSaidSome agent (lines_of input) whole) text)))
-    -- and for no other reason
-    pub kind : IfErr went (λ fault. fault ≢ IsStopped)
-
   -- What came of a script over this agent.
   abbrev pub IsRunOver : Agent → I → I → O → O → Result Run NotRun → Type 0
   IsRunOver agent reader reader' writer writer' (Ok run) =
-      IsScriptRun agent reader reader' writer writer' (Ok run)
+      IsScriptRun remaining contents agent reader reader' writer writer' (Ok run)
   IsRunOver agent reader reader' writer writer' (Err (Stopped fault)) =
-      IsScriptRun agent reader reader' writer writer' (Err fault)
+      IsScriptRun remaining contents agent reader reader' writer writer' (Err fault)
   IsRunOver agent reader reader' writer writer' (Err Refused) = ⊥
   IsRunOver agent reader reader' writer writer' (Err Memory) = ⊥
   IsRunOver agent reader reader' writer writer' (Err NoRegistry) = ⊥
@@ -67,7 +43,7 @@ module _ {I O : Type 0} (remaining : I → Option (List ℕ)) (contents : O → 
     pub world : World
     pub is : IsWorldOf octets world
     pub makes : MakeRegistry objects
-    pub run : IsScriptRun (opening_agent objects world) reader reader' writer writer' went
+    pub run : IsScriptRun remaining contents (opening_agent objects world) reader reader' writer writer' went
 
   -- What came of objects and octets: a run; a refusal of what is no configuration, or of objects
   -- that make no registry; or, of a text that is not blank, want of memory before anything was

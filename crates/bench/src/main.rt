@@ -19,6 +19,7 @@ mod access;
 mod agent;
 mod bridge;
 mod forwarding;
+mod history;
 mod messages;
 mod print;
 mod replies;
@@ -32,6 +33,7 @@ mod views;
 use access::measure_access;
 use bridge::{measure_addresses, measure_frames};
 use forwarding::measure_forwarding;
+use history::measure_history;
 use messages::{measure_decode, measure_encode};
 use scenes::{Work, do_work};
 use std::{env, io};
@@ -39,7 +41,7 @@ use tree::measure_tree;
 use views::measure_views;
 
 /// The names of the measurements.
-const NAMES: [&str; 10] = [
+const NAMES: [&str; 11] = [
     "decode",
     "encode",
     "agent",
@@ -50,6 +52,7 @@ const NAMES: [&str; 10] = [
     "access",
     "forwarding",
     "views",
+    "history",
 ];
 
 fn main(rt: HostRuntime) -> io::Result<()> {
@@ -71,6 +74,7 @@ fn main(rt: HostRuntime) -> io::Result<()> {
             "access" => measure_access(&rt),
             "forwarding" => measure_forwarding(&rt),
             "views" => measure_views(&rt),
+            "history" => measure_history(&rt),
             _ => print_names(&rt),
         },
     }

@@ -5,7 +5,7 @@ ghost use Rattle.bridge_core.specs.Bridge.{HasPort, port_count};
 use bridge_core::{Bpdus, Bridge, BridgeFault, Forwarding};
 use frame_core::worked::{AGREES, BETTER, OWN, PROPOSES};
 use frame_core::{FrameIn, Mac, read_frame, write_bpdu};
-use rstp_core::{IfIndex, Key, PortConfig, PortKey, State};
+use rstp_core::{BridgeKey, IfIndex, Key, PortConfig, PortKey, State};
 use std::alloc::Global;
 use std::process::Abort;
 use std::test::Fail;
@@ -140,6 +140,22 @@ fn learned_addresses_age(rt: HostRuntime) -> Result<(), Fail> {
     assert_eq!(rt; bridge.fdb().len(), 1);
     pass(&mut bridge, 299);
     assert_eq!(rt; bridge.fdb().len(), 1);
+    pass(&mut bridge, 1);
+    assert_eq!(rt; bridge.fdb().len(), 0);
+    Ok(())
+}
+
+#[test]
+fn a_longer_ageing_time_brings_no_address_back(rt: HostRuntime) -> Result<(), Fail> {
+    let mut bridge = running(rt.alloc())?;
+    let _ = come(&mut bridge, 1, &TO_ALL)?;
+    let _ = bridge.put_setting(Key::Bridge(BridgeKey::Aging), 10);
+    pass(&mut bridge, 9);
+    assert_eq!(rt; bridge.fdb().len(), 1);
+    pass(&mut bridge, 1);
+    assert_eq!(rt; bridge.fdb().len(), 0);
+    let _ = bridge.put_setting(Key::Bridge(BridgeKey::Aging), 1_000);
+    assert_eq!(rt; bridge.fdb().len(), 0);
     pass(&mut bridge, 1);
     assert_eq!(rt; bridge.fdb().len(), 0);
     Ok(())

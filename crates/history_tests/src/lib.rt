@@ -16,6 +16,8 @@
 #[cfg(test)]
 mod base;
 #[cfg(test)]
+mod copies;
+#[cfg(test)]
 mod entries;
 #[cfg(test)]
 mod support;

@@ -1,5 +1,5 @@
 -- Where reading takes memory.
-use Rattle.std.proofs.Common.{◌≡◌, ◌≢◌, ℕ, ℤ, eqb, cond, List, [], ◌∷◌, ◌++◌, Ok, Err, refl, sym, ap, subst, ◌∙◌, append_assoc, inl, inr}
+use Rattle.std.proofs.Common.{◌≡◌, ◌≢◌, ℕ, ℤ, eqb, cond, List, [], ◌∷◌, ◌++◌, Result, Ok, Err, refl, sym, ap, subst, ◌∙◌, append_assoc, inl, inr}
 use Rattle.std.proofs.lemmas.Bool.{eqb-true}
 use Rattle.std.proofs.lemmas.List.{append-nil}
 use Rattle.ber_core.specs.Encoding.{AreOctets, BeginsTlv}
@@ -7,14 +7,15 @@ use Rattle.oid_core.specs.declared.fault.OidFault.{OidFault}
 use Rattle.oid_core.specs.declared.fault.OidFault.TheVariants as names
 use Rattle.message_core.specs.Tags as tags
 use Rattle.message_core.specs.Cause.{cause_of}
+use Rattle.message_core.specs.declared.cause.DropCause.{DropCause}
 use Rattle.message_core.specs.declared.cause.DropCause.TheVariants.{Malformed, Memory}
-use Rattle.message_core.specs.declared.request.Kind.{Kind}
 use Rattle.message_core.specs.declared.binding.Binding.{Binding}
 use Rattle.oid_core.specs.Name.{BeginsLong}
-use Rattle.message_core.specs.Message.{IsBinding, AreBindings, IsLongValue, HasLongName, HasLongValue, HasLongBinding, HasGrowth, HasGrowingList, IsCause}
-use Rattle.message_core.specs.FirstFault.{any_at, content_at, integer_at, nametlv_at, binding_at, kind_of, head_at}
-use Rattle.message_core.proofs.Readers.{bind_ok, test_ok, ok_is, content_fits, any_found, content_reads, integer_reads, nametlv_reads, binding_reads}
-use Rattle.message_core.proofs.Requests.{Parts, kind_is, head_found}
+use Rattle.message_core.specs.Message.{IsBinding, AreBindings, IsLongValue, HasLongName, HasLongValue, HasLongBinding, HasGrowth, HasGrowingList, HasGrowingBody, IsFirstFault}
+use Rattle.message_core.specs.FirstFault.{any_at, content_at, nametlv_at, binding_at, numbers_at, head_at}
+use Rattle.message_core.proofs.Readers.{bind_ok, test_ok, ok_is, content_fits, any_found, content_reads, nametlv_reads, binding_reads}
+use Rattle.message_core.proofs.Requests.{Parts, numbers_found, head_found}
+use Rattle.message_core.proofs.Causes.{PicksTags, tag_right}
 
 content_found : (tag : ℕ) (octets : List ℕ) (x : List ℕ × List ℕ) → content_at tag octets ≡ Ok x → BeginsTlv octets tag x.0 x.1
 unfolding content_at
@@ -85,53 +86,38 @@ grows_behind content bs rest b after so_far e =
 
 -- ---- a PDU and a datagram
 
-pub grows_in_list : (content : List ℕ) (id : ℤ) (one : List ℕ) (first : ℤ) (two : List ℕ) (second : ℤ) (three list after : List ℕ) → AreOctets content
-    → integer_at content ≡ Ok (id, one) → integer_at one ≡ Ok (first, two) → integer_at two ≡ Ok (second, three) → content_at tags.sequence three ≡ Ok (list, after) → HasGrowth list → HasGrowingList content
-grows_in_list content id one first two second three list after fits e1 e2 e3 e4 growth =
-    let f1 = integer_reads.found content (id, one) fits e1 in
-    let f2 = integer_reads.found one (first, two) f1.rest_fits e2 in
-    let f3 = integer_reads.found two (second, three) f2.rest_fits e3 in
+pub grows_in_list : (octets list after : List ℕ) → content_at tags.sequence octets ≡ Ok (list, after) → HasGrowth list → HasGrowingList octets
+grows_in_list octets list after e growth = record { list = list; after = after; head = content_found tags.sequence octets (list, after) e; growth = growth }
+
+grows_in_body : (IsFirst : ℤ → Type 0) (content : List ℕ) (id first second : ℤ) (rest : List ℕ) → AreOctets content → numbers_at content ≡ Ok (id, first, second, rest) → IsFirst first → HasGrowingList rest → HasGrowingBody IsFirst content
+grows_in_body IsFirst content id first second rest fits e taken list =
+    let n = numbers_found content (id, first, second, rest) fits e in
     record {
-      id_octets = f1.front;
-      first_octets = f2.front;
-      second_octets = f3.front;
-      tail = three;
+      id_octets = n.id_octets;
+      first_octets = n.first_octets;
+      second_octets = n.second_octets;
+      tail = rest;
       id = id;
       first = first;
       second = second;
-      id_is = f1.encoded;
-      first_is = f2.encoded;
-      second_is = f3.encoded;
-      parts = f1.joined ∙ ap (λ (r : List ℕ). f1.front ++ r) (f2.joined ∙ ap (λ (r : List ℕ). f2.front ++ r) f3.joined);
+      id_is = n.id_is;
+      first_is = n.first_is;
+      second_is = n.second_is;
+      taken = taken;
+      parts = n.parts;
       list = list;
-      after = after;
-      head = content_found tags.sequence three (list, after) e4;
-      growth = growth;
     }
 
-pub grows_in_request : (d : List ℕ) (h : Parts) (kind : Kind) → AreOctets d → head_at d ≡ Ok h → kind_of h.1 ≡ Ok kind → HasGrowingList h.2 → IsCause d Memory
-grows_in_request d h kind fits e k growing =
-    let i = head_found d h fits e in
-    let pdu : BeginsTlv (i.pdu ++ h.3) h.1 h.2 h.3 = record { front = i.pdu; encoded = i.pdu_is; joined = refl } in (
+pub grows_in_pdu : {M K : Type 0} (kind_at : ℕ → Result K DropCause) (IsTaken : ℕ → Type 0) (IsFirst : ℤ → Type 0) (IsGiven : List ℕ → M → Type 0) → PicksTags kind_at IsTaken → (d : List ℕ) (h : Parts) (kind : K) (id first second : ℤ) (rest : List ℕ) → AreOctets d → head_at d ≡ Ok h → kind_at h.1 ≡ Ok kind → numbers_at h.2 ≡ Ok (id, first, second, rest) → IsFirst first → HasGrowingList rest → IsFirstFault IsTaken IsFirst IsGiven d Memory
+unfolding tag_right
+grows_in_pdu kind_at IsTaken IsFirst IsGiven picks d h kind id first second rest fits e k n taken list =
+    let i = head_found d h fits e in (
       i.short,
       inr (record {
-        kind = kind;
-        pdu = record {
-          message = i.content;
-          after = h.4;
-          head = record { front = i.front; encoded = i.framed; joined = i.joined };
-          version = i.version;
-          community = i.name;
-          pdu = i.pdu ++ h.3;
-          name = h.0;
-          content = h.2;
-          rest = h.3;
-          version_is = i.version_is;
-          community_is = i.community_is;
-          pdu_is = subst (λ (t : ℕ). BeginsTlv (i.pdu ++ h.3) t h.2 h.3) (kind_is h.1 kind k) pdu;
-          parts = i.parts;
-        };
-        growing = growing;
+        tag = h.1;
+        taken = picks.taken h.1 kind k;
+        pdu = tag_right d h fits e;
+        growing = grows_in_body IsFirst h.2 id first second rest i.body_fits n taken list;
       }),
     )
 

@@ -1,19 +1,17 @@
 -- No octets encode two things.
-use Rattle.std.proofs.Common.{◌≡◌, ℕ, ℤ, pos, negsuc, List, [], ◌∷◌, ◌++◌, length, get_or, Result, Ok, refl, sym, ap, ◌∙◌, arith}
+use Rattle.std.proofs.Common.{◌≡◌, ℕ, pos, List, [], ◌++◌, length, Result, Ok, refl, sym, ap, ◌∙◌, arith}
 use Rattle.message_core.specs.Tags as tags
 use Rattle.message_core.specs.Status.{code_of}
 use Rattle.message_core.specs.declared.cause.DropCause.{DropCause}
-use Rattle.message_core.specs.declared.status.ErrorStatus.{ErrorStatus}
-use Rattle.message_core.specs.declared.status.ErrorStatus.TheVariants.{NoError, TooBig, NoSuchName, BadValue, ReadOnly, GenErr, NoAccess, WrongType, WrongLength, WrongEncoding, WrongValue, NoCreation, InconsistentValue, ResourceUnavailable, CommitFailed, UndoFailed, AuthorizationError, NotWritable, InconsistentName}
 use Rattle.message_core.specs.declared.value.Value.{Value}
 use Rattle.message_core.specs.declared.binding.Binding.{Binding}
 use Rattle.message_core.specs.declared.request.Request.{Request}
 use Rattle.message_core.specs.declared.reply.Reply.{Reply}
 use Rattle.message_core.specs.Message.{IsNameTlv, IsValue, IsBinding, AreBindings, IsMessage, IsRequest, IsReply}
 use Rattle.ber_core.specs.Reading.{◌>>=◌}
-use Rattle.message_core.specs.FirstFault.{any_at, content_at, integer_at, body_of}
+use Rattle.message_core.specs.FirstFault.{any_at, content_at, integer_at, numbers_at, list_of, error_status_of}
 use Rattle.message_core.proofs.Readers.{ok_is, any_only, content_reads, integer_reads, nametlv_reads, value_reads, binding_reads, bindings_only}
-use Rattle.message_core.proofs.Requests.{alone, content_again, body_only, request_only}
+use Rattle.message_core.proofs.Requests.{alone, content_again, numbers_only, list_only, request_only, status_again}
 
 pub one_name : (octets a b : List ℕ) → IsNameTlv octets a → IsNameTlv octets b → a ≡ b
 one_name octets a b i j = ap (λ (p : List ℕ × List ℕ). p.0) (ok_is (a, []) (b, []) (sym (nametlv_reads.only octets a [] i) ∙ nametlv_reads.only octets b [] j))
@@ -44,45 +42,16 @@ parts_only octets community tag body m =
     let e4 = any_only m.pdu tag body [] (alone tag m.pdu body m.pdu_is) in
     rw (e1, e2, e3, e4) refl
 
-statuses : List ErrorStatus
-statuses = NoError ∷ TooBig ∷ NoSuchName ∷ BadValue ∷ ReadOnly ∷ GenErr ∷ NoAccess ∷ WrongType ∷ WrongLength ∷ WrongEncoding ∷ WrongValue ∷ NoCreation ∷ InconsistentValue ∷ ResourceUnavailable ∷ CommitFailed ∷ UndoFailed ∷ AuthorizationError ∷ NotWritable ∷ InconsistentName ∷ []
+message_at : List ℕ → Result Reply DropCause
+message_at octets = parts_at octets >>= λ p. numbers_at p.1 >>= λ n. error_status_of n.1 >>= λ s. list_of n.3 >>= λ bs. Ok (record { id = n.0; status = s; index = n.2; community = p.0; bindings = bs })
 
--- the status of a number
-status_of : ℤ → ErrorStatus
-status_of (pos n) = get_or statuses n NoError
-status_of (negsuc n) = NoError
-
-status_again : (s : ErrorStatus) → status_of (code_of s) ≡ s
-unfolding status_of statuses
-status_again NoError = refl
-status_again TooBig = refl
-status_again NoSuchName = refl
-status_again BadValue = refl
-status_again ReadOnly = refl
-status_again GenErr = refl
-status_again NoAccess = refl
-status_again WrongType = refl
-status_again WrongLength = refl
-status_again WrongEncoding = refl
-status_again WrongValue = refl
-status_again NoCreation = refl
-status_again InconsistentValue = refl
-status_again ResourceUnavailable = refl
-status_again CommitFailed = refl
-status_again UndoFailed = refl
-status_again AuthorizationError = refl
-status_again NotWritable = refl
-status_again InconsistentName = refl
-
-reply_at : List ℕ → Result Reply DropCause
-reply_at octets = parts_at octets >>= λ p. body_of p.1 >>= λ b. Ok (record { id = b.0; status = status_of b.1; index = b.2; community = p.0; bindings = b.3 })
-
-reply_only : (octets : List ℕ) (r : Reply) → IsReply octets r → reply_at octets ≡ Ok r
-unfolding reply_at
-reply_only octets r i =
+message_only : (octets : List ℕ) (r : Reply) → IsReply octets r → message_at octets ≡ Ok r
+unfolding message_at
+message_only octets r i =
     let e1 = parts_only octets r.community tags.response i.body i.message in
-    let e2 = body_only i.body (r.id, code_of r.status, r.index, r.bindings) i.body_is in
-    rw (e1, e2, status_again r.status) refl
+    let e2 = numbers_only i.body r.id (code_of r.status) r.index r.bindings i.body_is in
+    let e3 = list_only i.body r.id (code_of r.status) r.index r.bindings i.body_is in
+    rw (e1, e2, status_again r.status, e3) refl
 
 pub one_reply : (octets : List ℕ) (r s : Reply) → IsReply octets r → IsReply octets s → r ≡ s
-one_reply octets r s i j = ok_is r s (sym (reply_only octets r i) ∙ reply_only octets s j)
+one_reply octets r s i j = ok_is r s (sym (message_only octets r i) ∙ message_only octets s j)

@@ -1,6 +1,6 @@
 -- A datagram read from left to right, up to the first faulty place: the value and the octets left,
 -- or the cause. The grammar itself stands in `Message`.
-use Rattle.std.specs.Prelude.{ℕ, zero, suc, ℤ, pos, negsuc, ◌+◌, ◌^◌, Bool, false, List, [], ◌∷◌, length, Result, Ok, Err, nat_lt, ◌==◌, if◌then◌else◌}
+use Rattle.std.specs.Prelude.{ℕ, zero, suc, ℤ, pos, negsuc, ◌+◌, ◌^◌, Bool, false, List, [], ◌∷◌, length, Option, Some, None, Result, Ok, Err, nat_lt, ◌==◌, if◌then◌else◌}
 use Rattle.ber_core.specs.declared.fault.BerFault.{BerFault}
 use Rattle.ber_core.specs.Encoding.{twos_complement}
 use Rattle.ber_core.specs.Reading.{◌>>=◌, tlv_at}
@@ -17,6 +17,9 @@ use Rattle.message_core.specs.declared.value.Value.{Value}
 use Rattle.message_core.specs.declared.value.Value.TheVariants.{Integer, OctetString, Null, ObjectIdentifier, IpAddress, Counter32, Gauge32, TimeTicks, Opaque, Counter64, NoSuchObject, NoSuchInstance, EndOfMibView}
 use Rattle.message_core.specs.declared.binding.Binding.{Binding}
 use Rattle.message_core.specs.declared.request.Request.{Request}
+use Rattle.message_core.specs.declared.reply.Reply.{Reply}
+use Rattle.message_core.specs.declared.status.ErrorStatus.{ErrorStatus}
+use Rattle.message_core.specs.Status.{status_of}
 
 abbrev pub or_malformed : {A : Type 0} → Result A BerFault → Result A DropCause
 or_malformed (Ok x) = Ok x
@@ -123,16 +126,21 @@ bindings_at (suc most) (octet ∷ octets) = do
   bs ← bindings_at most b.1
   Ok (b.0 ∷ bs)
 
--- the numbers and the bindings of a PDU, up to its end
-unfoldable pub body_of : List ℕ → Result (ℤ × ℤ × ℤ × List Binding) DropCause
-body_of content = do
+-- the three numbers of a PDU, and what comes after them
+unfoldable pub numbers_at : List ℕ → Result (ℤ × ℤ × ℤ × List ℕ) DropCause
+numbers_at content = do
   id ← integer_at content
   first ← integer_at id.1
   second ← integer_at first.1
-  list ← content_at tags.sequence second.1
+  Ok (id.0, first.0, second.0, second.1)
+
+-- the bindings of a PDU, up to its end
+unfoldable pub list_of : List ℕ → Result (List Binding) DropCause
+list_of octets = do
+  list ← content_at tags.sequence octets
   bindings ← bindings_at (length list.0) list.0
   e ← end_at list.1
-  Ok (id.0, first.0, second.0, bindings)
+  Ok bindings
 
 abbrev pub is_one : ℤ → Bool
 is_one (pos n) = n == 1
@@ -158,6 +166,12 @@ head_at datagram = do
   p ← any_at s.1
   Ok (s.0, p.0, p.1, p.2, s.2)
 
+-- nothing is left behind the PDU, nor behind the message
+unfoldable pub ends_at : List ℕ → List ℕ → Result (Unit {0}) DropCause
+ends_at after_pdu after_message = do
+  e ← end_at after_pdu
+  end_at after_message
+
 unfoldable pub kind_of : ℕ → Result Kind DropCause
 kind_of tag =
     if tag == tags.get_request then Ok Get
@@ -166,12 +180,42 @@ kind_of tag =
     else if tag == tags.get_bulk_request then Ok GetBulk
     else Err BadKind
 
+-- A message of a PDU whose tag and second number are read so: its community, what the tag means,
+-- the first number, what the second one means, the third, and the bindings.
+unfoldable pub pdu_at : {K S : Type 0} → (ℕ → Result K DropCause) → (ℤ → Result S DropCause) → List ℕ → Result (List ℕ × K × ℤ × S × ℤ × List Binding) DropCause
+pdu_at kind_at first_at datagram = do
+  h ← head_at datagram
+  kind ← kind_at h.1
+  n ← numbers_at h.2
+  first ← first_at n.1
+  bindings ← list_of n.3
+  e ← ends_at h.3 h.4
+  Ok (h.0, kind, n.0, first, n.2, bindings)
+
+-- any number, as it is
+abbrev pub number_of : ℤ → Result ℤ DropCause
+number_of z = Ok z
+
 -- The request that a datagram gives, or the cause of its first faulty place.
 unfoldable pub request_at : List ℕ → Result Request DropCause
 request_at datagram = do
-  h ← head_at datagram
-  kind ← kind_of h.1
-  body ← body_of h.2
-  e ← end_at h.3
-  f ← end_at h.4
-  Ok (record { kind = kind; id = body.0; first = body.1; second = body.2; community = h.0; bindings = body.3 })
+  p ← pdu_at kind_of number_of datagram
+  Ok (record { kind = p.1; id = p.2; first = p.3; second = p.4; community = p.0; bindings = p.5 })
+
+-- the tag of a Response
+unfoldable pub response_of : ℕ → Result (Unit {0}) DropCause
+response_of tag = if tag == tags.response then Ok tt else Err BadKind
+
+abbrev pub some_or_malformed : {A : Type 0} → Option A → Result A DropCause
+some_or_malformed (Some x) = Ok x
+some_or_malformed None = Err Malformed
+
+-- the error-status of a number
+unfoldable pub error_status_of : ℤ → Result ErrorStatus DropCause
+error_status_of z = some_or_malformed (status_of z)
+
+-- The reply that a datagram gives, or the cause of its first faulty place.
+unfoldable pub reply_at : List ℕ → Result Reply DropCause
+reply_at datagram = do
+  p ← pdu_at response_of error_status_of datagram
+  Ok (record { id = p.2; status = p.3; index = p.4; community = p.0; bindings = p.5 })

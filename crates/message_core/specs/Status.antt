@@ -1,5 +1,6 @@
 -- The numbers of the error statuses (RFC 3416, section 3, `error-status`).
-use Rattle.std.specs.Prelude.{ℤ, pos}
+use Rattle.std.specs.Prelude.{ℤ, pos, negsuc, List, [], ◌∷◌, Option, None}
+use Rattle.std.specs.List.{slice_get}
 use Rattle.message_core.specs.declared.status.ErrorStatus.{ErrorStatus}
 use Rattle.message_core.specs.declared.status.ErrorStatus.TheVariants.{NoError, TooBig, NoSuchName, BadValue, ReadOnly, GenErr, NoAccess, WrongType, WrongLength, WrongEncoding, WrongValue, NoCreation, InconsistentValue, ResourceUnavailable, CommitFailed, UndoFailed, AuthorizationError, NotWritable, InconsistentName}
 
@@ -23,3 +24,12 @@ code_of UndoFailed = pos 15
 code_of AuthorizationError = pos 16
 code_of NotWritable = pos 17
 code_of InconsistentName = pos 18
+
+-- each error-status at its number
+abbrev pub statuses : List ErrorStatus
+statuses = NoError ∷ TooBig ∷ NoSuchName ∷ BadValue ∷ ReadOnly ∷ GenErr ∷ NoAccess ∷ WrongType ∷ WrongLength ∷ WrongEncoding ∷ WrongValue ∷ NoCreation ∷ InconsistentValue ∷ ResourceUnavailable ∷ CommitFailed ∷ UndoFailed ∷ AuthorizationError ∷ NotWritable ∷ InconsistentName ∷ []
+
+-- the error-status of a number, if it is one's
+abbrev pub status_of : ℤ → Option ErrorStatus
+status_of (pos n) = slice_get statuses n
+status_of (negsuc n) = None

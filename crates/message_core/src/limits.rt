@@ -1,6 +1,6 @@
 //! The limits of messages, in octets.
 
-/// The longest datagram that is read, in octets: 2,048.
+/// The longest datagram that is read, and the longest request that is written, in octets: 2,048.
 pub const MAX_REQUEST: usize = 2048;
 
 /// The longest reply that is written, in octets: 1,472, which an Ethernet frame holds beside the

@@ -1,6 +1,7 @@
 //! The error statuses (RFC 3416, section 3).
-ghost use Rattle.std.specs.Prelude.{◌≡◌};
-ghost use Rattle.message_core.specs.Status.{code_of};
+ghost use Rattle.std.specs.Prelude.{◌≡◌, ◌↔◌, Some};
+ghost use Rattle.message_core.specs.Status.{code_of, status_of};
+ghost use Rattle.message_core.specs.declared.status.ErrorStatus.{ErrorStatus};
 
 /// The error-status of a reply (RFC 3416, section 3).
 #[derive(Clone, Copy, Debug, PartialEq, Eq)]
@@ -45,7 +46,42 @@ pub enum ErrorStatus {
     InconsistentName,
 }
 
+// Each error-status at its number.
+const STATUSES: [ErrorStatus; 19] = [
+    ErrorStatus::NoError,
+    ErrorStatus::TooBig,
+    ErrorStatus::NoSuchName,
+    ErrorStatus::BadValue,
+    ErrorStatus::ReadOnly,
+    ErrorStatus::GenErr,
+    ErrorStatus::NoAccess,
+    ErrorStatus::WrongType,
+    ErrorStatus::WrongLength,
+    ErrorStatus::WrongEncoding,
+    ErrorStatus::WrongValue,
+    ErrorStatus::NoCreation,
+    ErrorStatus::InconsistentValue,
+    ErrorStatus::ResourceUnavailable,
+    ErrorStatus::CommitFailed,
+    ErrorStatus::UndoFailed,
+    ErrorStatus::AuthorizationError,
+    ErrorStatus::NotWritable,
+    ErrorStatus::InconsistentName,
+];
+
 impl ErrorStatus {
+    /// The error-status that a number stands for in a message; none where it is not 0 to 18.
+    pub fn from_code(code: i32) -> Option<ErrorStatus>
+        ensures value { result ≡ status_of code }
+        ensures number { (status : ErrorStatus) →
+            (result ≡ Some status) ↔ (code ≡ code_of status) }
+    {
+        match usize::try_from(code) {
+            Ok(index) if index < STATUSES.len() => Some(STATUSES[index]),
+            _ => None,
+        }
+    }
+
     /// The number that stands for it in a message, 0 to 18.
     pub fn code(self) -> i32
         ensures { result ≡ code_of self }

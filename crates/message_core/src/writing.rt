@@ -1,15 +1,15 @@
-//! Writes a reply in its shortest encoding (RFC 3417, section 8; X.690).
-ghost use Rattle.std.specs.Prelude.{◌≡◌, ◌<◌, ◌≤◌, ◌++◌, drop, length, IfOk, OnErr};
+//! Writes a reply or a request in its shortest encoding (RFC 3417, section 8; X.690).
+ghost use Rattle.std.specs.Prelude.{◌≡◌, ◌<◌, ◌≤◌, ◌^◌, ◌++◌, drop, length, IfOk, OnErr};
 ghost use Rattle.std.specs.List.{flat_map};
 ghost use Rattle.ber_core.specs.Encoding.{canon_tlv};
 ghost use Rattle.oid_core.specs.Name.{HasRoot, canon_name};
 ghost use Rattle.message_core.specs.Tags as tags;
 ghost use Rattle.message_core.specs.Encodable.{IsEncodableValue, IsEncodableBinding, AreEncodable};
-ghost use Rattle.message_core.specs.Canon.{canon_name_tlv, canon_value, canon_binding, canon_bindings, canon_tail, canon_body, canon_inside, canon_message, canon_reply, answer_to};
+ghost use Rattle.message_core.specs.Canon.{canon_name_tlv, canon_value, canon_binding, canon_bindings, canon_tail, canon_body, canon_inside, canon_message, canon_reply, canon_request, answer_to};
 ghost use Rattle.ber_core.specs.Writing.{Prepends};
 
 use crate::binding::Binding;
-use crate::limits::MAX_REPLY;
+use crate::limits::{MAX_REPLY, MAX_REQUEST};
 use crate::reply::Reply;
 use crate::request::Request;
 use crate::status::ErrorStatus;
@@ -176,26 +176,28 @@ fn put_message(out: &mut Out<'_>, message: &Message<'_>) -> Result<(), BerFault>
 }
 
 /// Writes a message to the front of the buffer, and answers how long it is. A message that does not
-/// fit changes nothing.
-fn encode(message: &Message<'_>, buffer: &mut [u8; MAX_REPLY]) -> Result<usize, TooBig>
-    requires { AreEncodable message.now.bindings.now }
+/// fit changes nothing there. The room, as long as the buffer, is written on the way.
+fn encode(message: &Message<'_>, room: &mut [u8], buffer: &mut [u8]) -> Result<usize, TooBig>
+    requires names { AreEncodable message.now.bindings.now }
+    requires same_len { length room.old ≡ length buffer.old }
+    requires small { length buffer.old < 2 ^ 32 }
     ensures ok { let m = message.now in IfOk result (λ n.
         buffer.new ≡ canon_message m.community.now m.tag.0
         (canon_body m.id m.first m.second m.bindings.now) ++ drop n buffer.old) }
     ensures len { let m = message.now in IfOk result (λ n.
         (n ≡ length (canon_message m.community.now m.tag.0
-        (canon_body m.id m.first m.second m.bindings.now))) × (n ≤ MAX_REPLY)) }
-    ensures too_big { let m = message.now in OnErr result (MAX_REPLY < length
+        (canon_body m.id m.first m.second m.bindings.now))) × (n ≤ length buffer.old)) }
+    ensures too_big { let m = message.now in OnErr result (length buffer.old < length
         (canon_message m.community.now m.tag.0 (canon_body m.id m.first m.second m.bindings.now))) }
     ensures unchanged { OnErr result (buffer.new ≡ buffer.old) }
 {
-    let mut room = [0u8; MAX_REPLY];
-    let mut out = Out::new(&mut room);
+    let mut out = Out::new(room);
     if put_message(&mut out, message).is_err() {
         return Err(TooBig);
     }
     let len = out.len();
-    buffer[..len].copy_from_slice(&room[MAX_REPLY - len..]);
+    let start = room.len() - len;
+    buffer[..len].copy_from_slice(&room[start..]);
     Ok(len)
 }
 
@@ -223,7 +225,7 @@ pub fn encode_reply(reply: &Reply, buffer: &mut [u8; MAX_REPLY]) -> Result<usize
         community: reply.community.as_slice(),
         bindings: reply.bindings.as_slice(),
     };
-    encode(&message, buffer)
+    encode(&message, &mut [0; MAX_REPLY], buffer)
 }
 
 /// Writes the shortest encoding of the reply to a request that has this status, index and bindings,
@@ -259,5 +261,29 @@ pub fn encode_answer(
         community: request.community.as_slice(),
         bindings,
     };
-    encode(&message, buffer)
+    encode(&message, &mut [0; MAX_REPLY], buffer)
+}
+
+/// Writes the shortest encoding of a request to the front of the buffer, and answers how long it
+/// is, at most `MAX_REQUEST` octets.
+///
+/// What stands behind it stays. `TooBig` exactly where it is longer than `MAX_REQUEST` octets; the
+/// buffer is then as before. Takes no memory. A name that cannot be encoded is the caller's to keep
+/// out (`Binding::is_encodable`).
+pub fn encode_request(request: &Request, buffer: &mut [u8; MAX_REQUEST]) -> Result<usize, TooBig>
+    requires { AreEncodable request.now.bindings }
+    ensures ok { IfOk result (λ n. buffer.new ≡ canon_request request.now ++ drop n buffer.old) }
+    ensures len { IfOk result (λ n. (n ≡ length (canon_request request.now)) × (n ≤ MAX_REQUEST)) }
+    ensures too_big { OnErr result (MAX_REQUEST < length (canon_request request.now)) }
+    ensures unchanged { OnErr result (buffer.new ≡ buffer.old) }
+{
+    let message = Message {
+        tag: Tag(request.kind.tag()),
+        id: request.id,
+        first: request.first,
+        second: request.second,
+        community: request.community.as_slice(),
+        bindings: request.bindings.as_slice(),
+    };
+    encode(&message, &mut [0; MAX_REQUEST], buffer)
 }

@@ -1,4 +1,4 @@
-//! Tests of messages: requests that are read or dropped, and replies, beside those of other
+//! Tests of messages: requests and replies that are read, written or dropped, beside those of other
 //! encoders.
 //!
 //! # Entry points
@@ -15,6 +15,8 @@
 #![tactic(auto)]
 
 #[cfg(test)]
+mod asked;
+#[cfg(test)]
 mod copies;
 #[cfg(test)]
 mod datagrams;
@@ -26,6 +28,8 @@ mod long_datagrams;
 mod replies;
 #[cfg(test)]
 mod requests;
+#[cfg(test)]
+mod responses;
 #[cfg(test)]
 mod support;
 #[cfg(test)]

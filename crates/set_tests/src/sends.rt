@@ -249,6 +249,12 @@ const FORWARDED: &[Row<'static>] = &[
             (OUT_FRAMES_1, Counter(2)),
         ],
     ),
+    Row::Line("tick 300", &[HELLO_TIME; 150]),
+    Row::Next(
+        "no address is learned any more",
+        &[(LEARNED_PORT, Null)],
+        &[(TP_PORT_1, Integer(1))],
+    ),
 ];
 
 #[test]

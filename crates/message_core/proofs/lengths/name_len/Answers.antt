@@ -1,4 +1,4 @@
-use Rattle.std.proofs.Common.{◌≡◌, ◌+◌, ◌*◌, length, get_or, sym, ap, ◌∙◌, arith, rules}
+use Rattle.std.proofs.Common.{◌≡◌, ◌+◌, ◌*◌, length, get_or, ap, arith}
 use Rattle.oid_core.specs.Name.{canon_coded}
 use Rattle.message_core.proofs.Counted.{name_counted}
 use Rattle.message_core.proofs.lengths.name_len.Goals as goal

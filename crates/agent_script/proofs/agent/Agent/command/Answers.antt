@@ -1,20 +1,16 @@
-use Rattle.std.proofs.Common.{ap, option_map}
-use Rattle.agent_script.specs.Events.{System}
+use Rattle.agent_script.proofs.Lines.{under, of_events}
 use Rattle.agent_script.proofs.agent.Agent.command.Goals as goal
 
-pub returns-in_ok-say_ticks-in-Some-Tick-clause-said : goal.returns-in_ok-say_ticks-in-Some-Tick-clause-said
-returns-in_ok-say_ticks-in-Some-Tick-clause-said g c =
-    let s : System = record { objects = c.self.inside.registry; world = c.self.inside.world } in
-    rw (← c.self.view_is, c.in-Some-Tick.is, c.in-Some-Tick.field-0-is)
-    (c.in_ok-say_ticks-in-Some-Tick.ensures.said c.self.inside.is_auditing s)
+pub returns-in-Some-Tick-clause-said : goal.returns-in-Some-Tick-clause-said
+returns-in-Some-Tick-clause-said g c =
+    rw (c.in-Some-Tick.is, c.in-Some-Tick.field-0-is)
+    (under c.ticks.result _ _ (λ said whole p. of_events _ _ c.args.self.now said _ whole p) c.ticks.ensures.said)
 
-pub returns-in_ok-say_ticks-in-Some-Tick-clause-after : goal.returns-in_ok-say_ticks-in-Some-Tick-clause-after
-returns-in_ok-say_ticks-in-Some-Tick-clause-after g c =
-    let s : System = record { objects = c.self.inside.registry; world = c.self.inside.world } in
-    rw (← c.self.view_is, c.in-Some-Tick.is, c.in-Some-Tick.field-0-is)
-    (ap (λ (t : System). record {
-      system = t;
-      is_auditing = c.self.inside.is_auditing;
-      drops = c.self.inside.drops;
-      policy_lines = option_map (λ v. v.items) c.self.inside.policy_lines;
-    }) (c.in_ok-say_ticks-in-Some-Tick.ensures.after s))
+pub returns-in-Some-Link-clause-said : goal.returns-in-Some-Link-clause-said
+returns-in-Some-Link-clause-said g c =
+    rw (c.in-Some-Link.is, c.in-Some-Link.field-0-is)
+    (under c.event.result _ _ (λ said whole p. of_events _ _ c.args.self.now said _ whole p) c.event.ensures.said)
+
+pub returns-in-Some-Request-clause-said : goal.returns-in-Some-Request-clause-said
+returns-in-Some-Request-clause-said g c =
+    rw (c.in-Some-Request.is, c.in-Some-Request.field-0-is) (rw c.deref.ensures.value at c.datagram.ensures.said)

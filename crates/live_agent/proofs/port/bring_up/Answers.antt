@@ -1,0 +1,20 @@
+use Rattle.std.proofs.Common.{◌∙◌, ◌++◌, ◌∷◌, [], ap, refl}
+use Rattle.std.specs.Prelude.{true}
+use Rattle.history_core.specs.declared.event.Event.TheVariants as event
+use Rattle.live_sending.specs.Sending.{fault_in}
+use Rattle.live_agent.specs.declared.trace.Item.{Item}
+use Rattle.live_agent.proofs.Turning.{happening}
+use Rattle.live_agent.proofs.port.bring_up.Goals as goal
+
+pub returns-clause-linked : goal.returns-clause-linked
+returns-clause-linked g c =
+    let s = c.send_ports-sent.ensures in
+    let t = c.link-applied.ensures in
+    record {
+      happening = happening (event.Link c.args.port true) c.link-applied.result c.link-applied.new.buffer (fault_in c.send_ports-sent.result) s.0;
+      happens = record { event_is = refl; place = t.place; told = t.told; sent = s.2 };
+      acts = s.1;
+      items_are = c.push_reserved.ensures.items ∙ ap (λ (x : Item). c.args.desk.now.items.items ++ x ∷ []) c.item_of.ensures;
+      amount_is = t.amount;
+      ends_so = c.end_after_link-ends.ensures;
+    }

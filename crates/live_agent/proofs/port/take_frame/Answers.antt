@@ -1,0 +1,33 @@
+use Rattle.std.proofs.Common.{refl, arith}
+use Rattle.history_core.specs.declared.event.Event.TheVariants as event
+use Rattle.live_sending.specs.Sending.{fault_in}
+use Rattle.live_agent.specs.Lines.{frame_room}
+use Rattle.live_agent.specs.Turns.{was_taken, was_refused}
+use Rattle.live_agent.specs.declared.trace.Refusal.TheVariants as refusal
+use Rattle.live_agent.proofs.Turning.{happening, amount_is}
+use Rattle.live_agent.proofs.port.take_frame.Goals as goal
+
+pub returns-in-Err-clause-turn : goal.returns-in-Err-clause-turn
+returns-in-Err-clause-turn g c = λ a went.
+    record {
+      turn = was_refused (record { room = frame_room; peer = c.args.peer; octets = c.args.octets.now }) (refusal.Frame c.in-Err.fault);
+      is = (refl, c.in-Err.ensures.fault);
+      acts = went;
+      items_are = c.push_reserved.ensures.items;
+      amount_is = omega arith;
+      ends_so = refl;
+    }
+
+pub returns-clause-turn : goal.returns-clause-turn
+returns-clause-turn g c = λ a went.
+    let s = c.send_forwarded-sent.ensures in
+    let t = c.frame-applied.ensures in
+    let f = c.in-Ok.frame in
+    record {
+      turn = was_taken (record { room = frame_room; peer = c.args.peer; octets = c.args.octets.now }) (happening (event.Frame c.args.port f) c.frame-applied.result c.frame-applied.new.buffer (fault_in c.send_forwarded-sent.result) s.0);
+      is = (refl, record { frame = f; reads = c.in-Ok.ensures.found; happens = record { event_is = refl; place = t.place; told = t.told; sent = s.2 } });
+      acts = g.met.W.Wire.goes_on _ _ _ _ _ went s.1;
+      items_are = c.noted.ensures.items;
+      amount_is = amount_is _ _ c.frame-applied.result t.amount;
+      ends_so = c.noted.ensures.ends;
+    }

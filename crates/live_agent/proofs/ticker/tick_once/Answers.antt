@@ -1,0 +1,19 @@
+use Rattle.std.proofs.Common.{refl}
+use Rattle.history_core.specs.declared.event.Event.TheVariants as event
+use Rattle.live_sending.specs.Sending.{fault_in}
+use Rattle.live_agent.specs.Turns.{was_own}
+use Rattle.live_agent.proofs.Turning.{happening, amount_is}
+use Rattle.live_agent.proofs.ticker.tick_once.Goals as goal
+
+pub returns-clause-turn : goal.returns-clause-turn
+returns-clause-turn g c =
+    let s = c.send_ports-sent.ensures in
+    let t = c.tick-applied.ensures in
+    record {
+      turn = was_own (happening event.Tick c.tick-applied.result c.tick-applied.new.buffer (fault_in c.send_ports-sent.result) s.0);
+      is = record { event_is = refl; place = t.place; told = t.told; sent = s.2 };
+      acts = s.1;
+      items_are = c.noted.ensures.items;
+      amount_is = amount_is _ _ c.tick-applied.result t.amount;
+      ends_so = c.noted.ensures.ends;
+    }

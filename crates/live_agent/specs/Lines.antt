@@ -1,0 +1,180 @@
+-- The kinds of lines, by their turns: a worker answers requests, a port takes frames, and the ticker
+-- lets seconds pass.
+use Rattle.std.specs.Prelude.{◌≡◌, ◌⊎◌, ℕ, ◌+◌, Bool, true, List, [], ◌∷◌, ◌++◌, Option, Some, None}
+use Rattle.std.specs.declared.net.socket_addr.SocketAddr.{SocketAddr}
+use Rattle.frame_core.specs.Frames.{IsFrame, IsFault}
+use Rattle.frame_core.specs.declared.frame.FrameIn.{FrameIn}
+use Rattle.frame_core.specs.declared.frame.TheConstants.{MAX_FRAME_LEN}
+use Rattle.frame_core.specs.declared.mac.Mac.{Mac}
+use Rattle.message_core.specs.Message.{IsRequest, IsCause}
+use Rattle.message_core.specs.declared.limits.TheConstants.{MAX_REQUEST}
+use Rattle.message_core.specs.declared.request.Request.{Request}
+use Rattle.wire_core.specs.Acts.{Act}
+use Rattle.wire_core.specs.declared.wire.Packet.{Packet}
+use Rattle.wire_core.specs.declared.wire.WireFault.{WireFault}
+use Rattle.history_core.specs.History.{History}
+use Rattle.history_core.specs.declared.applied.Applied.{Applied}
+use Rattle.history_core.specs.declared.applied.Applied.TheVariants.{Done, Dropped, Short, HistoryFull}
+use Rattle.history_core.specs.declared.event.Event.{Event}
+use Rattle.history_core.specs.declared.event.Event.TheVariants as event
+use Rattle.live_lock.specs.Sharing.{TakesPlace, IsToldOf, entered}
+use Rattle.live_agent.specs.declared.plan.Plan.{Plan}
+use Rattle.live_sending.specs.Packets.{reply_packets, frame_packets, bpdu_packets}
+use Rattle.live_sending.specs.Sending.{IsSending}
+use Rattle.live_agent.specs.Turns.{Arrival, Happening, Turn, nothing_came, ended, broke, was_refused, was_taken, was_own, paused, item_of}
+use Rattle.live_agent.specs.Runs.{HasRun, all_answers}
+use Rattle.live_agent.specs.declared.trace.End.{End}
+use Rattle.live_agent.specs.declared.trace.End.TheVariants as end
+use Rattle.live_agent.specs.declared.trace.Item.{Item}
+use Rattle.live_agent.specs.declared.trace.Refusal.{Refusal}
+use Rattle.live_agent.specs.declared.trace.Refusal.TheVariants as refusal
+
+-- Where a run starts, and where what its ports send goes: the bridge's address, and the ports' peers.
+pub record Setting : Type 0 where
+  pub start : History
+  pub source : Mac
+  pub peers : List SocketAddr
+
+-- the setting of the lines of a plan
+abbrev pub setting_of : History → Plan → Setting
+setting_of start plan =
+    record { start = start; source = plan.source; peers = plan.peers.items }
+
+-- An event took its place in the history, and these packets were sent for it.
+pub record Happens (s : Setting) (e : Event) (packets : List Packet) (h : Happening) : Type 0 where
+  pub event_is : h.event ≡ e
+  pub place : TakesPlace s.start e h.applied h.buffer
+  pub told : IsToldOf e h.applied h.buffer
+  pub sent : IsSending packets h.fault h.acts
+
+-- what the ports send after an event
+abbrev pub ports_packets : Setting → Happening → List Packet
+ports_packets s h = bpdu_packets s.source s.peers h.buffer.bpdus
+
+-- ---- workers
+
+-- A worker lends room for one octet more than a request has at most.
+abbrev pub request_room : ℕ
+request_room = MAX_REQUEST + 1
+
+-- The request of a datagram happened: the reply went to the peer that asked, and then what the ports
+-- send to their peers.
+pub record IsAnswered (s : Setting) (a : Arrival) (h : Happening) : Type 0 where
+  pub request : Request
+  pub reads : IsRequest a.octets request
+  pub happens : Happens s (event.Request request)
+      (reply_packets a.peer h.buffer.reply ++ ports_packets s h) h
+
+abbrev pub IsRefusedRequest : Arrival → Refusal → Type 0
+IsRefusedRequest a (refusal.Datagram cause) = IsCause a.octets cause
+IsRefusedRequest a (refusal.Frame fault) = ⊥
+
+abbrev pub IsWorkerTurn : Setting → Turn → Type 0
+IsWorkerTurn s nothing_came = Unit
+IsWorkerTurn s ended = Unit
+IsWorkerTurn s (broke fault) = Unit
+IsWorkerTurn s (was_refused a cause) = (a.room ≡ request_room) × IsRefusedRequest a cause
+IsWorkerTurn s (was_taken a h) = (a.room ≡ request_room) × IsAnswered s a h
+IsWorkerTurn s (was_own h) = ⊥
+IsWorkerTurn s paused = ⊥
+
+-- ---- ports
+
+-- A port lends room for one octet more than a frame has at most.
+abbrev pub frame_room : ℕ
+frame_room = MAX_FRAME_LEN + 1
+
+-- the ports by which an event's frame goes out, by its receipt
+abbrev pub egress_of : Applied → List ℕ
+egress_of (Done receipt audit) = receipt.egress
+egress_of (Dropped receipt cause audit) = receipt.egress
+egress_of (Short back) = []
+egress_of (HistoryFull back) = []
+
+-- The frame of a datagram happened: its octets went to the peers of the ports that its receipt
+-- names, and then what the ports send to their peers.
+pub record IsForwarded (s : Setting) (port : ℕ) (a : Arrival) (h : Happening) : Type 0 where
+  pub frame : FrameIn
+  pub reads : IsFrame a.octets frame
+  pub happens : Happens s (event.Frame port frame)
+      (frame_packets s.peers (egress_of h.applied) a.octets ++ ports_packets s h) h
+
+abbrev pub IsRefusedFrame : Arrival → Refusal → Type 0
+IsRefusedFrame a (refusal.Datagram cause) = ⊥
+IsRefusedFrame a (refusal.Frame fault) = IsFault a.octets fault
+
+abbrev pub IsPortTurn : Setting → ℕ → Turn → Type 0
+IsPortTurn s port nothing_came = Unit
+IsPortTurn s port ended = Unit
+IsPortTurn s port (broke fault) = Unit
+IsPortTurn s port (was_refused a cause) = (a.room ≡ frame_room) × IsRefusedFrame a cause
+IsPortTurn s port (was_taken a h) = (a.room ≡ frame_room) × IsForwarded s port a h
+IsPortTurn s port (was_own h) = ⊥
+IsPortTurn s port paused = ⊥
+
+-- How the event of a port's link ends the port's line, if it does: also by want of memory.
+abbrev pub end_by_link : Applied → Option End
+end_by_link (Done receipt audit) = None
+end_by_link (Dropped receipt cause audit) = None
+end_by_link (Short back) = Some end.Memory
+end_by_link (HistoryFull back) = Some end.Full
+
+abbrev pub end_after_link : Applied → Option WireFault → Option End
+end_after_link applied (Some fault) = Some (end.Wire fault)
+end_after_link applied None = end_by_link applied
+
+-- The link of a port went up: the first item of its trace.
+pub record HasLinked {W : Type 0} (went : W → List Act → W → Type 0) (s : Setting) (port : ℕ)
+    (a b : W) (items later_items : List Item) (amount later_amount : ℕ) (ends : Option End) :
+    Type 0 where
+  pub happening : Happening
+  pub happens : Happens s (event.Link port true) (ports_packets s happening) happening
+  pub acts : went a happening.acts b
+  pub items_are : later_items ≡ items ++ item_of happening.applied ∷ []
+  pub amount_is : later_amount ≡ amount + entered happening.applied
+  pub ends_so : ends ≡ end_after_link happening.applied happening.fault
+
+-- The link went up, and then the rounds of the port ran.
+pub record HasLinkedAndRun {W : Type 0} (went : W → List Act → W → Type 0) (s : Setting)
+    (port rounds : ℕ) (a b : W) (trace : List Item) (amount later_amount : ℕ) (how : End) :
+    Type 0 where
+  pub between : W
+  pub first_items : List Item
+  pub first_amount : ℕ
+  pub linked : HasLinked went s port a between [] first_items amount first_amount None
+  pub run : HasRun went (IsPortTurn s port) rounds between b first_items trace first_amount
+      later_amount how
+
+-- A whole line of a port: there was no memory for its trace; or its link ended it; or that went up,
+-- and the rounds ran.
+abbrev pub HasPortRun : {W : Type 0} → (W → List Act → W → Type 0) → Setting → ℕ → ℕ → W → W →
+    List Item → ℕ → ℕ → End → Type 0
+HasPortRun went s port rounds a b trace amount later_amount how =
+    ((how ≡ end.Memory) × went a [] b × (trace ≡ []) × (later_amount ≡ amount))
+    ⊎ HasLinked went s port a b [] trace amount later_amount (Some how)
+    ⊎ HasLinkedAndRun went s port rounds a b trace amount later_amount how
+
+-- ---- the ticker
+
+-- A second passed, and what the ports send went to their peers.
+abbrev pub IsSecond : Setting → Turn → Type 0
+IsSecond s nothing_came = ⊥
+IsSecond s ended = ⊥
+IsSecond s (broke fault) = ⊥
+IsSecond s (was_refused a cause) = ⊥
+IsSecond s (was_taken a h) = ⊥
+IsSecond s (was_own h) = Happens s event.Tick (ports_packets s h) h
+IsSecond s paused = ⊥
+
+-- A turn of the ticker: a second passed, or the pace ended.
+abbrev pub IsTickerTurn : Setting → Turn → Type 0
+IsTickerTurn s paused = Unit
+IsTickerTurn s turn = IsSecond s turn
+
+-- Between two states of its wire and its pace a ticker of so many rounds has run: its pace said true
+-- once for each second that passed, and false where it ended.
+pub record HasTicked {W P : Type 0} (went : W → List Act → W → Type 0)
+    (pace_went : P → List Bool → P → Type 0) (s : Setting) (rounds : ℕ) (a b : W) (p q : P)
+    (trace : List Item) (amount later_amount : ℕ) (how : End) : Type 0 where
+  pub run : HasRun went (IsTickerTurn s) rounds a b [] trace amount later_amount how
+  pub answers : pace_went p (all_answers run.turns) q

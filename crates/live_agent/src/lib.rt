@@ -1,0 +1,36 @@
+//! The threads of an agent over one history: workers that answer requests, ports that forward
+//! frames, and a ticker.
+//!
+//! # Entry points
+//! [`worker_run`], [`port_run`], [`port_lap`] and [`ticker_run`] are each one thread's loop, lent
+//! the history, its share and its line; what they have in common is a [`Plan`]. Each gives a
+//! [`Ran`]: how it ended, and a trace of what became of each event and each refused datagram. A
+//! [`Gate`] is told of each request.
+//!
+//! # Definitions
+//! `specs/Turns.antt`, `specs/Runs.antt`: the turns of a line, and its loop; `specs/Lines.antt`:
+//! which turns are a worker's, a port's and the ticker's.
+//!
+//! # Laws
+//! On each loop, over its own line alone: each datagram has one item, in order; what was entered is
+//! the event of its datagram, at its place in the history; what was sent is its reply, its frame
+//! and the ports' BPDUs, and nothing else.
+//!
+//! # Not claimed
+//! That a wait ends, and which thread comes first; what a wire that does not tell its acts did.
+#![tactic(auto)]
+
+mod gate;
+mod outgoing;
+mod plan;
+mod port;
+mod ticker;
+mod trace;
+mod worker;
+
+pub use gate::{Gate, OpenGate};
+pub use plan::Plan;
+pub use port::{port_lap, port_run};
+pub use ticker::ticker_run;
+pub use trace::{End, Item, Ran, Refusal, Trace};
+pub use worker::worker_run;

@@ -1,0 +1,210 @@
+//! A port: it takes frames, has them happen, and sends them on by the other ports.
+ghost use Rattle.std.specs.Prelude.{◌≡◌, ◌+◌, ◌<◌, ◌++◌, ◌∷◌, [], vec_len, vec_capacity};
+ghost use Rattle.frame_core.specs.Frames.{IsFrame};
+ghost use Rattle.history_core.specs.declared.event.Event.TheVariants as event;
+ghost use Rattle.wire_core.specs.Acts.{got};
+ghost use Rattle.live_agent.specs.Lines.{setting_of, IsPortTurn, HasLinked, HasPortRun, end_after_link, frame_room};
+ghost use Rattle.live_agent.specs.Runs.{HasTurned, HasRun};
+ghost use Rattle.live_sending.specs.Sending.{fault_in};
+
+use crate::outgoing::{send_forwarded, send_ports};
+use crate::plan::Plan;
+use crate::trace::{Desk, End, Item, Ran, Refusal, item_of, noted};
+use frame_core::{MAX_FRAME_LEN, read_frame};
+use history_core::Applied;
+use live_lock::{Live, Run};
+use setphase_core::MibObject;
+use std::net::SocketAddr;
+use std::sync::Wait;
+use std::sync::ledger::Share;
+use wire_core::{Received, Wire, WireFault};
+
+// The room that is lent for a frame: one octet more than it has at most, so that a longer one is
+// seen.
+const FRAME_ROOM: usize = MAX_FRAME_LEN + 1;
+
+/// A port's line: first its link goes up, and where that finds no memory the line ends; then one lap,
+/// as [`port_lap`].
+pub fn port_run<O: MibObject, L: Run, W: Wire, R: Wait>(
+    rt: &R,
+    plan: &Plan,
+    live: &Live<O, L>,
+    share: &mut Share<L>,
+    wire: &mut W,
+    port: u16,
+) -> Ran
+    requires { 0 < share.old.parts }
+    ensures run { HasPortRun W.went (setting_of L.start plan.now) port plan.now.rounds wire.old
+        wire.new result.trace share.old.amount share.new.amount result.end }
+    ensures parts { share.new.parts ≡ share.old.parts }
+{
+    let mut desk = Desk::new(plan.alloc);
+    if desk.items.reserve(1).is_err() {
+        return desk.left(End::Memory);
+    }
+    if let Some(end) = bring_up(rt, plan, live, share, wire, port, &mut desk) {
+        return desk.left(end);
+    }
+    let end = go_round(rt, plan, live, share, wire, port, &mut desk);
+    desk.left(end)
+}
+
+// The link of a port goes up, with room in its trace.
+fn bring_up<O: MibObject, L: Run, W: Wire, R: Wait>(
+    rt: &R,
+    plan: &Plan,
+    live: &Live<O, L>,
+    share: &mut Share<L>,
+    wire: &mut W,
+    port: u16,
+    desk: &mut Desk,
+) -> Option<End>
+    requires part { 0 < share.old.parts }
+    requires room { vec_len desk.old.items < vec_capacity desk.old.items }
+    ensures linked { HasLinked W.went (setting_of L.start plan.now) port wire.old wire.new
+        desk.old.items.items desk.new.items.items share.old.amount share.new.amount result }
+    ensures parts { share.new.parts ≡ share.old.parts }
+{
+    let applied = live.link(rt, plan.alloc, share, port, true, &mut desk.buffer);
+    let sent = send_ports(wire, plan, &desk.buffer);
+    let ends = end_after_link(&applied, sent);
+    desk.items.push_reserved(item_of(applied));
+    ends
+}
+
+// How the event of a port's link ends the port's line, if it does.
+fn end_after_link(applied: &Applied, sent: Result<(), WireFault>) -> Option<End>
+    ensures { result ≡ end_after_link applied.now (fault_in sent) }
+{
+    match sent {
+        Err(fault) => Some(End::Wire(fault)),
+        Ok(()) => match applied {
+            Applied::Short(_) => Some(End::Memory),
+            Applied::HistoryFull(_) => Some(End::Full),
+            _ => None,
+        },
+    }
+}
+
+/// One lap of a port: so many receives, or until its wire is closed or fails, no number is left for
+/// an entry, or there is no memory for its trace. Each datagram that is a frame has it come in by
+/// the port; its octets go to the peers of the ports by which it goes out, and then what the ports
+/// send to their peers.
+pub fn port_lap<O: MibObject, L: Run, W: Wire, R: Wait>(
+    rt: &R,
+    plan: &Plan,
+    live: &Live<O, L>,
+    share: &mut Share<L>,
+    wire: &mut W,
+    port: u16,
+) -> Ran
+    requires { 0 < share.old.parts }
+    ensures run { HasRun W.went
+        (IsPortTurn (setting_of L.start plan.now) port)
+        plan.now.rounds wire.old wire.new [] result.trace share.old.amount share.new.amount
+        result.end }
+    ensures parts { share.new.parts ≡ share.old.parts }
+{
+    let mut desk = Desk::new(plan.alloc);
+    let end = go_round(rt, plan, live, share, wire, port, &mut desk);
+    desk.left(end)
+}
+
+// The rounds of a port, behind what is in its trace.
+fn go_round<O: MibObject, L: Run, W: Wire, R: Wait>(
+    rt: &R,
+    plan: &Plan,
+    live: &Live<O, L>,
+    share: &mut Share<L>,
+    wire: &mut W,
+    port: u16,
+    desk: &mut Desk,
+) -> End
+    requires { 0 < share.old.parts }
+    ensures run { HasRun W.went
+        (IsPortTurn (setting_of L.start plan.now) port)
+        plan.now.rounds wire.old wire.new desk.old.items.items desk.new.items.items
+        share.old.amount share.new.amount result }
+    ensures parts { share.new.parts ≡ share.old.parts }
+{
+    for _i in 0..plan.rounds {
+        if desk.items.reserve(1).is_err() {
+            return End::Memory;
+        }
+        if let Some(end) = port_turn(rt, plan, live, share, wire, port, desk) {
+            return end;
+        }
+    }
+    End::Rounds
+}
+
+// One turn of a port, with room in its trace.
+fn port_turn<O: MibObject, L: Run, W: Wire, R: Wait>(
+    rt: &R,
+    plan: &Plan,
+    live: &Live<O, L>,
+    share: &mut Share<L>,
+    wire: &mut W,
+    port: u16,
+    desk: &mut Desk,
+) -> Option<End>
+    requires part { 0 < share.old.parts }
+    requires room { vec_len desk.old.items < vec_capacity desk.old.items }
+    ensures turn { HasTurned W.went
+        (IsPortTurn (setting_of L.start plan.now) port)
+        wire.old wire.new desk.old.items.items desk.new.items.items
+        share.old.amount share.new.amount result }
+    ensures parts { share.new.parts ≡ share.old.parts }
+{
+    let mut octets = [0u8; FRAME_ROOM];
+    match wire.receive(&mut octets) {
+        Err(fault) => Some(End::Wire(fault)),
+        Ok(Received::Nothing) => None,
+        Ok(Received::Closed) => Some(End::Closed),
+        Ok(Received::Datagram(len, peer)) => {
+            take_frame(
+                rt,
+                plan,
+                live,
+                share,
+                wire,
+                port,
+                desk,
+                peer,
+                &octets[..len],
+            )
+        }
+    }
+}
+
+// A datagram came to a port, with room in its trace.
+fn take_frame<O: MibObject, L: Run, W: Wire, R: Wait>(
+    rt: &R,
+    plan: &Plan,
+    live: &Live<O, L>,
+    share: &mut Share<L>,
+    wire: &mut W,
+    port: u16,
+    desk: &mut Desk,
+    peer: SocketAddr,
+    octets: &[u8],
+) -> Option<End>
+    requires part { 0 < share.old.parts }
+    requires room { vec_len desk.old.items < vec_capacity desk.old.items }
+    ensures turn { (a : W) → W.went a (got frame_room peer octets.now ∷ []) wire.old →
+        HasTurned W.went (IsPortTurn (setting_of L.start plan.now) port) a wire.new
+        desk.old.items.items desk.new.items.items share.old.amount share.new.amount result }
+    ensures parts { share.new.parts ≡ share.old.parts }
+{
+    let frame = match read_frame(octets) {
+        Ok(frame) => frame,
+        Err(fault) => {
+            desk.items
+                .push_reserved(Item::Refused(Refusal::Frame(fault)));
+            return None;
+        }
+    };
+    let applied = live.frame(rt, plan.alloc, share, port, frame, &mut desk.buffer);
+    let sent = send_forwarded(wire, plan, &applied, octets, &desk.buffer);
+    noted(&mut desk.items, applied, sent)
+}

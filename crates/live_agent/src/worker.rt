@@ -1,0 +1,144 @@
+//! A worker: it receives requests, has them happen, and replies.
+ghost use Rattle.std.specs.Prelude.{◌≡◌, ◌+◌, ◌<◌, ◌++◌, ◌∷◌, [], vec_len, vec_capacity};
+ghost use Rattle.message_core.specs.Encodable.{AreEncodable};
+ghost use Rattle.message_core.specs.Message.{IsRequest};
+ghost use Rattle.history_core.specs.declared.event.Event.TheVariants as event;
+ghost use Rattle.wire_core.specs.Acts.{got};
+ghost use Rattle.live_agent.specs.Lines.{setting_of, IsWorkerTurn, Happens, request_room};
+ghost use Rattle.live_agent.specs.Runs.{HasTurned, HasRun};
+ghost use Rattle.live_agent.specs.Turns.{entered_in};
+
+use crate::gate::Gate;
+use crate::outgoing::send_answer;
+use crate::plan::Plan;
+use crate::trace::{Desk, End, Item, Ran, Refusal, noted};
+use history_core::Applied;
+use live_lock::{Live, Run};
+use message_core::{MAX_REQUEST, Request, decode};
+use setphase_core::MibObject;
+use std::net::SocketAddr;
+use std::sync::Wait;
+use std::sync::ledger::Share;
+use wire_core::{Received, Wire};
+
+// The room that is lent for a request: one octet more than it has at most, so that a longer one is
+// seen.
+const REQUEST_ROOM: usize = MAX_REQUEST + 1;
+
+/// One lap of a worker: so many receives, or until its wire is closed or fails, no number is left
+/// for an entry, or there is no memory for its trace. Each datagram that holds a request has it
+/// happen; its reply goes to the peer that asked, and then what the ports send to their peers.
+pub fn worker_run<O: MibObject, L: Run, W: Wire, G: Gate, R: Wait>(
+    rt: &R,
+    plan: &Plan,
+    live: &Live<O, L>,
+    share: &mut Share<L>,
+    wire: &mut W,
+    gate: &G,
+    worker: usize,
+) -> Ran
+    requires { 0 < share.old.parts }
+    ensures run { HasRun W.went
+        (IsWorkerTurn (setting_of L.start plan.now))
+        plan.now.rounds wire.old wire.new [] result.trace share.old.amount share.new.amount
+        result.end }
+    ensures parts { share.new.parts ≡ share.old.parts }
+{
+    let mut desk = Desk::new(plan.alloc);
+    for _i in 0..plan.rounds {
+        if desk.items.reserve(1).is_err() {
+            return desk.left(End::Memory);
+        }
+        if let Some(end) = worker_turn(rt, plan, live, share, wire, gate, worker, &mut desk) {
+            return desk.left(end);
+        }
+    }
+    desk.left(End::Rounds)
+}
+
+// One turn of a worker, with room in its trace.
+fn worker_turn<O: MibObject, L: Run, W: Wire, G: Gate, R: Wait>(
+    rt: &R,
+    plan: &Plan,
+    live: &Live<O, L>,
+    share: &mut Share<L>,
+    wire: &mut W,
+    gate: &G,
+    worker: usize,
+    desk: &mut Desk,
+) -> Option<End>
+    requires part { 0 < share.old.parts }
+    requires room { vec_len desk.old.items < vec_capacity desk.old.items }
+    ensures turn { HasTurned W.went
+        (IsWorkerTurn (setting_of L.start plan.now))
+        wire.old wire.new desk.old.items.items desk.new.items.items
+        share.old.amount share.new.amount result }
+    ensures parts { share.new.parts ≡ share.old.parts }
+{
+    let mut octets = [0u8; REQUEST_ROOM];
+    match wire.receive(&mut octets) {
+        Err(fault) => Some(End::Wire(fault)),
+        Ok(Received::Nothing) => None,
+        Ok(Received::Closed) => Some(End::Closed),
+        Ok(Received::Datagram(len, peer)) => {
+            take_datagram(
+                rt,
+                plan,
+                live,
+                share,
+                wire,
+                gate,
+                worker,
+                desk,
+                peer,
+                &octets[..len],
+            )
+        }
+    }
+}
+
+// A datagram came, with room in the trace.
+fn take_datagram<O: MibObject, L: Run, W: Wire, G: Gate, R: Wait>(
+    rt: &R,
+    plan: &Plan,
+    live: &Live<O, L>,
+    share: &mut Share<L>,
+    wire: &mut W,
+    gate: &G,
+    worker: usize,
+    desk: &mut Desk,
+    peer: SocketAddr,
+    octets: &[u8],
+) -> Option<End>
+    requires part { 0 < share.old.parts }
+    requires room { vec_len desk.old.items < vec_capacity desk.old.items }
+    ensures turn { (a : W) → W.went a (got request_room peer octets.now ∷ []) wire.old →
+        HasTurned W.went
+        (IsWorkerTurn (setting_of L.start plan.now))
+        a wire.new desk.old.items.items desk.new.items.items
+        share.old.amount share.new.amount result }
+    ensures parts { share.new.parts ≡ share.old.parts }
+{
+    let request = match decode(plan.alloc, octets) {
+        Ok(request) => request,
+        Err(cause) => {
+            desk.items
+                .push_reserved(Item::Refused(Refusal::Datagram(cause)));
+            return None;
+        }
+    };
+    gate.before(rt, worker);
+    let applied = live.request(rt, plan.alloc, share, request, &mut desk.buffer);
+    let sent = send_answer(wire, plan, peer, &desk.buffer);
+    tell(gate, rt, worker, &applied);
+    noted(&mut desk.items, applied, sent)
+}
+
+// Tells the gate of a request that made an entry.
+fn tell<G: Gate, R: Wait>(gate: &G, rt: &R, worker: usize, applied: &Applied) {
+    match applied {
+        Applied::Done(receipt, _) => gate.after(rt, worker, receipt.number),
+        Applied::Dropped(receipt, _, _) => gate.after(rt, worker, receipt.number),
+        Applied::Short(_) | Applied::HistoryFull(_) => {}
+    }
+}

@@ -1,0 +1,89 @@
+-- An event keeps what is known of a shared history, and tells what its answer says.
+use Rattle.std.proofs.Common.{◌≡◌, ◌∙◌, ℕ, ◌+◌, Bool, true, false, [], ◌∷◌, ◌++◌, length, Option, Some, ap, refl, sym, subst, arith, length-append, append_assoc, append-nil}
+use Rattle.std.specs.Prelude.{◌==◌, if◌then◌else◌, unwrap_or}
+use Rattle.std.proofs.lemmas.Bool.Decides.{nat_tests}
+use Rattle.audit_core.specs.declared.audit.Audit.{Audit}
+use Rattle.decision.specs.declared.choice.Cause.{Cause}
+use Rattle.setphase_core.specs.declared.world.World.{World}
+use Rattle.agent_core.specs.Buffered.{Buffered}
+use Rattle.history_core.specs.Steps.{Notes, cause_of}
+use Rattle.history_core.specs.History.{History, next_of, rebased, next_entry, with_entry, IsEntered, Applies}
+use Rattle.history_core.specs.declared.applied.Applied.{Applied}
+use Rattle.history_core.specs.declared.applied.Applied.TheVariants.{Done, Dropped, Short, HistoryFull}
+use Rattle.history_core.specs.declared.event.Event.{Event}
+use Rattle.history_core.specs.declared.event.Event.TheVariants as event
+use Rattle.history_core.specs.declared.limits.TheConstants.{MAX_ENTRIES}
+use Rattle.history_core.specs.declared.receipt.Receipt.{Receipt}
+use Rattle.live_lock.specs.Sharing.{IsHeld, entered, IsDroppable, IsToldOf}
+
+after-held_by : (start h : History) (n : ℕ) (e : Event) (notes : Notes) (b : Bool) → (length h.entries == MAX_ENTRIES) ≡ b → IsHeld start h n
+    → IsHeld start (with_entry (if b then rebased h else h) e notes) (n + 1)
+after-held_by start h n e notes true test held =
+    let full : length h.entries ≡ MAX_ENTRIES = grind (arith, nat_tests) in
+    let count = held.counted in
+    let o = held.onward in
+    record {
+      counted = omega arith;
+      first = held.first;
+      onward = omega arith;
+      continues = λ same. absurd (omega arith);
+    }
+after-held_by start h n e notes false test held =
+    record {
+      counted = omega (arith, held.counted, length-append h.entries (next_entry h e notes ∷ []));
+      first = held.first;
+      onward = held.onward;
+      continues = λ same.
+          let c = held.continues same in (
+            c.0,
+            (c.1.0 ++ next_entry h e notes ∷ [], ap (λ es. es ++ next_entry h e notes ∷ []) c.1.1 ∙ append_assoc start.entries c.1.0 (next_entry h e notes ∷ [])),
+          );
+    }
+
+entered-held : (start h later : History) (n m : ℕ) (e : Event) (r : Receipt) (audit : Option Audit) (b : Buffered)
+    → IsHeld start h n → IsEntered h e r audit later b → m ≡ n + 1 → IsHeld start later m
+entered-held start h later n m e r audit b held did count =
+    subst (λ (k : ℕ). IsHeld start later k) (sym count)
+    (subst (λ (x : History). IsHeld start x (n + 1)) (sym did.after_is) (after-held_by start h n e did.notes (length h.entries == MAX_ENTRIES) refl held))
+
+same-held : (start h later : History) (n m : ℕ) → IsHeld start h n → later ≡ h → m ≡ n + 0 → IsHeld start later m
+same-held start h later n m held same count =
+    let is : m ≡ n = omega arith in
+    subst (λ (k : ℕ). IsHeld start later k) (sym is) (subst (λ (x : History). IsHeld start x n) (sym same) held)
+
+-- an event, whatever became of it
+pub applied-held : (start h later : History) (n m : ℕ) (e : Event) (a : Applied) (b : Buffered)
+    → IsHeld start h n → Applies h e a later b → m ≡ n + entered a → IsHeld start later m
+applied-held start h later n m e (Done r audit) b held did count = entered-held start h later n m e r audit b held did.2 count
+applied-held start h later n m e (Dropped r cause audit) b held did count = entered-held start h later n m e r (Some audit) b held did.2 count
+applied-held start h later n m e (Short back) b held did count = same-held start h later n m held did.3 count
+applied-held start h later n m e (HistoryFull back) b held did count = same-held start h later n m held did.2 count
+
+droppable : (w : World) (e : Event) (cause : Cause) → cause_of w e ≡ Some cause → IsDroppable e
+droppable w (event.Frame port frame) cause is = cc
+droppable w event.Tick cause is = cc
+droppable w (event.Link port up) cause is = cc
+droppable w (event.Policy tables) cause is = cc
+droppable w (event.Request request) cause is = tt
+
+entered-reply : (h later : History) (e : Event) (r : Receipt) (audit : Option Audit) (b : Buffered) → IsEntered h e r audit later b → b.reply ≡ unwrap_or r.reply []
+entered-reply h later e r audit b did = did.reply_is ∙ ap (λ (x : Receipt). unwrap_or x.reply []) (sym did.receipt_is)
+
+pub applied-told : (h later : History) (e : Event) (a : Applied) (b : Buffered) → Applies h e a later b → IsToldOf e a b
+applied-told h later e (Done r audit) b did = (ap (λ (x : Receipt). x.event) did.2.receipt_is, entered-reply h later e r audit b did.2)
+applied-told h later e (Dropped r cause audit) b did =
+    (droppable h.world e cause did.1, ap (λ (x : Receipt). x.event) did.2.receipt_is, entered-reply h later e r (Some audit) b did.2)
+applied-told h later e (Short back) b did = (did.2, did.5)
+applied-told h later e (HistoryFull back) b did = (did.1, did.3, did.4)
+
+-- what is put under the lock goes on from itself by nothing
+pub start-held : (start h : History) (n : ℕ) → h ≡ start → n ≡ 0 → IsHeld start h n
+start-held start h n same none =
+    let number : next_of h ≡ next_of start = ap next_of same in
+    let base : h.base_number ≡ start.base_number = ap (λ (x : History). x.base_number) same in
+    record {
+      counted = omega arith;
+      first = ap (λ (x : History). x.first) same;
+      onward = omega arith;
+      continues = λ still. (ap (λ (x : History). x.base) same, ([], ap (λ (x : History). x.entries) same ∙ sym (append-nil start.entries)));
+    }

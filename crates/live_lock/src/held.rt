@@ -1,0 +1,124 @@
+//! What lies under the lock: the history, and the book of what was entered since the start.
+ghost use Rattle.std.specs.Prelude.{◌≡◌, ◌+◌, ◌<◌};
+ghost use Rattle.history_core.specs.History.{IsHistory};
+ghost use Rattle.history_core.specs.Steps.{IsEncodable};
+ghost use Rattle.live_lock.specs.Sharing.{entered, IsHeld, TakesPlace, IsToldOf};
+ghost use Rattle.live_lock.specs.Counting.{IsCounted};
+
+use crate::run::Run;
+use agent_core::Buffer;
+use history_core::{Applied, Event, Kept};
+use setphase_core::MibObject;
+use std::alloc::Global;
+use std::marker::Model;
+use std::sync::ledger::{Blank, Book, Share};
+
+/// How far a history is past its start.
+#[derive(Clone, Copy, Debug, PartialEq, Eq, Drop)]
+pub struct Counts {
+    /// The entries that were made since the start.
+    pub entries: u64,
+    /// The entries by which the base has moved since the start.
+    pub older: u64,
+}
+
+/// A history and the book of what was entered since the start, seen as the history and the count.
+#[derive(Drop)]
+pub struct Held<O: MibObject, L: Run> {
+    kept: Kept<O>,
+    next_at_start: u64,
+    base_at_start: u64,
+    book: Book<L>,
+}
+
+impl<O: MibObject, L: Run> Model for Held<O, L> {
+    ghost use Rattle.std.specs.Prelude.{◌≡◌, ℕ};
+    ghost use Rattle.history_core.specs.History.{History, next_of};
+    ghost use Rattle.live_lock.specs.Sharing.{IsHeld};
+
+    ghost Value = { History × ℕ };
+
+    ghost view = { λ h. (h.kept, h.book.total) };
+
+    ghost invariant = { λ h. IsHeld L.start h.kept h.book.total
+        × (h.next_at_start ≡ next_of L.start)
+        × (h.base_at_start ≡ L.start.base_number) };
+}
+
+impl<O: MibObject, L: Run> Held<O, L> {
+    /// A history at its start, in which nothing is entered yet, and the share with all parts.
+    pub fn new(kept: Kept<O>, blank: Blank) -> (Held<O, L>, Share<L>)
+        requires name { blank.name ≡ L.name }
+        requires parts { blank.parts ≡ L.parts }
+        requires start { kept ≡ L.start }
+        ensures parts { result.1.parts ≡ L.parts }
+        ensures amount { result.1.amount ≡ 0 }
+    {
+        let (book, share) = blank.open::<L>();
+        let next_at_start = kept.next_number();
+        let base_at_start = kept.base_number();
+        let held = Held {
+            kept,
+            next_at_start,
+            base_at_start,
+            book,
+        };
+        (held, share)
+    }
+
+    /// One event happens, and its entry is counted.
+    pub fn apply(
+        &mut self,
+        alloc: Global,
+        share: &mut Share<L>,
+        event: Event,
+        buffer: &mut Buffer,
+    ) -> Applied
+        requires part { 0 < share.old.parts }
+        requires encodable { IsEncodable event }
+        ensures place { TakesPlace L.start event result buffer.new }
+        ensures told { IsToldOf event result buffer.new }
+        ensures amount { share.new.amount ≡ share.old.amount + entered result }
+        ensures parts { share.new.parts ≡ share.old.parts }
+    {
+        let Held { kept, book, .. } = self;
+        kept.legal();
+        let applied = kept.apply(alloc, event, buffer);
+        book.add(share, entries_of(&applied));
+        applied
+    }
+
+    /// How far the history is past its start.
+    pub fn counts(&self) -> Counts
+        ensures { IsCounted L.start result }
+    {
+        self.kept.legal();
+        Counts {
+            entries: self.kept.next_number() - self.next_at_start,
+            older: self.kept.base_number() - self.base_at_start,
+        }
+    }
+
+    /// The history, which went on from the start by as many entries as the share of all parts counts.
+    pub fn into_kept(self, share: Share<L>) -> Kept<O>
+        requires { share.parts ≡ L.parts }
+        ensures held { IsHeld L.start result share.amount }
+        ensures legal { IsHistory result }
+    {
+        let mut share = share;
+        let Held { kept, mut book, .. } = self;
+        book.audit(&mut share);
+        kept.legal();
+        kept
+    }
+}
+
+// How many entries an event made.
+fn entries_of(applied: &Applied) -> u64
+    ensures { result ≡ entered applied.now }
+{
+    match applied {
+        Applied::Done(..) | Applied::Dropped(..) => 1,
+        Applied::Short(_) | Applied::HistoryFull(_) => 0,
+    }
+}

@@ -1,0 +1,177 @@
+//! A history under a lock, and the events that any thread has happen in it.
+ghost use Rattle.std.specs.Prelude.{◌≡◌, ◌+◌, ◌<◌};
+ghost use Rattle.message_core.specs.Encodable.{AreEncodable};
+ghost use Rattle.history_core.specs.History.{IsHistory};
+ghost use Rattle.history_core.specs.Steps.{IsEncodable};
+ghost use Rattle.history_core.specs.declared.event.Event.TheVariants as event;
+ghost use Rattle.live_lock.specs.Counting.{IsCounted};
+ghost use Rattle.live_lock.specs.Sharing.{entered, IsHeld, TakesPlace, IsToldOf};
+
+use crate::held::{Counts, Held};
+use crate::run::Run;
+use agent_core::Buffer;
+use community_core::Policy;
+use frame_core::FrameIn;
+use history_core::{Applied, Event, Kept};
+use message_core::Request;
+use setphase_core::MibObject;
+use std::alloc::Global;
+use std::sync::ledger::{Blank, Share};
+use std::sync::{Mutex, Wait};
+
+/// A history under one lock. Each call of an event holds the lock once: the event takes its place in
+/// the history, and by shared reference any number of threads may call. Whenever the lock is free
+/// the history is legal, and no object has anything reserved.
+#[derive(Drop)]
+pub struct Live<O: MibObject, L: Run> {
+    held: Mutex<Held<O, L>>,
+}
+
+impl<O: MibObject, L: Run> Live<O, L> {
+    /// Puts a history under a lock. The share is that of one thread, and has all parts: threads get
+    /// theirs by `split_off` with no amount.
+    pub fn new(kept: Kept<O>, blank: Blank) -> (Live<O, L>, Share<L>)
+        requires name { blank.name ≡ L.name }
+        requires parts { blank.parts ≡ L.parts }
+        requires start { kept ≡ L.start }
+        ensures parts { result.1.parts ≡ L.parts }
+        ensures amount { result.1.amount ≡ 0 }
+    {
+        let (held, share) = Held::new(kept, blank);
+        let live = Live {
+            held: Mutex::new(held),
+        };
+        (live, share)
+    }
+
+    /// A frame comes in by a port (IEEE 802.1D-2004, 7.1). The buffer holds what the ports send.
+    pub fn frame<R: Wait>(
+        &self,
+        rt: &R,
+        alloc: Global,
+        share: &mut Share<L>,
+        port: u16,
+        frame: FrameIn,
+        buffer: &mut Buffer,
+    ) -> Applied
+        requires { 0 < share.old.parts }
+        ensures place { TakesPlace L.start (event.Frame port frame) result buffer.new }
+        ensures told { IsToldOf (event.Frame port frame) result buffer.new }
+        ensures amount { share.new.amount ≡ share.old.amount + entered result }
+        ensures parts { share.new.parts ≡ share.old.parts }
+    {
+        self.apply(rt, alloc, share, Event::Frame { port, frame }, buffer)
+    }
+
+    /// A second passes. The buffer holds what the ports send.
+    pub fn tick<R: Wait>(
+        &self,
+        rt: &R,
+        alloc: Global,
+        share: &mut Share<L>,
+        buffer: &mut Buffer,
+    ) -> Applied
+        requires { 0 < share.old.parts }
+        ensures place { TakesPlace L.start event.Tick result buffer.new }
+        ensures told { IsToldOf event.Tick result buffer.new }
+        ensures amount { share.new.amount ≡ share.old.amount + entered result }
+        ensures parts { share.new.parts ≡ share.old.parts }
+    {
+        self.apply(rt, alloc, share, Event::Tick, buffer)
+    }
+
+    /// The link of a port goes up, or down. The buffer holds what the ports send.
+    pub fn link<R: Wait>(
+        &self,
+        rt: &R,
+        alloc: Global,
+        share: &mut Share<L>,
+        port: u16,
+        up: bool,
+        buffer: &mut Buffer,
+    ) -> Applied
+        requires { 0 < share.old.parts }
+        ensures place { TakesPlace L.start (event.Link port up) result buffer.new }
+        ensures told { IsToldOf (event.Link port up) result buffer.new }
+        ensures amount { share.new.amount ≡ share.old.amount + entered result }
+        ensures parts { share.new.parts ≡ share.old.parts }
+    {
+        self.apply(rt, alloc, share, Event::Link { port, up }, buffer)
+    }
+
+    /// A policy comes into force in place of the one that was there.
+    pub fn policy<R: Wait>(
+        &self,
+        rt: &R,
+        alloc: Global,
+        share: &mut Share<L>,
+        policy: Policy,
+        buffer: &mut Buffer,
+    ) -> Applied
+        requires { 0 < share.old.parts }
+        ensures place { TakesPlace L.start (event.Policy policy) result buffer.new }
+        ensures told { IsToldOf (event.Policy policy) result buffer.new }
+        ensures amount { share.new.amount ≡ share.old.amount + entered result }
+        ensures parts { share.new.parts ≡ share.old.parts }
+    {
+        self.apply(rt, alloc, share, Event::Policy(policy), buffer)
+    }
+
+    /// A request comes (RFC 3416, 4.2). The buffer holds its reply, and what the ports send after a
+    /// Set. The caller hands in requests whose names and OBJECT IDENTIFIER values have an encoding,
+    /// as `decode` gives them.
+    pub fn request<R: Wait>(
+        &self,
+        rt: &R,
+        alloc: Global,
+        share: &mut Share<L>,
+        request: Request,
+        buffer: &mut Buffer,
+    ) -> Applied
+        requires part { 0 < share.old.parts }
+        requires encodable { AreEncodable request.bindings }
+        ensures place { TakesPlace L.start (event.Request request) result buffer.new }
+        ensures told { IsToldOf (event.Request request) result buffer.new }
+        ensures amount { share.new.amount ≡ share.old.amount + entered result }
+        ensures parts { share.new.parts ≡ share.old.parts }
+    {
+        self.apply(rt, alloc, share, Event::Request(request), buffer)
+    }
+
+    // One event takes its place, under the lock.
+    fn apply<R: Wait>(
+        &self,
+        rt: &R,
+        alloc: Global,
+        share: &mut Share<L>,
+        event: Event,
+        buffer: &mut Buffer,
+    ) -> Applied
+        requires part { 0 < share.old.parts }
+        requires encodable { IsEncodable event }
+        ensures place { TakesPlace L.start event result buffer.new }
+        ensures told { IsToldOf event result buffer.new }
+        ensures amount { share.new.amount ≡ share.old.amount + entered result }
+        ensures parts { share.new.parts ≡ share.old.parts }
+    {
+        self.held.lock(rt).apply(alloc, share, event, buffer)
+    }
+
+    /// How far the history is past its start, at the time of the call.
+    pub fn counts<R: Wait>(&self, rt: &R) -> Counts
+        ensures { IsCounted L.start result }
+    {
+        self.held.lock(rt).counts()
+    }
+
+    /// Takes the history out, which went on from its start by as many entries as the share of all
+    /// parts counts.
+    pub fn close(self, share: Share<L>) -> Kept<O>
+        requires { share.parts ≡ L.parts }
+        ensures held { IsHeld L.start result share.amount }
+        ensures legal { IsHistory result }
+    {
+        let Live { held } = self;
+        held.into_inner().into_kept(share)
+    }
+}

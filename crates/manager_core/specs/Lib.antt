@@ -1,0 +1,6 @@
+pub mod Replies
+pub mod Asks
+pub mod Walks
+pub mod Lines
+pub mod Runs
+pub mod Words

@@ -1,0 +1,11 @@
+//! Tests of asks and walks over a wire in memory, and of the program that does them.
+#![tactic(auto)]
+
+#[cfg(test)]
+mod asks;
+#[cfg(test)]
+mod datagrams;
+#[cfg(test)]
+mod programs;
+#[cfg(test)]
+mod walks;

@@ -1,0 +1,34 @@
+//! What datagrams come and go over, and what paces a clock's ticks: in memory, over UDP, and
+//! failing on purpose.
+//!
+//! # Entry points
+//! [`Wire`] gives datagrams and sends some: [`MemoryWire`] gives what it was handed, [`UdpWire`]
+//! what comes to a bound socket, [`FailingWire`] fails at one call and else hands on. [`Pace`] says
+//! how long ticks go on: [`CountPace`] so many times, [`SecondPace`] each second.
+//!
+//! # Definitions
+//! `specs/Acts.antt`: what a wire did, act by act, and its count of failures; `specs/Memory.antt`:
+//! what a wire in memory gives and keeps; `specs/Failing.antt`: which acts a failing wire hands on;
+//! `specs/Pacing.antt`: what a pace answers.
+//!
+//! # Laws
+//! Of each wire and pace, on its trait: no acts lead nowhere, and acts behind acts are one list.
+//!
+//! # Not claimed
+//! What UDP delivers, and how long a wait is: a wire over UDP tells its count of failures alone.
+#![tactic(auto)]
+
+mod failing;
+mod memory;
+mod pace;
+mod udp;
+mod wire;
+
+pub use failing::FailingWire;
+pub use memory::{Given, MemoryWire};
+pub use pace::{CountPace, Pace, SecondPace};
+pub use udp::{RECEIVE_WAIT_MILLIS, UdpWire};
+pub use wire::{Packet, Received, Wire, WireFault};
+
+#[cfg(test)]
+mod tests;
