@@ -1,3 +1,5 @@
 pub mod Tries
 pub mod Sizes
 pub mod Walked
+pub mod Spelled
+pub mod Listed

@@ -125,7 +125,7 @@ fn option_of(words: &[String]) -> (Option<&str>, &[String])
 
 // The number of tries, by the word behind the option.
 fn tries_by(option: Option<&str>) -> Result<u32, WordsFault>
-    ensures { Reads (IsTriesBy (option_map (λ word. word.now) option)) result }
+    ensures { Reads (IsTriesBy (option_map (λ word. word.now) option.entry)) result }
 {
     match option {
         Some(word) => tries_of(word),

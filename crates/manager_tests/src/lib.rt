@@ -8,4 +8,10 @@ mod datagrams;
 #[cfg(test)]
 mod programs;
 #[cfg(test)]
+mod refusals;
+#[cfg(test)]
+mod requests;
+#[cfg(test)]
+mod running;
+#[cfg(test)]
 mod walks;
