@@ -3,3 +3,4 @@ pub mod Sizes
 pub mod Walked
 pub mod Spelled
 pub mod Listed
+pub mod Commands

@@ -7,6 +7,7 @@ use Rattle.std.specs.List.{before_first, after_first}
 use Rattle.std.proofs.lemmas.Fmt.{decimal_injective, signed_decimal_injective}
 use Rattle.std.proofs.lemmas.Int.{ints}
 use Rattle.oid_core.proofs.Texts.{first_digit, one_name}
+use Rattle.message_core.specs.Encodable.{IsEncodableValue, IsEncodableBinding}
 use Rattle.message_core.specs.declared.binding.Binding.{Binding}
 use Rattle.message_core.specs.declared.value.Value.{Value}
 use Rattle.message_core.specs.declared.value.Value.TheVariants.{Integer, OctetString, Null, ObjectIdentifier, IpAddress, Counter32, Gauge32, TimeTicks, Opaque, Counter64, NoSuchObject, NoSuchInstance, EndOfMibView}
@@ -147,3 +148,16 @@ same_asked word a b p q =
 pub same_setting : (word : List ℕ) (a b : Binding) → IsSettingText word a → IsSettingText word b → a ≡ b
 same_setting word a b p q =
     same_binding a b (same_name (before_first is_equals word) a.name b.name p.name q.name) (same_value (after_first is_equals word) a.value b.value p.value q.value)
+
+-- each of these has an encoding
+pub asked_encodable : (word : List ℕ) (b : Binding) → IsAskedText word b → IsEncodableBinding b
+asked_encodable word b p = record { name = p.name.root; value = rw p.value tt }
+
+said_encodable : (text : List ℕ) (v : Value) → IsValueText text v → IsEncodableValue v
+said_encodable text v p = elim (value_said text v p) [ inl i ↦ rw i.value tt | inr o ↦ rw o.value tt ]
+
+pub setting_encodable : (word : List ℕ) (b : Binding) → IsSettingText word b → IsEncodableBinding b
+setting_encodable word b p = record {
+  name = p.name.root;
+  value = said_encodable (after_first is_equals word) b.value p.value;
+}

@@ -1,12 +1,9 @@
 use Rattle.std.proofs.Common.{◌≡◌, ◌≤◌, map, string_bytes, length, ℕ, ◌+◌, ◌-◌, ◌<◌, Bool, true, false, nat_lt, List, [], ◌∷◌, get_or, take, arith, rules, sym, ap, ◌∙◌, Global, String}
 use Rattle.std.specs.Str.{bytes_eq}
-use Rattle.std.proofs.lemmas.List.{get_or-map, take-map, length-map}
+use Rattle.std.proofs.lemmas.List.{take-map, length-map}
 use Rattle.manager_core.specs.Words.{option_of, is_option}
+use Rattle.manager_core.proofs.Listed.{read_at}
 use Rattle.manager_core.proofs.words.option_of.Goals as goal
-
--- the word at an index, by its octets
-read_at : {S : Type 0} (bytes : S → List ℕ) (words : List S) (i : ℕ) (s : S) → i < length words → s ≡ get_or words i s → get_or (map bytes words) i [] ≡ bytes s
-read_at bytes words i s low is = get_or-map bytes words i s [] low ∙ ap bytes (sym is)
 
 others_behind : {S : Type 0} (bytes : S → List ℕ) (words : List S) → 2 ≤ length words → is_option (get_or (map bytes words) 0 []) ≡ false → is_option (get_or (map bytes words) (length words - 2) []) ≡ true → map bytes (take (length words - 2) words) ≡ (option_of (map bytes words)).1
 others_behind bytes words two first last =
