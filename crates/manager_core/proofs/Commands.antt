@@ -9,7 +9,6 @@ use Rattle.manager_core.specs.declared.run.Errand.{Errand}
 use Rattle.manager_core.specs.declared.words.Command.{Command}
 use Rattle.manager_core.specs.declared.words.WordsFault.{WordsFault}
 use Rattle.manager_core.specs.declared.words.WordsFault.TheVariants.{Usage, Memory}
-use Rattle.manager_core.specs.declared.words.TheConstants.{MAX_TRIES}
 use Rattle.manager_core.specs.Words.{Reads, IsTriesBy, IsBulkText, IsAskedText, AreSomeTexts, first_request, AsksBy, IsAskOf, IsBulkOf, IsBulkBy, word_of, IsErrandBy, IsTargetOf, IsTarget, option_of, IsAsked}
 use Rattle.manager_core.proofs.Listed.{same_texts}
 use Rattle.manager_core.proofs.Spelled.{one_bulk, same_asked}
@@ -21,8 +20,8 @@ asks_of k community first second IsText one words bindings (Ok e) texts asks =
     record { bindings = bindings; texts = texts; asks = asks }
 asks_of k community first second IsText one words bindings (Err Usage) texts none =
     λ e asked.
-        let same = same_texts IsText one words asked.bindings bindings asked.texts.1 texts.1 in
-        none e (subst (λ (bs : List Binding). AsksBy (first_request k first second community bs) e) same asked.asks)
+    let same = same_texts IsText one words asked.bindings bindings asked.texts.1 texts.1 in
+    none e (subst (λ (bs : List Binding). AsksBy (first_request k first second community bs) e) same asked.asks)
 asks_of k community first second IsText one words bindings (Err Memory) texts none = tt
 
 -- ---- a GetBulk
@@ -40,22 +39,22 @@ bulk_whole community (number ∷ (number' ∷ names)) e two h = h
 pub no_first : (community : List ℕ) (words : List (List ℕ)) (word : List ℕ) (fault : WordsFault) → get_or words 0 [] ≡ word → Reads (IsBulkText word) (Err fault) → Reads (IsBulkBy community words) (Err fault)
 no_first community words word Usage is none =
     λ e bulk.
-        let b = bulk_parts community words e bulk in
-        none b.first (subst (λ (w : List ℕ). IsBulkText w b.first) is b.is_first)
+    let b = bulk_parts community words e bulk in
+    none b.first (subst (λ (w : List ℕ). IsBulkText w b.first) is b.is_first)
 no_first community words word Memory is none = tt
 
 pub no_second : (community : List ℕ) (words : List (List ℕ)) (word : List ℕ) (fault : WordsFault) → get_or words 1 [] ≡ word → Reads (IsBulkText word) (Err fault) → Reads (IsBulkBy community words) (Err fault)
 no_second community words word Usage is none =
     λ e bulk.
-        let b = bulk_parts community words e bulk in
-        none b.second (subst (λ (w : List ℕ). IsBulkText w b.second) is b.is_second)
+    let b = bulk_parts community words e bulk in
+    none b.second (subst (λ (w : List ℕ). IsBulkText w b.second) is b.is_second)
 no_second community words word Memory is none = tt
 
 pub no_names : (community : List ℕ) (words names : List (List ℕ)) (fault : WordsFault) → drop 2 words ≡ names → Reads (AreSomeTexts IsAskedText names) (Err fault) → Reads (IsBulkBy community words) (Err fault)
 no_names community words names Usage is none =
     λ e bulk.
-        let asks = (bulk_parts community words e bulk).asks in
-        none asks.bindings (subst (λ (ns : List (List ℕ)). AreSomeTexts IsAskedText ns asks.bindings) is asks.texts)
+    let asks = (bulk_parts community words e bulk).asks in
+    none asks.bindings (subst (λ (ns : List (List ℕ)). AreSomeTexts IsAskedText ns asks.bindings) is asks.texts)
 no_names community words names Memory is none = tt
 
 -- the words of a GetBulk, by what stands in them
@@ -76,12 +75,12 @@ bulk_from community words first second bindings (Ok e) said asks =
     })
 bulk_from community words first second bindings (Err Usage) said none =
     λ e bulk.
-        let b = bulk_parts community words e bulk in
-        let same = one_bulk (get_or words 0 []) b.first first b.is_first said.is_first in
-        let same' = one_bulk (get_or words 1 []) b.second second b.is_second said.is_second in
-        let once : IsAskOf kind.GetBulk community first b.second IsAskedText (drop 2 words) e =
-        subst (λ (n : ℤ). IsAskOf kind.GetBulk community n b.second IsAskedText (drop 2 words) e) same b.asks in
-        none e (subst (λ (n : ℤ). IsAskOf kind.GetBulk community first n IsAskedText (drop 2 words) e) same' once)
+    let b = bulk_parts community words e bulk in
+    let same = one_bulk (get_or words 0 []) b.first first b.is_first said.is_first in
+    let same' = one_bulk (get_or words 1 []) b.second second b.is_second said.is_second in
+    let once : IsAskOf kind.GetBulk community first b.second IsAskedText (drop 2 words) e =
+    subst (λ (n : ℤ). IsAskOf kind.GetBulk community n b.second IsAskedText (drop 2 words) e) same b.asks in
+    none e (subst (λ (n : ℤ). IsAskOf kind.GetBulk community first n IsAskedText (drop 2 words) e) same' once)
 bulk_from community words first second bindings (Err Memory) said none = tt
 
 pub bulk_of : (community : List ℕ) (words : List (List ℕ)) (first second : ℤ) (bindings : List Binding) (r : Result Errand WordsFault) → AreBulkWords words first second bindings → Reads (AsksBy (first_request kind.GetBulk first second community bindings)) r → Reads (IsBulkBy community words) r
@@ -104,12 +103,12 @@ pub record IsErrandOf (word community : List ℕ) (rest : List (List ℕ)) (e : 
 pub no_errand : (words : List (List ℕ)) (tries : ℕ) (word community : List ℕ) (rest : List (List ℕ)) (fault : WordsFault) → get_or words 0 [] ≡ word → get_or words 2 [] ≡ community → drop 3 words ≡ rest → Reads (λ e. (length community ≤ MAX_COMMUNITY) × IsErrandBy (word_of word) community rest e) (Err fault) → Reads (λ (c : Command). (c.tries ≡ tries) × IsTarget words c) (Err fault)
 no_errand words tries word community rest Usage a b d none =
     λ c target.
-        let t = target_parts words c target.1 in
-        let e0 : IsErrandOf (get_or words 0 []) (get_or words 2 []) (drop 3 words) c.errand = record { short = t.short; errand = t.errand } in
-        let e1 = subst (λ (w : List ℕ). IsErrandOf w (get_or words 2 []) (drop 3 words) c.errand) a e0 in
-        let e2 = subst (λ (w : List ℕ). IsErrandOf word w (drop 3 words) c.errand) b e1 in
-        let e3 = subst (λ (ws : List (List ℕ)). IsErrandOf word community ws c.errand) d e2 in
-        none c.errand (e3.short, e3.errand)
+    let t = target_parts words c target.1 in
+    let e0 : IsErrandOf (get_or words 0 []) (get_or words 2 []) (drop 3 words) c.errand = record { short = t.short; errand = t.errand } in
+    let e1 = subst (λ (w : List ℕ). IsErrandOf w (get_or words 2 []) (drop 3 words) c.errand) a e0 in
+    let e2 = subst (λ (w : List ℕ). IsErrandOf word w (drop 3 words) c.errand) b e1 in
+    let e3 = subst (λ (ws : List (List ℕ)). IsErrandOf word community ws c.errand) d e2 in
+    none c.errand (e3.short, e3.errand)
 no_errand words tries word community rest Memory a b d none = tt
 
 one_tries : (option : Option (List ℕ)) (m n : ℕ) → IsTriesBy option m → IsTriesBy option n → m ≡ n
@@ -129,6 +128,6 @@ asked_from words others option tries (Ok c) is are told target = record {
 }
 asked_from words others option tries (Err Usage) is are told none =
     λ c asked.
-        let same = one_tries option c.tries tries (subst (λ (o : Option (List ℕ)). IsTriesBy o c.tries) (sym is) asked.tries) told in
-        none c (same, subst (λ (ws : List (List ℕ)). IsTarget ws c) (sym are) asked.target)
+    let same = one_tries option c.tries tries (subst (λ (o : Option (List ℕ)). IsTriesBy o c.tries) (sym is) asked.tries) told in
+    none c (same, subst (λ (ws : List (List ℕ)). IsTarget ws c) (sym are) asked.target)
 asked_from words others option tries (Err Memory) is are told none = tt

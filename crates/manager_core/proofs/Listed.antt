@@ -1,5 +1,5 @@
 -- Words and the bindings that they write, one after another.
-use Rattle.std.proofs.Common.{◌≡◌, ℕ, zero, suc, ◌+◌, ◌-◌, ◌<◌, ◌≤◌, List, [], ◌∷◌, ◌++◌, length, get_or, take, drop, map, Result, Err, refl, sym, ap, subst, ◌∙◌, arith}
+use Rattle.std.proofs.Common.{◌≡◌, ℕ, zero, suc, ◌+◌, ◌-◌, ◌<◌, List, [], ◌∷◌, ◌++◌, length, get_or, take, drop, map, Err, refl, sym, ap, subst, ◌∙◌, arith}
 use Rattle.std.proofs.lemmas.List.{map_more, get_or-map, length-map, drop-map, take_rest}
 use Rattle.message_core.specs.Encodable.{IsEncodableBinding, AreEncodable}
 use Rattle.message_core.specs.declared.binding.Binding.{Binding}
@@ -45,9 +45,9 @@ drop_rest bytes words i = drop-map bytes i words ∙ ap (map bytes) (sym (take_r
 pub refused : (IsText : List ℕ → Binding → Type 0) → {S : Type 0} (bytes : S → List ℕ) (words : List S) (i : ℕ) (s : S) (text : List ℕ) (fault : WordsFault) → i < length words → s ≡ get_or words i s → text ≡ bytes s → Reads (IsText text) (Err fault) → Reads (AreSomeTexts IsText (map bytes words)) (Err fault)
 refused IsText bytes words i s text Usage low is says none =
     λ bs texts.
-        let within : i < length (map bytes words) = rw (length-map words bytes) low in
-        let t = text_at IsText (map bytes words) bs i within texts.1 in
-        none t.0 (subst (λ (w : List ℕ). IsText w t.0) (read_at bytes words i s low is ∙ sym says) t.1)
+    let within : i < length (map bytes words) = rw (length-map words bytes) low in
+    let t = text_at IsText (map bytes words) bs i within texts.1 in
+    none t.0 (subst (λ (w : List ℕ). IsText w t.0) (read_at bytes words i s low is ∙ sym says) t.1)
 refused IsText bytes words i s text Memory low is says none = tt
 
 -- one word more

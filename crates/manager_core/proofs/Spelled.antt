@@ -1,17 +1,16 @@
 -- No text is that of two numbers, two names, two values or two bindings.
-use Rattle.std.proofs.Common.{◌≡◌, ◌≢◌, ℕ, suc, ◌+◌, ◌^◌, ◌<◌, ◌≤◌, pos, negsuc, ℤ, FitsSigned, get_or, drop, List, [], ◌∷◌, ◌++◌, length, codes, Option, Some, Result, Ok, Err, refl, sym, ap, ◌∙◌, inl, inr, ◌⊎◌, arith, rules}
+use Rattle.std.proofs.Common.{◌≡◌, ◌≢◌, ℕ, suc, ◌^◌, ◌<◌, ◌≤◌, pos, negsuc, ℤ, FitsSigned, to_z, of_z, get_or, drop, List, [], ◌∷◌, ◌++◌, length, codes, Option, Some, Result, Ok, Err, refl, sym, ap, ◌∙◌, inl, inr, ◌⊎◌, arith}
 use Rattle.std.specs.Int.{w32}
 use Rattle.std.specs.Int.Signed.{mag}
-use Rattle.std.specs.Fmt.{decimal, signed_decimal}
+use Rattle.std.specs.Fmt.{decimal}
 use Rattle.std.specs.List.{before_first, after_first}
 use Rattle.std.proofs.lemmas.Fmt.{decimal_injective, signed_decimal_injective}
-use Rattle.std.proofs.lemmas.Int.{ints}
+use Rattle.std.proofs.lemmas.Int.{ints, to_z-of_z}
 use Rattle.oid_core.proofs.Texts.{first_digit, one_name}
 use Rattle.message_core.specs.Encodable.{IsEncodableValue, IsEncodableBinding}
 use Rattle.message_core.specs.declared.binding.Binding.{Binding}
 use Rattle.message_core.specs.declared.value.Value.{Value}
 use Rattle.message_core.specs.declared.value.Value.TheVariants.{Integer, OctetString, Null, ObjectIdentifier, IpAddress, Counter32, Gauge32, TimeTicks, Opaque, Counter64, NoSuchObject, NoSuchInstance, EndOfMibView}
-use Rattle.manager_core.specs.declared.words.TheConstants.{MAX_BULK}
 use Rattle.manager_core.specs.declared.words.WordsFault.{WordsFault}
 use Rattle.manager_core.specs.declared.words.WordsFault.TheVariants.{Usage, Memory}
 use Rattle.manager_core.specs.Words.{Reads, IsBulkText, IsIntegerText, IsNameText, IsAskedText, IsOctetsText, IsValueText, IsSettingText, is_equals}
@@ -22,6 +21,11 @@ pub one_bulk : (word : List ℕ) (y z : ℤ) → IsBulkText word y → IsBulkTex
 one_bulk word y z a b =
     let same = decimal_injective a.n b.n (omega (arith, a.most)) (omega (arith, b.most)) (sym a.spelled ∙ b.spelled) in
     a.value ∙ ap pos same ∙ sym b.value
+
+-- such a number is that of its 32 bits
+pub bulk_kept : (word : List ℕ) (z : ℤ) → IsBulkText word z → to_z w32 (of_z w32 z) ≡ z
+bulk_kept word z a =
+    let fits : FitsSigned w32 z = rw a.value (omega (arith, ints, a.most)) in to_z-of_z w32 z fits
 
 mag_fits : (z : ℤ) → FitsSigned w32 z → mag z < 2 ^ 63
 mag_fits (pos n) fits = omega (arith, ints, fits)

@@ -1,8 +1,8 @@
-use Rattle.std.proofs.Common.{◌≡◌, ◌-◌, map, string_bytes, length, get_or, take, drop, [], Global, arith, sym, ap, ◌∙◌}
-use Rattle.std.proofs.lemmas.List.{drop-map, take_rest, length-map}
-use Rattle.manager_core.specs.Words.{IsBulkText, IsAskedText, AreSomeTexts}
+use Rattle.std.proofs.Common.{◌-◌, map, string_bytes, length, take, drop, Global, arith, sym, ◌∙◌}
+use Rattle.std.proofs.lemmas.List.{length-map}
 use Rattle.manager_core.proofs.Commands.{AreBulkWords, no_first, no_second, no_names, bulk_of}
 use Rattle.manager_core.proofs.Listed.{read_at, drop_rest}
+use Rattle.manager_core.proofs.Spelled.{bulk_kept}
 use Rattle.manager_core.proofs.words.bulk_by.Goals as goal
 
 pub returns-in-Err-clause-read : goal.returns-in-Err-clause-read
@@ -31,7 +31,7 @@ returns-in-Ok-names_of-clause-read c =
       is_second = rw second c.in-Ok-bulk_number.ensures;
       texts = rw (drop_rest bytes rest 2) c.in-Ok-names_of.ensures.read;
     } in
-    bulk_of c.args.community (map bytes rest) c.in-Ok.first c.in-Ok-bulk_number.second c.in-Ok-names_of.bindings c.asking.result said c.asking.ensures.read
+    bulk_of c.args.community (map bytes rest) c.in-Ok.first c.in-Ok-bulk_number.second c.in-Ok-names_of.bindings c.asking.result said (rw (bulk_kept c.as_bytes.result.now c.in-Ok.first c.in-Ok.ensures, bulk_kept c.as_bytes-2.result.now c.in-Ok-bulk_number.second c.in-Ok-bulk_number.ensures) at c.asking.ensures.read)
 
 pub returns-in-Err-names_of-clause-read : goal.returns-in-Err-names_of-clause-read
 returns-in-Err-names_of-clause-read c =

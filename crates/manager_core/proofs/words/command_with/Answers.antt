@@ -1,4 +1,4 @@
-use Rattle.std.proofs.Common.{◌≡◌, ◌-◌, map, string_bytes, length, take, drop, Global, arith, sym, ◌∙◌}
+use Rattle.std.proofs.Common.{◌-◌, map, string_bytes, length, take, drop, Global, arith, sym, ◌∙◌}
 use Rattle.manager_core.proofs.Commands.{no_errand}
 use Rattle.manager_core.proofs.Listed.{read_at, drop_rest}
 use Rattle.manager_core.proofs.words.command_with.Goals as goal

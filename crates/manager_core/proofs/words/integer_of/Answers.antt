@@ -1,4 +1,4 @@
-use Rattle.std.proofs.Common.{◌≡◌, ◌≢◌, ◌≤◌, ◌<◌, ◌-◌, rules, ℕ, List, [], ◌∷◌, Some, get_or, take, drop, length, arith, sym, ◌∙◌}
+use Rattle.std.proofs.Common.{◌≡◌, ◌≢◌, ◌<◌, ◌-◌, rules, get_or, take, drop, length, arith}
 use Rattle.std.proofs.lemmas.List.{take_rest, get_or_past}
 use Rattle.manager_core.proofs.Spelled.{no_integer, plain_integer}
 use Rattle.manager_core.proofs.words.integer_of.Goals as goal

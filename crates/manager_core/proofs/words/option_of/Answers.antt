@@ -1,5 +1,4 @@
-use Rattle.std.proofs.Common.{◌≡◌, ◌≤◌, map, string_bytes, length, ℕ, ◌+◌, ◌-◌, ◌<◌, Bool, true, false, nat_lt, List, [], ◌∷◌, get_or, take, arith, rules, sym, ap, ◌∙◌, Global, String}
-use Rattle.std.specs.Str.{bytes_eq}
+use Rattle.std.proofs.Common.{◌≡◌, ◌≤◌, map, string_bytes, length, ℕ, ◌-◌, true, false, nat_lt, List, [], get_or, take, arith, rules, sym, Global}
 use Rattle.std.proofs.lemmas.List.{take-map, length-map}
 use Rattle.manager_core.specs.Words.{option_of, is_option}
 use Rattle.manager_core.proofs.Listed.{read_at}

@@ -1,4 +1,4 @@
-use Rattle.std.proofs.Common.{◌∷◌, string_bytes, Global, arith}
+use Rattle.std.proofs.Common.{string_bytes, Global, arith}
 use Rattle.manager_core.specs.Words.{IsSettingText}
 use Rattle.manager_core.proofs.Listed.{refused, texts_more, encodable_more}
 use Rattle.manager_core.proofs.Spelled.{setting_encodable}
