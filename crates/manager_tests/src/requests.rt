@@ -128,12 +128,16 @@ fn walk_asks_behind_each_name(rt: HostRuntime) -> Result<(), Fail> {
     let (status, out, _errors) = run(alloc, &walk, &mut wire)?;
     let same = match wire.sent() {
         [first, second] => {
-            first.octets.as_slice() == &ROOT && second.octets.as_slice() == &with_id(NEXT, 2)
+            first.octets.as_slice() == ROOT.as_slice()
+                && second.octets.as_slice() == with_id(NEXT, 2).as_slice()
         }
         _ => false,
     };
     let line = b"1.3.6.1.2.1.17.1.2.0 INTEGER 2\n";
-    assert_eq!(rt; (status, same, out.as_slice() == line), (0, true, true));
+    assert_eq!(rt;
+        (status, same, out.as_slice() == line.as_slice()),
+        (0, true, true)
+    );
     Ok(())
 }
 

@@ -59,7 +59,7 @@ pub fn is_usage(alloc: Global, texts: &[&str]) -> Result<bool, Fail> {
 pub fn sends_so(alloc: Global, texts: &[&str], octets: &[u8]) -> Result<bool, Fail> {
     let mut wire = MemoryWire::new(alloc);
     let (status, _out, errors) = run(alloc, texts, &mut wire)?;
-    let timeout = status == 1 && errors.as_slice() == b"manager: timeout\n";
+    let timeout = status == 1 && errors.as_slice() == b"manager: timeout\n".as_slice();
     let same = wire
         .sent()
         .iter()
