@@ -23,9 +23,9 @@ use std::{fs, io};
 const EVENTS: u32 = 200_000;
 
 /// How many events of a kind the memory is looked at over: at first, and in all.
-const FEW: u32 = 8_193;
+const FEW: usize = 8_193;
 
-const MANY: u32 = 1_000_000;
+const MANY: usize = 1_000_000;
 
 /// How often the base is moved.
 const MOVES: u32 = 8;
@@ -145,10 +145,10 @@ fn go_on<O: MibObject>(
     alloc: Global,
     history: &mut Kept<O>,
     load: &Load,
-    events: u32,
+    events: usize,
 ) -> io::Result<()> {
     let mut buffer = Buffer::new();
-    for input in load.inputs.iter().cycle().take(events as usize) {
+    for input in load.inputs.iter().cycle().take(events) {
         happen(alloc, history, &mut buffer, input)?;
     }
     Ok(())
@@ -194,9 +194,9 @@ fn measure_load<O: MibObject>(
     go_on(rt.alloc(), history, load, FEW)?;
     let held = resident(rt)?;
     let start = Instant::now(rt)?;
-    go_on(rt.alloc(), history, load, EVENTS)?;
+    go_on(rt.alloc(), history, load, EVENTS as usize)?;
     print_turns(rt, load.what, EVENTS, &start)?;
-    go_on(rt.alloc(), history, load, MANY - EVENTS)?;
+    go_on(rt.alloc(), history, load, MANY - EVENTS as usize)?;
     let now = resident(rt)?;
     println!(rt; "memory after {FEW} events: {held}, after {MANY} more: {now}")
 }
@@ -206,12 +206,8 @@ fn measure_moves<O: MibObject>(rt: &HostRuntime, history: &mut Kept<O>) -> io::R
     let second = load_of(rt.alloc(), "second", Input::Second)?;
     let mut fastest = u128::MAX;
     for _ in 0..MOVES {
-        go_on(
-            rt.alloc(),
-            history,
-            &second,
-            MAX_ENTRIES as u32 - history.entries().len() as u32,
-        )?;
+        let room = MAX_ENTRIES.saturating_sub(history.entries().len());
+        go_on(rt.alloc(), history, &second, room)?;
         let start = Instant::now(rt)?;
         go_on(rt.alloc(), history, &second, 1)?;
         fastest = fastest.min(start.elapsed(rt)?.as_nanos());

@@ -31,9 +31,7 @@ fn is_copied<O: MibObject>(alloc: Global, objects: Vec<O>) -> Result<bool, Fail>
     let _ = entered(alloc, &mut history, Event::Frame { port: 1, frame })?;
     let copy = history.world().try_copy(alloc)?;
     let flat = history.world().flat(alloc)?;
-    Ok(copy.bridge.fdb().len() == 1
-        && flat.same(&copy.flat(alloc)?)
-        && !flat.same(history.base()))
+    Ok(copy.bridge.fdb().len() == 1 && flat.same(&copy.flat(alloc)?) && !flat.same(history.base()))
 }
 
 #[test]

@@ -26,6 +26,8 @@ mod devices;
 #[cfg(test)]
 mod faults;
 #[cfg(test)]
+mod later;
+#[cfg(test)]
 mod many;
 #[cfg(test)]
 mod octets;
