@@ -136,7 +136,7 @@ FallsIn runs number =
     FirstFalls runs.workers.items number
     ⊎ (All RisesIn runs.workers.items × FirstFalls runs.ports.items number)
     ⊎ (All RisesIn runs.workers.items × All RisesIn runs.ports.items
-        × FallsAt (receipts_of runs.ticker.trace) number)
+    × FallsAt (receipts_of runs.ticker.trace) number)
 
 -- Why the lines of a run give no report: a number that is not above the one before it in its trace,
 -- then the first fault of a wire, then a line's want of memory.

@@ -149,12 +149,7 @@ fn run_workers<
 }
 
 // The same of the ports, from port 1 on.
-fn run_ports<
-    O: MibObject + Send,
-    L: Run + Send + Sync,
-    W: Wire + Send,
-    R: Threads + Wait + Sync,
->(
+fn run_ports<O: MibObject + Send, L: Run + Send + Sync, W: Wire + Send, R: Threads + Wait + Sync>(
     rt: &R,
     plan: &Plan,
     live: &Live<O, L>,
@@ -416,14 +411,5 @@ pub fn run_from<
 {
     let parts = lines.workers.len() as u64 + lines.ports.len() as u64 + 3;
     let blank = Blank::new(parts);
-    run_over::<O, Brand, W, P, G, R>(
-        rt,
-        plan,
-        gate,
-        kept,
-        blank,
-        lines,
-        worker_runs,
-        port_runs,
-    )
+    run_over::<O, Brand, W, P, G, R>(rt, plan, gate, kept, blank, lines, worker_runs, port_runs)
 }

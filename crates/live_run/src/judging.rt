@@ -50,10 +50,12 @@ fn agreement_of<O: MibObject>(
         (λ found. IfSome found (IsAgreement kept.now runs.now))
         (λ mismatch. Disagrees kept.now (all_receipts runs.now) mismatch.0) }
 {
-    let Ok(Collected {
-        mut receipts,
-        requests,
-    }) = collect(alloc, runs)
+    let Ok(
+        Collected {
+            mut receipts,
+            requests,
+        },
+    ) = collect(alloc, runs)
     else {
         return Ok(None);
     };
@@ -90,11 +92,7 @@ fn report_of(agreement: Agreement, runs: Runs) -> Report
 }
 
 /// The report of a run, or why it has none.
-pub fn judge<O: MibObject>(
-    alloc: Global,
-    kept: &Kept<O>,
-    runs: Runs,
-) -> Result<Report, RunFault>
+pub fn judge<O: MibObject>(alloc: Global, kept: &Kept<O>, runs: Runs) -> Result<Report, RunFault>
     ensures { MatchResult result (IsReport kept.now runs) (IsRunFault kept.now runs) }
 {
     match agreement_of(alloc, kept, &runs) {

@@ -34,10 +34,7 @@ fn lines_failing(alloc: Global, failing: Line, call: u64) -> Result<Lines<Wires,
     let mut port = MemoryWire::new(alloc);
     port.give_datagram(peer(1), &[0])?;
     let mut workers = Vec::new(alloc);
-    workers.push(FailingWire::new(
-        worker,
-        fails_at(Line::Worker, failing, call),
-    ))?;
+    workers.push(FailingWire::new(worker, fails_at(Line::Worker, failing, call)))?;
     let mut ports = Vec::new(alloc);
     ports.push(FailingWire::new(port, fails_at(Line::Port, failing, call)))?;
     ports.push(FailingWire::new(MemoryWire::new(alloc), 0))?;
@@ -80,6 +77,7 @@ fn failed_at<R: Threads + Wait + Sync>(
 }
 
 const RECEIVE: Option<RunFault> = Some(RunFault::Wire(WireFault::Receive));
+
 const SEND: Option<RunFault> = Some(RunFault::Wire(WireFault::Send));
 
 // The worker receives, replies, and finds its wire closed; the others go on.

@@ -101,11 +101,13 @@ fn held_run<R: Threads + Wait + Sync, C: Clock + Sync + Drop>(
     let Ok(report) = report else {
         return Err(Fail::from("a report"));
     };
-    Ok(!gate.late.load(Ordering::SeqCst)
-        && report.entries == 5
-        && report.requests == 3
-        && reads(alloc, &lines, 0, 8192)?
-        && reads(alloc, &lines, 1, other_reads)?)
+    Ok(
+        !gate.late.load(Ordering::SeqCst)
+            && report.entries == 5
+            && report.requests == 3
+            && reads(alloc, &lines, 0, 8192)?
+            && reads(alloc, &lines, 1, other_reads)?,
+    )
 }
 
 #[test]
