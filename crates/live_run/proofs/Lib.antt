@@ -1,4 +1,4 @@
-pub mod Counting
-pub mod Collecting
+pub mod Counts
 pub mod Falling
+pub mod Gathering
 pub mod Lining

@@ -30,7 +30,7 @@ pub record TickerRan {W P : Type 0} (went : W → List Act → W → Type 0) (fa
 -- Each line, numbered from this number on, ran so between the two states of its wire.
 abbrev pub AllRan : {W : Type 0} → (ℕ → W → W → Ran → Type 0) → ℕ → List W → List W → List Ran → Type 0
 AllRan HasRan n [] [] [] = Unit {0}
-AllRan HasRan n (a ∷ as) (b ∷ bs) (ran ∷ rans) = HasRan n a b ran × AllRan HasRan (n + 1) as bs rans
+AllRan HasRan n (a ∷ xs) (b ∷ ys) (ran ∷ rans) = HasRan n a b ran × AllRan HasRan (n + 1) xs ys rans
 AllRan HasRan n _ _ _ = ⊥
 
 -- All lines of a run, each over its own wire.

@@ -2,7 +2,7 @@ use Rattle.std.proofs.Common.{◌++◌, sym, ap, ◌∙◌, arith, take, append_
 use Rattle.history_core.specs.declared.receipt.Receipt.{Receipt}
 use Rattle.live_agent.specs.declared.trace.Item.{Item}
 use Rattle.live_run.specs.Reports.{receipts_of, receipts_in}
-use Rattle.live_run.proofs.Collecting.{one_more, receipts_in-snoc}
+use Rattle.live_run.proofs.Gathering.{one_more, receipts_in-snoc}
 use Rattle.live_run.proofs.collecting.add_receipts.Goals as goal
 
 pub loop-ran-preserved : goal.loop-ran-preserved

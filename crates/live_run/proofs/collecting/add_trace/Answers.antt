@@ -2,7 +2,7 @@ use Rattle.std.proofs.Common.{[], ◌∷◌, ◌++◌, sym, ap, ◌∙◌, arith
 use Rattle.history_core.specs.declared.receipt.Receipt.{Receipt}
 use Rattle.live_agent.specs.declared.trace.Item.{Item}
 use Rattle.live_run.specs.Reports.{receipts_of}
-use Rattle.live_run.proofs.Collecting.{one_more, receipts_of-append, receipts_of-none}
+use Rattle.live_run.proofs.Gathering.{one_more, receipts_of-append, receipts_of-none}
 use Rattle.live_run.proofs.collecting.add_trace.Goals as goal
 
 pub loop-item-preserved-in_default : goal.loop-item-preserved-in_default

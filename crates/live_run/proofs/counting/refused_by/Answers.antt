@@ -1,7 +1,7 @@
 use Rattle.std.proofs.Common.{sym, ap, ◌∙◌, arith, take}
 use Rattle.live_run.specs.Reports.{refused_in, refused_by, counted}
-use Rattle.live_run.proofs.Collecting.{one_more}
-use Rattle.live_run.proofs.Counting.{refused_by-snoc, counted-twice}
+use Rattle.live_run.proofs.Gathering.{one_more}
+use Rattle.live_run.proofs.Counts.{refused_by-snoc, counted-twice}
 use Rattle.live_run.proofs.counting.refused_by.Goals as goal
 
 pub loop-ran-preserved : goal.loop-ran-preserved

@@ -1,7 +1,7 @@
 use Rattle.std.proofs.Common.{[], ◌∷◌, sym, ap, ◌∙◌, arith, take}
 use Rattle.live_run.specs.Reports.{refused_in, counted}
-use Rattle.live_run.proofs.Collecting.{one_more}
-use Rattle.live_run.proofs.Counting.{refused_in-append, counted-more}
+use Rattle.live_run.proofs.Gathering.{one_more}
+use Rattle.live_run.proofs.Counts.{refused_in-append, counted-more}
 use Rattle.live_run.proofs.counting.refused_in.Goals as goal
 
 pub loop-item-preserved : goal.loop-item-preserved

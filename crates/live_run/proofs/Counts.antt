@@ -1,7 +1,7 @@
 -- Counts over traces, one item and one line more.
-use Rattle.std.proofs.Common.{◌≡◌, ◌∙◌, ℕ, ◌+◌, List, [], ◌∷◌, ◌++◌, refl, sym, ap, arith, ints}
+use Rattle.std.proofs.Common.{◌≡◌, ◌∙◌, ℕ, ◌+◌, List, [], ◌∷◌, ◌++◌, refl, sym, ap, arith}
 use Rattle.std.specs.Prelude.{Option, Some, None, min}
-use Rattle.std.proofs.Common.{clamps}
+use Rattle.std.proofs.lemmas.Int.{ints, clamps}
 use Rattle.wire_core.specs.declared.wire.WireFault.{WireFault}
 use Rattle.live_agent.specs.declared.trace.Item.{Item}
 use Rattle.live_agent.specs.declared.trace.Item.TheVariants as item
@@ -21,10 +21,10 @@ refused_by-snoc (x ∷ rs) r = omega (arith, refused_by-snoc rs r)
 
 -- a count that has stopped stays
 pub counted-more : (count n m later : ℕ) → count ≡ counted n → later ≡ min (count + m) 18446744073709551615 → later ≡ counted (n + m)
-counted-more count n m later is next = omega (arith, clamps, is, next)
+counted-more count n m later is next = omega (arith, ints, clamps, is, next)
 
 pub counted-twice : (count n m k later : ℕ) → count ≡ counted n → k ≡ counted m → later ≡ min (count + k) 18446744073709551615 → later ≡ counted (n + m)
-counted-twice count n m k later is one next = omega (arith, clamps, is, one, next)
+counted-twice count n m k later is one next = omega (arith, ints, clamps, is, one, next)
 
 pub first_of-none : (o : Option WireFault) → first_of o None ≡ o
 first_of-none (Some c) = refl
