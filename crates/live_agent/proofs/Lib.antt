@@ -1,3 +1,4 @@
+pub mod Failing
 pub mod Running
 pub mod Ticking
 pub mod Turning

@@ -1,5 +1,5 @@
 -- What the turns of each kind of line are made of.
-use Rattle.std.proofs.Common.{◌≡◌, ◌∙◌, ℕ, ◌+◌, List, [], ◌∷◌, sym, ap}
+use Rattle.std.proofs.Common.{◌≡◌, ◌∙◌, ℕ, ◌+◌, List, [], ◌∷◌, ◌++◌, sym, ap, arith, append-nil}
 use Rattle.std.specs.Prelude.{Option}
 use Rattle.wire_core.specs.Acts.{Act}
 use Rattle.wire_core.specs.declared.wire.WireFault.{WireFault}
@@ -7,7 +7,10 @@ use Rattle.agent_core.specs.Buffered.{Buffered}
 use Rattle.history_core.specs.declared.applied.Applied.{Applied}
 use Rattle.history_core.specs.declared.event.Event.{Event}
 use Rattle.live_lock.specs.Sharing.{entered}
-use Rattle.live_agent.specs.Turns.{Happening, item_of, entered_in}
+use Rattle.live_agent.specs.declared.trace.End.{End}
+use Rattle.live_agent.specs.declared.trace.Item.{Item}
+use Rattle.live_agent.specs.Turns.{Happening, Turn, acts_of, items_of, item_of, end_of, entered_in}
+use Rattle.live_agent.specs.Runs.{HasTurned}
 use Rattle.live_agent.proofs.Running.{entered_one}
 
 -- the event that took its place, with what was sent of it
@@ -16,3 +19,17 @@ happening e applied buffer fault acts = record { event = e; applied = applied; b
 
 pub amount_is : (amount later : ℕ) (applied : Applied) → later ≡ amount + entered applied → later ≡ amount + entered_in (item_of applied ∷ [])
 amount_is amount later applied is = is ∙ ap (λ (n : ℕ). amount + n) (sym (entered_one applied))
+
+-- a turn that left nothing in the trace
+abbrev pub bare_turn : {W : Type 0} (went : W → List Act → W → Type 0) (is_turn : Turn → Type 0) (t : Turn) (a b : W) (items : List Item) (amount : ℕ) (ends : Option End)
+    → is_turn t → went a (acts_of t) b → items_of t ≡ [] → ends ≡ end_of t → HasTurned went is_turn a b items items amount amount ends
+bare_turn went is_turn t a b items amount ends is acts none so =
+    let nothing : entered_in (items_of t) ≡ 0 = ap entered_in none in
+    record {
+      turn = t;
+      is = is;
+      acts = acts;
+      items_are = sym (append-nil items) ∙ ap (λ (l : List Item). items ++ l) (sym none);
+      amount_is = omega (arith, nothing);
+      ends_so = so;
+    }

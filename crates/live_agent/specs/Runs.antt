@@ -1,6 +1,6 @@
 -- The loop of a line: its turns one after another, until its rounds are over or a turn ends it.
 use Rattle.std.specs.Prelude.{◌≡◌, ℕ, ◌+◌, ◌<◌, Bool, List, [], ◌∷◌, ◌++◌, length, Option, Some, None, All}
-use Rattle.wire_core.specs.Acts.{Act}
+use Rattle.wire_core.specs.Acts.{Act, one_more}
 use Rattle.live_agent.specs.declared.trace.End.{End}
 use Rattle.live_agent.specs.declared.trace.End.TheVariants as end
 use Rattle.live_agent.specs.declared.trace.Item.{Item}
@@ -61,3 +61,16 @@ pub record HasRun {W : Type 0} (went : W → List Act → W → Type 0) (is_turn
   pub items_are : later_items ≡ items ++ all_items turns
   pub amount_is : later_amount ≡ amount + entered_in (all_items turns)
   pub ends : EndsBy rounds turns how
+
+-- the count of a wire's failures after a line that ended so: a fault ends it, and nothing else fails
+abbrev pub failures_at : End → ℕ → ℕ
+failures_at end.Rounds count = count
+failures_at end.Closed count = count
+failures_at end.Full count = count
+failures_at end.Memory count = count
+failures_at (end.Wire fault) count = one_more count
+
+-- the same after a turn, which may have ended the line
+abbrev pub failures_by : Option End → ℕ → ℕ
+failures_by None count = count
+failures_by (Some how) count = failures_at how count

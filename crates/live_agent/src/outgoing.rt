@@ -1,7 +1,7 @@
 //! What an event gives to send, sent over a line's wire.
 ghost use Rattle.std.specs.Prelude.{◌≡◌, ◌++◌};
 ghost use Rattle.live_sending.specs.Packets.{reply_packets, frame_packets, bpdu_packets};
-ghost use Rattle.live_sending.specs.Sending.{Sends, fault_in};
+ghost use Rattle.live_sending.specs.Sending.{Sends, fault_in, failures_after};
 ghost use Rattle.live_agent.specs.Lines.{egress_of};
 
 use crate::plan::Plan;
@@ -13,9 +13,11 @@ use wire_core::{Wire, WireFault};
 
 /// Sends what the ports send to their peers.
 pub fn send_ports<W: Wire>(wire: &mut W, plan: &Plan, buffer: &Buffer) -> Result<(), WireFault>
-    ensures { Sends W.went wire.old
+    ensures sends { Sends W.went wire.old
         (bpdu_packets plan.now.source plan.now.peers.items buffer.now.bpdus)
         (fault_in result) wire.new }
+    ensures failures { W.failures wire.new ≡ failures_after (fault_in result)
+        (W.failures wire.old) }
 {
     send_bpdus(wire, plan.source, plan.peers.as_slice(), buffer.bpdus())
 }
@@ -27,9 +29,11 @@ pub fn send_answer<W: Wire>(
     peer: SocketAddr,
     buffer: &Buffer,
 ) -> Result<(), WireFault>
-    ensures { Sends W.went wire.old (reply_packets peer buffer.now.reply
+    ensures sends { Sends W.went wire.old (reply_packets peer buffer.now.reply
         ++ bpdu_packets plan.now.source plan.now.peers.items buffer.now.bpdus)
         (fault_in result) wire.new }
+    ensures failures { W.failures wire.new ≡ failures_after (fault_in result)
+        (W.failures wire.old) }
 {
     match send_reply(wire, peer, buffer.reply()) {
         Ok(()) => send_ports(wire, plan, buffer),
@@ -45,10 +49,12 @@ pub fn send_forwarded<W: Wire>(
     octets: &[u8],
     buffer: &Buffer,
 ) -> Result<(), WireFault>
-    ensures { Sends W.went wire.old
+    ensures sends { Sends W.went wire.old
         (frame_packets plan.now.peers.items (egress_of applied.now) octets.now
         ++ bpdu_packets plan.now.source plan.now.peers.items buffer.now.bpdus)
         (fault_in result) wire.new }
+    ensures failures { W.failures wire.new ≡ failures_after (fault_in result)
+        (W.failures wire.old) }
 {
     match send_frame(wire, plan.peers.as_slice(), egress_of(applied), octets) {
         Ok(()) => send_ports(wire, plan, buffer),

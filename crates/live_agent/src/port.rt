@@ -4,7 +4,7 @@ ghost use Rattle.frame_core.specs.Frames.{IsFrame};
 ghost use Rattle.history_core.specs.declared.event.Event.TheVariants as event;
 ghost use Rattle.wire_core.specs.Acts.{got};
 ghost use Rattle.live_agent.specs.Lines.{setting_of, IsPortTurn, HasLinked, HasPortRun, end_after_link, frame_room};
-ghost use Rattle.live_agent.specs.Runs.{HasTurned, HasRun};
+ghost use Rattle.live_agent.specs.Runs.{HasTurned, HasRun, failures_at, failures_by};
 ghost use Rattle.live_sending.specs.Sending.{fault_in};
 
 use crate::outgoing::{send_forwarded, send_ports};
@@ -36,6 +36,7 @@ pub fn port_run<O: MibObject, L: Run, W: Wire, R: Wait>(
     requires { 0 < share.old.parts }
     ensures run { HasPortRun W.went (setting_of L.start plan.now) port plan.now.rounds wire.old
         wire.new result.trace share.old.amount share.new.amount result.end }
+    ensures failures { W.failures wire.new ≡ failures_at result.end (W.failures wire.old) }
     ensures parts { share.new.parts ≡ share.old.parts }
 {
     let mut desk = Desk::new(plan.alloc);
@@ -63,6 +64,7 @@ fn bring_up<O: MibObject, L: Run, W: Wire, R: Wait>(
     requires room { vec_len desk.old.items < vec_capacity desk.old.items }
     ensures linked { HasLinked W.went (setting_of L.start plan.now) port wire.old wire.new
         desk.old.items.items desk.new.items.items share.old.amount share.new.amount result }
+    ensures failures { W.failures wire.new ≡ failures_by result (W.failures wire.old) }
     ensures parts { share.new.parts ≡ share.old.parts }
 {
     let applied = live.link(rt, plan.alloc, share, port, true, &mut desk.buffer);
@@ -103,6 +105,7 @@ pub fn port_lap<O: MibObject, L: Run, W: Wire, R: Wait>(
         (IsPortTurn (setting_of L.start plan.now) port)
         plan.now.rounds wire.old wire.new [] result.trace share.old.amount share.new.amount
         result.end }
+    ensures failures { W.failures wire.new ≡ failures_at result.end (W.failures wire.old) }
     ensures parts { share.new.parts ≡ share.old.parts }
 {
     let mut desk = Desk::new(plan.alloc);
@@ -125,6 +128,7 @@ fn go_round<O: MibObject, L: Run, W: Wire, R: Wait>(
         (IsPortTurn (setting_of L.start plan.now) port)
         plan.now.rounds wire.old wire.new desk.old.items.items desk.new.items.items
         share.old.amount share.new.amount result }
+    ensures failures { W.failures wire.new ≡ failures_at result (W.failures wire.old) }
     ensures parts { share.new.parts ≡ share.old.parts }
 {
     for _i in 0..plan.rounds {
@@ -154,6 +158,7 @@ fn port_turn<O: MibObject, L: Run, W: Wire, R: Wait>(
         (IsPortTurn (setting_of L.start plan.now) port)
         wire.old wire.new desk.old.items.items desk.new.items.items
         share.old.amount share.new.amount result }
+    ensures failures { W.failures wire.new ≡ failures_by result (W.failures wire.old) }
     ensures parts { share.new.parts ≡ share.old.parts }
 {
     let mut octets = [0u8; FRAME_ROOM];
@@ -194,6 +199,7 @@ fn take_frame<O: MibObject, L: Run, W: Wire, R: Wait>(
     ensures turn { (a : W) → W.went a (got frame_room peer octets.now ∷ []) wire.old →
         HasTurned W.went (IsPortTurn (setting_of L.start plan.now) port) a wire.new
         desk.old.items.items desk.new.items.items share.old.amount share.new.amount result }
+    ensures failures { W.failures wire.new ≡ failures_by result (W.failures wire.old) }
     ensures parts { share.new.parts ≡ share.old.parts }
 {
     let frame = match read_frame(octets) {

@@ -2,7 +2,7 @@
 ghost use Rattle.std.specs.Prelude.{◌≡◌, ◌+◌, ◌<◌, vec_len, vec_capacity};
 ghost use Rattle.history_core.specs.declared.event.Event.TheVariants as event;
 ghost use Rattle.live_agent.specs.Lines.{setting_of, HasTicked, IsSecond};
-ghost use Rattle.live_agent.specs.Runs.{HasTurned};
+ghost use Rattle.live_agent.specs.Runs.{HasTurned, failures_at, failures_by};
 
 use crate::outgoing::send_ports;
 use crate::plan::Plan;
@@ -27,6 +27,7 @@ pub fn ticker_run<O: MibObject, L: Run, W: Wire, P: Pace, R: Wait>(
     requires { 0 < share.old.parts }
     ensures run { HasTicked W.went P.went (setting_of L.start plan.now) plan.now.rounds wire.old
         wire.new pace.old pace.new result.trace share.old.amount share.new.amount result.end }
+    ensures failures { W.failures wire.new ≡ failures_at result.end (W.failures wire.old) }
     ensures parts { share.new.parts ≡ share.old.parts }
 {
     let mut desk = Desk::new(plan.alloc);
@@ -57,6 +58,7 @@ fn tick_once<O: MibObject, L: Run, W: Wire, R: Wait>(
     requires room { vec_len desk.old.items < vec_capacity desk.old.items }
     ensures turn { HasTurned W.went (IsSecond (setting_of L.start plan.now)) wire.old wire.new
         desk.old.items.items desk.new.items.items share.old.amount share.new.amount result }
+    ensures failures { W.failures wire.new ≡ failures_by result (W.failures wire.old) }
     ensures parts { share.new.parts ≡ share.old.parts }
 {
     let applied = live.tick(rt, plan.alloc, share, &mut desk.buffer);

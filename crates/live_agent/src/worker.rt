@@ -5,7 +5,7 @@ ghost use Rattle.message_core.specs.Message.{IsRequest};
 ghost use Rattle.history_core.specs.declared.event.Event.TheVariants as event;
 ghost use Rattle.wire_core.specs.Acts.{got};
 ghost use Rattle.live_agent.specs.Lines.{setting_of, IsWorkerTurn, Happens, request_room};
-ghost use Rattle.live_agent.specs.Runs.{HasTurned, HasRun};
+ghost use Rattle.live_agent.specs.Runs.{HasTurned, HasRun, failures_at, failures_by};
 ghost use Rattle.live_agent.specs.Turns.{entered_in};
 
 use crate::gate::Gate;
@@ -42,6 +42,7 @@ pub fn worker_run<O: MibObject, L: Run, W: Wire, G: Gate, R: Wait>(
         (IsWorkerTurn (setting_of L.start plan.now))
         plan.now.rounds wire.old wire.new [] result.trace share.old.amount share.new.amount
         result.end }
+    ensures failures { W.failures wire.new ≡ failures_at result.end (W.failures wire.old) }
     ensures parts { share.new.parts ≡ share.old.parts }
 {
     let mut desk = Desk::new(plan.alloc);
@@ -73,6 +74,7 @@ fn worker_turn<O: MibObject, L: Run, W: Wire, G: Gate, R: Wait>(
         (IsWorkerTurn (setting_of L.start plan.now))
         wire.old wire.new desk.old.items.items desk.new.items.items
         share.old.amount share.new.amount result }
+    ensures failures { W.failures wire.new ≡ failures_by result (W.failures wire.old) }
     ensures parts { share.new.parts ≡ share.old.parts }
 {
     let mut octets = [0u8; REQUEST_ROOM];
@@ -117,6 +119,7 @@ fn take_datagram<O: MibObject, L: Run, W: Wire, G: Gate, R: Wait>(
         (IsWorkerTurn (setting_of L.start plan.now))
         a wire.new desk.old.items.items desk.new.items.items
         share.old.amount share.new.amount result }
+    ensures failures { W.failures wire.new ≡ failures_by result (W.failures wire.old) }
     ensures parts { share.new.parts ≡ share.old.parts }
 {
     let request = match decode(plan.alloc, octets) {

@@ -1,14 +1,18 @@
-use Rattle.std.proofs.Common.{◌∙◌, ◌++◌, ◌∷◌, [], ap, refl}
+use Rattle.std.proofs.Common.{◌∙◌, ◌++◌, ◌∷◌, [], ap, refl, sym}
 use Rattle.std.specs.Prelude.{true}
 use Rattle.history_core.specs.declared.event.Event.TheVariants as event
 use Rattle.live_sending.specs.Sending.{fault_in}
 use Rattle.live_agent.specs.declared.trace.Item.{Item}
 use Rattle.live_agent.proofs.Turning.{happening}
+use Rattle.std.specs.Prelude.{Option}
+use Rattle.live_agent.specs.declared.trace.End.{End}
+use Rattle.live_agent.specs.Runs.{failures_by}
+use Rattle.live_agent.proofs.Failing.{failures_linked}
 use Rattle.live_agent.proofs.port.bring_up.Goals as goal
 
 pub returns-clause-linked : goal.returns-clause-linked
 returns-clause-linked g c =
-    let s = c.send_ports-sent.ensures in
+    let s = c.send_ports-sent.ensures.sends in
     let t = c.link-applied.ensures in
     record {
       happening = happening (event.Link c.args.port true) c.link-applied.result c.link-applied.new.buffer (fault_in c.send_ports-sent.result) s.0;
@@ -18,3 +22,6 @@ returns-clause-linked g c =
       amount_is = t.amount;
       ends_so = c.end_after_link-ends.ensures;
     }
+
+pub returns-clause-failures : goal.returns-clause-failures
+returns-clause-failures g c = c.send_ports-sent.ensures.failures ∙ failures_linked c.link-applied.result (fault_in c.send_ports-sent.result) _ ∙ ap (λ (e : Option End). failures_by e (g.W.Wire.failures c.args.wire.now)) (sym c.end_after_link-ends.ensures)

@@ -10,5 +10,6 @@ pub loop-i-preserved : goal.loop-i-preserved
 loop-i-preserved g c =
     record {
       goes = goes_more g.W.Wire.went g.met.W.Wire.goes_on _ c.loop-i._i _ _ _ _ _ _ _ _ _ _ c.loop-i.invariant.goes c.reserve.ensures.items c.in_default.ensures.turn;
+      failures = c.in_default.ensures.failures ∙ c.loop-i.invariant.failures;
       parts = c.in_default.ensures.parts ∙ c.loop-i.invariant.parts;
     }

@@ -1,10 +1,14 @@
-use Rattle.std.proofs.Common.{refl, arith}
+use Rattle.std.proofs.Common.{◌∙◌, ap, refl, sym, arith}
 use Rattle.history_core.specs.declared.event.Event.TheVariants as event
 use Rattle.live_sending.specs.Sending.{fault_in}
 use Rattle.live_agent.specs.Lines.{frame_room}
 use Rattle.live_agent.specs.Turns.{was_taken, was_refused}
 use Rattle.live_agent.specs.declared.trace.Refusal.TheVariants as refusal
 use Rattle.live_agent.proofs.Turning.{happening, amount_is}
+use Rattle.std.specs.Prelude.{Option}
+use Rattle.live_agent.specs.declared.trace.End.{End}
+use Rattle.live_agent.specs.Runs.{failures_by}
+use Rattle.live_agent.proofs.Failing.{failures_noted}
 use Rattle.live_agent.proofs.port.take_frame.Goals as goal
 
 pub returns-in-Err-clause-turn : goal.returns-in-Err-clause-turn
@@ -20,7 +24,7 @@ returns-in-Err-clause-turn g c = λ a went.
 
 pub returns-clause-turn : goal.returns-clause-turn
 returns-clause-turn g c = λ a went.
-    let s = c.send_forwarded-sent.ensures in
+    let s = c.send_forwarded-sent.ensures.sends in
     let t = c.frame-applied.ensures in
     let f = c.in-Ok.frame in
     record {
@@ -31,3 +35,6 @@ returns-clause-turn g c = λ a went.
       amount_is = amount_is _ _ c.frame-applied.result t.amount;
       ends_so = c.noted.ensures.ends;
     }
+
+pub returns-clause-failures : goal.returns-clause-failures
+returns-clause-failures g c = c.send_forwarded-sent.ensures.failures ∙ failures_noted c.frame-applied.result (fault_in c.send_forwarded-sent.result) _ ∙ ap (λ (e : Option End). failures_by e (g.W.Wire.failures c.args.wire.now)) (sym c.noted.ensures.ends)

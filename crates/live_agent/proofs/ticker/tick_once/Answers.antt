@@ -1,13 +1,17 @@
-use Rattle.std.proofs.Common.{refl}
+use Rattle.std.proofs.Common.{◌∙◌, ap, refl, sym}
 use Rattle.history_core.specs.declared.event.Event.TheVariants as event
 use Rattle.live_sending.specs.Sending.{fault_in}
 use Rattle.live_agent.specs.Turns.{was_own}
 use Rattle.live_agent.proofs.Turning.{happening, amount_is}
+use Rattle.std.specs.Prelude.{Option}
+use Rattle.live_agent.specs.declared.trace.End.{End}
+use Rattle.live_agent.specs.Runs.{failures_by}
+use Rattle.live_agent.proofs.Failing.{failures_noted}
 use Rattle.live_agent.proofs.ticker.tick_once.Goals as goal
 
 pub returns-clause-turn : goal.returns-clause-turn
 returns-clause-turn g c =
-    let s = c.send_ports-sent.ensures in
+    let s = c.send_ports-sent.ensures.sends in
     let t = c.tick-applied.ensures in
     record {
       turn = was_own (happening event.Tick c.tick-applied.result c.tick-applied.new.buffer (fault_in c.send_ports-sent.result) s.0);
@@ -17,3 +21,6 @@ returns-clause-turn g c =
       amount_is = amount_is _ _ c.tick-applied.result t.amount;
       ends_so = c.noted.ensures.ends;
     }
+
+pub returns-clause-failures : goal.returns-clause-failures
+returns-clause-failures g c = c.send_ports-sent.ensures.failures ∙ failures_noted c.tick-applied.result (fault_in c.send_ports-sent.result) _ ∙ ap (λ (e : Option End). failures_by e (g.W.Wire.failures c.args.wire.now)) (sym c.noted.ensures.ends)

@@ -10,6 +10,7 @@ pub loop-i-init : goal.loop-i-init
 loop-i-init g c =
     record {
       goes = (goes_none g.W.Wire.went g.met.W.Wire.starts _ _ _ _ _ c.new-desk.ensures, g.met.P.Pace.starts _);
+      failures = refl;
       parts = refl;
     }
 
@@ -56,6 +57,7 @@ loop-i-preserved g c =
         goes_more g.W.Wire.went g.met.W.Wire.goes_on _ c.loop-i._i _ _ _ _ _ _ _ _ _ _ before.0 c.reserve.ensures.items (second_turn g.W.Wire.went s _ _ _ _ _ _ _ t),
         answers_more g.P.Pace.went g.met.P.Pace.goes_on _ _ _ before.0.turns t.turn c.next.result before.1 c.next.ensures (second_answers s t.turn t.is ∙ ap (λ (b : Bool). b ∷ []) (sym says)),
       );
+      failures = c.in_default.ensures.failures ∙ c.loop-i.invariant.failures;
       parts = c.in_default.ensures.parts ∙ c.loop-i.invariant.parts;
     }
 

@@ -9,5 +9,6 @@ invariant-loop-i g l =
     record {
       goes : (so_far : Goes g.W.Wire.went (IsTickerTurn (setting_of g.L.Run.start l.plan)) l._i l.initial.wire l.wire [] l.desk.items.items l.initial.share.amount l.share.amount)
           × g.P.Pace.went l.initial.pace (all_answers so_far.turns) l.pace;
+      failures : g.W.Wire.failures l.wire ≡ g.W.Wire.failures l.initial.wire;
       parts : l.share.parts ≡ l.initial.share.parts;
     }

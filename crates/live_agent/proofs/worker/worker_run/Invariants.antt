@@ -7,5 +7,6 @@ abbrev pub invariant-loop-i : goal.invariant-loop-i
 invariant-loop-i g l =
     record {
       goes : Goes g.W.Wire.went (IsWorkerTurn (setting_of g.L.Run.start l.plan)) l._i l.initial.wire l.wire [] l.desk.items.items l.initial.share.amount l.share.amount;
+      failures : g.W.Wire.failures l.wire ≡ g.W.Wire.failures l.initial.wire;
       parts : l.share.parts ≡ l.initial.share.parts;
     }

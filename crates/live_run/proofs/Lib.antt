@@ -1,0 +1,4 @@
+pub mod Counts
+pub mod Falling
+pub mod Gathering
+pub mod Lining

@@ -1,0 +1,4 @@
+pub mod Agreeing
+pub mod Crews
+pub mod Reports
+pub mod Served

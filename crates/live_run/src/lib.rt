@@ -1,0 +1,31 @@
+//! A run of an agent: all its lines at once, over one history, and the report of what they did.
+//!
+//! # Entry points
+//! [`serve_run`] takes a history and [`Lines`], runs each line in a thread of its own, and gives back
+//! the lines, and the history with a [`Report`] or a [`RunFault`].
+//!
+//! # Definitions
+//! `specs/Crews.antt`: lines that ran side by side; `specs/Reports.antt`: what a report says of
+//! them, and why a run has none; `specs/Served.antt`: a whole run.
+//!
+//! # Laws
+//! On [`serve_run`]: each line ran as its own clause says, over the wire that was handed in; the
+//! history that comes back is legal, and goes on from the one that was handed in by as many entries
+//! as the traces have receipts; each of these stands in it or is older than its base, no two have
+//! one number, and those of one trace rise.
+//!
+//! # Not claimed
+//! That a run ends; which of two threads comes first.
+#![tactic(auto)]
+
+mod collecting;
+mod counting;
+mod crew;
+mod judging;
+mod lines;
+mod report;
+mod serving;
+
+pub use lines::{Lines, Runs};
+pub use report::{Report, RunFault};
+pub use serving::serve_run;

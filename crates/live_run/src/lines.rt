@@ -1,0 +1,26 @@
+//! What a run goes over, and what its lines leave.
+use live_agent::Ran;
+
+/// What a run goes over.
+#[derive(Drop)]
+pub struct Lines<W, P> {
+    /// The wire of each worker.
+    pub workers: Vec<W>,
+    /// The wire of each port, from port 1 on.
+    pub ports: Vec<W>,
+    /// The wire over which the ticker sends.
+    pub ticker: W,
+    /// The ticker's pace.
+    pub pace: P,
+}
+
+/// How each line of a run ended, and what it left.
+#[derive(Drop)]
+pub struct Runs {
+    /// Of each worker.
+    pub workers: Vec<Ran>,
+    /// Of each port, from port 1 on.
+    pub ports: Vec<Ran>,
+    /// Of the ticker.
+    pub ticker: Ran,
+}

@@ -1,0 +1,60 @@
+//! A whole run.
+ghost use Rattle.std.specs.Prelude.{◌≡◌, ◌<◌, ◌≤◌, ◌^◌, [], vec_len, vec_capacity, IfOk};
+ghost use Rattle.live_run.specs.Served.{Serves};
+
+use crate::crew::run_from;
+use crate::judging::judge;
+use crate::lines::Lines;
+use crate::report::{Report, RunFault};
+use history_core::Kept;
+use live_agent::{Gate, Plan, Ran};
+use setphase_core::MibObject;
+use std::alloc::{AllocError, Global};
+use std::sync::Wait;
+use std::thread::Threads;
+use wire_core::{Pace, Wire};
+
+// Room for how so many lines ran.
+fn room_for(alloc: Global, lines: usize) -> Result<Vec<Ran>, AllocError>
+    ensures empty { IfOk result (λ runs. runs.items ≡ []) }
+    ensures room { IfOk result (λ runs. lines ≤ vec_capacity runs) }
+{
+    Vec::with_capacity(alloc, lines)
+}
+
+/// Runs lines over a history, each in a thread of its own: a worker over each wire of `workers`, a
+/// port over each of `ports`, and the ticker. Each ends after its rounds, where its wire is closed
+/// or fails (the ticker: its pace ends), where no number is left for an entry, or where there is no
+/// memory for its trace. Then the receipts are compared with the history.
+///
+/// Gives back the lines, the history, and the report.
+///
+/// # Errors
+/// A [`RunFault`], in its order. Where there is no memory to begin with, it is `Memory`, and nothing
+/// ran; else all lines ran all the same.
+pub fn serve_run<
+    O: MibObject + Send,
+    W: Wire + Send,
+    P: Pace + Send,
+    G: Gate + Sync,
+    R: Threads + Wait + Sync,
+>(
+    rt: &R,
+    plan: &Plan,
+    gate: &G,
+    kept: Kept<O>,
+    lines: Lines<W, P>,
+) -> (Lines<W, P>, Kept<O>, Result<Report, RunFault>)
+    requires few { (vec_len lines.workers < 2 ^ 32) × (vec_len lines.ports < 2 ^ 16) }
+    ensures { Serves W.went W.failures P.went plan.now kept result.1 lines result.0 result.2 }
+{
+    let Ok(worker_runs) = room_for(plan.alloc, lines.workers.len()) else {
+        return (lines, kept, Err(RunFault::Memory));
+    };
+    let Ok(port_runs) = room_for(plan.alloc, lines.ports.len()) else {
+        return (lines, kept, Err(RunFault::Memory));
+    };
+    let (kept, lines, runs) = run_from(rt, plan, gate, kept, lines, worker_runs, port_runs);
+    let report = judge(plan.alloc, &kept, runs);
+    (lines, kept, report)
+}

@@ -1,0 +1,25 @@
+//! Tests of whole runs: threads over wires in memory and over UDP, on one history.
+//!
+//! # Entry points
+//! None.
+//!
+//! # Definitions
+//! None.
+//!
+//! # Laws
+//! None.
+//!
+//! # Not claimed
+//! Anything: it only tests.
+#![tactic(auto)]
+
+#[cfg(test)]
+mod failing;
+#[cfg(test)]
+mod gates;
+#[cfg(test)]
+mod rows;
+#[cfg(test)]
+mod support;
+#[cfg(test)]
+mod udp;

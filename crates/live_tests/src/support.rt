@@ -1,0 +1,142 @@
+//! Histories, wires and plans to test with.
+ghost use Rattle.std.specs.Prelude.{◌≡◌, ◌<◌, ◌^◌, IfOk, vec_len};
+
+use bridge_core::Bridge;
+use bridge_mib::Planned;
+use fixtures::message::{Message, octets_of};
+use fixtures::worlds::{Served, all_of, bridge_of, built_in_for, edges, port};
+use frame_core::Mac;
+use history_core::Kept;
+use live_agent::Plan;
+use live_run::Lines;
+use object_list::{Object, objects};
+use rstp_core::{BridgeKey, IfIndex, Key};
+use setphase_core::{Registry, are_named};
+use std::alloc::Global;
+use std::net::{IpAddr, Ipv4Addr, SocketAddr};
+use std::test::Fail;
+use wire_core::{CountPace, MemoryWire, Packet};
+
+/// The objects of a bridge, with no device that fails.
+pub type Shown = Object<Planned>;
+
+/// Somebody on this machine, at a port of UDP.
+pub fn peer(port: u16) -> SocketAddr {
+    SocketAddr::new(IpAddr::V4(Ipv4Addr::LOCALHOST), port)
+}
+
+/// The peer of port 1 of the bridge.
+pub const PEER_OF_PORT_1: u16 = 20001;
+
+/// The peer of port 2 of the bridge.
+pub const PEER_OF_PORT_2: u16 = 20002;
+
+/// A manager.
+pub const MANAGER: u16 = 30001;
+
+/// A history over what is served, in which nothing has happened.
+pub fn history_of(alloc: Global, served: Served) -> Result<Kept<Shown>, Fail> {
+    let Served { world, .. } = served;
+    let all = objects(alloc, Planned::new())?;
+    if !are_named(all.as_slice()) {
+        return Err(Fail::from("names of objects"));
+    }
+    let registry = Registry::new(all).ok().ok_or("a registry")?;
+    Ok(Kept::new(alloc, registry, world).ok().ok_or("room")?)
+}
+
+/// The history of a bridge of two ports under this policy.
+pub fn policed(alloc: Global, policy: &[&str]) -> Result<Kept<Shown>, Fail> {
+    history_of(alloc, built_in_for(alloc, policy)?)
+}
+
+// Brings the link of a port up that is there.
+fn bring_up(bridge: &mut Bridge, port: u16) {
+    if port >= 1 && usize::from(port) <= bridge.ports() {
+        bridge.link(port, true);
+    }
+}
+
+/// The history of a bridge of two ports, both of which are edges and forward.
+pub fn of_edges(alloc: Global) -> Result<Kept<Shown>, Fail> {
+    let mut bridge = edges(alloc)?;
+    bring_up(&mut bridge, 1);
+    bring_up(&mut bridge, 2);
+    history_of(alloc, all_of(alloc, bridge)?)
+}
+
+/// The history of a bridge of two ports with a hello time of one second.
+pub fn of_fast_hello(alloc: Global) -> Result<Kept<Shown>, Fail> {
+    let mut bridge = bridge_of(alloc, &[port(IfIndex::of(1)), port(IfIndex::of(2))])?;
+    bridge.put_setting(Key::Bridge(BridgeKey::Hello), 100);
+    bridge.settle();
+    history_of(alloc, all_of(alloc, bridge)?)
+}
+
+/// A plan of so many rounds, over a bridge of two ports with peers.
+pub fn plan_of(alloc: Global, rounds: u64) -> Result<Plan, Fail> {
+    let mut peers = Vec::new(alloc);
+    peers.push(peer(PEER_OF_PORT_1))?;
+    peers.push(peer(PEER_OF_PORT_2))?;
+    Ok(Plan {
+        alloc,
+        rounds,
+        source: Mac([2, 0, 0, 0, 0, 10]),
+        peers,
+    })
+}
+
+/// A wire that gives these messages of a manager, in order, and is closed behind them.
+pub fn asking(alloc: Global, messages: &[Message<'_>]) -> Result<MemoryWire, Fail> {
+    let mut wire = MemoryWire::new(alloc);
+    for message in messages {
+        wire.give_datagram(peer(MANAGER), &octets_of(alloc, message)?)?;
+    }
+    Ok(wire)
+}
+
+/// A wire that gives this frame, and is closed behind it.
+pub fn carrying(alloc: Global, frame: &[u8]) -> Result<MemoryWire, Fail> {
+    let mut wire = MemoryWire::new(alloc);
+    wire.give_datagram(peer(PEER_OF_PORT_1), frame)?;
+    Ok(wire)
+}
+
+/// The lines of a bridge of two ports: these workers, a wire for port 1, and a closed one for port 2;
+/// the ticker has so many seconds.
+pub fn lines_of(
+    alloc: Global,
+    workers: Vec<MemoryWire>,
+    port: MemoryWire,
+    seconds: u64,
+) -> Result<Lines<MemoryWire, CountPace>, Fail>
+    ensures { IfOk result (λ l. (vec_len l.workers ≡ vec_len workers)
+        × (vec_len l.ports < 2 ^ 16)) }
+{
+    let mut ports = Vec::new(alloc);
+    ports.push(port)?;
+    ports.push(MemoryWire::new(alloc))?;
+    Ok(Lines {
+        workers,
+        ports,
+        ticker: MemoryWire::new(alloc),
+        pace: CountPace::new(seconds),
+    })
+}
+
+/// The wires of a list of one.
+pub fn one(alloc: Global, wire: MemoryWire) -> Result<Vec<MemoryWire>, Fail>
+    ensures { IfOk result (λ v. vec_len v ≡ 1) }
+{
+    let mut wires = Vec::new(alloc);
+    wires.push(wire)?;
+    Ok(wires)
+}
+
+/// Whether what was sent is one packet of these octets to this peer.
+pub fn is_sent(sent: &[Packet], to: SocketAddr, octets: &[u8]) -> bool {
+    match sent {
+        [packet] => packet.peer == to && packet.octets.as_slice() == octets,
+        _ => false,
+    }
+}
