@@ -12,9 +12,10 @@ test:
 wrong-bodies:
 	tools/wrong-bodies $(CRATES)
 
-# Builds the program, proved, and runs it with each growth of memory refused in turn.
+# Builds the programs agentd and manager, proved, and runs them with each growth of memory refused in turn.
 growths:
 	cd crates/agentd && rt run < stdin > /dev/null
+	cd crates/manager && (rt run 2> /dev/null || test $$? -eq 2)
 	tools/refused-growths
 
 # Builds the programs, proved, and measures them.

@@ -16,7 +16,7 @@
 
 mod socket;
 
-use manager_core::{FAILED, Failure, ManagerFault, USAGE, report, run_manager};
+use manager_core::{FAILED, Failure, ManagerFault, report, run_manager};
 use socket::LateWire;
 use std::io::ErrorKind;
 use std::process::ExitCode;
@@ -30,7 +30,8 @@ fn main(rt: HostRuntime) -> ExitCode {
             report(Failure::Fault(ManagerFault::Memory), &mut errors);
             return ExitCode::from(FAILED);
         }
-        Err(_) => return ExitCode::from(USAGE),
+        // words that cannot be read are no command, as no words are
+        Err(_) => Vec::new(rt.alloc()),
     };
     let mut wire = LateWire::new(&rt, rt.alloc());
     let mut out = io::writer(&rt);

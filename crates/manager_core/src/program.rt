@@ -1,9 +1,6 @@
 //! The manager as a program: words, a wire and two writers give an exit status.
-ghost use Rattle.std.specs.Prelude.{◌≡◌, ◌≤◌, List, Result};
-ghost use Rattle.message_core.specs.declared.binding.Binding.{Binding};
-ghost use Rattle.manager_core.specs.declared.fault.ManagerFault.{ManagerFault};
-ghost use Rattle.manager_core.specs.declared.run.Failure.{Failure};
-ghost use Rattle.manager_core.specs.Runs.{IsAskable, HasFound, IsRun, status_of};
+ghost use Rattle.std.specs.Prelude.{◌≡◌, ◌≤◌, map, string_bytes};
+ghost use Rattle.manager_core.specs.Runs.{IsAskable, HasRun, HasDone};
 
 use crate::fault::ManagerFault;
 use crate::run::{Failure, report, run_errand};
@@ -33,6 +30,9 @@ pub fn run_manager<W: Wire, O: Write, E: Write>(
     out: &mut O,
     errors: &mut E,
 ) -> u8
+    ensures done { HasDone W.went O.contents (map string_bytes words.now) wire.old out.old result
+        wire.new out.new }
+    ensures silent { result ≡ 0 → errors.new ≡ errors.old }
     ensures status { result ≤ USAGE }
     ensures usage { result ≡ USAGE → (wire.new ≡ wire.old) × (out.new ≡ out.old) }
 {
@@ -58,10 +58,7 @@ pub fn run_command<W: Wire, O: Write, E: Write>(
     errors: &mut E,
 ) -> u8
     requires { IsAskable command.now.errand }
-    ensures ran { (end : Result (List Binding) ManagerFault) × (ran : Result (Unit {0}) Failure)
-        × HasFound W.went command.now.agent command.now.errand command.now.tries wire.old end
-        wire.new
-        × IsRun O.contents end out.old ran out.new × (result ≡ status_of ran) }
+    ensures ran { HasRun W.went O.contents command.now wire.old out.old result wire.new out.new }
     ensures silent { result ≡ 0 → errors.new ≡ errors.old }
     ensures status { result ≤ FAILED }
 {
