@@ -37,3 +37,7 @@ first_of-assoc None p q = refl
 pub first_fault-append : (xs ys : List Ran) → first_fault (xs ++ ys) ≡ first_of (first_fault xs) (first_fault ys)
 first_fault-append [] ys = refl
 first_fault-append (x ∷ xs) ys = ap (first_of (fault_at x.end)) (first_fault-append xs ys) ∙ first_of-assoc (fault_at x.end) (first_fault xs) (first_fault ys)
+
+pub none_of : {X : Type 0} (o : Option X) → ((x : X) → o ≡ Some x → ⊥) → o ≡ None
+none_of (Some x) never = absurd (never x refl)
+none_of None never = refl
