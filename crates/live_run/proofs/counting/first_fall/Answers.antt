@@ -1,4 +1,4 @@
-use Rattle.std.proofs.Common.{◌∙◌, [], ◌∷◌, subst, arith, take, drop, suc}
+use Rattle.std.proofs.Common.{subst, arith, take, drop, suc}
 use Rattle.std.specs.Prelude.{All}
 use Rattle.std.proofs.lemmas.List.{take_all}
 use Rattle.live_agent.proofs.Running.{All-snoc}

@@ -14,7 +14,7 @@ returns-in-Some c =
     let rest = drop (suc i) rs in
     let got : fault_at r.end ≡ Some c.in-Some.cause = sym c.fault_at.ensures ∙ c.in-Some.is in
     sym (ap first_fault (cut_at rs i r (omega arith) c.ran-item.is) ∙ first_fault-append (take i rs) (r ∷ rest)
-        ∙ ap (λ (o : Option WireFault). first_of o (first_fault (r ∷ rest))) c.loop-ran.invariant ∙ ap (λ (o : Option WireFault). first_of o (first_fault rest)) got)
+    ∙ ap (λ (o : Option WireFault). first_of o (first_fault (r ∷ rest))) c.loop-ran.invariant ∙ ap (λ (o : Option WireFault). first_of o (first_fault rest)) got)
 
 pub loop-ran-preserved : goal.loop-ran-preserved
 loop-ran-preserved c =
