@@ -1,5 +1,5 @@
 -- Counts over traces, one item and one line more.
-use Rattle.std.proofs.Common.{◌≡◌, ◌∙◌, ℕ, ◌+◌, List, [], ◌∷◌, ◌++◌, refl, sym, ap, arith}
+use Rattle.std.proofs.Common.{◌≡◌, ◌∙◌, ℕ, ◌+◌, List, [], ◌∷◌, ◌++◌, refl, ap, arith}
 use Rattle.std.specs.Prelude.{Option, Some, None, min}
 use Rattle.std.proofs.lemmas.Int.{ints, clamps}
 use Rattle.wire_core.specs.declared.wire.WireFault.{WireFault}
@@ -37,3 +37,7 @@ first_of-assoc None p q = refl
 pub first_fault-append : (xs ys : List Ran) → first_fault (xs ++ ys) ≡ first_of (first_fault xs) (first_fault ys)
 first_fault-append [] ys = refl
 first_fault-append (x ∷ xs) ys = ap (first_of (fault_at x.end)) (first_fault-append xs ys) ∙ first_of-assoc (fault_at x.end) (first_fault xs) (first_fault ys)
+
+pub none_of : {X : Type 0} (o : Option X) → ((x : X) → o ≡ Some x → ⊥) → o ≡ None
+none_of (Some x) never = absurd (never x refl)
+none_of None never = refl

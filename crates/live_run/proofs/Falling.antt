@@ -1,5 +1,5 @@
 -- Receipts whose numbers rise, one more, and the first that does not.
-use Rattle.std.proofs.Common.{◌≡◌, ◌∙◌, ℕ, ◌+◌, ◌≤◌, ◌<◌, List, [], ◌∷◌, ◌++◌, refl, sym, ap, arith}
+use Rattle.std.proofs.Common.{ℕ, ◌+◌, ◌≤◌, List, [], ◌∷◌, ◌++◌}
 use Rattle.history_core.specs.Comparing.{Rises}
 use Rattle.history_core.specs.declared.receipt.Receipt.{Receipt}
 use Rattle.history_core.proofs.Rising.{least_behind}

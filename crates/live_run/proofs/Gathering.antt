@@ -7,8 +7,9 @@ use Rattle.live_agent.specs.declared.trace.Item.{Item}
 use Rattle.live_agent.specs.declared.trace.Item.TheVariants as item
 use Rattle.live_agent.specs.declared.trace.Ran.{Ran}
 use Rattle.live_agent.specs.Turns.{entered_in}
-use Rattle.live_run.specs.Crews.{entered_by}
-use Rattle.live_run.specs.Reports.{receipts_of, receipts_in}
+use Rattle.live_run.specs.Crews.{entered_by, entered_of}
+use Rattle.live_run.specs.Reports.{receipts_of, receipts_in, all_receipts}
+use Rattle.live_run.specs.declared.lines.Runs.{Runs}
 
 -- the first i elements and the next one
 pub one_more : {X : Type 0} (xs : List X) (i : ℕ) (x : X) → i < length xs → x ≡ get_or xs i x → take (i + 1) xs ≡ take i xs ++ x ∷ []
@@ -45,3 +46,13 @@ length-receipts_of (item.Full ∷ xs) = length-receipts_of xs
 pub length-receipts_in : (rs : List Ran) → length (receipts_in rs) ≡ entered_by rs
 length-receipts_in [] = refl
 length-receipts_in (r ∷ rs) = omega (arith, length-append (receipts_of r.trace) (receipts_in rs), length-receipts_of r.trace, length-receipts_in rs)
+
+pub length-all_receipts : (runs : Runs) → length (all_receipts runs) ≡ entered_of runs
+length-all_receipts runs = omega (
+  arith,
+  length-append (receipts_in runs.workers.items) (receipts_in runs.ports.items ++ receipts_of runs.ticker.trace),
+  length-append (receipts_in runs.ports.items) (receipts_of runs.ticker.trace),
+  length-receipts_in runs.workers.items,
+  length-receipts_in runs.ports.items,
+  length-receipts_of runs.ticker.trace,
+)

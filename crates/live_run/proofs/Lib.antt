@@ -1,3 +1,4 @@
+pub mod Answering
 pub mod Counts
 pub mod Falling
 pub mod Gathering

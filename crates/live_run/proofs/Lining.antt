@@ -1,13 +1,11 @@
 -- How many entries a line made, and one line more.
-use Rattle.std.proofs.Common.{◌≡◌, ◌∙◌, ℕ, ◌+◌, suc, ◌⊎◌, inl, inr, Bool, List, [], ◌∷◌, ◌++◌, length, refl, sym, ap, subst, arith}
+use Rattle.std.proofs.Common.{◌≡◌, ◌∙◌, ℕ, ◌+◌, inl, inr, Bool, List, [], ◌∷◌, ◌++◌, length, sym, ap, subst, arith}
 use Rattle.wire_core.specs.Acts.{Act}
-use Rattle.live_lock.specs.Sharing.{entered}
 use Rattle.live_agent.specs.declared.trace.End.{End}
-use Rattle.live_agent.specs.declared.trace.End.TheVariants as end
 use Rattle.live_agent.specs.declared.trace.Item.{Item}
 use Rattle.live_agent.specs.declared.trace.Ran.{Ran}
 use Rattle.std.specs.Prelude.{Option, Some, None}
-use Rattle.live_agent.specs.Turns.{Turn, item_of, entered_in}
+use Rattle.live_agent.specs.Turns.{Turn, entered_in}
 use Rattle.live_agent.specs.Runs.{HasRun, all_items}
 use Rattle.live_agent.specs.Lines.{Setting, HasLinked, HasLinkedAndRun, HasPortRun, HasTicked}
 use Rattle.live_agent.proofs.Running.{entered_one, entered_in-append}

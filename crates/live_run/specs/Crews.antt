@@ -1,5 +1,5 @@
--- Lines that ran side by side: what each did over its own wire, and how many entries they made.
-use Rattle.std.specs.Prelude.{◌≡◌, ℕ, ◌+◌, Bool, List, [], ◌∷◌, ◌++◌}
+-- Lines that ran over one history: what each did over its own wire, and how many entries they made.
+use Rattle.std.specs.Prelude.{◌≡◌, ℕ, ◌+◌, Bool, List, [], ◌∷◌}
 use Rattle.wire_core.specs.Acts.{Act}
 use Rattle.live_agent.specs.declared.trace.Ran.{Ran}
 use Rattle.live_agent.specs.Lines.{Setting, IsWorkerTurn, HasPortRun, HasTicked}

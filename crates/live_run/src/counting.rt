@@ -1,5 +1,5 @@
 //! What is counted of the traces of a run, and what is looked at in them.
-ghost use Rattle.std.specs.Prelude.{◌≡◌, ◌↔◌, ◌≤◌, All, IsTrue, MatchOption};
+ghost use Rattle.std.specs.Prelude.{◌≡◌, ◌↔◌, ◌≤◌, ◌∷◌, [], All, IsTrue, MatchOption};
 ghost use Rattle.history_core.specs.Comparing.{Rises, least_after};
 ghost use Rattle.live_run.specs.Reports.{receipts_of, refused_in, refused_by, counted, fault_at, first_fault, fault_of, HadMemory, RisesIn, EachRan, FallsAt, FirstFalls, FallsIn, IsFaultOf, IsSound};
 

@@ -1,6 +1,5 @@
-//! The lines of a run, each in a thread beside the others, over one history.
+//! The lines of a run, one after another, over one history.
 ghost use Rattle.std.specs.Prelude.{◌≡◌, ◌+◌, ◌<◌, ◌≤◌, ◌^◌, [], length, vec_len, vec_capacity};
-ghost use Rattle.std.specs.Thread.{IsSync};
 ghost use Rattle.history_core.specs.History.{IsHistory};
 ghost use Rattle.live_lock.specs.Sharing.{IsHeld};
 ghost use Rattle.live_agent.specs.Lines.{setting_of};
@@ -15,7 +14,6 @@ use setphase_core::MibObject;
 use std::marker::Brand;
 use std::sync::Wait;
 use std::sync::ledger::{Blank, Share};
-use std::thread::{Threads, join};
 use wire_core::{Pace, Wire};
 
 // One worker, which owns its share and its wire while it runs.
@@ -83,14 +81,8 @@ fn tick<O: MibObject, L: Run, W: Wire, P: Pace, R: Wait>(
     (share, wire, pace, ran)
 }
 
-// A worker for each wire, each beside the rest. Gives back the share, the wires, and how each ran.
-fn run_workers<
-    O: MibObject + Send,
-    L: Run + Send + Sync,
-    W: Wire + Send,
-    G: Gate + Sync,
-    R: Threads + Wait + Sync,
->(
+// A worker for each wire, in their order. Gives back the share, the wires, and how each ran.
+fn run_workers<O: MibObject, L: Run, W: Wire, G: Gate, R: Wait>(
     rt: &R,
     plan: &Plan,
     live: &Live<O, L>,
@@ -99,7 +91,7 @@ fn run_workers<
     wires: Vec<W>,
     runs: Vec<Ran>,
 ) -> (Share<L>, Vec<W>, Vec<Ran>)
-    requires parts { vec_len wires < share.parts }
+    requires parts { 0 < share.parts }
     requires empty { runs.items ≡ [] }
     requires room { vec_len wires ≤ vec_capacity runs }
     ensures ran { AllRan (λ n. WorkerRan W.went W.failures (setting_of L.start plan.now)
@@ -110,46 +102,20 @@ fn run_workers<
     ensures wires { vec_capacity result.1 ≡ vec_capacity wires }
     ensures runs { vec_capacity result.2 ≡ vec_capacity runs }
 {
-    let mut share = share;
     let mut wires = wires;
     let Some(wire) = wires.pop() else {
         return (share, wires, runs);
     };
-    let mine = share.split_off(1, 0);
     let worker = wires.len();
-    let (one, others) = join(
-        rt,
-        move || -> (Share<L>, W, Ran)
-            requires { 0 < mine.parts }
-            ensures ran { WorkerRan W.went W.failures (setting_of L.start plan.entry.now)
-                plan.entry.now.rounds wire result.1 result.2 }
-            ensures amount { result.0.amount ≡ mine.amount + entered_in result.2.trace }
-            ensures parts { result.0.parts ≡ mine.parts }
-        { work(rt, plan, live, gate, worker, mine, wire) },
-        move || -> (Share<L>, Vec<W>, Vec<Ran>)
-            requires { IsSync R.row × (vec_len wires < share.parts) × (runs.items ≡ [])
-                × (vec_len wires ≤ vec_capacity runs) }
-            ensures ran { AllRan (λ n. WorkerRan W.went W.failures
-                (setting_of L.start plan.entry.now) plan.entry.now.rounds) 0 wires.items
-                result.1.items result.2.items }
-            ensures amount { result.0.amount ≡ share.amount + entered_by result.2.items }
-            ensures parts { result.0.parts ≡ share.parts }
-            ensures lens { (vec_len result.1 ≡ vec_len wires)
-                × (vec_len result.2 ≡ vec_len wires) }
-            ensures wires { vec_capacity result.1 ≡ vec_capacity wires }
-            ensures runs { vec_capacity result.2 ≡ vec_capacity runs }
-        { run_workers(rt, plan, live, gate, share, wires, runs) },
-    );
-    let (mine, wire, ran) = one;
-    let (mut share, mut wires, mut runs) = others;
-    share.merge(mine);
+    let (share, mut wires, mut runs) = run_workers(rt, plan, live, gate, share, wires, runs);
+    let (share, wire, ran) = work(rt, plan, live, gate, worker, share, wire);
     wires.push_reserved(wire);
     runs.push_reserved(ran);
     (share, wires, runs)
 }
 
 // The same of the ports, from port 1 on.
-fn run_ports<O: MibObject + Send, L: Run + Send + Sync, W: Wire + Send, R: Threads + Wait + Sync>(
+fn run_ports<O: MibObject, L: Run, W: Wire, R: Wait>(
     rt: &R,
     plan: &Plan,
     live: &Live<O, L>,
@@ -157,7 +123,7 @@ fn run_ports<O: MibObject + Send, L: Run + Send + Sync, W: Wire + Send, R: Threa
     wires: Vec<W>,
     runs: Vec<Ran>,
 ) -> (Share<L>, Vec<W>, Vec<Ran>)
-    requires parts { vec_len wires < share.parts }
+    requires parts { 0 < share.parts }
     requires few { vec_len wires < 2 ^ 16 }
     requires empty { runs.items ≡ [] }
     requires room { vec_len wires ≤ vec_capacity runs }
@@ -169,107 +135,20 @@ fn run_ports<O: MibObject + Send, L: Run + Send + Sync, W: Wire + Send, R: Threa
     ensures wires { vec_capacity result.1 ≡ vec_capacity wires }
     ensures runs { vec_capacity result.2 ≡ vec_capacity runs }
 {
-    let mut share = share;
     let mut wires = wires;
     let Some(wire) = wires.pop() else {
         return (share, wires, runs);
     };
-    let mine = share.split_off(1, 0);
     let port = wires.len() as u16 + 1;
-    let (one, others) = join(
-        rt,
-        move || -> (Share<L>, W, Ran)
-            requires { 0 < mine.parts }
-            ensures ran { PortRan W.went W.failures (setting_of L.start plan.entry.now)
-                plan.entry.now.rounds port wire result.1 result.2 }
-            ensures amount { result.0.amount ≡ mine.amount + entered_in result.2.trace }
-            ensures parts { result.0.parts ≡ mine.parts }
-        { pass(rt, plan, live, port, mine, wire) },
-        move || -> (Share<L>, Vec<W>, Vec<Ran>)
-            requires { IsSync R.row × (vec_len wires < share.parts) × (vec_len wires < 2 ^ 16)
-                × (runs.items ≡ []) × (vec_len wires ≤ vec_capacity runs) }
-            ensures ran { AllRan (PortRan W.went W.failures (setting_of L.start plan.entry.now)
-                plan.entry.now.rounds) 1 wires.items result.1.items result.2.items }
-            ensures amount { result.0.amount ≡ share.amount + entered_by result.2.items }
-            ensures parts { result.0.parts ≡ share.parts }
-            ensures lens { (vec_len result.1 ≡ vec_len wires)
-                × (vec_len result.2 ≡ vec_len wires) }
-            ensures wires { vec_capacity result.1 ≡ vec_capacity wires }
-            ensures runs { vec_capacity result.2 ≡ vec_capacity runs }
-        { run_ports(rt, plan, live, share, wires, runs) },
-    );
-    let (mine, wire, ran) = one;
-    let (mut share, mut wires, mut runs) = others;
-    share.merge(mine);
+    let (share, mut wires, mut runs) = run_ports(rt, plan, live, share, wires, runs);
+    let (share, wire, ran) = pass(rt, plan, live, port, share, wire);
     wires.push_reserved(wire);
     runs.push_reserved(ran);
     (share, wires, runs)
 }
 
-// The ports beside the ticker.
-fn run_others<
-    O: MibObject + Send,
-    L: Run + Send + Sync,
-    W: Wire + Send,
-    P: Pace + Send,
-    R: Threads + Wait + Sync,
->(
-    rt: &R,
-    plan: &Plan,
-    live: &Live<O, L>,
-    share: Share<L>,
-    ports: Vec<W>,
-    runs: Vec<Ran>,
-    ticker: W,
-    pace: P,
-) -> (Share<L>, Vec<W>, Vec<Ran>, W, P, Ran)
-    requires parts { vec_len ports + 1 < share.parts }
-    requires few { vec_len ports < 2 ^ 16 }
-    requires empty { runs.items ≡ [] }
-    requires room { vec_len ports ≤ vec_capacity runs }
-    ensures ports { AllRan (PortRan W.went W.failures (setting_of L.start plan.now)
-        plan.now.rounds) 1 ports.items result.1.items result.2.items }
-    ensures ticker { TickerRan W.went W.failures P.went (setting_of L.start plan.now)
-        plan.now.rounds ticker result.3 pace result.4 result.5 }
-    ensures amount { result.0.amount ≡ share.amount + (entered_by result.2.items
-        + entered_in result.5.trace) }
-    ensures parts { result.0.parts ≡ share.parts }
-{
-    let mut share = share;
-    let mine = share.split_off(1, 0);
-    let (one, others) = join(
-        rt,
-        move || -> (Share<L>, W, P, Ran)
-            requires { 0 < mine.parts }
-            ensures ran { TickerRan W.went W.failures P.went (setting_of L.start plan.entry.now)
-                plan.entry.now.rounds ticker result.1 pace result.2 result.3 }
-            ensures amount { result.0.amount ≡ mine.amount + entered_in result.3.trace }
-            ensures parts { result.0.parts ≡ mine.parts }
-        { tick(rt, plan, live, mine, ticker, pace) },
-        move || -> (Share<L>, Vec<W>, Vec<Ran>)
-            requires { IsSync R.row × (vec_len ports < share.parts) × (vec_len ports < 2 ^ 16)
-                × (runs.items ≡ []) × (vec_len ports ≤ vec_capacity runs) }
-            ensures ran { AllRan (PortRan W.went W.failures (setting_of L.start plan.entry.now)
-                plan.entry.now.rounds) 1 ports.items result.1.items result.2.items }
-            ensures amount { result.0.amount ≡ share.amount + entered_by result.2.items }
-            ensures parts { result.0.parts ≡ share.parts }
-        { run_ports(rt, plan, live, share, ports, runs) },
-    );
-    let (mine, ticker, pace, ran) = one;
-    let (mut share, ports, runs) = others;
-    share.merge(mine);
-    (share, ports, runs, ticker, pace, ran)
-}
-
-// All lines: the workers beside the others.
-fn run_crew<
-    O: MibObject + Send,
-    L: Run + Send + Sync,
-    W: Wire + Send,
-    P: Pace + Send,
-    G: Gate + Sync,
-    R: Threads + Wait + Sync,
->(
+// All lines: the workers, the ports, and the ticker.
+fn run_crew<O: MibObject, L: Run, W: Wire, P: Pace, G: Gate, R: Wait>(
     rt: &R,
     plan: &Plan,
     live: &Live<O, L>,
@@ -279,7 +158,7 @@ fn run_crew<
     worker_runs: Vec<Ran>,
     port_runs: Vec<Ran>,
 ) -> (Share<L>, Lines<W, P>, Runs)
-    requires parts { vec_len lines.workers + vec_len lines.ports + 2 < share.parts }
+    requires parts { 0 < share.parts }
     requires few { vec_len lines.ports < 2 ^ 16 }
     requires empty { (worker_runs.items ≡ []) × (port_runs.items ≡ []) }
     requires room { (vec_len lines.workers ≤ vec_capacity worker_runs)
@@ -295,35 +174,17 @@ fn run_crew<
         ticker,
         pace,
     } = lines;
-    let mut share = share;
-    let mine = share.split_off(workers.len() as u64 + 1, 0);
-    let (one, others) = join(
+    let (share, workers, worker_runs) = run_workers(
         rt,
-        move || -> (Share<L>, Vec<W>, Vec<Ran>)
-            requires { IsSync R.row × (vec_len workers < mine.parts) × (worker_runs.items ≡ [])
-                × (vec_len workers ≤ vec_capacity worker_runs) }
-            ensures ran { AllRan (λ n. WorkerRan W.went W.failures
-                (setting_of L.start plan.entry.now) plan.entry.now.rounds) 0 workers.items
-                result.1.items result.2.items }
-            ensures amount { result.0.amount ≡ mine.amount + entered_by result.2.items }
-            ensures parts { result.0.parts ≡ mine.parts }
-        { run_workers(rt, plan, live, gate, mine, workers, worker_runs) },
-        move || -> (Share<L>, Vec<W>, Vec<Ran>, W, P, Ran)
-            requires { IsSync R.row × (vec_len ports + 1 < share.parts) × (vec_len ports < 2 ^ 16)
-                × (port_runs.items ≡ []) × (vec_len ports ≤ vec_capacity port_runs) }
-            ensures ports { AllRan (PortRan W.went W.failures (setting_of L.start plan.entry.now)
-                plan.entry.now.rounds) 1 ports.items result.1.items result.2.items }
-            ensures ticker { TickerRan W.went W.failures P.went
-                (setting_of L.start plan.entry.now) plan.entry.now.rounds ticker result.3 pace
-                result.4 result.5 }
-            ensures amount { result.0.amount ≡ share.amount + (entered_by result.2.items
-                + entered_in result.5.trace) }
-            ensures parts { result.0.parts ≡ share.parts }
-        { run_others(rt, plan, live, share, ports, port_runs, ticker, pace) },
+        plan,
+        live,
+        gate,
+        share,
+        workers,
+        worker_runs,
     );
-    let (mine, workers, worker_runs) = one;
-    let (mut share, ports, port_runs, ticker, pace, ran) = others;
-    share.merge(mine);
+    let (share, ports, port_runs) = run_ports(rt, plan, live, share, ports, port_runs);
+    let (share, ticker, pace, ran) = tick(rt, plan, live, share, ticker, pace);
     let lines = Lines {
         workers,
         ports,
@@ -339,14 +200,7 @@ fn run_crew<
 }
 
 // A history under a lock, the lines over it, and the history again.
-fn run_over<
-    O: MibObject + Send,
-    L: Run + Send + Sync,
-    W: Wire + Send,
-    P: Pace + Send,
-    G: Gate + Sync,
-    R: Threads + Wait + Sync,
->(
+fn run_over<O: MibObject, L: Run, W: Wire, P: Pace, G: Gate, R: Wait>(
     rt: &R,
     plan: &Plan,
     gate: &G,
@@ -359,7 +213,7 @@ fn run_over<
     requires name { blank.name ≡ L.name }
     requires all { blank.parts ≡ L.parts }
     requires start { kept ≡ L.start }
-    requires parts { vec_len lines.workers + vec_len lines.ports + 2 < blank.parts }
+    requires parts { 0 < blank.parts }
     requires few { vec_len lines.ports < 2 ^ 16 }
     requires empty { (worker_runs.items ≡ []) × (port_runs.items ≡ []) }
     requires room { (vec_len lines.workers ≤ vec_capacity worker_runs)
@@ -385,13 +239,7 @@ fn run_over<
 }
 
 /// Runs all lines over a history, which comes back, and so do the lines.
-pub fn run_from<
-    O: MibObject + Send,
-    W: Wire + Send,
-    P: Pace + Send,
-    G: Gate + Sync,
-    R: Threads + Wait + Sync,
->(
+pub fn run_from<O: MibObject, W: Wire, P: Pace, G: Gate, R: Wait>(
     rt: &R,
     plan: &Plan,
     gate: &G,
@@ -400,7 +248,7 @@ pub fn run_from<
     worker_runs: Vec<Ran>,
     port_runs: Vec<Ran>,
 ) -> (Kept<O>, Lines<W, P>, Runs)
-    requires few { (vec_len lines.workers < 2 ^ 32) × (vec_len lines.ports < 2 ^ 16) }
+    requires few { vec_len lines.ports < 2 ^ 16 }
     requires empty { (worker_runs.items ≡ []) × (port_runs.items ≡ []) }
     requires room { (vec_len lines.workers ≤ vec_capacity worker_runs)
         × (vec_len lines.ports ≤ vec_capacity port_runs) }
@@ -409,7 +257,6 @@ pub fn run_from<
     ensures held { IsHeld kept result.0 (entered_of result.2) }
     ensures legal { IsHistory result.0 }
 {
-    let parts = lines.workers.len() as u64 + lines.ports.len() as u64 + 3;
-    let blank = Blank::new(parts);
+    let blank = Blank::new(1);
     run_over::<O, Brand, W, P, G, R>(rt, plan, gate, kept, blank, lines, worker_runs, port_runs)
 }

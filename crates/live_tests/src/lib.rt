@@ -1,4 +1,4 @@
-//! Tests of whole runs: threads over wires in memory and over UDP, on one history.
+//! Tests of whole runs: lines over wires in memory and over UDP, on one history.
 //!
 //! # Entry points
 //! None.
@@ -15,8 +15,6 @@
 
 #[cfg(test)]
 mod failing;
-#[cfg(test)]
-mod gates;
 #[cfg(test)]
 mod rows;
 #[cfg(test)]

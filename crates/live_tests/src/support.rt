@@ -1,6 +1,4 @@
 //! Histories, wires and plans to test with.
-ghost use Rattle.std.specs.Prelude.{◌≡◌, ◌<◌, ◌^◌, IfOk, vec_len};
-
 use bridge_core::Bridge;
 use bridge_mib::Planned;
 use fixtures::message::{Message, octets_of};
@@ -109,10 +107,7 @@ pub fn lines_of(
     workers: Vec<MemoryWire>,
     port: MemoryWire,
     seconds: u64,
-) -> Result<Lines<MemoryWire, CountPace>, Fail>
-    ensures { IfOk result (λ l. (vec_len l.workers ≡ vec_len workers)
-        × (vec_len l.ports < 2 ^ 16)) }
-{
+) -> Result<Lines<MemoryWire, CountPace>, Fail> {
     let mut ports = Vec::new(alloc);
     ports.push(port)?;
     ports.push(MemoryWire::new(alloc))?;
@@ -125,9 +120,7 @@ pub fn lines_of(
 }
 
 /// The wires of a list of one.
-pub fn one(alloc: Global, wire: MemoryWire) -> Result<Vec<MemoryWire>, Fail>
-    ensures { IfOk result (λ v. vec_len v ≡ 1) }
-{
+pub fn one(alloc: Global, wire: MemoryWire) -> Result<Vec<MemoryWire>, Fail> {
     let mut wires = Vec::new(alloc);
     wires.push(wire)?;
     Ok(wires)

@@ -19,4 +19,4 @@ loop-item-preserved c =
     let before = receipts_of (take i c.args.items.now) in
     let r = c.in-Entered.receipt in
     let more = ap receipts_of (one_more c.args.items.now i c.item-item.result (omega arith) c.item-item.is) ∙ receipts_of-append (take i c.args.items.now) (c.item-item.result ∷ []) ∙ ap (λ (y : Item). before ++ receipts_of (y ∷ [])) c.in-Entered.is in
-    c.in_ok-push.ensures.items ∙ ap (λ (y : Receipt). c.loop-item.receipts.items ++ y ∷ []) c.in_ok-copy.ensures ∙ ap (λ (l : List Receipt). l ++ r ∷ []) c.loop-item.invariant ∙ append_assoc c.args.receipts.now.items before (r ∷ []) ∙ ap (λ (l : List Receipt). c.args.receipts.now.items ++ l) (sym more)
+    c.in_ok-push.ensures.items ∙ ap (λ (y : Receipt). c.loop-item.receipts.items ++ y ∷ []) c.in_ok-copy.ensures.value ∙ ap (λ (l : List Receipt). l ++ r ∷ []) c.loop-item.invariant ∙ append_assoc c.args.receipts.now.items before (r ∷ []) ∙ ap (λ (l : List Receipt). c.args.receipts.now.items ++ l) (sym more)
