@@ -55,6 +55,24 @@ enum Input {
     Second,
 }
 
+/// What is measured.
+#[derive(Clone, Copy)]
+enum Kind {
+    Get,
+    GetBulk,
+    Set,
+    Frame,
+    Second,
+}
+
+const KINDS: [Kind; 5] = [
+    Kind::Get,
+    Kind::GetBulk,
+    Kind::Set,
+    Kind::Frame,
+    Kind::Second,
+];
+
 /// What comes again and again.
 #[derive(Drop)]
 struct Load {
@@ -95,12 +113,6 @@ fn set_to(alloc: Global, number: u8) -> Result<Input, AllocError> {
     Ok(Input::Datagram(set_request(alloc, &names, number)?))
 }
 
-fn load_of(alloc: Global, what: &'static str, input: Input) -> Result<Load, AllocError> {
-    let mut inputs = Vec::new(alloc);
-    inputs.push(input)?;
-    Ok(Load { what, inputs })
-}
-
 // A frame from one learned station to another.
 fn frame() -> Input {
     Input::Frame(FrameIn {
@@ -110,20 +122,48 @@ fn frame() -> Input {
     })
 }
 
-fn loads(alloc: Global) -> Result<Vec<Load>, AllocError> {
-    let mut loads = Vec::new(alloc);
-    loads.push(load_of(alloc, "Get", request_for(alloc, GET, &[0], NUM_PORTS)?)?)?;
-    loads.push(load_of(
-        alloc,
-        "GetBulk of 20",
-        request_for(alloc, GET_BULK, &[20], FIRST)?,
-    )?)?;
-    let mut sets = load_of(alloc, "Set", set_to(alloc, 5)?)?;
-    sets.inputs.push(set_to(alloc, 6)?)?;
-    loads.push(sets)?;
-    loads.push(load_of(alloc, "frame", frame())?)?;
-    loads.push(load_of(alloc, "second", Input::Second)?)?;
-    Ok(loads)
+// One thing.
+fn once(alloc: Global, input: Input) -> Result<Vec<Input>, AllocError> {
+    let mut inputs = Vec::new(alloc);
+    inputs.push(input)?;
+    Ok(inputs)
+}
+
+// A Set of one value, and a Set of another.
+fn two_sets(alloc: Global) -> Result<Vec<Input>, AllocError> {
+    let mut inputs = once(alloc, set_to(alloc, 5)?)?;
+    inputs.push(set_to(alloc, 6)?)?;
+    Ok(inputs)
+}
+
+// What comes of a kind.
+fn inputs_of(alloc: Global, kind: Kind) -> Result<Vec<Input>, AllocError> {
+    match kind {
+        Kind::Get => once(alloc, request_for(alloc, GET, &[0], NUM_PORTS)?),
+        Kind::GetBulk => once(alloc, request_for(alloc, GET_BULK, &[20], FIRST)?),
+        Kind::Set => two_sets(alloc),
+        Kind::Frame => once(alloc, frame()),
+        Kind::Second => once(alloc, Input::Second),
+    }
+}
+
+// What a kind is called.
+fn name_of_kind(kind: Kind) -> &'static str {
+    match kind {
+        Kind::Get => "Get",
+        Kind::GetBulk => "GetBulk of 20",
+        Kind::Set => "Set",
+        Kind::Frame => "frame",
+        Kind::Second => "second",
+    }
+}
+
+fn load_of(alloc: Global, kind: Kind) -> Result<Load, AllocError> {
+    let inputs = inputs_of(alloc, kind)?;
+    Ok(Load {
+        what: name_of_kind(kind),
+        inputs,
+    })
 }
 
 // One event happens, and is entered.
@@ -203,7 +243,7 @@ fn measure_load<O: MibObject>(
 
 // Measures each move of the base: the event behind 4,096 entries.
 fn measure_moves<O: MibObject>(rt: &HostRuntime, history: &mut Kept<O>) -> io::Result<()> {
-    let second = load_of(rt.alloc(), "second", Input::Second)?;
+    let second = load_of(rt.alloc(), Kind::Second)?;
     let mut fastest = u128::MAX;
     for _ in 0..MOVES {
         let room = MAX_ENTRIES.saturating_sub(history.entries().len());
@@ -215,15 +255,41 @@ fn measure_moves<O: MibObject>(rt: &HostRuntime, history: &mut Kept<O>) -> io::R
     print_nanos(rt, "second that moves the base", 1, fastest)
 }
 
-/// Has events of each kind happen through a history.
-pub fn measure_history(rt: &HostRuntime) -> io::Result<()> {
+// Measures what is of a kind.
+fn measure_kind<O: MibObject>(
+    rt: &HostRuntime,
+    history: &mut Kept<O>,
+    kind: Kind,
+) -> io::Result<()> {
+    let load = load_of(rt.alloc(), kind)?;
+    measure_load(rt, history, &load)
+}
+
+// Measures each kind through one history.
+fn measure_kinds<O: MibObject>(rt: &HostRuntime, history: &mut Kept<O>) -> io::Result<()> {
+    for kind in KINDS {
+        measure_kind(rt, history, kind)?;
+    }
+    Ok(())
+}
+
+// Measures each kind, where little is learned.
+fn measure_events(rt: &HostRuntime) -> io::Result<()> {
     let all = objects(rt.alloc(), Steady)?;
     let mut history = history_of(rt.alloc(), all, 2, 1)?;
-    for load in &loads(rt.alloc())? {
-        measure_load(rt, &mut history, load)?;
-    }
+    measure_kinds(rt, &mut history)
+}
+
+// Measures moves of the base, where much is learned.
+fn measure_bases(rt: &HostRuntime) -> io::Result<()> {
     let all = objects(rt.alloc(), Steady)?;
     let mut history = history_of(rt.alloc(), all, ROWS, FAMILIES)?;
-    println!(rt; "{ROWS} learned rows, {FAMILIES} families")?;
     measure_moves(rt, &mut history)
+}
+
+/// Has events of each kind happen through a history.
+pub fn measure_history(rt: &HostRuntime) -> io::Result<()> {
+    measure_events(rt)?;
+    println!(rt; "{ROWS} learned rows, {FAMILIES} families")?;
+    measure_bases(rt)
 }
