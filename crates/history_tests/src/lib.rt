@@ -16,8 +16,6 @@
 #[cfg(test)]
 mod base;
 #[cfg(test)]
-mod copies;
-#[cfg(test)]
 mod entries;
 #[cfg(test)]
 mod support;
