@@ -1,5 +1,6 @@
-//! The lines of a run, one after another, over one history.
-ghost use Rattle.std.specs.Prelude.{◌≡◌, ◌+◌, ◌<◌, ◌≤◌, ◌^◌, [], length, vec_len, vec_capacity};
+//! The lines of a run, each in a thread beside the others, over one history.
+ghost use Rattle.std.specs.Prelude.{◌≡◌, ◌+◌, ◌<◌, ◌≤◌, ◌^◌, [], vec_len, vec_capacity};
+ghost use Rattle.std.specs.Thread.{IsSend, IsSync};
 ghost use Rattle.history_core.specs.History.{IsHistory};
 ghost use Rattle.live_lock.specs.Sharing.{IsHeld};
 ghost use Rattle.live_agent.specs.Lines.{setting_of};
@@ -7,91 +8,35 @@ ghost use Rattle.live_agent.specs.Turns.{entered_in};
 ghost use Rattle.live_run.specs.Crews.{WorkerRan, PortRan, TickerRan, AllRan, CrewRan, entered_by, entered_of};
 
 use crate::lines::{Lines, Runs};
+use crate::station::Station;
 use history_core::Kept;
-use live_agent::{Gate, Plan, Ran, port_run, ticker_run, worker_run};
+use live_agent::{Gate, Plan, Ran};
 use live_lock::{Live, Run};
 use setphase_core::MibObject;
 use std::marker::Brand;
 use std::sync::Wait;
 use std::sync::ledger::{Blank, Share};
+use std::thread::{Threads, join};
 use wire_core::{Pace, Wire};
 
-// One worker, which owns its share and its wire while it runs.
-fn work<O: MibObject, L: Run, W: Wire, G: Gate, R: Wait>(
+// A worker for each wire, each in a thread beside the others. Gives back the share, the wires, and how
+// each ran, in their order.
+fn run_workers<
+    S: Station<L> + Sync,
+    L: Run + Send + Sync,
+    W: Wire + Send,
+    G: Gate + Sync,
+    R: Threads + Wait + Sync,
+>(
     rt: &R,
     plan: &Plan,
-    live: &Live<O, L>,
-    gate: &G,
-    worker: usize,
-    share: Share<L>,
-    wire: W,
-) -> (Share<L>, W, Ran)
-    requires { 0 < share.parts }
-    ensures ran { WorkerRan W.went W.failures (setting_of L.start plan.now) plan.now.rounds wire
-        result.1 result.2 }
-    ensures amount { result.0.amount ≡ share.amount + entered_in result.2.trace }
-    ensures parts { result.0.parts ≡ share.parts }
-{
-    let mut share = share;
-    let mut wire = wire;
-    let ran = worker_run(rt, plan, live, &mut share, &mut wire, gate, worker);
-    (share, wire, ran)
-}
-
-// The same of a port.
-fn pass<O: MibObject, L: Run, W: Wire, R: Wait>(
-    rt: &R,
-    plan: &Plan,
-    live: &Live<O, L>,
-    port: u16,
-    share: Share<L>,
-    wire: W,
-) -> (Share<L>, W, Ran)
-    requires { 0 < share.parts }
-    ensures ran { PortRan W.went W.failures (setting_of L.start plan.now) plan.now.rounds port wire
-        result.1 result.2 }
-    ensures amount { result.0.amount ≡ share.amount + entered_in result.2.trace }
-    ensures parts { result.0.parts ≡ share.parts }
-{
-    let mut share = share;
-    let mut wire = wire;
-    let ran = port_run(rt, plan, live, &mut share, &mut wire, port);
-    (share, wire, ran)
-}
-
-// The same of the ticker.
-fn tick<O: MibObject, L: Run, W: Wire, P: Pace, R: Wait>(
-    rt: &R,
-    plan: &Plan,
-    live: &Live<O, L>,
-    share: Share<L>,
-    wire: W,
-    pace: P,
-) -> (Share<L>, W, P, Ran)
-    requires { 0 < share.parts }
-    ensures ran { TickerRan W.went W.failures P.went (setting_of L.start plan.now) plan.now.rounds
-        wire result.1 pace result.2 result.3 }
-    ensures amount { result.0.amount ≡ share.amount + entered_in result.3.trace }
-    ensures parts { result.0.parts ≡ share.parts }
-{
-    let mut share = share;
-    let mut wire = wire;
-    let mut pace = pace;
-    let ran = ticker_run(rt, plan, live, &mut share, &mut wire, &mut pace);
-    (share, wire, pace, ran)
-}
-
-// A worker for each wire, in their order. Gives back the share, the wires, and how each ran.
-fn run_workers<O: MibObject, L: Run, W: Wire, G: Gate, R: Wait>(
-    rt: &R,
-    plan: &Plan,
-    live: &Live<O, L>,
+    station: &S,
     gate: &G,
     share: Share<L>,
     wires: Vec<W>,
     runs: Vec<Ran>,
 ) -> (Share<L>, Vec<W>, Vec<Ran>)
-    requires parts { 0 < share.parts }
+    requires parts { vec_len wires < share.parts }
     requires empty { runs.items ≡ [] }
     requires room { vec_len wires ≤ vec_capacity runs }
     ensures ran { AllRan (λ n. WorkerRan W.went W.failures (setting_of L.start plan.now)
@@ -102,28 +47,59 @@ fn run_workers<O: MibObject, L: Run, W: Wire, G: Gate, R: Wait>(
     ensures wires { vec_capacity result.1 ≡ vec_capacity wires }
     ensures runs { vec_capacity result.2 ≡ vec_capacity runs }
 {
+    let mut share = share;
     let mut wires = wires;
     let Some(wire) = wires.pop() else {
         return (share, wires, runs);
     };
+    let mine = share.split_off(1, 0);
     let worker = wires.len();
-    let (share, mut wires, mut runs) = run_workers(rt, plan, live, gate, share, wires, runs);
-    let (share, wire, ran) = work(rt, plan, live, gate, worker, share, wire);
+    let (one, others) = join(
+        rt,
+        move || -> (Share<L>, W, Ran)
+            requires { 0 < mine.parts }
+            ensures ran { WorkerRan W.went W.failures (setting_of L.start plan.entry.now)
+                plan.entry.now.rounds wire result.1 result.2 }
+            ensures amount { result.0.amount ≡ mine.amount + entered_in result.2.trace }
+            ensures parts { result.0.parts ≡ mine.parts }
+        { station.work(rt, plan, gate, worker, mine, wire) },
+        move || -> (Share<L>, Vec<W>, Vec<Ran>)
+            requires { IsSync R.row × IsSync S.row × IsSync G.row × (vec_len wires < share.parts)
+                × (runs.items ≡ []) × (vec_len wires ≤ vec_capacity runs) }
+            ensures ran { AllRan (λ n. WorkerRan W.went W.failures
+                (setting_of L.start plan.entry.now) plan.entry.now.rounds) 0 wires.items
+                result.1.items result.2.items }
+            ensures amount { result.0.amount ≡ share.amount + entered_by result.2.items }
+            ensures parts { result.0.parts ≡ share.parts }
+            ensures lens { (vec_len result.1 ≡ vec_len wires)
+                × (vec_len result.2 ≡ vec_len wires) }
+            ensures wires { vec_capacity result.1 ≡ vec_capacity wires }
+            ensures runs { vec_capacity result.2 ≡ vec_capacity runs }
+        { run_workers(rt, plan, station, gate, share, wires, runs) },
+    );
+    let (mine, wire, ran) = one;
+    let (mut share, mut wires, mut runs) = others;
+    share.merge(mine);
     wires.push_reserved(wire);
     runs.push_reserved(ran);
     (share, wires, runs)
 }
 
 // The same of the ports, from port 1 on.
-fn run_ports<O: MibObject, L: Run, W: Wire, R: Wait>(
+fn run_ports<
+    S: Station<L> + Sync,
+    L: Run + Send + Sync,
+    W: Wire + Send,
+    R: Threads + Wait + Sync,
+>(
     rt: &R,
     plan: &Plan,
-    live: &Live<O, L>,
+    station: &S,
     share: Share<L>,
     wires: Vec<W>,
     runs: Vec<Ran>,
 ) -> (Share<L>, Vec<W>, Vec<Ran>)
-    requires parts { 0 < share.parts }
+    requires parts { vec_len wires < share.parts }
     requires few { vec_len wires < 2 ^ 16 }
     requires empty { runs.items ≡ [] }
     requires room { vec_len wires ≤ vec_capacity runs }
@@ -135,31 +111,122 @@ fn run_ports<O: MibObject, L: Run, W: Wire, R: Wait>(
     ensures wires { vec_capacity result.1 ≡ vec_capacity wires }
     ensures runs { vec_capacity result.2 ≡ vec_capacity runs }
 {
+    let mut share = share;
     let mut wires = wires;
     let Some(wire) = wires.pop() else {
         return (share, wires, runs);
     };
+    let mine = share.split_off(1, 0);
     let port = wires.len() as u16 + 1;
-    let (share, mut wires, mut runs) = run_ports(rt, plan, live, share, wires, runs);
-    let (share, wire, ran) = pass(rt, plan, live, port, share, wire);
+    let (one, others) = join(
+        rt,
+        move || -> (Share<L>, W, Ran)
+            requires { 0 < mine.parts }
+            ensures ran { PortRan W.went W.failures (setting_of L.start plan.entry.now)
+                plan.entry.now.rounds port wire result.1 result.2 }
+            ensures amount { result.0.amount ≡ mine.amount + entered_in result.2.trace }
+            ensures parts { result.0.parts ≡ mine.parts }
+        { station.pass(rt, plan, port, mine, wire) },
+        move || -> (Share<L>, Vec<W>, Vec<Ran>)
+            requires { IsSync R.row × IsSync S.row × (vec_len wires < share.parts)
+                × (vec_len wires < 2 ^ 16) × (runs.items ≡ [])
+                × (vec_len wires ≤ vec_capacity runs) }
+            ensures ran { AllRan (PortRan W.went W.failures
+                (setting_of L.start plan.entry.now) plan.entry.now.rounds) 1 wires.items
+                result.1.items result.2.items }
+            ensures amount { result.0.amount ≡ share.amount + entered_by result.2.items }
+            ensures parts { result.0.parts ≡ share.parts }
+            ensures lens { (vec_len result.1 ≡ vec_len wires)
+                × (vec_len result.2 ≡ vec_len wires) }
+            ensures wires { vec_capacity result.1 ≡ vec_capacity wires }
+            ensures runs { vec_capacity result.2 ≡ vec_capacity runs }
+        { run_ports(rt, plan, station, share, wires, runs) },
+    );
+    let (mine, wire, ran) = one;
+    let (mut share, mut wires, mut runs) = others;
+    share.merge(mine);
     wires.push_reserved(wire);
     runs.push_reserved(ran);
     (share, wires, runs)
 }
 
-// All lines: the workers, the ports, and the ticker.
-fn run_crew<O: MibObject, L: Run, W: Wire, P: Pace, G: Gate, R: Wait>(
+// The ports, beside the ticker.
+fn run_bridge<
+    S: Station<L> + Sync,
+    L: Run + Send + Sync,
+    W: Wire + Send,
+    P: Pace,
+    R: Threads + Wait + Sync,
+>(
     rt: &R,
     plan: &Plan,
-    live: &Live<O, L>,
+    station: &S,
+    share: Share<L>,
+    ports: Vec<W>,
+    ticker: W,
+    pace: P,
+    runs: Vec<Ran>,
+) -> (Share<L>, Vec<W>, Vec<Ran>, W, P, Ran)
+    requires parts { vec_len ports + 1 < share.parts }
+    requires few { vec_len ports < 2 ^ 16 }
+    requires empty { runs.items ≡ [] }
+    requires room { vec_len ports ≤ vec_capacity runs }
+    ensures ports { AllRan (PortRan W.went W.failures (setting_of L.start plan.now)
+        plan.now.rounds) 1 ports.items result.1.items result.2.items }
+    ensures ticker { TickerRan W.went W.failures P.went (setting_of L.start plan.now)
+        plan.now.rounds ticker result.3 pace result.4 result.5 }
+    ensures amount { result.0.amount
+        ≡ share.amount + (entered_by result.2.items + entered_in result.5.trace) }
+    ensures parts { result.0.parts ≡ share.parts }
+{
+    let mut share = share;
+    let theirs = share.split_off(ports.len() as u64 + 1, 0);
+    let (passed, ticked) = join(
+        rt,
+        move || -> (Share<L>, Vec<W>, Vec<Ran>)
+            requires { IsSync R.row × IsSync S.row × (vec_len ports < theirs.parts)
+                × (vec_len ports < 2 ^ 16) × (runs.items ≡ [])
+                × (vec_len ports ≤ vec_capacity runs) }
+            ensures ran { AllRan (PortRan W.went W.failures
+                (setting_of L.start plan.entry.now) plan.entry.now.rounds) 1 ports.items
+                result.1.items result.2.items }
+            ensures amount { result.0.amount ≡ theirs.amount + entered_by result.2.items }
+            ensures parts { result.0.parts ≡ theirs.parts }
+        { run_ports(rt, plan, station, theirs, ports, runs) },
+        move || -> (Share<L>, W, P, Ran)
+            requires { 0 < share.parts }
+            ensures ran { TickerRan W.went W.failures P.went (setting_of L.start plan.entry.now)
+                plan.entry.now.rounds ticker result.1 pace result.2 result.3 }
+            ensures amount { result.0.amount ≡ share.amount + entered_in result.3.trace }
+            ensures parts { result.0.parts ≡ share.parts }
+        { station.tick(rt, plan, share, ticker, pace) },
+    );
+    let (theirs, ports, runs) = passed;
+    let (mut share, ticker, pace, ran) = ticked;
+    share.merge(theirs);
+    (share, ports, runs, ticker, pace, ran)
+}
+
+// All lines: the workers beside the ports beside the ticker.
+fn run_crew<
+    S: Station<L> + Sync,
+    L: Run + Send + Sync,
+    W: Wire + Send,
+    P: Pace,
+    G: Gate + Sync,
+    R: Threads + Wait + Sync,
+>(
+    rt: &R,
+    plan: &Plan,
+    station: &S,
     gate: &G,
     share: Share<L>,
     lines: Lines<W, P>,
     worker_runs: Vec<Ran>,
     port_runs: Vec<Ran>,
 ) -> (Share<L>, Lines<W, P>, Runs)
-    requires parts { 0 < share.parts }
-    requires few { vec_len lines.ports < 2 ^ 16 }
+    requires parts { vec_len lines.workers + vec_len lines.ports + 2 < share.parts }
+    requires few { (vec_len lines.workers < 2 ^ 16) × (vec_len lines.ports < 2 ^ 16) }
     requires empty { (worker_runs.items ≡ []) × (port_runs.items ≡ []) }
     requires room { (vec_len lines.workers ≤ vec_capacity worker_runs)
         × (vec_len lines.ports ≤ vec_capacity port_runs) }
@@ -174,17 +241,38 @@ fn run_crew<O: MibObject, L: Run, W: Wire, P: Pace, G: Gate, R: Wait>(
         ticker,
         pace,
     } = lines;
-    let (share, workers, worker_runs) = run_workers(
+    let mut share = share;
+    let theirs = share.split_off(workers.len() as u64 + 1, 0);
+    let (worked, bridged) = join(
         rt,
-        plan,
-        live,
-        gate,
-        share,
-        workers,
-        worker_runs,
+        move || -> (Share<L>, Vec<W>, Vec<Ran>)
+            requires { IsSync R.row × IsSync S.row × IsSync G.row
+                × (vec_len workers < theirs.parts) × (worker_runs.items ≡ [])
+                × (vec_len workers ≤ vec_capacity worker_runs) }
+            ensures ran { AllRan (λ n. WorkerRan W.went W.failures
+                (setting_of L.start plan.entry.now) plan.entry.now.rounds) 0 workers.items
+                result.1.items result.2.items }
+            ensures amount { result.0.amount ≡ theirs.amount + entered_by result.2.items }
+            ensures parts { result.0.parts ≡ theirs.parts }
+        { run_workers(rt, plan, station, gate, theirs, workers, worker_runs) },
+        move || -> (Share<L>, Vec<W>, Vec<Ran>, W, P, Ran)
+            requires { IsSync R.row × IsSync S.row × (vec_len ports + 1 < share.parts)
+                × (vec_len ports < 2 ^ 16) × (port_runs.items ≡ [])
+                × (vec_len ports ≤ vec_capacity port_runs) }
+            ensures ports { AllRan (PortRan W.went W.failures
+                (setting_of L.start plan.entry.now) plan.entry.now.rounds) 1 ports.items
+                result.1.items result.2.items }
+            ensures ticker { TickerRan W.went W.failures P.went
+                (setting_of L.start plan.entry.now) plan.entry.now.rounds ticker result.3 pace
+                result.4 result.5 }
+            ensures amount { result.0.amount
+                ≡ share.amount + (entered_by result.2.items + entered_in result.5.trace) }
+            ensures parts { result.0.parts ≡ share.parts }
+        { run_bridge(rt, plan, station, share, ports, ticker, pace, port_runs) },
     );
-    let (share, ports, port_runs) = run_ports(rt, plan, live, share, ports, port_runs);
-    let (share, ticker, pace, ran) = tick(rt, plan, live, share, ticker, pace);
+    let (theirs, workers, worker_runs) = worked;
+    let (mut share, ports, port_runs, ticker, pace, ran) = bridged;
+    share.merge(theirs);
     let lines = Lines {
         workers,
         ports,
@@ -200,7 +288,14 @@ fn run_crew<O: MibObject, L: Run, W: Wire, P: Pace, G: Gate, R: Wait>(
 }
 
 // A history under a lock, the lines over it, and the history again.
-fn run_over<O: MibObject, L: Run, W: Wire, P: Pace, G: Gate, R: Wait>(
+fn run_over<
+    O: MibObject + Send,
+    L: Run + Send + Sync,
+    W: Wire + Send,
+    P: Pace,
+    G: Gate + Sync,
+    R: Threads + Wait + Sync,
+>(
     rt: &R,
     plan: &Plan,
     gate: &G,
@@ -213,8 +308,8 @@ fn run_over<O: MibObject, L: Run, W: Wire, P: Pace, G: Gate, R: Wait>(
     requires name { blank.name ≡ L.name }
     requires all { blank.parts ≡ L.parts }
     requires start { kept ≡ L.start }
-    requires parts { 0 < blank.parts }
-    requires few { vec_len lines.ports < 2 ^ 16 }
+    requires parts { vec_len lines.workers + vec_len lines.ports + 2 < blank.parts }
+    requires few { (vec_len lines.workers < 2 ^ 16) × (vec_len lines.ports < 2 ^ 16) }
     requires empty { (worker_runs.items ≡ []) × (port_runs.items ≡ []) }
     requires room { (vec_len lines.workers ≤ vec_capacity worker_runs)
         × (vec_len lines.ports ≤ vec_capacity port_runs) }
@@ -238,8 +333,15 @@ fn run_over<O: MibObject, L: Run, W: Wire, P: Pace, G: Gate, R: Wait>(
     (kept, lines, runs)
 }
 
-/// Runs all lines over a history, which comes back, and so do the lines.
-pub fn run_from<O: MibObject, W: Wire, P: Pace, G: Gate, R: Wait>(
+/// Runs all lines over a history at the same time, each in a thread of its own. The history comes
+/// back, and so do the lines.
+pub fn run_from<
+    O: MibObject + Send,
+    W: Wire + Send,
+    P: Pace,
+    G: Gate + Sync,
+    R: Threads + Wait + Sync,
+>(
     rt: &R,
     plan: &Plan,
     gate: &G,
@@ -248,7 +350,7 @@ pub fn run_from<O: MibObject, W: Wire, P: Pace, G: Gate, R: Wait>(
     worker_runs: Vec<Ran>,
     port_runs: Vec<Ran>,
 ) -> (Kept<O>, Lines<W, P>, Runs)
-    requires few { vec_len lines.ports < 2 ^ 16 }
+    requires few { (vec_len lines.workers < 2 ^ 16) × (vec_len lines.ports < 2 ^ 16) }
     requires empty { (worker_runs.items ≡ []) × (port_runs.items ≡ []) }
     requires room { (vec_len lines.workers ≤ vec_capacity worker_runs)
         × (vec_len lines.ports ≤ vec_capacity port_runs) }
@@ -257,6 +359,8 @@ pub fn run_from<O: MibObject, W: Wire, P: Pace, G: Gate, R: Wait>(
     ensures held { IsHeld kept result.0 (entered_of result.2) }
     ensures legal { IsHistory result.0 }
 {
-    let blank = Blank::new(1);
+    // A part for each line, and one more for those that start the workers and the ports.
+    let parts = lines.workers.len() as u64 + lines.ports.len() as u64 + 3;
+    let blank = Blank::new(parts);
     run_over::<O, Brand, W, P, G, R>(rt, plan, gate, kept, blank, lines, worker_runs, port_runs)
 }

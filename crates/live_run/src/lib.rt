@@ -1,21 +1,21 @@
 //! A run of an agent: all its lines over one history, and the report of what they did.
 //!
 //! # Entry points
-//! [`serve_in_turn`] takes a history and [`Lines`], runs one line after another, and gives back the
-//! lines, the history, and a [`Report`] or a [`RunFault`].
+//! [`serve_run`] takes a history and [`Lines`], runs each line in a thread of its own, and gives back
+//! the lines, the history, and a [`Report`] or a [`RunFault`].
 //!
 //! # Definitions
 //! `specs/Crews.antt`: lines that ran over one history; `specs/Reports.antt`: what a report says of
 //! them, and why a run has none; `specs/Served.antt`: a whole run.
 //!
 //! # Laws
-//! On [`serve_in_turn`]: each line ran as its own clause says, over the wire that was handed in; the
+//! On [`serve_run`]: each line ran as its own clause says, over the wire that was handed in; the
 //! history that comes back is legal, and goes on from the one that was handed in by as many entries
 //! as the traces have receipts; each of these stands in it or is older than its base, no two have
 //! one number, and those of one trace rise.
 //!
 //! # Not claimed
-//! That a run ends.
+//! That a run ends; that two threads run at the same time.
 #![tactic(auto)]
 
 mod collecting;
@@ -25,7 +25,8 @@ mod judging;
 mod lines;
 mod report;
 mod serving;
+mod station;
 
 pub use lines::{Lines, Runs};
 pub use report::{Report, RunFault};
-pub use serving::serve_in_turn;
+pub use serving::serve_run;

@@ -11,6 +11,7 @@ use live_agent::{Gate, Plan, Ran};
 use setphase_core::MibObject;
 use std::alloc::{AllocError, Global};
 use std::sync::Wait;
+use std::thread::Threads;
 use wire_core::{Pace, Wire};
 
 // Room for how so many lines ran.
@@ -21,24 +22,30 @@ fn room_for(alloc: Global, lines: usize) -> Result<Vec<Ran>, AllocError>
     Vec::with_capacity(alloc, lines)
 }
 
-/// Runs lines over a history in the caller's thread, one after another: a worker over each wire of
-/// `workers`, a port over each of `ports`, and the ticker. Each ends after its rounds, where its wire
-/// is closed or fails (the ticker: its pace ends), where no number is left for an entry, or where
-/// there is no memory for its trace. Then the receipts are compared with the history.
+/// Runs lines over a history at the same time, each in a thread of its own: a worker over each wire
+/// of `workers`, a port over each of `ports`, and the ticker. Each ends after its rounds, where its
+/// wire is closed or fails (the ticker: its pace ends), where no number is left for an entry, or where
+/// there is no memory for its trace. When all have ended, the receipts are compared with the history.
 ///
 /// Gives back the lines, the history, and the report.
 ///
 /// # Errors
 /// A [`RunFault`], in its order. Where there is no memory to begin with, it is `Memory`, and nothing
 /// ran; else all lines ran all the same.
-pub fn serve_in_turn<O: MibObject, W: Wire, P: Pace, G: Gate, R: Wait>(
+pub fn serve_run<
+    O: MibObject + Send,
+    W: Wire + Send,
+    P: Pace,
+    G: Gate + Sync,
+    R: Threads + Wait + Sync,
+>(
     rt: &R,
     plan: &Plan,
     gate: &G,
     kept: Kept<O>,
     lines: Lines<W, P>,
 ) -> (Lines<W, P>, Kept<O>, Result<Report, RunFault>)
-    requires few { vec_len lines.ports < 2 ^ 16 }
+    requires few { (vec_len lines.workers < 2 ^ 16) × (vec_len lines.ports < 2 ^ 16) }
     ensures { Serves W.went W.failures P.went plan.now kept result.1 lines result.0 result.2 }
 {
     let Ok(worker_runs) = room_for(plan.alloc, lines.workers.len()) else {

@@ -5,10 +5,11 @@ use fixtures::message::get;
 use fixtures::names::PORTS;
 use history_core::Kept;
 use live_agent::OpenGate;
-use live_run::{Lines, Report, RunFault, serve_in_turn};
+use live_run::{Lines, Report, RunFault, serve_run};
 use std::alloc::Global;
 use std::sync::Wait;
 use std::test::Fail;
+use std::thread::Threads;
 use wire_core::{CountPace, FailingWire, MemoryWire, WireFault};
 
 type Wires = FailingWire<MemoryWire>;
@@ -49,22 +50,22 @@ fn lines_failing(alloc: Global, failing: Line, call: u64) -> Result<Lines<Wires,
 }
 
 // What a run of them answers.
-fn answer<R: Wait>(
+fn answer<R: Threads + Wait + Sync>(
     rt: &R,
     alloc: Global,
     history: Kept<Shown>,
     lines: Lines<Wires, CountPace>,
 ) -> Result<(Result<Report, RunFault>, u64), Fail> {
     let plan = plan_of(alloc, 10)?;
-    if lines.ports.len() > 2 {
+    if lines.workers.len() > 8 || lines.ports.len() > 2 {
         return Err(Fail::from("few lines"));
     }
-    let (_, history, report) = serve_in_turn(rt, &plan, &OpenGate, history, lines);
+    let (_, history, report) = serve_run(rt, &plan, &OpenGate, history, lines);
     Ok((report, history.next_number()))
 }
 
 // How a run ends where one call of a line's wire fails, and how many entries there are.
-fn failed_at<R: Wait>(
+fn failed_at<R: Threads + Wait + Sync>(
     rt: &R,
     alloc: Global,
     failing: Line,

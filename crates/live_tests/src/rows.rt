@@ -9,10 +9,11 @@ use fixtures::names::{HELLO, PRIORITY};
 use fixtures::policies::MASKED;
 use history_core::Kept;
 use live_agent::OpenGate;
-use live_run::{Lines, Report, RunFault, serve_in_turn};
+use live_run::{Lines, Report, RunFault, serve_run};
 use std::alloc::Global;
 use std::sync::Wait;
 use std::test::Fail;
+use std::thread::Threads;
 use wire_core::{CountPace, MemoryWire};
 
 // dot1dStpPortState of port 2.
@@ -24,17 +25,17 @@ const FLOODED: [u8; 14] = [
 ];
 
 // What a run of these lines leaves.
-fn run<R: Wait>(
+fn run<R: Threads + Wait + Sync>(
     rt: &R,
     alloc: Global,
     history: Kept<Shown>,
     lines: Lines<MemoryWire, CountPace>,
 ) -> Result<(Lines<MemoryWire, CountPace>, Kept<Shown>, Report), Fail> {
     let plan = plan_of(alloc, 5000)?;
-    if lines.ports.len() > 2 {
+    if lines.workers.len() > 8 || lines.ports.len() > 2 {
         return Err(Fail::from("few lines"));
     }
-    let (lines, history, report) = serve_in_turn(rt, &plan, &OpenGate, history, lines);
+    let (lines, history, report) = serve_run(rt, &plan, &OpenGate, history, lines);
     match report {
         Ok(report) => Ok((lines, history, report)),
         Err(_) => Err(Fail::from("a report")),
@@ -50,7 +51,7 @@ fn is_answered(lines: &Lines<MemoryWire, CountPace>, octets: &[u8]) -> bool {
 }
 
 // Whether a Get of the state of port 2, which the view hides, is told so.
-fn hides<R: Wait>(rt: &R, alloc: Global) -> Result<bool, Fail> {
+fn hides<R: Threads + Wait + Sync>(rt: &R, alloc: Global) -> Result<bool, Fail> {
     let workers = one(alloc, asking(alloc, &[get(&[(STATE_OF_2, Null)])])?)?;
     let lines = lines_of(alloc, workers, MemoryWire::new(alloc), 0)?;
     let (lines, _, report) = run(rt, alloc, policed(alloc, MASKED)?, lines)?;
@@ -65,7 +66,7 @@ fn a_run_hides_what_the_view_hides(rt: HostRuntime) -> Result<(), Fail> {
 }
 
 // Whether a frame at port 1 goes out by port 2's peer, over port 1's wire.
-fn forwards<R: Wait>(rt: &R, alloc: Global) -> Result<bool, Fail> {
+fn forwards<R: Threads + Wait + Sync>(rt: &R, alloc: Global) -> Result<bool, Fail> {
     let workers = one(alloc, MemoryWire::new(alloc))?;
     let lines = lines_of(alloc, workers, carrying(alloc, &FLOODED)?, 0)?;
     let (lines, _, report) = run(rt, alloc, of_edges(alloc)?, lines)?;
@@ -105,7 +106,7 @@ fn count_of(wire: &MemoryWire, octets: &[u8]) -> usize {
 
 // A run of a Set and 4,200 Gets: how many Gets read what was set, how many entries there are, the
 // base number, and how many receipts are older.
-fn long_run<R: Wait>(rt: &R, alloc: Global) -> Result<(usize, u64, u64, u64), Fail> {
+fn long_run<R: Threads + Wait + Sync>(rt: &R, alloc: Global) -> Result<(usize, u64, u64, u64), Fail> {
     let workers = one(alloc, set_and_gets(alloc, 4200)?)?;
     let lines = lines_of(alloc, workers, MemoryWire::new(alloc), 0)?;
     let (lines, history, report) = run(rt, alloc, of_fast_hello(alloc)?, lines)?;

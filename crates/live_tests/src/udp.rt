@@ -5,7 +5,7 @@ use fixtures::message::{get, octets_of, reply};
 use fixtures::names::PORTS;
 use fixtures::policies::WHOLE_BRIDGE;
 use live_agent::OpenGate;
-use live_run::{Lines, serve_in_turn};
+use live_run::{Lines, serve_run};
 use std::net::SocketAddr;
 use std::test::Fail;
 use wire_core::{CountPace, Received, UdpWire, Wire};
@@ -30,7 +30,7 @@ fn answers_over_udp(rt: HostRuntime) -> Result<(), Fail> {
         pace: CountPace::new(0),
     };
     let plan = plan_of(alloc, 1)?;
-    let (_, _, report) = serve_in_turn(&rt, &plan, &OpenGate, policed(alloc, WHOLE_BRIDGE)?, lines);
+    let (_, _, report) = serve_run(&rt, &plan, &OpenGate, policed(alloc, WHOLE_BRIDGE)?, lines);
     assert!(rt; report.is_ok());
     let mut octets = [0u8; 64];
     let Ok(Received::Datagram(len, from)) = client.receive(&mut octets) else {

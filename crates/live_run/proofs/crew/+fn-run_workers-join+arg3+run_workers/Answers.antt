@@ -2,14 +2,14 @@ use Rattle.std.proofs.Common.{ap, arith}
 use Rattle.live_agent.specs.Lines.{setting_of}
 use Rattle.live_run.specs.Crews.{WorkerRan, entered_by}
 use Rattle.live_run.proofs.Lining.{AllRan-snoc, entered_by-snoc}
-use Rattle.live_run.proofs.crew.+run_workers.Goals as goal
+use Rattle.live_run.proofs.crew.+fn-run_workers-join+arg3+run_workers.Goals as goal
 
 pub returns-clause-ran : goal.returns-clause-ran
 returns-clause-ran g t c =
     let s = setting_of g.L.Run.start c.args.plan.now in
     rw (c.in-Some.ensures.items, c.push_reserved.ensures.items, c.push_reserved-2.ensures.items)
-    (AllRan-snoc (λ n. WorkerRan g.W.Wire.went g.W.Wire.failures s c.args.plan.now.rounds) 0 _ _ _ _ _ _ c.run_workers-share.ensures.ran c.work-share.ensures.ran)
+    (AllRan-snoc (λ n. WorkerRan g.W.Wire.went g.W.Wire.failures s c.args.plan.now.rounds) 0 _ _ _ _ _ _ c.join-one.ensures.second.0 c.join-one.ensures.first.0)
 
 pub returns-clause-amount : goal.returns-clause-amount
 returns-clause-amount g t c =
-    omega (arith, ap entered_by c.push_reserved-2.ensures.items, entered_by-snoc c.run_workers-share.result.2.items c.work-share.result.2, c.run_workers-share.ensures.amount, c.work-share.ensures.amount)
+    omega (arith, ap entered_by c.push_reserved-2.ensures.items, entered_by-snoc c.join-one.result.1.2.items c.join-one.result.0.2)

@@ -2,16 +2,16 @@ use Rattle.std.proofs.Common.{◌≡◌, ℕ, ◌+◌, length, ap, subst, arith}
 use Rattle.live_agent.specs.Lines.{setting_of}
 use Rattle.live_run.specs.Crews.{PortRan, entered_by}
 use Rattle.live_run.proofs.Lining.{AllRan-snoc, entered_by-snoc}
-use Rattle.live_run.proofs.crew.+run_ports.Goals as goal
+use Rattle.live_run.proofs.crew.+fn-run_ports-join+arg3+run_ports.Goals as goal
 
 pub returns-clause-ran : goal.returns-clause-ran
 returns-clause-ran g t c =
     let s = setting_of g.L.Run.start c.args.plan.now in
     let at : c.len.result + 1 ≡ 1 + length c.pop.new.self.items = omega (arith, c.len.ensures, c.pop.new.self.ok) in
     rw (c.in-Some.ensures.items, c.push_reserved.ensures.items, c.push_reserved-2.ensures.items)
-    (AllRan-snoc (PortRan g.W.Wire.went g.W.Wire.failures s c.args.plan.now.rounds) 1 _ _ _ _ _ _ c.run_ports-share.ensures.ran
-    (subst (λ (k : ℕ). PortRan g.W.Wire.went g.W.Wire.failures s c.args.plan.now.rounds k c.in-Some.wire c.pass-share.result.1 c.pass-share.result.2) at c.pass-share.ensures.ran))
+    (AllRan-snoc (PortRan g.W.Wire.went g.W.Wire.failures s c.args.plan.now.rounds) 1 _ _ _ _ _ _ c.join-one.ensures.second.0
+    (subst (λ (k : ℕ). PortRan g.W.Wire.went g.W.Wire.failures s c.args.plan.now.rounds k c.in-Some.wire c.join-one.result.0.1 c.join-one.result.0.2) at c.join-one.ensures.first.0))
 
 pub returns-clause-amount : goal.returns-clause-amount
 returns-clause-amount g t c =
-    omega (arith, ap entered_by c.push_reserved-2.ensures.items, entered_by-snoc c.run_ports-share.result.2.items c.pass-share.result.2, c.run_ports-share.ensures.amount, c.pass-share.ensures.amount)
+    omega (arith, ap entered_by c.push_reserved-2.ensures.items, entered_by-snoc c.join-one.result.1.2.items c.join-one.result.0.2)

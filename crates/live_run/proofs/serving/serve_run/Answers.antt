@@ -1,5 +1,5 @@
 use Rattle.live_run.proofs.Answering.{answered}
-use Rattle.live_run.proofs.serving.serve_in_turn.Goals as goal
+use Rattle.live_run.proofs.serving.serve_run.Goals as goal
 
 pub returns : goal.returns
 returns g c =
