@@ -5,12 +5,12 @@ ghost use Rattle.history_core.specs.History.{IsHistory};
 ghost use Rattle.live_lock.specs.Sharing.{IsHeld};
 ghost use Rattle.live_agent.specs.Lines.{setting_of};
 ghost use Rattle.live_agent.specs.Turns.{entered_in};
+ghost use Rattle.live_run.specs.Shared.{MayShare};
 ghost use Rattle.live_run.specs.Crews.{WorkerRan, PortRan, TickerRan, AllRan, CrewRan, entered_by, entered_of};
 
 use crate::lines::{Lines, Runs};
-use crate::station::Station;
 use history_core::Kept;
-use live_agent::{Gate, Plan, Ran};
+use live_agent::{Gate, Plan, Ran, port_run, ticker_run, worker_run};
 use live_lock::{Live, Run};
 use setphase_core::MibObject;
 use std::marker::Brand;
@@ -19,10 +19,75 @@ use std::sync::ledger::{Blank, Share};
 use std::thread::{Threads, join};
 use wire_core::{Pace, Wire};
 
+// One worker, which owns its share and its wire while it runs.
+fn work<O: MibObject, L: Run, W: Wire, G: Gate, R: Wait>(
+    rt: &R,
+    plan: &Plan,
+    live: &Live<O, L>,
+    gate: &G,
+    worker: usize,
+    share: Share<L>,
+    wire: W,
+) -> (Share<L>, W, Ran)
+    requires { 0 < share.parts }
+    ensures ran { WorkerRan W.went W.failures (setting_of L.start plan.now) plan.now.rounds wire
+        result.1 result.2 }
+    ensures amount { result.0.amount ≡ share.amount + entered_in result.2.trace }
+    ensures parts { result.0.parts ≡ share.parts }
+{
+    let mut share = share;
+    let mut wire = wire;
+    let ran = worker_run(rt, plan, live, &mut share, &mut wire, gate, worker);
+    (share, wire, ran)
+}
+
+// The same of a port.
+fn pass<O: MibObject, L: Run, W: Wire, R: Wait>(
+    rt: &R,
+    plan: &Plan,
+    live: &Live<O, L>,
+    port: u16,
+    share: Share<L>,
+    wire: W,
+) -> (Share<L>, W, Ran)
+    requires { 0 < share.parts }
+    ensures ran { PortRan W.went W.failures (setting_of L.start plan.now) plan.now.rounds port wire
+        result.1 result.2 }
+    ensures amount { result.0.amount ≡ share.amount + entered_in result.2.trace }
+    ensures parts { result.0.parts ≡ share.parts }
+{
+    let mut share = share;
+    let mut wire = wire;
+    let ran = port_run(rt, plan, live, &mut share, &mut wire, port);
+    (share, wire, ran)
+}
+
+// The same of the ticker.
+fn tick<O: MibObject, L: Run, W: Wire, P: Pace, R: Wait>(
+    rt: &R,
+    plan: &Plan,
+    live: &Live<O, L>,
+    share: Share<L>,
+    wire: W,
+    pace: P,
+) -> (Share<L>, W, P, Ran)
+    requires { 0 < share.parts }
+    ensures ran { TickerRan W.went W.failures P.went (setting_of L.start plan.now) plan.now.rounds
+        wire result.1 pace result.2 result.3 }
+    ensures amount { result.0.amount ≡ share.amount + entered_in result.3.trace }
+    ensures parts { result.0.parts ≡ share.parts }
+{
+    let mut share = share;
+    let mut wire = wire;
+    let mut pace = pace;
+    let ran = ticker_run(rt, plan, live, &mut share, &mut wire, &mut pace);
+    (share, wire, pace, ran)
+}
+
 // A worker for each wire, each in a thread beside the others. Gives back the share, the wires, and how
 // each ran, in their order.
 fn run_workers<
-    S: Station<L> + Sync,
+    O: MibObject + Send,
     L: Run + Send + Sync,
     W: Wire + Send,
     G: Gate + Sync,
@@ -30,12 +95,13 @@ fn run_workers<
 >(
     rt: &R,
     plan: &Plan,
-    station: &S,
+    live: &Live<O, L>,
     gate: &G,
     share: Share<L>,
     wires: Vec<W>,
     runs: Vec<Ran>,
 ) -> (Share<L>, Vec<W>, Vec<Ran>)
+    requires shared { MayShare O.row L.row O.MibObject L.start L.name L.parts }
     requires parts { vec_len wires < share.parts }
     requires empty { runs.items ≡ [] }
     requires room { vec_len wires ≤ vec_capacity runs }
@@ -62,9 +128,11 @@ fn run_workers<
                 plan.entry.now.rounds wire result.1 result.2 }
             ensures amount { result.0.amount ≡ mine.amount + entered_in result.2.trace }
             ensures parts { result.0.parts ≡ mine.parts }
-        { station.work(rt, plan, gate, worker, mine, wire) },
+        { work(rt, plan, live, gate, worker, mine, wire) },
         move || -> (Share<L>, Vec<W>, Vec<Ran>)
-            requires { IsSync R.row × IsSync S.row × IsSync G.row × (vec_len wires < share.parts)
+            requires { IsSync R.row × IsSync G.row
+                × MayShare O.row L.row O.MibObject L.start L.name L.parts
+                × (vec_len wires < share.parts)
                 × (runs.items ≡ []) × (vec_len wires ≤ vec_capacity runs) }
             ensures ran { AllRan (λ n. WorkerRan W.went W.failures
                 (setting_of L.start plan.entry.now) plan.entry.now.rounds) 0 wires.items
@@ -75,7 +143,7 @@ fn run_workers<
                 × (vec_len result.2 ≡ vec_len wires) }
             ensures wires { vec_capacity result.1 ≡ vec_capacity wires }
             ensures runs { vec_capacity result.2 ≡ vec_capacity runs }
-        { run_workers(rt, plan, station, gate, share, wires, runs) },
+        { run_workers(rt, plan, live, gate, share, wires, runs) },
     );
     let (mine, wire, ran) = one;
     let (mut share, mut wires, mut runs) = others;
@@ -87,18 +155,19 @@ fn run_workers<
 
 // The same of the ports, from port 1 on.
 fn run_ports<
-    S: Station<L> + Sync,
+    O: MibObject + Send,
     L: Run + Send + Sync,
     W: Wire + Send,
     R: Threads + Wait + Sync,
 >(
     rt: &R,
     plan: &Plan,
-    station: &S,
+    live: &Live<O, L>,
     share: Share<L>,
     wires: Vec<W>,
     runs: Vec<Ran>,
 ) -> (Share<L>, Vec<W>, Vec<Ran>)
+    requires shared { MayShare O.row L.row O.MibObject L.start L.name L.parts }
     requires parts { vec_len wires < share.parts }
     requires few { vec_len wires < 2 ^ 16 }
     requires empty { runs.items ≡ [] }
@@ -126,9 +195,10 @@ fn run_ports<
                 plan.entry.now.rounds port wire result.1 result.2 }
             ensures amount { result.0.amount ≡ mine.amount + entered_in result.2.trace }
             ensures parts { result.0.parts ≡ mine.parts }
-        { station.pass(rt, plan, port, mine, wire) },
+        { pass(rt, plan, live, port, mine, wire) },
         move || -> (Share<L>, Vec<W>, Vec<Ran>)
-            requires { IsSync R.row × IsSync S.row × (vec_len wires < share.parts)
+            requires { IsSync R.row × MayShare O.row L.row O.MibObject L.start L.name L.parts
+                × (vec_len wires < share.parts)
                 × (vec_len wires < 2 ^ 16) × (runs.items ≡ [])
                 × (vec_len wires ≤ vec_capacity runs) }
             ensures ran { AllRan (PortRan W.went W.failures
@@ -140,7 +210,7 @@ fn run_ports<
                 × (vec_len result.2 ≡ vec_len wires) }
             ensures wires { vec_capacity result.1 ≡ vec_capacity wires }
             ensures runs { vec_capacity result.2 ≡ vec_capacity runs }
-        { run_ports(rt, plan, station, share, wires, runs) },
+        { run_ports(rt, plan, live, share, wires, runs) },
     );
     let (mine, wire, ran) = one;
     let (mut share, mut wires, mut runs) = others;
@@ -152,7 +222,7 @@ fn run_ports<
 
 // The ports, beside the ticker.
 fn run_bridge<
-    S: Station<L> + Sync,
+    O: MibObject + Send,
     L: Run + Send + Sync,
     W: Wire + Send,
     P: Pace,
@@ -160,13 +230,14 @@ fn run_bridge<
 >(
     rt: &R,
     plan: &Plan,
-    station: &S,
+    live: &Live<O, L>,
     share: Share<L>,
     ports: Vec<W>,
     ticker: W,
     pace: P,
     runs: Vec<Ran>,
 ) -> (Share<L>, Vec<W>, Vec<Ran>, W, P, Ran)
+    requires shared { MayShare O.row L.row O.MibObject L.start L.name L.parts }
     requires parts { vec_len ports + 1 < share.parts }
     requires few { vec_len ports < 2 ^ 16 }
     requires empty { runs.items ≡ [] }
@@ -184,7 +255,8 @@ fn run_bridge<
     let (passed, ticked) = join(
         rt,
         move || -> (Share<L>, Vec<W>, Vec<Ran>)
-            requires { IsSync R.row × IsSync S.row × (vec_len ports < theirs.parts)
+            requires { IsSync R.row × MayShare O.row L.row O.MibObject L.start L.name L.parts
+                × (vec_len ports < theirs.parts)
                 × (vec_len ports < 2 ^ 16) × (runs.items ≡ [])
                 × (vec_len ports ≤ vec_capacity runs) }
             ensures ran { AllRan (PortRan W.went W.failures
@@ -192,14 +264,14 @@ fn run_bridge<
                 result.1.items result.2.items }
             ensures amount { result.0.amount ≡ theirs.amount + entered_by result.2.items }
             ensures parts { result.0.parts ≡ theirs.parts }
-        { run_ports(rt, plan, station, theirs, ports, runs) },
+        { run_ports(rt, plan, live, theirs, ports, runs) },
         move || -> (Share<L>, W, P, Ran)
             requires { 0 < share.parts }
             ensures ran { TickerRan W.went W.failures P.went (setting_of L.start plan.entry.now)
                 plan.entry.now.rounds ticker result.1 pace result.2 result.3 }
             ensures amount { result.0.amount ≡ share.amount + entered_in result.3.trace }
             ensures parts { result.0.parts ≡ share.parts }
-        { station.tick(rt, plan, share, ticker, pace) },
+        { tick(rt, plan, live, share, ticker, pace) },
     );
     let (theirs, ports, runs) = passed;
     let (mut share, ticker, pace, ran) = ticked;
@@ -209,7 +281,7 @@ fn run_bridge<
 
 // All lines: the workers beside the ports beside the ticker.
 fn run_crew<
-    S: Station<L> + Sync,
+    O: MibObject + Send,
     L: Run + Send + Sync,
     W: Wire + Send,
     P: Pace,
@@ -218,13 +290,14 @@ fn run_crew<
 >(
     rt: &R,
     plan: &Plan,
-    station: &S,
+    live: &Live<O, L>,
     gate: &G,
     share: Share<L>,
     lines: Lines<W, P>,
     worker_runs: Vec<Ran>,
     port_runs: Vec<Ran>,
 ) -> (Share<L>, Lines<W, P>, Runs)
+    requires shared { MayShare O.row L.row O.MibObject L.start L.name L.parts }
     requires parts { vec_len lines.workers + vec_len lines.ports + 2 < share.parts }
     requires few { (vec_len lines.workers < 2 ^ 16) × (vec_len lines.ports < 2 ^ 16) }
     requires empty { (worker_runs.items ≡ []) × (port_runs.items ≡ []) }
@@ -246,7 +319,7 @@ fn run_crew<
     let (worked, bridged) = join(
         rt,
         move || -> (Share<L>, Vec<W>, Vec<Ran>)
-            requires { IsSync R.row × IsSync S.row × IsSync G.row
+            requires { IsSync R.row × IsSync G.row × MayShare O.row L.row O.MibObject L.start L.name L.parts
                 × (vec_len workers < theirs.parts) × (worker_runs.items ≡ [])
                 × (vec_len workers ≤ vec_capacity worker_runs) }
             ensures ran { AllRan (λ n. WorkerRan W.went W.failures
@@ -254,9 +327,10 @@ fn run_crew<
                 result.1.items result.2.items }
             ensures amount { result.0.amount ≡ theirs.amount + entered_by result.2.items }
             ensures parts { result.0.parts ≡ theirs.parts }
-        { run_workers(rt, plan, station, gate, theirs, workers, worker_runs) },
+        { run_workers(rt, plan, live, gate, theirs, workers, worker_runs) },
         move || -> (Share<L>, Vec<W>, Vec<Ran>, W, P, Ran)
-            requires { IsSync R.row × IsSync S.row × (vec_len ports + 1 < share.parts)
+            requires { IsSync R.row × MayShare O.row L.row O.MibObject L.start L.name L.parts
+                × (vec_len ports + 1 < share.parts)
                 × (vec_len ports < 2 ^ 16) × (port_runs.items ≡ [])
                 × (vec_len ports ≤ vec_capacity port_runs) }
             ensures ports { AllRan (PortRan W.went W.failures
@@ -268,7 +342,7 @@ fn run_crew<
             ensures amount { result.0.amount
                 ≡ share.amount + (entered_by result.2.items + entered_in result.5.trace) }
             ensures parts { result.0.parts ≡ share.parts }
-        { run_bridge(rt, plan, station, share, ports, ticker, pace, port_runs) },
+        { run_bridge(rt, plan, live, share, ports, ticker, pace, port_runs) },
     );
     let (theirs, workers, worker_runs) = worked;
     let (mut share, ports, port_runs, ticker, pace, ran) = bridged;

@@ -25,7 +25,6 @@ mod judging;
 mod lines;
 mod report;
 mod serving;
-mod station;
 
 pub use lines::{Lines, Runs};
 pub use report::{Report, RunFault};

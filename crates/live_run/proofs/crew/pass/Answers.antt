@@ -1,5 +1,5 @@
 use Rattle.live_run.proofs.Lining.{port_amount, port_ran}
-use Rattle.live_run.proofs.station.LiveStation.pass.Goals as goal
+use Rattle.live_run.proofs.crew.pass.Goals as goal
 
 pub returns-clause-ran : goal.returns-clause-ran
 returns-clause-ran g c =

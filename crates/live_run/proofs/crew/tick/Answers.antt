@@ -1,5 +1,5 @@
 use Rattle.live_run.proofs.Lining.{run_amount, ticker_ran}
-use Rattle.live_run.proofs.station.LiveStation.tick.Goals as goal
+use Rattle.live_run.proofs.crew.tick.Goals as goal
 
 pub returns-clause-ran : goal.returns-clause-ran
 returns-clause-ran g c =
