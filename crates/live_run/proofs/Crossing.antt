@@ -6,7 +6,6 @@ use denote.Enum.Declared as E
 use denote.Struct.Struct.{Struct}
 use denote.Enum.Enum.{Enum}
 use denote.Hole.FixSend.{fix_send, Sends}
-use denote.Hole.Fix.{holes}
 use denote.Hole.FixLaws.{layer_row}
 use Rattle.std.proofs.Crossing.{crosses}
 use Rattle.vacm_core.specs.contracts.tree.Tree as Tree

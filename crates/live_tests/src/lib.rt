@@ -16,6 +16,8 @@
 #[cfg(test)]
 mod failing;
 #[cfg(test)]
+mod gated;
+#[cfg(test)]
 mod rows;
 #[cfg(test)]
 mod support;

@@ -2,4 +2,4 @@ use Rattle.live_run.proofs.Crossing.{live_sync}
 use Rattle.live_run.proofs.crew.run_over.Goals as goal
 
 pub run_crew-share-requires-clause-shared : goal.run_crew-share-requires-clause-shared
-run_crew-share-requires-clause-shared g c κs within = live_sync _ _ _ _ _ c.type_bounds.send-O
+run_crew-share-requires-clause-shared g c κs within = search (live_sync, c.type_bounds.send-O)
