@@ -1,0 +1,27 @@
+-- What a setup holds, and when there is one.
+use Rattle.std.specs.Prelude.{◌≡◌, List, Option, Some, All}
+use Rattle.std.specs.declared.net.socket_addr.SocketAddr.{SocketAddr}
+use Rattle.frame_core.specs.declared.mac.Mac.{Mac}
+use Rattle.configuration.specs.declared.configuration.Port.{Port}
+use Rattle.configuration.specs.declared.configuration.Serve.{Serve}
+use Rattle.udp_agent.specs.declared.setup.Setup.{Setup}
+
+-- it is said of a port where its frames come in, and where they go
+pub record HasSockets (port : Port) : Type 0 where
+  pub listens : SocketAddr
+  pub listens_at : port.listen ≡ Some listens
+  pub sends : SocketAddr
+  pub sends_to : port.peer ≡ Some sends
+
+-- it is said how to serve, and of each port where its frames come in and go
+pub record HasSetup (ports : List Port) (serve : Option Serve) : Type 0 where
+  pub how : Serve
+  pub is : serve ≡ Some how
+  pub sockets : All HasSockets ports
+
+-- the setup of a bridge of this address and these ports
+pub record IsSetup (address : Mac) (ports : List Port) (serve : Option Serve) (setup : Setup) : Type 0 where
+  pub address_is : setup.address ≡ address
+  pub ports_are : setup.ports.items ≡ ports
+  pub serve_is : serve ≡ Some setup.serve
+  pub sockets : All HasSockets ports

@@ -1,0 +1,59 @@
+//! Where an agent is served, and for how long.
+ghost use Rattle.std.specs.Prelude.{◌≡◌, true, false, All, IfSome, IsNone};
+ghost use Rattle.udp_agent.specs.Setups.{HasSockets, IsSetup, HasSetup};
+
+use arrayvec::ArrayVec;
+use configuration::{Port, Serve};
+use frame_core::Mac;
+use rstp_settings::settings::MAX_PORTS;
+
+/// Where an agent is served, and for how long.
+#[derive(Drop)]
+pub struct Setup {
+    /// The bridge's address, from which its ports send their BPDUs.
+    pub address: Mac,
+    /// The bridge's ports, from port 1 on: where the frames of each come in, and where they go.
+    pub ports: ArrayVec<Port, MAX_PORTS>,
+    /// Where requests come in, how many threads answer them, and how many rounds each line makes.
+    pub serve: Serve,
+}
+
+// Whether it is said of a port where its frames come in, and where they go.
+fn has_sockets(port: &Port) -> bool
+    ensures yes { result ≡ true → HasSockets port.now }
+    ensures no { result ≡ false → HasSockets port.now → ⊥ }
+{
+    port.listen.is_some() && port.peer.is_some()
+}
+
+// Whether it is of each of these ports.
+fn have_sockets(ports: &[Port]) -> bool
+    ensures yes { result ≡ true → All HasSockets ports.now }
+    ensures no { result ≡ false → All HasSockets ports.now → ⊥ }
+{
+    let [port, rest @ ..] = ports else {
+        return true;
+    };
+    has_sockets(port) && have_sockets(rest)
+}
+
+/// The setup of a bridge of this address and these ports: none unless it is said how to serve, and of
+/// each port where its frames come in and where they go.
+pub fn setup_of(
+    address: Mac,
+    ports: ArrayVec<Port, MAX_PORTS>,
+    serve: Option<Serve>,
+) -> Option<Setup>
+    ensures some { IfSome result (IsSetup address ports.items serve) }
+    ensures none { IsNone result → HasSetup ports.items serve → ⊥ }
+{
+    let serve = serve?;
+    if !have_sockets(ports.as_slice()) {
+        return None;
+    }
+    Some(Setup {
+        address,
+        ports,
+        serve,
+    })
+}
