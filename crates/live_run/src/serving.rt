@@ -26,6 +26,7 @@ fn room_for(alloc: Global, lines: usize) -> Result<Vec<Ran>, AllocError>
 /// of `workers`, a port over each of `ports`, and the ticker. Each ends after its rounds, where its
 /// wire is closed or fails (the ticker: its pace ends), where no number is left for an entry, or where
 /// there is no memory for its trace. When all have ended, the receipts are compared with the history.
+/// Where the system makes no thread more, a line runs after those that it was to run beside.
 ///
 /// Gives back the lines, the history, and the report.
 ///
