@@ -154,12 +154,7 @@ fn run_workers<
 }
 
 // The same of the ports, from port 1 on.
-fn run_ports<
-    O: MibObject + Send,
-    L: Run + Send + Sync,
-    W: Wire + Send,
-    R: Threads + Wait + Sync,
->(
+fn run_ports<O: MibObject + Send, L: Run + Send + Sync, W: Wire + Send, R: Threads + Wait + Sync>(
     rt: &R,
     plan: &Plan,
     live: &Live<O, L>,

@@ -1,5 +1,5 @@
 //! Two workers at the same time, of which a gate holds one until the other's call is answered.
-use crate::support::{Shown, asking, is_sent, lines_of, of_edges, peer, plan_of, MANAGER};
+use crate::support::{MANAGER, asking, is_sent, lines_of, of_edges, peer, plan_of};
 use fixtures::message::Held::{Integer, Null};
 use fixtures::message::{Message, get, octets_of, of, reply, set};
 use fixtures::names::PRIORITY;

@@ -106,7 +106,10 @@ fn count_of(wire: &MemoryWire, octets: &[u8]) -> usize {
 
 // A run of a Set and 4,200 Gets: how many Gets read what was set, how many entries there are, the
 // base number, and how many receipts are older.
-fn long_run<R: Threads + Wait + Sync>(rt: &R, alloc: Global) -> Result<(usize, u64, u64, u64), Fail> {
+fn long_run<R: Threads + Wait + Sync>(
+    rt: &R,
+    alloc: Global,
+) -> Result<(usize, u64, u64, u64), Fail> {
     let workers = one(alloc, set_and_gets(alloc, 4200)?)?;
     let lines = lines_of(alloc, workers, MemoryWire::new(alloc), 0)?;
     let (lines, history, report) = run(rt, alloc, of_fast_hello(alloc)?, lines)?;
