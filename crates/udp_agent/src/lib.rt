@@ -9,10 +9,11 @@
 //! `specs/Setups.antt`: what a setup holds; `specs/Serving.antt`: what a report says of a run.
 //!
 //! # Laws
-//! On [`serve_lines`]: what `live_run` promises of a run that has a report.
+//! On [`serve_lines`]: a report is that of a legal history that goes on from the one handed in.
 //!
 //! # Not claimed
-//! What UDP delivers; that a run ends; the text that is logged.
+//! That the lines that ran are those handed in; which sockets are bound, and what a plan holds; what
+//! UDP delivers; that a run ends; the text that is logged.
 #![tactic(auto)]
 
 mod binding;
