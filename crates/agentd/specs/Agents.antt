@@ -1,7 +1,9 @@
 -- The world that a configuration opens, and the objects that show it.
 use Rattle.std.specs.Prelude.{◌≡◌, ℕ, List, map, None}
 use Rattle.rstp_settings.specs.declared.config.PortConfig.{PortConfig}
+use Rattle.bridge_core.specs.Bridge.{Bridge}
 use Rattle.bridge_core.specs.Opening.{opening_bridge}
+use Rattle.community_core.specs.declared.policy.Policy.{Policy}
 use Rattle.setphase_core.specs.Objects.{ObjectState}
 use Rattle.setphase_core.specs.Registry.{rows_of, first_fault, AreNamed}
 use Rattle.setphase_core.specs.declared.world.World.{World}
@@ -14,15 +16,18 @@ use Rattle.configuration.specs.Configurations.{IsConfigurationIn, IsFaultIn}
 abbrev pub configs_of : List Port → List PortConfig
 configs_of ports = map (λ port. port.config) ports
 
--- A bridge of the configuration's address and its ports, under its policy, of which nothing was
--- dropped yet.
-abbrev pub world_of : Configuration → World
-world_of c = record {
-  bridge = opening_bridge c.address (configs_of c.ports.items);
-  policy = c.policy;
+-- a world of which nothing was dropped yet
+abbrev pub undropped : Bridge → Policy → World
+undropped bridge policy = record {
+  bridge = bridge;
+  policy = policy;
   bad_communities = 0;
   unknown_contexts = 0;
 }
+
+-- A bridge of the configuration's address and its ports, under its policy.
+abbrev pub world_of : Configuration → World
+world_of c = undropped (opening_bridge c.address (configs_of c.ports.items)) c.policy
 
 -- the octets say a configuration, and it opens this world
 pub record IsWorldOf (octets : List ℕ) (world : World) : Type 0 where

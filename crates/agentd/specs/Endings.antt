@@ -27,15 +27,15 @@ failure_status Input = 1
 failure_status Output = 1
 failure_status RunFailed = 1
 
-abbrev pub status_of : Result (Unit {0}) Failure → ℕ
+abbrev pub status_of : {A : Type 0} → Result A Failure → ℕ
 status_of (Ok done) = 0
 status_of (Err failure) = failure_status failure
 
 -- what a failure is called, and what it names
 abbrev pub failure_words : Failure → List ℕ
-failure_words (Usage (Unexpected word)) = codes "usage: agentd [script|check --config FILE]: unexpected word "
-failure_words (Usage Missing) = codes "usage: agentd [script|check --config FILE]: --config FILE is missing"
-failure_words NotText = codes "usage: agentd [script|check --config FILE]: a word is no text"
+failure_words (Usage (Unexpected word)) = codes "usage: agentd [script|check|serve --config FILE]: unexpected word "
+failure_words (Usage Missing) = codes "usage: agentd [script|check|serve --config FILE]: --config FILE is missing"
+failure_words NotText = codes "usage: agentd [script|check|serve --config FILE]: a word is no text"
 failure_words (CannotRead file) = codes "cannot read "
 failure_words Refused = codes "configuration refused"
 failure_words Input = codes "input failed"
@@ -58,7 +58,7 @@ failure_line failure =
     codes "agentd: " ++ (failure_words failure ++ (failure_name failure ++ codes "\n"))
 
 -- what is said on standard error
-abbrev pub said_of : Result (Unit {0}) Failure → List ℕ
+abbrev pub said_of : {A : Type 0} → Result A Failure → List ℕ
 said_of (Ok done) = []
 said_of (Err failure) = failure_line failure
 

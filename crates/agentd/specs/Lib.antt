@@ -4,4 +4,5 @@ pub mod Agents
 pub mod Runs
 pub mod Endings
 pub mod Telling
+pub mod Services
 pub mod Programs

@@ -3,11 +3,11 @@ use Rattle.std.specs.Prelude.{ℕ, ◌==◌, ◌||◌, Bool, codes, if◌then◌
 use Rattle.std.specs.List.{starts_with}
 use Rattle.std.specs.Str.{bytes_eq}
 use Rattle.agentd.specs.declared.words.Asked.{Asked}
-use Rattle.agentd.specs.declared.words.Asked.TheVariants.{BuiltIn, Script, Check, Help, Version}
+use Rattle.agentd.specs.declared.words.Asked.TheVariants.{BuiltIn, Script, Check, Serve, Help, Version}
 use Rattle.agentd.specs.declared.words.Wrong.{Wrong}
 use Rattle.agentd.specs.declared.words.Wrong.TheVariants.{Unexpected, Missing}
 use Rattle.agentd.specs.declared.words.Doing.{Doing}
-use Rattle.agentd.specs.declared.words.Doing.TheVariants.{Script as RunsScript, Check as ChecksFile}
+use Rattle.agentd.specs.declared.words.Doing.TheVariants.{Script as RunsScript, Check as ChecksFile, Serve as ServesFile}
 
 pub data Asking : Type 0 where
   -- the script by the built-in configuration
@@ -16,7 +16,9 @@ pub data Asking : Type 0 where
   script : (file : List ℕ) → Asking
   -- `check --config FILE` or `check --config=FILE`: whether this file is a configuration
   check : (file : List ℕ) → Asking
-  -- `--help` or `-h`, alone or behind `script` or `check`
+  -- `serve --config FILE` or `serve --config=FILE`: the agent by the configuration of this file, over UDP
+  serve : (file : List ℕ) → Asking
+  -- `--help` or `-h`, alone or behind `script`, `check` or `serve`
   help : Asking
   -- `--version` or `-V`
   version : Asking
@@ -30,6 +32,7 @@ pub data Mistake : Type 0 where
 abbrev pub asking_with_file : Doing → List ℕ → Asking
 asking_with_file RunsScript file = script file
 asking_with_file ChecksFile file = check file
+asking_with_file ServesFile file = serve file
 
 -- the one word behind `--config`
 abbrev pub file_behind : List (List ℕ) → Result (List ℕ) Mistake
@@ -62,7 +65,7 @@ asking_in_word doing word None more = Err (unexpected word)
 asking_in_word doing word (Some file) more =
     if length file == 0 then Err missing else alone (asking_with_file doing file) more
 
--- the words behind `script` or `check`
+-- the words behind `script`, `check` or `serve`
 abbrev pub file_asking : Doing → List (List ℕ) → Result Asking Mistake
 file_asking doing [] = Err missing
 file_asking doing (option ∷ more) =
@@ -75,6 +78,7 @@ abbrev pub asking_with : List ℕ → List (List ℕ) → Result Asking Mistake
 asking_with word more =
     if bytes_eq word (codes "script") then file_asking RunsScript more
     else if bytes_eq word (codes "check") then file_asking ChecksFile more
+    else if bytes_eq word (codes "serve") then file_asking ServesFile more
     else if is_help word then alone help more
     else if is_version word then alone version more
     else Err (unexpected word)
@@ -91,6 +95,7 @@ abbrev pub asked_view : Asked → Asking
 asked_view BuiltIn = built_in
 asked_view (Script file) = script file.now
 asked_view (Check file) = check file.now
+asked_view (Serve file) = serve file.now
 asked_view Help = help
 asked_view Version = version
 

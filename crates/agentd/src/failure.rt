@@ -101,10 +101,11 @@ impl Failure<'_> {
     {
         match self {
             Failure::Usage(Wrong::Unexpected(_)) =>
-                b"usage: agentd [script|check --config FILE]: unexpected word ",
+                b"usage: agentd [script|check|serve --config FILE]: unexpected word ",
             Failure::Usage(Wrong::Missing) =>
-                b"usage: agentd [script|check --config FILE]: --config FILE is missing",
-            Failure::NotText => b"usage: agentd [script|check --config FILE]: a word is no text",
+                b"usage: agentd [script|check|serve --config FILE]: --config FILE is missing",
+            Failure::NotText =>
+                b"usage: agentd [script|check|serve --config FILE]: a word is no text",
             Failure::CannotRead(_) => b"cannot read ",
             Failure::Refused => b"configuration refused",
             Failure::Input => b"input failed",

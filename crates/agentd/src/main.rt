@@ -1,14 +1,16 @@
-//! The agent, driven by a script from standard input.
+//! The agent, driven by a script from standard input, or served over UDP.
 //!
 //! # Entry points
 //! `run_words` over managed objects, words, streams and a reader of files gives the exit status, 0,
-//! 1 or 2, and whether the line of a failure was written whole. `run_octets` runs the script over
-//! objects by the octets of a configuration, `check_octets` tells whether octets are one.
+//! 1 or 2, whether the line of a failure was written whole, and what is left to be served, if its
+//! words ask for that. `run_octets` runs the script over objects by the octets of a configuration,
+//! `check_octets` tells whether octets are one, `open_service` gives what they say is to be served,
+//! and `serve_opened` serves it.
 //!
 //! # Definitions
 //! `specs/Words.antt`: what words ask for; `specs/Files.antt`: what a read of a file gave;
 //! `specs/Agents.antt`: the world that a configuration opens; `specs/Runs.antt`: what a run by
-//! octets promises; `specs/Endings.antt`: statuses, and the line of each failure;
+//! octets promises; `specs/Services.antt`: what they give to be served; `specs/Endings.antt`: statuses, and the line of each failure;
 //! `specs/Telling.antt`: what a check tells; `specs/Programs.antt`: what the program does with its
 //! words.
 //!
@@ -16,9 +18,8 @@
 //! None.
 //!
 //! # Not claimed
-//! That the words are those of the command line, and that the objects that `main` makes are the 51
-//! of
-//! `object_list`. That a write failed where the line of a failure is
+//! That the words are those of the command line, that the objects that `main` makes are the 51 of
+//! `object_list`, and that it serves what is left to be served. That a write failed where the line of a failure is
 //! told to be cut off. That memory was refused where the answer is for want of it. What a file of
 //! the system holds and a terminal shows.
 #![tactic(auto)]
@@ -29,6 +30,7 @@ mod files;
 mod opening;
 mod run;
 mod running;
+mod serving;
 mod telling;
 mod words;
 
@@ -42,10 +44,12 @@ use failure::{Failure, report};
 use files::SystemFiles;
 use object_list::{COLUMNS, Object};
 use run::run_words;
+use serving::serve_opened;
 use setphase_core::MibObject;
 use std::alloc::Allocator;
 use std::process::ExitCode;
 use std::{env, io};
+use udp_agent::{tell_fault, tell_report};
 
 fn main(rt: HostRuntime) -> ExitCode {
     let mut errors = rt.stderr();
@@ -68,7 +72,7 @@ fn main(rt: HostRuntime) -> ExitCode {
     }
     let files = SystemFiles(&rt);
     let (mut reader, mut writer) = (rt.reader(), io::writer(&rt));
-    let ended = run_words(
+    let (ended, left) = run_words(
         rt.alloc(),
         &files,
         objects,
@@ -77,7 +81,19 @@ fn main(rt: HostRuntime) -> ExitCode {
         &mut writer,
         &mut errors,
     );
-    ExitCode::from(ended.status)
+    let Some((registry, opened)) = left else {
+        return ExitCode::from(ended.status);
+    };
+    match serve_opened(&rt, rt.alloc(), registry, opened) {
+        Ok(done) => {
+            tell_report(&rt, &done);
+            ExitCode::SUCCESS
+        }
+        Err(fault) => {
+            tell_fault(&rt, &fault);
+            ExitCode::from(report(&Failure::Run, &mut errors).status)
+        }
+    }
 }
 
 // The words of the command line, the program's name first.

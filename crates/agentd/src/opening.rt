@@ -3,11 +3,12 @@ ghost use Rattle.std.specs.Prelude.{◌≡◌, ◌≤◌, IfOk, IfErr, length, m
 ghost use Rattle.bridge_core.specs.Opening.{opening_bridge};
 ghost use Rattle.configuration.specs.Bounds.{IsWithinBounds};
 ghost use Rattle.configuration.specs.Configurations.{IsConfigurationIn};
-ghost use Rattle.agentd.specs.Agents.{configs_of, IsWorldOf, MakeRegistry};
+ghost use Rattle.agentd.specs.Agents.{configs_of, undropped, IsWorldOf, MakeRegistry};
 ghost use Rattle.agentd.specs.Runs.{IsNotOpened};
 
 use arrayvec::ArrayVec;
 use bridge_core::Bridge;
+use community_core::Policy;
 use configuration::{Configuration, ConfigurationFault, Port, configuration_in};
 use rstp_core::{MAX_PORTS, PortConfig};
 use script_core::RunFault;
@@ -39,8 +40,8 @@ fn port_configs(ports: &[Port]) -> ArrayVec<PortConfig, MAX_PORTS>
     configs
 }
 
-// The bridge of a configuration, whose address and ports are those of a bridge.
-fn open_bridge(alloc: Global, configuration: &Configuration) -> Bridge
+/// The bridge of a configuration, whose address and ports are those of a bridge.
+pub fn open_bridge(alloc: Global, configuration: &Configuration) -> Bridge
     requires { IsWithinBounds configuration.now }
     ensures { result ≡ opening_bridge configuration.now.address
         (configs_of configuration.now.ports.items) }
@@ -52,8 +53,23 @@ fn open_bridge(alloc: Global, configuration: &Configuration) -> Bridge
     }
 }
 
-// The configuration of octets.
-fn read_configuration(alloc: Global, octets: &[u8]) -> Result<Configuration, NotRun>
+/// A world of this bridge and this policy, of which nothing was dropped yet.
+pub fn undropped(bridge: Bridge, policy: Policy) -> World
+    ensures { result ≡ undropped bridge policy }
+{
+    World {
+        bridge,
+        policy,
+        bad_communities: 0,
+        unknown_contexts: 0,
+    }
+}
+
+/// The configuration of octets.
+///
+/// # Errors
+/// As of [`open`].
+pub fn read_configuration(alloc: Global, octets: &[u8]) -> Result<Configuration, NotRun>
     ensures configuration { IfOk result (λ c. IsConfigurationIn octets.now c) }
     ensures fault { IfErr result (λ why. IsNotOpened octets.now why) }
 {
@@ -76,12 +92,7 @@ pub fn open(alloc: Global, octets: &[u8]) -> Result<World, NotRun>
 {
     let configuration = read_configuration(alloc, octets)?;
     let bridge = open_bridge(alloc, &configuration);
-    Ok(World {
-        bridge,
-        policy: configuration.policy,
-        bad_communities: 0,
-        unknown_contexts: 0,
-    })
+    Ok(undropped(bridge, configuration.policy))
 }
 
 /// The registry of these objects. It takes no memory.

@@ -3,15 +3,17 @@ ghost use Rattle.std.specs.Prelude.{◌≡◌, map, string_bytes};
 ghost use Rattle.agentd.specs.Endings.{ended_by};
 ghost use Rattle.agentd.specs.Files.{read_view};
 ghost use Rattle.agentd.specs.Telling.{IsCheckOf};
-ghost use Rattle.agentd.specs.Programs.{RunsBy, RunsRead, RunsFile, Does, HasEnded, IsProgramRun};
+ghost use Rattle.agentd.specs.Services.{OpensRead, OpensFile};
+ghost use Rattle.agentd.specs.Programs.{RunsBy, RunsRead, RunsFile, Does, HasEnded, IsProgramRun, nothing_left};
 
 use crate::checking::check_read;
 use crate::failure::{Ended, Failure, failure_of, read_failure, report, tell};
 use crate::files::{NotRead, ReadFile};
 use crate::running::run_octets;
+use crate::serving::{Opened, open_service};
 use crate::words::{Asked, HELP, VERSION, Wrong, asked_by};
 use configuration::BUILT_IN;
-use setphase_core::MibObject;
+use setphase_core::{MibObject, Registry};
 use std::alloc::Global;
 use std::io::{Read, Write};
 
@@ -21,6 +23,9 @@ use std::io::{Read, Write};
 /// whole or a front of it behind which a write failed. The octets of a file are those that `files`
 /// gives for its name. The script runs over exactly the objects that are handed in; where they make
 /// no registry, its configuration is refused.
+///
+/// Where the words ask to serve, it gives what is to be served as well, and has neither read from
+/// `reader` nor written anything; the caller has then to serve it.
 pub fn run_words<F, M, I, O, E>(
     alloc: Global,
     files: &F,
@@ -29,7 +34,7 @@ pub fn run_words<F, M, I, O, E>(
     reader: &mut I,
     writer: &mut O,
     errors: &mut E,
-) -> Ended
+) -> (Ended, Option<(Registry<M>, Opened)>)
 where
     F: ReadFile,
     M: MibObject,
@@ -39,18 +44,21 @@ where
     ensures { IsProgramRun (F.gives files.now) (map M.state objects.items)
         I.remaining O.contents (map string_bytes words.now)
         reader.old reader.new writer.old writer.new
-        (E.contents errors.old) (E.contents errors.new) result }
+        (E.contents errors.old) (E.contents errors.new) result.0 result.1 }
 {
     match try_words(alloc, files, objects, words, reader, writer) {
-        Ok(()) => Ended {
-            status: 0,
-            line: Ok(()),
-        },
-        Err(failure) => report(&failure, errors),
+        Ok(left) => {
+            let ended = Ended {
+                status: 0,
+                line: Ok(()),
+            };
+            (ended, left)
+        }
+        Err(failure) => (report(&failure, errors), None),
     }
 }
 
-// Runs the program, and gives why it failed.
+// Runs the program, and gives what is left to be served, or why it failed.
 fn try_words<'a, F, M, I, O>(
     alloc: Global,
     files: &F,
@@ -58,7 +66,7 @@ fn try_words<'a, F, M, I, O>(
     words: &'a [String],
     reader: &mut I,
     writer: &mut O,
-) -> Result<(), Failure<'a>>
+) -> Result<Option<(Registry<M>, Opened)>, Failure<'a>>
 where
     F: ReadFile,
     M: MibObject,
@@ -79,7 +87,7 @@ fn do_asked<'a, F, M, I, O>(
     asked: Result<Asked<'a>, Wrong<'a>>,
     reader: &mut I,
     writer: &mut O,
-) -> Result<(), Failure<'a>>
+) -> Result<Option<(Registry<M>, Opened)>, Failure<'a>>
 where
     F: ReadFile,
     M: MibObject,
@@ -90,13 +98,56 @@ where
         reader.old reader.new writer.old writer.new result }
 {
     match asked {
-        Ok(Asked::BuiltIn) => run_by(alloc, objects, BUILT_IN.as_bytes(), reader, writer),
-        Ok(Asked::Script(file)) => run_file(alloc, files, objects, file, reader, writer),
-        Ok(Asked::Check(file)) => check_file(alloc, files, file, writer),
-        Ok(Asked::Help) => tell(HELP.as_bytes(), writer),
-        Ok(Asked::Version) => tell(VERSION.as_bytes(), writer),
+        Ok(Asked::BuiltIn) => finish(run_by(alloc, objects, BUILT_IN.as_bytes(), reader, writer)),
+        Ok(Asked::Script(file)) => finish(run_file(alloc, files, objects, file, reader, writer)),
+        Ok(Asked::Check(file)) => finish(check_file(alloc, files, file, writer)),
+        Ok(Asked::Serve(file)) => serve_file(alloc, files, objects, file),
+        Ok(Asked::Help) => finish(tell(HELP.as_bytes(), writer)),
+        Ok(Asked::Version) => finish(tell(VERSION.as_bytes(), writer)),
         Err(wrong) => Err(Failure::Usage(wrong)),
     }
+}
+
+// What has ended so leaves nothing to be served.
+fn finish<'a, M: MibObject>(
+    ended: Result<(), Failure<'a>>,
+) -> Result<Option<(Registry<M>, Opened)>, Failure<'a>>
+    ensures { result ≡ nothing_left ended.entry }
+{
+    match ended {
+        Ok(()) => Ok(None),
+        Err(failure) => Err(failure),
+    }
+}
+
+// What is to be served by what was read of a file.
+fn serve_read<'a, M: MibObject>(
+    alloc: Global,
+    objects: Vec<M>,
+    read: Result<Vec<u8>, NotRead<'a>>,
+) -> Result<Option<(Registry<M>, Opened)>, Failure<'a>>
+    ensures { OpensRead (map M.state objects.items) (read_view read.entry) result }
+{
+    match read {
+        Ok(octets) => match open_service(alloc, objects, &octets) {
+            Ok(service) => Ok(Some(service)),
+            Err(why) => Err(failure_of(why)),
+        },
+        Err(why) => Err(read_failure(why)),
+    }
+}
+
+// What is to be served by a file.
+#[tactic(auto, using(crate::proofs::FileLemmas::file_served))]
+fn serve_file<'a, F: ReadFile, M: MibObject>(
+    alloc: Global,
+    files: &F,
+    objects: Vec<M>,
+    file: &'a str,
+) -> Result<Option<(Registry<M>, Opened)>, Failure<'a>>
+    ensures { OpensFile (F.gives files.now) (map M.state objects.items) file.now result }
+{
+    serve_read(alloc, objects, files.read_file(file))
 }
 
 // Runs the script by the octets of a configuration.

@@ -6,6 +6,7 @@ use crate::collect_words;
 use crate::failure::{Failure, report};
 use crate::files::{NotRead, ReadFile, SystemFiles};
 use crate::run::run_words;
+use crate::serving::Opened;
 use crate::telling::NotTaken;
 use bridge_mib::Planned;
 use bumpalo::Bump;
@@ -71,7 +72,7 @@ fn answers_a_script(rt: HostRuntime) -> Result<(), Fail> {
     let words = vec![in rt.alloc(); String::from_str(rt.alloc(), "agentd")?]?;
     let mut out = Vec::new(rt.alloc());
     let mut errors = Vec::new(rt.alloc());
-    let ended = run_words(
+    let (ended, _) = run_words(
         rt.alloc(),
         &SystemFiles(&rt),
         objects(rt.alloc(), Planned::new())?,
@@ -93,7 +94,7 @@ fn fails_with_its_input(rt: HostRuntime) -> Result<(), Fail> {
     let mut out = Vec::new(rt.alloc());
     let mut errors = Vec::new(rt.alloc());
     let mut reader = Failing { octets: GET };
-    let ended = run_words(
+    let (ended, _) = run_words(
         rt.alloc(),
         &SystemFiles(&rt),
         objects(rt.alloc(), Planned::new())?,
@@ -113,7 +114,7 @@ fn fails_with_its_input(rt: HostRuntime) -> Result<(), Fail> {
 fn fails_with_its_output(rt: HostRuntime) -> Result<(), Fail> {
     let words = vec![in rt.alloc(); String::from_str(rt.alloc(), "agentd")?]?;
     let mut errors = Vec::new(rt.alloc());
-    let ended = run_words(
+    let (ended, _) = run_words(
         rt.alloc(),
         &SystemFiles(&rt),
         objects(rt.alloc(), Planned::new())?,
@@ -138,12 +139,13 @@ fn words_of(alloc: Global, texts: &[&str]) -> Result<Vec<String>, Fail> {
     Ok(words)
 }
 
-/// What a run wrote, and its status.
+/// What a run wrote, its status, and what it left to be served.
 #[derive(Drop)]
 struct Finished {
     status: u8,
     out: Vec<u8>,
     errors: Vec<u8>,
+    left: Option<Opened>,
 }
 
 // A run of these words on a script, over these files and objects.
@@ -158,7 +160,7 @@ fn ran_with<F: ReadFile, B: MibObject>(
     let mut out = Vec::new(alloc);
     let mut errors = Vec::new(alloc);
     let mut reader = script;
-    let ended = run_words(
+    let (ended, left) = run_words(
         alloc,
         files,
         objects,
@@ -172,6 +174,10 @@ fn ran_with<F: ReadFile, B: MibObject>(
         status: ended.status,
         out,
         errors,
+        left: match left {
+            Some((_, opened)) => Some(opened),
+            None => None,
+        },
     })
 }
 
@@ -205,7 +211,7 @@ fn ran_by<R: Files + AllocGlobal>(
 }
 
 /// What stands before the reason that words are no command.
-const USAGE_LINE: &str = "agentd: usage: agentd [script|check --config FILE]: ";
+const USAGE_LINE: &str = "agentd: usage: agentd [script|check|serve --config FILE]: ";
 
 // What stands behind that.
 fn told_of(alloc: Global, run: &Finished) -> Result<String, Fail> {
@@ -226,8 +232,13 @@ fn takes_no_other_words(rt: HostRuntime) -> Result<(), Fail> {
             "--config FILE is missing\n",
         ),
         (
-            ["agentd", "serve", "--config", "a.toml"].as_slice(),
-            "unexpected word serve\n",
+            ["agentd", "server", "--config", "a.toml"].as_slice(),
+            "unexpected word server\n",
+        ),
+        (["agentd", "serve"].as_slice(), "--config FILE is missing\n"),
+        (
+            ["agentd", "serve", "--config", "a.toml", "now"].as_slice(),
+            "unexpected word now\n",
         ),
         (
             ["agentd", "check", "--config"].as_slice(),
@@ -272,9 +283,11 @@ fn takes_no_other_words(rt: HostRuntime) -> Result<(), Fail> {
 }
 
 /// Lines of the help, whole.
-const HELP_LINES: [&str; 11] = [
+const HELP_LINES: [&str; 13] = [
     "  agentd script --config FILE   runs it by the configuration in FILE, a TOML document",
     "  agentd check --config FILE    tells whether FILE is a configuration, and if not, what would be right",
+    "  agentd serve --config FILE    serves the agent of FILE over UDP: its requests and its ports' frames",
+    "  agentd --help                 tells this, as --help behind script, check or serve does; also -h",
     "--config=FILE in one word is the same as --config FILE.",
     "                    badframe and the cause",
     "  link P up         the link of port P goes up: the BPDUs that are sent",
@@ -311,6 +324,8 @@ fn tells_its_help(rt: HostRuntime) -> Result<(), Fail> {
         ["agentd", "script", "-h"].as_slice(),
         ["agentd", "check", "--help"].as_slice(),
         ["agentd", "check", "-h"].as_slice(),
+        ["agentd", "serve", "--help"].as_slice(),
+        ["agentd", "serve", "-h"].as_slice(),
     ] {
         let run = ran(&rt, words, GET)?;
         assert!(rt; has_help(run.out.as_slice())?);
@@ -367,7 +382,7 @@ fn says_that_a_word_is_no_text(rt: HostRuntime) -> Result<(), Fail> {
     assert_eq!(rt; (whole.status, whole.line), (2, Ok(())));
     assert_eq!(rt;
         errors.as_slice(),
-        b"agentd: usage: agentd [script|check --config FILE]: a word is no text\n".as_slice()
+        b"agentd: usage: agentd [script|check|serve --config FILE]: a word is no text\n".as_slice()
     );
     Ok(())
 }
@@ -639,3 +654,5 @@ fn says_that_there_is_no_memory_for_a_file(rt: HostRuntime) -> Result<(), Fail> 
     assert_eq!(rt; out.as_slice(), NO_MEMORY);
     Ok(())
 }
+
+mod serving;

@@ -3,13 +3,14 @@ ghost use Rattle.std.specs.Prelude.{◌≡◌, map, option_map, codes, string_by
 ghost use Rattle.agentd.specs.Words.{asking_with_file, file_behind, alone, behind, asking_in_word, file_asking, asking_with, asking_of, asked_view, wrong_view, asking_view};
 
 /// What `agentd --help` tells.
-pub const HELP: &str = "An SNMPv2c agent of a bridge, driven by a script
+pub const HELP: &str = "An SNMPv2c agent of a bridge, driven by a script or served over UDP
 
 Usage:
   agentd                        runs the script on standard input by the built-in configuration
   agentd script --config FILE   runs it by the configuration in FILE, a TOML document
   agentd check --config FILE    tells whether FILE is a configuration, and if not, what would be right
-  agentd --help                 tells this, as agentd script --help and agentd check --help do; also -h
+  agentd serve --config FILE    serves the agent of FILE over UDP: its requests and its ports' frames
+  agentd --help                 tells this, as --help behind script, check or serve does; also -h
   agentd --version              tells the version; also -V
 
 --config=FILE in one word is the same as --config FILE.
@@ -28,6 +29,11 @@ Lines of a script, from standard input:
   driver N..        the ports' devices fail at these of their next 64 calls, and at no other
   any other line    badline
 
+serve wants the table serve in FILE, and listen and peer of each port. One socket takes the requests, and
+one of each port its frames; each thread that answers and each port makes as many receives as rounds says,
+of at most a second each, and the clock as many seconds. When all are done, what was done is logged on
+standard error: entries E requests Q older O drops D.
+
 Without words the built-in configuration runs: address 02000000000A, two ports, the communities public and admin.
 
 Example: printf 'link 1 up\\ntick 2\\n' | agentd script --config agentd.toml
@@ -45,6 +51,8 @@ pub enum Asked<'a> {
     Script(&'a str),
     /// Whether this file is a configuration.
     Check(&'a str),
+    /// The agent by the configuration of this file, over UDP.
+    Serve(&'a str),
     /// The help.
     Help,
     /// The version.
@@ -81,6 +89,7 @@ fn asked_with<'a>(word: &'a str, more: &'a [String]) -> Result<Asked<'a>, Wrong<
     match word {
         "script" => file_asked(Doing::Script, more),
         "check" => file_asked(Doing::Check, more),
+        "serve" => file_asked(Doing::Serve, more),
         "--help" | "-h" => alone(Asked::Help, more),
         "--version" | "-V" => alone(Asked::Version, more),
         _ => Err(Wrong::Unexpected(word)),
@@ -94,6 +103,8 @@ pub enum Doing {
     Script,
     /// Whether it is a configuration.
     Check,
+    /// The agent by its configuration, over UDP.
+    Serve,
 }
 
 // What is asked for with a file.
@@ -103,10 +114,11 @@ fn asked_of(doing: Doing, file: &str) -> Asked<'_>
     match doing {
         Doing::Script => Asked::Script(file),
         Doing::Check => Asked::Check(file),
+        Doing::Serve => Asked::Serve(file),
     }
 }
 
-// What is asked for by the words behind `script` or `check`.
+// What is asked for by the words behind `script`, `check` or `serve`.
 fn file_asked<'a>(doing: Doing, more: &'a [String]) -> Result<Asked<'a>, Wrong<'a>>
     ensures { asking_view result ≡ file_asking doing (map string_bytes more.now) }
 {

@@ -1,4 +1,4 @@
-//! Tests of whole runs: lines over wires in memory and over UDP, on one history.
+//! Tests of whole runs: lines over wires in memory, on one history.
 //!
 //! # Entry points
 //! None.
@@ -21,5 +21,3 @@ mod gated;
 mod rows;
 #[cfg(test)]
 mod support;
-#[cfg(test)]
-mod udp;

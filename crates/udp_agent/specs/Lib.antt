@@ -1,2 +1,3 @@
+pub mod Binding
 pub mod Serving
 pub mod Setups

@@ -1,14 +1,38 @@
--- What a report says of a run over a history.
-use Rattle.history_core.specs.History.{History, IsHistory}
-use Rattle.live_lock.specs.Sharing.{IsHeld}
-use Rattle.live_run.specs.Crews.{entered_of}
-use Rattle.live_run.specs.Reports.{IsReport}
+-- What comes of serving lines over a history.
+use Rattle.std.specs.Prelude.{◌≡◌, ℕ, Bool, List, Result, Ok, Err}
+use Rattle.wire_core.specs.Acts.{Act}
+use Rattle.history_core.specs.History.{History}
+use Rattle.live_agent.specs.declared.plan.Plan.{Plan}
+use Rattle.live_run.specs.Served.{Serves}
+use Rattle.live_run.specs.declared.lines.Lines.{Lines}
 use Rattle.live_run.specs.declared.report.Report.{Report}
+use Rattle.live_run.specs.declared.report.RunFault.{RunFault}
+use Rattle.udp_agent.specs.Binding.{IsPlan, AreLines}
+use Rattle.udp_agent.specs.declared.serving.ServeFault.{ServeFault}
+use Rattle.udp_agent.specs.declared.serving.ServeFault.TheVariants.{Begin, Run}
+use Rattle.udp_agent.specs.declared.setup.Setup.{Setup}
 
--- There is a legal history which goes on from the one that was handed in by as many entries as the
--- lines made, and of that this is the report.
-pub record IsReportOf (start : History) (report : Report) : Type 0 where
-  pub later : History
-  pub held : IsHeld start later (entered_of report.runs)
-  pub legal : IsHistory later
-  pub is : IsReport later report.runs report
+module _ {W P : Type 0} (went : W → List Act → W → Type 0) (failures : W → ℕ)
+    (pace_went : P → List Bool → P → Type 0) where
+  -- These lines were run over this history, and this is what the run answers: for a history that they
+  -- left, and lines as they left them.
+  pub record IsServing (plan : Plan) (start : History) (lines : Lines W P)
+      (answer : Result Report RunFault) : Type 0 where
+    pub later : History
+    pub left : Lines W P
+    pub serves : Serves went failures pace_went plan start later lines left answer
+
+  -- Lines of this setup were, by its plan.
+  pub record IsServingBy (setup : Setup) (start : History) (answer : Result Report RunFault)
+      : Type 0 where
+    pub plan : Plan
+    pub planned : IsPlan setup plan
+    pub lines : Lines W P
+    pub bound : AreLines setup lines
+    pub served : IsServing plan start lines answer
+
+  -- What comes of a setup: nothing is said of where its sockets could not be bound.
+  abbrev pub IsServed : Setup → History → Result Report ServeFault → Type 0
+  IsServed setup start (Ok report) = IsServingBy setup start (Ok report)
+  IsServed setup start (Err (Run why)) = IsServingBy setup start (Err why)
+  IsServed setup start (Err (Begin error)) = Unit {0}

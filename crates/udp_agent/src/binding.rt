@@ -1,11 +1,11 @@
 //! Binds the sockets of a setup.
-ghost use Rattle.std.specs.Prelude.{◌≤◌, IfOk, vec_len};
+ghost use Rattle.std.specs.Prelude.{◌≡◌, ◌<◌, ◌≤◌, ◌^◌, IfOk, map, length, Some, vec_len};
+ghost use Rattle.udp_agent.specs.Binding.{IsPlan, AreLines};
 
 use crate::setup::Setup;
 use configuration::{Port, Serve};
 use live_agent::Plan;
 use live_run::Lines;
-use rstp_settings::settings::MAX_PORTS;
 use std::alloc::Global;
 use std::io::{self, ErrorKind};
 use std::net::{Net, SocketAddr};
@@ -13,18 +13,21 @@ use std::time::Clock;
 use wire_core::{SecondPace, UdpWire, Wire};
 
 // The wires of the threads that answer requests, which share one socket.
-fn bind_workers<R: Net>(rt: &R, alloc: Global, serve: &Serve) -> io::Result<Vec<UdpWire>> {
-    let first = UdpWire::bind(rt, alloc, serve.snmp)?;
+fn bind_workers<R: Net>(rt: &R, alloc: Global, serve: &Serve) -> io::Result<Vec<UdpWire>>
+    ensures { IfOk result (λ workers. vec_len workers ≡ serve.now.workers) }
+{
+    let socket = UdpWire::bind(rt, alloc, serve.snmp)?;
     let mut workers = Vec::new(alloc);
-    for _ in 1..serve.workers {
-        workers.push(first.share()?)?;
+    for _ in 0..serve.workers {
+        workers.push(socket.share()?)?;
     }
-    workers.push(first)?;
     Ok(workers)
 }
 
 // The wires of the ports, each over a socket of its own.
-fn bind_ports<R: Net>(rt: &R, alloc: Global, ports: &[Port]) -> io::Result<Vec<UdpWire>> {
+fn bind_ports<R: Net>(rt: &R, alloc: Global, ports: &[Port]) -> io::Result<Vec<UdpWire>>
+    ensures { IfOk result (λ wires. vec_len wires ≡ length ports.now) }
+{
     let mut wires = Vec::new(alloc);
     for port in ports {
         let listen = address_of(port.listen)?;
@@ -34,7 +37,9 @@ fn bind_ports<R: Net>(rt: &R, alloc: Global, ports: &[Port]) -> io::Result<Vec<U
 }
 
 // An address that is said.
-fn address_of(said: Option<SocketAddr>) -> io::Result<SocketAddr> {
+fn address_of(said: Option<SocketAddr>) -> io::Result<SocketAddr>
+    ensures { IfOk result (λ address. said ≡ Some address) }
+{
     match said {
         Some(address) => Ok(address),
         None => Err(io::Error::from(ErrorKind::InvalidInput)),
@@ -50,7 +55,10 @@ fn share_first(ports: &[UdpWire]) -> io::Result<UdpWire> {
 }
 
 // Where the frames of each port go, from port 1 on.
-fn peers_of(alloc: Global, ports: &[Port]) -> io::Result<Vec<SocketAddr>> {
+fn peers_of(alloc: Global, ports: &[Port]) -> io::Result<Vec<SocketAddr>>
+    ensures { IfOk result (λ peers. map (λ peer. Some peer) peers.items
+        ≡ map (λ port. port.peer) ports.now) }
+{
     let mut peers = Vec::new(alloc);
     for port in ports {
         peers.push(address_of(port.peer)?)?;
@@ -62,7 +70,9 @@ fn peers_of(alloc: Global, ports: &[Port]) -> io::Result<Vec<SocketAddr>> {
 ///
 /// # Errors
 /// That there is no memory for the ports' peers, or that it is not said of a port.
-pub fn plan_of(alloc: Global, setup: &Setup) -> io::Result<Plan> {
+pub fn plan_of(alloc: Global, setup: &Setup) -> io::Result<Plan>
+    ensures { IfOk result (IsPlan setup.now) }
+{
     Ok(Plan {
         alloc,
         rounds: u64::from(setup.serve.rounds),
@@ -71,15 +81,14 @@ pub fn plan_of(alloc: Global, setup: &Setup) -> io::Result<Plan> {
     })
 }
 
-// The most threads that answer requests.
-const MOST_WORKERS: usize = configuration::MAX_WORKERS as usize;
-
-// These lines, unless there are more of them than an agent has.
+// Lines, unless there are more of them than can be numbered.
 fn few<W: Wire, P: Drop>(lines: Lines<W, P>) -> io::Result<Lines<W, P>>
-    ensures workers { IfOk result (λ lines. vec_len lines.workers ≤ 8) }
-    ensures ports { IfOk result (λ lines. vec_len lines.ports ≤ 32) }
+    ensures same { IfOk result (λ few. few ≡ lines) }
+    ensures few { IfOk result (λ lines.
+        (vec_len lines.workers < 2 ^ 16) × (vec_len lines.ports < 2 ^ 16)) }
 {
-    if lines.workers.len() > MOST_WORKERS || lines.ports.len() > MAX_PORTS {
+    let most = usize::from(u16::MAX);
+    if lines.workers.len() > most || lines.ports.len() > most {
         return Err(io::Error::from(ErrorKind::InvalidInput));
     }
     Ok(lines)
@@ -89,15 +98,17 @@ fn few<W: Wire, P: Drop>(lines: Lines<W, P>) -> io::Result<Lines<W, P>>
 /// one of its own, and the ticker shares that of port 1, and ticks each second by this clock.
 ///
 /// # Errors
-/// That of the system, or of a refused growth; nothing is bound then.
+/// That of the system, or of a refused growth; nothing is bound then. `InvalidInput` where more than
+/// 65,535 threads are to answer.
 pub fn bind_lines<R: Net, C: Clock + Drop>(
     rt: &R,
     clock: C,
     alloc: Global,
     setup: &Setup,
 ) -> io::Result<Lines<UdpWire, SecondPace<C>>>
-    ensures workers { IfOk result (λ lines. vec_len lines.workers ≤ 8) }
-    ensures ports { IfOk result (λ lines. vec_len lines.ports ≤ 32) }
+    ensures lines { IfOk result (AreLines setup.now) }
+    ensures few { IfOk result (λ lines.
+        (vec_len lines.workers < 2 ^ 16) × (vec_len lines.ports < 2 ^ 16)) }
 {
     let workers = bind_workers(rt, alloc, &setup.serve)?;
     let ports = bind_ports(rt, alloc, setup.ports.as_slice())?;

@@ -2,18 +2,19 @@
 //! own.
 //!
 //! # Entry points
-//! [`Setup`] says where and for how long; [`bind_lines`] binds its sockets; [`serve_lines`] runs the
-//! lines over a history, each in a thread of its own; [`tell`] logs what they did.
+//! [`Setup`] says where and for how long; [`serve`] binds its sockets ([`bind_lines`]) and runs its
+//! lines over a history by its plan ([`plan_of`], [`serve_lines`]), each in a thread of its own;
+//! [`tell_report`] logs what they did, [`tell_fault`] why there is no report.
 //!
 //! # Definitions
-//! `specs/Setups.antt`: what a setup holds; `specs/Serving.antt`: what a report says of a run.
+//! `specs/Setups.antt`: what a setup holds; `specs/Binding.antt`: its lines, and what they have in
+//! common; `specs/Serving.antt`: what comes of serving them.
 //!
 //! # Laws
-//! On [`serve_lines`]: a report is that of a legal history that goes on from the one handed in.
+//! On [`serve`] and [`serve_lines`]: what a whole run of the lines promises (`live_run::serve_run`).
 //!
 //! # Not claimed
-//! That the lines that ran are those handed in; which sockets are bound, and what a plan holds; what
-//! UDP delivers; that a run ends; the text that is logged.
+//! To which addresses sockets are bound; what UDP delivers; that a run ends; the text that is logged.
 #![tactic(auto)]
 
 mod binding;
@@ -22,6 +23,6 @@ mod setup;
 mod telling;
 
 pub use binding::{bind_lines, plan_of};
-pub use serving::serve_lines;
+pub use serving::{ServeFault, serve, serve_lines};
 pub use setup::{Setup, setup_of};
-pub use telling::tell;
+pub use telling::{tell_fault, tell_report};

@@ -1,14 +1,39 @@
 //! Runs the lines of a setup over a history.
-ghost use Rattle.std.specs.Prelude.{◌≤◌, IfOk, vec_len};
-ghost use Rattle.udp_agent.specs.Serving.{IsReportOf};
+ghost use Rattle.std.specs.Prelude.{◌≡◌, ◌<◌, ◌^◌, vec_len};
+ghost use Rattle.udp_agent.specs.Serving.{IsServing, IsServed};
 
+use crate::binding::{bind_lines, plan_of};
+use crate::setup::Setup;
 use history_core::Kept;
 use live_agent::{OpenGate, Plan};
 use live_run::{Lines, Report, RunFault, serve_run};
 use setphase_core::MibObject;
+use std::alloc::Global;
+use std::io;
+use std::net::Net;
 use std::sync::Wait;
 use std::thread::Threads;
-use wire_core::{Pace, Wire};
+use std::time::Clock;
+use wire_core::{Pace, SecondPace, UdpWire, Wire};
+
+/// Why a served agent has no report.
+#[derive(Debug, Drop)]
+pub enum ServeFault {
+    /// A socket could not be bound, or there was no memory for what the lines share: nothing ran.
+    Begin(io::Error),
+    /// The run has no report.
+    Run(RunFault),
+}
+
+impl From<io::Error> for ServeFault {
+    ghost use Rattle.udp_agent.specs.declared.serving.ServeFault.TheVariants.{Begin};
+
+    ghost from_gives = { λ error fault. fault ≡ Begin error };
+
+    fn from(error: io::Error) -> Self {
+        ServeFault::Begin(error)
+    }
+}
 
 /// Runs the lines of an agent over a history, each in a thread of its own, until each has made its
 /// rounds or ended before.
@@ -21,10 +46,32 @@ pub fn serve_lines<O: MibObject + Send, W: Wire + Send, P: Pace, R: Threads + Wa
     kept: Kept<O>,
     lines: Lines<W, P>,
 ) -> Result<Report, RunFault>
-    requires workers { vec_len lines.workers ≤ 8 }
-    requires ports { vec_len lines.ports ≤ 32 }
-    ensures { IfOk result (IsReportOf kept) }
+    requires few { (vec_len lines.workers < 2 ^ 16) × (vec_len lines.ports < 2 ^ 16) }
+    ensures { IsServing W.went W.failures P.went plan.now kept lines result }
 {
     let (_, _, answer) = serve_run(rt, plan, &OpenGate, kept, lines);
     answer
+}
+
+/// Serves an agent over UDP: binds the sockets of a setup, and runs its lines over a history, each in
+/// a thread of its own, until each has made its rounds or ended before.
+///
+/// # Errors
+/// `Begin` where a socket could not be bound, or there was no memory for what the lines share: nothing
+/// ran; `Run` where they ran, and have no report, or where there was no memory to begin with.
+pub fn serve<'r, O: MibObject + Send, R: Threads + Wait + Net + Clock + Sync>(
+    rt: &'r R,
+    alloc: Global,
+    setup: &Setup,
+    kept: Kept<O>,
+) -> Result<Report, ServeFault>
+    ensures { IsServed ⟦<UdpWire as Wire>⟧.went ⟦<UdpWire as Wire>⟧.failures
+        ⟦<SecondPace<&'r R> as Pace>⟧.went setup.now kept result }
+{
+    let plan = plan_of(alloc, setup)?;
+    let lines = bind_lines(rt, rt, alloc, setup)?;
+    match serve_lines(rt, &plan, kept, lines) {
+        Ok(report) => Ok(report),
+        Err(why) => Err(ServeFault::Run(why)),
+    }
 }

@@ -1,0 +1,17 @@
+-- The lines of a setup, and what they have in common.
+use Rattle.std.specs.Prelude.{◌≡◌, map, Some, vec_len, length}
+use Rattle.live_agent.specs.declared.plan.Plan.{Plan}
+use Rattle.live_run.specs.declared.lines.Lines.{Lines}
+use Rattle.udp_agent.specs.declared.setup.Setup.{Setup}
+
+-- What the lines of a setup have in common: its rounds, its bridge's address, and for each port, in
+-- their order, where its frames go.
+pub record IsPlan (setup : Setup) (plan : Plan) : Type 0 where
+  pub rounds_are : plan.rounds ≡ setup.serve.rounds
+  pub source_is : plan.source ≡ setup.address
+  pub peers_are : map (λ peer. Some peer) plan.peers.items ≡ map (λ port. port.peer) setup.ports.items
+
+-- as many lines as a setup has: a worker for each thread that is to answer, and a line for each port
+pub record AreLines {W P : Type 0} (setup : Setup) (lines : Lines W P) : Type 0 where
+  pub workers : vec_len lines.workers ≡ setup.serve.workers
+  pub ports : vec_len lines.ports ≡ length setup.ports.items

@@ -1,0 +1,59 @@
+//! Lines that are bound by hand.
+use crate::support::{OWN, asks, hears, here, history};
+use live_agent::Plan;
+use live_run::Lines;
+use std::alloc::Global;
+use std::net::Net;
+use std::sync::Wait;
+use std::test::Fail;
+use std::thread::Threads;
+use udp_agent::serve_lines;
+use wire_core::{CountPace, UdpWire};
+
+// The lines of a worker alone, over this wire.
+fn lines_of<R: Net>(
+    rt: &R,
+    alloc: Global,
+    worker: UdpWire,
+) -> Result<Lines<UdpWire, CountPace>, Fail> {
+    let ticker = UdpWire::bind(rt, alloc, here(0))?;
+    let mut workers = Vec::new(alloc);
+    workers.push(worker)?;
+    Ok(Lines {
+        workers,
+        ports: Vec::new(alloc),
+        ticker,
+        pace: CountPace::new(0),
+    })
+}
+
+// Whether a run of one round over these lines gives a report.
+fn is_served<R: Threads + Wait + Sync>(
+    rt: &R,
+    alloc: Global,
+    lines: Lines<UdpWire, CountPace>,
+) -> Result<bool, Fail> {
+    let plan = Plan {
+        alloc,
+        rounds: 1,
+        source: OWN,
+        peers: Vec::new(alloc),
+    };
+    if lines.workers.len() > 1 || lines.ports.len() > 0 {
+        return Err(Fail::from("one line"));
+    }
+    Ok(serve_lines(rt, &plan, history(alloc)?, lines).is_ok())
+}
+
+#[test]
+fn answers_over_udp(rt: HostRuntime) -> Result<(), Fail> {
+    let alloc = rt.alloc();
+    let worker = UdpWire::bind(&rt, alloc, here(0))?;
+    let at = worker.local_addr()?;
+    let mut client = UdpWire::bind(&rt, alloc, here(0))?;
+    assert!(rt; asks(alloc, &mut client, at)?);
+    let lines = lines_of(&rt, alloc, worker)?;
+    assert!(rt; is_served(&rt, alloc, lines)?);
+    assert!(rt; hears(alloc, &mut client, at)?);
+    Ok(())
+}

@@ -1,0 +1,67 @@
+//! Who asks over UDP, and what is asked.
+use bridge_mib::Planned;
+use fixtures::message::Held::{Integer, Null};
+use fixtures::message::{get, octets_of, reply};
+use fixtures::names::PORTS;
+use fixtures::worlds::built_in;
+use frame_core::Mac;
+use history_core::Kept;
+use object_list::{Object, objects};
+use setphase_core::{Registry, are_named};
+use std::alloc::Global;
+use std::net::{IpAddr, Ipv4Addr, SocketAddr};
+use std::test::Fail;
+use wire_core::{Received, UdpWire, Wire};
+
+/// The address of the bridge.
+pub const OWN: Mac = Mac([2, 0, 0, 0, 0, 10]);
+
+/// This port of UDP on this machine; 0 for one that the system chooses.
+pub fn here(port: u16) -> SocketAddr {
+    SocketAddr::new(IpAddr::V4(Ipv4Addr::LOCALHOST), port)
+}
+
+/// The history of a bridge of two ports, which `public` reads, in which nothing has happened.
+pub fn history(alloc: Global) -> Result<Kept<Object<Planned>>, Fail> {
+    let shown = objects(alloc, Planned::new())?;
+    if !are_named(shown.as_slice()) {
+        return Err(Fail::from("names"));
+    }
+    match Registry::new(shown) {
+        Ok(registry) => {
+            let kept = Kept::new(alloc, registry, built_in(alloc)?.world);
+            Ok(kept.ok().ok_or("no room")?)
+        }
+        Err(_) => Err(Fail::from("no registry")),
+    }
+}
+
+/// Whether a client hears from there how many ports there are.
+pub fn hears(alloc: Global, client: &mut UdpWire, at: SocketAddr) -> Result<bool, Fail> {
+    let awaited = octets_of(alloc, &reply(&[(PORTS, Integer(2))]))?;
+    let mut octets = [0u8; 64];
+    match client.receive(&mut octets) {
+        Ok(Received::Datagram(len, from)) => {
+            Ok(from == at && octets.get(..len) == Some(awaited.as_slice()))
+        }
+        _ => Ok(false),
+    }
+}
+
+/// Asks there how many ports there are.
+pub fn asks(alloc: Global, client: &mut UdpWire, at: SocketAddr) -> Result<bool, Fail> {
+    let asked = octets_of(alloc, &get(&[(PORTS, Null)]))?;
+    Ok(client.send(at, &asked).is_ok())
+}
+
+/// Whether a datagram came to a client whose first octets are these.
+pub fn hears_front(client: &mut UdpWire, front: &[u8]) -> bool {
+    let mut octets = [0u8; 1600];
+    match client.receive(&mut octets) {
+        Ok(Received::Datagram(len, _)) => match octets.get(..len) {
+            Some(heard) => heard.starts_with(front),
+            None => false,
+        },
+        _ => false,
+    }
+}
