@@ -131,9 +131,9 @@ fn serve_read<'a, M: MibObject>(
     match read {
         Ok(octets) => match open_service(alloc, objects, &octets) {
             Ok(service) => Ok(Some(service)),
-            Err(why) => Err(failure_of(why)),
+            Err(reason) => Err(failure_of(reason)),
         },
-        Err(why) => Err(read_failure(why)),
+        Err(unread) => Err(read_failure(unread)),
     }
 }
 
