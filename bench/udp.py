@@ -299,6 +299,8 @@ def main():
     words.add_argument("--agentd", type=pathlib.Path, default=AGENTD)
     words.add_argument("--seconds", type=float, default=2)
     asked = words.parse_args()
+    if not asked.agentd.is_file():
+        sys.exit(f"no {asked.agentd}")
     signal.signal(signal.SIGTERM, lambda *_: sys.exit(1))
     with tempfile.TemporaryDirectory() as room:
         bench = Bench(asked.agentd.resolve(), asked.seconds, pathlib.Path(room))
