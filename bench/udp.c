@@ -21,6 +21,8 @@
 #include <time.h>
 #include <unistd.h>
 
+static const char usage[] = "echo ADDRESS:PORT THREADS, or ask ADDRESS:PORT CLIENTS SECONDS";
+
 enum { MOST_OCTETS = 65536, MOST_REQUESTS = 64, MOST_THREADS = 64 };
 
 struct request {
@@ -68,6 +70,7 @@ static void read_requests(void) {
         struct request *request = &requests[request_count++];
         const char *digits = line;
         while (sscanf(digits, "%2hhx", &request->octets[request->length]) == 1) {
+            if (request->length + 1 == sizeof request->octets) fail("too long a request");
             request->length++;
             digits += 2;
         }
@@ -162,9 +165,9 @@ static void run_ask(int count, double seconds) {
 
 int main(int count, char **words) {
     int threads = count > 3 ? atoi(words[3]) : 0;
-    if (threads < 1 || threads > MOST_THREADS) fail("echo ADDRESS:PORT THREADS, or ask ADDRESS:PORT CLIENTS SECONDS");
+    if (threads < 1 || threads > MOST_THREADS) fail(usage);
     read_address(words[2]);
     if (count == 4 && !strcmp(words[1], "echo")) run_echo(threads);
-    if (count != 5 || strcmp(words[1], "ask")) fail("echo ADDRESS:PORT THREADS, or ask ADDRESS:PORT CLIENTS SECONDS");
+    if (count != 5 || strcmp(words[1], "ask")) fail(usage);
     run_ask(threads, atof(words[4]));
 }
