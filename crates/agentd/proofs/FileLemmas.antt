@@ -6,6 +6,7 @@ use Rattle.agentd.specs.declared.files.NotRead.{NotRead}
 use Rattle.agentd.specs.declared.failure.Failure.{Failure}
 use Rattle.agentd.specs.Files.{IsNotRead, IsReadOf, read_view}
 use Rattle.agentd.specs.Telling.{IsFileChecked, IsCheckOf}
+use Rattle.agentd.specs.Services.{Service, OpensRead, OpensFile}
 use Rattle.agentd.specs.Programs.{RunsRead, RunsFile}
 
 -- what was not read of this file names it, also as a list of octets
@@ -37,3 +38,10 @@ pub file_check : {O : Type 0} (Gives : List ℕ → Result (List ℕ) NotRead �
     → IsCheckOf Gives contents file writer writer' ended
 file_check Gives contents file read writer writer' ended named gave checked =
     record { read = read_view read; is = read_of Gives file read named gave; checked = checked }
+
+pub file_served : (Gives : List ℕ → Result (List ℕ) NotRead → Type 0) (objects : List ObjectState)
+    (file : List ℕ) (read : Result (Vec ℕ Global) NotRead) (done : Result (Option Service) Failure)
+    → IfErr read (λ why. IsNotRead file why) → Gives file (read_view read)
+    → OpensRead objects (read_view read) done → OpensFile Gives objects file done
+file_served Gives objects file read done named gave opens =
+    record { read = read_view read; is = read_of Gives file read named gave; opens = opens }
