@@ -1,4 +1,4 @@
-.PHONY: run test bench growths wrong-bodies
+.PHONY: run test bench growths udp-session wrong-bodies
 
 # Answers some worked lines. It compiles and runs, and proves nothing.
 run:
@@ -17,6 +17,12 @@ growths:
 	cd crates/agentd && rt run < stdin > /dev/null
 	cd crates/manager && (rt run 2> /dev/null || test $$? -eq 2)
 	tools/refused-growths
+
+# Builds the same programs, proved, and serves an agent over UDP, which manager and, where it is there, Net-SNMP ask.
+udp-session:
+	cd crates/agentd && rt run < stdin > /dev/null
+	cd crates/manager && (rt run 2> /dev/null || test $$? -eq 2)
+	tools/udp-session
 
 # Builds the programs, proved, and measures them.
 bench:
