@@ -4,9 +4,11 @@
 run:
 	cd crates/agentd && rt try < stdin
 
-# Proves every crate from nothing, tries the must-fail edits, runs the tests and the programs.
+# Proves every crate from nothing, tries the must-fail edits, runs the tests and the programs; then serves the agent so built
+# over UDP, which the manager and, where it is there, Net-SNMP ask.
 test:
 	rt ci
+	tools/udp-session
 
 # Tries further wrong bodies, which the gate leaves out: of all crates, or of CRATES="NAME ..".
 wrong-bodies:
@@ -18,7 +20,7 @@ growths:
 	cd crates/manager && (rt run 2> /dev/null || test $$? -eq 2)
 	tools/refused-growths
 
-# Builds the same programs, proved, and serves an agent over UDP, which manager and, where it is there, Net-SNMP ask.
+# Builds the same programs, proved, and the last of these alone.
 udp-session:
 	cd crates/agentd && rt run < stdin > /dev/null
 	cd crates/manager && (rt run 2> /dev/null || test $$? -eq 2)
