@@ -3,4 +3,4 @@ use Rattle.udp_agent.proofs.binding.bind_ports.Given as goal
 
 -- a wire for each port so far
 abbrev pub invariant-loop-port : goal.invariant-loop-port
-invariant-loop-port l = length l.wires.items ≡ l.port-index
+invariant-loop-port g l = length l.wires.items ≡ l.port-index

@@ -3,4 +3,4 @@ use Rattle.udp_agent.proofs.binding.bind_workers.Given as goal
 
 -- a wire for each turn so far
 abbrev pub invariant-loop : goal.invariant-loop
-invariant-loop l = length l.workers.items ≡ l.counter
+invariant-loop g l = length l.workers.items ≡ l.counter
