@@ -1,7 +1,7 @@
 -- The world that a configuration opens, and the objects that show it.
 use Rattle.std.specs.Prelude.{◌≡◌, ℕ, List, map, None}
 use Rattle.rstp_settings.specs.declared.config.PortConfig.{PortConfig}
-use Rattle.bridge_core.specs.Bridge.{Bridge}
+use Rattle.bridge_core.specs.Bridge.{BridgeState}
 use Rattle.bridge_core.specs.Opening.{opening_bridge}
 use Rattle.community_core.specs.declared.policy.Policy.{Policy}
 use Rattle.setphase_core.specs.Objects.{ObjectState}
@@ -17,7 +17,7 @@ abbrev pub configs_of : List Port → List PortConfig
 configs_of ports = map (λ port. port.config) ports
 
 -- a world of which nothing was dropped yet
-abbrev pub undropped : Bridge → Policy → World
+abbrev pub undropped : BridgeState → Policy → World
 undropped bridge policy = record {
   bridge = bridge;
   policy = policy;

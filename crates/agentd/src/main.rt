@@ -42,10 +42,9 @@ ghost use Rattle.std.specs.declared.io.ErrorKind.TheVariants.{OutOfMemory};
 use bridge_mib::Planned;
 use failure::{Failure, report};
 use files::SystemFiles;
-use object_list::{COLUMNS, Object};
+use object_list::objects;
 use run::run_words;
 use serving::serve_opened;
-use setphase_core::MibObject;
 use std::alloc::Allocator;
 use std::process::ExitCode;
 use std::{env, io};
@@ -57,25 +56,16 @@ fn main(rt: HostRuntime) -> ExitCode {
         Ok(words) => words,
         Err(error) => return ExitCode::from(report(&Failure::from(error), &mut errors).status),
     };
-    let mut objects: Vec<Box<dyn MibObject + Send>> = Vec::new(rt.alloc());
     // dot1dStpPortEnable tells this driver. None of its calls fails until the script arms it.
-    let mut driver = Some(Planned::new());
-    let mut has_all = true;
-    for column in COLUMNS {
-        match Box::new(rt.alloc(), Object::over(column, &mut driver)) {
-            Ok(object) => has_all = objects.push(object).is_ok() && has_all,
-            Err(_) => has_all = false,
-        }
-    }
-    if !has_all {
+    let Ok(shown) = objects(rt.alloc(), Planned::new()) else {
         return ExitCode::from(report(&Failure::Refused, &mut errors).status);
-    }
+    };
     let files = SystemFiles(&rt);
     let (mut reader, mut writer) = (rt.reader(), io::writer(&rt));
     let (ended, left) = run_words(
         rt.alloc(),
         &files,
-        objects,
+        shown,
         &words,
         &mut reader,
         &mut writer,
