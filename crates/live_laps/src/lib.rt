@@ -1,0 +1,31 @@
+//! A run of an agent without an end: each line goes on lap by lap, and lets go of what a lap left.
+//!
+//! # Entry points
+//! [`serve_laps`] takes a history and its [`Line`]s, which [`lines_of`] makes of a run's, runs each in a
+//! thread of its own until it is ended, and gives back the lines, the history, and how each ended. A
+//! [`Watch`] is told of each lap of the ticker, and of each line that ends.
+//!
+//! # Definitions
+//! `specs/Lines.antt`: the lines of a run; `specs/Laps.antt`: the laps of a line, and lines that went on
+//! side by side.
+//!
+//! # Laws
+//! On [`serve_laps`]: each line went on lap by lap, each of which is as the lap of its kind is in
+//! `live_agent`, until one ended it; the history that comes back is legal, and goes on from the one
+//! that was handed in by as many entries as the lines made.
+//!
+//! # Not claimed
+//! That a line ends; that two threads run at the same time; that the totals which a watch is told are
+//! those of the laps that ended.
+#![tactic(auto)]
+
+mod book;
+mod crew;
+mod lap;
+mod line;
+mod serving;
+mod watch;
+
+pub use line::{Line, Name, lines_of};
+pub use serving::serve_laps;
+pub use watch::{Totals, Watch};

@@ -1,0 +1,59 @@
+//! A run without an end.
+ghost use Rattle.std.specs.Prelude.{◌≡◌, ◌<◌, ◌≤◌, ◌^◌, [], vec_len, vec_capacity, IfOk};
+ghost use Rattle.live_laps.specs.Laps.{ServesLaps};
+
+use crate::crew::run_from;
+use crate::line::Line;
+use crate::watch::Watch;
+use history_core::Kept;
+use live_agent::{End, Gate, Plan};
+use setphase_core::MibObject;
+use std::alloc::{AllocError, Global};
+use std::sync::Wait;
+use std::thread::Threads;
+use wire_core::{Pace, Wire};
+
+// Room for how so many lines ended.
+fn room_for(alloc: Global, lines: usize) -> Result<Vec<End>, AllocError>
+    ensures empty { IfOk result (λ ends. ends.items ≡ []) }
+    ensures room { IfOk result (λ ends. lines ≤ vec_capacity ends) }
+{
+    Vec::with_capacity(alloc, lines)
+}
+
+/// Runs lines over a history at the same time, each in a thread of its own. Each goes on lap by lap,
+/// until its wire is closed or fails (the ticker: its pace ends), no number is left for an entry, or
+/// there is no memory for a lap's trace. Where the system makes no thread more, a line runs after
+/// those that it was to run beside.
+///
+/// Gives back the history, the lines, and how each ended.
+///
+/// # Errors
+/// That there was no memory to begin with, and nothing ran.
+pub fn serve_laps<
+    O: MibObject + Send,
+    W: Wire + Send,
+    P: Pace + Send,
+    G: Gate + Sync,
+    V: Watch + Sync,
+    R: Threads + Wait + Sync,
+>(
+    rt: &R,
+    plan: &Plan,
+    gate: &G,
+    watch: &V,
+    kept: Kept<O>,
+    lines: Vec<Line<W, P>>,
+) -> (Kept<O>, Vec<Line<W, P>>, Result<Vec<End>, AllocError>)
+    requires few { vec_len lines < 2 ^ 32 }
+    ensures { ServesLaps W.went W.failures P.went plan.now kept result.0 lines.items result.1.items
+        result.2 }
+{
+    match room_for(plan.alloc, lines.len()) {
+        Ok(ends) => {
+            let (kept, lines, ends) = run_from(rt, plan, gate, watch, kept, lines, ends);
+            (kept, lines, Ok(ends))
+        }
+        Err(refused) => (kept, lines, Err(refused)),
+    }
+}
