@@ -20,16 +20,20 @@ fn served(snmp: SocketAddr, workers: u32) -> Serve {
     }
 }
 
-// Two ports, whose frames come in somewhere and go out there.
+// A port whose frames come in somewhere and go out there.
+fn port_to(ifindex: IfIndex, peer: Option<SocketAddr>) -> Port {
+    Port {
+        config: port(ifindex),
+        listen: Some(here(0)),
+        peer,
+    }
+}
+
+// Two such ports.
 fn ports_to(peer: Option<SocketAddr>) -> ArrayVec<Port, MAX_PORTS> {
     let mut ports = ArrayVec::new();
-    for index in [1, 2] {
-        ports.push(Port {
-            config: port(IfIndex::of(index)),
-            listen: Some(here(0)),
-            peer,
-        });
-    }
+    ports.push(port_to(IfIndex::of(1), peer));
+    ports.push(port_to(IfIndex::of(2), peer));
     ports
 }
 
