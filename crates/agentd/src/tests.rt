@@ -6,7 +6,6 @@ use crate::collect_words;
 use crate::failure::{Failure, report};
 use crate::files::{NotRead, ReadFile, SystemFiles};
 use crate::run::run_words;
-use crate::serving::Opened;
 use crate::telling::NotTaken;
 use bridge_mib::Planned;
 use bumpalo::Bump;
@@ -139,13 +138,12 @@ fn words_of(alloc: Global, texts: &[&str]) -> Result<Vec<String>, Fail> {
     Ok(words)
 }
 
-/// What a run wrote, its status, and what it left to be served.
+/// What a run wrote, and its status.
 #[derive(Drop)]
 struct Finished {
     status: u8,
     out: Vec<u8>,
     errors: Vec<u8>,
-    left: Option<Opened>,
 }
 
 // A run of these words on a script, over these files and objects.
@@ -160,7 +158,7 @@ fn ran_with<F: ReadFile, B: MibObject>(
     let mut out = Vec::new(alloc);
     let mut errors = Vec::new(alloc);
     let mut reader = script;
-    let (ended, left) = run_words(
+    let (ended, _) = run_words(
         alloc,
         files,
         objects,
@@ -174,10 +172,6 @@ fn ran_with<F: ReadFile, B: MibObject>(
         status: ended.status,
         out,
         errors,
-        left: match left {
-            Some((_, opened)) => Some(opened),
-            None => None,
-        },
     })
 }
 

@@ -1,9 +1,6 @@
-//! What words that ask to serve leave to be served.
-use super::{BUILT_IN, GET, Names, ran, ran_by, ran_over};
-use configuration::Serve;
-use frame_core::Mac;
+//! Words that ask to serve.
+use super::{GET, Names, ran, ran_by, ran_over};
 use std::alloc::Global;
-use std::net::{IpAddr, Ipv4Addr, SocketAddr};
 use std::test::Fail;
 
 /// The keys that stand in no table, and a table of how to serve.
@@ -44,40 +41,14 @@ fn text_of(alloc: Global, parts: &[&str]) -> Result<String, Fail> {
     Ok(text)
 }
 
-// A port of UDP on this machine.
-fn here(port: u16) -> SocketAddr {
-    SocketAddr::new(IpAddr::V4(Ipv4Addr::LOCALHOST), port)
-}
-
 #[test]
-fn leaves_what_its_file_says(rt: HostRuntime) -> Result<(), Fail> {
+fn takes_a_file_to_serve(rt: HostRuntime) -> Result<(), Fail> {
     let text = text_of(rt.alloc(), &[SERVE, PORT, LISTEN, PEER])?;
     let run = ran_by(&rt, "serve", "serve.toml", text.as_bytes(), GET)?;
     assert_eq!(rt;
         (run.status, run.out.is_empty(), run.errors.is_empty()),
         (0, true, true)
     );
-    let opened = run.left.ok_or("nothing is left")?;
-    assert_eq!(rt;
-        opened.setup.address,
-        Mac([2, 0xAA, 0xBB, 0xCC, 0xDD, 0xEE])
-    );
-    assert_eq!(rt;
-        opened.setup.serve,
-        Serve {
-            snmp: here(16161),
-            workers: 3,
-            rounds: 40,
-        }
-    );
-    assert_eq!(rt; opened.world.bridge.ports(), 1);
-    match opened.setup.ports.as_slice() {
-        [port] => assert_eq!(rt;
-            (port.listen, port.peer),
-            (Some(here(20007)), Some(here(20008)))
-        ),
-        _ => return Err(Fail::from("one port")),
-    }
     Ok(())
 }
 
@@ -87,12 +58,12 @@ fn takes_a_file_to_serve_in_one_word(rt: HostRuntime) -> Result<(), Fail> {
     let mut word = String::from_str(rt.alloc(), "--config=")?;
     word.push_str(&text_of(rt.alloc(), &[SERVE, PORT, LISTEN, PEER])?)?;
     let run = ran_over(rt.alloc(), &files, &["agentd", "serve", word.as_str()], GET)?;
-    assert!(rt; run.left.is_some());
+    assert_eq!(rt; (run.status, run.errors.is_empty()), (0, true));
     Ok(())
 }
 
 #[test]
-fn leaves_nothing_of_what_has_no_setup(rt: HostRuntime) -> Result<(), Fail> {
+fn refuses_what_has_no_setup(rt: HostRuntime) -> Result<(), Fail> {
     for parts in [
         [PORT, LISTEN, PEER, ""],
         [SERVE, PORT, PEER, ""],
@@ -106,29 +77,16 @@ fn leaves_nothing_of_what_has_no_setup(rt: HostRuntime) -> Result<(), Fail> {
             (run.status, run.out.is_empty(), run.errors.as_slice()),
             (2, true, b"agentd: configuration refused\n".as_slice())
         );
-        assert!(rt; run.left.is_none());
     }
     Ok(())
 }
 
 #[test]
-fn leaves_nothing_of_a_file_that_is_not_there(rt: HostRuntime) -> Result<(), Fail> {
+fn says_what_it_cannot_read_to_serve(rt: HostRuntime) -> Result<(), Fail> {
     let run = ran(&rt, &["agentd", "serve", "--config", "none.toml"], GET)?;
     assert_eq!(rt;
         (run.status, run.out.is_empty(), run.errors.as_slice()),
         (2, true, b"agentd: cannot read none.toml\n".as_slice())
     );
-    assert!(rt; run.left.is_none());
-    Ok(())
-}
-
-// A script and a check leave nothing to be served.
-#[test]
-fn serves_for_its_word_alone(rt: HostRuntime) -> Result<(), Fail> {
-    for word in ["script", "check"] {
-        let run = ran_by(&rt, word, "right.toml", BUILT_IN.as_bytes(), GET)?;
-        assert_eq!(rt; (run.status, run.left.is_none()), (0, true));
-    }
-    assert!(rt; ran(&rt, &["agentd"], GET)?.left.is_none());
     Ok(())
 }
