@@ -6,17 +6,8 @@ use Rattle.live_agent.specs.Lines.{Setting}
 use Rattle.live_agent.specs.declared.trace.End.{End}
 use Rattle.live_agent.specs.declared.trace.End.TheVariants.{Rounds}
 use Rattle.live_agent.specs.declared.trace.Item.{Item}
-use Rattle.live_agent.specs.declared.trace.Item.TheVariants as item
-use Rattle.live_agent.specs.Turns.{entered_in}
 use Rattle.live_laps.specs.declared.line.Line.{Line}
 use Rattle.live_laps.specs.Laps.{IsLap, HasLapped, HasGoneOn, AllGoneOn}
-
-pub entered_in-append : (xs ys : List Item) → entered_in (xs ++ ys) ≡ entered_in xs + entered_in ys
-entered_in-append [] ys = omega arith
-entered_in-append (item.Entered r ∷ xs) ys = omega (arith, entered_in-append xs ys)
-entered_in-append (item.Refused c ∷ xs) ys = entered_in-append xs ys
-entered_in-append (item.Short ∷ xs) ys = entered_in-append xs ys
-entered_in-append (item.Full ∷ xs) ys = entered_in-append xs ys
 
 module _ {W P : Type 0} (went : W → List Act → W → Type 0) (failures : W → ℕ)
     (pace_went : P → List Bool → P → Type 0) (s : Setting) (rounds : ℕ) where

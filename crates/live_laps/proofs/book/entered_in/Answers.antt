@@ -3,7 +3,7 @@ use Rattle.live_agent.specs.Turns.{entered_in}
 use Rattle.live_run.specs.Reports.{counted}
 use Rattle.live_run.proofs.Gathering.{one_more}
 use Rattle.live_run.proofs.Counts.{counted-more}
-use Rattle.live_laps.proofs.Lapping.{entered_in-append}
+use Rattle.live_agent.proofs.Running.{entered_in-append}
 use Rattle.live_laps.proofs.book.entered_in.Goals as goal
 
 pub loop-item-preserved : goal.loop-item-preserved
