@@ -4,6 +4,7 @@ use Rattle.std.specs.declared.alloc.Global.{Global}
 use Rattle.setphase_core.specs.Objects.{ObjectState}
 use Rattle.agentd.specs.declared.files.NotRead.{NotRead}
 use Rattle.agentd.specs.declared.failure.Failure.{Failure}
+use Rattle.agentd.specs.declared.words.Lasting.{Lasting}
 use Rattle.agentd.specs.Files.{IsNotRead, IsReadOf, read_view}
 use Rattle.agentd.specs.Telling.{IsFileChecked, IsCheckOf}
 use Rattle.agentd.specs.Services.{Service, OpensRead, OpensFile}
@@ -40,8 +41,9 @@ file_check Gives contents file read writer writer' ended named gave checked =
     record { read = read_view read; is = read_of Gives file read named gave; checked = checked }
 
 pub file_served : (Gives : List ℕ → Result (List ℕ) NotRead → Type 0) (objects : List ObjectState)
-    (file : List ℕ) (read : Result (Vec ℕ Global) NotRead) (done : Result (Option Service) Failure)
+    (lasting : Lasting) (file : List ℕ) (read : Result (Vec ℕ Global) NotRead)
+    (done : Result (Option Service) Failure)
     → IfErr read (λ why. IsNotRead file why) → Gives file (read_view read)
-    → OpensRead objects (read_view read) done → OpensFile Gives objects file done
-file_served Gives objects file read done named gave opens =
+    → OpensRead objects lasting (read_view read) done → OpensFile Gives objects lasting file done
+file_served Gives objects lasting file read done named gave opens =
     record { read = read_view read; is = read_of Gives file read named gave; opens = opens }

@@ -11,6 +11,7 @@ use Rattle.agentd.specs.declared.failure.Failure.TheVariants.{Usage}
 use Rattle.agentd.specs.declared.words.TheConstants.{HELP, VERSION}
 use Rattle.agentd.specs.declared.words.Asked.{Asked}
 use Rattle.agentd.specs.declared.words.Asked.TheVariants.{BuiltIn, Script, Check, Serve, Help, Version}
+use Rattle.agentd.specs.declared.words.Lasting.{Lasting}
 use Rattle.agentd.specs.declared.words.Wrong.{Wrong}
 use Rattle.agentd.specs.Words.{asking_of, asking_view}
 use Rattle.agentd.specs.Files.{IsReadOf}
@@ -80,11 +81,11 @@ module _ {I O : Type 0} (Gives : List ℕ → Result (List ℕ) NotRead → Type
     pub unread : reader' ≡ reader
     pub checked : IsCheckOf Gives contents file writer writer' ended
 
-  -- what a file says is to be served; nothing else was read, and nothing written
-  pub record ServesFile (file : List ℕ) (reader reader' : I) (writer writer' : O)
+  -- what a file says is to be served, for so long; nothing else was read, and nothing written
+  pub record ServesFile (file : List ℕ) (lasting : Lasting) (reader reader' : I) (writer writer' : O)
       (done : Result (Option Service) Failure) : Type 0 where
     pub untouched : IsUntouched remaining contents reader reader' writer writer'
-    pub opens : OpensFile Gives objects file done
+    pub opens : OpensFile Gives objects lasting file done
 
   -- What the program did for what its words ask.
   abbrev pub Does : Result Asked Wrong → I → I → O → O → Result (Option Service) Failure → Type 0
@@ -94,8 +95,8 @@ module _ {I O : Type 0} (Gives : List ℕ → Result (List ℕ) NotRead → Type
       HasDone (RunsFile file.now reader reader' writer writer') done
   Does (Ok (Check file)) reader reader' writer writer' done =
       HasDone (ChecksFile file.now reader reader' writer writer') done
-  Does (Ok (Serve file)) reader reader' writer writer' done =
-      ServesFile file.now reader reader' writer writer' done
+  Does (Ok (Serve file lasting)) reader reader' writer writer' done =
+      ServesFile file.now lasting reader reader' writer writer' done
   Does (Ok Help) reader reader' writer writer' done =
       HasDone (Tells remaining contents HELP.now reader reader' writer writer') done
   Does (Ok Version) reader reader' writer writer' done =

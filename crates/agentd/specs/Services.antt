@@ -10,6 +10,7 @@ use Rattle.agentd.specs.declared.failure.Failure.{Failure}
 use Rattle.agentd.specs.declared.opening.NotRun.{NotRun}
 use Rattle.agentd.specs.declared.opening.NotRun.TheVariants.{Refused, Memory, NoRegistry, Stopped}
 use Rattle.agentd.specs.declared.serving.Opened.{Opened}
+use Rattle.agentd.specs.declared.words.Lasting.{Lasting}
 use Rattle.agentd.specs.Agents.{world_of, MakeRegistry, HasFault}
 use Rattle.agentd.specs.Files.{IsReadOf}
 use Rattle.agentd.specs.Endings.{failure_of, read_failure}
@@ -36,13 +37,13 @@ IsNotSetUp octets Memory = HasContent octets
 IsNotSetUp octets NoRegistry = ⊥
 IsNotSetUp octets (Stopped fault) = ⊥
 
--- a registry of objects, and what they are to show while it is served
+-- a registry of objects, what they are to show while it is served, and for how long
 abbrev pub Service : Type 0
-Service = List ObjectState × Opened
+Service = List ObjectState × Opened × Lasting
 
 -- What objects and octets give to be served: exactly these objects, which make a registry, and what
 -- the octets open; or why there is nothing.
-abbrev pub IsServiceBy : List ObjectState → List ℕ → Result Service NotRun → Type 0
+abbrev pub IsServiceBy : List ObjectState → List ℕ → Result (List ObjectState × Opened) NotRun → Type 0
 IsServiceBy objects octets (Ok service) =
     (service.0 ≡ objects) × MakeRegistry objects × IsOpened octets service.1
 IsServiceBy objects octets (Err Refused) = IsNotSetUp octets Refused
@@ -50,29 +51,29 @@ IsServiceBy objects octets (Err Memory) = IsNotSetUp octets Memory
 IsServiceBy objects octets (Err NoRegistry) = MakeRegistry objects → ⊥
 IsServiceBy objects octets (Err (Stopped fault)) = ⊥
 
--- the same as an answer of the program
-abbrev pub left_by : Result Service NotRun → Result (Option Service) Failure
-left_by (Ok service) = Ok (Some service)
-left_by (Err why) = Err (failure_of why)
+-- the same, for so long, as an answer of the program
+abbrev pub left_by : Lasting → Result (List ObjectState × Opened) NotRun → Result (Option Service) Failure
+left_by lasting (Ok service) = Ok (Some (service.0, service.1, lasting))
+left_by lasting (Err why) = Err (failure_of why)
 
--- There is this to be served by these octets.
-pub record Opens (objects : List ObjectState) (octets : List ℕ)
+-- There is this to be served by these octets, for so long.
+pub record Opens (objects : List ObjectState) (lasting : Lasting) (octets : List ℕ)
     (done : Result (Option Service) Failure) : Type 0 where
-  pub result : Result Service NotRun
+  pub result : Result (List ObjectState × Opened) NotRun
   pub service : IsServiceBy objects octets result
-  pub is : done ≡ left_by result
+  pub is : done ≡ left_by lasting result
 
 -- The same by what was read of a file: by its octets, and by nothing else where they were not had.
-abbrev pub OpensRead : List ObjectState → Result (List ℕ) NotRead
+abbrev pub OpensRead : List ObjectState → Lasting → Result (List ℕ) NotRead
     → Result (Option Service) Failure → Type 0
-OpensRead objects (Ok octets) done = Opens objects octets done
-OpensRead objects (Err why) done = done ≡ Err (read_failure why)
+OpensRead objects lasting (Ok octets) done = Opens objects lasting octets done
+OpensRead objects lasting (Err why) done = done ≡ Err (read_failure why)
 
 -- A file was read, or not, and this is to be served by what was read of it: a reader of files, by
 -- what a read of the file of a name may give.
 pub record OpensFile (Gives : List ℕ → Result (List ℕ) NotRead → Type 0)
-    (objects : List ObjectState) (file : List ℕ) (done : Result (Option Service) Failure)
-    : Type 0 where
+    (objects : List ObjectState) (lasting : Lasting) (file : List ℕ)
+    (done : Result (Option Service) Failure) : Type 0 where
   pub read : Result (List ℕ) NotRead
   pub is : IsReadOf Gives file read
-  pub opens : OpensRead objects read done
+  pub opens : OpensRead objects lasting read done

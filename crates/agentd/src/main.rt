@@ -5,7 +5,7 @@
 //! 1 or 2, whether the line of a failure was written whole, and what is left to be served, if its
 //! words ask for that. `run_octets` runs the script over objects by the octets of a configuration,
 //! `check_octets` tells whether octets are one, `open_service` gives what they say is to be served,
-//! and `serve_opened` serves it.
+//! `serve_opened` serves it for its rounds, and `serve_opened_on` without an end.
 //!
 //! # Definitions
 //! `specs/Words.antt`: what words ask for; `specs/Files.antt`: what a read of a file gave;
@@ -42,13 +42,20 @@ ghost use Rattle.std.specs.declared.io.ErrorKind.TheVariants.{OutOfMemory};
 use bridge_mib::Planned;
 use failure::{Failure, report};
 use files::SystemFiles;
+use log::Log;
 use object_list::objects;
 use run::run_words;
-use serving::serve_opened;
-use std::alloc::Allocator;
+use serving::{Opened, serve_opened, serve_opened_on};
+use setphase_core::{MibObject, Registry};
+use std::alloc::{Allocator, Global};
+use std::net::Net;
 use std::process::ExitCode;
+use std::sync::Wait;
+use std::thread::Threads;
+use std::time::Clock;
 use std::{env, io};
-use udp_agent::{tell_fault, tell_report};
+use udp_agent::{any_failed, tell_fault, tell_not_begun, tell_report};
+use words::Lasting;
 
 fn main(rt: HostRuntime) -> ExitCode {
     let mut errors = rt.stderr();
@@ -71,17 +78,51 @@ fn main(rt: HostRuntime) -> ExitCode {
         &mut writer,
         &mut errors,
     );
-    let Some((registry, opened)) = left else {
+    let Some((registry, opened, lasting)) = left else {
         return ExitCode::from(ended.status);
     };
-    match serve_opened(&rt, rt.alloc(), registry, opened) {
+    let is_done = match lasting {
+        Lasting::Rounds => is_served(&rt, rt.alloc(), registry, opened),
+        Lasting::Forever => is_served_on(&rt, rt.alloc(), registry, opened),
+    };
+    if is_done {
+        return ExitCode::SUCCESS;
+    }
+    ExitCode::from(report(&Failure::Run, &mut errors).status)
+}
+
+// Serves until each line is done, and logs what was done, or why there is no report. Whether there is.
+fn is_served<M: MibObject + Send, R: Threads + Wait + Net + Clock + Log + Sync>(
+    rt: &R,
+    alloc: Global,
+    registry: Registry<M>,
+    opened: Opened,
+) -> bool {
+    match serve_opened(rt, alloc, registry, opened) {
         Ok(done) => {
-            tell_report(&rt, &done);
-            ExitCode::SUCCESS
+            tell_report(rt, &done);
+            true
         }
         Err(fault) => {
-            tell_fault(&rt, &fault);
-            ExitCode::from(report(&Failure::Run, &mut errors).status)
+            tell_fault(rt, &fault);
+            false
+        }
+    }
+}
+
+// Serves without an end, and logs how the lines go on, or why nothing was served. Whether it was, and
+// no line failed.
+fn is_served_on<M: MibObject + Send, R: Threads + Wait + Net + Clock + Log + Sync>(
+    rt: &R,
+    alloc: Global,
+    registry: Registry<M>,
+    opened: Opened,
+) -> bool {
+    match serve_opened_on(rt, alloc, registry, opened) {
+        Ok(ends) => !any_failed(ends.as_slice()),
+        Err(why) => {
+            tell_not_begun(rt, &why);
+            false
         }
     }
 }

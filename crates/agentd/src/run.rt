@@ -11,7 +11,7 @@ use crate::failure::{Ended, Failure, failure_of, read_failure, report, tell};
 use crate::files::{NotRead, ReadFile};
 use crate::running::run_octets;
 use crate::serving::{Opened, open_service};
-use crate::words::{Asked, HELP, VERSION, Wrong, asked_by};
+use crate::words::{Asked, HELP, Lasting, VERSION, Wrong, asked_by};
 use configuration::BUILT_IN;
 use setphase_core::{MibObject, Registry};
 use std::alloc::Global;
@@ -24,8 +24,8 @@ use std::io::{Read, Write};
 /// gives for its name. The script runs over exactly the objects that are handed in; where they make
 /// no registry, its configuration is refused.
 ///
-/// Where the words ask to serve, it gives what is to be served as well, and has neither read from
-/// `reader` nor written anything; the caller has then to serve it.
+/// Where the words ask to serve, it gives what is to be served as well, and for how long, and has
+/// neither read from `reader` nor written anything; the caller has then to serve it.
 pub fn run_words<F, M, I, O, E>(
     alloc: Global,
     files: &F,
@@ -34,7 +34,7 @@ pub fn run_words<F, M, I, O, E>(
     reader: &mut I,
     writer: &mut O,
     errors: &mut E,
-) -> (Ended, Option<(Registry<M>, Opened)>)
+) -> (Ended, Option<(Registry<M>, Opened, Lasting)>)
 where
     F: ReadFile,
     M: MibObject,
@@ -66,7 +66,7 @@ fn try_words<'a, F, M, I, O>(
     words: &'a [String],
     reader: &mut I,
     writer: &mut O,
-) -> Result<Option<(Registry<M>, Opened)>, Failure<'a>>
+) -> Result<Option<(Registry<M>, Opened, Lasting)>, Failure<'a>>
 where
     F: ReadFile,
     M: MibObject,
@@ -87,7 +87,7 @@ fn do_asked<'a, F, M, I, O>(
     asked: Result<Asked<'a>, Wrong<'a>>,
     reader: &mut I,
     writer: &mut O,
-) -> Result<Option<(Registry<M>, Opened)>, Failure<'a>>
+) -> Result<Option<(Registry<M>, Opened, Lasting)>, Failure<'a>>
 where
     F: ReadFile,
     M: MibObject,
@@ -101,7 +101,7 @@ where
         Ok(Asked::BuiltIn) => finish(run_by(alloc, objects, BUILT_IN.as_bytes(), reader, writer)),
         Ok(Asked::Script(file)) => finish(run_file(alloc, files, objects, file, reader, writer)),
         Ok(Asked::Check(file)) => finish(check_file(alloc, files, file, writer)),
-        Ok(Asked::Serve(file)) => serve_file(alloc, files, objects, file),
+        Ok(Asked::Serve(file, lasting)) => serve_file(alloc, files, objects, file, lasting),
         Ok(Asked::Help) => finish(tell(HELP.as_bytes(), writer)),
         Ok(Asked::Version) => finish(tell(VERSION.as_bytes(), writer)),
         Err(wrong) => Err(Failure::Usage(wrong)),
@@ -111,7 +111,7 @@ where
 // What has ended so leaves nothing to be served.
 fn finish<'a, M: MibObject>(
     ended: Result<(), Failure<'a>>,
-) -> Result<Option<(Registry<M>, Opened)>, Failure<'a>>
+) -> Result<Option<(Registry<M>, Opened, Lasting)>, Failure<'a>>
     ensures { result ≡ nothing_left ended.entry }
 {
     match ended {
@@ -120,34 +120,36 @@ fn finish<'a, M: MibObject>(
     }
 }
 
-// What is to be served by what was read of a file.
+// What is to be served for so long by what was read of a file.
 fn serve_read<'a, M: MibObject>(
     alloc: Global,
     objects: Vec<M>,
     read: Result<Vec<u8>, NotRead<'a>>,
-) -> Result<Option<(Registry<M>, Opened)>, Failure<'a>>
-    ensures { OpensRead (map M.state objects.items) (read_view read.entry) result }
+    lasting: Lasting,
+) -> Result<Option<(Registry<M>, Opened, Lasting)>, Failure<'a>>
+    ensures { OpensRead (map M.state objects.items) lasting (read_view read.entry) result }
 {
     match read {
         Ok(octets) => match open_service(alloc, objects, &octets) {
-            Ok(service) => Ok(Some(service)),
+            Ok((registry, opened)) => Ok(Some((registry, opened, lasting))),
             Err(reason) => Err(failure_of(reason)),
         },
         Err(unread) => Err(read_failure(unread)),
     }
 }
 
-// What is to be served by a file.
+// What is to be served for so long by a file.
 #[tactic(auto, using(crate::proofs::FileLemmas::file_served))]
 fn serve_file<'a, F: ReadFile, M: MibObject>(
     alloc: Global,
     files: &F,
     objects: Vec<M>,
     file: &'a str,
-) -> Result<Option<(Registry<M>, Opened)>, Failure<'a>>
-    ensures { OpensFile (F.gives files.now) (map M.state objects.items) file.now result }
+    lasting: Lasting,
+) -> Result<Option<(Registry<M>, Opened, Lasting)>, Failure<'a>>
+    ensures { OpensFile (F.gives files.now) (map M.state objects.items) lasting file.now result }
 {
-    serve_read(alloc, objects, files.read_file(file))
+    serve_read(alloc, objects, files.read_file(file), lasting)
 }
 
 // Runs the script by the octets of a configuration.

@@ -3,11 +3,14 @@ ghost use Rattle.std.specs.Prelude.{IfOk, IfErr, map};
 ghost use Rattle.std.specs.Prelude.{◌≡◌};
 ghost use Rattle.history_core.specs.History.{fresh};
 ghost use Rattle.udp_agent.specs.Serving.{IsServed};
+ghost use Rattle.udp_agent.specs.Lasting.{IsServedOn};
 ghost use Rattle.agentd.specs.Services.{IsOpened, IsNotSetUp, IsServiceBy};
 
 use crate::opening::{NotRun, open_bridge, read_configuration, registry_of, undropped};
 use history_core::Kept;
+use live_agent::End;
 use live_run::Report;
+use log::Log;
 use setphase_core::{MibObject, Registry, World};
 use std::alloc::Global;
 use std::io::{self, ErrorKind};
@@ -73,6 +76,16 @@ pub fn open_service<M: MibObject>(
     }
 }
 
+// The history of these objects and what was opened, in which nothing has happened, from the number 0 on.
+fn begin<M: MibObject>(alloc: Global, registry: Registry<M>, world: World) -> io::Result<Kept<M>>
+    ensures { IfOk result (λ kept. kept ≡ fresh registry world 0) }
+{
+    match Kept::new(alloc, registry, world) {
+        Ok(kept) => Ok(kept),
+        Err(_) => Err(io::Error::from(ErrorKind::OutOfMemory)),
+    }
+}
+
 /// Serves what these objects show of the world that was opened, over UDP, until each line has made its
 /// rounds or ended before. Nothing has happened in its history, whose first entry has the number 0.
 ///
@@ -87,8 +100,24 @@ pub fn serve_opened<'r, M: MibObject + Send, R: Threads + Wait + Net + Clock + S
     ensures { IsServed ⟦<UdpWire as Wire>⟧.went ⟦<UdpWire as Wire>⟧.failures
         ⟦<SecondPace<&'r R> as Pace>⟧.went opened.setup (fresh registry opened.world 0) result }
 {
-    match Kept::new(alloc, registry, opened.world) {
-        Ok(kept) => udp_agent::serve(rt, alloc, &opened.setup, kept),
-        Err(_) => Err(ServeFault::Begin(io::Error::from(ErrorKind::OutOfMemory))),
-    }
+    let kept = begin(alloc, registry, opened.world)?;
+    udp_agent::serve(rt, alloc, &opened.setup, kept)
+}
+
+/// The same without an end: each line begins its rounds anew when they are done, until its socket
+/// fails, no number is left for an entry, or there is no memory. It is logged how they go on.
+///
+/// # Errors
+/// As of [`udp_agent::serve_on`]; also that there was no memory for the history.
+pub fn serve_opened_on<'r, M: MibObject + Send, R: Threads + Wait + Net + Clock + Log + Sync>(
+    rt: &'r R,
+    alloc: Global,
+    registry: Registry<M>,
+    opened: Opened,
+) -> io::Result<Vec<End>>
+    ensures { IsServedOn ⟦<UdpWire as Wire>⟧.went ⟦<UdpWire as Wire>⟧.failures
+        ⟦<SecondPace<&'r R> as Pace>⟧.went opened.setup (fresh registry opened.world 0) result }
+{
+    let kept = begin(alloc, registry, opened.world)?;
+    udp_agent::serve_on(rt, alloc, &opened.setup, kept)
 }

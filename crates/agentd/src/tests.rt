@@ -235,6 +235,33 @@ fn takes_no_other_words(rt: HostRuntime) -> Result<(), Fail> {
             "unexpected word now\n",
         ),
         (
+            ["agentd", "serve", "--forever"].as_slice(),
+            "--config FILE is missing\n",
+        ),
+        (
+            ["agentd", "serve", "--config", "a.toml", "--forever", "now"].as_slice(),
+            "unexpected word now\n",
+        ),
+        (
+            [
+                "agentd",
+                "serve",
+                "--forever",
+                "--config=a.toml",
+                "--forever",
+            ]
+            .as_slice(),
+            "unexpected word --forever\n",
+        ),
+        (
+            ["agentd", "check", "--config", "a.toml", "--forever"].as_slice(),
+            "unexpected word --forever\n",
+        ),
+        (
+            ["agentd", "script", "--forever", "--config", "a.toml"].as_slice(),
+            "unexpected word --forever\n",
+        ),
+        (
             ["agentd", "check", "--config"].as_slice(),
             "--config FILE is missing\n",
         ),
@@ -277,10 +304,12 @@ fn takes_no_other_words(rt: HostRuntime) -> Result<(), Fail> {
 }
 
 /// Lines of the help, whole.
-const HELP_LINES: [&str; 13] = [
+const HELP_LINES: [&str; 15] = [
     "  agentd script --config FILE   runs it by the configuration in FILE, a TOML document",
     "  agentd check --config FILE    tells whether FILE is a configuration, and if not, what would be right",
     "  agentd serve --config FILE    serves the agent of FILE over UDP: its requests and its ports' frames",
+    "  agentd serve --forever --config FILE",
+    "                                the same without an end; --forever may also stand last",
     "  agentd --help                 tells this, as --help behind script, check or serve does; also -h",
     "--config=FILE in one word is the same as --config FILE.",
     "                    badframe and the cause",
@@ -320,6 +349,7 @@ fn tells_its_help(rt: HostRuntime) -> Result<(), Fail> {
         ["agentd", "check", "-h"].as_slice(),
         ["agentd", "serve", "--help"].as_slice(),
         ["agentd", "serve", "-h"].as_slice(),
+        ["agentd", "serve", "--forever", "--help"].as_slice(),
     ] {
         let run = ran(&rt, words, GET)?;
         assert!(rt; has_help(run.out.as_slice())?);

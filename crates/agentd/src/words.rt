@@ -1,6 +1,6 @@
 //! What the words of the command line ask for.
-ghost use Rattle.std.specs.Prelude.{◌≡◌, map, option_map, codes, string_bytes, Ok, Err, MatchResult};
-ghost use Rattle.agentd.specs.Words.{asking_with_file, file_behind, alone, behind, asking_in_word, file_asking, asking_with, asking_of, asked_view, wrong_view, asking_view};
+ghost use Rattle.std.specs.Prelude.{◌≡◌, map, option_map, codes, string_bytes};
+ghost use Rattle.agentd.specs.Words.{asking_with_file, may_last, file_in, behind_file, alone, behind, is_forever, asking_in_word, file_asking, serve_asking, asking_with, asking_of, asked_view, asking_view};
 
 /// What `agentd --help` tells.
 pub const HELP: &str = "An SNMPv2c agent of a bridge, driven by a script or served over UDP
@@ -10,6 +10,8 @@ Usage:
   agentd script --config FILE   runs it by the configuration in FILE, a TOML document
   agentd check --config FILE    tells whether FILE is a configuration, and if not, what would be right
   agentd serve --config FILE    serves the agent of FILE over UDP: its requests and its ports' frames
+  agentd serve --forever --config FILE
+                                the same without an end; --forever may also stand last
   agentd --help                 tells this, as --help behind script, check or serve does; also -h
   agentd --version              tells the version; also -V
 
@@ -32,7 +34,8 @@ Lines of a script, from standard input:
 serve wants the table serve in FILE, and listen and peer of each port. One socket takes the requests, and
 one of each port its frames; each thread that answers and each port makes as many receives as rounds says,
 of at most a second each, and the clock as many seconds. When all are done, what was done is logged on
-standard error: entries E requests Q older O drops D.
+standard error: entries E requests Q older O drops D. With --forever each begins its rounds anew when they
+are done: that line comes each time the clock is done, and one where a thread ends, with its reason.
 
 Without words the built-in configuration runs: address 02000000000A, two ports, the communities public and admin.
 
@@ -51,12 +54,21 @@ pub enum Asked<'a> {
     Script(&'a str),
     /// Whether this file is a configuration.
     Check(&'a str),
-    /// The agent by the configuration of this file, over UDP.
-    Serve(&'a str),
+    /// The agent by the configuration of this file, over UDP, for so long.
+    Serve(&'a str, Lasting),
     /// The help.
     Help,
     /// The version.
     Version,
+}
+
+/// For how long an agent is served.
+#[derive(Clone, Copy, Debug, PartialEq, Eq, Drop)]
+pub enum Lasting {
+    /// Until each of its lines has made its rounds.
+    Rounds,
+    /// Without an end: each line begins its rounds anew.
+    Forever,
 }
 
 /// Why words are no command.
@@ -89,7 +101,7 @@ fn asked_with<'a>(word: &'a str, more: &'a [String]) -> Result<Asked<'a>, Wrong<
     match word {
         "script" => file_asked(Doing::Script, more),
         "check" => file_asked(Doing::Check, more),
-        "serve" => file_asked(Doing::Serve, more),
+        "serve" => serve_asked(more),
         "--help" | "-h" => alone(Asked::Help, more),
         "--version" | "-V" => alone(Asked::Version, more),
         _ => Err(Wrong::Unexpected(word)),
@@ -103,8 +115,8 @@ pub enum Doing {
     Script,
     /// Whether it is a configuration.
     Check,
-    /// The agent by its configuration, over UDP.
-    Serve,
+    /// The agent by its configuration, over UDP, for so long.
+    Serve(Lasting),
 }
 
 // What is asked for with a file.
@@ -114,11 +126,30 @@ fn asked_of(doing: Doing, file: &str) -> Asked<'_>
     match doing {
         Doing::Script => Asked::Script(file),
         Doing::Check => Asked::Check(file),
-        Doing::Serve => Asked::Serve(file),
+        Doing::Serve(lasting) => Asked::Serve(file, lasting),
     }
 }
 
-// What is asked for by the words behind `script`, `check` or `serve`.
+// Whether a word asks to serve without an end.
+fn is_forever(word: &str) -> bool
+    ensures { result ≡ is_forever word.now }
+{
+    word == "--forever"
+}
+
+// What is asked for by the words behind `serve`.
+fn serve_asked<'a>(more: &'a [String]) -> Result<Asked<'a>, Wrong<'a>>
+    ensures { asking_view result ≡ serve_asking (map string_bytes more.now) }
+{
+    if let Some((word, rest)) = more.split_first() {
+        if is_forever(word.as_str()) {
+            return file_asked(Doing::Serve(Lasting::Forever), rest);
+        }
+    }
+    file_asked(Doing::Serve(Lasting::Rounds), more)
+}
+
+// What is asked for by the words behind `script`, `check` or `serve`, or behind its `--forever`.
 fn file_asked<'a>(doing: Doing, more: &'a [String]) -> Result<Asked<'a>, Wrong<'a>>
     ensures { asking_view result ≡ file_asking doing (map string_bytes more.now) }
 {
@@ -126,7 +157,7 @@ fn file_asked<'a>(doing: Doing, more: &'a [String]) -> Result<Asked<'a>, Wrong<'
         return Err(Wrong::Missing);
     };
     match option.as_str() {
-        "--config" => Ok(asked_of(doing, file_behind(rest)?)),
+        "--config" => file_in(doing, rest),
         "--help" | "-h" => alone(Asked::Help, rest),
         other => file_asked_in(doing, other, rest),
     }
@@ -147,7 +178,7 @@ fn file_asked_in<'a>(
     if file.is_empty() {
         return Err(Wrong::Missing);
     }
-    alone(asked_of(doing, file), more)
+    behind_file(doing, file, more)
 }
 
 // What stands behind `--config=` in a word, if the word begins so.
@@ -157,17 +188,34 @@ fn behind_config(word: &str) -> Option<&str>
     word.strip_prefix("--config=")
 }
 
-// The one word behind `--config`.
-fn file_behind<'a>(rest: &'a [String]) -> Result<&'a str, Wrong<'a>>
-    ensures { MatchResult result
-        (λ file. file_behind (map string_bytes rest.now) ≡ Ok file.now)
-        (λ wrong. file_behind (map string_bytes rest.now) ≡ Err (wrong_view wrong)) }
+// The file behind `--config`, and the words behind it.
+fn file_in<'a>(doing: Doing, more: &'a [String]) -> Result<Asked<'a>, Wrong<'a>>
+    ensures { asking_view result ≡ file_in doing (map string_bytes more.now) }
 {
-    match rest {
-        [] => Err(Wrong::Missing),
-        [file] => Ok(file.as_str()),
-        [_, extra, ..] => Err(Wrong::Unexpected(extra.as_str())),
+    match more.split_first() {
+        None => Err(Wrong::Missing),
+        Some((file, rest)) => behind_file(doing, file.as_str(), rest),
     }
+}
+
+// Whether a word behind the file may make the serving last without an end.
+fn may_last(doing: Doing, word: &str) -> bool
+    ensures { result ≡ may_last doing word.now }
+{
+    doing == Doing::Serve(Lasting::Rounds) && is_forever(word)
+}
+
+// The words behind the file.
+fn behind_file<'a>(doing: Doing, file: &'a str, more: &'a [String]) -> Result<Asked<'a>, Wrong<'a>>
+    ensures { asking_view result ≡ behind_file doing file.now (map string_bytes more.now) }
+{
+    let Some((word, rest)) = more.split_first() else {
+        return Ok(asked_of(doing, file));
+    };
+    if may_last(doing, word.as_str()) {
+        return alone(Asked::Serve(file, Lasting::Forever), rest);
+    }
+    Err(Wrong::Unexpected(word.as_str()))
 }
 
 // This, where no word stands behind it.

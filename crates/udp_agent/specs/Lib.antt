@@ -1,3 +1,4 @@
 pub mod Binding
+pub mod Lasting
 pub mod Serving
 pub mod Setups

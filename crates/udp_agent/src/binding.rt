@@ -1,5 +1,5 @@
 //! Binds the sockets of a setup.
-ghost use Rattle.std.specs.Prelude.{◌≡◌, ◌<◌, ◌≤◌, ◌^◌, IfOk, map, length, Some, vec_len};
+ghost use Rattle.std.specs.Prelude.{◌≡◌, ◌<◌, ◌≤◌, ◌-◌, ◌^◌, IfOk, map, length, Some, vec_len};
 ghost use Rattle.udp_agent.specs.Binding.{IsPlan, AreLines};
 
 use crate::setup::Setup;
@@ -85,10 +85,10 @@ pub fn plan_of(alloc: Global, setup: &Setup) -> io::Result<Plan>
 fn few<W: Wire, P: Drop>(lines: Lines<W, P>) -> io::Result<Lines<W, P>>
     ensures same { IfOk result (λ few. few ≡ lines) }
     ensures few { IfOk result (λ lines.
-        (vec_len lines.workers < 2 ^ 16) × (vec_len lines.ports < 2 ^ 16)) }
+        (vec_len lines.workers < 2 ^ 16 - 1) × (vec_len lines.ports < 2 ^ 16 - 1)) }
 {
     let most = usize::from(u16::MAX);
-    if lines.workers.len() > most || lines.ports.len() > most {
+    if lines.workers.len() >= most || lines.ports.len() >= most {
         return Err(io::Error::from(ErrorKind::InvalidInput));
     }
     Ok(lines)
@@ -99,7 +99,7 @@ fn few<W: Wire, P: Drop>(lines: Lines<W, P>) -> io::Result<Lines<W, P>>
 ///
 /// # Errors
 /// That of the system, or of a refused growth; nothing is bound then. `InvalidInput` where more than
-/// 65,535 threads are to answer.
+/// 65,534 threads are to answer.
 pub fn bind_lines<R: Net, C: Clock + Drop>(
     rt: &R,
     clock: C,
@@ -108,7 +108,7 @@ pub fn bind_lines<R: Net, C: Clock + Drop>(
 ) -> io::Result<Lines<UdpWire, SecondPace<C>>>
     ensures lines { IfOk result (AreLines setup.now) }
     ensures few { IfOk result (λ lines.
-        (vec_len lines.workers < 2 ^ 16) × (vec_len lines.ports < 2 ^ 16)) }
+        (vec_len lines.workers < 2 ^ 16 - 1) × (vec_len lines.ports < 2 ^ 16 - 1)) }
 {
     let workers = bind_workers(rt, alloc, &setup.serve)?;
     let ports = bind_ports(rt, alloc, setup.ports.as_slice())?;

@@ -63,6 +63,20 @@ fn takes_a_file_to_serve_in_one_word(rt: HostRuntime) -> Result<(), Fail> {
 }
 
 #[test]
+fn takes_a_file_to_serve_without_an_end(rt: HostRuntime) -> Result<(), Fail> {
+    let files = Names { alloc: rt.alloc() };
+    let text = text_of(rt.alloc(), &[SERVE, PORT, LISTEN, PEER])?;
+    for words in [
+        ["agentd", "serve", "--forever", "--config", text.as_str()],
+        ["agentd", "serve", "--config", text.as_str(), "--forever"],
+    ] {
+        let run = ran_over(rt.alloc(), &files, &words, GET)?;
+        assert_eq!(rt; (run.status, run.errors.is_empty()), (0, true));
+    }
+    Ok(())
+}
+
+#[test]
 fn refuses_what_has_no_setup(rt: HostRuntime) -> Result<(), Fail> {
     for parts in [
         [PORT, LISTEN, PEER, ""],

@@ -1,0 +1,40 @@
+-- What comes of serving lines that go on lap by lap.
+use Rattle.std.specs.Prelude.{◌≡◌, ℕ, Bool, true, false, List, Result, Ok, Err, Vec}
+use Rattle.std.specs.declared.alloc.Global.{Global}
+use Rattle.std.specs.declared.io.Error.{Error}
+use Rattle.wire_core.specs.Acts.{Act}
+use Rattle.history_core.specs.History.{History}
+use Rattle.live_agent.specs.declared.plan.Plan.{Plan}
+use Rattle.live_agent.specs.declared.trace.End.{End}
+use Rattle.live_agent.specs.declared.trace.End.TheVariants.{Rounds, Closed, Full, Wire, Memory}
+use Rattle.live_run.specs.declared.lines.Lines.{Lines}
+use Rattle.live_laps.specs.Laps.{HaveGoneOn}
+use Rattle.live_laps.specs.Lines.{all_lines}
+use Rattle.live_laps.specs.declared.line.Line.{Line}
+use Rattle.udp_agent.specs.Binding.{IsPlan, AreLines}
+use Rattle.udp_agent.specs.declared.setup.Setup.{Setup}
+
+-- a line that ended so failed: by its wire, or for want of memory
+abbrev pub is_failure : End → Bool
+is_failure Rounds = false
+is_failure Closed = false
+is_failure Full = false
+is_failure (Wire fault) = true
+is_failure Memory = true
+
+module _ {W P : Type 0} (went : W → List Act → W → Type 0) (failures : W → ℕ)
+    (pace_went : P → List Bool → P → Type 0) where
+  -- All lines of this setup went on lap by lap over this history, by its plan, and each ended so.
+  pub record IsServedOnBy (setup : Setup) (start : History) (ends : List End) : Type 0 where
+    pub plan : Plan
+    pub planned : IsPlan setup plan
+    pub run : Lines W P
+    pub bound : AreLines setup run
+    pub later : History
+    pub left : List (Line W P)
+    pub gone_on : HaveGoneOn went failures pace_went plan start later (all_lines run) left ends
+
+  -- What comes of a setup that is served on: nothing is said of where its sockets could not be bound.
+  abbrev pub IsServedOn : Setup → History → Result (Vec End Global) Error → Type 0
+  IsServedOn setup start (Ok ends) = IsServedOnBy setup start ends.items
+  IsServedOn setup start (Err error) = Unit {0}
