@@ -1,7 +1,7 @@
 #!/usr/bin/env python3
 """Measures agentd over UDP: replies a second to a Get, a GetBulk and a Set, beside those of a plain echo.
 
-    bench/udp.py [--agentd FILE] [--seconds N]
+    bench/udp.py [--agentd FILE] [--seconds N] [--forever]
 
 For 1, 2 and 4 workers and for 1 and 4 clients, each with one request under way, it asks a fresh `agentd serve` for N seconds
 (2 unless told) and for as long an echo of the same requests, which has as many threads on one socket as the agent has workers.
@@ -10,7 +10,8 @@ within a second is lost. The Sets are of 4096 and 8192 in turn, so that each cha
 between. The last line tells by how much the agent's resident memory grew over the Gets of 1 worker and 1 client, by
 VmRSS in /proc. Exit status 1 where a first reply or the agent failed, or a reply had an error.
 
-An agent makes 1,000,000 rounds a worker and no more: with an N of more requests than that, the rest are lost.
+An agent makes 1,000,000 rounds a worker and no more: with an N of more requests than that, the rest are lost. With `--forever`
+it is served so, by laps of 10,000 rounds, and first asked 30,000 Gets, so that its history is full and its laps have been let go.
 
 The agent is that which `rt run` leaves in crates/agentd/out/agentd. A C compiler is needed, as `cc`, for bench/udp.c.
 """
@@ -34,6 +35,10 @@ WORKERS = (1, 2, 4)
 CLIENTS = (1, 4)
 REQUEST_ID = 1
 MOST_SECONDS_TO_START = 20
+MOST_ROUNDS = 1_000_000
+LAP = 10_000  # rounds of a lap, where an agent is served without an end
+FIRST_REQUESTS = 30_000  # that such an agent is asked before it is measured
+SECONDS_TO_WARM = 0.5
 
 CONFIGURATION = """\
 address = "02000000000A"
@@ -53,7 +58,7 @@ peer = "{second_peer}"
 [serve]
 snmp = "{snmp}"
 workers = {workers}
-rounds = 1000000
+rounds = {rounds}
 [[community]]
 index = "a"
 name = "admin"
@@ -232,17 +237,18 @@ class Counts:
 class Bench:
     """Measurements of one agent, in a folder of their own."""
 
-    def __init__(self, agentd, seconds, room):
+    def __init__(self, agentd, seconds, is_forever, room):
         self.agentd = agentd
         self.seconds = seconds
+        self.is_forever = is_forever
         self.configuration = room / "serve.toml"
         self.udp = room / "udp"
         subprocess.run(["cc", "-O2", "-pthread", "-o", self.udp, BENCH / "udp.c"], check=True)
 
-    def asked(self, process, port, kind, clients):
+    def asked(self, process, port, kind, clients, seconds=None):
         """Counts of the replies of a server that has replied."""
         lines = "".join(octets.hex() + "\n" for octets in KINDS[kind])
-        words = [self.udp, "ask", f"{HOST}:{port}", str(clients), str(self.seconds)]
+        words = [self.udp, "ask", f"{HOST}:{port}", str(clients), str(seconds or self.seconds)]
         done = subprocess.run(words, input=lines, stdout=subprocess.PIPE, text=True)
         if done.returncode != 0 or process.poll() is not None:
             sys.exit(f"{kind}, {clients} clients: {process.args[0]} ended or failed, status {process.poll()}")
@@ -255,6 +261,12 @@ class Bench:
             first_reply(process, port, KINDS[kind][0])
             return self.asked(process, port, kind, clients)
 
+    def warm(self, process, port):
+        """Asks an agent that is served without an end until its history is full and each worker has made some laps."""
+        requests = 0
+        while self.is_forever and requests < FIRST_REQUESTS:
+            requests += self.asked(process, port, "Get", 4, SECONDS_TO_WARM).requests
+
     def of_agent(self, kind, workers, clients):
         """Counts of an agent, and its resident kilobytes before and after."""
         with bound() as first_peer, bound() as second_peer:
@@ -262,9 +274,12 @@ class Bench:
             places = {"snmp": snmp, "first": first, "second": second,
                       "first_peer": port_of(first_peer), "second_peer": port_of(second_peer)}
             texts = {key: f"{HOST}:{port}" for key, port in places.items()}
-            self.configuration.write_text(CONFIGURATION.format(workers=workers, **texts))
-            with started(self.agentd, "serve", "--config", self.configuration) as process:
+            rounds = LAP if self.is_forever else MOST_ROUNDS
+            self.configuration.write_text(CONFIGURATION.format(workers=workers, rounds=rounds, **texts))
+            options = ["--forever"] if self.is_forever else []
+            with started(self.agentd, "serve", *options, "--config", self.configuration) as process:
                 check(kind, first_reply(process, snmp, KINDS[kind][-1]))
+                self.warm(process, snmp)
                 before = resident_kilobytes(process)
                 counts = self.asked(process, snmp, kind, clients)
                 return counts, before, resident_kilobytes(process)
@@ -298,12 +313,13 @@ def main():
     words = argparse.ArgumentParser(description=__doc__, formatter_class=argparse.RawDescriptionHelpFormatter)
     words.add_argument("--agentd", type=pathlib.Path, default=AGENTD)
     words.add_argument("--seconds", type=float, default=2)
+    words.add_argument("--forever", action="store_true")
     asked = words.parse_args()
     if not asked.agentd.is_file():
         sys.exit(f"no {asked.agentd}")
     signal.signal(signal.SIGTERM, lambda *_: sys.exit(1))
     with tempfile.TemporaryDirectory() as room:
-        bench = Bench(asked.agentd.resolve(), asked.seconds, pathlib.Path(room))
+        bench = Bench(asked.agentd.resolve(), asked.seconds, asked.forever, pathlib.Path(room))
         sys.exit(measure(bench) > 0)
 
 

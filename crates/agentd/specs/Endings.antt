@@ -33,9 +33,9 @@ status_of (Err failure) = failure_status failure
 
 -- what a failure is called, and what it names
 abbrev pub failure_words : Failure → List ℕ
-failure_words (Usage (Unexpected word)) = codes "usage: agentd [script|check|serve --config FILE]: unexpected word "
-failure_words (Usage Missing) = codes "usage: agentd [script|check|serve --config FILE]: --config FILE is missing"
-failure_words NotText = codes "usage: agentd [script|check|serve --config FILE]: a word is no text"
+failure_words (Usage (Unexpected word)) = codes "usage: agentd [script|check|serve [--forever] --config FILE]: unexpected word "
+failure_words (Usage Missing) = codes "usage: agentd [script|check|serve [--forever] --config FILE]: --config FILE is missing"
+failure_words NotText = codes "usage: agentd [script|check|serve [--forever] --config FILE]: a word is no text"
 failure_words (CannotRead file) = codes "cannot read "
 failure_words Refused = codes "configuration refused"
 failure_words Input = codes "input failed"

@@ -21,7 +21,7 @@ pub data Asking : Type 0 where
   -- `serve --config FILE` or `serve --config=FILE`: the agent by the configuration of this file, over
   -- UDP; with `--forever` in front of these or behind them, without an end
   serve : (file : List ℕ) → Lasting → Asking
-  -- `--help` or `-h`, alone or behind `script`, `check` or `serve`
+  -- `--help` or `-h`, alone or behind `script`, `check`, `serve` or `serve --forever`
   help : Asking
   -- `--version` or `-V`
   version : Asking

@@ -35,7 +35,8 @@ pub enum Failure<'a> {
     Input,
     /// The output could not be written.
     Output,
-    /// The run found no memory for its own lines and lists.
+    /// The run found no memory for its own lines and lists, or what was to be served was not, or
+    /// failed.
     Run,
 }
 
@@ -101,11 +102,11 @@ impl Failure<'_> {
     {
         match self {
             Failure::Usage(Wrong::Unexpected(_)) =>
-                b"usage: agentd [script|check|serve --config FILE]: unexpected word ",
+                b"usage: agentd [script|check|serve [--forever] --config FILE]: unexpected word ",
             Failure::Usage(Wrong::Missing) =>
-                b"usage: agentd [script|check|serve --config FILE]: --config FILE is missing",
+                b"usage: agentd [script|check|serve [--forever] --config FILE]: --config FILE is missing",
             Failure::NotText =>
-                b"usage: agentd [script|check|serve --config FILE]: a word is no text",
+                b"usage: agentd [script|check|serve [--forever] --config FILE]: a word is no text",
             Failure::CannotRead(_) => b"cannot read ",
             Failure::Refused => b"configuration refused",
             Failure::Input => b"input failed",

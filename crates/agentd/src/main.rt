@@ -5,23 +5,23 @@
 //! 1 or 2, whether the line of a failure was written whole, and what is left to be served, if its
 //! words ask for that. `run_octets` runs the script over objects by the octets of a configuration,
 //! `check_octets` tells whether octets are one, `open_service` gives what they say is to be served,
-//! `serve_opened` serves it for its rounds, and `serve_opened_on` without an end.
+//! `serve_opened` serves it for its rounds, and `serve_opened_forever` without an end.
 //!
 //! # Definitions
 //! `specs/Words.antt`: what words ask for; `specs/Files.antt`: what a read of a file gave;
 //! `specs/Agents.antt`: the world that a configuration opens; `specs/Runs.antt`: what a run by
-//! octets promises; `specs/Services.antt`: what they give to be served; `specs/Endings.antt`: statuses, and the line of each failure;
-//! `specs/Telling.antt`: what a check tells; `specs/Programs.antt`: what the program does with its
-//! words.
+//! octets promises; `specs/Services.antt`: what they give to be served; `specs/Endings.antt`:
+//! statuses, and the line of each failure; `specs/Telling.antt`: what a check tells;
+//! `specs/Programs.antt`: what the program does with its words.
 //!
 //! # Laws
 //! None.
 //!
 //! # Not claimed
 //! That the words are those of the command line, that the objects that `main` makes are the 51 of
-//! `object_list`, and that it serves what is left to be served. That a write failed where the line of a failure is
-//! told to be cut off. That memory was refused where the answer is for want of it. What a file of
-//! the system holds and a terminal shows.
+//! `object_list`, that it serves what is left to be served, and its status then. That a write failed
+//! where the line of a failure is told to be cut off. That memory was refused where the answer is for
+//! want of it. What a file of the system holds and a terminal shows.
 #![tactic(auto)]
 
 mod checking;
@@ -45,7 +45,7 @@ use files::SystemFiles;
 use log::Log;
 use object_list::objects;
 use run::run_words;
-use serving::{Opened, serve_opened, serve_opened_on};
+use serving::{Opened, serve_opened, serve_opened_forever};
 use setphase_core::{MibObject, Registry};
 use std::alloc::{Allocator, Global};
 use std::net::Net;
@@ -81,48 +81,49 @@ fn main(rt: HostRuntime) -> ExitCode {
     let Some((registry, opened, lasting)) = left else {
         return ExitCode::from(ended.status);
     };
-    let is_done = match lasting {
-        Lasting::Rounds => is_served(&rt, rt.alloc(), registry, opened),
-        Lasting::Forever => is_served_on(&rt, rt.alloc(), registry, opened),
+    let done = match lasting {
+        Lasting::Rounds => serve_rounds(&rt, rt.alloc(), registry, opened),
+        Lasting::Forever => serve_forever(&rt, rt.alloc(), registry, opened),
     };
-    if is_done {
-        return ExitCode::SUCCESS;
+    match done {
+        Ok(()) => ExitCode::SUCCESS,
+        Err(failure) => ExitCode::from(report(&failure, &mut errors).status),
     }
-    ExitCode::from(report(&Failure::Run, &mut errors).status)
 }
 
-// Serves until each line is done, and logs what was done, or why there is no report. Whether there is.
-fn is_served<M: MibObject + Send, R: Threads + Wait + Net + Clock + Log + Sync>(
+// Serves until each line is done, and logs what was done, or why there is no report.
+fn serve_rounds<M: MibObject + Send, R: Threads + Wait + Net + Clock + Log + Sync>(
     rt: &R,
     alloc: Global,
     registry: Registry<M>,
     opened: Opened,
-) -> bool {
+) -> Result<(), Failure<'static>> {
     match serve_opened(rt, alloc, registry, opened) {
         Ok(done) => {
             tell_report(rt, &done);
-            true
+            Ok(())
         }
         Err(fault) => {
             tell_fault(rt, &fault);
-            false
+            Err(Failure::Run)
         }
     }
 }
 
-// Serves without an end, and logs how the lines go on, or why nothing was served. Whether it was, and
-// no line failed.
-fn is_served_on<M: MibObject + Send, R: Threads + Wait + Net + Clock + Log + Sync>(
+// Serves without an end, and logs how the lines go on, or why nothing was served. It has failed where
+// nothing was, or where all lines have ended and one of them failed.
+fn serve_forever<M: MibObject + Send, R: Threads + Wait + Net + Clock + Log + Sync>(
     rt: &R,
     alloc: Global,
     registry: Registry<M>,
     opened: Opened,
-) -> bool {
-    match serve_opened_on(rt, alloc, registry, opened) {
-        Ok(ends) => !any_failed(ends.as_slice()),
+) -> Result<(), Failure<'static>> {
+    match serve_opened_forever(rt, alloc, registry, opened) {
+        Ok(ends) if any_failed(ends.as_slice()) => Err(Failure::Run),
+        Ok(_) => Ok(()),
         Err(why) => {
             tell_not_begun(rt, &why);
-            false
+            Err(Failure::Run)
         }
     }
 }

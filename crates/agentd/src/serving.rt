@@ -3,7 +3,7 @@ ghost use Rattle.std.specs.Prelude.{IfOk, IfErr, map};
 ghost use Rattle.std.specs.Prelude.{◌≡◌};
 ghost use Rattle.history_core.specs.History.{fresh};
 ghost use Rattle.udp_agent.specs.Serving.{IsServed};
-ghost use Rattle.udp_agent.specs.Lasting.{IsServedOn};
+ghost use Rattle.udp_agent.specs.Lasting.{IsServedForever};
 ghost use Rattle.agentd.specs.Services.{IsOpened, IsNotSetUp, IsServiceBy};
 
 use crate::opening::{NotRun, open_bridge, read_configuration, registry_of, undropped};
@@ -26,7 +26,7 @@ use wire_core::{Pace, SecondPace, UdpWire, Wire};
 pub struct Opened {
     /// The world that requests and frames are to meet.
     pub world: World,
-    /// Where it is served, and for how long.
+    /// Where it is served, and how many rounds its lines make.
     pub setup: Setup,
 }
 
@@ -108,16 +108,16 @@ pub fn serve_opened<'r, M: MibObject + Send, R: Threads + Wait + Net + Clock + S
 /// fails, no number is left for an entry, or there is no memory. It is logged how they go on.
 ///
 /// # Errors
-/// As of [`udp_agent::serve_on`]; also that there was no memory for the history.
-pub fn serve_opened_on<'r, M: MibObject + Send, R: Threads + Wait + Net + Clock + Log + Sync>(
+/// As of [`udp_agent::serve_forever`]; also that there was no memory for the history.
+pub fn serve_opened_forever<'r, M: MibObject + Send, R: Threads + Wait + Net + Clock + Log + Sync>(
     rt: &'r R,
     alloc: Global,
     registry: Registry<M>,
     opened: Opened,
 ) -> io::Result<Vec<End>>
-    ensures { IsServedOn ⟦<UdpWire as Wire>⟧.went ⟦<UdpWire as Wire>⟧.failures
+    ensures { IsServedForever ⟦<UdpWire as Wire>⟧.went ⟦<UdpWire as Wire>⟧.failures
         ⟦<SecondPace<&'r R> as Pace>⟧.went opened.setup (fresh registry opened.world 0) result }
 {
     let kept = begin(alloc, registry, opened.world)?;
-    udp_agent::serve_on(rt, alloc, &opened.setup, kept)
+    udp_agent::serve_forever(rt, alloc, &opened.setup, kept)
 }

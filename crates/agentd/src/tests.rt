@@ -205,7 +205,7 @@ fn ran_by<R: Files + AllocGlobal>(
 }
 
 /// What stands before the reason that words are no command.
-const USAGE_LINE: &str = "agentd: usage: agentd [script|check|serve --config FILE]: ";
+const USAGE_LINE: &str = "agentd: usage: agentd [script|check|serve [--forever] --config FILE]: ";
 
 // What stands behind that.
 fn told_of(alloc: Global, run: &Finished) -> Result<String, Fail> {
@@ -304,7 +304,7 @@ fn takes_no_other_words(rt: HostRuntime) -> Result<(), Fail> {
 }
 
 /// Lines of the help, whole.
-const HELP_LINES: [&str; 15] = [
+const HELP_LINES: [&str; 16] = [
     "  agentd script --config FILE   runs it by the configuration in FILE, a TOML document",
     "  agentd check --config FILE    tells whether FILE is a configuration, and if not, what would be right",
     "  agentd serve --config FILE    serves the agent of FILE over UDP: its requests and its ports' frames",
@@ -312,6 +312,7 @@ const HELP_LINES: [&str; 15] = [
     "                                the same without an end; --forever may also stand last",
     "  agentd --help                 tells this, as --help behind script, check or serve does; also -h",
     "--config=FILE in one word is the same as --config FILE.",
+    "its reason; the others go on. When all have ended, the status is 1 if one failed, else 0.",
     "                    badframe and the cause",
     "  link P up         the link of port P goes up: the BPDUs that are sent",
     "  link P down       the link of port P goes down: the same",
@@ -406,7 +407,7 @@ fn says_that_a_word_is_no_text(rt: HostRuntime) -> Result<(), Fail> {
     assert_eq!(rt; (whole.status, whole.line), (2, Ok(())));
     assert_eq!(rt;
         errors.as_slice(),
-        b"agentd: usage: agentd [script|check|serve --config FILE]: a word is no text\n".as_slice()
+        b"agentd: usage: agentd [script|check|serve [--forever] --config FILE]: a word is no text\n".as_slice()
     );
     Ok(())
 }

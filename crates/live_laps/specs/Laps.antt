@@ -21,21 +21,21 @@ pub record Place (W P : Type 0) : Type 0 where
 
 module _ {W P : Type 0} (went : W → List Act → W → Type 0) (failures : W → ℕ)
     (pace_went : P → List Bool → P → Type 0) (s : Setting) (rounds : ℕ) where
-  -- A lap of a port, which begins with its link where that is not up yet.
+  -- A lap of a port, which begins with its link where it is the first.
   abbrev pub HasPassed : Bool → ℕ → W → W → ℕ → ℕ → List Item → End → Type 0
   HasPassed false port a b m n trace end = HasPortRun went s port rounds a b trace m n end
   HasPassed true port a b m n trace end =
       HasRun went (IsPortTurn s port) rounds a b [] trace m n end
 
   -- A lap of a line, from one count of its thread's entries to another, with what it left and how it
-  -- ended: the line is the same afterwards but for its wire, its pace, and a link that went up. A
-  -- wire counts a fault that ended it.
+  -- ended: the line is the same afterwards but for its wire, its pace, and that a port's first lap
+  -- was begun. A wire counts a fault that ended it.
   abbrev pub IsLap : Line W P → Line W P → ℕ → ℕ → List Item → End → Type 0
   IsLap (Worker number a) (Worker number' b) m n trace end =
       (number' ≡ number) × HasRun went (IsWorkerTurn s) rounds a b [] trace m n end
       × (failures b ≡ failures_at end (failures a))
-  IsLap (Port number is_up a) (Port number' is_up' b) m n trace end =
-      (number' ≡ number) × (is_up' ≡ true) × HasPassed is_up number a b m n trace end
+  IsLap (Port number is_begun a) (Port number' is_begun' b) m n trace end =
+      (number' ≡ number) × (is_begun' ≡ true) × HasPassed is_begun number a b m n trace end
       × (failures b ≡ failures_at end (failures a))
   IsLap (Ticker a p) (Ticker b q) m n trace end =
       HasTicked went pace_went s rounds a b p q trace m n end

@@ -3,13 +3,13 @@ use Rattle.std.specs.Prelude.{ℕ, ◌+◌, false, List, [], ◌∷◌, ◌++◌
 use Rattle.live_run.specs.declared.lines.Lines.{Lines}
 use Rattle.live_laps.specs.declared.line.Line.{Line}
 use Rattle.live_laps.specs.declared.line.Line.TheVariants.{Worker, Port, Ticker}
-use Rattle.live_laps.specs.declared.line.Name.{Name}
-use Rattle.live_laps.specs.declared.line.Name.TheVariants as name
+use Rattle.live_laps.specs.declared.line.LineName.{LineName}
+use Rattle.live_laps.specs.declared.line.LineName.TheVariants as name
 
 -- what a line is called
-abbrev pub name_of : {W P : Type 0} → Line W P → Name
+abbrev pub name_of : {W P : Type 0} → Line W P → LineName
 name_of (Worker number wire) = name.Worker number
-name_of (Port number is_up wire) = name.Port number
+name_of (Port number is_begun wire) = name.Port number
 name_of (Ticker wire pace) = name.Ticker
 
 -- the workers over these wires, numbered from this number on

@@ -6,10 +6,10 @@ ghost use Rattle.live_run.specs.Reports.{refused_in, counted};
 use live_agent::Item;
 use std::sync::{Mutex, Wait};
 
-/// What a lap of a worker came to.
+/// What laps of workers came to.
 #[derive(Clone, Copy, Debug, PartialEq, Eq, Drop)]
 pub struct Worked {
-    /// The requests that it entered.
+    /// The requests that they entered.
     pub requests: u64,
     /// The datagrams that held none.
     pub drops: u64,

@@ -1,6 +1,7 @@
 //! The laps of a line.
 ghost use Rattle.std.specs.Prelude.{◌≡◌, ◌≢◌, ◌<◌, true, false};
 ghost use Rattle.live_agent.specs.declared.trace.End.TheVariants.{Rounds};
+ghost use Rattle.live_lock.specs.Counting.{IsCounted};
 ghost use Rattle.live_agent.specs.Lines.{setting_of};
 ghost use Rattle.live_laps.specs.Laps.{IsLap, HasGoneOn};
 
@@ -31,8 +32,8 @@ fn run_lap<O: MibObject, L: Run, W: Wire, P: Pace, G: Gate, R: Wait>(
     match line {
         Line::Worker(number, wire) => worker_run(rt, plan, live, share, wire, gate, *number),
         Line::Port(number, true, wire) => port_lap(rt, plan, live, share, wire, *number),
-        Line::Port(number, is_up, wire) => {
-            *is_up = true;
+        Line::Port(number, is_begun, wire) => {
+            *is_begun = true;
             port_run(rt, plan, live, share, wire, *number)
         }
         Line::Ticker(wire, pace) => ticker_run(rt, plan, live, share, wire, pace),
@@ -64,7 +65,9 @@ fn is_over(end: End) -> bool
 }
 
 // What all lines did by now.
-fn totals<O: MibObject, L: Run, R: Wait>(rt: &R, live: &Live<O, L>, book: &Book) -> Totals {
+fn totals<O: MibObject, L: Run, R: Wait>(rt: &R, live: &Live<O, L>, book: &Book) -> Totals
+    ensures { IsCounted L.start (record { entries = result.entries; older = result.older }) }
+{
     let worked = book.read(rt);
     let counts = live.counts(rt);
     Totals {

@@ -26,6 +26,6 @@ mod line;
 mod serving;
 mod watch;
 
-pub use line::{Line, Name, lines_of};
+pub use line::{Line, LineName, lines_of};
 pub use serving::serve_laps;
 pub use watch::{Totals, Watch};

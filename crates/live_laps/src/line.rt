@@ -10,7 +10,8 @@ use std::alloc::{AllocError, Global};
 pub enum Line<W, P> {
     /// The worker of this number, counted from 0, over its wire.
     Worker(usize, W),
-    /// The port of this number, counted from 1, over its wire; whether its link went up.
+    /// The port of this number, counted from 1, over its wire; whether its first lap, which its link
+    /// begins, was begun.
     Port(u16, bool, W),
     /// The ticker, over its wire, by its pace.
     Ticker(W, P),
@@ -18,7 +19,7 @@ pub enum Line<W, P> {
 
 /// What a line is called.
 #[derive(Clone, Copy, Debug, PartialEq, Eq)]
-pub enum Name {
+pub enum LineName {
     /// The worker of this number, counted from 0.
     Worker(usize),
     /// The port of this number, counted from 1.
@@ -29,13 +30,13 @@ pub enum Name {
 
 impl<W, P> Line<W, P> {
     /// What it is called.
-    pub fn name(&self) -> Name
+    pub fn name(&self) -> LineName
         ensures { result ≡ name_of self.now }
     {
         match self {
-            Line::Worker(number, _) => Name::Worker(*number),
-            Line::Port(number, _, _) => Name::Port(*number),
-            Line::Ticker(_, _) => Name::Ticker,
+            Line::Worker(number, _) => LineName::Worker(*number),
+            Line::Port(number, _, _) => LineName::Port(*number),
+            Line::Ticker(_, _) => LineName::Ticker,
         }
     }
 }

@@ -1,8 +1,8 @@
 //! Who is told how the lines go on.
-use crate::line::Name;
+use crate::line::LineName;
 use live_agent::End;
 
-/// What all lines did since their start, as far as their laps have ended.
+/// What all lines did since their start; what workers did, as far as their laps have ended.
 #[derive(Clone, Copy, Debug, PartialEq, Eq)]
 pub struct Totals {
     /// The entries of the history since its start.
@@ -22,5 +22,5 @@ pub trait Watch {
     fn lap(&self, totals: Totals);
 
     /// Where a line ends.
-    fn ended(&self, line: Name, end: End);
+    fn ended(&self, line: LineName, end: End);
 }

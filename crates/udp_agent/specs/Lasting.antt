@@ -1,5 +1,6 @@
 -- What comes of serving lines that go on lap by lap.
-use Rattle.std.specs.Prelude.{◌≡◌, ℕ, Bool, true, false, List, Result, Ok, Err, Vec}
+use Rattle.std.specs.Prelude.{◌||◌, ℕ, Bool, true, false, List, [], ◌∷◌, Result, Ok, Err, Vec}
+use Rattle.std.specs.declared.alloc.AllocError.{AllocError}
 use Rattle.std.specs.declared.alloc.Global.{Global}
 use Rattle.std.specs.declared.io.Error.{Error}
 use Rattle.wire_core.specs.Acts.{Act}
@@ -22,19 +23,34 @@ is_failure Full = false
 is_failure (Wire fault) = true
 is_failure Memory = true
 
+-- one of the lines that ended so failed
+abbrev pub is_any_failure : List End → Bool
+is_any_failure [] = false
+is_any_failure (end ∷ ends) = is_failure end || is_any_failure ends
+
 module _ {W P : Type 0} (went : W → List Act → W → Type 0) (failures : W → ℕ)
     (pace_went : P → List Bool → P → Type 0) where
-  -- All lines of this setup went on lap by lap over this history, by its plan, and each ended so.
-  pub record IsServedOnBy (setup : Setup) (start : History) (ends : List End) : Type 0 where
-    pub plan : Plan
-    pub planned : IsPlan setup plan
-    pub run : Lines W P
-    pub bound : AreLines setup run
+  -- All these lines went on lap by lap over this history, by this plan, and each ended so.
+  pub record HaveServed (plan : Plan) (start : History) (run : Lines W P) (ends : List End) : Type 0 where
     pub later : History
     pub left : List (Line W P)
     pub gone_on : HaveGoneOn went failures pace_went plan start later (all_lines run) left ends
 
-  -- What comes of a setup that is served on: nothing is said of where its sockets could not be bound.
-  abbrev pub IsServedOn : Setup → History → Result (Vec End Global) Error → Type 0
-  IsServedOn setup start (Ok ends) = IsServedOnBy setup start ends.items
-  IsServedOn setup start (Err error) = Unit {0}
+  -- What comes of lines that are to go on: nothing is said of where there was no memory to begin with.
+  abbrev pub IsServingForever : Plan → History → Lines W P → Result (Vec End Global) AllocError → Type 0
+  IsServingForever plan start run (Ok ends) = HaveServed plan start run ends.items
+  IsServingForever plan start run (Err refused) = Unit {0}
+
+  -- Lines of this setup went on, by its plan.
+  pub record IsServedForeverBy (setup : Setup) (start : History) (ends : List End) : Type 0 where
+    pub plan : Plan
+    pub planned : IsPlan setup plan
+    pub run : Lines W P
+    pub bound : AreLines setup run
+    pub served : HaveServed plan start run ends
+
+  -- What comes of a setup that is served without an end: nothing is said of where its sockets could
+  -- not be bound, or where there was no memory to begin with.
+  abbrev pub IsServedForever : Setup → History → Result (Vec End Global) Error → Type 0
+  IsServedForever setup start (Ok ends) = IsServedForeverBy setup start ends.items
+  IsServedForever setup start (Err error) = Unit {0}

@@ -1,4 +1,4 @@
-//! Where an agent is served, and for how long.
+//! Where an agent is served, and how many rounds its lines make.
 ghost use Rattle.std.specs.Prelude.{◌≡◌, true, false, All, IfSome, IsNone};
 ghost use Rattle.udp_agent.specs.Setups.{HasSockets, IsSetup, HasSetup};
 
@@ -7,14 +7,15 @@ use configuration::{Port, Serve};
 use frame_core::Mac;
 use rstp_settings::settings::MAX_PORTS;
 
-/// Where an agent is served, and for how long.
+/// Where an agent is served, and how many rounds its lines make.
 #[derive(Drop)]
 pub struct Setup {
     /// The bridge's address, from which its ports send their BPDUs.
     pub address: Mac,
     /// The bridge's ports, from port 1 on: where the frames of each come in, and where they go.
     pub ports: ArrayVec<Port, MAX_PORTS>,
-    /// Where requests come in, how many threads answer them, and how many rounds each line makes.
+    /// Where requests come in, how many threads answer them, and how many rounds each line makes: in
+    /// all, or where it is served without an end, in a lap.
     pub serve: Serve,
 }
 

@@ -1,7 +1,7 @@
 //! Logs what a run did, why it has no report, and how lines go on.
 use crate::serving::ServeFault;
 use live_agent::End;
-use live_laps::{Name, Totals, Watch};
+use live_laps::{LineName, Totals, Watch};
 use live_run::{Report, RunFault};
 use log::{Log, error, info};
 use std::io;
@@ -37,8 +37,9 @@ pub fn tell_not_begun<R: Log>(rt: &R, why: &io::Error) {
     error!(rt; "not begun: {}", why);
 }
 
-/// Logs how lines go on: at the end of each lap of the ticker what all did so far, in a line of level
-/// Info as that of [`tell_report`]; where a line ends, which and why, in a line of level Error.
+/// Logs how lines go on, by this log: at the end of each lap of the ticker what all did so far, in a
+/// line of level Info as that of [`tell_report`]; where a line ends, which and why, in a line of level
+/// Error.
 #[derive(Drop)]
 pub struct Teller<'r, R>(pub &'r R);
 
@@ -54,15 +55,15 @@ impl<R: Log> Watch for Teller<'_, R> {
         );
     }
 
-    fn ended(&self, line: Name, end: End) {
+    fn ended(&self, line: LineName, end: End) {
         let why = why_ended(end);
         match line {
             // Workers are counted from 0; people count from 1.
-            Name::Worker(number) => {
+            LineName::Worker(number) => {
                 error!(self.0; "worker {} ended: {}", number.saturating_add(1), why)
             }
-            Name::Port(number) => error!(self.0; "port {} ended: {}", number, why),
-            Name::Ticker => error!(self.0; "the clock ended: {}", why),
+            LineName::Port(number) => error!(self.0; "port {} ended: {}", number, why),
+            LineName::Ticker => error!(self.0; "the clock ended: {}", why),
         }
     }
 }
@@ -71,7 +72,7 @@ impl<R: Log> Watch for Teller<'_, R> {
 fn why_ended(end: End) -> &'static str {
     match end {
         End::Rounds => "its rounds are over",
-        End::Closed => "its socket is closed",
+        End::Closed => "nothing comes any more",
         End::Full => "no number is left for an entry",
         End::Wire(WireFault::Receive) => "a receive failed",
         End::Wire(WireFault::Send) => "a send failed",

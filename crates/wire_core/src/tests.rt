@@ -1,7 +1,7 @@
 //! What each wire gives and what each pace answers, by their traits.
 use super::*;
 use std::alloc::Global;
-use std::net::{IpAddr, Ipv4Addr, SocketAddr};
+use std::net::{IpAddr, Ipv4Addr, Ipv6Addr, SocketAddr};
 use std::test::*;
 
 fn loopback(port: u16) -> SocketAddr {
@@ -97,6 +97,25 @@ fn udp_goes_over_the_loopback(rt: HostRuntime) -> Result<(), Fail> {
     let received = (receipt(&mut server), receipt(&mut shared));
     let wanted = (Ok(Some((from.port(), 2, 3))), Ok(Some((from.port(), 1, 6))));
     assert_eq!(rt; (sent, received), ((Ok(()), Ok(())), wanted));
+    Ok(())
+}
+
+// Who asks from port 0 can be sent nothing, and the wire goes on; an address of another kind is a fault.
+#[test]
+fn udp_loses_what_nobody_can_take(rt: HostRuntime) -> Result<(), Fail> {
+    let mut wire = UdpWire::bind(&rt, rt.alloc(), loopback(0))?;
+    let (own, other) = (
+        wire.local_addr()?,
+        SocketAddr::new(IpAddr::V6(Ipv6Addr::LOCALHOST), 9),
+    );
+    let sent = (
+        wire.send(loopback(0), &[1]),
+        wire.send(other, &[1]),
+        wire.send(own, &[2]),
+    );
+    let received = receipt(&mut wire);
+    let wanted = (Ok(()), Err(WireFault::Send), Ok(()));
+    assert_eq!(rt; (sent, received), (wanted, Ok(Some((own.port(), 1, 2)))));
     Ok(())
 }
 

@@ -11,7 +11,9 @@ use std::time::Duration;
 pub const RECEIVE_WAIT_MILLIS: u64 = 1000;
 
 /// A wire over a bound UDP socket, which it may share with others. A receive waits for
-/// `RECEIVE_WAIT_MILLIS`, and gives nothing then. It tells its count of failures and no more.
+/// `RECEIVE_WAIT_MILLIS`, and gives nothing then. A datagram for a peer that is out of reach at the
+/// time is lost, as others on their way are, and no failure: who asks from such a place must not end
+/// the wire. It tells its count of failures and no more.
 #[derive(Drop)]
 pub struct UdpWire {
     socket: Arc<UdpSocket, Global>,
@@ -71,8 +73,13 @@ impl Wire for UdpWire {
     }
 
     fn send(&mut self, peer: SocketAddr, octets: &[u8]) -> Result<(), WireFault> {
+        // Nobody is at port 0, but a datagram may say that it comes from there.
+        if peer.port() == 0 {
+            return Ok(());
+        }
         match self.socket.send_to(octets, peer) {
             Ok(_) => Ok(()),
+            Err(error) if is_out_of_reach(error.kind()) => Ok(()),
             Err(_) => Err(count_failure(&mut self.failures, WireFault::Send)),
         }
     }
@@ -88,5 +95,20 @@ fn gave_nothing(kind: ErrorKind) -> bool {
             | ErrorKind::Interrupted
             | ErrorKind::ConnectionRefused
             | ErrorKind::ConnectionReset
+    )
+}
+
+// Whether a send that ended so says only that its peer is out of reach at the time: by no route, by a
+// filter of packets, or since the system's room for what is to go out is full.
+fn is_out_of_reach(kind: ErrorKind) -> bool {
+    matches!(
+        kind,
+        ErrorKind::NetworkUnreachable
+            | ErrorKind::HostUnreachable
+            | ErrorKind::NetworkDown
+            | ErrorKind::ConnectionRefused
+            | ErrorKind::PermissionDenied
+            | ErrorKind::WouldBlock
+            | ErrorKind::Interrupted
     )
 }

@@ -1,0 +1,10 @@
+use Rattle.udp_agent.proofs.lasting.serve_forever.Goals as goal
+
+pub returns : goal.returns
+returns g c = record {
+  plan = c.in_ok-plan.plan;
+  planned = c.in_ok-plan.ensures;
+  run = c.in_ok-lines.lines;
+  bound = c.in_ok-lines.ensures.lines;
+  served = c.in_ok-ends.ensures;
+}
