@@ -1,5 +1,5 @@
 //! Runs in which one call of one wire fails.
-use crate::support::{Shown, asking, of_edges, peer, plan_of};
+use crate::support::{FLOODED, Shown, asking, carrying, of_edges, plan_of};
 use fixtures::message::Held::Null;
 use fixtures::message::get;
 use fixtures::names::PORTS;
@@ -14,11 +14,11 @@ use wire_core::{CountPace, FailingWire, MemoryWire, WireFault};
 
 type Wires = FailingWire<MemoryWire>;
 
-// Which line's wire fails.
+// A line of a run. A port's has its number.
 #[derive(Clone, Copy, PartialEq, Eq)]
 enum Line {
     Worker,
-    Port,
+    Port(u16),
     Ticker,
 }
 
@@ -27,25 +27,29 @@ fn fails_at(line: Line, failing: Line, call: u64) -> u64 {
     if line == failing { call } else { 0 }
 }
 
-// A worker with one Get, a port with one frame that is none, a closed port, and a ticker of one
-// second, of which one line's wire fails at this call.
+// The wires of the two ports: to one comes a frame that is none, to the other one that goes out by
+// the first.
+fn ports_failing(alloc: Global, failing: Line, call: u64) -> Result<Vec<Wires>, Fail> {
+    let first = carrying(alloc, &[0])?;
+    let second = carrying(alloc, &FLOODED)?;
+    let mut ports = Vec::new(alloc);
+    ports.push(FailingWire::new(first, fails_at(Line::Port(1), failing, call)))?;
+    ports.push(FailingWire::new(second, fails_at(Line::Port(2), failing, call)))?;
+    Ok(ports)
+}
+
+// A worker with one Get, two ports, and a ticker of three seconds, of which one line's wire fails at
+// this call.
 fn lines_failing(alloc: Global, failing: Line, call: u64) -> Result<Lines<Wires, CountPace>, Fail> {
     let worker = asking(alloc, &[get(&[(PORTS, Null)])])?;
-    let mut port = MemoryWire::new(alloc);
-    port.give_datagram(peer(1), &[0])?;
+    let ticker = MemoryWire::new(alloc);
     let mut workers = Vec::new(alloc);
     workers.push(FailingWire::new(worker, fails_at(Line::Worker, failing, call)))?;
-    let mut ports = Vec::new(alloc);
-    ports.push(FailingWire::new(port, fails_at(Line::Port, failing, call)))?;
-    ports.push(FailingWire::new(MemoryWire::new(alloc), 0))?;
     Ok(Lines {
         workers,
-        ports,
-        ticker: FailingWire::new(
-            MemoryWire::new(alloc),
-            fails_at(Line::Ticker, failing, call),
-        ),
-        pace: CountPace::new(1),
+        ports: ports_failing(alloc, failing, call)?,
+        ticker: FailingWire::new(ticker, fails_at(Line::Ticker, failing, call)),
+        pace: CountPace::new(3),
     })
 }
 
@@ -80,23 +84,48 @@ const RECEIVE: Option<RunFault> = Some(RunFault::Wire(WireFault::Receive));
 
 const SEND: Option<RunFault> = Some(RunFault::Wire(WireFault::Send));
 
-// The worker receives, replies, and finds its wire closed; the others go on.
+// The worker receives, replies, and finds its wire closed. Its request, two links, the frame that is
+// one and three seconds are seven entries; the other lines go on.
 #[test]
 fn a_worker_ends_by_its_wire(rt: HostRuntime) -> Result<(), Fail> {
     let alloc = rt.alloc();
-    assert_eq!(rt; failed_at(&rt, alloc, Line::Worker, 1)?, (RECEIVE, 3));
-    assert_eq!(rt; failed_at(&rt, alloc, Line::Worker, 2)?, (SEND, 4));
-    assert_eq!(rt; failed_at(&rt, alloc, Line::Worker, 3)?, (RECEIVE, 4));
-    assert_eq!(rt; failed_at(&rt, alloc, Line::Worker, 4)?, (None, 4));
+    assert_eq!(rt; failed_at(&rt, alloc, Line::Worker, 1)?, (RECEIVE, 6));
+    assert_eq!(rt; failed_at(&rt, alloc, Line::Worker, 2)?, (SEND, 7));
+    assert_eq!(rt; failed_at(&rt, alloc, Line::Worker, 3)?, (RECEIVE, 7));
+    assert_eq!(rt; failed_at(&rt, alloc, Line::Worker, 4)?, (None, 7));
     Ok(())
 }
 
-// The port receives what is no frame, and finds its wire closed.
+// Port 1 receives what is no frame, and finds its wire closed.
 #[test]
 fn a_port_ends_by_its_wire(rt: HostRuntime) -> Result<(), Fail> {
     let alloc = rt.alloc();
-    assert_eq!(rt; failed_at(&rt, alloc, Line::Port, 1)?, (RECEIVE, 4));
-    assert_eq!(rt; failed_at(&rt, alloc, Line::Port, 2)?, (RECEIVE, 4));
-    assert_eq!(rt; failed_at(&rt, alloc, Line::Port, 3)?, (None, 4));
+    assert_eq!(rt; failed_at(&rt, alloc, Line::Port(1), 1)?, (RECEIVE, 7));
+    assert_eq!(rt; failed_at(&rt, alloc, Line::Port(1), 2)?, (RECEIVE, 7));
+    assert_eq!(rt; failed_at(&rt, alloc, Line::Port(1), 3)?, (None, 7));
+    Ok(())
+}
+
+// Port 2 receives a frame, sends it to the peer of port 1, and finds its wire closed.
+#[test]
+fn a_port_that_forwards_ends_by_its_wire(rt: HostRuntime) -> Result<(), Fail> {
+    let alloc = rt.alloc();
+    assert_eq!(rt; failed_at(&rt, alloc, Line::Port(2), 1)?, (RECEIVE, 6));
+    assert_eq!(rt; failed_at(&rt, alloc, Line::Port(2), 2)?, (SEND, 7));
+    assert_eq!(rt; failed_at(&rt, alloc, Line::Port(2), 3)?, (RECEIVE, 7));
+    assert_eq!(rt; failed_at(&rt, alloc, Line::Port(2), 4)?, (None, 7));
+    Ok(())
+}
+
+// The ticker sends what both ports say each hello time of two seconds: at the first and at the third.
+// A second whose message is not sent is the last.
+#[test]
+fn a_ticker_ends_by_its_wire(rt: HostRuntime) -> Result<(), Fail> {
+    let alloc = rt.alloc();
+    assert_eq!(rt; failed_at(&rt, alloc, Line::Ticker, 1)?, (SEND, 5));
+    assert_eq!(rt; failed_at(&rt, alloc, Line::Ticker, 2)?, (SEND, 5));
+    assert_eq!(rt; failed_at(&rt, alloc, Line::Ticker, 3)?, (SEND, 7));
+    assert_eq!(rt; failed_at(&rt, alloc, Line::Ticker, 4)?, (SEND, 7));
+    assert_eq!(rt; failed_at(&rt, alloc, Line::Ticker, 5)?, (None, 7));
     Ok(())
 }

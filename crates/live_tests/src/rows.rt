@@ -1,7 +1,7 @@
 //! Whole runs over wires in memory.
 use crate::support::{
-    MANAGER, PEER_OF_PORT_2, Shown, asking, carrying, is_sent, lines_of, of_edges, of_fast_hello,
-    one, peer, plan_of, policed,
+    FLOODED, MANAGER, PEER_OF_PORT_2, Shown, asking, carrying, is_sent, lines_of, of_edges,
+    of_fast_hello, one, peer, plan_of, policed,
 };
 use fixtures::message::Held::{Integer, NoObject, Null};
 use fixtures::message::{get, octets_of, of, reply, set};
@@ -18,11 +18,6 @@ use wire_core::{CountPace, MemoryWire};
 
 // dot1dStpPortState of port 2.
 const STATE_OF_2: &str = "1.3.6.1.2.1.17.2.15.1.3.2";
-
-// To everybody, from a station.
-const FLOODED: [u8; 14] = [
-    0xFF, 0xFF, 0xFF, 0xFF, 0xFF, 0xFF, 0x02, 0x00, 0x00, 0x00, 0x01, 0x01, 0x08, 0x00,
-];
 
 // What a run of these lines leaves.
 fn run<R: Threads + Wait + Sync>(

@@ -32,6 +32,11 @@ pub const PEER_OF_PORT_2: u16 = 20002;
 /// A manager.
 pub const MANAGER: u16 = 30001;
 
+/// A frame to everybody, from a station.
+pub const FLOODED: [u8; 14] = [
+    0xFF, 0xFF, 0xFF, 0xFF, 0xFF, 0xFF, 0x02, 0x00, 0x00, 0x00, 0x01, 0x01, 0x08, 0x00,
+];
+
 /// A history over what is served, in which nothing has happened.
 pub fn history_of(alloc: Global, served: Served) -> Result<Kept<Shown>, Fail> {
     let Served { world, .. } = served;
