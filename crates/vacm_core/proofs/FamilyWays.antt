@@ -122,51 +122,51 @@ others_differ rows differ m n d here there ne =
 
 -- ---- the way of a view
 
--- what holds of a step on from a tree to another holds also before a longer rest
-pub leads_after : (t below : Tree) (part : ℕ) → ((here next : Step) (rest : List Step) (n : ℕ) → here.part ≡ part → leads t (here ∷ next ∷ rest) n ≡ true → leads below (next ∷ rest) n ≡ true)
-    → (view : List ℕ) (next : Step) (rest : List Step) (n : ℕ) → leads t (fixed part ∷ (map fixed view ++ next ∷ rest)) n ≡ true → leads below (map fixed view ++ next ∷ rest) n ≡ true
-leads_after t below part on [] next rest n e = on (fixed part) next rest n refl e
-leads_after t below part on (v ∷ view) next rest n e = on (fixed part) (fixed v) (map fixed view ++ next ∷ rest) n refl e
+-- what holds of a step on from one place to another holds also before a longer rest
+pub leads_after : (here there : List Step → ℕ → Bool) (part : ℕ) → ((step next : Step) (rest : List Step) (n : ℕ) → step.part ≡ part → here (step ∷ next ∷ rest) n ≡ true → there (next ∷ rest) n ≡ true)
+    → (view : List ℕ) (next : Step) (rest : List Step) (n : ℕ) → here (fixed part ∷ (map fixed view ++ next ∷ rest)) n ≡ true → there (map fixed view ++ next ∷ rest) n ≡ true
+leads_after here there part on [] next rest n e = on (fixed part) next rest n refl e
+leads_after here there part on (v ∷ view) next rest n e = on (fixed part) (fixed v) (map fixed view ++ next ∷ rest) n refl e
 
 -- ---- placing a row
 
 -- what a row's way leads to stays there when another row is placed
 pub placed_still : (old new : Tree) (way : List Step) → ((other : List Step) (n : ℕ) → same_parts other way ≡ false → leads old other n ≡ true → leads new other n ≡ true)
-    → (row : FamilyRow) (n : ℕ) → same_parts (way_of row) way ≡ false → IsPlaced old row n → IsPlaced new row n
+    → (row : FamilyRow) (n : ℕ) → same_parts (way_of row) way ≡ false → IsPlaced (leads old) row n → IsPlaced (leads new) row n
 placed_still old new way kept row n differ h = record { leads = kept (way_of row) n differ h.leads; some = h.some }
 
 pub placed_or_kept : (old new : Tree) (rows : List FamilyRow) → KeysDiffer same_family rows → (n : ℕ) → n < length rows
-    → ((d : FamilyRow) → IsPlaced new (get_or rows n d) n)
+    → ((d : FamilyRow) → IsPlaced (leads new) (get_or rows n d) n)
     → ((d : FamilyRow) (other : List Step) (m : ℕ) → same_parts other (way_of (get_or rows n d)) ≡ false → leads old other m ≡ true → leads new other m ≡ true)
-    → (m : ℕ) (d : FamilyRow) → m < length rows → IsPlaced old (get_or rows m d) m → IsPlaced new (get_or rows m d) m
+    → (m : ℕ) (d : FamilyRow) → m < length rows → IsPlaced (leads old) (get_or rows m d) m → IsPlaced (leads new) (get_or rows m d) m
 placed_or_kept old new rows differ n there placed kept m d here h =
     elim (cases_eq m n) [
-      | inl e ↦ subst (λ (k : ℕ). IsPlaced new (get_or rows k d) k) (sym e) (placed d)
+      | inl e ↦ subst (λ (k : ℕ). IsPlaced (leads new) (get_or rows k d) k) (sym e) (placed d)
       | inr ne ↦ placed_still old new (way_of (get_or rows n d)) (kept d) (get_or rows m d) m (others_differ rows differ m n d here there ne) h
     ]
 
 -- ---- the rows of a view that a name may fit
 
 -- the way to a row leads on from the rows of its view
-pub below_view : (tree below : Tree) (view : List ℕ)
-    → ((next : Step) (rest : List Step) (n : ℕ) → leads tree (view_way view ++ next ∷ rest) n ≡ true → leads below (next ∷ rest) n ≡ true)
-    → (k : ℕ) (mask subtree : List ℕ) (n : ℕ) → 1 ≤ length subtree → leads tree (view_way view ++ subtree_way k mask subtree) n ≡ true → leads below (subtree_way k mask subtree) n ≡ true
-below_view tree below view on k mask [] n some e = absurd (omega arith)
-below_view tree below view on k mask (s ∷ subtree) n some e = on (record { part = s; counts = mask_bit mask k }) (subtree_way (k + 1) mask subtree) n e
+pub below_view : (here there : List Step → ℕ → Bool) (view : List ℕ)
+    → ((next : Step) (rest : List Step) (n : ℕ) → here (view_way view ++ next ∷ rest) n ≡ true → there (next ∷ rest) n ≡ true)
+    → (k : ℕ) (mask subtree : List ℕ) (n : ℕ) → 1 ≤ length subtree → here (view_way view ++ subtree_way k mask subtree) n ≡ true → there (subtree_way k mask subtree) n ≡ true
+below_view here there view on k mask [] n some e = absurd (omega arith)
+below_view here there view on k mask (s ∷ subtree) n some e = on (record { part = s; counts = mask_bit mask k }) (subtree_way (k + 1) mask subtree) n e
 
 -- a row that is placed, by its own way
 row_placed : (new : Tree) (rows : List FamilyRow) (n : ℕ) (row : FamilyRow) (way : List Step) → n < length rows → row ≡ get_or rows n row → way ≡ way_of row → 1 ≤ length row.subtree
-    → (1 ≤ length way → leads new way n ≡ true) → (d : FamilyRow) → IsPlaced new (get_or rows n d) n
+    → (1 ≤ length way → leads new way n ≡ true) → (d : FamilyRow) → IsPlaced (leads new) (get_or rows n d) n
 row_placed new rows n row way within is same some leads_there d =
     let long : length way ≡ length (way_of row) = ap length same in
     let there = leads_there (omega arith) in
-    subst (λ (r : FamilyRow). IsPlaced new r n) (is ∙ get_or_default rows n row d within)
+    subst (λ (r : FamilyRow). IsPlaced (leads new) r n) (is ∙ get_or_default rows n row d within)
     (record { leads = subst (λ (l : List Step). leads new l n ≡ true) same there; some = some })
 
 pub place_keeps : (old new : Tree) (rows : List FamilyRow) → KeysDiffer same_family rows → (n : ℕ) (row : FamilyRow) (way : List Step) → n < length rows → row ≡ get_or rows n row → way ≡ way_of row
     → 1 ≤ length row.subtree → {E : Type 0} (r : Result (Unit {0}) E) → OnOk r (1 ≤ length way → leads new way n ≡ true)
     → OnOk r ((other : List Step) (m : ℕ) → same_parts other way ≡ false → leads old other m ≡ true → leads new other m ≡ true)
-    → OnOk r ((m : ℕ) (d : FamilyRow) → m < length rows → IsPlaced old (get_or rows m d) m → IsPlaced new (get_or rows m d) m)
+    → OnOk r ((m : ℕ) (d : FamilyRow) → m < length rows → IsPlaced (leads old) (get_or rows m d) m → IsPlaced (leads new) (get_or rows m d) m)
 place_keeps old new rows differ n row way within is same some (Err e) there kept = tt
 place_keeps old new rows differ n row way within is same some (Ok u) there kept =
     placed_or_kept old new rows differ n within (row_placed new rows n row way within is same some there)

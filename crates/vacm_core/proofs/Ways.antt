@@ -1,34 +1,36 @@
 -- Where a way leads at a fork of the tree.
-use Rattle.std.proofs.Common.{◌≡◌, ℕ, ◌≤◌, ◌-◌, ◌==◌, Bool, true, false, not, ◌&&◌, ◌||◌, cond, List, [], ◌∷◌, length, get_or, take, drop, Option, Some, None, Box, refl, sym, ap, subst, ◌∙◌, arith, ◌⊎◌, inl, inr, ltb}
+use Rattle.std.proofs.Common.{◌≡◌, ℕ, ◌≤◌, ◌-◌, ◌==◌, Bool, true, false, not, ◌&&◌, ◌||◌, cond, List, [], ◌∷◌, ◌++◌, length, get_or, take, drop, Option, Some, None, Box, refl, sym, ap, subst, ◌∙◌, arith, ◌⊎◌, inl, inr, ltb}
 use Rattle.std.specs.declared.alloc.Global.{Global}
+use Rattle.std.proofs.lemmas.List.{append_cancel_left}
 use Rattle.std.proofs.lemmas.Bool.{cases_Bool, both_ways, eqb-true, le-ltb}
 use Rattle.std.proofs.Math.Seq.{take-length}
 use Rattle.vacm_core.specs.declared.tree.Step.{Step}
-use Rattle.vacm_core.specs.declared.tree.Tree.{Tree}
-use Rattle.vacm_core.specs.declared.tree.Tree.TheVariants.{Fork}
-use Rattle.vacm_core.specs.declared.tree.Node.{Node}
-use Rattle.vacm_core.specs.Trees.{is_row, ends_or, leads, fits}
+use Rattle.vacm_core.specs.declared.radix.Radix.{Radix}
+use Rattle.vacm_core.specs.declared.radix.Radix.TheVariants.{Fork, Run as RunOf}
+use Rattle.vacm_core.specs.declared.radix.Branch.{Branch}
+use Rattle.vacm_core.specs.declared.radix.Run.{Run}
+use Rattle.vacm_core.specs.Trees.{is_row, ends_or, runs, reaches, fits}
 use Rattle.vacm_core.proofs.Agrees.{and_true, part_found}
 
 -- a way that leads on to a row, and that the rest of a name fits
-pub record LeadsOn (t : Tree) (name : List ℕ) (n : ℕ) : Type 0 where
+pub record LeadsOn (t : Radix) (name : List ℕ) (n : ℕ) : Type 0 where
   pub rest : List Step
-  pub leads : leads t rest n ≡ true
+  pub leads : reaches t rest n ≡ true
   pub fits : fits rest name ≡ true
 
 -- the row ends here, or its way leads on
-abbrev pub EndsOr : Node → List ℕ → ℕ → Type 0
+abbrev pub EndsOr : Branch → List ℕ → ℕ → Type 0
 EndsOr node name n = (node.row ≡ Some n) ⊎ LeadsOn node.equal name n
 
 -- it may also turn to either side
-abbrev pub Turns : Node → List Step → List ℕ → ℕ → Type 0
-Turns node way name n = (leads node.less way n ≡ true) ⊎ ((leads node.greater way n ≡ true) ⊎ EndsOr node name n)
+abbrev pub Turns : Branch → List Step → List ℕ → ℕ → Type 0
+Turns node way name n = (reaches node.less way n ≡ true) ⊎ ((reaches node.greater way n ≡ true) ⊎ EndsOr node name n)
 
 row_is : (here : Option ℕ) (n : ℕ) → is_row here n ≡ true → here ≡ Some n
 row_is None n e = absurd cc
 row_is (Some m) n e = ap (λ (k : ℕ). Some k) (eqb-true m n e)
 
-ends : (node : Node) (rest : List Step) (name : List ℕ) (n : ℕ) → ends_or node.row (leads node.equal rest n) rest n ≡ true → fits rest name ≡ true → EndsOr node name n
+ends : (node : Branch) (rest : List Step) (name : List ℕ) (n : ℕ) → ends_or node.row (reaches node.equal rest n) rest n ≡ true → fits rest name ≡ true → EndsOr node name n
 ends node [] name n e f = inl (row_is node.row n e)
 ends node (s ∷ rest) name n e f = inr (record { rest = s ∷ rest; leads = e; fits = f })
 
@@ -36,8 +38,8 @@ loose_or : (loose counts : Bool) → (loose || counts) ≡ true → loose ≡ fa
 loose_or true counts e f = absurd cc
 loose_or false counts e f = e
 
-straight : (node : Node) (s : Step) (rest : List Step) (x : ℕ) (name : List ℕ) (n : ℕ)
-    → ((node.loose || s.counts) && (cond (ltb s.part node.part) (leads node.less (s ∷ rest) n) (cond (ltb node.part s.part) (leads node.greater (s ∷ rest) n) (ends_or node.row (leads node.equal rest n) rest n)))) ≡ true
+straight : (node : Branch) (s : Step) (rest : List Step) (x : ℕ) (name : List ℕ) (n : ℕ)
+    → ((node.loose || s.counts) && (cond (ltb s.part node.part) (reaches node.less (s ∷ rest) n) (cond (ltb node.part s.part) (reaches node.greater (s ∷ rest) n) (ends_or node.row (reaches node.equal rest n) rest n)))) ≡ true
     → ((not s.counts || s.part == x) && fits rest name) ≡ true → node.loose ≡ false → x ≡ node.part → EndsOr node name n
 straight node s rest x name n e f tight same =
     let parts = and_true (node.loose || s.counts) _ e in
@@ -47,8 +49,8 @@ straight node s rest x name n e f tight same =
     let high : ltb node.part s.part ≡ false = le-ltb node.part s.part (omega arith) in
     ends node rest name n (rw (low, high) at parts.1) fit.1
 
-turn : (node : Node) (s : Step) (rest : List Step) (x : ℕ) (name : List ℕ) (n : ℕ)
-    → ((node.loose || s.counts) && (cond (ltb s.part node.part) (leads node.less (s ∷ rest) n) (cond (ltb node.part s.part) (leads node.greater (s ∷ rest) n) (ends_or node.row (leads node.equal rest n) rest n)))) ≡ true
+turn : (node : Branch) (s : Step) (rest : List Step) (x : ℕ) (name : List ℕ) (n : ℕ)
+    → ((node.loose || s.counts) && (cond (ltb s.part node.part) (reaches node.less (s ∷ rest) n) (cond (ltb node.part s.part) (reaches node.greater (s ∷ rest) n) (ends_or node.row (reaches node.equal rest n) rest n)))) ≡ true
     → ((not s.counts || s.part == x) && fits rest name) ≡ true → Turns node (s ∷ rest) name n
 turn node s rest x name n e f =
     let parts = and_true (node.loose || s.counts) _ e in
@@ -70,7 +72,7 @@ after_is x name =
     sym (take-length name) ∙ ap (λ (k : ℕ). take k name) (sym e)
 
 -- a fork without a mark, of which the name has the number
-pub goes_straight : (t : Tree) (b : Box Node Global) → t ≡ Fork b → (way : List Step) (name : List ℕ) (n : ℕ) → leads t way n ≡ true → fits way name ≡ true
+pub goes_straight : (t : Radix) (b : Box Branch Global) → t ≡ Fork b → (way : List Step) (name : List ℕ) (n : ℕ) → reaches t way n ≡ true → fits way name ≡ true
     → 1 ≤ length name → b.value.loose ≡ false → get_or name 0 0 ≡ b.value.part → EndsOr b.value (after_first name) n
 goes_straight t b is way [] n e f some tight same = absurd (omega arith)
 goes_straight t b is [] (x ∷ name) n e f some tight same = absurd (both_ways false refl (rw is at e))
@@ -78,9 +80,49 @@ goes_straight t b is (s ∷ rest) (x ∷ name) n e f some tight same =
     subst (λ (l : List ℕ). EndsOr b.value l n) (after_is x name) (straight b.value s rest x name n (rw is at e) f tight same)
 
 -- any fork
-pub turns : (t : Tree) (b : Box Node Global) → t ≡ Fork b → (way : List Step) (name : List ℕ) (n : ℕ) → leads t way n ≡ true → fits way name ≡ true
+pub turns : (t : Radix) (b : Box Branch Global) → t ≡ Fork b → (way : List Step) (name : List ℕ) (n : ℕ) → reaches t way n ≡ true → fits way name ≡ true
     → 1 ≤ length name → Turns b.value way (after_first name) n
 turns t b is way [] n e f some = absurd (omega arith)
 turns t b is [] (x ∷ name) n e f some = absurd (both_ways false refl (rw is at e))
 turns t b is (s ∷ rest) (x ∷ name) n e f some =
     subst (λ (l : List ℕ). Turns b.value (s ∷ rest) l n) (after_is x name) (turn b.value s rest x name n (rw is at e) f)
+
+-- ---- runs
+
+-- a name that begins with the numbers of a run, and a way that goes on behind them
+record Along (parts : List ℕ) (deeper : List Step → Bool) (name : List ℕ) : Type 0 where
+  pub after : List ℕ
+  pub is : name ≡ parts ++ after
+  pub rest : List Step
+  pub leads : deeper rest ≡ true
+  pub fits : fits rest after ≡ true
+
+along : (parts : List ℕ) (deeper : List Step → Bool) (way : List Step) (name : List ℕ) → runs parts deeper way ≡ true → fits way name ≡ true → Along parts deeper name
+along [] deeper way name e f = record { after = name; is = refl; rest = way; leads = e; fits = f }
+along (p ∷ parts) deeper [] name e f = absurd (both_ways false refl e)
+along (p ∷ parts) deeper (s ∷ rest) [] e f = absurd (both_ways false refl f)
+along (p ∷ parts) deeper (s ∷ rest) (x ∷ name) e f =
+    let on = and_true (s.counts && s.part == p) _ e in
+    let here = and_true s.counts (s.part == p) on.0 in
+    let fit = and_true (not s.counts || s.part == x) (fits rest name) f in
+    let same : x ≡ p = sym (eqb-true s.part x (part_found s.counts (s.part == x) fit.0 here.0)) ∙ eqb-true s.part p here.1 in
+    let further = along parts deeper rest name on.1 fit.1 in
+    record { after = further.after; is = (λ i. same i ∷ further.is i); rest = further.rest; leads = further.leads; fits = further.fits }
+
+-- where the name goes on behind the numbers
+pub leads_behind : (parts : List ℕ) (below : Radix) (way : List Step) (name after : List ℕ) (n : ℕ) → runs parts (λ rest. reaches below rest n) way ≡ true → fits way name ≡ true → name ≡ parts ++ after → LeadsOn below after n
+leads_behind parts below way name after n e f is =
+    let on = along parts (λ rest. reaches below rest n) way name e f in
+    let same = append_cancel_left parts on.after after (sym on.is ∙ is) in
+    record { rest = on.rest; leads = on.leads; fits = subst (λ (l : List ℕ). fits on.rest l ≡ true) same on.fits }
+
+-- a name that does not begin with the numbers fits no way
+pub leads_nowhere : (parts : List ℕ) (below : Radix) (way : List Step) (name : List ℕ) (n : ℕ) → runs parts (λ rest. reaches below rest n) way ≡ true → fits way name ≡ true → ((rest : List ℕ) → name ≡ parts ++ rest → ⊥)
+    → {A : Type 0} → A
+leads_nowhere parts below way name n e f never =
+    let on = along parts (λ rest. reaches below rest n) way name e f in
+    absurd (never on.after on.is)
+
+-- what reaches a run goes along it
+pub along_run : (t : Radix) (b : Box Run Global) → t ≡ RunOf b → (parts : List ℕ) → parts ≡ b.value.parts.items → (way : List Step) (n : ℕ) → reaches t way n ≡ true → runs parts (λ rest. reaches b.value.below rest n) way ≡ true
+along_run t b is parts same way n e = subst (λ (l : List ℕ). runs l (λ rest. reaches b.value.below rest n) way ≡ true) (sym same) (rw is at e)

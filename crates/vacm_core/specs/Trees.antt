@@ -1,7 +1,11 @@
--- What the tree of the family rows stands for: which ways lead to which rows.
+-- What the trees of the family rows stand for: which ways lead to which rows.
 use Rattle.std.specs.Prelude.{◌≡◌, ℕ, ◌<◌, ◌≤◌, ◌+◌, ◌==◌, Bool, true, false, not, ◌&&◌, ◌||◌, if◌then◌else◌, List, [], ◌∷◌, ◌++◌, map, length, nat_lt, Option, Some, None, slice_get, slice_index_or}
 use Rattle.vacm_core.specs.declared.tree.Step.{Step}
 use Rattle.vacm_core.specs.declared.tree.Tree.{Tree, Empty, Fork'}
+use Rattle.vacm_core.specs.declared.tree.Node.{Node}
+use Rattle.vacm_core.specs.declared.radix.Radix as Radixes
+use Rattle.vacm_core.specs.declared.radix.Radix.{Radix}
+use Rattle.vacm_core.specs.declared.radix.Place.{Place}
 use Rattle.vacm_core.specs.declared.tables.FamilyRow.{FamilyRow}
 use Rattle.vacm_core.specs.Rows.{same_family}
 use Rattle.vacm_core.specs.Tables.{KeysDiffer}
@@ -26,6 +30,39 @@ leads (Fork' p part here loose less equal greater) (s ∷ rest) row =
     && (if nat_lt s.part part then leads less (s ∷ rest) row
     else (if nat_lt part s.part then leads greater (s ∷ rest) row
     else ends_or here (leads equal rest row) rest row))
+
+-- all ways go on alike from here, and none ends
+pub record IsAlone (node : Node) : Type 0 where
+  pub row : node.row ≡ None
+  pub tight : node.loose ≡ false
+  pub less : node.less ≡ Empty
+  pub greater : node.greater ≡ Empty
+
+-- ---- the radix tree
+
+-- the way has these numbers first, in steps that count, and then goes on deeper
+abbrev pub runs : List ℕ → (List Step → Bool) → List Step → Bool
+runs [] deeper way = deeper way
+runs (p ∷ parts) deeper [] = false
+runs (p ∷ parts) deeper (s ∷ rest) = (s.counts && s.part == p) && runs parts deeper rest
+
+-- the way leads to the row of this number, as in a tree of single steps
+abbrev pub reaches : Radix → List Step → ℕ → Bool
+reaches Radixes.Empty way row = false
+reaches (Radixes.Fork' p part here loose less equal greater) [] row = false
+reaches (Radixes.Fork' p part here loose less equal greater) (s ∷ rest) row =
+    (loose || s.counts)
+    && (if nat_lt s.part part then reaches less (s ∷ rest) row
+    else (if nat_lt part s.part then reaches greater (s ∷ rest) row
+    else ends_or here (reaches equal rest row) rest row))
+reaches (Radixes.Run' p parts below) way row =
+    runs parts.items (λ rest. reaches below rest row) way
+
+-- the same from a place on
+abbrev pub reaches_from : Place → List Step → ℕ → Bool
+reaches_from place way row = runs place.parts.now (λ rest. reaches place.below.now rest row) way
+
+-- ---- names
 
 -- a name is at least as long as the way, and has its number wherever the step counts
 abbrev pub fits : List Step → List ℕ → Bool
@@ -83,17 +120,17 @@ subtree_way k mask (s ∷ subtree) =
 abbrev pub way_of : FamilyRow → List Step
 way_of row = view_way row.view ++ subtree_way 0 row.mask row.subtree
 
--- the tree leads to the row of this number
-pub record IsPlaced (tree : Tree) (row : FamilyRow) (n : ℕ) : Type 0 where
-  pub leads : leads tree (way_of row) n ≡ true
+-- the row's way leads to the row of this number
+pub record IsPlaced (lead : List Step → ℕ → Bool) (row : FamilyRow) (n : ℕ) : Type 0 where
+  pub leads : lead (way_of row) n ≡ true
   pub some : 1 ≤ length row.subtree
 
--- the tree leads to each of the rows
-abbrev pub IsTreeOf : Tree → List FamilyRow → Type 0
-IsTreeOf tree rows =
-    (n : ℕ) (d : FamilyRow) → n < length rows → IsPlaced tree (slice_index_or rows n d) n
+-- ways lead to each of the rows
+abbrev pub IsTreeOf : (List Step → ℕ → Bool) → List FamilyRow → Type 0
+IsTreeOf lead rows =
+    (n : ℕ) (d : FamilyRow) → n < length rows → IsPlaced lead (slice_index_or rows n d) n
 
 -- no two rows have one key, and the tree leads to each of them
-pub record AreWithTree (rows : List FamilyRow) (tree : Tree) : Type 0 where
+pub record AreWithTree (rows : List FamilyRow) (tree : Radix) : Type 0 where
   pub differ : KeysDiffer same_family rows
-  pub placed : IsTreeOf tree rows
+  pub placed : IsTreeOf (reaches tree) rows

@@ -6,24 +6,25 @@ ghost use Rattle.vacm_core.specs.Rows.{same_family};
 ghost use Rattle.vacm_core.specs.Tables.{KeysDiffer};
 ghost use Rattle.vacm_core.specs.Access.{has_view};
 ghost use Rattle.vacm_core.specs.Families.{deciding_family};
-ghost use Rattle.vacm_core.specs.Trees.{leads, fixed, view_way, way_of, IsPlaced, IsTreeOf};
+ghost use Rattle.vacm_core.specs.Trees.{leads, reaches, reaches_from, fixed, view_way, way_of, IsPlaced, IsTreeOf};
 ghost use Rattle.vacm_core.specs.declared.tree.Step.{Step};
 ghost use Rattle.vacm_core.specs.declared.tables.FamilyRow.{FamilyRow};
 
 use crate::copying::copied_rows;
 use crate::deciding::{FamilyContest, mask_bit};
 use crate::name::Name;
+use crate::radix::{Place, Radix, packed};
 use crate::rows::Rows;
 use crate::tables::FamilyRow;
 use crate::tree::{Step, Tree};
-use crate::walk::best_below;
+use crate::walk::best_from;
 use std::alloc::{AllocError, Global};
 use std::marker::Model;
 
 /// The family rows, seen as their list, and the tree of them. No two rows have one key.
 pub struct Families {
     rows: Rows<FamilyRow>,
-    tree: Tree,
+    tree: Radix,
 }
 
 impl Model for Families {
@@ -101,7 +102,7 @@ impl Families {
 
     // The number of a row that the tree has for a view.
     fn first_of(&self, view: &Name) -> Option<usize> {
-        rows_of_view(&self.tree, view).first()
+        rows_of_view(&self.tree, view).below.first()
     }
 }
 
@@ -156,10 +157,10 @@ fn place(tree: &mut Tree, alloc: Global, rows: &[FamilyRow], n: usize) -> Result
     requires within { n < length rows.now }
     requires differ { KeysDiffer same_family rows.now }
     ensures placed { OnOk result ((d : FamilyRow) →
-        IsPlaced tree.new (slice_index_or rows.now n d) n) }
+        IsPlaced (leads tree.new) (slice_index_or rows.now n d) n) }
     ensures kept { OnOk result ((m : ℕ) (d : FamilyRow) → m < length rows.now
-        → IsPlaced tree.old (slice_index_or rows.now m d) m
-        → IsPlaced tree.new (slice_index_or rows.now m d) m) }
+        → IsPlaced (leads tree.old) (slice_index_or rows.now m d) m
+        → IsPlaced (leads tree.new) (slice_index_or rows.now m d) m) }
 {
     let way = way_of(alloc, &rows[n])?;
     tree.insert(alloc, way.as_slice(), n)
@@ -177,10 +178,10 @@ fn place_between(
     requires within { to ≤ length rows.now }
     requires differ { KeysDiffer same_family rows.now }
     ensures placed { OnOk result ((m : ℕ) (d : FamilyRow) → from ≤ m → m < to
-        → IsPlaced tree.new (slice_index_or rows.now m d) m) }
+        → IsPlaced (leads tree.new) (slice_index_or rows.now m d) m) }
     ensures kept { OnOk result ((m : ℕ) (d : FamilyRow) → m < length rows.now
-        → IsPlaced tree.old (slice_index_or rows.now m d) m
-        → IsPlaced tree.new (slice_index_or rows.now m d) m) }
+        → IsPlaced (leads tree.old) (slice_index_or rows.now m d) m
+        → IsPlaced (leads tree.new) (slice_index_or rows.now m d) m) }
     ensures memory { OnErr result (from < to) }
 {
     if from >= to {
@@ -193,37 +194,40 @@ fn place_between(
 }
 
 // The tree of the family rows. Where there is no memory there is a row.
-fn tree_of(alloc: Global, rows: &[FamilyRow]) -> Result<Tree, AllocError>
+fn tree_of(alloc: Global, rows: &[FamilyRow]) -> Result<Radix, AllocError>
     requires { KeysDiffer same_family rows.now }
-    ensures tree { IfOk result (λ tree. IsTreeOf tree rows.now) }
+    ensures tree { IfOk result (λ tree. IsTreeOf (reaches tree) rows.now) }
     ensures memory { OnErr result (0 < length rows.now) }
 {
+    if rows.is_empty() {
+        return Ok(Radix::Empty);
+    }
     let mut tree = Tree::Empty;
     place_between(&mut tree, alloc, rows, 0, rows.len())?;
-    Ok(tree)
+    packed(alloc, &tree)
 }
 
-// The rows of a view.
-fn rows_of_view<'a>(tree: &'a Tree, view: &Name) -> &'a Tree
+// The place where the rows of a view begin.
+fn rows_of_view<'a>(tree: &'a Radix, view: &Name) -> Place<'a>
     ensures { (next : Step) (rest : List Step) (n : ℕ) →
-        leads tree.now (view_way view.now ++ next ∷ rest) n ≡ true
-        → leads result.now (next ∷ rest) n ≡ true }
+        reaches tree.now (view_way view.now ++ next ∷ rest) n ≡ true
+        → reaches_from result (next ∷ rest) n ≡ true }
 {
     let octets = view.as_bytes();
-    let mut below = tree.child(octets.len() as u32);
+    let mut place = tree.child(octets.len() as u32);
     for octet in octets {
-        below = below.child(u32::from(*octet));
+        place = place.child(u32::from(*octet));
     }
-    below
+    place
 }
 
 // The number of the family row of a view that decides on a name, of those in their tree.
-fn deciding_family(tree: &Tree, rows: &[FamilyRow], view: &Name, name: &[u32]) -> Option<usize>
-    requires tree { IsTreeOf tree.now rows.now }
+fn deciding_family(tree: &Radix, rows: &[FamilyRow], view: &Name, name: &[u32]) -> Option<usize>
+    requires tree { IsTreeOf (reaches tree.now) rows.now }
     requires differ { KeysDiffer same_family rows.now }
     ensures place { result ≡ deciding_family rows.now view.now name.now }
     ensures within { ForSome result (λ n. n < length rows.now) }
 {
-    let below = rows_of_view(tree, view);
-    best_below(below, &FamilyContest { view, name }, rows, name, None)
+    let place = rows_of_view(tree, view);
+    best_from(place, &FamilyContest { view, name }, rows, name)
 }

@@ -17,7 +17,7 @@
 //! `specs/Orders.antt`: the row that no row beats; `specs/Faults.antt`, `specs/Rules.antt`:
 //! lengths, fields and keys of rows, the first fault, and where checking the rows takes memory.
 //! `specs/Trees.antt`, inside the crate: which family rows a tree leads to, by which numbers. A
-//! `Vacm` keeps such a tree of its family rows, and `Vacm::in_view` goes by it: the row that it
+//! `Vacm` keeps a radix tree of its family rows, and `Vacm::in_view` goes by it: the row that it
 //! finds is the one that decides among all of them. `specs/Keys.antt`, inside the crate too: the
 //! order of rows by their keys, by which a `Vacm` finds a group row, and the access rows of a group.
 //!
@@ -44,6 +44,7 @@ mod index;
 pub mod laws;
 mod limits;
 mod name;
+mod radix;
 mod reading;
 mod rows;
 mod same;

@@ -1,5 +1,5 @@
-//! The family rows as a tree, so that a name is compared with few of them.
-ghost use Rattle.std.specs.Prelude.{◌≡◌, ◌≤◌, ℕ, true, false, List, ◌∷◌, length, IfOk, OnOk};
+//! The family rows as a tree, as they are put into it one by one.
+ghost use Rattle.std.specs.Prelude.{◌≡◌, ◌≤◌, ℕ, true, false, IsTrue, List, length, IfOk, OnOk};
 ghost use Rattle.vacm_core.specs.Trees.{leads, same_parts};
 
 use std::alloc::{AllocError, Global};
@@ -42,36 +42,11 @@ pub struct Node {
 }
 
 impl Tree {
-    /// The rows that go on after a step of this number.
-    pub fn child(&self, part: u32) -> &Tree
-        ensures { (here next : Step) (rest : List Step) (row : ℕ) → here.part ≡ part
-            → leads self.now (here ∷ next ∷ rest) row ≡ true
-            → leads result.now (next ∷ rest) row ≡ true }
+    /// Whether there is no row.
+    pub fn is_empty(&self) -> bool
+        ensures { IsTrue result → self.now ≡ Tree.Empty }
     {
-        match self {
-            Tree::Empty => self,
-            Tree::Fork(node) => {
-                if part < node.part {
-                    node.less.child(part)
-                } else if node.part < part {
-                    node.greater.child(part)
-                } else {
-                    &node.equal
-                }
-            }
-        }
-    }
-
-    /// The number of a row that is found by going on after the first step, and after the next, as
-    /// far as there is one.
-    pub fn first(&self) -> Option<usize> {
-        match self {
-            Tree::Empty => None,
-            Tree::Fork(node) => match node.row {
-                Some(row) => Some(row),
-                None => node.equal.first(),
-            },
-        }
+        matches!(self, Tree::Empty)
     }
 
     /// Puts a row at the end of its way, which is not empty, in place of what ends there.

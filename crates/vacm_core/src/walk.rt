@@ -1,12 +1,12 @@
 //! The best of the rows of these numbers, and of the rows of a tree whose way a name fits.
-ghost use Rattle.std.specs.Prelude.{◌≡◌, ◌<◌, ◌&&◌, ℕ, List, Contains, true, Some, length};
+ghost use Rattle.std.specs.Prelude.{◌≡◌, ◌≢◌, ◌<◌, ◌++◌, ◌&&◌, ℕ, List, Contains, true, Some, MatchOption, length};
 ghost use Rattle.std.specs.Option.{ForSome};
 ghost use Rattle.vacm_core.specs.Best.{takes_over};
-ghost use Rattle.vacm_core.specs.Trees.{leads, fits, IsFit, Covers, IsLater};
+ghost use Rattle.vacm_core.specs.Trees.{reaches, reaches_from, fits, IsFit, Covers, IsLater};
 ghost use Rattle.vacm_core.specs.declared.tree.Step.{Step};
 
 use crate::contest::{Contest, takes_over};
-use crate::tree::Tree;
+use crate::radix::{Place, Radix};
 
 // Whether a row is better than the best so far, and passes.
 fn is_better<C: Contest>(contest: &C, rows: &[C::Row], best: Option<usize>, row: &C::Row) -> bool
@@ -48,10 +48,34 @@ pub fn best_among<C: Contest>(contest: &C, rows: &[C::Row], numbers: &[usize]) -
     best
 }
 
+// What follows these numbers in a name that begins with them.
+fn behind<'a>(name: &'a [u32], parts: &[u32]) -> Option<&'a [u32]>
+    ensures { MatchOption result ((rest : List ℕ) → name.now ≢ parts.now ++ rest)
+        (λ rest. name.now ≡ parts.now ++ rest.now) }
+{
+    name.strip_prefix(parts)
+}
+
+/// The best of the rows of a tree, from a place on, whose way a name fits. It takes no memory.
+pub fn best_from<C: Contest>(
+    place: Place<'_>,
+    contest: &C,
+    rows: &[C::Row],
+    name: &[u32],
+) -> Option<usize>
+    ensures fit { IsFit (C.passes contest.now) rows.now result }
+    ensures found { (way : List Step) (n : ℕ) → reaches_from place.entry way n ≡ true
+        → fits way name.now ≡ true
+        → Covers (C.passes contest.now) (C.beats contest.now) rows.now result n }
+{
+    let after = behind(name, place.parts)?;
+    best_below(place.below, contest, rows, after, None)
+}
+
 /// The best of the rows so far and those of a tree whose way a name fits, in which the deepest are
 /// looked at first. It takes no memory.
 pub fn best_below<C: Contest>(
-    tree: &Tree,
+    tree: &Radix,
     contest: &C,
     rows: &[C::Row],
     name: &[u32],
@@ -59,12 +83,19 @@ pub fn best_below<C: Contest>(
 ) -> Option<usize>
     requires { IsFit (C.passes contest.now) rows.now best }
     ensures later { IsLater (C.passes contest.now) (C.beats contest.now) rows.now best result }
-    ensures found { (way : List Step) (n : ℕ) → leads tree.now way n ≡ true
+    ensures found { (way : List Step) (n : ℕ) → reaches tree.now way n ≡ true
         → fits way name.now ≡ true
         → Covers (C.passes contest.now) (C.beats contest.now) rows.now result n }
 {
-    let Tree::Fork(node) = tree else {
-        return best;
+    let node = match tree {
+        Radix::Empty => return best,
+        Radix::Run(run) => {
+            return match behind(name, run.parts.as_slice()) {
+                Some(after) => best_below(&run.below, contest, rows, after, best),
+                None => best,
+            };
+        }
+        Radix::Fork(node) => node,
     };
     let [first, after @ ..] = name else {
         return best;

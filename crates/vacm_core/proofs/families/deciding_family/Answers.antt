@@ -5,7 +5,7 @@ use Rattle.vacm_core.specs.declared.tables.FamilyRow.{FamilyRow}
 use Rattle.vacm_core.specs.Rows.{same_family}
 use Rattle.vacm_core.specs.Families.{matches, family_beats}
 use Rattle.vacm_core.specs.Orders.{family_order}
-use Rattle.vacm_core.specs.Trees.{leads, view_way, subtree_way, Covers, IsPlaced}
+use Rattle.vacm_core.specs.Trees.{reaches, reaches_from, view_way, subtree_way, Covers, IsPlaced}
 use Rattle.vacm_core.proofs.Agrees.{and_true}
 use Rattle.vacm_core.proofs.Ties.{one_only, family_ties}
 use Rattle.vacm_core.proofs.FamilyWays.{fits_agrees, below_view}
@@ -18,13 +18,13 @@ returns-clause-place c =
     let rows : List FamilyRow = c.args.rows.now in
     let view = c.args.view.now in
     let name = c.args.name.now in
-    let below = c.rows_of_view-below.result.now in
-    let all : (n : ℕ) → Covers (matches view name) family_beats rows c.best_below.result n = λ n row at pass.
+    let place = c.rows_of_view-place.result in
+    let all : (n : ℕ) → Covers (matches view name) family_beats rows c.best_from.result n = λ n row at pass.
     let parts = and_true _ _ pass in
-    let placed = subst (λ (r : FamilyRow). IsPlaced tree r n) (get_or_from_slice_get rows n row row at) (c.requires.tree n row (slice_get_within rows n row at)) in
+    let placed = subst (λ (r : FamilyRow). IsPlaced (reaches tree) r n) (get_or_from_slice_get rows n row row at) (c.requires.tree n row (slice_get_within rows n row at)) in
     let way = subtree_way 0 row.mask row.subtree in
-    let there = subst (λ (v : List ℕ). leads tree (view_way v ++ way) n ≡ true) (same_text row.view view (sym parts.0)) placed.leads in
-    let on = below_view tree below view c.rows_of_view-below.ensures 0 row.mask row.subtree n placed.some there in
-    c.best_below.ensures.found way n on (fits_agrees 0 row.mask row.subtree name ∙ parts.1) row at pass in
+    let there = subst (λ (v : List ℕ). reaches tree (view_way v ++ way) n ≡ true) (same_text row.view view (sym parts.0)) placed.leads in
+    let on = below_view (reaches tree) (reaches_from place) view c.rows_of_view-place.ensures 0 row.mask row.subtree n placed.some there in
+    c.best_from.ensures.found way n on (fits_agrees 0 row.mask row.subtree name ∙ parts.1) row at pass in
     decides family_order (matches view name) rows
-    (one_only (matches view name) family_beats same_family rows c.requires.differ (family_ties view name)) c.best_below.result c.best_below.ensures.later.fit all
+    (one_only (matches view name) family_beats same_family rows c.requires.differ (family_ties view name)) c.best_from.result c.best_from.ensures.fit all
