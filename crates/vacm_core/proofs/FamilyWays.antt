@@ -120,14 +120,6 @@ others_differ rows differ m n d here there ne =
       | inr ge ↦ ways_differ_back (get_or rows m d) (get_or rows n d) (differ n m d (omega arith) here)
     ]
 
--- ---- the way of a view
-
--- what holds of a step on from one place to another holds also before a longer rest
-pub leads_after : (here there : List Step → ℕ → Bool) (part : ℕ) → ((step next : Step) (rest : List Step) (n : ℕ) → step.part ≡ part → here (step ∷ next ∷ rest) n ≡ true → there (next ∷ rest) n ≡ true)
-    → (view : List ℕ) (next : Step) (rest : List Step) (n : ℕ) → here (fixed part ∷ (map fixed view ++ next ∷ rest)) n ≡ true → there (map fixed view ++ next ∷ rest) n ≡ true
-leads_after here there part on [] next rest n e = on (fixed part) next rest n refl e
-leads_after here there part on (v ∷ view) next rest n e = on (fixed part) (fixed v) (map fixed view ++ next ∷ rest) n refl e
-
 -- ---- placing a row
 
 -- what a row's way leads to stays there when another row is placed

@@ -12,14 +12,19 @@ ghost use Rattle.vacm_core.specs.declared.tables.FamilyRow.{FamilyRow};
 
 use crate::copying::copied_rows;
 use crate::deciding::{FamilyContest, mask_bit};
+use crate::limits::MAX_NAME;
 use crate::name::Name;
 use crate::radix::{Place, Radix, packed};
 use crate::rows::Rows;
 use crate::tables::FamilyRow;
 use crate::tree::{Step, Tree};
 use crate::walk::best_from;
+use arrayvec::ArrayVec;
 use std::alloc::{AllocError, Global};
 use std::marker::Model;
+
+// How many numbers stand for a view at most: how many octets its name has, and those.
+const VIEW_NUMBERS: usize = MAX_NAME + 1;
 
 /// The family rows, seen as their list, and the tree of them. No two rows have one key.
 pub struct Families {
@@ -207,18 +212,26 @@ fn tree_of(alloc: Global, rows: &[FamilyRow]) -> Result<Radix, AllocError>
     packed(alloc, &tree)
 }
 
+// The numbers by which the rows of a view begin: how many octets its name has, and those.
+fn numbers_of(view: &Name) -> ArrayVec<u32, VIEW_NUMBERS>
+    ensures { result.items ≡ length view.now ∷ view.now }
+{
+    let octets = view.as_bytes();
+    let mut numbers = ArrayVec::new();
+    numbers.push(octets.len() as u32);
+    for octet in octets {
+        numbers.push(u32::from(*octet));
+    }
+    numbers
+}
+
 // The place where the rows of a view begin.
 fn rows_of_view<'a>(tree: &'a Radix, view: &Name) -> Place<'a>
     ensures { (next : Step) (rest : List Step) (n : ℕ) →
         reaches tree.now (view_way view.now ++ next ∷ rest) n ≡ true
         → reaches_from result (next ∷ rest) n ≡ true }
 {
-    let octets = view.as_bytes();
-    let mut place = tree.child(octets.len() as u32);
-    for octet in octets {
-        place = place.child(u32::from(*octet));
-    }
-    place
+    tree.descend(numbers_of(view).as_slice())
 }
 
 // The number of the family row of a view that decides on a name, of those in their tree.

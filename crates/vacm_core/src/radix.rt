@@ -1,6 +1,6 @@
 //! The family rows as a radix tree, so that a name is compared with few of them.
-ghost use Rattle.std.specs.Prelude.{◌≡◌, ℕ, true, IsTrue, List, [], ◌∷◌, IfOk};
-ghost use Rattle.vacm_core.specs.Trees.{leads, reaches, runs, reaches_from, IsAlone};
+ghost use Rattle.std.specs.Prelude.{◌≡◌, ◌≢◌, ℕ, true, IsTrue, List, [], ◌∷◌, ◌++◌, map, MatchOption, IfOk};
+ghost use Rattle.vacm_core.specs.Trees.{leads, reaches, runs, reaches_from, fixed, IsAlone};
 ghost use Rattle.vacm_core.specs.declared.tree.Step.{Step};
 
 use crate::tree::{Node, Tree};
@@ -67,50 +67,40 @@ impl<'a> Place<'a> {
             below: tree,
         }
     }
-
-    /// The place behind a step of this number.
-    pub fn child(self, part: u32) -> Place<'a>
-        ensures { (here next : Step) (rest : List Step) (row : ℕ) → here.part ≡ part
-            → reaches_from self.entry (here ∷ next ∷ rest) row ≡ true
-            → reaches_from result (next ∷ rest) row ≡ true }
-    {
-        match self.parts {
-            [own, rest @ ..] if *own == part => Place {
-                parts: rest,
-                below: self.below,
-            },
-            [_, ..] => self,
-            [] => self.below.child(part),
-        }
-    }
 }
 
 impl Radix {
-    /// The place behind a step of this number.
-    pub fn child(&self, part: u32) -> Place<'_>
-        ensures { (here next : Step) (rest : List Step) (row : ℕ) → here.part ≡ part
-            → reaches self.now (here ∷ next ∷ rest) row ≡ true
+    /// The place behind steps of these numbers; any place, where no way has them all.
+    pub fn descend(&self, numbers: &[u32]) -> Place<'_>
+        ensures { (next : Step) (rest : List Step) (row : ℕ) →
+            reaches self.now (map fixed numbers.now ++ next ∷ rest) row ≡ true
             → reaches_from result (next ∷ rest) row ≡ true }
     {
         match self {
             Radix::Empty => Place::of(self),
-            Radix::Run(run) => match run.parts.as_slice() {
-                [own, rest @ ..] if *own == part => Place {
-                    parts: rest,
-                    below: &run.below,
-                },
-                [_, ..] => Place::of(self),
-                [] => run.below.child(part),
-            },
-            Radix::Fork(node) => {
-                if part < node.part {
-                    node.less.child(part)
-                } else if node.part < part {
-                    node.greater.child(part)
+            Radix::Run(run) => {
+                let parts = run.parts.as_slice();
+                if let Some(rest) = behind(numbers, parts) {
+                    run.below.descend(rest)
+                } else if let Some(parts) = behind(parts, numbers) {
+                    let below = &run.below;
+                    Place { parts, below }
                 } else {
-                    Place::of(&node.equal)
+                    Place::of(self)
                 }
             }
+            Radix::Fork(node) => match numbers {
+                [] => Place::of(self),
+                [first, rest @ ..] => {
+                    if *first < node.part {
+                        node.less.descend(numbers)
+                    } else if node.part < *first {
+                        node.greater.descend(numbers)
+                    } else {
+                        node.equal.descend(rest)
+                    }
+                }
+            },
         }
     }
 
@@ -126,6 +116,14 @@ impl Radix {
             },
         }
     }
+}
+
+/// What follows these numbers in a list that begins with them.
+pub fn behind<'a>(list: &'a [u32], numbers: &[u32]) -> Option<&'a [u32]>
+    ensures { MatchOption result ((rest : List ℕ) → list.now ≢ numbers.now ++ rest)
+        (λ rest. list.now ≡ numbers.now ++ rest.now) }
+{
+    list.strip_prefix(numbers)
 }
 
 impl Node {

@@ -1,12 +1,12 @@
 //! The best of the rows of these numbers, and of the rows of a tree whose way a name fits.
-ghost use Rattle.std.specs.Prelude.{◌≡◌, ◌≢◌, ◌<◌, ◌++◌, ◌&&◌, ℕ, List, Contains, true, Some, MatchOption, length};
+ghost use Rattle.std.specs.Prelude.{◌≡◌, ◌<◌, ◌&&◌, ℕ, List, Contains, true, Some, length};
 ghost use Rattle.std.specs.Option.{ForSome};
 ghost use Rattle.vacm_core.specs.Best.{takes_over};
 ghost use Rattle.vacm_core.specs.Trees.{reaches, reaches_from, fits, IsFit, Covers, IsLater};
 ghost use Rattle.vacm_core.specs.declared.tree.Step.{Step};
 
 use crate::contest::{Contest, takes_over};
-use crate::radix::{Place, Radix};
+use crate::radix::{Place, Radix, behind};
 
 // Whether a row is better than the best so far, and passes.
 fn is_better<C: Contest>(contest: &C, rows: &[C::Row], best: Option<usize>, row: &C::Row) -> bool
@@ -46,14 +46,6 @@ pub fn best_among<C: Contest>(contest: &C, rows: &[C::Row], numbers: &[usize]) -
         best = better(contest, rows, best, Some(*n));
     }
     best
-}
-
-// What follows these numbers in a name that begins with them.
-fn behind<'a>(name: &'a [u32], parts: &[u32]) -> Option<&'a [u32]>
-    ensures { MatchOption result ((rest : List ℕ) → name.now ≢ parts.now ++ rest)
-        (λ rest. name.now ≡ parts.now ++ rest.now) }
-{
-    name.strip_prefix(parts)
 }
 
 /// The best of the rows of a tree, from a place on, whose way a name fits. It takes no memory.
