@@ -8,10 +8,11 @@ use denote.Enum.Enum.{Enum}
 use denote.Hole.FixSend.{fix_send, Sends}
 use denote.Hole.FixLaws.{layer_row}
 use Rattle.std.proofs.Crossing.{crosses}
-use Rattle.vacm_core.specs.contracts.tree.Tree as Tree
-use Rattle.vacm_core.specs.contracts.tree.Node as Node
-use Rattle.vacm_core.specs.contracts.tree.Tree.TheKnot as Knot
-use Rattle.vacm_core.specs.declared.tree.Tree.TheBlock as block
+use Rattle.vacm_core.specs.contracts.radix.Radix as Radix
+use Rattle.vacm_core.specs.contracts.radix.Branch as Branch
+use Rattle.vacm_core.specs.contracts.radix.Run as Run
+use Rattle.vacm_core.specs.contracts.radix.Radix.TheKnot as Knot
+use Rattle.vacm_core.specs.declared.radix.Radix.TheBlock as block
 use Rattle.vacm_core.specs.contracts.families.Families as families
 use Rattle.vacm_core.specs.contracts.families.Families.TheInside as families_inside
 use Rattle.vacm_core.proofs.rows.Rows.TheSendSync as rows
@@ -45,34 +46,35 @@ use Rattle.setphase_core.specs.declared.object.MibObject.{Ghosts}
 use Rattle.live_lock.specs.declared.run.Run.{Ghosts as RunGhosts}
 use Rattle.std.specs.declared.sync.ledger.Ledger.{Ghosts as LedgerGhosts}
 
-tree_layer : (h : block.the_members → RattleType) → ((j : block.the_members) → IsSend (h j)) → IsSend (layer_row Knot.ring block.member-Tree h)
-tree_layer h all = let T = Tree.the_layer h in recorded_send (Enum (E.shape T)) T.D T.to T.to_one (enum_send (E.shape T) (search (sendable, crosses, all) depth 20))
+radix_layer : (h : block.the_members → RattleType) → ((j : block.the_members) → IsSend (h j)) → IsSend (layer_row Knot.ring block.member-Radix h)
+radix_layer h all = let T = Radix.the_layer h in recorded_send (Enum (E.shape T)) T.D T.to T.to_one (enum_send (E.shape T) (search (sendable, crosses, all) depth 20))
 
-node_layer : (h : block.the_members → RattleType) → ((j : block.the_members) → IsSend (h j)) → IsSend (layer_row Knot.ring block.member-Node h)
-node_layer h all = let T = Node.the_layer h in recorded_send (Struct (S.shape T)) T.D T.to T.to_one (struct_send (S.shape T) (search (sendable, crosses, all) depth 20))
+branch_layer : (h : block.the_members → RattleType) → ((j : block.the_members) → IsSend (h j)) → IsSend (layer_row Knot.ring block.member-Branch h)
+branch_layer h all = let T = Branch.the_layer h in recorded_send (Struct (S.shape T)) T.D T.to T.to_one (struct_send (S.shape T) (search (sendable, crosses, all) depth 20))
+
+run_layer : (h : block.the_members → RattleType) → ((j : block.the_members) → IsSend (h j)) → IsSend (layer_row Knot.ring block.member-Run h)
+run_layer h all = let T = Run.the_layer h in recorded_send (Struct (S.shape T)) T.D T.to T.to_one (struct_send (S.shape T) (search (sendable, crosses, all) depth 20))
 
 steps : (i : block.the_members) → Sends Knot.ring i
-steps block.member-Tree = record { send = tree_layer }
-steps block.member-Node = record { send = node_layer }
+steps block.member-Radix = record { send = radix_layer }
+steps block.member-Branch = record { send = branch_layer }
+steps block.member-Run = record { send = run_layer }
 
-pub tree_hole_send : IsSend Tree.the_hole
-tree_hole_send = fix_send Knot.ring steps block.member-Tree
+branch_hole_send : IsSend Branch.the_hole
+branch_hole_send = fix_send Knot.ring steps block.member-Branch
 
-pub node_hole_send : IsSend Node.the_hole
-node_hole_send = fix_send Knot.ring steps block.member-Node
+run_hole_send : IsSend Run.the_hole
+run_hole_send = fix_send Knot.ring steps block.member-Run
 
-pub tree_send : IsSend Tree.the_row
-tree_send = let T = Tree.the_type in recorded_send (Enum (E.shape T)) T.D T.to T.to_one (enum_send (E.shape T) (search (sendable, crosses, node_hole_send) depth 20))
-
-pub tree_field_send : IsSend (Tree.the_field).row
-tree_field_send = enum_send (E.shape Tree.the_type) (search (sendable, crosses, node_hole_send) depth 20)
+radix_field_send : IsSend (Radix.the_field).row
+radix_field_send = enum_send (E.shape Radix.the_type) (search (sendable, crosses, branch_hole_send, run_hole_send) depth 20)
 
 -- A struct is sent where its fields are.
 struct_row_send : (T : S.Declared) → AllSend (S.shape T).fields → IsSend (S.row T)
 struct_row_send T s = recorded_send (Struct (S.shape T)) T.D T.to T.to_one (struct_send (S.shape T) s)
 
 families_send : IsSend families.the_row
-families_send = view_send _ _ _ _ _ (struct_row_send families_inside.the_type (search (sendable, crosses, tree_field_send, rows.the_send, family_row.the_send) depth 20))
+families_send = view_send _ _ _ _ _ (struct_row_send families_inside.the_type (search (sendable, crosses, radix_field_send, rows.the_send, family_row.the_send) depth 20))
 
 vacm_send : IsSend vacm.the_row
 vacm_send = view_send _ _ _ _ _ (struct_row_send vacm_inside.the_type (search (sendable, crosses, families_send, rows.the_send, group_row.the_send, access_row.the_send, name.the_send) depth 20))
