@@ -27,13 +27,25 @@ use std::alloc::{AllocError, Global};
 use std::marker::Model;
 
 /// The agent that a script drives.
-#[derive(Drop)]
 pub struct Agent<O: MibObject> {
     kept: Kept<O>,
     buffer: Buffer,
     is_auditing: bool,
     drops: Drops,
     policy_lines: Option<Vec<u8>>,
+}
+
+// By hand, so that who lets one go knows nothing of its parts.
+impl<O: MibObject> Drop for Agent<O> {
+    fn drop(self) {
+        let Agent {
+            kept: _kept,
+            buffer: _buffer,
+            is_auditing: _is_auditing,
+            drops: _drops,
+            policy_lines: _policy_lines,
+        } = self;
+    }
 }
 
 impl<O: MibObject> Model for Agent<O> {

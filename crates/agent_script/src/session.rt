@@ -24,11 +24,21 @@ pub enum Run {
 }
 
 // The agent as it answers lines.
-#[derive(Drop)]
 struct AgentSession<O: MibObject> {
     alloc: Global,
     agent: Agent<O>,
     is_whole: bool,
+}
+
+// By hand, so that who lets one go knows nothing of its parts.
+impl<O: MibObject> Drop for AgentSession<O> {
+    fn drop(self) {
+        let AgentSession {
+            alloc: _alloc,
+            agent: _agent,
+            is_whole: _is_whole,
+        } = self;
+    }
 }
 
 impl<O: MibObject> Model for AgentSession<O> {

@@ -52,9 +52,15 @@ impl fmt::Display for Denied {
 }
 
 /// The denied bindings of a request, in order.
-#[derive(Drop)]
 pub struct DeniedBindings {
     items: Vec<Denied>,
+}
+
+// By hand, so that who lets one go knows nothing of its parts.
+impl Drop for DeniedBindings {
+    fn drop(self) {
+        let DeniedBindings { items: _items } = self;
+    }
 }
 
 impl Model for DeniedBindings {

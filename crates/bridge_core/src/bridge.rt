@@ -48,13 +48,25 @@ pub struct Forwarding {
 /// A learning bridge that runs the Rapid Spanning Tree Protocol. It is seen as its settings, its
 /// spanning tree, its learned rows and its counters. Ports are numbered from 1. A change of
 /// settings is followed by `settle`.
-#[derive(Drop)]
 pub struct Bridge {
     settings: Settings,
     tree: Rstp,
     fdb: Fdb,
     entry_discards: u32,
     counters: ArrayVec<PortCounters, MAX_PORTS>,
+}
+
+// By hand, so that who lets one go knows nothing of its parts.
+impl Drop for Bridge {
+    fn drop(self) {
+        let Bridge {
+            settings: _settings,
+            tree: _tree,
+            fdb: _fdb,
+            entry_discards: _entry_discards,
+            counters: _counters,
+        } = self;
+    }
 }
 
 impl Model for Bridge {

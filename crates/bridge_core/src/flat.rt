@@ -11,13 +11,25 @@ use std::marker::Model;
 /// the ports' configurations, what was settled, what each port holds, the times in force) and the
 /// counters stand in fixed arrays for [`MAX_PORTS`] ports; only the learned rows are in a vector,
 /// by rising address. No event changes it.
-#[derive(Drop)]
 pub struct FlatBridge {
     settings: Settings,
     tree: Rstp,
     learned: Vec<Row>,
     entry_discards: u32,
     counters: ArrayVec<PortCounters, MAX_PORTS>,
+}
+
+// By hand, so that who lets one go knows nothing of its parts.
+impl Drop for FlatBridge {
+    fn drop(self) {
+        let FlatBridge {
+            settings: _settings,
+            tree: _tree,
+            learned: _learned,
+            entry_discards: _entry_discards,
+            counters: _counters,
+        } = self;
+    }
 }
 
 impl Model for FlatBridge {

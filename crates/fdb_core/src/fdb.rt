@@ -13,10 +13,19 @@ use std::marker::Model;
 
 /// The table of learned addresses, seen as the list of its rows by rising address and the most rows
 /// that it may have.
-#[derive(Drop)]
 pub struct Fdb {
     sightings: Sightings,
     limit: usize,
+}
+
+// By hand, so that who lets one go knows nothing of its parts.
+impl Drop for Fdb {
+    fn drop(self) {
+        let Fdb {
+            sightings: _sightings,
+            limit: _limit,
+        } = self;
+    }
 }
 
 impl Model for Fdb {

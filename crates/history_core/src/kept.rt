@@ -19,7 +19,6 @@ use std::marker::Model;
 /// A world, the objects that show it, and what is kept of its history, seen as one record: each kept
 /// entry is one event, and its reply, audit and ports are those of the step of that event at its
 /// place. No object has anything reserved.
-#[derive(Drop)]
 pub struct Kept<O: MibObject> {
     first: u64,
     base_number: u64,
@@ -27,6 +26,20 @@ pub struct Kept<O: MibObject> {
     entries: Vec<Entry>,
     world: World,
     registry: Registry<O>,
+}
+
+// By hand, so that who lets one go knows nothing of its parts.
+impl<O: MibObject> Drop for Kept<O> {
+    fn drop(self) {
+        let Kept {
+            first: _first,
+            base_number: _base_number,
+            base: _base,
+            entries: _entries,
+            world: _world,
+            registry: _registry,
+        } = self;
+    }
 }
 
 impl<O: MibObject> Model for Kept<O> {

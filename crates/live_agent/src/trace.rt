@@ -49,9 +49,15 @@ pub enum End {
 }
 
 /// What became of the events and the refused datagrams of one line, in order, seen as their list.
-#[derive(Drop)]
 pub struct Trace {
     items: Vec<Item>,
+}
+
+// By hand, so that who lets one go knows nothing of its parts.
+impl Drop for Trace {
+    fn drop(self) {
+        let Trace { items: _items } = self;
+    }
 }
 
 impl Model for Trace {

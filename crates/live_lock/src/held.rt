@@ -23,12 +23,23 @@ pub struct Counts {
 }
 
 /// A history and the book of what was entered since the start, seen as the history and the count.
-#[derive(Drop)]
 pub struct Held<O: MibObject, L: Run> {
     kept: Kept<O>,
     next_at_start: u64,
     base_at_start: u64,
     book: Book<L>,
+}
+
+// By hand, so that who lets one go knows nothing of its parts.
+impl<O: MibObject, L: Run> Drop for Held<O, L> {
+    fn drop(self) {
+        let Held {
+            kept: _kept,
+            next_at_start: _next_at_start,
+            base_at_start: _base_at_start,
+            book: _book,
+        } = self;
+    }
 }
 
 impl<O: MibObject, L: Run> Model for Held<O, L> {
@@ -106,7 +117,12 @@ impl<O: MibObject, L: Run> Held<O, L> {
         ensures legal { IsHistory result }
     {
         let mut share = share;
-        let Held { kept, mut book, .. } = self;
+        let Held {
+            kept,
+            next_at_start: _,
+            base_at_start: _,
+            mut book,
+        } = self;
         book.audit(&mut share);
         kept.legal();
         kept

@@ -46,9 +46,15 @@ impl Binding {
 }
 
 /// The variable bindings of a message, in order (VarBindList of RFC 3416, section 3).
-#[derive(Drop)]
 pub struct Bindings {
     items: Vec<Binding>,
+}
+
+// By hand, so that who lets one go knows nothing of its parts.
+impl Drop for Bindings {
+    fn drop(self) {
+        let Bindings { items: _items } = self;
+    }
 }
 
 impl Model for Bindings {

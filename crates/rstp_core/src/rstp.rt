@@ -36,13 +36,25 @@ struct Started {
 
 /// The spanning tree of a bridge. Ports are numbered from 1. Settings have as many ports as the
 /// bridge, and a change of settings is followed by `settle`.
-#[derive(Drop)]
 pub struct Rstp {
     address: Mac,
     config: ArrayVec<PortConfig, MAX_PORTS>,
     ports: ArrayVec<Port, MAX_PORTS>,
     facts: BridgeFacts,
     settled: Settled,
+}
+
+// By hand, so that who lets one go knows nothing of its parts.
+impl Drop for Rstp {
+    fn drop(self) {
+        let Rstp {
+            address: _address,
+            config: _config,
+            ports: _ports,
+            facts: _facts,
+            settled: _settled,
+        } = self;
+    }
 }
 
 impl Model for Rstp {

@@ -13,10 +13,19 @@ pub const MAX_PORTS: usize = 32;
 
 /// The settings of a bridge of at most `MAX_PORTS` ports. Each setting always has a value in its
 /// range and on its steps.
-#[derive(Drop)]
 pub struct Settings {
     bridge: BridgeValues,
     ports: ArrayVec<PortValues, MAX_PORTS>,
+}
+
+// By hand, so that who lets one go knows nothing of its parts.
+impl Drop for Settings {
+    fn drop(self) {
+        let Settings {
+            bridge: _bridge,
+            ports: _ports,
+        } = self;
+    }
 }
 
 impl Model for Settings {

@@ -11,12 +11,23 @@ use vacm_core::Same;
 /// A flat copy of a world, seen as the world is. All that the bridge and its ports have stands in
 /// fixed arrays; only the learned rows are in a vector, by rising address, and the policy is its
 /// lists of rows as they are written. No event changes it.
-#[derive(Drop)]
 pub struct FlatWorld {
     bridge: FlatBridge,
     policy: PolicyRows,
     bad_communities: u32,
     unknown_contexts: u32,
+}
+
+// By hand, so that who lets one go knows nothing of its parts.
+impl Drop for FlatWorld {
+    fn drop(self) {
+        let FlatWorld {
+            bridge: _bridge,
+            policy: _policy,
+            bad_communities: _bad_communities,
+            unknown_contexts: _unknown_contexts,
+        } = self;
+    }
 }
 
 impl Model for FlatWorld {

@@ -31,9 +31,15 @@ pub enum RegistryFault {
 
 /// Managed objects by rising name, none of whose names begins another's. It is seen as the list of
 /// their states.
-#[derive(Drop)]
 pub struct Registry<O: MibObject> {
     pub(crate) objects: Vec<O>,
+}
+
+// By hand, so that who lets one go knows nothing of its parts.
+impl<O: MibObject> Drop for Registry<O> {
+    fn drop(self) {
+        let Registry { objects: _objects } = self;
+    }
 }
 
 impl<O: MibObject> Model for Registry<O> {

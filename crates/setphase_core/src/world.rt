@@ -10,7 +10,6 @@ use std::alloc::{AllocError, Global};
 
 /// A bridge, the policy that says who may see and set what of it, and the counts of requests that
 /// were dropped.
-#[derive(Drop)]
 pub struct World {
     /// The bridge.
     pub bridge: Bridge,
@@ -22,6 +21,18 @@ pub struct World {
     /// The requests that were dropped since their context is not known, modulo 2^32 (RFC 3413,
     /// snmpUnknownContexts).
     pub unknown_contexts: u32,
+}
+
+// By hand, so that who lets one go knows nothing of its parts.
+impl Drop for World {
+    fn drop(self) {
+        let World {
+            bridge: _bridge,
+            policy: _policy,
+            bad_communities: _bad_communities,
+            unknown_contexts: _unknown_contexts,
+        } = self;
+    }
 }
 
 impl World {

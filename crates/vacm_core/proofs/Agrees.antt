@@ -1,8 +1,9 @@
 -- Whether a subtree agrees with a name, part by part.
-use Rattle.std.proofs.Common.{◌≡◌, ◌==◌, ◌||◌, not, Bool, [], arith, false, zero, add-zero, eq-eqb, ℕ, suc, Some, ◌+◌, ◌<◌, ◌≤◌, true, ◌&&◌, List, ◌∷◌, length, get_or, drop, drop-cons, add-one, refl, sym, ap, ◌∙◌, inl, inr}
+use Rattle.std.proofs.Common.{◌≡◌, ◌==◌, ◌||◌, not, Bool, [], arith, false, zero, add-zero, eq-eqb, ℕ, suc, Option, Some, None, MatchOption, ◌≢◌, ◌+◌, ◌<◌, ◌≤◌, true, ◌&&◌, List, ◌∷◌, ◌++◌, length, get_or, drop, drop-cons, add-one, refl, sym, ap, ◌∙◌, inl, inr}
 use Rattle.std.proofs.lemmas.List.{drop_all}
 use Rattle.std.proofs.lemmas.Option.{slice_get-get_or, slice_get_past}
 use Rattle.std.proofs.lemmas.Bool.{cases_lt, and_from, eqb-true}
+use Rattle.std.specs.Option.{is_some}
 use Rattle.vacm_core.specs.Families.{agrees_at, agrees_with, agrees_from, mask_bit}
 
 one_part : (mask : List ℕ) (k s : ℕ) (rest name : List ℕ) → agrees_from k mask (s ∷ rest) (drop k name) ≡ (agrees_at mask k s name && agrees_from (k + 1) mask rest (drop (k + 1) name))
@@ -62,3 +63,15 @@ agrees_only k mask (s ∷ subtree) (n ∷ name) long same =
     (agrees_only (k + 1) mask subtree name (omega arith) (λ j h b.
     let shift : k + suc j ≡ k + 1 + j = omega arith in
     same (suc j) (omega arith) (ap (mask_bit mask) shift ∙ b)))
+
+-- a name that begins with the subtree agrees with it, whatever the mask
+pub agrees_begun : (k : ℕ) (mask subtree rest : List ℕ) → agrees_from k mask subtree (subtree ++ rest) ≡ true
+agrees_begun k mask [] rest = refl
+agrees_begun k mask (s ∷ subtree) rest = and_from _ _ (part_only (mask_bit mask k) (s == s) (λ b. eq-eqb s s refl)) (agrees_begun (k + 1) mask subtree rest)
+
+-- the same of a name of which the rest behind the subtree was found
+pub agrees_found_begun : {R : Type 0} (found : Option R) (numbers : R → List ℕ) (mask subtree name : List ℕ)
+    → MatchOption found ((rest : List ℕ) → name ≢ subtree ++ rest) (λ rest. name ≡ subtree ++ numbers rest)
+    → is_some found ≡ true → agrees_from 0 mask subtree name ≡ true
+agrees_found_begun None numbers mask subtree name begun some = absurd cc
+agrees_found_begun (Some rest) numbers mask subtree name begun some = rw begun (agrees_begun 0 mask subtree (numbers rest))

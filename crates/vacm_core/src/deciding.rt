@@ -11,6 +11,7 @@ ghost use Rattle.vacm_core.specs.Access.{is_known, is_of, fits_context, candidat
 use crate::contest::Contest;
 use crate::index::{Keyed, with_key};
 use crate::name::Name;
+use crate::radix::behind;
 use crate::tables::{AccessRow, FamilyRow, GroupRow};
 use crate::verdict::{Ask, ViewType};
 use crate::walk::best_among;
@@ -26,7 +27,15 @@ pub fn mask_bit(mask: &[u8], k: usize) -> bool
 }
 
 /// Whether a name is at least as long as a subtree, and equal to it wherever the mask's bit is 1.
+/// Where the name begins with the subtree, the mask is not looked at.
 pub fn agrees(mask: &[u8], subtree: &[u32], name: &[u32]) -> bool
+    ensures { result ≡ agrees_from 0 mask.now subtree.now name.now }
+{
+    behind(name, subtree).is_some() || agrees_by_bits(mask, subtree, name)
+}
+
+// The same, number by number.
+fn agrees_by_bits(mask: &[u8], subtree: &[u32], name: &[u32]) -> bool
     ensures { result ≡ agrees_from 0 mask.now subtree.now name.now }
 {
     for (k, part) in subtree.iter().enumerate() {

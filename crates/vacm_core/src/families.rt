@@ -1,5 +1,5 @@
 //! The family rows with their tree, and the row of a view that decides on a name.
-ghost use Rattle.std.specs.Prelude.{◌≡◌, ◌≤◌, ◌<◌, ◌+◌, ℕ, true, List, ◌∷◌, ◌++◌, length, IfOk, OnOk, OnErr, bytes_eq, slice_index_or};
+ghost use Rattle.std.specs.Prelude.{◌≡◌, ◌≤◌, ◌<◌, ◌+◌, ℕ, true, List, [], ◌∷◌, ◌++◌, length, IfOk, OnOk, OnErr, bytes_eq, slice_index_or};
 ghost use Rattle.std.specs.List.{list_any};
 ghost use Rattle.std.specs.Option.{ForSome};
 ghost use Rattle.vacm_core.specs.Rows.{same_family};
@@ -212,17 +212,16 @@ fn tree_of(alloc: Global, rows: &[FamilyRow]) -> Result<Radix, AllocError>
     packed(alloc, &tree)
 }
 
-// The numbers by which the rows of a view begin: how many octets its name has, and those.
-fn numbers_of(view: &Name) -> ArrayVec<u32, VIEW_NUMBERS>
-    ensures { result.items ≡ length view.now ∷ view.now }
+// Puts in the numbers by which the rows of a view begin: how many octets its name has, and those.
+fn put_numbers(numbers: &mut ArrayVec<u32, VIEW_NUMBERS>, view: &Name)
+    requires { numbers.old.items ≡ [] }
+    ensures { numbers.new.items ≡ length view.now ∷ view.now }
 {
     let octets = view.as_bytes();
-    let mut numbers = ArrayVec::new();
     numbers.push(octets.len() as u32);
     for octet in octets {
         numbers.push(u32::from(*octet));
     }
-    numbers
 }
 
 // The place where the rows of a view begin.
@@ -231,7 +230,9 @@ fn rows_of_view<'a>(tree: &'a Radix, view: &Name) -> Place<'a>
         reaches tree.now (view_way view.now ++ next ∷ rest) n ≡ true
         → reaches_from result (next ∷ rest) n ≡ true }
 {
-    tree.descend(numbers_of(view).as_slice())
+    let mut numbers = ArrayVec::new();
+    put_numbers(&mut numbers, view);
+    tree.descend(numbers.as_slice())
 }
 
 // The number of the family row of a view that decides on a name, of those in their tree.

@@ -4,9 +4,15 @@ ghost use Rattle.std.specs.Prelude.{◌≡◌, List};
 use std::marker::Model;
 
 /// The rows of a table, seen as their list.
-#[derive(Drop)]
 pub struct Rows<T> {
     items: Vec<T>,
+}
+
+// By hand, so that who lets one go knows nothing of its parts.
+impl<T: Drop> Drop for Rows<T> {
+    fn drop(self) {
+        let Rows { items: _items } = self;
+    }
 }
 
 impl<T> Model for Rows<T> {
@@ -34,6 +40,7 @@ impl<T> Rows<T> {
     pub fn into_vec(self) -> Vec<T>
         ensures { result.items ≡ self }
     {
-        self.items
+        let Rows { items } = self;
+        items
     }
 }

@@ -6,9 +6,15 @@ use std::alloc::{AllocError, Global};
 use std::marker::Model;
 
 /// A text of any length and any characters, as a policy is written.
-#[derive(Drop)]
 pub struct Text {
     text: String,
+}
+
+// By hand, so that who lets one go knows nothing of its parts.
+impl Drop for Text {
+    fn drop(self) {
+        let Text { text: _text } = self;
+    }
 }
 
 impl Model for Text {
@@ -63,9 +69,15 @@ fn is_plain_octet(octet: u8) -> bool
 }
 
 /// Octets, any number of them, as a policy is written.
-#[derive(Drop)]
 pub struct Octets {
     octets: Vec<u8>,
+}
+
+// By hand, so that who lets one go knows nothing of its parts.
+impl Drop for Octets {
+    fn drop(self) {
+        let Octets { octets: _octets } = self;
+    }
 }
 
 impl Model for Octets {
@@ -93,6 +105,7 @@ impl Octets {
     pub fn into_vec(self) -> Vec<u8>
         ensures { result.items ≡ self }
     {
-        self.octets
+        let Octets { octets } = self;
+        octets
     }
 }

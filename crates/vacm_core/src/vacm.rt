@@ -21,7 +21,6 @@ use std::marker::Model;
 /// The tables of the View-based Access Control Model (RFC 3415), seen as four lists of rows. No two
 /// rows of a table have one key, but contexts may be equal; each row's lengths and fields are
 /// right.
-#[derive(Drop)]
 pub struct Vacm {
     groups: Rows<GroupRow>,
     // By model and name.
@@ -31,6 +30,20 @@ pub struct Vacm {
     access_index: Rows<usize>,
     families: Families,
     contexts: Rows<Name>,
+}
+
+// By hand, so that who lets one go knows nothing of its parts.
+impl Drop for Vacm {
+    fn drop(self) {
+        let Vacm {
+            groups: _groups,
+            group_index: _group_index,
+            access: _access,
+            access_index: _access_index,
+            families: _families,
+            contexts: _contexts,
+        } = self;
+    }
 }
 
 impl Model for Vacm {

@@ -1,19 +1,7 @@
-use Rattle.std.proofs.Common.{◌+◌, ◌&&◌, Bool, drop, sym, ap, ◌∙◌}
-use Rattle.vacm_core.specs.Families.{agrees_from}
-use Rattle.vacm_core.proofs.Agrees.{agrees_step, agrees_end}
+use Rattle.std.proofs.Common.{sym, ◌∙◌}
+use Rattle.vacm_core.proofs.Agrees.{agrees_found_begun}
 use Rattle.vacm_core.proofs.deciding.agrees.Goals as goal
 
-pub returns-then-not-agrees_at : goal.returns-then-not-agrees_at
-returns-then-not-agrees_at c =
-    let all = c.loop-k.invariant ∙ agrees_step c.args.mask.now c.loop-k.k c.args.subtree.now c.args.name.now c.loop-k-test.true in
-    let here = sym c.agrees_at.ensures ∙ c.if-not-agrees_at.true in
-    sym (all ∙ ap (λ (b : Bool). b && agrees_from (c.loop-k.k + 1) c.args.mask.now (drop (c.loop-k.k + 1) c.args.subtree.now) (drop (c.loop-k.k + 1) c.args.name.now)) here)
-
-pub loop-k-preserved : goal.loop-k-preserved
-loop-k-preserved c =
-    let all = c.loop-k.invariant ∙ agrees_step c.args.mask.now c.loop-k.k c.args.subtree.now c.args.name.now c.loop-k-test.true in
-    let here = sym c.agrees_at.ensures ∙ c.if-not-agrees_at.false in
-    all ∙ ap (λ (b : Bool). b && agrees_from (c.loop-k.k + 1) c.args.mask.now (drop (c.loop-k.k + 1) c.args.subtree.now) (drop (c.loop-k.k + 1) c.args.name.now)) here
-
-pub returns : goal.returns
-returns c = sym (c.loop-k.invariant ∙ agrees_end c.args.mask.now c.loop-k.k c.args.subtree.now c.args.name.now c.loop-k-test.false)
+pub returns-then-is_some : goal.returns-then-is_some
+returns-then-is_some c =
+    c.if-is_some.true ∙ sym (agrees_found_begun c.behind.result (λ rest. rest.now) c.args.mask.now c.args.subtree.now c.args.name.now c.behind.ensures (sym c.is_some.ensures ∙ c.if-is_some.true))

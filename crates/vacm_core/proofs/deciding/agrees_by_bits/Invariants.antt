@@ -1,6 +1,6 @@
 use Rattle.std.proofs.Common.{◌≡◌, drop}
 use Rattle.vacm_core.specs.Families.{agrees_from}
-use Rattle.vacm_core.proofs.deciding.agrees.Given as goal
+use Rattle.vacm_core.proofs.deciding.agrees_by_bits.Given as goal
 
 -- what is left decides
 abbrev pub invariant-loop-k : goal.invariant-loop-k
