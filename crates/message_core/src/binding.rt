@@ -92,11 +92,14 @@ impl Bindings {
     }
 
     /// Adds a binding at the end. Takes memory; without it, nothing changes and the binding is let
-    /// go.
+    /// go. Most lists have one binding, so the first takes room for itself alone.
     pub fn push(&mut self, binding: Binding) -> Result<(), AllocError>
         ensures ok { OnOk result (self.new ≡ self.old ++ binding ∷ []) }
         ensures err { OnErr result (self.new ≡ self.old) }
     {
+        if self.items.is_empty() {
+            self.items.reserve_exact(1)?;
+        }
         self.items.push(binding)?;
         Ok(())
     }
