@@ -1,5 +1,5 @@
 -- What an answered request came to is its step.
-use Rattle.std.proofs.Common.{◌≡◌, ◌≢◌, ◌∙◌, ℕ, Bool, true, false, List, [], ◌∷◌, map, Option, Some, None, Result, Ok, Err, IfOk, OnErr, ap, refl, sym, subst}
+use Rattle.std.proofs.Common.{◌≡◌, ◌≢◌, ◌∙◌, ◌<◌, arith, length, ℕ, Bool, true, false, List, [], ◌∷◌, map, Option, Some, None, Result, Ok, Err, IfOk, OnErr, ap, refl, sym, subst}
 use Rattle.std.specs.Prelude.{unwrap_or}
 use Rattle.std.specs.declared.alloc.AllocError.{AllocError}
 use Rattle.message_core.specs.declared.request.Kind.{Kind}
@@ -26,7 +26,7 @@ use Rattle.history_core.specs.History.{undos_in}
 use Rattle.history_core.specs.Happening.{first_of, second_of, audit_told, happened_by, HappensBy, Happens, notes_in}
 use Rattle.history_core.specs.declared.event.Event.TheVariants as event
 use Rattle.history_core.specs.declared.happening.Happened.{Happened}
-use Rattle.history_core.proofs.Stepping.{Stays, denied_stays, released-at_rest}
+use Rattle.history_core.proofs.Stepping.{Stays, denied_stays, replied_stays, released-at_rest}
 
 -- What came of a request whose outcome this is.
 record ComesOf (o : Outcome) (h : Happened) (b : Buffered) : Type 0 where
@@ -139,6 +139,22 @@ told_stays os w r told b later os_later rest h some =
     let same = audit_is _ told b h.done.answer in
     let stays = denied_stays os w r _ rest h.may (λ none. some (ap (λ (a : Audit). a.denied) same ∙ none)) in
     (h.done.world ∙ stays.world, h.done.objects_after ∙ stays.objects)
+
+-- Where a request that is no Set has a reply nothing has changed.
+pub read_stays : (os : List ObjectState) (w : World) (r : Request) (told : Answered) (b : Buffered) (later : World) (os_later : List ObjectState)
+    → IsTold os w r told b later os_later → r.kind ≢ Set → b.reply ≢ [] → (later ≡ w) × (os_later ≡ os)
+read_stays os w r told b later os_later h reads some =
+    let sent = (comes_of _ told b h.done.answer).sent in
+    let stays = replied_stays os w r _ reads (λ none. some (sent ∙ none)) in
+    (h.done.world ∙ stays.world, h.done.objects_after ∙ stays.objects)
+
+-- The same where its reply has more octets than some number.
+pub long_read_stays : (os : List ObjectState) (w : World) (r : Request) (told : Answered) (b : Buffered) (later : World) (os_later : List ObjectState) (reply : List ℕ) (n : ℕ)
+    → IsTold os w r told b later os_later → r.kind ≢ Set → reply ≡ b.reply → n < length reply → (later ≡ w) × (os_later ≡ os)
+long_read_stays os w r told b later os_later reply n h reads same long =
+    read_stays os w r told b later os_later h reads (λ none.
+    let empty : length reply ≡ 0 = ap length (same ∙ none) in
+    absurd (omega arith))
 
 without_answer-at_rest : (kind : Kind) (os : List ObjectState) → AreAtRest os → without_answer kind os ≡ os
 without_answer-at_rest Get os rest = refl

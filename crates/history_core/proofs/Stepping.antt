@@ -30,7 +30,7 @@ use Rattle.agent_core.specs.Sets.{SetStep, SetAnswer, answer_of_failure, answer_
 use Rattle.agent_core.specs.Answers as answers
 use Rattle.agent_core.specs.Answers.{Outcome, dropped, replied, audit_in, Shown, shown_of, outcome_of, outcome_by, world_by, world_after, reading_step, writing_step, allowed_step, step_by, MayHave, MayFailBy, MayFailInView}
 use Rattle.agent_core.proofs.Changed.{unsettled}
-use Rattle.history_core.specs.Steps.{Notes, Step, step_of, has_port, silent_step, framed_step, frame_step, bridge_step, link_step, request_step, AreAtRest, IsAtRest, MayTakeMemory}
+use Rattle.history_core.specs.Steps.{Notes, Step, step_of, octets_in, has_port, silent_step, framed_step, frame_step, bridge_step, link_step, request_step, AreAtRest, IsAtRest, MayTakeMemory}
 use Rattle.history_core.specs.History.{resting}
 use Rattle.history_core.specs.Receipts.{told_of, TakesMemory}
 use Rattle.history_core.specs.declared.event.Event.{Event}
@@ -343,6 +343,39 @@ pub denied_stays : (os : List ObjectState) (w : World) (r : Request) (n : SetNot
     → ((audit_in (answers.step_of os w r n).outcome).denied ≢ []) → Stays os w (answers.step_of os w r n)
 unfolding answers.step_of MayHave
 denied_stays os w r n rest may h = stays_by os w r n (decision_on w.policy r) rest may h
+
+-- ---- where a request that is no Set has a reply, nothing has changed
+
+reading_world_replied : (shown : Shown) (w : World) (r : Request) (d : Decision)
+    → (unwrap_or (octets_in (outcome_by shown r d)) [] ≢ []) → world_by w d ≡ w
+reading_world_replied shown w r (Drop cause) h = absurd (h refl)
+reading_world_replied shown w r Empty h = refl
+reading_world_replied shown w r (Refused why) h = refl
+reading_world_replied shown w r (Allowed row view) h = refl
+
+reading_replied : (os : List ObjectState) (w : World) (r : Request) → (unwrap_or (octets_in (reading_step os w r).outcome) [] ≢ [])
+    → Stays os w (reading_step os w r)
+unfolding outcome_of world_after
+reading_replied os w r h = record { world = reading_world_replied (shown_of (rows_of os) w) w r (decision_on w.policy r) h; objects = refl }
+
+allowed_replied : (os : List ObjectState) (w : World) (r : Request) (n : SetNotes) (row : AccessKey) (view : List ℕ) (kind : Kind)
+    → kind ≢ Set → (unwrap_or (octets_in (allowed_step os w r n row view kind).outcome) [] ≢ []) → Stays os w (allowed_step os w r n row view kind)
+allowed_replied os w r n row view Get reads h = reading_replied os w r h
+allowed_replied os w r n row view GetNext reads h = reading_replied os w r h
+allowed_replied os w r n row view GetBulk reads h = reading_replied os w r h
+allowed_replied os w r n row view Set reads h = absurd (reads refl)
+
+replied_by : (os : List ObjectState) (w : World) (r : Request) (n : SetNotes) (d : Decision)
+    → r.kind ≢ Set → (unwrap_or (octets_in (step_by os w r n d).outcome) [] ≢ []) → Stays os w (step_by os w r n d)
+replied_by os w r n (Drop cause) reads h = reading_replied os w r h
+replied_by os w r n Empty reads h = reading_replied os w r h
+replied_by os w r n (Refused why) reads h = reading_replied os w r h
+replied_by os w r n (Allowed row view) reads h = allowed_replied os w r n row view r.kind reads h
+
+pub replied_stays : (os : List ObjectState) (w : World) (r : Request) (n : SetNotes)
+    → r.kind ≢ Set → (unwrap_or (octets_in (answers.step_of os w r n).outcome) [] ≢ []) → Stays os w (answers.step_of os w r n)
+unfolding answers.step_of
+replied_stays os w r n reads h = replied_by os w r n (decision_on w.policy r) reads h
 
 -- ---- where a receipt takes memory
 

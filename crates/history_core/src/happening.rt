@@ -1,6 +1,7 @@
 //! What an event does to a world and the objects that show it.
-ghost use Rattle.std.specs.Prelude.{◌≡◌, ◌≢◌, ◌≤◌, false, None, [], List, length, IfOk, OnErr};
+ghost use Rattle.std.specs.Prelude.{◌≡◌, ◌≢◌, ◌<◌, ◌≤◌, false, None, [], List, length, IfOk, OnErr};
 ghost use Rattle.message_core.specs.Encodable.{AreEncodable};
+ghost use Rattle.message_core.specs.declared.limits.TheConstants.{INLINE_OCTETS};
 ghost use Rattle.setphase_core.specs.Objects.{ObjectState};
 ghost use Rattle.history_core.specs.Steps.{has_port, cause_in, IsEncodable, AreAtRest, MayTakeMemory, failure_octets};
 ghost use Rattle.history_core.specs.Happening.{audit_told, happened_by, Happens};
@@ -12,7 +13,7 @@ use audit_core::Audit;
 use bridge_core::Bridge;
 use decision::{Cause, Decision, decide};
 use frame_core::FrameIn;
-use message_core::{MAX_REPLY, Octets, Request, Room};
+use message_core::{Kind, MAX_REPLY, Octets, Request, Room};
 use setphase_core::{MibObject, Registry, World};
 use std::alloc::{AllocError, Global};
 
@@ -100,6 +101,17 @@ fn turn_link(world: &mut World, port: u16, up: bool, buffer: &mut Buffer) -> Hap
     quiet()
 }
 
+// A reply and its copy. They take memory only for more than `INLINE_OCTETS`.
+fn copies(alloc: Global, reply: &[u8]) -> Result<(Octets, Octets), AllocError>
+    ensures entered { IfOk result (λ replies. replies.0 ≡ reply.now) }
+    ensures told { IfOk result (λ replies. replies.1 ≡ reply.now) }
+    ensures inline { OnErr result (INLINE_OCTETS < length reply.now) }
+{
+    let entered = Octets::from_slice(alloc, reply)?;
+    let told = entered.try_copy(alloc)?;
+    Ok((entered, told))
+}
+
 // Room for a reply and its copy, reserved where want of memory can still be told.
 #[derive(Drop)]
 struct Rooms {
@@ -107,27 +119,43 @@ struct Rooms {
     told: Room,
 }
 
-// Room for any reply, twice.
-fn reserved(alloc: Global) -> Result<Rooms, AllocError>
-    ensures entered { IfOk result (λ rooms. MAX_REPLY ≤ rooms.entered) }
-    ensures told { IfOk result (λ rooms. MAX_REPLY ≤ rooms.told) }
-{
-    let entered = Room::reserved(alloc, MAX_REPLY)?;
-    let told = Room::reserved(alloc, MAX_REPLY)?;
-    Ok(Rooms { entered, told })
+impl Rooms {
+    // Room for any reply, twice.
+    fn reserved(alloc: Global) -> Result<Rooms, AllocError>
+        ensures entered { IfOk result (λ rooms. MAX_REPLY ≤ rooms.entered) }
+        ensures told { IfOk result (λ rooms. MAX_REPLY ≤ rooms.told) }
+    {
+        let entered = Room::reserved(alloc, MAX_REPLY)?;
+        let told = Room::reserved(alloc, MAX_REPLY)?;
+        Ok(Rooms { entered, told })
+    }
+
+    // A reply and its copy: of their own size where there is memory for that, and else in the room
+    // that is there.
+    fn filled(self, alloc: Global, reply: &[u8]) -> (Octets, Octets)
+        requires entered { length reply.now ≤ self.entered }
+        requires told { length reply.now ≤ self.told }
+        ensures entered { result.0 ≡ reply.now }
+        ensures told { result.1 ≡ reply.now }
+    {
+        match copies(alloc, reply) {
+            Ok(replies) => replies,
+            Err(_) => {
+                let Rooms { entered, told } = self;
+                (entered.filled(reply), told.filled(reply))
+            }
+        }
+    }
 }
 
 // What an answered request came to, where these octets are its reply, if it has one.
 fn come_to(
     alloc: Global,
     answered: Answered,
-    rooms: Rooms,
-    reply: &[u8],
+    replies: (Octets, Octets),
 ) -> Result<Happened, AllocError>
-    requires most { length reply.now ≤ MAX_REPLY }
-    requires entered { MAX_REPLY ≤ rooms.entered }
-    requires told { MAX_REPLY ≤ rooms.told }
-    ensures happened { IfOk result (λ happened. happened ≡ happened_by answered reply.now) }
+    requires { replies.0 ≡ replies.1 }
+    ensures happened { IfOk result (λ happened. happened ≡ happened_by answered replies.0) }
     ensures denied { OnErr result ((audit_told answered).denied ≢ []) }
 {
     match answered {
@@ -135,7 +163,7 @@ fn come_to(
             let copy = audit.try_copy(alloc)?;
             Ok(Happened {
                 failed,
-                replies: Some((rooms.entered.filled(reply), rooms.told.filled(reply))),
+                replies: Some(replies),
                 audits: Some((audit, copy)),
                 ..quiet()
             })
@@ -148,6 +176,48 @@ fn come_to(
             })
         }
     }
+}
+
+// A Set comes. What it writes cannot be taken back, so room for its reply is there first.
+fn answer_set<O: MibObject>(
+    alloc: Global,
+    registry: &mut Registry<O>,
+    world: &mut World,
+    request: &Request,
+    buffer: &mut Buffer,
+) -> Result<Happened, AllocError>
+    requires encodable { AreEncodable request.now.bindings }
+    requires at_rest { AreAtRest registry.old }
+    ensures happens { IfOk result (λ happened. Happens registry.old world.old
+        (Event.Request request.now) happened registry.new world.new buffer.new) }
+    ensures world { OnErr result (world.new ≡ world.old) }
+    ensures objects { OnErr result (registry.new ≡ registry.old) }
+{
+    let rooms = Rooms::reserved(alloc)?;
+    let answered = answer(alloc, registry, world, request, buffer)?;
+    let replies = rooms.filled(alloc, buffer.reply());
+    come_to(alloc, answered, replies)
+}
+
+// A request comes that reads. One that is dropped is counted, and has no reply that takes memory.
+fn answer_read<O: MibObject>(
+    alloc: Global,
+    registry: &mut Registry<O>,
+    world: &mut World,
+    request: &Request,
+    buffer: &mut Buffer,
+) -> Result<Happened, AllocError>
+    requires reads { request.now.kind ≢ Kind.Set }
+    requires encodable { AreEncodable request.now.bindings }
+    requires at_rest { AreAtRest registry.old }
+    ensures happens { IfOk result (λ happened. Happens registry.old world.old
+        (Event.Request request.now) happened registry.new world.new buffer.new) }
+    ensures world { OnErr result (world.new ≡ world.old) }
+    ensures objects { OnErr result (registry.new ≡ registry.old) }
+{
+    let answered = answer(alloc, registry, world, request, buffer)?;
+    let replies = copies(alloc, buffer.reply())?;
+    come_to(alloc, answered, replies)
 }
 
 // A request comes. Want of memory for its reply or its audit changes nothing.
@@ -165,9 +235,12 @@ fn answer_request<O: MibObject>(
     ensures world { OnErr result (world.new ≡ world.old) }
     ensures objects { OnErr result (registry.new ≡ registry.old) }
 {
-    let rooms = reserved(alloc)?;
-    let answered = answer(alloc, registry, world, request, buffer)?;
-    come_to(alloc, answered, rooms, buffer.reply())
+    match request.kind {
+        Kind::Set => answer_set(alloc, registry, world, request, buffer),
+        Kind::Get | Kind::GetNext | Kind::GetBulk => {
+            answer_read(alloc, registry, world, request, buffer)
+        }
+    }
 }
 
 /// An event happens. A request and a policy may find no memory, and then nothing has changed.

@@ -1,6 +1,6 @@
-use Rattle.std.proofs.Common.{◌≡◌, rules}
+use Rattle.std.proofs.Common.{◌≡◌, ◌∙◌, rules}
 use Rattle.history_core.proofs.Requests.{short_stays, came_happens, came_stays}
-use Rattle.history_core.proofs.happening.answer_request.Goals as goal
+use Rattle.history_core.proofs.happening.answer_set.Goals as goal
 
 pub returns-in_err-answered-clause-objects : goal.returns-in_err-answered-clause-objects
 returns-in_err-answered-clause-objects g c =
@@ -9,8 +9,8 @@ returns-in_err-answered-clause-objects g c =
 
 pub returns-clause-happens : goal.returns-clause-happens
 returns-clause-happens g c =
-    came_happens c.args.registry.now c.args.world.now c.args.request.now c.in_ok-answered.answered c.reply.result.now c.answer.new.buffer c.answer.new.world c.answer.new.registry c.come_to.result
-    c.in_ok-answered.ensures c.reply.ensures.reply c.come_to.ensures.happened
+    came_happens c.args.registry.now c.args.world.now c.args.request.now c.in_ok-answered.answered c.filled-replies.result.0 c.answer.new.buffer c.answer.new.world c.answer.new.registry c.come_to.result
+    c.in_ok-answered.ensures (c.filled-replies.ensures.entered ∙ c.reply.ensures.reply) c.come_to.ensures.happened
 
 pub returns-clause-world : goal.returns-clause-world
 returns-clause-world g c =
