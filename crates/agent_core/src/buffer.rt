@@ -82,7 +82,7 @@ impl Buffer {
         ensures bpdus { self.new.bpdus ≡ [] }
     {
         self.length = 0;
-        self.bpdus = ArrayVec::new();
+        self.bpdus.clear();
     }
 
     /// Puts the reply to a request in, or tooBig without bindings where that is too long (RFC 3416,

@@ -1,5 +1,6 @@
 -- The parts of entering an event, as `apply` hands them on inside the crate.
-use Rattle.std.specs.Prelude.{◌≡◌, ◌==◌, ℕ, if◌then◌else◌, List, [], ◌∷◌, ◌++◌, length, Option, Some, None}
+use Rattle.std.specs.Prelude.{Box, ◌≡◌, ◌==◌, ℕ, if◌then◌else◌, List, [], ◌∷◌, ◌++◌, length, Option, Some, None}
+use Rattle.std.specs.declared.alloc.Global.{Global}
 use Rattle.audit_core.specs.declared.audit.Audit.{Audit}
 use Rattle.decision.specs.declared.choice.Cause.{Cause}
 use Rattle.setphase_core.specs.declared.world.World.{World}
@@ -17,11 +18,16 @@ use Rattle.history_core.specs.declared.kept.Ready.{Ready}
 use Rattle.history_core.specs.declared.limits.TheConstants.{MAX_ENTRIES}
 use Rattle.history_core.specs.declared.receipt.Receipt.{Receipt}
 
+-- the world that is to be the base, where there is one
+abbrev pub world_in : Option (Box World Global) → Option World
+world_in None = None
+world_in (Some base) = Some base.value
+
 -- What is ready before an event happens: what its receipt tells of it, and the present world where
 -- the base is to move.
 pub record IsReady (h : History) (e : Event) (ready : Ready) : Type 0 where
   pub told : ready.told ≡ told_of e
-  pub base : ready.base ≡ (if length h.entries == MAX_ENTRIES then Some h.world else None)
+  pub base : world_in ready.base ≡ (if length h.entries == MAX_ENTRIES then Some h.world else None)
 
 -- the entry of an event that came to this, and its receipt under a number
 abbrev pub entry_of : Event → Happened → Entry

@@ -1,7 +1,7 @@
 //! What is kept of a history: its base, its entries, and the world as it is.
 ghost use Rattle.std.specs.Prelude.{◌≡◌, ◌==◌, ◌≤◌, ◌<◌, [], ◌∷◌, ◌++◌, None, Some, if◌then◌else◌, length, IfOk, IfErr, vec_capacity, ◌⊎◌, OnErr};
 ghost use Rattle.history_core.specs.Happening.{first_of, second_of};
-ghost use Rattle.history_core.specs.Keeping.{IsReady, entry_of, receipt_of, Enters, applied_by};
+ghost use Rattle.history_core.specs.Keeping.{IsReady, world_in, entry_of, receipt_of, Enters, applied_by};
 
 use crate::applied::Applied;
 use crate::comparing::{Mismatch, Tally, compare};
@@ -22,7 +22,8 @@ use std::marker::Model;
 pub struct Kept<O: MibObject> {
     first: u64,
     base_number: u64,
-    base: FlatWorld,
+    // Boxed, so that an event at which the base does not move moves no room for one.
+    base: Box<FlatWorld>,
     entries: Vec<Entry>,
     world: World,
     registry: Registry<O>,
@@ -52,7 +53,7 @@ impl<O: MibObject> Model for Kept<O> {
     ghost view = { λ k. record {
       first = k.first;
       base_number = k.base_number;
-      base = k.base;
+      base = k.base.value;
       entries = k.entries.items;
       world = k.world;
       objects = k.registry;
@@ -61,7 +62,7 @@ impl<O: MibObject> Model for Kept<O> {
     ghost invariant = { λ k. IsHistory (record {
       first = k.first;
       base_number = k.base_number;
-      base = k.base;
+      base = k.base.value;
       entries = k.entries.items;
       world = k.world;
       objects = k.registry;
@@ -72,7 +73,7 @@ impl<O: MibObject> Model for Kept<O> {
 #[derive(Drop)]
 struct Ready {
     told: ReceiptEvent,
-    base: Option<FlatWorld>,
+    base: Option<Box<FlatWorld>>,
 }
 
 impl<O: MibObject> Kept<O> {
@@ -113,7 +114,7 @@ impl<O: MibObject> Kept<O> {
         ensures kept { IfOk result (λ kept. kept ≡ fresh registry world first) }
         ensures back { IfErr result (λ e. (e.1 ≡ registry) × (e.2 ≡ world)) }
     {
-        let Ok(base) = world.flat(alloc) else {
+        let Ok(base) = flat_copy(alloc, &world) else {
             return Err((AllocError, registry, world));
         };
         let Ok(entries) = Vec::with_capacity(alloc, MAX_ENTRIES) else {
@@ -204,7 +205,7 @@ impl<O: MibObject> Kept<O> {
     {
         let told = event.told(alloc)?;
         let base = if self.entries.len() == MAX_ENTRIES {
-            Some(self.world.flat(alloc)?)
+            Some(flat_copy(alloc, &self.world)?)
         } else {
             None
         };
@@ -252,6 +253,14 @@ impl<O: MibObject> Kept<O> {
         enter(entries, old_base, base_number, base, number, entry);
         applied(receipt, audit)
     }
+}
+
+// A flat copy of a world.
+fn flat_copy(alloc: Global, world: &World) -> Result<Box<FlatWorld>, AllocError>
+    ensures { IfOk result (λ copy. copy.value ≡ world.now) }
+{
+    let copy = world.flat(alloc)?;
+    Ok(Box::new(alloc, copy)?)
 }
 
 // Two that come together, or none of them.
@@ -312,16 +321,16 @@ fn made_of(number: u64, event: Event, told: ReceiptEvent, happened: Happened) ->
 // Enters an entry: where there is a new base, it takes the place of the old one and all entries.
 fn enter(
     entries: &mut Vec<Entry>,
-    base: &mut FlatWorld,
+    base: &mut Box<FlatWorld>,
     base_number: &mut u64,
-    new: Option<FlatWorld>,
+    new: Option<Box<FlatWorld>>,
     number: u64,
     entry: Entry,
 )
-    requires room { new ≡ None → length entries.old.items < MAX_ENTRIES }
+    requires room { world_in new ≡ None → length entries.old.items < MAX_ENTRIES }
     requires reserved { MAX_ENTRIES ≤ vec_capacity entries.old }
-    ensures entered { Enters new number entries.old.items base.old base_number.old entry
-        entries.new.items base.new base_number.new }
+    ensures entered { Enters (world_in new) number entries.old.items base.old.value base_number.old
+        entry entries.new.items base.new.value base_number.new }
     ensures capacity { vec_capacity entries.new ≡ vec_capacity entries.old }
 {
     if let Some(new) = new {

@@ -11,7 +11,7 @@ use Rattle.history_core.proofs.kept.Kept.apply.Goals as goal
 pub invariant_of-self-2 : goal.invariant_of-self-2
 invariant_of-self-2 g c =
     let k = c.self.inside in
-    let h : History = record { first = k.first; base_number = k.base_number; base = k.base; entries = k.entries.items; world = k.world; objects = k.registry } in
+    let h : History = record { first = k.first; base_number = k.base_number; base = k.base.value; entries = k.entries.items; world = k.world; objects = k.registry } in
     let number = c.next_number-number.ensures ∙ ap next_of (sym c.self.view_is) in
     let other : next_of h ≢ last_number = (λ e. c.if-number.false (number ∙ e)) in
     let below : next_of h < 2 ^ 64 = c.self.invariant.0.fits in
@@ -22,8 +22,8 @@ invariant_of-self-2 g c =
 pub returns : goal.returns
 returns g c =
     let k = c.self.inside in
-    let h : History = record { first = k.first; base_number = k.base_number; base = k.base; entries = k.entries.items; world = k.world; objects = k.registry } in
-    let later : History = record { first = k.first; base_number = c.enter.new.base_number; base = c.enter.new.base; entries = c.enter.new.entries.items; world = c.happen.new.world; objects = c.happen.new.registry } in
+    let h : History = record { first = k.first; base_number = k.base_number; base = k.base.value; entries = k.entries.items; world = k.world; objects = k.registry } in
+    let later : History = record { first = k.first; base_number = c.enter.new.base_number; base = c.enter.new.base.value; entries = c.enter.new.entries.items; world = c.happen.new.world; objects = c.happen.new.registry } in
     let number = c.next_number-number.ensures ∙ ap next_of (sym c.self.view_is) in
     let other : next_of h ≢ last_number = (λ e. c.if-number.false (number ∙ e)) in
     let most : next_of h < 2 ^ 64 = c.self.invariant.0.fits in
