@@ -2,7 +2,7 @@
 use Rattle.std.proofs.Common.{◌≡◌, ℕ, zero, suc, ◌+◌, ◌<◌, ◌≤◌, ◌==◌, Bool, true, false, not, ◌&&◌, ◌||◌, List, [], ◌∷◌, ◌++◌, map, length, get_or, take, refl, sym, ap, subst, ◌∙◌, arith, inl, inr, add-zero, zero-add, append_assoc, Result, Ok, Err}
 use Rattle.std.specs.Result.{OnOk}
 use Rattle.std.proofs.lemmas.List.{get_or_default}
-use Rattle.std.proofs.lemmas.Bool.{cases_Bool, cases_lt, cases_eq, both_ways, eqb-true, and_from}
+use Rattle.std.proofs.lemmas.Bool.{cases_Bool, cases_lt, cases_eq, both_ways, eqb-true, eq-eqb, and_from}
 use Rattle.vacm_core.specs.declared.tree.Step.{Step}
 use Rattle.vacm_core.specs.declared.tree.Tree.{Tree}
 use Rattle.vacm_core.specs.declared.tables.FamilyRow.{FamilyRow}
@@ -44,6 +44,16 @@ pub fits_agrees : (k : ℕ) (mask subtree name : List ℕ) → fits (subtree_way
 fits_agrees k mask [] name = refl
 fits_agrees k mask (s ∷ subtree) [] = refl
 fits_agrees k mask (s ∷ subtree) (n ∷ name) = ap (λ (b : Bool). (not (mask_bit mask k) || s == n) && b) (fits_agrees (k + 1) mask subtree name)
+
+fits_view : (view : List ℕ) (way : List Step) (name : List ℕ) → fits (map fixed view ++ way) (view ++ name) ≡ fits way name
+fits_view [] way name = refl
+fits_view (v ∷ view) way name = (λ i. eq-eqb v v refl i && fits_view view way name i)
+
+-- a name, behind the numbers of a view, fits the way of a row of the view whose family has it
+pub fits_way : (view mask subtree name : List ℕ) → agrees_from 0 mask subtree name ≡ true
+    → fits (view_way view ++ subtree_way 0 mask subtree) (length view ∷ (view ++ name)) ≡ true
+fits_way view mask subtree name e =
+    (λ i. eq-eqb (length view) (length view) refl i && fits_view view (subtree_way 0 mask subtree) name i) ∙ fits_agrees 0 mask subtree name ∙ e
 
 -- ---- ways of different rows have different numbers
 
@@ -136,15 +146,6 @@ placed_or_kept old new rows differ n there placed kept m d here h =
       | inl e ↦ subst (λ (k : ℕ). IsPlaced (leads new) (get_or rows k d) k) (sym e) (placed d)
       | inr ne ↦ placed_still old new (way_of (get_or rows n d)) (kept d) (get_or rows m d) m (others_differ rows differ m n d here there ne) h
     ]
-
--- ---- the rows of a view that a name may fit
-
--- the way to a row leads on from the rows of its view
-pub below_view : (here there : List Step → ℕ → Bool) (view : List ℕ)
-    → ((next : Step) (rest : List Step) (n : ℕ) → here (view_way view ++ next ∷ rest) n ≡ true → there (next ∷ rest) n ≡ true)
-    → (k : ℕ) (mask subtree : List ℕ) (n : ℕ) → 1 ≤ length subtree → here (view_way view ++ subtree_way k mask subtree) n ≡ true → there (subtree_way k mask subtree) n ≡ true
-below_view here there view on k mask [] n some e = absurd (omega arith)
-below_view here there view on k mask (s ∷ subtree) n some e = on (record { part = s; counts = mask_bit mask k }) (subtree_way (k + 1) mask subtree) n e
 
 -- a row that is placed, by its own way
 row_placed : (new : Tree) (rows : List FamilyRow) (n : ℕ) (row : FamilyRow) (way : List Step) → n < length rows → row ≡ get_or rows n row → way ≡ way_of row → 1 ≤ length row.subtree

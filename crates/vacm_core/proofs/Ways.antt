@@ -1,5 +1,5 @@
 -- Where a way leads at a fork of the tree.
-use Rattle.std.proofs.Common.{◌≡◌, ℕ, ◌≤◌, ◌-◌, ◌==◌, Bool, true, false, not, ◌&&◌, ◌||◌, cond, List, [], ◌∷◌, ◌++◌, map, length, get_or, take, drop, Option, Some, None, Box, refl, sym, ap, subst, ◌∙◌, arith, ◌⊎◌, inl, inr, ltb}
+use Rattle.std.proofs.Common.{◌≡◌, ℕ, ◌≤◌, ◌-◌, ◌==◌, Bool, true, false, not, ◌&&◌, ◌||◌, cond, List, [], ◌∷◌, ◌++◌, length, get_or, take, drop, Option, Some, None, Box, refl, sym, ap, subst, ◌∙◌, arith, ◌⊎◌, inl, inr, ltb}
 use Rattle.std.specs.declared.alloc.Global.{Global}
 use Rattle.std.proofs.lemmas.List.{append_cancel_left}
 use Rattle.std.proofs.lemmas.Bool.{cases_Bool, both_ways, eqb-true, le-ltb}
@@ -9,7 +9,7 @@ use Rattle.vacm_core.specs.declared.radix.Radix.{Radix}
 use Rattle.vacm_core.specs.declared.radix.Radix.TheVariants.{Fork, Run as RunOf}
 use Rattle.vacm_core.specs.declared.radix.Branch.{Branch}
 use Rattle.vacm_core.specs.declared.radix.Run.{Run}
-use Rattle.vacm_core.specs.Trees.{is_row, ends_or, runs, reaches, fits, fixed}
+use Rattle.vacm_core.specs.Trees.{is_row, ends_or, runs, reaches, fits}
 use Rattle.vacm_core.proofs.Agrees.{and_true, part_found}
 
 -- a way that leads on to a row, and that the rest of a name fits
@@ -126,53 +126,3 @@ leads_nowhere parts below way name n e f never =
 -- what reaches a run goes along it
 pub along_run : (t : Radix) (b : Box Run Global) → t ≡ RunOf b → (parts : List ℕ) → parts ≡ b.value.parts.items → (way : List Step) (n : ℕ) → reaches t way n ≡ true → runs parts (λ rest. reaches b.value.below rest n) way ≡ true
 along_run t b is parts same way n e = subst (λ (l : List ℕ). runs l (λ rest. reaches b.value.below rest n) way ≡ true) (sym same) (rw is at e)
-
--- ---- numbers that a way has first
-
-run_through : (parts rest : List ℕ) (deeper : List Step → Bool) (next : Step) (way : List Step) → runs parts deeper (map fixed (parts ++ rest) ++ next ∷ way) ≡ true → deeper (map fixed rest ++ next ∷ way) ≡ true
-run_through [] rest deeper next way e = e
-run_through (p ∷ parts) rest deeper next way e = run_through parts rest deeper next way (and_true _ _ e).1
-
-run_left : (numbers left : List ℕ) (deeper : List Step → Bool) (next : Step) (way : List Step) → runs (numbers ++ left) deeper (map fixed numbers ++ next ∷ way) ≡ true → runs left deeper (next ∷ way) ≡ true
-run_left [] left deeper next way e = e
-run_left (x ∷ numbers) left deeper next way e = run_left numbers left deeper next way (and_true _ _ e).1
-
--- a run and the numbers of a way that goes along it: one begins with the other
-run_meets : (parts numbers : List ℕ) (deeper : List Step → Bool) (next : Step) (way : List Step) → runs parts deeper (map fixed numbers ++ next ∷ way) ≡ true
-    → ((rest : List ℕ) → numbers ≡ parts ++ rest → ⊥) → ((left : List ℕ) → parts ≡ numbers ++ left → ⊥) → ⊥
-run_meets [] numbers deeper next way e longer shorter = longer numbers refl
-run_meets (p ∷ parts) [] deeper next way e longer shorter = shorter (p ∷ parts) refl
-run_meets (p ∷ parts) (x ∷ numbers) deeper next way e longer shorter =
-    let on = and_true (x == p) _ e in
-    let same : x ≡ p = eqb-true x p on.0 in
-    run_meets parts numbers deeper next way on.1
-    (λ rest is. longer rest (λ i. same i ∷ is i))
-    (λ left is. shorter left (λ i. sym same i ∷ is i))
-
--- ---- the same of what reaches a run
-
-abbrev pub below_run : Run → ℕ → List Step → Bool
-below_run run n way = reaches run.below way n
-
-pub reach_through : (t : Radix) (b : Box Run Global) → t ≡ RunOf b → (own : Run) → own ≡ b.value → (parts : List ℕ) → parts ≡ own.parts.items → (numbers rest : List ℕ) → numbers ≡ parts ++ rest
-    → (below : Run) → below ≡ b.value → (next : Step) (way : List Step) (n : ℕ) → reaches t (map fixed numbers ++ next ∷ way) n ≡ true → reaches below.below (map fixed rest ++ next ∷ way) n ≡ true
-reach_through t b is own owned parts same numbers rest longer below so next way n e =
-    let on = along_run t b is parts (same ∙ ap (λ (r : Run). r.parts.items) owned) (map fixed numbers ++ next ∷ way) n e in
-    let through = run_through parts rest (below_run b.value n) next way
-    (subst (λ (l : List ℕ). runs parts (below_run b.value n) (map fixed l ++ next ∷ way) ≡ true) longer on) in
-    subst (λ (r : Run). reaches r.below (map fixed rest ++ next ∷ way) n ≡ true) (sym so) through
-
-pub reach_left : (t : Radix) (b : Box Run Global) → t ≡ RunOf b → (own : Run) → own ≡ b.value → (parts : List ℕ) → parts ≡ own.parts.items → (numbers left : List ℕ) → parts ≡ numbers ++ left
-    → (below : Run) → below ≡ b.value → (next : Step) (way : List Step) (n : ℕ) → reaches t (map fixed numbers ++ next ∷ way) n ≡ true → runs left (below_run below n) (next ∷ way) ≡ true
-reach_left t b is own owned parts same numbers left shorter below so next way n e =
-    let on = along_run t b is parts (same ∙ ap (λ (r : Run). r.parts.items) owned) (map fixed numbers ++ next ∷ way) n e in
-    let there = run_left numbers left (below_run b.value n) next way
-    (subst (λ (l : List ℕ). runs l (below_run b.value n) (map fixed numbers ++ next ∷ way) ≡ true) shorter on) in
-    subst (λ (r : Run). runs left (below_run r n) (next ∷ way) ≡ true) (sym so) there
-
-pub reach_nowhere : (t : Radix) (b : Box Run Global) → t ≡ RunOf b → (own : Run) → own ≡ b.value → (parts : List ℕ) → parts ≡ own.parts.items → (numbers : List ℕ)
-    → ((rest : List ℕ) → numbers ≡ parts ++ rest → ⊥) → ((left : List ℕ) → parts ≡ numbers ++ left → ⊥) → (next : Step) (way : List Step) (n : ℕ) → reaches t (map fixed numbers ++ next ∷ way) n ≡ true
-    → {A : Type 0} → A
-reach_nowhere t b is own owned parts same numbers longer shorter next way n e =
-    absurd (run_meets parts numbers (below_run b.value n) next way
-    (along_run t b is parts (same ∙ ap (λ (r : Run). r.parts.items) owned) (map fixed numbers ++ next ∷ way) n e) longer shorter)

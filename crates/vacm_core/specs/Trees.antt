@@ -5,7 +5,6 @@ use Rattle.vacm_core.specs.declared.tree.Tree.{Tree, Empty, Fork'}
 use Rattle.vacm_core.specs.declared.tree.Node.{Node}
 use Rattle.vacm_core.specs.declared.radix.Radix as Radixes
 use Rattle.vacm_core.specs.declared.radix.Radix.{Radix}
-use Rattle.vacm_core.specs.declared.radix.Place.{Place}
 use Rattle.vacm_core.specs.declared.tables.FamilyRow.{FamilyRow}
 use Rattle.vacm_core.specs.Rows.{same_family}
 use Rattle.vacm_core.specs.Tables.{KeysDiffer}
@@ -57,10 +56,6 @@ reaches (Radixes.Fork' p part here loose less equal greater) (s ∷ rest) row =
     else ends_or here (reaches equal rest row) rest row))
 reaches (Radixes.Run' p parts below) way row =
     runs parts.items (λ rest. reaches below rest row) way
-
--- the same from a place on
-abbrev pub reaches_from : Place → List Step → ℕ → Bool
-reaches_from place way row = runs place.parts.now (λ rest. reaches place.below.now rest row) way
 
 -- ---- names
 

@@ -1,30 +1,31 @@
 //! The family rows with their tree, and the row of a view that decides on a name.
-ghost use Rattle.std.specs.Prelude.{◌≡◌, ◌≤◌, ◌<◌, ◌+◌, ℕ, true, List, [], ◌∷◌, ◌++◌, length, IfOk, OnOk, OnErr, bytes_eq, slice_index_or};
+ghost use Rattle.std.specs.Prelude.{◌≡◌, ◌≤◌, ◌<◌, ℕ, true, [], ◌∷◌, ◌++◌, length, IfOk, OnOk, OnErr, bytes_eq, slice_index_or};
 ghost use Rattle.std.specs.List.{list_any};
 ghost use Rattle.std.specs.Option.{ForSome};
 ghost use Rattle.vacm_core.specs.Rows.{same_family};
 ghost use Rattle.vacm_core.specs.Tables.{KeysDiffer};
 ghost use Rattle.vacm_core.specs.Access.{has_view};
 ghost use Rattle.vacm_core.specs.Families.{deciding_family};
-ghost use Rattle.vacm_core.specs.Trees.{leads, reaches, reaches_from, fixed, view_way, way_of, IsPlaced, IsTreeOf};
-ghost use Rattle.vacm_core.specs.declared.tree.Step.{Step};
+ghost use Rattle.vacm_core.specs.Trees.{leads, reaches, fixed, way_of, IsPlaced, IsTreeOf};
 ghost use Rattle.vacm_core.specs.declared.tables.FamilyRow.{FamilyRow};
 
 use crate::copying::copied_rows;
 use crate::deciding::{FamilyContest, mask_bit};
 use crate::limits::MAX_NAME;
 use crate::name::Name;
-use crate::radix::{Place, Radix, packed};
+use crate::radix::{Radix, packed};
 use crate::rows::Rows;
 use crate::tables::FamilyRow;
 use crate::tree::{Step, Tree};
-use crate::walk::best_from;
+use crate::walk::best_below;
 use arrayvec::ArrayVec;
+use oid_core::{MAX_NUMBERS, Oid};
 use std::alloc::{AllocError, Global};
 use std::marker::Model;
 
-// How many numbers stand for a view at most: how many octets its name has, and those.
-const VIEW_NUMBERS: usize = MAX_NAME + 1;
+// How many numbers there are at most by which rows are found: how many octets a view's name has,
+// those, and the numbers of a name.
+const MOST_NUMBERS: usize = 1 + MAX_NAME + MAX_NUMBERS;
 
 /// The family rows, seen as their list, and the tree of them. No two rows have one key.
 pub struct Families {
@@ -89,7 +90,7 @@ impl Families {
     }
 
     /// The number of the row of a view that decides on a name. It takes no memory.
-    pub fn deciding(&self, view: &Name, name: &[u32]) -> Option<usize>
+    pub fn deciding(&self, view: &Name, name: &Oid) -> Option<usize>
         ensures place { result ≡ deciding_family self.now view.now name.now }
         ensures within { ForSome result (λ n. n < length self.now) }
     {
@@ -107,7 +108,9 @@ impl Families {
 
     // The number of a row that the tree has for a view.
     fn first_of(&self, view: &Name) -> Option<usize> {
-        rows_of_view(&self.tree, view).below.first()
+        let mut numbers = ArrayVec::new();
+        put_numbers(&mut numbers, view, &[]);
+        self.tree.row_behind(numbers.as_slice())
     }
 }
 
@@ -212,36 +215,39 @@ fn tree_of(alloc: Global, rows: &[FamilyRow]) -> Result<Radix, AllocError>
     packed(alloc, &tree)
 }
 
-// Puts in the numbers by which the rows of a view begin: how many octets its name has, and those.
-fn put_numbers(numbers: &mut ArrayVec<u32, VIEW_NUMBERS>, view: &Name)
-    requires { numbers.old.items ≡ [] }
-    ensures { numbers.new.items ≡ length view.now ∷ view.now }
+// Puts in the numbers by which the rows of a view that have a name are found: how many octets the
+// view's name has, those, and the numbers of the name.
+fn put_numbers(numbers: &mut ArrayVec<u32, MOST_NUMBERS>, view: &Name, name: &[u32])
+    requires empty { numbers.old.items ≡ [] }
+    requires short { length name.now ≤ MAX_NUMBERS }
+    ensures { numbers.new.items ≡ length view.now ∷ (view.now ++ name.now) }
 {
     let octets = view.as_bytes();
     numbers.push(octets.len() as u32);
     for octet in octets {
         numbers.push(u32::from(*octet));
     }
-}
-
-// The place where the rows of a view begin.
-fn rows_of_view<'a>(tree: &'a Radix, view: &Name) -> Place<'a>
-    ensures { (next : Step) (rest : List Step) (n : ℕ) →
-        reaches tree.now (view_way view.now ++ next ∷ rest) n ≡ true
-        → reaches_from result (next ∷ rest) n ≡ true }
-{
-    let mut numbers = ArrayVec::new();
-    put_numbers(&mut numbers, view);
-    tree.descend(numbers.as_slice())
+    match numbers.try_extend_from_slice(name) {
+        Ok(()) => {}
+        Err(_) => unreachable!(),
+    }
 }
 
 // The number of the family row of a view that decides on a name, of those in their tree.
-fn deciding_family(tree: &Radix, rows: &[FamilyRow], view: &Name, name: &[u32]) -> Option<usize>
+fn deciding_family(tree: &Radix, rows: &[FamilyRow], view: &Name, name: &Oid) -> Option<usize>
     requires tree { IsTreeOf (reaches tree.now) rows.now }
     requires differ { KeysDiffer same_family rows.now }
     ensures place { result ≡ deciding_family rows.now view.now name.now }
     ensures within { ForSome result (λ n. n < length rows.now) }
 {
-    let place = rows_of_view(tree, view);
-    best_from(place, &FamilyContest { view, name }, rows, name)
+    let name = name.as_slice();
+    let mut numbers = ArrayVec::new();
+    put_numbers(&mut numbers, view, name);
+    best_below(
+        tree,
+        &FamilyContest { view, name },
+        rows,
+        numbers.as_slice(),
+        None,
+    )
 }

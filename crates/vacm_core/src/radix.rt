@@ -1,6 +1,6 @@
 //! The family rows as a radix tree, so that a name is compared with few of them.
-ghost use Rattle.std.specs.Prelude.{◌≡◌, ◌≢◌, ℕ, true, IsTrue, List, [], ◌∷◌, ◌++◌, map, MatchOption, IfOk};
-ghost use Rattle.vacm_core.specs.Trees.{leads, reaches, runs, reaches_from, fixed, IsAlone};
+ghost use Rattle.std.specs.Prelude.{◌≡◌, ◌≢◌, ℕ, true, IsTrue, List, [], ◌∷◌, ◌++◌, MatchOption, IfOk};
+ghost use Rattle.vacm_core.specs.Trees.{leads, reaches, runs, IsAlone};
 ghost use Rattle.vacm_core.specs.declared.tree.Step.{Step};
 
 use crate::tree::{Node, Tree};
@@ -47,73 +47,24 @@ pub struct Run {
     pub below: Radix,
 }
 
-/// A place in the tree, which may lie within a run.
-#[derive(Clone, Copy)]
-pub struct Place<'a> {
-    /// The numbers of the run that are still to come.
-    pub parts: &'a [u32],
-    /// Where the last of them leads.
-    pub below: &'a Radix,
-}
-
-impl<'a> Place<'a> {
-    /// The place where a tree begins.
-    pub fn of(tree: &'a Radix) -> Place<'a>
-        ensures parts { result.parts.now ≡ [] }
-        ensures below { result.below.now ≡ tree.now }
-    {
-        Place {
-            parts: &[],
-            below: tree,
-        }
-    }
-}
-
 impl Radix {
-    /// The place behind steps of these numbers; any place, where no way has them all.
-    pub fn descend(&self, numbers: &[u32]) -> Place<'_>
-        ensures { (next : Step) (rest : List Step) (row : ℕ) →
-            reaches self.now (map fixed numbers.now ++ next ∷ rest) row ≡ true
-            → reaches_from result (next ∷ rest) row ≡ true }
-    {
-        match self {
-            Radix::Empty => Place::of(self),
+    /// The number of a row, if there is one, that is found by going on by these numbers as far as
+    /// they lead, and then after the first step, and after the next.
+    pub fn row_behind(&self, numbers: &[u32]) -> Option<usize> {
+        let node = match self {
+            Radix::Empty => return None,
             Radix::Run(run) => {
-                let parts = run.parts.as_slice();
-                if let Some(rest) = behind(numbers, parts) {
-                    run.below.descend(rest)
-                } else if let Some(parts) = behind(parts, numbers) {
-                    let below = &run.below;
-                    Place { parts, below }
-                } else {
-                    Place::of(self)
-                }
+                let rest = behind(numbers, run.parts.as_slice());
+                return run.below.row_behind(rest.unwrap_or(&[]));
             }
-            Radix::Fork(node) => match numbers {
-                [] => Place::of(self),
-                [first, rest @ ..] => {
-                    if *first < node.part {
-                        node.less.descend(numbers)
-                    } else if node.part < *first {
-                        node.greater.descend(numbers)
-                    } else {
-                        node.equal.descend(rest)
-                    }
-                }
-            },
-        }
-    }
-
-    /// The number of a row that is found by going on after the first step, and after the next, as
-    /// far as there is one.
-    pub fn first(&self) -> Option<usize> {
-        match self {
-            Radix::Empty => None,
-            Radix::Run(run) => run.below.first(),
-            Radix::Fork(node) => match node.row {
-                Some(row) => Some(row),
-                None => node.equal.first(),
-            },
+            Radix::Fork(node) => node,
+        };
+        match numbers {
+            [] if node.row.is_some() => node.row,
+            [] => node.equal.row_behind(numbers),
+            [first, ..] if *first < node.part => node.less.row_behind(numbers),
+            [first, ..] if node.part < *first => node.greater.row_behind(numbers),
+            [_, rest @ ..] => node.equal.row_behind(rest),
         }
     }
 }

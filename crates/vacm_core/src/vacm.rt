@@ -209,7 +209,7 @@ impl Vacm {
         ensures answer { result ≡ family_answer self.now.families view.now name.now }
         ensures row { NamesFamilyOf self.now.families result }
     {
-        match self.families.deciding(view, name.as_slice()) {
+        match self.families.deciding(view, name) {
             Some(n) => self.answer_of(n),
             None => FamilyAnswer::NoRow,
         }

@@ -2,11 +2,11 @@
 ghost use Rattle.std.specs.Prelude.{◌≡◌, ◌<◌, ◌&&◌, ℕ, List, Contains, true, Some, length};
 ghost use Rattle.std.specs.Option.{ForSome};
 ghost use Rattle.vacm_core.specs.Best.{takes_over};
-ghost use Rattle.vacm_core.specs.Trees.{reaches, reaches_from, fits, IsFit, Covers, IsLater};
+ghost use Rattle.vacm_core.specs.Trees.{reaches, fits, IsFit, Covers, IsLater};
 ghost use Rattle.vacm_core.specs.declared.tree.Step.{Step};
 
 use crate::contest::{Contest, takes_over};
-use crate::radix::{Place, Radix, behind};
+use crate::radix::{Radix, behind};
 
 // Whether a row is better than the best so far, and passes.
 fn is_better<C: Contest>(contest: &C, rows: &[C::Row], best: Option<usize>, row: &C::Row) -> bool
@@ -46,22 +46,6 @@ pub fn best_among<C: Contest>(contest: &C, rows: &[C::Row], numbers: &[usize]) -
         best = better(contest, rows, best, Some(*n));
     }
     best
-}
-
-/// The best of the rows of a tree, from a place on, whose way a name fits. It takes no memory.
-pub fn best_from<C: Contest>(
-    place: Place<'_>,
-    contest: &C,
-    rows: &[C::Row],
-    name: &[u32],
-) -> Option<usize>
-    ensures fit { IsFit (C.passes contest.now) rows.now result }
-    ensures found { (way : List Step) (n : ℕ) → reaches_from place.entry way n ≡ true
-        → fits way name.now ≡ true
-        → Covers (C.passes contest.now) (C.beats contest.now) rows.now result n }
-{
-    let after = behind(name, place.parts)?;
-    best_below(place.below, contest, rows, after, None)
 }
 
 /// The best of the rows so far and those of a tree whose way a name fits, in which the deepest are
