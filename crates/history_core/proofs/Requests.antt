@@ -1,6 +1,7 @@
 -- What an answered request came to is its step.
-use Rattle.std.proofs.Common.{◌≡◌, ◌≢◌, ◌∙◌, ◌<◌, arith, length, ℕ, Bool, true, false, List, [], ◌∷◌, map, Option, Some, None, Result, Ok, Err, IfOk, OnErr, ap, refl, sym, subst}
+use Rattle.std.proofs.Common.{◌≡◌, ◌≢◌, ◌∙◌, ◌<◌, arith, length, ℕ, Bool, true, false, List, [], ◌∷◌, map, Option, Some, None, Result, Ok, Err, OnErr, ap, refl, sym, subst}
 use Rattle.std.specs.Prelude.{unwrap_or}
+use Rattle.std.specs.Result.{OnOk}
 use Rattle.std.specs.declared.alloc.AllocError.{AllocError}
 use Rattle.message_core.specs.declared.request.Kind.{Kind}
 use Rattle.message_core.specs.declared.request.Kind.TheVariants.{Get, GetNext, GetBulk, Set}
@@ -168,16 +169,16 @@ short_stays os w r b later os_later rest h = (h.unchanged, h.kept ∙ without_an
 
 -- ---- the same of what may have found no memory
 
-pub came_happens : (os : List ObjectState) (w : World) (r : Request) (told : Answered) (reply : List ℕ) (b : Buffered) (later : World) (os_later : List ObjectState) (result : Result Happened AllocError)
-    → IsTold os w r told b later os_later → reply ≡ b.reply → IfOk result (λ h. h ≡ happened_by told reply)
-    → IfOk result (λ h. Happens os w (event.Request r) h os_later later b)
-came_happens os w r told reply b later os_later (Ok h) is same came =
+pub came_happens : (os : List ObjectState) (w : World) (r : Request) (told : Answered) (reply : List ℕ) (b : Buffered) (later : World) (os_later : List ObjectState) (h : Happened) (result : Result (Unit {0}) AllocError)
+    → IsTold os w r told b later os_later → reply ≡ b.reply → OnOk result (h ≡ happened_by told reply)
+    → OnOk result (Happens os w (event.Request r) h os_later later b)
+came_happens os w r told reply b later os_later h (Ok u) is same came =
     subst (λ (x : Happened). Happens os w (event.Request r) x os_later later b)
     (sym (came ∙ ap (λ (octets : List ℕ). happened_by told octets) same)) (told_happens os w r told b later os_later is)
-came_happens os w r told reply b later os_later (Err e) is same came = tt
+came_happens os w r told reply b later os_later h (Err e) is same came = tt
 
-pub came_stays : (os : List ObjectState) (w : World) (r : Request) (told : Answered) (b : Buffered) (later : World) (os_later : List ObjectState) (result : Result Happened AllocError)
+pub came_stays : (os : List ObjectState) (w : World) (r : Request) (told : Answered) (b : Buffered) (later : World) (os_later : List ObjectState) (result : Result (Unit {0}) AllocError)
     → AreAtRest os → IsTold os w r told b later os_later → OnErr result ((audit_told told).denied ≢ [])
     → OnErr result (later ≡ w) × OnErr result (os_later ≡ os)
-came_stays os w r told b later os_later (Ok h) rest is came = (tt, tt)
+came_stays os w r told b later os_later (Ok u) rest is came = (tt, tt)
 came_stays os w r told b later os_later (Err e) rest is came = told_stays os w r told b later os_later rest is came

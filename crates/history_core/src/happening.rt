@@ -1,10 +1,11 @@
 //! What an event does to a world and the objects that show it.
-ghost use Rattle.std.specs.Prelude.{◌≡◌, ◌≢◌, ◌<◌, ◌≤◌, false, None, [], List, length, IfOk, OnErr};
+ghost use Rattle.std.specs.Prelude.{◌≡◌, ◌≢◌, ◌<◌, ◌≤◌, None, [], List, length, IfOk, OnOk, OnErr};
+ghost use Rattle.std.specs.Option.{ForSome};
 ghost use Rattle.message_core.specs.Encodable.{AreEncodable};
 ghost use Rattle.message_core.specs.declared.limits.TheConstants.{INLINE_OCTETS};
 ghost use Rattle.setphase_core.specs.Objects.{ObjectState};
 ghost use Rattle.history_core.specs.Steps.{has_port, cause_in, IsEncodable, AreAtRest, MayTakeMemory, failure_octets};
-ghost use Rattle.history_core.specs.Happening.{audit_told, happened_by, Happens};
+ghost use Rattle.history_core.specs.Happening.{quiet, audit_told, happened_by, Happens};
 
 use crate::egress::Egress;
 use crate::event::Event;
@@ -32,15 +33,9 @@ pub struct Happened {
     pub audits: Option<(Audit, Audit)>,
 }
 
-// What an event came to that is no frame and no request.
-fn quiet() -> Happened
-    ensures { result ≡ record {
-      no_room = false;
-      failed = None;
-      egress = [];
-      replies = None;
-      audits = None;
-    } }
+/// What an event came to that is no frame and no request.
+pub fn quiet() -> Happened
+    ensures { result ≡ quiet }
 {
     Happened {
         no_room: false,
@@ -130,21 +125,48 @@ impl Rooms {
         Ok(Rooms { entered, told })
     }
 
-    // A reply and its copy: of their own size where there is memory for that, and else in the room
-    // that is there.
-    fn filled(self, alloc: Global, reply: &[u8]) -> (Octets, Octets)
+    // A reply and its copy.
+    fn filled(self, reply: &[u8]) -> (Octets, Octets)
         requires entered { length reply.now ≤ self.entered }
         requires told { length reply.now ≤ self.told }
         ensures entered { result.0 ≡ reply.now }
         ensures told { result.1 ≡ reply.now }
     {
-        match copies(alloc, reply) {
-            Ok(replies) => replies,
-            Err(_) => {
-                let Rooms { entered, told } = self;
-                (entered.filled(reply), told.filled(reply))
-            }
-        }
+        let Rooms { entered, told } = self;
+        (entered.filled(reply), told.filled(reply))
+    }
+}
+
+// What is reserved for the reply to a request of this kind: rooms for any reply to a Set, since what
+// that writes cannot be taken back where there is then no memory.
+fn rooms_for(alloc: Global, kind: Kind) -> Result<Option<Rooms>, AllocError>
+    ensures set { IfOk result (λ rooms. rooms ≡ None → kind ≢ Kind.Set) }
+    ensures entered { IfOk result (λ rooms. ForSome rooms (λ r. MAX_REPLY ≤ r.entered)) }
+    ensures told { IfOk result (λ rooms. ForSome rooms (λ r. MAX_REPLY ≤ r.told)) }
+{
+    match kind {
+        Kind::Set => Ok(Some(Rooms::reserved(alloc)?)),
+        Kind::Get | Kind::GetNext | Kind::GetBulk => Ok(None),
+    }
+}
+
+// A reply and its copy: of their own size where there is memory for that, and else in the rooms, if
+// there are some.
+fn replies_in(
+    alloc: Global,
+    rooms: Option<Rooms>,
+    reply: &[u8],
+) -> Result<(Octets, Octets), AllocError>
+    requires entered { ForSome rooms (λ r. length reply.now ≤ r.entered) }
+    requires told { ForSome rooms (λ r. length reply.now ≤ r.told) }
+    ensures entered { IfOk result (λ replies. replies.0 ≡ reply.now) }
+    ensures told { IfOk result (λ replies. replies.1 ≡ reply.now) }
+    ensures none { OnErr result (rooms ≡ None) }
+    ensures inline { OnErr result (INLINE_OCTETS < length reply.now) }
+{
+    match (copies(alloc, reply), rooms) {
+        (Err(_), Some(rooms)) => Ok(rooms.filled(reply)),
+        (own, _) => own,
     }
 }
 
@@ -153,123 +175,93 @@ fn come_to(
     alloc: Global,
     answered: Answered,
     replies: (Octets, Octets),
-) -> Result<Happened, AllocError>
-    requires { replies.0 ≡ replies.1 }
-    ensures happened { IfOk result (λ happened. happened ≡ happened_by answered replies.0) }
+    happened: &mut Happened,
+) -> Result<(), AllocError>
+    requires replies { replies.0 ≡ replies.1 }
+    requires quiet { happened.old ≡ quiet }
+    ensures happened { OnOk result (happened.new ≡ happened_by answered replies.0) }
     ensures denied { OnErr result ((audit_told answered).denied ≢ []) }
 {
     match answered {
         Answered::Reply(_, audit, failed) => {
             let copy = audit.try_copy(alloc)?;
-            Ok(Happened {
-                failed,
-                replies: Some(replies),
-                audits: Some((audit, copy)),
-                ..quiet()
-            })
+            happened.failed = failed;
+            happened.replies = Some(replies);
+            happened.audits = Some((audit, copy));
         }
         Answered::NoReply(audit) => {
             let copy = audit.try_copy(alloc)?;
-            Ok(Happened {
-                audits: Some((audit, copy)),
-                ..quiet()
-            })
+            happened.audits = Some((audit, copy));
         }
     }
+    Ok(())
 }
 
-// A Set comes. What it writes cannot be taken back, so room for its reply is there first.
-fn answer_set<O: MibObject>(
-    alloc: Global,
-    registry: &mut Registry<O>,
-    world: &mut World,
-    request: &Request,
-    buffer: &mut Buffer,
-) -> Result<Happened, AllocError>
-    requires encodable { AreEncodable request.now.bindings }
-    requires at_rest { AreAtRest registry.old }
-    ensures happens { IfOk result (λ happened. Happens registry.old world.old
-        (Event.Request request.now) happened registry.new world.new buffer.new) }
-    ensures world { OnErr result (world.new ≡ world.old) }
-    ensures objects { OnErr result (registry.new ≡ registry.old) }
-{
-    let rooms = Rooms::reserved(alloc)?;
-    let answered = answer(alloc, registry, world, request, buffer)?;
-    let replies = rooms.filled(alloc, buffer.reply());
-    come_to(alloc, answered, replies)
-}
-
-// A request comes that reads. One that is dropped is counted, and has no reply that takes memory.
-fn answer_read<O: MibObject>(
-    alloc: Global,
-    registry: &mut Registry<O>,
-    world: &mut World,
-    request: &Request,
-    buffer: &mut Buffer,
-) -> Result<Happened, AllocError>
-    requires reads { request.now.kind ≢ Kind.Set }
-    requires encodable { AreEncodable request.now.bindings }
-    requires at_rest { AreAtRest registry.old }
-    ensures happens { IfOk result (λ happened. Happens registry.old world.old
-        (Event.Request request.now) happened registry.new world.new buffer.new) }
-    ensures world { OnErr result (world.new ≡ world.old) }
-    ensures objects { OnErr result (registry.new ≡ registry.old) }
-{
-    let answered = answer(alloc, registry, world, request, buffer)?;
-    let replies = copies(alloc, buffer.reply())?;
-    come_to(alloc, answered, replies)
-}
-
-// A request comes. Want of memory for its reply or its audit changes nothing.
+// A request comes. Want of memory for its reply or its audit changes nothing: of a Set the room for
+// its reply is there first, and one that is dropped is counted, and has no reply that takes memory.
 fn answer_request<O: MibObject>(
     alloc: Global,
     registry: &mut Registry<O>,
     world: &mut World,
     request: &Request,
     buffer: &mut Buffer,
-) -> Result<Happened, AllocError>
+    happened: &mut Happened,
+) -> Result<(), AllocError>
     requires encodable { AreEncodable request.now.bindings }
     requires at_rest { AreAtRest registry.old }
-    ensures happens { IfOk result (λ happened. Happens registry.old world.old
-        (Event.Request request.now) happened registry.new world.new buffer.new) }
+    requires quiet { happened.old ≡ quiet }
+    ensures happens { OnOk result (Happens registry.old world.old
+        (Event.Request request.now) happened.new registry.new world.new buffer.new) }
     ensures world { OnErr result (world.new ≡ world.old) }
     ensures objects { OnErr result (registry.new ≡ registry.old) }
 {
-    match request.kind {
-        Kind::Set => answer_set(alloc, registry, world, request, buffer),
-        Kind::Get | Kind::GetNext | Kind::GetBulk => {
-            answer_read(alloc, registry, world, request, buffer)
-        }
-    }
+    let rooms = rooms_for(alloc, request.kind)?;
+    let answered = answer(alloc, registry, world, request, buffer)?;
+    let replies = replies_in(alloc, rooms, buffer.reply())?;
+    come_to(alloc, answered, replies, happened)
 }
 
-/// An event happens. A request and a policy may find no memory, and then nothing has changed.
+/// An event happens. What it came to is put into a place that is lent for it, and quiet, so that it
+/// is not moved about. A request and a policy may find no memory, and then nothing else has changed.
 pub fn happen<O: MibObject>(
     alloc: Global,
     registry: &mut Registry<O>,
     world: &mut World,
     event: &Event,
     buffer: &mut Buffer,
-) -> Result<Happened, AllocError>
+    happened: &mut Happened,
+) -> Result<(), AllocError>
     requires encodable { IsEncodable event.now }
     requires at_rest { AreAtRest registry.old }
     requires reply { buffer.old.reply ≡ [] }
     requires bpdus { buffer.old.bpdus ≡ [] }
-    ensures happens { IfOk result (λ happened. Happens registry.old world.old event.now
-        happened registry.new world.new buffer.new) }
+    requires quiet { happened.old ≡ quiet }
+    ensures happens { OnOk result (Happens registry.old world.old event.now
+        happened.new registry.new world.new buffer.new) }
     ensures takes { OnErr result (MayTakeMemory event.now) }
     ensures world { OnErr result (world.new ≡ world.old) }
     ensures objects { OnErr result (registry.new ≡ registry.old) }
 {
     match event {
-        Event::Frame { port, frame } => Ok(take_frame(world, *port, frame, buffer)),
-        Event::Tick => Ok(pass_second(world, buffer)),
-        Event::Link { port, up } => Ok(turn_link(world, *port, *up, buffer)),
+        Event::Frame { port, frame } => {
+            *happened = take_frame(world, *port, frame, buffer);
+            Ok(())
+        }
+        Event::Tick => {
+            *happened = pass_second(world, buffer);
+            Ok(())
+        }
+        Event::Link { port, up } => {
+            *happened = turn_link(world, *port, *up, buffer);
+            Ok(())
+        }
         Event::Policy(policy) => {
             world.policy = policy.try_copy(alloc)?;
-            Ok(quiet())
+            Ok(())
         }
-        Event::Request(request) => answer_request(alloc, registry, world, request, buffer),
+        Event::Request(request) => {
+            answer_request(alloc, registry, world, request, buffer, happened)
+        }
     }
 }
 

@@ -7,7 +7,7 @@ use crate::applied::Applied;
 use crate::comparing::{Mismatch, Tally, compare};
 use crate::entry::Entry;
 use crate::event::{Event, ReceiptEvent};
-use crate::happening::{Happened, cause_in, happen, put_failure};
+use crate::happening::{Happened, cause_in, happen, put_failure, quiet};
 use crate::limits::MAX_ENTRIES;
 use crate::receipt::Receipt;
 use agent_core::Buffer;
@@ -234,8 +234,14 @@ impl<O: MibObject> Kept<O> {
             put_failure(&self.world, &event, buffer);
             return Applied::Short(event);
         };
-        let Ok(happened) = happen(alloc, &mut self.registry, &mut self.world, &event, buffer) else {
-            put_failure(&self.world, &event, buffer);
+        let mut happened = quiet();
+        let Kept {
+            registry,
+            world,
+            ..
+        } = self;
+        let Ok(()) = happen(alloc, registry, world, &event, buffer, &mut happened) else {
+            put_failure(world, &event, buffer);
             return Applied::Short(event);
         };
         let Ready { told, base } = ready;

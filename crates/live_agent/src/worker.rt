@@ -46,18 +46,21 @@ pub fn worker_run<O: MibObject, L: Run, W: Wire, G: Gate, R: Wait>(
     ensures parts { share.new.parts ≡ share.old.parts }
 {
     let mut desk = Desk::new(plan.alloc);
+    let mut room = [0u8; REQUEST_ROOM];
     for _i in 0..plan.rounds {
         if desk.items.reserve(1).is_err() {
             return desk.left(End::Memory);
         }
-        if let Some(end) = worker_turn(rt, plan, live, share, wire, gate, worker, &mut desk) {
+        if let Some(end) = worker_turn(
+            rt, plan, live, share, wire, gate, worker, &mut desk, &mut room,
+        ) {
             return desk.left(end);
         }
     }
     desk.left(End::Rounds)
 }
 
-// One turn of a worker, with room in its trace.
+// One turn of a worker, with room in its trace, and room for a request.
 fn worker_turn<O: MibObject, L: Run, W: Wire, G: Gate, R: Wait>(
     rt: &R,
     plan: &Plan,
@@ -67,6 +70,7 @@ fn worker_turn<O: MibObject, L: Run, W: Wire, G: Gate, R: Wait>(
     gate: &G,
     worker: usize,
     desk: &mut Desk,
+    octets: &mut [u8; REQUEST_ROOM],
 ) -> Option<End>
     requires part { 0 < share.old.parts }
     requires room { vec_len desk.old.items < vec_capacity desk.old.items }
@@ -77,8 +81,7 @@ fn worker_turn<O: MibObject, L: Run, W: Wire, G: Gate, R: Wait>(
     ensures failures { W.failures wire.new ≡ failures_by result (W.failures wire.old) }
     ensures parts { share.new.parts ≡ share.old.parts }
 {
-    let mut octets = [0u8; REQUEST_ROOM];
-    match wire.receive(&mut octets) {
+    match wire.receive(octets) {
         Err(fault) => Some(End::Wire(fault)),
         Ok(Received::Nothing) => None,
         Ok(Received::Closed) => Some(End::Closed),

@@ -16,8 +16,12 @@ use history_core::{Applied, Event, Kept};
 use message_core::Request;
 use setphase_core::MibObject;
 use std::alloc::Global;
+use std::hint::spin_loop;
 use std::sync::ledger::{Blank, Share};
-use std::sync::{Mutex, Wait};
+use std::sync::{Mutex, MutexGuard, Wait};
+
+// How often a thread looks whether the lock is free, before it sleeps until it is.
+const MOST_LOOKS: u32 = 1000;
 
 /// A history under one lock. Each call of an event holds the lock once: the event takes its place in
 /// the history, and by shared reference any number of threads may call. Whenever the lock is free
@@ -138,6 +142,18 @@ impl<O: MibObject, L: Run> Live<O, L> {
         self.apply(rt, alloc, share, Event::Request(request), buffer)
     }
 
+    // The history, once the lock is free. An event takes a few microseconds, and a thread that sleeps
+    // takes longer to be woken; so it looks for a while first.
+    fn locked<R: Wait>(&self, rt: &R) -> MutexGuard<'_, Held<O, L>> {
+        for _ in 0..MOST_LOOKS {
+            if let Some(guard) = self.held.try_lock() {
+                return guard;
+            }
+            spin_loop();
+        }
+        self.held.lock(rt)
+    }
+
     // One event takes its place, under the lock.
     fn apply<R: Wait>(
         &self,
@@ -154,14 +170,14 @@ impl<O: MibObject, L: Run> Live<O, L> {
         ensures amount { share.new.amount ≡ share.old.amount + entered result }
         ensures parts { share.new.parts ≡ share.old.parts }
     {
-        self.held.lock(rt).apply(alloc, share, event, buffer)
+        self.locked(rt).apply(alloc, share, event, buffer)
     }
 
     /// How far the history is past its start, at the time of the call.
     pub fn counts<R: Wait>(&self, rt: &R) -> Counts
         ensures { IsCounted L.start result }
     {
-        self.held.lock(rt).counts()
+        self.locked(rt).counts()
     }
 
     /// Takes the history out, which went on from its start by as many entries as the share of all

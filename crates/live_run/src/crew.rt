@@ -274,6 +274,42 @@ fn run_bridge<
     (share, ports, runs, ticker, pace, ran)
 }
 
+// What the workers left, and what the ports and the ticker left, as what all lines left.
+fn gathered<L: Run, W, P>(
+    worked: (Share<L>, Vec<W>, Vec<Ran>),
+    bridged: (Share<L>, Vec<W>, Vec<Ran>, W, P, Ran),
+) -> (Share<L>, Lines<W, P>, Runs)
+    ensures amount { result.0.amount ≡ bridged.0.amount + worked.0.amount }
+    ensures parts { result.0.parts ≡ bridged.0.parts + worked.0.parts }
+    ensures lines { result.1 ≡ record {
+      workers = worked.1;
+      ports = bridged.1;
+      ticker = bridged.3;
+      pace = bridged.4;
+    } }
+    ensures runs { result.2 ≡ record {
+      workers = worked.2;
+      ports = bridged.2;
+      ticker = bridged.5;
+    } }
+{
+    let (theirs, workers, worker_runs) = worked;
+    let (mut share, ports, port_runs, ticker, pace, ran) = bridged;
+    share.merge(theirs);
+    let lines = Lines {
+        workers,
+        ports,
+        ticker,
+        pace,
+    };
+    let runs = Runs {
+        workers: worker_runs,
+        ports: port_runs,
+        ticker: ran,
+    };
+    (share, lines, runs)
+}
+
 // All lines: the workers beside the ports beside the ticker.
 fn run_crew<
     O: MibObject + Send,
@@ -339,21 +375,7 @@ fn run_crew<
             ensures parts { result.0.parts ≡ share.parts }
         { run_bridge(rt, plan, live, share, ports, ticker, pace, port_runs) },
     );
-    let (theirs, workers, worker_runs) = worked;
-    let (mut share, ports, port_runs, ticker, pace, ran) = bridged;
-    share.merge(theirs);
-    let lines = Lines {
-        workers,
-        ports,
-        ticker,
-        pace,
-    };
-    let runs = Runs {
-        workers: worker_runs,
-        ports: port_runs,
-        ticker: ran,
-    };
-    (share, lines, runs)
+    gathered(worked, bridged)
 }
 
 // A history under a lock, the lines over it, and the history again.

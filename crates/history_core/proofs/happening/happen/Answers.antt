@@ -27,7 +27,7 @@ returns-in_ok-world-in-Policy-clause-happens g c =
     let w = c.args.world.now in
     let copy = c.in_ok-world-in-Policy.field-0 in
     let later : World = record w { policy = copy } in
-    subst (λ (e : Event). Happens c.args.registry.now w e c.quiet.result c.args.registry.now later c.args.buffer.now)
+    subst (λ (e : Event). Happens c.args.registry.now w e c.args.happened.now c.args.registry.now later c.args.buffer.now)
     (sym c.in-Policy.is)
-    (subst (λ (tables : PolicyTables). Happens c.args.registry.now w (event.Policy tables) c.quiet.result c.args.registry.now later c.args.buffer.now)
-    c.in_ok-world-in-Policy.ensures (policy_happens c.args.registry.now w copy c.args.buffer.now c.quiet.result c.quiet.ensures c.requires.bpdus c.requires.reply))
+    (subst (λ (tables : PolicyTables). Happens c.args.registry.now w (event.Policy tables) c.args.happened.now c.args.registry.now later c.args.buffer.now)
+    c.in_ok-world-in-Policy.ensures (policy_happens c.args.registry.now w copy c.args.buffer.now c.args.happened.now c.requires.quiet c.requires.bpdus c.requires.reply))

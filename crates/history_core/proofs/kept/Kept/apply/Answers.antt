@@ -16,7 +16,7 @@ invariant_of-self-2 g c =
     let other : next_of h ≢ last_number = (λ e. c.if-number.false (number ∙ e)) in
     let below : next_of h < 2 ^ 64 = c.self.invariant.0.fits in
     let base = c.in-Ok.ensures.ready.base ∙ ap (λ (x : History). if length x.entries == MAX_ENTRIES then Some x.world else None) (sym c.self.view_is) in
-    let t = left-ok h c.args.event c.in-Ok-happen.happened _ _ _ _ _ _ _ _ _ c.self.invariant.0 number (omega (arith, below, other)) base c.in-Ok-happen.ensures.happens c.made_of-entry.ensures.entry c.enter.ensures.entered in
+    let t = left-ok h c.args.event c.happen.new.happened _ _ _ _ _ _ _ _ _ c.self.invariant.0 number (omega (arith, below, other)) base c.in-Ok-happen.ensures.happens c.made_of-entry.ensures.entry c.enter.ensures.entered in
     (t.1, omega (arith, c.self.invariant.1, c.enter.ensures.capacity))
 
 pub returns : goal.returns
@@ -30,8 +30,8 @@ returns g c =
     let below : next_of h < last_number = omega (arith, most, other) in
     let base = c.in-Ok.ensures.ready.base ∙ ap (λ (x : History). if length x.entries == MAX_ENTRIES then Some x.world else None) (sym c.self.view_is) in
     let happens = c.in-Ok-happen.ensures.happens in
-    let t = left-ok h c.args.event c.in-Ok-happen.happened _ _ _ _ _ _ _ _ _ c.self.invariant.0 number below base happens c.made_of-entry.ensures.entry c.enter.ensures.entered in
-    let applied = applies-ok h c.args.event c.in-Ok-happen.happened c.happen.new.world c.happen.new.registry c.happen.new.buffer c.next_number-number.result c.in-Ok.ready.told c.made_of-entry.result.receipt c.made_of-entry.result.audit later
+    let t = left-ok h c.args.event c.happen.new.happened _ _ _ _ _ _ _ _ _ c.self.invariant.0 number below base happens c.made_of-entry.ensures.entry c.enter.ensures.entered in
+    let applied = applies-ok h c.args.event c.happen.new.happened c.happen.new.world c.happen.new.registry c.happen.new.buffer c.next_number-number.result c.in-Ok.ready.told c.made_of-entry.result.receipt c.made_of-entry.result.audit later
     below happens number c.in-Ok.ensures.ready.told c.made_of-entry.ensures.receipt c.made_of-entry.ensures.audit t.0 in
     subst (λ (x : History). Applies x c.args.event c.applied.result later c.happen.new.buffer) c.self.view_is
     (subst (λ (x : Applied). Applies h c.args.event x later c.happen.new.buffer) (sym c.applied.ensures) applied)

@@ -1,6 +1,6 @@
 use Rattle.std.proofs.Common.{◌≡◌, ◌∙◌, rules}
 use Rattle.history_core.proofs.Requests.{short_stays, long_read_stays, came_happens, came_stays}
-use Rattle.history_core.proofs.happening.answer_read.Goals as goal
+use Rattle.history_core.proofs.happening.answer_request.Goals as goal
 
 pub returns-in_err-answered-clause-objects : goal.returns-in_err-answered-clause-objects
 returns-in_err-answered-clause-objects g c =
@@ -10,18 +10,18 @@ returns-in_err-answered-clause-objects g c =
 pub returns-in_err-replies-clause-world : goal.returns-in_err-replies-clause-world
 returns-in_err-replies-clause-world g c =
     let same = (long_read_stays c.args.registry.now c.args.world.now c.args.request.now c.in_ok-answered.answered c.answer.new.buffer c.answer.new.world c.answer.new.registry c.reply.result.now _
-    c.in_ok-answered.ensures c.requires.reads c.reply.ensures.reply c.in_err-replies.ensures.inline).0 in
+    c.in_ok-answered.ensures (c.in_ok-rooms.ensures.set c.in_err-replies.ensures.none) c.reply.ensures.reply c.in_err-replies.ensures.inline).0 in
     search (rules, same)
 
 pub returns-in_err-replies-clause-objects : goal.returns-in_err-replies-clause-objects
 returns-in_err-replies-clause-objects g c =
     let same = (long_read_stays c.args.registry.now c.args.world.now c.args.request.now c.in_ok-answered.answered c.answer.new.buffer c.answer.new.world c.answer.new.registry c.reply.result.now _
-    c.in_ok-answered.ensures c.requires.reads c.reply.ensures.reply c.in_err-replies.ensures.inline).1 in
+    c.in_ok-answered.ensures (c.in_ok-rooms.ensures.set c.in_err-replies.ensures.none) c.reply.ensures.reply c.in_err-replies.ensures.inline).1 in
     search (rules, same)
 
 pub returns-clause-happens : goal.returns-clause-happens
 returns-clause-happens g c =
-    came_happens c.args.registry.now c.args.world.now c.args.request.now c.in_ok-answered.answered c.in_ok-replies.replies.0 c.answer.new.buffer c.answer.new.world c.answer.new.registry c.come_to.result
+    came_happens c.args.registry.now c.args.world.now c.args.request.now c.in_ok-answered.answered c.in_ok-replies.replies.0 c.answer.new.buffer c.answer.new.world c.answer.new.registry c.come_to.new.happened c.come_to.result
     c.in_ok-answered.ensures (c.in_ok-replies.ensures.entered ∙ c.reply.ensures.reply) c.come_to.ensures.happened
 
 pub returns-clause-world : goal.returns-clause-world
