@@ -6,7 +6,7 @@ ghost use Rattle.vacm_core.specs.Hiding.{hides_all};
 ghost use Rattle.setphase_core.specs.Registry.{rows_of};
 ghost use Rattle.setphase_core.specs.Passing.{open_instances};
 
-use crate::source::{Source, Successors};
+use crate::source::{NOWHERE, Source, Successors};
 use message_core::{Binding, Value};
 use oid_core::{Oid, OidFault};
 use setphase_core::{MibObject, Passing, Registry, World};
@@ -108,7 +108,8 @@ impl<O: MibObject, L: Ledger> Source<L> for Served<'_, O> {
 
     fn object(&self, alloc: Global, name: &Oid) -> Result<Option<Oid>, AllocError> {
         self.registry.known(self.world);
-        match self.registry.owner(name.as_slice()) {
+        let mut near = NOWHERE;
+        match self.registry.owner(name.as_slice(), &mut near) {
             None => Ok(None),
             Some(prefix) => Ok(Some(object_name(alloc, prefix)?)),
         }
@@ -117,12 +118,13 @@ impl<O: MibObject, L: Ledger> Source<L> for Served<'_, O> {
     fn get(&self, alloc: Global, name: &Oid) -> Result<Option<Value>, AllocError> {
         self.registry.known(self.world);
         let name = name.as_slice();
-        let Some(prefix) = self.registry.owner(name) else {
+        let mut near = NOWHERE;
+        let Some(prefix) = self.registry.owner(name, &mut near) else {
             return Ok(None);
         };
         if self.passes_over(prefix) {
             return Ok(None);
         }
-        Ok(self.registry.read(alloc, self.world, name))
+        Ok(self.registry.read(alloc, self.world, name, near))
     }
 }

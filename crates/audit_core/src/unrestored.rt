@@ -83,7 +83,7 @@ impl fmt::Display for WrittenUnrestored<'_> {
 
     fn fmt<W: fmt::Write>(&self, f: &mut fmt::Formatter<W>) -> fmt::Result {
         for key in self.0.as_slice() {
-            let one = WrittenOne(*key);
+            let one = WrittenOne(key.key());
             write!(f, "{one}")?;
         }
         Ok(())

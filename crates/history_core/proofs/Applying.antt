@@ -1,22 +1,18 @@
 -- What `apply` answers, and what it leaves.
-use Rattle.std.proofs.Common.{◌≡◌, ◌≢◌, ◌∙◌, ℕ, ◌<◌, ◌≤◌, Bool, true, false, List, [], ◌∷◌, ◌++◌, length, Option, Some, None, ap, refl, sym, subst}
-use Rattle.std.specs.Prelude.{◌==◌, if◌then◌else◌, unwrap_or}
-use Rattle.message_core.specs.declared.request.Request.{Request}
+use Rattle.std.proofs.Common.{◌≡◌, ◌∙◌, ℕ, ◌<◌, Bool, true, false, List, [], length, Option, Some, None, ap, refl, sym}
+use Rattle.std.specs.Prelude.{◌==◌, if◌then◌else◌}
 use Rattle.audit_core.specs.declared.audit.Audit.{Audit}
-use Rattle.decision.specs.Deciding.{decision_on}
 use Rattle.decision.specs.declared.choice.Cause.{Cause}
-use Rattle.decision.specs.declared.choice.Decision.{Decision}
 use Rattle.frame_core.specs.declared.frame.FrameIn.{FrameIn}
 use Rattle.bridge_core.specs.Events.{frame_result, link_of, after_link}
 use Rattle.setphase_core.specs.declared.world.World.{World}
 use Rattle.setphase_core.specs.Objects.{ObjectState}
 use Rattle.agent_core.specs.Buffered.{Buffered}
 use Rattle.history_core.specs.Receipts.{told_of}
-use Rattle.history_core.specs.Steps.{Notes, Step, step_of, has_port, silent_step, framed_step, bridge_step, cause_in, cause_of}
+use Rattle.history_core.specs.Steps.{Notes, step_of, has_port, silent_step, framed_step, bridge_step, cause_in, cause_of}
 use Rattle.history_core.specs.History.{History, undos_in, next_of, IsHistory, next_step, after, next_receipt, IsEntered, Applies, last_number}
-use Rattle.history_core.specs.Happening.{second_of, notes_in, Happens}
+use Rattle.history_core.specs.Happening.{notes_in, Happens}
 use Rattle.history_core.specs.Keeping.{entry_of, receipt_of, Enters, applied_by, applied_because}
-use Rattle.history_core.specs.declared.applied.Applied.{Applied}
 use Rattle.history_core.specs.declared.entry.Entry.{Entry}
 use Rattle.history_core.specs.declared.event.Event.{Event}
 use Rattle.history_core.specs.declared.event.Event.TheVariants as event
@@ -83,7 +79,7 @@ no_cause_told os w (event.Request r) n e = cc
 -- ---- what is answered
 
 entered_is : (h : History) (e : Event) (x : Happened) (world : World) (objects : List ObjectState) (b : Buffered) (receipt : Receipt) (audit : Option Audit) (later : History)
-    → Happens h.objects h.world e x objects world b → receipt ≡ next_receipt h e (notes_in x) → audit ≡ second_of x.audits → later ≡ after h e (notes_in x)
+    → Happens h.objects h.world e x objects world b → receipt ≡ next_receipt h e (notes_in x) → audit ≡ x.told_audit → later ≡ after h e (notes_in x)
     → IsEntered h e receipt audit later b
 entered_is h e x world objects b receipt audit later happens same_receipt same_audit same_later =
     let told = same_audit ∙ happens.same_audit in
@@ -114,7 +110,7 @@ applies_by h e n receipt (Some audit) later b fits same is =
 pub applies-ok : (h : History) (e : Event) (x : Happened) (world : World) (objects : List ObjectState) (b : Buffered) (number : ℕ) (told : ReceiptEvent) (receipt : Receipt) (audit : Option Audit) (later : History)
     → next_of h < last_number → Happens h.objects h.world e x objects world b
     → number ≡ next_of h → told ≡ told_of e → receipt ≡ receipt_of number told x
-    → audit ≡ second_of x.audits → later ≡ after h e (notes_in x)
+    → audit ≡ x.told_audit → later ≡ after h e (notes_in x)
     → Applies h e (applied_by receipt audit) later b
 applies-ok h e x world objects b number told receipt audit later fits happens same_number same_told made same_audit same_later =
     let receipt_is : receipt ≡ next_receipt h e (notes_in x) =

@@ -1,13 +1,12 @@
 -- One entry more keeps a history legal.
-use Rattle.std.proofs.Common.{◌≡◌, ◌≢◌, ◌∙◌, ℕ, ◌+◌, ◌*◌, ◌^◌, ◌<◌, ◌≤◌, Bool, true, false, List, [], ◌∷◌, ◌++◌, length, Option, Some, None, ap, refl, sym, subst, arith, length-append}
-use Rattle.std.specs.Prelude.{◌==◌, if◌then◌else◌, unwrap_or}
+use Rattle.std.proofs.Common.{◌≡◌, ◌≢◌, ◌∙◌, ℕ, ◌+◌, ◌*◌, ◌^◌, ◌<◌, Bool, true, false, List, [], ◌∷◌, ◌++◌, length, Option, Some, None, ap, refl, sym, subst, arith, length-append}
+use Rattle.std.specs.Prelude.{◌==◌, if◌then◌else◌}
 use Rattle.std.proofs.lemmas.Bool.Decides.{nat_tests}
-use Rattle.audit_core.specs.declared.audit.Audit.{Audit}
 use Rattle.setphase_core.specs.declared.world.World.{World}
 use Rattle.setphase_core.specs.Objects.{ObjectRow, ObjectState}
 use Rattle.setphase_core.specs.Registry.{rows_of}
 use Rattle.history_core.specs.Steps.{Notes, Step, step_of, MayNote, AreAtRest}
-use Rattle.history_core.specs.History.{History, undos_in, notes_of, resting, step_at, EventMet, event_met, events_met, replay, IsEntry, IsLegal, next_of, IsHistory, fresh, rebased, moved, next_step, next_entry, with_entry, after, last_number}
+use Rattle.history_core.specs.History.{History, undos_in, notes_of, resting, step_at, EventMet, event_met, events_met, replay, IsEntry, IsLegal, next_of, IsHistory, fresh, rebased, next_step, next_entry, with_entry, after, last_number}
 use Rattle.history_core.specs.Keeping.{Enters}
 use Rattle.history_core.specs.declared.entry.Entry.{Entry}
 use Rattle.history_core.specs.declared.event.Event.{Event}

@@ -1,7 +1,6 @@
 -- Events that are no requests came to their steps.
-use Rattle.std.proofs.Common.{◌≡◌, ◌∙◌, ℕ, Bool, true, false, List, [], Option, Some, None, ap, refl, sym, subst}
+use Rattle.std.proofs.Common.{◌≡◌, ◌∙◌, ℕ, Bool, true, false, List, [], Option, None, ap, refl, sym, subst}
 use Rattle.std.specs.Prelude.{unwrap_or}
-use Rattle.audit_core.specs.declared.audit.Audit.{Audit}
 use Rattle.frame_core.specs.declared.frame.FrameIn.{FrameIn}
 use Rattle.bridge_core.specs.Bridge.{BridgeState}
 use Rattle.bridge_core.specs.Events.{frame_result, tick_of, after_tick, link_of, after_link}
@@ -12,28 +11,28 @@ use Rattle.setphase_core.specs.Objects.{ObjectState}
 use Rattle.setphase_core.specs.Registry.{rows_of}
 use Rattle.agent_core.specs.Buffered.{Buffered}
 use Rattle.history_core.specs.Steps.{step_of, has_port, MayNote}
-use Rattle.history_core.specs.Happening.{quiet, first_of, second_of, notes_in, Happens}
+use Rattle.history_core.specs.Happening.{quiet, notes_in, Happens}
 use Rattle.history_core.specs.declared.event.Event.{Event}
 use Rattle.history_core.specs.declared.event.Event.TheVariants as event
 use Rattle.history_core.specs.declared.happening.Happened.{Happened}
 
 -- An event without reply and audit, whose step has none, is that step.
 silent : (os : List ObjectState) (w later : World) (e : Event) (h : Happened) (b : Buffered)
-    → h.replies ≡ None → h.audits ≡ None → MayNote (rows_of os) w e (notes_in h)
+    → h.reply ≡ None → h.told_reply ≡ None → h.audit ≡ None → h.told_audit ≡ None → MayNote (rows_of os) w e (notes_in h)
     → later ≡ (step_of os w e (notes_in h)).world → os ≡ (step_of os w e (notes_in h)).objects
     → h.egress ≡ (step_of os w e (notes_in h)).egress → (step_of os w e (notes_in h)).reply ≡ None
     → (step_of os w e (notes_in h)).audit ≡ None → b.bpdus ≡ (step_of os w e (notes_in h)).bpdus
     → b.reply ≡ [] → Happens os w e h os later b
-silent os w later e h b replies audits may world objects egress reply audit bpdus none = record {
+silent os w later e h b own_reply told_reply own_audit told_audit may world objects egress reply audit bpdus none = record {
   may = may;
   world = world;
   objects_after = objects;
   egress = egress;
-  reply = ap (λ (x : Option (List ℕ × List ℕ)). first_of x) replies ∙ sym reply;
-  same_reply = ap (λ (x : Option (List ℕ × List ℕ)). second_of x) replies ∙ sym reply;
+  reply = own_reply ∙ sym reply;
+  same_reply = told_reply ∙ sym reply;
   sent = none ∙ ap (λ (x : Option (List ℕ)). unwrap_or x []) (sym reply);
-  audit = ap (λ (x : Option (Audit × Audit)). first_of x) audits ∙ sym audit;
-  same_audit = ap (λ (x : Option (Audit × Audit)). second_of x) audits ∙ sym audit;
+  audit = own_audit ∙ sym audit;
+  same_audit = told_audit ∙ sym audit;
   bpdus = bpdus;
 }
 
@@ -43,7 +42,7 @@ pub tick_happens : (os : List ObjectState) (w : World) (bridge : BridgeState) (b
 unfolding step_of
 tick_happens os w bridge b h is after bpdus none =
     subst (λ (x : Happened). Happens os w event.Tick x os (record w { bridge = bridge }) b) (sym is)
-    (silent os w (record w { bridge = bridge }) event.Tick quiet b refl refl refl
+    (silent os w (record w { bridge = bridge }) event.Tick quiet b refl refl refl refl refl
     (ap (λ (x : BridgeState). record w { bridge = x }) after) refl refl refl refl bpdus none)
 
 pub policy_happens : (os : List ObjectState) (w : World) (tables : PolicyTables) (b : Buffered) (h : Happened)
@@ -52,7 +51,7 @@ pub policy_happens : (os : List ObjectState) (w : World) (tables : PolicyTables)
 unfolding step_of
 policy_happens os w tables b h is bpdus none =
     subst (λ (x : Happened). Happens os w (event.Policy tables) x os (record w { policy = tables }) b) (sym is)
-    (silent os w (record w { policy = tables }) (event.Policy tables) quiet b refl refl refl refl refl refl refl refl bpdus none)
+    (silent os w (record w { policy = tables }) (event.Policy tables) quiet b refl refl refl refl refl refl refl refl refl refl bpdus none)
 
 pub link_happens : (os : List ObjectState) (w : World) (port : ℕ) (up : Bool) (bridge : BridgeState) (b : Buffered) (h : Happened)
     → h ≡ quiet → has_port w.bridge port ≡ true → bridge ≡ after_link port up w.bridge
@@ -61,7 +60,7 @@ pub link_happens : (os : List ObjectState) (w : World) (port : ℕ) (up : Bool) 
 unfolding step_of
 link_happens os w port up bridge b h is there after bpdus none =
     subst (λ (x : Happened). Happens os w (event.Link port up) x os (record w { bridge = bridge }) b) (sym is)
-    (silent os w (record w { bridge = bridge }) (event.Link port up) quiet b refl refl refl
+    (silent os w (record w { bridge = bridge }) (event.Link port up) quiet b refl refl refl refl refl
     (rw there (ap (λ (x : BridgeState). record w { bridge = x }) after)) (rw there refl) (rw there refl) (rw there refl) (rw there refl) (rw there bpdus) none)
 
 pub no_link_happens : (os : List ObjectState) (w : World) (port : ℕ) (up : Bool) (b : Buffered) (h : Happened)
@@ -70,7 +69,7 @@ pub no_link_happens : (os : List ObjectState) (w : World) (port : ℕ) (up : Boo
 unfolding step_of
 no_link_happens os w port up b h is there bpdus none =
     subst (λ (x : Happened). Happens os w (event.Link port up) x os w b) (sym is)
-    (silent os w w (event.Link port up) quiet b refl refl refl
+    (silent os w w (event.Link port up) quiet b refl refl refl refl refl
     (rw there refl) (rw there refl) (rw there refl) (rw there refl) (rw there refl) (rw there bpdus) none)
 
 pub no_frame_happens : (os : List ObjectState) (w : World) (port : ℕ) (f : FrameIn) (b : Buffered) (h : Happened)
@@ -79,7 +78,7 @@ pub no_frame_happens : (os : List ObjectState) (w : World) (port : ℕ) (f : Fra
 unfolding step_of
 no_frame_happens os w port f b h is there bpdus none =
     subst (λ (x : Happened). Happens os w (event.Frame port f) x os w b) (sym is)
-    (silent os w w (event.Frame port f) quiet b refl refl (refl, λ no_room. cc)
+    (silent os w w (event.Frame port f) quiet b refl refl refl refl (refl, λ no_room. cc)
     (rw there refl) (rw there refl) (rw there refl) (rw there refl) (rw there refl) (rw there bpdus) none)
 
 pub frame_happens : (os : List ObjectState) (w : World) (port : ℕ) (f : FrameIn) (no_room : Bool) (egress : List ℕ) (bridge : BridgeState) (b : Buffered) (q : Happened)
@@ -90,6 +89,6 @@ pub frame_happens : (os : List ObjectState) (w : World) (port : ℕ) (f : FrameI
 unfolding step_of
 frame_happens os w port f no_room egress bridge b q is there after goes bpdus none note =
     subst (λ (x : Happened). Happens os w (event.Frame port f) (record x { no_room = no_room; egress = egress }) os (record w { bridge = bridge }) b) (sym is)
-    (silent os w (record w { bridge = bridge }) (event.Frame port f) (record quiet { no_room = no_room; egress = egress }) b refl refl
+    (silent os w (record w { bridge = bridge }) (event.Frame port f) (record quiet { no_room = no_room; egress = egress }) b refl refl refl refl
     (refl, λ lacks. record { port_is_there = there; lacks = note lacks })
     (rw there (ap (λ (x : BridgeState). record w { bridge = x }) after)) (rw there refl) (rw there goes) (rw there refl) (rw there refl) (rw there bpdus) none)

@@ -1,5 +1,5 @@
 -- What an answered request came to is its step.
-use Rattle.std.proofs.Common.{◌≡◌, ◌≢◌, ◌∙◌, ◌<◌, arith, length, ℕ, Bool, true, false, List, [], ◌∷◌, map, Option, Some, None, Result, Ok, Err, OnErr, ap, refl, sym, subst}
+use Rattle.std.proofs.Common.{◌≡◌, ◌≢◌, ◌∙◌, ◌<◌, arith, length, ℕ, false, List, [], Some, None, Result, Ok, Err, OnErr, ap, refl, sym, subst}
 use Rattle.std.specs.Prelude.{unwrap_or}
 use Rattle.std.specs.Result.{OnOk}
 use Rattle.std.specs.declared.alloc.AllocError.{AllocError}
@@ -11,9 +11,8 @@ use Rattle.decision.specs.Deciding.{decision_on}
 use Rattle.decision.specs.declared.keys.AccessKey.{AccessKey}
 use Rattle.decision.specs.declared.choice.Decision.{Decision}
 use Rattle.decision.specs.declared.choice.Decision.TheVariants.{Drop, Empty, Refused, Allowed}
-use Rattle.setting_keys.specs.declared.SettingKey.{SettingKey}
 use Rattle.setphase_core.specs.declared.world.World.{World}
-use Rattle.setphase_core.specs.Objects.{ObjectRow, ObjectState, object_after_release}
+use Rattle.setphase_core.specs.Objects.{ObjectState}
 use Rattle.setphase_core.specs.Registry.{rows_of}
 use Rattle.setphase_core.specs.Outcomes.{SetNotes}
 use Rattle.agent_core.specs.Buffered.{Buffered}
@@ -22,21 +21,20 @@ use Rattle.agent_core.specs.Answers as answers
 use Rattle.agent_core.specs.Answers.{Outcome, dropped, replied, audit_in, Shown, shown_of, outcome_of, outcome_by, reading_step, allowed_step, step_by, IsAnswered, IsTold, IsShort, without_answer, notes_told}
 use Rattle.agent_core.specs.declared.answered.Answered.{Answered}
 use Rattle.agent_core.specs.declared.answered.Answered.TheVariants as answered
-use Rattle.history_core.specs.Steps.{Notes, nothing_noted, step_of, octets_in, AreAtRest}
-use Rattle.history_core.specs.History.{undos_in}
-use Rattle.history_core.specs.Happening.{first_of, second_of, audit_told, happened_by, HappensBy, Happens, notes_in}
+use Rattle.history_core.specs.Steps.{Notes, step_of, octets_in, AreAtRest}
+use Rattle.history_core.specs.Happening.{audit_told, happened_by, HappensBy, Happens, notes_in}
 use Rattle.history_core.specs.declared.event.Event.TheVariants as event
 use Rattle.history_core.specs.declared.happening.Happened.{Happened}
-use Rattle.history_core.proofs.Stepping.{Stays, denied_stays, replied_stays, released-at_rest}
+use Rattle.history_core.proofs.Stepping.{denied_stays, replied_stays, released-at_rest}
 
 -- What came of a request whose outcome this is.
 record ComesOf (o : Outcome) (h : Happened) (b : Buffered) : Type 0 where
   egress : h.egress ≡ []
-  reply : first_of h.replies ≡ octets_in o
-  same_reply : second_of h.replies ≡ octets_in o
+  reply : h.reply ≡ octets_in o
+  same_reply : h.told_reply ≡ octets_in o
   sent : b.reply ≡ unwrap_or (octets_in o) []
-  audit : first_of h.audits ≡ Some (audit_in o)
-  same_audit : second_of h.audits ≡ Some (audit_in o)
+  audit : h.audit ≡ Some (audit_in o)
+  same_audit : h.told_audit ≡ Some (audit_in o)
 
 some_audit : (a b : Audit) → a ≡ b → Some a ≡ Some b
 some_audit a b e = ap (λ (x : Audit). Some x) e

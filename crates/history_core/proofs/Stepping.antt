@@ -1,20 +1,13 @@
 -- What a step hangs on, what it leaves, and what its audit says.
-use Rattle.std.proofs.Common.{◌≡◌, ◌≢◌, ◌∙◌, ◌+◌, arith, ℕ, Bool, true, false, if◌then◌else◌, List, [], ◌∷◌, map, Option, Some, None, ap, refl, sym, subst}
+use Rattle.std.proofs.Common.{◌≡◌, ◌≢◌, ◌∙◌, ◌+◌, arith, ℕ, Bool, true, false, if◌then◌else◌, List, [], ◌∷◌, map, Option, Some, None, ap, refl, sym}
 use Rattle.std.specs.Prelude.{unwrap_or}
-use Rattle.std.specs.List.{AllByRecursion}
-use Rattle.message_core.specs.declared.reply.Reply.{Reply}
 use Rattle.message_core.specs.declared.request.Kind.{Kind}
 use Rattle.message_core.specs.declared.request.Kind.TheVariants.{Get, GetNext, GetBulk, Set}
 use Rattle.message_core.specs.declared.request.Request.{Request}
-use Rattle.vacm_core.specs.declared.tables.FamilyRow.{FamilyRow}
-use Rattle.audit_core.specs.declared.audit.Audit.{Audit}
-use Rattle.audit_core.specs.declared.denied.Denied.{Denied}
 use Rattle.decision.specs.Deciding.{decision_on}
 use Rattle.decision.specs.declared.keys.AccessKey.{AccessKey}
-use Rattle.decision.specs.declared.choice.Cause.{Cause}
 use Rattle.decision.specs.declared.choice.Decision.{Decision}
 use Rattle.decision.specs.declared.choice.Decision.TheVariants.{Drop, Empty, Refused, Allowed}
-use Rattle.frame_core.specs.declared.bpdu.Bpdu.{Bpdu}
 use Rattle.frame_core.specs.declared.frame.FrameIn.{FrameIn}
 use Rattle.setting_keys.specs.declared.SettingKey.{SettingKey}
 use Rattle.setphase_core.specs.declared.sets.Refusal.{Refusal}
@@ -22,17 +15,16 @@ use Rattle.setphase_core.specs.declared.world.World.{World}
 use Rattle.setphase_core.specs.Objects.{ObjectRow, ObjectState, object_after_release}
 use Rattle.setphase_core.specs.Registry.{rows_of}
 use Rattle.setphase_core.specs.Together.{refusal_of}
-use Rattle.setphase_core.specs.Variables.{Written, writings}
+use Rattle.setphase_core.specs.Variables.{writings}
 use Rattle.setphase_core.specs.Outcomes.{SetNotes, world_after_set, failed_names, object_after}
 use Rattle.setphase_core.proofs.Kept.{rows_of-after}
 use Rattle.bridge_core.specs.Events.{frame_result, link_of, after_link}
-use Rattle.agent_core.specs.Sets.{SetStep, SetAnswer, answer_of_failure, answer_of_notes, is_too_long, no_notes, set_answer, set_reply, set_step, settled_world, settling_bpdus, untested_step, tested_step, MayFail, MayFailWhere, MayFailInSet}
+use Rattle.agent_core.specs.Sets.{SetStep, SetAnswer, answer_of_failure, answer_of_notes, is_too_long, set_answer, set_reply, set_step, settled_world, settling_bpdus, untested_step, tested_step, MayFail, MayFailWhere, MayFailInSet}
 use Rattle.agent_core.specs.Answers as answers
 use Rattle.agent_core.specs.Answers.{Outcome, dropped, replied, audit_in, Shown, shown_of, outcome_of, outcome_by, world_by, world_after, reading_step, writing_step, allowed_step, step_by, MayHave, MayFailBy, MayFailInView}
 use Rattle.agent_core.proofs.Changed.{unsettled}
-use Rattle.history_core.specs.Steps.{Notes, Step, step_of, octets_in, has_port, silent_step, framed_step, frame_step, bridge_step, link_step, request_step, AreAtRest, IsAtRest, MayTakeMemory}
+use Rattle.history_core.specs.Steps.{Notes, Step, step_of, octets_in, has_port, silent_step, framed_step, bridge_step, request_step, AreAtRest}
 use Rattle.history_core.specs.History.{resting}
-use Rattle.history_core.specs.Receipts.{told_of, TakesMemory}
 use Rattle.history_core.specs.declared.event.Event.{Event}
 use Rattle.history_core.specs.declared.event.Event.TheVariants as event
 
@@ -376,12 +368,3 @@ pub replied_stays : (os : List ObjectState) (w : World) (r : Request) (n : SetNo
     → r.kind ≢ Set → (unwrap_or (octets_in (answers.step_of os w r n).outcome) [] ≢ []) → Stays os w (answers.step_of os w r n)
 unfolding answers.step_of
 replied_stays os w r n reads h = replied_by os w r n (decision_on w.policy r) reads h
-
--- ---- where a receipt takes memory
-
-pub taking : (e : Event) → TakesMemory (told_of e) → MayTakeMemory e
-taking (event.Frame port frame) h = absurd h
-taking event.Tick h = absurd h
-taking (event.Link port up) h = absurd h
-taking (event.Policy tables) h = absurd h
-taking (event.Request request) h = tt

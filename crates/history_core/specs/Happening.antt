@@ -1,5 +1,5 @@
 -- What an event came to, as `apply` hands it on inside the crate.
-use Rattle.std.specs.Prelude.{◌≡◌, ℕ, false, List, [], Option, Some, None, unwrap_or}
+use Rattle.std.specs.Prelude.{◌≡◌, ℕ, false, List, [], Some, None, unwrap_or}
 use Rattle.audit_core.specs.declared.audit.Audit.{Audit}
 use Rattle.setphase_core.specs.Objects.{ObjectState}
 use Rattle.setphase_core.specs.Registry.{rows_of}
@@ -7,23 +7,22 @@ use Rattle.setphase_core.specs.declared.world.World.{World}
 use Rattle.agent_core.specs.Buffered.{Buffered}
 use Rattle.agent_core.specs.declared.answered.Answered.{Answered}
 use Rattle.agent_core.specs.declared.answered.Answered.TheVariants as answered
-use Rattle.history_core.specs.Steps.{Notes, Step, step_of, MayNote, AreAtRest}
+use Rattle.history_core.specs.Steps.{Notes, step_of, MayNote}
 use Rattle.history_core.specs.History.{undos_in}
 use Rattle.history_core.specs.declared.event.Event.{Event}
 use Rattle.history_core.specs.declared.happening.Happened.{Happened}
 
--- the first of two, and the second
-abbrev pub first_of : {X : Type 0} → Option (X × X) → Option X
-first_of (Some pair) = Some pair.0
-first_of None = None
-
-abbrev pub second_of : {X : Type 0} → Option (X × X) → Option X
-second_of (Some pair) = Some pair.1
-second_of None = None
-
 -- An event that is no frame and no request came to nothing beside what the ports send.
 abbrev pub quiet : Happened
-quiet = record { no_room = false; failed = None; egress = []; replies = None; audits = None }
+quiet = record {
+  no_room = false;
+  failed = None;
+  egress = [];
+  reply = None;
+  told_reply = None;
+  audit = None;
+  told_audit = None;
+}
 
 -- the audit that an answer tells
 abbrev pub audit_told : Answered → Audit
@@ -34,16 +33,18 @@ audit_told (answered.NoReply audit) = audit
 abbrev pub happened_by : Answered → List ℕ → Happened
 happened_by (answered.Reply len audit failed) reply = record quiet {
   failed = failed;
-  replies = Some (reply, reply);
-  audits = Some (audit, audit);
+  reply = Some reply;
+  told_reply = Some reply;
+  audit = Some audit;
+  told_audit = Some audit;
 }
-happened_by (answered.NoReply audit) reply = record quiet { audits = Some (audit, audit) }
+happened_by (answered.NoReply audit) reply = record quiet { audit = Some audit; told_audit = Some audit }
 
 -- what is noted of it
 abbrev pub notes_in : Happened → Notes
 notes_in h = record {
   no_room = h.no_room;
-  devices = record { commit = h.failed; undos = undos_in (first_of h.audits) };
+  devices = record { commit = h.failed; undos = undos_in h.audit };
 }
 
 -- An event that met this, and came to this, is the step.
@@ -54,11 +55,11 @@ pub record HappensBy (objects : List ObjectState) (w : World) (e : Event) (notes
   pub world : later ≡ (step_of objects w e notes).world
   pub objects_after : objects_later ≡ (step_of objects w e notes).objects
   pub egress : h.egress ≡ (step_of objects w e notes).egress
-  pub reply : first_of h.replies ≡ (step_of objects w e notes).reply
-  pub same_reply : second_of h.replies ≡ (step_of objects w e notes).reply
+  pub reply : h.reply ≡ (step_of objects w e notes).reply
+  pub same_reply : h.told_reply ≡ (step_of objects w e notes).reply
   pub sent : buffer.reply ≡ unwrap_or (step_of objects w e notes).reply []
-  pub audit : first_of h.audits ≡ (step_of objects w e notes).audit
-  pub same_audit : second_of h.audits ≡ (step_of objects w e notes).audit
+  pub audit : h.audit ≡ (step_of objects w e notes).audit
+  pub same_audit : h.told_audit ≡ (step_of objects w e notes).audit
   pub bpdus : buffer.bpdus ≡ (step_of objects w e notes).bpdus
 
 abbrev pub Happens : List ObjectState → World → Event → Happened → List ObjectState → World →

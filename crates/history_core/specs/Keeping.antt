@@ -4,17 +4,14 @@ use Rattle.std.specs.declared.alloc.Global.{Global}
 use Rattle.audit_core.specs.declared.audit.Audit.{Audit}
 use Rattle.decision.specs.declared.choice.Cause.{Cause}
 use Rattle.setphase_core.specs.declared.world.World.{World}
-use Rattle.history_core.specs.Receipts.{told_of}
 use Rattle.history_core.specs.Steps.{cause_in}
 use Rattle.history_core.specs.History.{History}
-use Rattle.history_core.specs.Happening.{first_of, second_of}
 use Rattle.history_core.specs.declared.applied.Applied.{Applied}
 use Rattle.history_core.specs.declared.applied.Applied.TheVariants.{Done, Dropped}
 use Rattle.history_core.specs.declared.entry.Entry.{Entry}
 use Rattle.history_core.specs.declared.event.Event.{Event}
 use Rattle.history_core.specs.declared.event.ReceiptEvent.{ReceiptEvent}
 use Rattle.history_core.specs.declared.happening.Happened.{Happened}
-use Rattle.history_core.specs.declared.kept.Ready.{Ready}
 use Rattle.history_core.specs.declared.limits.TheConstants.{MAX_ENTRIES}
 use Rattle.history_core.specs.declared.receipt.Receipt.{Receipt}
 
@@ -23,11 +20,9 @@ abbrev pub world_in : Option (Box World Global) → Option World
 world_in None = None
 world_in (Some base) = Some base.value
 
--- What is ready before an event happens: what its receipt tells of it, and the present world where
--- the base is to move.
-pub record IsReady (h : History) (e : Event) (ready : Ready) : Type 0 where
-  pub told : ready.told ≡ told_of e
-  pub base : world_in ready.base ≡ (if length h.entries == MAX_ENTRIES then Some h.world else None)
+-- the world that is to be the base, where the base is to move: the present one
+abbrev pub due_base : History → Option World
+due_base h = if length h.entries == MAX_ENTRIES then Some h.world else None
 
 -- the entry of an event that came to this, and its receipt under a number
 abbrev pub entry_of : Event → Happened → Entry
@@ -36,8 +31,8 @@ entry_of e x = record {
   no_room = x.no_room;
   failed = x.failed;
   egress = x.egress;
-  reply = first_of x.replies;
-  audit = first_of x.audits;
+  reply = x.reply;
+  audit = x.audit;
 }
 
 abbrev pub receipt_of : ℕ → ReceiptEvent → Happened → Receipt
@@ -45,7 +40,7 @@ receipt_of number told x = record {
   number = number;
   event = told;
   egress = x.egress;
-  reply = second_of x.replies;
+  reply = x.told_reply;
 }
 
 -- Where there is a new base, it takes the place of the old one and of all entries; then there is an

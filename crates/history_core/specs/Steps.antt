@@ -10,7 +10,6 @@ use Rattle.decision.specs.declared.choice.Cause.{Cause}
 use Rattle.decision.specs.declared.choice.Decision.{Decision}
 use Rattle.decision.specs.declared.choice.Decision.TheVariants.{Drop, Empty, Refused, Allowed}
 use Rattle.audit_core.specs.declared.audit.Audit.{Audit}
-use Rattle.setting_keys.specs.declared.SettingKey.{SettingKey}
 use Rattle.frame_core.specs.declared.bpdu.Bpdu.{Bpdu}
 use Rattle.frame_core.specs.declared.frame.FrameIn.{FrameIn}
 use Rattle.bridge_core.specs.Bridge.{BridgeState, port_count}

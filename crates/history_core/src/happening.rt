@@ -27,10 +27,14 @@ pub struct Happened {
     pub failed: Option<usize>,
     /// The ports by which a frame goes out.
     pub egress: Egress,
-    /// The octets of the reply to a request that is not dropped, and a copy.
-    pub replies: Option<(Octets, Octets)>,
-    /// The audit of a request, and a copy.
-    pub audits: Option<(Audit, Audit)>,
+    /// The octets of the reply to a request that is not dropped.
+    pub reply: Option<Octets>,
+    /// A copy of them.
+    pub told_reply: Option<Octets>,
+    /// The audit of a request.
+    pub audit: Option<Audit>,
+    /// A copy of it.
+    pub told_audit: Option<Audit>,
 }
 
 /// What an event came to that is no frame and no request.
@@ -41,8 +45,10 @@ pub fn quiet() -> Happened
         no_room: false,
         failed: None,
         egress: Egress::none(),
-        replies: None,
-        audits: None,
+        reply: None,
+        told_reply: None,
+        audit: None,
+        told_audit: None,
     }
 }
 
@@ -184,14 +190,16 @@ fn come_to(
 {
     match answered {
         Answered::Reply(_, audit, failed) => {
-            let copy = audit.try_copy(alloc)?;
+            let (reply, told_reply) = replies;
+            happened.told_audit = Some(audit.try_copy(alloc)?);
+            happened.audit = Some(audit);
             happened.failed = failed;
-            happened.replies = Some(replies);
-            happened.audits = Some((audit, copy));
+            happened.reply = Some(reply);
+            happened.told_reply = Some(told_reply);
         }
         Answered::NoReply(audit) => {
-            let copy = audit.try_copy(alloc)?;
-            happened.audits = Some((audit, copy));
+            happened.told_audit = Some(audit.try_copy(alloc)?);
+            happened.audit = Some(audit);
         }
     }
     Ok(())

@@ -1,7 +1,6 @@
 //! What is kept of a history: its base, its entries, and the world as it is.
-ghost use Rattle.std.specs.Prelude.{◌≡◌, ◌==◌, ◌≤◌, ◌<◌, [], ◌∷◌, ◌++◌, None, Some, if◌then◌else◌, length, IfOk, IfErr, vec_capacity, ◌⊎◌, OnErr};
-ghost use Rattle.history_core.specs.Happening.{first_of, second_of};
-ghost use Rattle.history_core.specs.Keeping.{IsReady, world_in, entry_of, receipt_of, Enters, applied_by};
+ghost use Rattle.std.specs.Prelude.{◌≡◌, ◌≤◌, ◌<◌, None, Ok, length, IfOk, IfErr, vec_capacity, ◌⊎◌, OnErr, IsErr};
+ghost use Rattle.history_core.specs.Keeping.{due_base, world_in, entry_of, receipt_of, Enters, applied_by};
 
 use crate::applied::Applied;
 use crate::comparing::{Mismatch, Tally, compare};
@@ -77,7 +76,8 @@ struct Ready {
 }
 
 impl<O: MibObject> Kept<O> {
-    ghost use Rattle.history_core.specs.Steps.{IsEncodable, MayTakeMemory};
+    ghost use Rattle.history_core.specs.Steps.{IsEncodable};
+    ghost use Rattle.history_core.specs.Receipts.{told_of, TakesMemory};
     ghost use Rattle.std.specs.Prelude.{MatchResult};
     ghost use Rattle.history_core.specs.Comparing.{IsTallied, BreaksFirst};
     ghost use Rattle.history_core.specs.History.{IsHistory, Applies, fresh, next_of};
@@ -195,15 +195,19 @@ impl<O: MibObject> Kept<O> {
         self.registry.arm(plan);
     }
 
-    // All growths that an event asks for beside its own: what its receipt tells of it, and a flat
+    // All that an event asks for beside its own growths: what its receipt tells of it, and a flat
     // copy of the world where the base is to move.
-    #[tactic(auto, using(crate::proofs::Stepping::taking))]
-    fn prepare(&self, alloc: Global, event: &Event) -> Result<Ready, AllocError>
-        ensures ready { IfOk result (λ ready. IsReady self.now event.now ready) }
+    fn prepare(
+        &self,
+        alloc: Global,
+        told: Result<ReceiptEvent, AllocError>,
+    ) -> Result<Ready, AllocError>
+        ensures told { IfOk result (λ ready. told ≡ Ok ready.told) }
+        ensures base { IfOk result (λ ready. world_in ready.base ≡ due_base self.now) }
         ensures takes { OnErr result
-            ((length self.now.entries ≡ MAX_ENTRIES) ⊎ MayTakeMemory event.now) }
+            ((length self.now.entries ≡ MAX_ENTRIES) ⊎ IsErr told) }
     {
-        let told = event.told(alloc)?;
+        let told = told?;
         let base = if self.entries.len() == MAX_ENTRIES {
             Some(flat_copy(alloc, &self.world)?)
         } else {
@@ -225,12 +229,30 @@ impl<O: MibObject> Kept<O> {
         requires { IsEncodable event }
         ensures { Applies self.old event result self.new buffer.new }
     {
+        let told = event.told(alloc);
+        self.apply_told(alloc, event, told, buffer)
+    }
+
+    /// The same, of an event of which was asked before what its receipt tells of it: so this copy
+    /// need not be made under a lock.
+    pub fn apply_told(
+        &mut self,
+        alloc: Global,
+        event: Event,
+        told: Result<ReceiptEvent, AllocError>,
+        buffer: &mut Buffer,
+    ) -> Applied
+        requires encodable { IsEncodable event }
+        requires told { IfOk told (λ t. t ≡ told_of event) }
+        requires takes { OnErr told (TakesMemory (told_of event)) }
+        ensures { Applies self.old event result self.new buffer.new }
+    {
         buffer.clear();
         let number = self.next_number();
         if number == u64::MAX {
             return Applied::HistoryFull(event);
         }
-        let Ok(ready) = self.prepare(alloc, &event) else {
+        let Ok(ready) = self.prepare(alloc, told) else {
             put_failure(&self.world, &event, buffer);
             return Applied::Short(event);
         };
@@ -269,18 +291,7 @@ fn flat_copy(alloc: Global, world: &World) -> Result<Box<FlatWorld>, AllocError>
     Ok(Box::new(alloc, copy)?)
 }
 
-// Two that come together, or none of them.
-fn apart<X: Drop>(pair: Option<(X, X)>) -> (Option<X>, Option<X>)
-    ensures first { result.0 ≡ first_of pair }
-    ensures second { result.1 ≡ second_of pair }
-{
-    match pair {
-        Some((first, second)) => (Some(first), Some(second)),
-        None => (None, None),
-    }
-}
-
-// What is made of an event that happened: its entry, its receipt, and a copy of its audit.
+// What is made of an event that happened: its entry, its receipt, and the audit that is told.
 #[derive(Drop)]
 struct Made {
     entry: Entry,
@@ -292,17 +303,17 @@ struct Made {
 fn made_of(number: u64, event: Event, told: ReceiptEvent, happened: Happened) -> Made
     ensures entry { result.entry ≡ entry_of event happened }
     ensures receipt { result.receipt ≡ receipt_of number told happened }
-    ensures audit { result.audit ≡ second_of happened.audits }
+    ensures audit { result.audit ≡ happened.told_audit }
 {
     let Happened {
         no_room,
         failed,
         egress,
-        replies,
-        audits,
+        reply,
+        told_reply,
+        audit,
+        told_audit,
     } = happened;
-    let (reply, told_reply) = apart(replies);
-    let (audit, told_audit) = apart(audits);
     let receipt = Receipt {
         number,
         event: told,
@@ -351,11 +362,12 @@ fn enter(
 fn applied(receipt: Receipt, audit: Option<Audit>) -> Applied
     ensures { result ≡ applied_by receipt audit }
 {
-    let Some(audit) = audit else {
-        return Applied::Done(receipt, None);
+    let cause = match &audit {
+        Some(audit) => cause_in(&audit.decision),
+        None => None,
     };
-    match cause_in(&audit.decision) {
-        Some(cause) => Applied::Dropped(receipt, cause, audit),
-        None => Applied::Done(receipt, Some(audit)),
+    match (cause, audit) {
+        (Some(cause), Some(audit)) => Applied::Dropped(receipt, cause, audit),
+        (_, audit) => Applied::Done(receipt, audit),
     }
 }

@@ -2,8 +2,9 @@
 //!
 //! # Entry points
 //! [`Kept`]: a world, the objects that show it, and what is kept of its history, by `new`, or by
-//! `resume` from a number on; `apply` has one event happen and enters it, `compare` looks whether
-//! receipts agree with what is kept, and `entries`, `base`, `world` and the two numbers show it.
+//! `resume` from a number on; `apply` has one event happen and enters it, as does `apply_told`, which
+//! is handed what the receipt tells of it; `compare` looks whether receipts agree with what is kept,
+//! and `entries`, `base`, `world` and the two numbers show it.
 //! [`Event`]: what happens; [`Applied`]: what became of it. [`Entry`]: what is kept of one event. [`Receipt`]: what its
 //! caller is told of it, with `try_copy`, and `same`, which takes no memory. [`compare`] says
 //! whether receipts agree with any entries, or names the first that does not.

@@ -1,15 +1,16 @@
 //! What lies under the lock: the history, and the book of what was entered since the start.
-ghost use Rattle.std.specs.Prelude.{◌≡◌, ◌+◌, ◌<◌};
+ghost use Rattle.std.specs.Prelude.{◌≡◌, ◌+◌, ◌<◌, IfOk, OnErr};
 ghost use Rattle.history_core.specs.History.{IsHistory};
+ghost use Rattle.history_core.specs.Receipts.{told_of, TakesMemory};
 ghost use Rattle.history_core.specs.Steps.{IsEncodable};
 ghost use Rattle.live_lock.specs.Sharing.{entered, IsHeld, TakesPlace, IsToldOf};
 ghost use Rattle.live_lock.specs.Counting.{IsCounted};
 
 use crate::run::Run;
 use agent_core::Buffer;
-use history_core::{Applied, Event, Kept};
+use history_core::{Applied, Event, Kept, ReceiptEvent};
 use setphase_core::MibObject;
-use std::alloc::Global;
+use std::alloc::{AllocError, Global};
 use std::marker::Model;
 use std::sync::ledger::{Blank, Book, Share};
 
@@ -77,16 +78,19 @@ impl<O: MibObject, L: Run> Held<O, L> {
         (held, share)
     }
 
-    /// One event happens, and its entry is counted.
+    /// One event happens, and its entry is counted. What its receipt tells of it was copied before.
     pub fn apply(
         &mut self,
         alloc: Global,
         share: &mut Share<L>,
         event: Event,
+        told: Result<ReceiptEvent, AllocError>,
         buffer: &mut Buffer,
     ) -> Applied
         requires part { 0 < share.old.parts }
         requires encodable { IsEncodable event }
+        requires told { IfOk told (λ t. t ≡ told_of event) }
+        requires takes { OnErr told (TakesMemory (told_of event)) }
         ensures place { TakesPlace L.start event result buffer.new }
         ensures told { IsToldOf event result buffer.new }
         ensures amount { share.new.amount ≡ share.old.amount + entered result }
@@ -94,7 +98,7 @@ impl<O: MibObject, L: Run> Held<O, L> {
     {
         let Held { kept, book, .. } = self;
         kept.legal();
-        let applied = kept.apply(alloc, event, buffer);
+        let applied = kept.apply_told(alloc, event, told, buffer);
         book.add(share, entries_of(&applied));
         applied
     }

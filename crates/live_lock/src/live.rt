@@ -19,9 +19,13 @@ use std::alloc::Global;
 use std::hint::spin_loop;
 use std::sync::ledger::{Blank, Share};
 use std::sync::{Mutex, MutexGuard, Wait};
+use std::thread::yield_now;
 
-// How often a thread looks whether the lock is free, before it sleeps until it is.
-const MOST_LOOKS: u32 = 1000;
+// How often a thread looks whether the lock is free, before it sleeps until it is; and after how many
+// looks it lets others run between two of them.
+const MOST_LOOKS: u32 = 320;
+
+const LOOKS_ALONE: u32 = 256;
 
 /// A history under one lock. Each call of an event holds the lock once: the event takes its place in
 /// the history, and by shared reference any number of threads may call. Whenever the lock is free
@@ -143,18 +147,23 @@ impl<O: MibObject, L: Run> Live<O, L> {
     }
 
     // The history, once the lock is free. An event takes a few microseconds, and a thread that sleeps
-    // takes longer to be woken; so it looks for a while first.
+    // takes longer to be woken; so it looks for a while first, and then lets others run between two
+    // looks, since one that has the lock may wait for a processor.
     fn locked<R: Wait>(&self, rt: &R) -> MutexGuard<'_, Held<O, L>> {
-        for _ in 0..MOST_LOOKS {
+        for look in 0..MOST_LOOKS {
             if let Some(guard) = self.held.try_lock() {
                 return guard;
             }
-            spin_loop();
+            if look < LOOKS_ALONE {
+                spin_loop();
+            } else {
+                yield_now();
+            }
         }
         self.held.lock(rt)
     }
 
-    // One event takes its place, under the lock.
+    // One event takes its place, under the lock. What its receipt tells of it is copied before.
     fn apply<R: Wait>(
         &self,
         rt: &R,
@@ -170,7 +179,8 @@ impl<O: MibObject, L: Run> Live<O, L> {
         ensures amount { share.new.amount ≡ share.old.amount + entered result }
         ensures parts { share.new.parts ≡ share.old.parts }
     {
-        self.locked(rt).apply(alloc, share, event, buffer)
+        let told = event.told(alloc);
+        self.locked(rt).apply(alloc, share, event, told, buffer)
     }
 
     /// How far the history is past its start, at the time of the call.

@@ -116,7 +116,7 @@ fn keeps_the_setting_that_could_not_be_undone(rt: HostRuntime) -> Result<(), Fai
     let (number, keys) = stuck(outcome).ok_or("a failed undo")?;
     assert_eq!(rt; number, 3);
     let port_2 = SettingKey::Bridge(Key::Port(2, PortKey::Enable));
-    assert!(rt; matches!(keys.as_slice(), [key] if *key == port_2));
+    assert!(rt; matches!(keys.as_slice(), [key] if key.key() == port_2));
     assert_eq!(rt; enables, [1, 2, 1]);
     assert_eq!(rt; held, 0);
     Ok(())

@@ -97,7 +97,7 @@ pub fn shown_at(alloc: Global, world: &World, name: &[u32]) -> Result<Vec<u8>, F
         .ok()
         .ok_or("a registry")?;
     let mut text = Vec::new(alloc);
-    if let Some(value) = registry.read(alloc, world, name) {
+    if let Some(value) = registry.read(alloc, world, name, 0) {
         say_value(&value, &mut text)?;
     }
     Ok(text)

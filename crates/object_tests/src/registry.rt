@@ -15,7 +15,7 @@ pub fn number_at<O: MibObject>(
     world: &World,
     name: &[u32],
 ) -> i32 {
-    match registry.read(alloc, world, name) {
+    match registry.read(alloc, world, name, usize::MAX) {
         Some(Value::Integer(number)) => number,
         _ => 0,
     }
@@ -101,11 +101,13 @@ fn refuses_objects_out_of_order(rt: HostRuntime) -> Result<(), Fail> {
     Ok(())
 }
 
-// The last number of the owner's name, or 0 where there is no owner.
-fn owner_of<O: MibObject>(registry: &Registry<O>, name: &[u32]) -> u32 {
-    match registry.owner(name) {
-        Some([_, _, last]) => *last,
-        _ => 0,
+// The last number of the owner's name, or 0 where there is no owner, looked for near this place; and
+// the place that is left.
+fn owner_of<O: MibObject>(registry: &Registry<O>, name: &[u32], near: usize) -> (u32, usize) {
+    let mut place = near;
+    match registry.owner(name, &mut place) {
+        Some([_, _, last]) => (*last, place),
+        _ => (0, place),
     }
 }
 
@@ -115,12 +117,14 @@ fn finds_the_owner_of_a_name(rt: HostRuntime) -> Result<(), Fail> {
     objects.push(make_plain(rt.alloc(), 1, false)?)?;
     objects.push(make_plain(rt.alloc(), 2, true)?)?;
     let registry = Registry::new(objects).ok().ok_or("a registry")?;
-    let owners = [
-        owner_of(&registry, &[1, 3, 2, 7]),
-        owner_of(&registry, &[1, 3, 1]),
-        owner_of(&registry, &[1, 3, 3]),
-        owner_of(&registry, &[1, 3]),
-    ];
-    assert_eq!(rt; owners, [2, 1, 0, 0]);
+    for near in [0, 1, 2, usize::MAX] {
+        let owners = [
+            owner_of(&registry, &[1, 3, 2, 7], near),
+            owner_of(&registry, &[1, 3, 1], near),
+            owner_of(&registry, &[1, 3, 3], near),
+            owner_of(&registry, &[1, 3], near),
+        ];
+        assert_eq!(rt; owners, [(2, 1), (1, 0), (0, 2), (0, 0)]);
+    }
     Ok(())
 }

@@ -117,16 +117,20 @@ impl<O: MibObject> Registry<O> {
     }
 
     /// The name of the object whose name begins a name, where there is one. It takes no memory.
-    pub fn owner(&self, name: &[u32]) -> Option<&[u32]>
+    ///
+    /// `near` may be any number, and only time hangs on it: where it is the place of that object, or
+    /// the one before, no search is made. The object's place is left there.
+    pub fn owner(&self, name: &[u32], near: &mut usize) -> Option<&[u32]>
         ensures { option_copied result ≡ owner_of (rows_of self.now) name.now }
     {
         let objects = self.objects.as_slice();
-        let place = place_uncounted::<O, Brand>(objects, name, Blank::new(1));
+        let place = place_near(objects, name, *near);
+        *near = start_of(objects, name, place);
         owner_name(objects, name, place)
     }
 
-    /// The same, and one step for each turn of the search: of n objects no more than s steps with
-    /// 2^s <= 2n + 1.
+    /// The same by a search, and one step for each of its turns: of n objects no more than s steps
+    /// with 2^s <= 2n + 1.
     pub fn owner_steps<L: Ledger>(&self, name: &[u32], steps: &mut Steps<L>) -> Option<&[u32]>
         ensures owner { option_copied result ≡ owner_of (rows_of self.now) name.now }
         ensures forward { steps.old ≤ steps.new }
@@ -138,11 +142,14 @@ impl<O: MibObject> Registry<O> {
     }
 
     /// The value of the instance of that name, where there is one. It takes no memory.
-    pub fn read(&self, alloc: Global, world: &World, name: &[u32]) -> Option<Value>
+    ///
+    /// `near` may be any number, and only time hangs on it: the place that `owner` left there for
+    /// this name spares a search.
+    pub fn read(&self, alloc: Global, world: &World, name: &[u32], near: usize) -> Option<Value>
         ensures { result ≡ value_of (instances (rows_of self.now) world.now) name.now }
     {
         let objects = self.objects.as_slice();
-        let place = place_uncounted::<O, Brand>(objects, name, Blank::new(1));
+        let place = place_near(objects, name, near);
         value_there(alloc, objects, world, name, place)
     }
 

@@ -3,10 +3,11 @@
 //!
 //! # Entry points
 //! [`SettingKey`], [`SettingValue`]: plain data. Of what stands above, the world of `setphase_core`
-//! alone tells their kinds apart. [`SettingKeys`]: a list of keys.
+//! alone tells their kinds apart. [`SettingKeys`]: a list of keys, each of which stands there as a
+//! [`ListedKey`].
 //!
 //! # Definitions
-//! None.
+//! `specs/Listed.antt`: which key the parts of a listed key are.
 //!
 //! # Laws
 //! None.
@@ -18,7 +19,7 @@
 ghost use Rattle.std.specs.Prelude.{◌≡◌, ◌<◌, ◌↔◌, [], ◌∷◌, length, IsTrue};
 
 use arrayvec::ArrayVec;
-use rstp_settings::key::{BridgeKey, Key};
+use rstp_settings::key::{BridgeKey, Key, PortKey};
 use std::marker::Model;
 
 /// The name of a setting.
@@ -56,10 +57,70 @@ impl Default for SettingValue {
 /// The most keys that a list of them has: as many as a Set has variables.
 pub const MAX_KEYS: usize = 64;
 
+// The parts of a key, in an order in which they take four octets and not eight: lists of keys are
+// moved about with each audit.
+#[derive(Clone, Copy)]
+enum Parts {
+    Bridge(BridgeKey),
+    Port(PortKey, u16),
+}
+
+/// A key as it stands in a list, seen as the key.
+#[derive(Clone, Copy)]
+pub struct ListedKey {
+    parts: Parts,
+}
+
+impl Model for ListedKey {
+    ghost use Rattle.setting_keys.specs.declared.SettingKey.{SettingKey as AnyKey};
+    ghost use Rattle.setting_keys.specs.Listed.{key_of, parts_of};
+
+    ghost Value = { AnyKey };
+
+    ghost view = { λ k. key_of k.parts };
+
+    ghost inverse = { λ key. record { parts = parts_of key } };
+}
+
+impl Default for ListedKey {
+    /// The bridge priority, which every world has.
+    fn default() -> ListedKey
+        ensures { result ≡ SettingKey.Bridge (Key.Bridge BridgeKey.Priority) }
+    {
+        ListedKey {
+            parts: Parts::Bridge(BridgeKey::Priority),
+        }
+    }
+}
+
+impl ListedKey {
+    /// A key, as it stands in a list.
+    fn of(key: SettingKey) -> ListedKey
+        ensures { result ≡ key }
+    {
+        let SettingKey::Bridge(key) = key;
+        let parts = match key {
+            Key::Bridge(key) => Parts::Bridge(key),
+            Key::Port(port, key) => Parts::Port(key, port),
+        };
+        ListedKey { parts }
+    }
+
+    /// The key.
+    pub fn key(self) -> SettingKey
+        ensures { result ≡ self }
+    {
+        SettingKey::Bridge(match self.parts {
+            Parts::Bridge(key) => Key::Bridge(key),
+            Parts::Port(key, port) => Key::Port(port, key),
+        })
+    }
+}
+
 /// At most `MAX_KEYS` keys of settings, seen as their list.
 #[derive(Drop)]
 pub struct SettingKeys {
-    keys: ArrayVec<SettingKey, MAX_KEYS>,
+    keys: ArrayVec<ListedKey, MAX_KEYS>,
 }
 
 impl Model for SettingKeys {
@@ -89,7 +150,7 @@ impl SettingKeys {
     }
 
     /// The keys.
-    pub fn as_slice(&self) -> &[SettingKey]
+    pub fn as_slice(&self) -> &[ListedKey]
         ensures { result.now ≡ self.now }
     {
         self.keys.as_slice()
@@ -111,6 +172,6 @@ impl SettingKeys {
         requires { length self.old < MAX_KEYS }
         ensures { self.new ≡ key ∷ self.old }
     {
-        self.keys.insert(0, key);
+        self.keys.insert(0, ListedKey::of(key));
     }
 }

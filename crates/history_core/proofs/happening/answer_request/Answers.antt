@@ -1,4 +1,4 @@
-use Rattle.std.proofs.Common.{◌≡◌, ◌∙◌, rules}
+use Rattle.std.proofs.Common.{◌∙◌, rules}
 use Rattle.history_core.proofs.Requests.{short_stays, long_read_stays, came_happens, came_stays}
 use Rattle.history_core.proofs.happening.answer_request.Goals as goal
 

@@ -1,4 +1,4 @@
-use Rattle.std.proofs.Common.{◌≡◌, ◌∙◌, sym, subst}
+use Rattle.std.proofs.Common.{sym, subst}
 use Rattle.community_core.specs.Communities.{PolicyTables}
 use Rattle.setphase_core.specs.declared.world.World.{World}
 use Rattle.history_core.specs.Happening.{Happens}

@@ -1,6 +1,5 @@
-use Rattle.std.proofs.Common.{◌≡◌, ◌≤◌, vec_capacity, arith, sym, subst}
+use Rattle.std.proofs.Common.{◌≡◌, arith, sym, subst}
 use Rattle.history_core.specs.History.{History, IsHistory, fresh}
-use Rattle.history_core.specs.declared.limits.TheConstants.{MAX_ENTRIES}
 use Rattle.history_core.proofs.Histories.{fresh-ok}
 use Rattle.history_core.proofs.kept.Kept.resume.Goals as goal
 

@@ -1,12 +1,13 @@
-use Rattle.std.proofs.Common.{◌≡◌, ◌≢◌, ◌∙◌, ◌<◌, ◌≤◌, ◌^◌, length, vec_capacity, refl, sym, ap, subst, arith, rules, Option, Some, None}
-use Rattle.std.specs.Prelude.{◌==◌, if◌then◌else◌}
-use Rattle.history_core.specs.History.{History, IsHistory, next_of, last_number, Applies, after}
-use Rattle.history_core.specs.Happening.{notes_in, first_of, second_of}
-use Rattle.history_core.specs.Keeping.{applied_by}
-use Rattle.history_core.specs.declared.limits.TheConstants.{MAX_ENTRIES}
+use Rattle.std.proofs.Common.{◌≡◌, ◌≢◌, ◌∙◌, ◌<◌, ◌^◌, sym, ap, subst, arith}
+use Rattle.std.specs.Prelude.{Result, IfOk}
+use Rattle.std.specs.declared.alloc.AllocError.{AllocError}
+use Rattle.history_core.specs.Receipts.{told_of}
+use Rattle.history_core.specs.declared.event.ReceiptEvent.{ReceiptEvent}
+use Rattle.history_core.specs.History.{History, next_of, last_number, Applies}
+use Rattle.history_core.specs.Keeping.{due_base}
 use Rattle.history_core.specs.declared.applied.Applied.{Applied}
 use Rattle.history_core.proofs.Applying.{left-ok, applies-ok}
-use Rattle.history_core.proofs.kept.Kept.apply.Goals as goal
+use Rattle.history_core.proofs.kept.Kept.apply_told.Goals as goal
 
 pub invariant_of-self-2 : goal.invariant_of-self-2
 invariant_of-self-2 g c =
@@ -15,7 +16,7 @@ invariant_of-self-2 g c =
     let number = c.next_number-number.ensures ∙ ap next_of (sym c.self.view_is) in
     let other : next_of h ≢ last_number = (λ e. c.if-number.false (number ∙ e)) in
     let below : next_of h < 2 ^ 64 = c.self.invariant.0.fits in
-    let base = c.in-Ok.ensures.ready.base ∙ ap (λ (x : History). if length x.entries == MAX_ENTRIES then Some x.world else None) (sym c.self.view_is) in
+    let base = c.in-Ok.ensures.base ∙ ap due_base (sym c.self.view_is) in
     let t = left-ok h c.args.event c.happen.new.happened _ _ _ _ _ _ _ _ _ c.self.invariant.0 number (omega (arith, below, other)) base c.in-Ok-happen.ensures.happens c.made_of-entry.ensures.entry c.enter.ensures.entered in
     (t.1, omega (arith, c.self.invariant.1, c.enter.ensures.capacity))
 
@@ -28,10 +29,12 @@ returns g c =
     let other : next_of h ≢ last_number = (λ e. c.if-number.false (number ∙ e)) in
     let most : next_of h < 2 ^ 64 = c.self.invariant.0.fits in
     let below : next_of h < last_number = omega (arith, most, other) in
-    let base = c.in-Ok.ensures.ready.base ∙ ap (λ (x : History). if length x.entries == MAX_ENTRIES then Some x.world else None) (sym c.self.view_is) in
+    let base = c.in-Ok.ensures.base ∙ ap due_base (sym c.self.view_is) in
     let happens = c.in-Ok-happen.ensures.happens in
     let t = left-ok h c.args.event c.happen.new.happened _ _ _ _ _ _ _ _ _ c.self.invariant.0 number below base happens c.made_of-entry.ensures.entry c.enter.ensures.entered in
+    let told : c.in-Ok.ready.told ≡ told_of c.args.event =
+    subst (λ (x : Result ReceiptEvent AllocError). IfOk x (λ t. t ≡ told_of c.args.event)) c.in-Ok.ensures.told c.requires.told in
     let applied = applies-ok h c.args.event c.happen.new.happened c.happen.new.world c.happen.new.registry c.happen.new.buffer c.next_number-number.result c.in-Ok.ready.told c.made_of-entry.result.receipt c.made_of-entry.result.audit later
-    below happens number c.in-Ok.ensures.ready.told c.made_of-entry.ensures.receipt c.made_of-entry.ensures.audit t.0 in
+    below happens number told c.made_of-entry.ensures.receipt c.made_of-entry.ensures.audit t.0 in
     subst (λ (x : History). Applies x c.args.event c.applied.result later c.happen.new.buffer) c.self.view_is
     (subst (λ (x : Applied). Applies h c.args.event x later c.happen.new.buffer) (sym c.applied.ensures) applied)
