@@ -33,8 +33,7 @@ pub fn family_of(alloc: Global, view: &str, subtree: &str) -> Result<FamilyKey, 
         mask: Mask::of(&[]),
         included: false,
     };
-    let key = FamilyKey::of(alloc, &row)?;
-    Ok(key)
+    Ok(FamilyKey::of(alloc, &row)?)
 }
 
 /// An audit that denies nothing, and after which no setting is unrestored.

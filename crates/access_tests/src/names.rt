@@ -5,8 +5,7 @@ use vacm_core::Name;
 
 /// A name of a text.
 pub fn named(text: &str) -> Result<Name, Fail> {
-    let name = Name::from_str(text).ok_or("a name")?;
-    Ok(name)
+    Ok(Name::from_str(text).ok_or("a name")?)
 }
 
 /// The dotted text of 1.3 and ones, of so many sub-identifiers.

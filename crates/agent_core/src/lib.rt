@@ -3,18 +3,22 @@
 //!
 //! # Entry points
 //! [`answer`] is one step of a request over a `Registry` of managed objects and the `World` that
-//! they show: its reply and what the ports send stand in a [`Buffer`], its audit is given, a drop is
-//! counted, a Set changes all its variables or none but what could not be undone. Objects that
+//! they show: its reply and what the ports send stand in a [`Buffer`], its audit is given, a drop
+//! is counted, a Set changes all its variables or none but what could not be undone. Objects that
 //! the view is seen to hide whole are passed over, however many instances they show.
 //! [`short_reply`] writes the reply for a want of memory, and takes none. Under any [`View`]
 //! [`get`] answers from any [`Source`], and [`get_next`] and [`get_bulk`] from any [`Successors`],
-//! of which they can ask nothing but the next instance: each such look is a step.
+//! of which they can ask nothing but the next instance: each such look is a step. [`Answered`] is
+//! what `answer` gives, [`PolicyView`] the [`View`] of the tables of access control, [`NOWHERE`]
+//! the note of a walk that has found nothing yet.
 //!
 //! # Definitions
 //! `specs/Answers.antt`: what objects show of a world, and the step; `specs/Replies.antt`: replies
-//! by kind, and the size rule; `specs/Sets.antt`: what a Set comes to; `specs/Reading.antt`: what is visible, Get and GetNext;
-//! `specs/Looking.antt`: the looks that a successor takes; `specs/Bulk.antt`, `specs/Fitting.antt`:
-//! GetBulk; `specs/Denying.antt`: denied bindings.
+//! by kind, and the size rule; `specs/Sets.antt`: what a Set comes to; `specs/Reading.antt`: what
+//! is visible, Get and GetNext; `specs/Looking.antt`: the looks that a successor takes;
+//! `specs/Bulk.antt`, `specs/Fitting.antt`: GetBulk; `specs/Denying.antt`: denied bindings;
+//! `specs/Buffered.antt`: what a buffer holds; `specs/Sending.antt`: bindings that are to be sent,
+//! and their room.
 //!
 //! # Laws
 //! In [`laws`]: replies hang on nothing but what is visible; repeated GetNext lists all of it; a

@@ -2,14 +2,18 @@
 //!
 //! # Entry points
 //! [`run_script`] reads a script to its end over what managed objects show of a world, and
-//! [`run_kept`] over a history that has begun.
+//! [`run_kept`] over a history that has begun. Each says by a [`Run`] whether each line was
+//! answered in full. A line lets [`MAX_SECONDS`] seconds pass at most.
 //!
 //! # Definitions
 //! `specs/Commands.antt`: which command a line is; `specs/Actions.antt`: what a line does;
 //! `specs/Events.antt`: what an event may meet, and what it adds to the history;
-//! `specs/Outputs.antt`: how what comes out of an event is written; `specs/Notes.antt`: what a
-//! line may meet, and when it may be given up; `specs/Script.antt`: the text of a script;
-//! `specs/Runs.antt`: how a script went. The step of an event is that of `history_core`.
+//! `specs/Outputs.antt`: how what comes out of an event is written; `specs/Notes.antt`: what a line
+//! may meet, and when it may be given up (the end of a script only where a policy is open);
+//! `specs/Script.antt`: the text of a script; `specs/Runs.antt`: how a script went;
+//! `specs/State.antt`: what a script's agent is; `specs/Sessions.antt`: the agent as it answers
+//! lines; `specs/CommandViews.antt`: what the code's commands stand for. The step of an event is
+//! that of `history_core`.
 //!
 //! # Laws
 //! In [`laws`]: how many seconds one line lets pass at most, and how many calls it plans.
@@ -18,8 +22,8 @@
 //! That a want of memory came only where memory was refused, and that a read failed where the
 //! answer is `Input`: that answer may come before anything is read. How much of what was said is
 //! written where a write failed. That a device really failed where a Set is answered so. That a
-//! device fails by the plan of a `driver` line, or is handed
-//! it at all: what is shown of the objects has no plan.
+//! device fails by the plan of a `driver` line, or is handed it at all: what is shown of the
+//! objects has no plan.
 #![tactic(auto)]
 
 mod agent;

@@ -4,6 +4,7 @@
 //! `run_words` over managed objects, words, streams and a reader of files gives the exit status, 0,
 //! 1 or 2, whether the line of a failure was written whole, and what is left to be served, if its
 //! words ask for that. `run_octets` runs the script over objects by the octets of a configuration,
+//! and refuses octets that say none, or objects that make no registry, before it reads or writes,
 //! `check_octets` tells whether octets are one, `open_service` gives what they say is to be served,
 //! `serve_opened` serves it for its rounds, and `serve_opened_forever` without an end.
 //!
@@ -19,9 +20,9 @@
 //!
 //! # Not claimed
 //! That the words are those of the command line, that the objects that `main` makes are the 51 of
-//! `object_list`, that it serves what is left to be served, and its status then. That a write failed
-//! where the line of a failure is told to be cut off. That memory was refused where the answer is for
-//! want of it. What a file of the system holds and a terminal shows.
+//! `object_list`, that it serves what is left to be served, and its status then. That a write
+//! failed where the line of a failure is told to be cut off. That memory was refused where the
+//! answer is for want of it. What a file of the system holds and a terminal shows.
 #![tactic(auto)]
 
 mod checking;

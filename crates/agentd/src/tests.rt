@@ -214,29 +214,75 @@ fn told_of(alloc: Global, run: &Finished) -> Result<String, Fail> {
     Ok(String::from_str(alloc, told)?)
 }
 
+// What a run of these words, which are no command, is told of them.
+fn refused<R: Files + AllocGlobal>(rt: &R, words: &[&str]) -> Result<String, Fail> {
+    let run = ran(rt, words, GET)?;
+    if run.status != 2 || !run.out.is_empty() {
+        return Err(Fail::from("a command"));
+    }
+    told_of(rt.alloc(), &run)
+}
+
 #[test]
-fn takes_no_other_words(rt: HostRuntime) -> Result<(), Fail> {
+fn tells_that_the_file_is_missing(rt: HostRuntime) -> Result<(), Fail> {
+    for words in [
+        ["agentd", "script"].as_slice(),
+        ["agentd", "serve"].as_slice(),
+        ["agentd", "serve", "--forever"].as_slice(),
+        ["agentd", "check", "--config"].as_slice(),
+        ["agentd", "script", "--config="].as_slice(),
+        ["agentd", "check", "--config=", "a.toml"].as_slice(),
+    ] {
+        assert_eq!(rt; refused(&rt, words)?.as_str(), "--config FILE is missing\n");
+    }
+    Ok(())
+}
+
+#[test]
+fn tells_the_word_at_fault(rt: HostRuntime) -> Result<(), Fail> {
     for (words, told) in [
         (
             ["agentd", "script", "", ""].as_slice(),
             "unexpected word \n",
         ),
         (
-            ["agentd", "script"].as_slice(),
-            "--config FILE is missing\n",
-        ),
-        (
             ["agentd", "server", "--config", "a.toml"].as_slice(),
             "unexpected word server\n",
         ),
-        (["agentd", "serve"].as_slice(), "--config FILE is missing\n"),
+        (
+            ["agentd", "--config", "a.toml"].as_slice(),
+            "unexpected word --config\n",
+        ),
+        (
+            ["agentd", "script", "--config", "a.toml", "--fast"].as_slice(),
+            "unexpected word --fast\n",
+        ),
+        (
+            ["agentd", "--version", "now"].as_slice(),
+            "unexpected word now\n",
+        ),
+        (["agentd", "-V", "-h"].as_slice(), "unexpected word -h\n"),
+        (["agentd", "-v"].as_slice(), "unexpected word -v\n"),
+        (
+            ["agentd", "check", "--config=a.toml", "b.toml"].as_slice(),
+            "unexpected word b.toml\n",
+        ),
+        (
+            ["agentd", "script", "--conf=a.toml"].as_slice(),
+            "unexpected word --conf=a.toml\n",
+        ),
+    ] {
+        assert_eq!(rt; refused(&rt, words)?.as_str(), told);
+    }
+    Ok(())
+}
+
+#[test]
+fn tells_where_forever_may_not_stand(rt: HostRuntime) -> Result<(), Fail> {
+    for (words, told) in [
         (
             ["agentd", "serve", "--config", "a.toml", "now"].as_slice(),
             "unexpected word now\n",
-        ),
-        (
-            ["agentd", "serve", "--forever"].as_slice(),
-            "--config FILE is missing\n",
         ),
         (
             ["agentd", "serve", "--config", "a.toml", "--forever", "now"].as_slice(),
@@ -261,44 +307,8 @@ fn takes_no_other_words(rt: HostRuntime) -> Result<(), Fail> {
             ["agentd", "script", "--forever", "--config", "a.toml"].as_slice(),
             "unexpected word --forever\n",
         ),
-        (
-            ["agentd", "check", "--config"].as_slice(),
-            "--config FILE is missing\n",
-        ),
-        (
-            ["agentd", "--config", "a.toml"].as_slice(),
-            "unexpected word --config\n",
-        ),
-        (
-            ["agentd", "script", "--config", "a.toml", "--fast"].as_slice(),
-            "unexpected word --fast\n",
-        ),
-        (
-            ["agentd", "--version", "now"].as_slice(),
-            "unexpected word now\n",
-        ),
-        (["agentd", "-V", "-h"].as_slice(), "unexpected word -h\n"),
-        (["agentd", "-v"].as_slice(), "unexpected word -v\n"),
-        (
-            ["agentd", "script", "--config="].as_slice(),
-            "--config FILE is missing\n",
-        ),
-        (
-            ["agentd", "check", "--config=", "a.toml"].as_slice(),
-            "--config FILE is missing\n",
-        ),
-        (
-            ["agentd", "check", "--config=a.toml", "b.toml"].as_slice(),
-            "unexpected word b.toml\n",
-        ),
-        (
-            ["agentd", "script", "--conf=a.toml"].as_slice(),
-            "unexpected word --conf=a.toml\n",
-        ),
     ] {
-        let run = ran(&rt, words, GET)?;
-        assert_eq!(rt; (run.status, run.out.is_empty()), (2, true));
-        assert_eq!(rt; told_of(rt.alloc(), &run)?.as_str(), told);
+        assert_eq!(rt; refused(&rt, words)?.as_str(), told);
     }
     Ok(())
 }

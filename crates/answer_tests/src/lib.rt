@@ -1,6 +1,6 @@
 //! Tests of answers over managed objects and the world of a bridge: whole requests, what is read
-//! under a view, also one that hides whole objects, walks over successors alone, and the reply for a
-//! want of memory.
+//! under a view, also one that hides whole objects, walks over successors alone, and the reply for
+//! a want of memory.
 //!
 //! # Entry points
 //! None: the tests call what `agent_core` offers.

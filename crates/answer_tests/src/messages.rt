@@ -9,13 +9,16 @@ use setphase_core::World;
 use std::alloc::Global;
 use std::test::Fail;
 
-/// The tags of PDUs.
+/// The tag of a GetRequest-PDU (RFC 3416, section 3).
 pub const GET: u8 = 0xA0;
 
+/// The tag of a GetNextRequest-PDU.
 pub const GET_NEXT: u8 = 0xA1;
 
+/// The tag of a Response-PDU.
 pub const RESPONSE: u8 = 0xA2;
 
+/// The tag of a GetBulkRequest-PDU.
 pub const GET_BULK: u8 = 0xA5;
 
 /// NULL, the value of a name that is asked for.

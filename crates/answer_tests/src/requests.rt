@@ -13,16 +13,20 @@ pub fn plain(column: Column) -> Object<Steady> {
 }
 
 // How many ports there are, and of each port its ifIndex and its circuit.
-#[test]
-fn answers_from_the_base_group(rt: HostRuntime) -> Result<(), Fail> {
-    let mut objects = Vec::new(rt.alloc());
+fn base_group(alloc: Global) -> Result<Vec<Object<Steady>>, Fail> {
+    let mut objects = Vec::new(alloc);
     objects.push(plain(Column::Base(Base::NumPorts)))?;
     objects.push(plain(Column::BasePort(BasePort::IfIndex)))?;
     objects.push(plain(Column::BasePort(BasePort::Circuit)))?;
+    Ok(objects)
+}
+
+#[test]
+fn gets_from_the_base_group(rt: HostRuntime) -> Result<(), Fail> {
     assert_rows(
         &rt,
         rt.alloc(),
-        objects,
+        base_group(rt.alloc())?,
         ALL,
         &[
             (
@@ -39,6 +43,18 @@ fn answers_from_the_base_group(rt: HostRuntime) -> Result<(), Fail> {
                 &[(&[1, 4, 1, 2, 3], NULL), (&[1, 3, 0], NULL)],
                 &[(&[1, 4, 1, 2, 3], &[0x81, 0]), (&[1, 3, 0], &[0x80, 0])],
             ),
+        ],
+    )
+}
+
+#[test]
+fn goes_through_the_base_group(rt: HostRuntime) -> Result<(), Fail> {
+    assert_rows(
+        &rt,
+        rt.alloc(),
+        base_group(rt.alloc())?,
+        ALL,
+        &[
             (
                 "the next, and the end",
                 GET_NEXT,

@@ -3,10 +3,13 @@
 //! # Entry points
 //! [`Audit`] is a plain record: the PDU type, status and index as sent, the decision with the keys
 //! of its rows, the denied variable bindings, and the settings that a Set could not put back.
-//! [`audit_line`] and [`write_audit`] write its line.
+//! [`audit_line`] and [`write_audit`] write its line. `Audit::try_copy` is a copy, which takes
+//! memory only for denied variable bindings. The denied bindings are [`DeniedBindings`], a
+//! list of [`Denied`], each with the [`FamilyKey`] of the family that excludes its name, where one
+//! does.
 //!
 //! # Definitions
-//! `specs/Text.antt`: the line, to the octet.
+//! `specs/Text.antt`: the line, to the octet; `specs/Keys.antt`: the key of a family row.
 //!
 //! # Laws
 //! None.

@@ -2,14 +2,14 @@
 //! Nothing here takes memory.
 //!
 //! # Entry points
-//! `read_tlv` splits octets into a tag, its content and the rest; `read_i32`, `read_u32`,
+//! `read_tlv` splits octets into a [`Tag`], its content and the rest; `read_i32`, `read_u32`,
 //! `read_u64` read contents; [`Out`] writes into a lent slice, from its back to its front. Each
 //! refuses by a [`BerFault`] of its own.
 //!
 //! # Definitions
 //! `specs/Encoding.antt`: heads and lengths, two's complement, and the shortest encoding;
 //! `specs/Reading.antt`: the same from left to right; `specs/Writing.antt`: what a writer wrote and
-//! its room.
+//! its room; `specs/Fault.antt`: why octets begin with no tag, length and content.
 //!
 //! # Laws
 //! In [`laws`]: the shortest encoding is one, none is shorter, one that is no longer is it, and no

@@ -6,13 +6,17 @@
 //! [`Bridge`]: `new`, `frame`, `tick`, `link`, `settle`; `ports`, `facts`, `port_facts`, `fdb`,
 //! `get_setting`, `put_setting`, `copied_settings`, `has_settings`; `try_copy` and `flat`, which
 //! gives a [`FlatBridge`] with `same`. Only `frame` may take memory, for a learned address, and the
-//! two copies, for their learned rows.
+//! two copies, for their learned rows. `frame` gives a [`Forwarding`], which has what each port
+//! sends as [`Bpdus`]; `new` refuses by a [`BridgeFault`]; [`Facts`] and [`PortFacts`] are what is
+//! shown. At most [`MAX_LEARNED_ROWS`] addresses are learned.
 //!
 //! # Definitions
 //! `specs/Bridge.antt`, `specs/Opening.antt`: what a bridge is, and is at first;
 //! `specs/Events.antt`: one event; `specs/Forwarding.antt`: egress and learning, and
 //! `specs/Relay.antt` the same in the standard's words; `specs/Counting.antt`, `specs/Facts.antt`:
-//! counters and what is shown; `specs/Runs.antt`: lists of events.
+//! counters and what is shown; `specs/Runs.antt`: lists of events; inside the crate
+//! `specs/BridgeInside.antt`: what holds of the fields of each bridge, and
+//! `specs/ForwardingInside.antt`: how the ports of a frame are found.
 //!
 //! # Laws
 //! In [`laws`]: where a frame goes in the standard's words, which ports forward after any list of

@@ -42,7 +42,7 @@ pub fn ticks(seconds: u64) -> Value
 }
 
 /// So few octets as OCTET STRING. It takes no memory.
-pub fn string(alloc: Global, octets: &[u8]) -> Value
+pub(crate) fn string(alloc: Global, octets: &[u8]) -> Value
     requires { length octets.now ≤ INLINE_OCTETS }
     ensures { result ≡ OctetString octets.now }
 {
@@ -53,14 +53,14 @@ pub fn string(alloc: Global, octets: &[u8]) -> Value
 }
 
 /// A port identifier: two octets, the higher one first (RFC 4188, dot1dStpPortDesignatedPort).
-pub fn port_identifier(alloc: Global, id: u16) -> Value
+pub(crate) fn port_identifier(alloc: Global, id: u16) -> Value
     ensures { result ≡ OctetString (two_octets id) }
 {
     string(alloc, &id.to_be_bytes())
 }
 
 /// A bridge identifier: the priority in two octets, and the address in six (RFC 4188, BridgeId).
-pub fn bridge_identifier(alloc: Global, id: &BridgeId) -> Value
+pub(crate) fn bridge_identifier(alloc: Global, id: &BridgeId) -> Value
     ensures { result ≡ OctetString (bridge_id id.now) }
 {
     let [high, low] = id.priority.to_be_bytes();
@@ -79,7 +79,7 @@ fn state_number(state: State) -> u32
 }
 
 /// The state of a port, or that it is off (RFC 4188, dot1dStpPortState).
-pub fn port_state(port: &PortFacts) -> Value
+pub(crate) fn port_state(port: &PortFacts) -> Value
     ensures { result ≡ port_state port.now }
 {
     if port.on {

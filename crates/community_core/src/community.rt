@@ -6,7 +6,7 @@ ghost use Rattle.community_core.specs.Communities.{community_lengths, community_
 use std::alloc::{AllocError, Global};
 use vacm_core::{Contest, CopiedAs, MAX_NAME, Name, Same, Text, Written, deciding_row};
 
-/// The most octets of a community's name.
+/// The longest name that a community of a policy may have, in octets: 255.
 pub const MAX_COMMUNITY_NAME: usize = 255;
 
 /// A community row as it is written.

@@ -4,7 +4,10 @@
 //! # Entry points
 //! `Policy::caller` says whom a community stands for; `Policy::new` takes written communities or
 //! names the first fault. `Policy::try_copy` is a copy, and `Policy::rows` its rows as they are
-//! written, of which `PolicyRows::same` tells whether two are the same.
+//! written, of which `PolicyRows::same` tells whether two are the same. A [`Caller`] is whom a name
+//! stands for, by its [`CommunityRow`]; a [`WrittenCommunity`] is a row as it is written, whose
+//! name has at most [`MAX_COMMUNITY_NAME`] octets. A [`PolicyFault`] is want of memory, or the
+//! [`PolicyTable`] and the row at fault.
 //!
 //! # Definitions
 //! `specs/Communities.antt`: rules of the rows and the caller; `specs/Orders.antt`: which row comes

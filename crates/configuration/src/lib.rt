@@ -4,12 +4,18 @@
 //! # Entry points
 //! [`configuration_in`] reads octets, [`configuration_of_text`] a text, [`configuration_of`] a
 //! table of TOML; each gives the configuration or its first fault. [`sentence`] is what an operator
-//! is told of a fault.
+//! is told of a fault. A [`Configuration`] has its [`Port`]s, and a [`Serve`] where it says how to
+//! serve; a [`ConfigurationFault`] is a first fault, some by a [`PortKey`], a [`ServeKey`] or a
+//! [`PolicyKey`]. [`BUILT_IN`] is the text where none is given; [`MAX_WORKERS`] and [`MAX_ROUNDS`]
+//! bound what serves.
 //!
 //! # Definitions
 //! `specs/Configurations.antt`: what a configuration says, its first fault, and where reading it
-//! takes memory; a file for each part; `specs/Bounds.antt`: the bounds of each; `specs/Lines.antt`:
-//! the lines of a text; `specs/Sentences.antt`: the text of each fault.
+//! takes memory; for its parts `specs/Address.antt`, `specs/Ports.antt`, `specs/Serving.antt` and
+//! `specs/PolicyKeys.antt`, with `specs/Numbers.antt` and `specs/Sockets.antt` for their values;
+//! `specs/PortFaults.antt`: why a table says no ports; `specs/Faults.antt`: a policy's fault as one
+//! of its configuration; `specs/Bounds.antt`: the bounds of each; `specs/Lines.antt`: the lines of
+//! a text; `specs/Sentences.antt`: the text of each fault.
 //!
 //! # Laws
 //! In [`laws`]: a table that says a configuration has no fault; a configuration is one that a

@@ -3,7 +3,8 @@
 //!
 //! # Entry points
 //! [`decide`] gives a [`Decision`] with the keys of the deciding or missing row. It takes no
-//! memory.
+//! memory. A [`Cause`] is why a request is dropped, a [`Refusal`] why one is answered that it may
+//! not, an [`AccessKey`] the key of an access row.
 //!
 //! # Definitions
 //! `specs/Deciding.antt`: community, context, whether there are variable bindings, and then the

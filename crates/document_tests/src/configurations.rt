@@ -294,12 +294,11 @@ fn told_of(alloc: Global, parts: [&str; 4]) -> Result<String, Fail> {
     Ok(sentence(alloc, fault)?)
 }
 
+// A policy without its contexts.
+const TABLES: &str = "community = []\ngroup = []\naccess = []\nfamily = []\n";
+
 #[test]
-fn faults_are_told(rt: HostRuntime) -> Result<(), Fail> {
-    let tables = "community = []\ngroup = []\naccess = []\nfamily = []\n";
-    let others = "contexts = []\ngroup = []\naccess = []\nfamily = []\n";
-    let long = "contexts = [\"\", \"a-name-of-33-octets-for-a-context\"]\n";
-    let slow = "[[port]]\nifindex = 1\nspeed = 40\nfull = true\n";
+fn faults_of_the_top_level_are_told(rt: HostRuntime) -> Result<(), Fail> {
     for (parts, told) in [
         (
             [ADDRESS, POLICY, "port = 02\n", ""],
@@ -310,6 +309,28 @@ fn faults_are_told(rt: HostRuntime) -> Result<(), Fail> {
             "top level: address is to be a string of 12 hexadecimal digits, and no group address: \
              its first octet is even",
         ),
+        (
+            [ADDRESS, TABLES, PORT, ""],
+            "top level: contexts is to be an array of strings",
+        ),
+        (
+            [ADDRESS, "name = 1\n", POLICY, PORT],
+            "top level: its keys are to be address, port, contexts, community, group, access and \
+             family, and may be serve, and no others",
+        ),
+    ] {
+        let text = told_of(rt.alloc(), parts)?;
+        assert!(rt; text.as_str() == told, "{text}");
+    }
+    Ok(())
+}
+
+#[test]
+fn faults_of_rows_and_tables_are_told(rt: HostRuntime) -> Result<(), Fail> {
+    let others = "contexts = []\ngroup = []\naccess = []\nfamily = []\n";
+    let long = "contexts = [\"\", \"a-name-of-33-octets-for-a-context\"]\n";
+    let slow = "[[port]]\nifindex = 1\nspeed = 40\nfull = true\n";
+    for (parts, told) in [
         (
             [ADDRESS, POLICY, PORT, slow],
             "row 2 of [[port]], counted from 1: speed is to be an integer, 10, 100 or 1000 (Mb/s)",
@@ -324,16 +345,7 @@ fn faults_are_told(rt: HostRuntime) -> Result<(), Fail> {
             "table serve: snmp is to be a string of an address and a port, as \"127.0.0.1:161\"",
         ),
         (
-            [ADDRESS, tables, PORT, ""],
-            "top level: contexts is to be an array of strings",
-        ),
-        (
-            [ADDRESS, "name = 1\n", POLICY, PORT],
-            "top level: its keys are to be address, port, contexts, community, group, access and \
-             family, and may be serve, and no others",
-        ),
-        (
-            [ADDRESS, long, tables, PORT],
+            [ADDRESS, long, TABLES, PORT],
             "row 2 of contexts, counted from 1: a context is to have at most 32 octets",
         ),
         (

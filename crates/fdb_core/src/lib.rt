@@ -5,22 +5,22 @@
 //! [`Fdb`] is seen as its rows by rising address and the most it may have: `learn`, `age`,
 //! `flush_ports`, and without change `find`, `next_after`, `known`, `try_copy` and `try_rows`. Only
 //! `learn` takes memory, for a new address that has a place, and the two copies, for their rows.
+//! [`Row`] is one row, [`Learnt`] what `learn` answers, and [`MIN_AGING_TIME`] to
+//! [`MAX_AGING_TIME`] the aging time in seconds.
 //!
 //! # Definitions
 //! `specs/Rows.antt`: filters of the whole list; `specs/Learning.antt`: what learning answers and
-//! leaves; `specs/Table.antt`: what holds of every table; `specs/Seen.antt`: how it is kept.
-//!
-//! # Cost
-//! An address is kept with the tick at which it was learned, and beside them a lower bound of these
-//! ticks. A second touches no address unless one may be old enough to go by that bound, which is
-//! then made anew.
+//! leaves; `specs/Table.antt`: what holds of every table; `specs/Seen.antt`: how it is kept;
+//! `specs/Places.antt`: where an address stands among rows by rising address.
 //!
 //! # Laws
 //! In [`laws`]: the bounds of the aging time. On `known` and `next_after`: the table rises, each
 //! address is six octets, and the table is young and within its limit.
 //!
 //! # Not claimed
-//! That a growth succeeds.
+//! That a growth succeeds. How long a call takes: an address is kept with the tick at which it was
+//! learned, and beside them a lower bound of these ticks; a second touches no address unless one
+//! may be old enough to go by that bound, which is then made anew.
 #![tactic(auto)]
 
 mod fdb;

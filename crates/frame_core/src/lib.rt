@@ -4,13 +4,16 @@
 //!
 //! # Entry points
 //! [`read_frame`] reads a frame or says why not; [`write_bpdu`] writes the [`SENT_FRAME_LEN`]
-//! octets of one. In
-//! [`worked`] stand frames for tests.
+//! octets of one. In [`worked`] stand frames for tests. What is read is a [`FrameIn`], or there is
+//! a [`FrameFault`]; a frame has [`MIN_FRAME_LEN`] octets or more, and a buffer for frames
+//! [`MAX_FRAME_LEN`]. A [`Bpdu`] is a [`Config`], a [`Rapid`] or a topology change; its parts are
+//! [`PriorityVector`], [`BridgeId`], [`Times`] and [`PortRole`]. [`Mac`] is an address,
+//! [`BRIDGE_GROUP`] that to which bridges send.
 //!
 //! # Definitions
 //! `specs/Layout.antt`: where each field of a BPDU stands; `specs/Frames.antt`: frames and their
 //! faults; `specs/Reading.antt`: the same as a function; `specs/Sending.antt`: the octets that are
-//! sent.
+//! sent; `specs/Octets.antt`: octets as numbers, bits and addresses.
 //!
 //! # Laws
 //! In [`laws`]: a frame is one thing or one fault; the lengths and the group address are what they

@@ -19,12 +19,12 @@ pub least_behind-snoc : (n : ℕ) (rs : List Receipt) (r : Receipt)
 least_behind-snoc n [] r = refl
 least_behind-snoc n (x ∷ rs) r = least_behind-snoc (x.number + 1) rs r
 
-Rises-snoc : (n : ℕ) (rs : List Receipt) (r : Receipt) → Rises n rs
+pub Rises-snoc : (n : ℕ) (rs : List Receipt) (r : Receipt) → Rises n rs
     → least_behind n rs ≤ r.number → Rises n (rs ++ r ∷ [])
 Rises-snoc n [] r h k = (k, tt)
 Rises-snoc n (x ∷ rs) r h k = (h.0, Rises-snoc (x.number + 1) rs r h.1 k)
 
-Rises-last : (n : ℕ) (rs : List Receipt) (r : Receipt) → Rises n (rs ++ r ∷ [])
+pub Rises-last : (n : ℕ) (rs : List Receipt) (r : Receipt) → Rises n (rs ++ r ∷ [])
     → least_behind n rs ≤ r.number
 Rises-last n [] r h = h.0
 Rises-last n (x ∷ rs) r h = Rises-last (x.number + 1) rs r h.1

@@ -2,12 +2,14 @@
 //!
 //! # Entry points
 //! [`Kept`]: a world, the objects that show it, and what is kept of its history, by `new`, or by
-//! `resume` from a number on; `apply` has one event happen and enters it, as does `apply_told`, which
-//! is handed what the receipt tells of it; `compare` looks whether receipts agree with what is kept,
-//! and `entries`, `base`, `world` and the two numbers show it.
-//! [`Event`]: what happens; [`Applied`]: what became of it. [`Entry`]: what is kept of one event. [`Receipt`]: what its
+//! `resume` from a number on; `apply` has one event happen and enters it, as does `apply_told`,
+//! which is handed what the receipt tells of it; `compare` looks whether receipts agree with what
+//! is kept, and `entries`, `base`, `world` and the two numbers show it. [`Event`]: what happens;
+//! [`Applied`]: what became of it. [`Entry`]: what is kept of one event. [`Receipt`]: what its
 //! caller is told of it, with `try_copy`, and `same`, which takes no memory. [`compare`] says
-//! whether receipts agree with any entries, or names the first that does not.
+//! whether receipts agree with any entries, or names the first that does not. A [`Tally`] says how
+//! many agree, a [`Mismatch`] which does not. [`Egress`] has the ports by which a frame goes out;
+//! [`ReceiptEvent`] is what a receipt tells of its event. At most [`MAX_ENTRIES`] entries are kept.
 //!
 //! # Definitions
 //! `specs/Steps.antt`: what an event makes of a world and its objects, and what comes out;
@@ -18,8 +20,12 @@
 //!
 //! # Laws
 //! On [`Kept::legal`]: each entry is that of the step at its place, and replaying the entries from
-//! the base gives the world as it is. [`laws::one_history`]: one base and the same events that met the same make
-//! the same entries.
+//! the base gives the world as it is. [`laws::one_history`]: one base and the same events that met
+//! the same make the same entries.
+//!
+//! The base moves only where [`MAX_ENTRIES`] are kept, to the world before the event. A request is
+//! told to be dropped exactly where its policy drops it. Where memory was wanting any other request
+//! is answered by genErr; where no number is left there is no reply.
 //!
 //! # Not claimed
 //! That memory was refused where want of it is told, or that there is some; which calls a device

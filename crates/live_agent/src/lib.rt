@@ -5,7 +5,8 @@
 //! [`worker_run`], [`port_run`], [`port_lap`] and [`ticker_run`] are each one thread's loop, lent
 //! the history, its share and its line; what they have in common is a [`Plan`]. Each gives a
 //! [`Ran`]: how it ended, and a trace of what became of each event and each refused datagram. A
-//! [`Gate`] is told of each request.
+//! [`Gate`] is told of each request. A [`Trace`] is a list of [`Item`]s, with a [`Refusal`] for a
+//! refused datagram; an [`End`] is how a line ended. [`OpenGate`] holds nobody.
 //!
 //! # Definitions
 //! `specs/Turns.antt`, `specs/Runs.antt`: the turns of a line, and its loop; `specs/Lines.antt`:

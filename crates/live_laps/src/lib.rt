@@ -1,13 +1,14 @@
 //! A run of an agent without an end: each line goes on lap by lap, and lets go of what a lap left.
 //!
 //! # Entry points
-//! [`serve_laps`] takes a history and its [`Line`]s, which [`lines_of`] makes of a run's, runs each in a
-//! thread of its own until it is ended, and gives back the lines, the history, and how each ended. A
-//! [`Watch`] is told of each lap of the ticker, and of each line that ends.
+//! [`serve_laps`] takes a history and its [`Line`]s, which [`lines_of`] makes of a run's, runs each
+//! in a thread of its own until it is ended, and gives back the lines, the history, and how each
+//! ended. A [`Watch`] is told of each lap of the ticker, and of each line that ends. A [`LineName`]
+//! is what a line is called, [`Totals`] what all lines did.
 //!
 //! # Definitions
-//! `specs/Lines.antt`: the lines of a run; `specs/Laps.antt`: the laps of a line, and lines that went on
-//! side by side.
+//! `specs/Lines.antt`: the lines of a run; `specs/Laps.antt`: the laps of a line, and lines that
+//! went on side by side.
 //!
 //! # Laws
 //! On [`serve_laps`]: each line went on lap by lap, each of which is as the lap of its kind is in
@@ -15,8 +16,8 @@
 //! that was handed in by as many entries as the lines made.
 //!
 //! # Not claimed
-//! That a line ends; that two threads run at the same time; that the totals which a watch is told are
-//! those of the laps that ended.
+//! That a line ends; that two threads run at the same time; that the totals which a watch is told
+//! are those of the laps that ended.
 #![tactic(auto)]
 
 mod book;

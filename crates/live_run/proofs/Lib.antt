@@ -1,6 +1,5 @@
 pub mod Answering
 pub mod Counts
 pub mod Crossing
-pub mod Falling
 pub mod Gathering
 pub mod Lining

@@ -1,12 +1,15 @@
 //! A run of an agent: all its lines over one history, and the report of what they did.
 //!
 //! # Entry points
-//! [`serve_run`] takes a history and [`Lines`], runs each line in a thread of its own, and gives back
-//! the lines, the history, and a [`Report`] or a [`RunFault`].
+//! [`serve_run`] takes a history and [`Lines`], runs each line in a thread of its own, and gives
+//! back the lines, the history, and a [`Report`] or a [`RunFault`]. [`Runs`] is how each line
+//! ended, and what it left.
 //!
 //! # Definitions
 //! `specs/Crews.antt`: lines that ran over one history; `specs/Reports.antt`: what a report says of
-//! them, and why a run has none; `specs/Served.antt`: a whole run.
+//! them, and why a run has none; `specs/Served.antt`: a whole run; `specs/Agreeing.antt`: what is
+//! counted of receipts that agree with a history; `specs/Shared.antt`: a history under a lock that
+//! threads may share.
 //!
 //! # Laws
 //! On [`serve_run`]: each line ran as its own clause says, over the wire that was handed in; the

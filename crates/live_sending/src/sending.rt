@@ -36,6 +36,9 @@ fn send_to_port<W: Wire>(
 }
 
 /// Sends a reply to the peer that asked, if there is one.
+///
+/// # Errors
+/// That of the wire, where the reply cannot be sent.
 pub fn send_reply<W: Wire>(wire: &mut W, peer: SocketAddr, reply: &[u8]) -> Result<(), WireFault>
     ensures sends { Sends W.went wire.old (reply_packets peer reply.now) (fault_in result)
         wire.new }
@@ -49,6 +52,9 @@ pub fn send_reply<W: Wire>(wire: &mut W, peer: SocketAddr, reply: &[u8]) -> Resu
 }
 
 /// Sends a frame to the peers of these ports, in their order, until one cannot be sent.
+///
+/// # Errors
+/// That of the wire, at the first that cannot be sent.
 pub fn send_frame<W: Wire>(
     wire: &mut W,
     peers: &[SocketAddr],
@@ -90,6 +96,9 @@ fn send_bpdu<W: Wire>(
 }
 
 /// Sends what the ports send, from port 1 on, to their peers, until something cannot be sent.
+///
+/// # Errors
+/// That of the wire, at the first that cannot be sent.
 pub fn send_bpdus<W: Wire>(
     wire: &mut W,
     source: Mac,

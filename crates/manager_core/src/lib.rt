@@ -2,15 +2,20 @@
 //! walks through a subtree of its names (RFC 3416, section 4.2).
 //!
 //! # Entry points
-//! [`ask`] gives the bindings that answer a request, or a [`ManagerFault`]; [`walk`] those of a
-//! subtree of names. [`run_errand`] does either and writes a line for each binding, [`report`] the
-//! line of a [`Failure`]; [`push_lines`] makes the lines alone.
+//! [`run_manager`] does what the words of a command line ask for, and gives the exit status: 0,
+//! [`FAILED`] or [`USAGE`]. Where it is 0 nothing is said on standard error, and words that are no
+//! command send and write nothing. [`command_of`] reads the words: a [`Command`] with its
+//! [`Errand`], or a [`WordsFault`]. [`ask`] gives the bindings that answer a request, or a
+//! [`ManagerFault`]; [`walk`] those of a subtree of names, [`MAX_NAMES`] at most. [`report`] writes
+//! the line of a [`Failure`]. A request is sent [`DEFAULT_TRIES`] times at most where no word says
+//! it, and [`MAX_TRIES`] where one does; [`MAX_BULK`] bounds the numbers of a GetBulk, and
+//! [`RECEIVE_ROOM`] is how many octets are lent to a receive.
 //!
 //! # Definitions
 //! `specs/Replies.antt`: what a datagram says to a request; `specs/Asks.antt`: the tries of an ask,
 //! what each did on the wire, and how the ask ends; `specs/Walks.antt`: the asks of a walk, and its
 //! result; `specs/Lines.antt`: the lines that are written; `specs/Runs.antt`: what a run asks and
-//! writes.
+//! writes; `specs/Words.antt`: which words of a command line ask for which command.
 //!
 //! # Laws
 //! None beside the contracts.
@@ -31,8 +36,7 @@ mod words;
 
 pub use asking::{RECEIVE_ROOM, ask};
 pub use fault::ManagerFault;
-pub use lines::push_lines;
-pub use program::{FAILED, USAGE, run_command, run_manager};
-pub use run::{Errand, Failure, report, run_errand};
+pub use program::{FAILED, USAGE, run_manager};
+pub use run::{Errand, Failure, report};
 pub use walking::{MAX_NAMES, walk};
 pub use words::{Command, DEFAULT_TRIES, MAX_BULK, MAX_TRIES, WordsFault, command_of};

@@ -16,7 +16,7 @@ use std::io::Write;
 ///
 /// # Errors
 /// There is no memory for them; then nothing is said of what stands behind what was there.
-pub fn push_lines(bindings: &[Binding], out: &mut Vec<u8>) -> Result<(), AllocError>
+pub(crate) fn push_lines(bindings: &[Binding], out: &mut Vec<u8>) -> Result<(), AllocError>
     ensures { OnOk result (out.new.items ≡ out.old.items ++ lines_of bindings.now) }
 {
     for binding in bindings {

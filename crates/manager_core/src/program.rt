@@ -50,7 +50,7 @@ pub fn run_manager<W: Wire, O: Write, E: Write>(
 }
 
 /// Does a command, and gives the exit status: 0 where all that was found is written, and else 1.
-pub fn run_command<W: Wire, O: Write, E: Write>(
+pub(crate) fn run_command<W: Wire, O: Write, E: Write>(
     alloc: Global,
     command: &Command,
     wire: &mut W,

@@ -56,7 +56,7 @@ impl fmt::Display for Failure {
 /// # Errors
 /// The fault of the ask or walk, `Memory` also where there is none for the lines. `Output` where a
 /// write or the flush fails; nothing is said of what the writer holds then.
-pub fn run_errand<W: Wire, O: Write>(
+pub(crate) fn run_errand<W: Wire, O: Write>(
     alloc: Global,
     wire: &mut W,
     peer: SocketAddr,

@@ -1,4 +1,16 @@
 //! Tests of asks and walks over a wire in memory, and of the program that does them.
+//!
+//! # Entry points
+//! None: the tests call what `manager_core` offers.
+//!
+//! # Definitions
+//! None.
+//!
+//! # Laws
+//! None.
+//!
+//! # Not claimed
+//! Anything but what each test compares.
 #![tactic(auto)]
 
 #[cfg(test)]

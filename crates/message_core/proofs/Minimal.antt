@@ -4,6 +4,7 @@ use Rattle.std.proofs.lemmas.List.{length-append}
 use Rattle.std.proofs.lemmas.Bool.{cases_lt, lt-ltb, le-ltb}
 use Rattle.std.proofs.lemmas.Int.Digits.{number_lt, length-digits_of-le}
 use Rattle.ber_core.specs.Encoding.{AreOctets, IsLength, IsTlv, canon_length, canon_tlv, canon_integer, canon_unsigned}
+use Rattle.ber_core.proofs.Octets.{octets_at}
 use Rattle.ber_core.proofs.Unsigned.{all_below}
 use Rattle.ber_core.proofs.Least.{no_shorter_integer, no_shorter_unsigned}
 use Rattle.ber_core.proofs.One.{one_shortest_tlv, one_integer, one_unsigned}
@@ -19,7 +20,7 @@ use Rattle.message_core.specs.declared.request.Request.{Request}
 use Rattle.message_core.specs.declared.reply.Reply.{Reply}
 use Rattle.message_core.specs.Message.{IsIntegerTlv, IsUnsignedTlv, IsNameTlv, IsValue, IsBinding, AreBindings, IsBody, IsMessage, IsRequest, IsReply, tag_of}
 use Rattle.message_core.specs.Canon.{canon_int, canon_name_tlv, canon_value, canon_binding, canon_bindings, canon_tail, canon_body, canon_inside, canon_message, canon_request, canon_reply}
-use Rattle.message_core.proofs.Readers.{octets_at, octets_split, content_fits}
+use Rattle.message_core.proofs.Readers.{octets_split, content_fits}
 
 -- octets that are not shorter than the shortest, and are the shortest where they are no longer
 pub record IsAtLeast (short octets : List ℕ) : Type 0 where

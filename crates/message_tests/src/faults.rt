@@ -32,8 +32,8 @@ fn names_the_fault_of_one_octet(rt: HostRuntime) -> Result<(), Fail> {
 }
 
 #[test]
-fn names_the_first_fault(rt: HostRuntime) -> Result<(), Fail> {
-    let rows: [(&[u8], &[(usize, u8)], &[u8], Option<DropCause>); 12] = [
+fn names_the_first_fault_before_the_bindings(rt: HostRuntime) -> Result<(), Fail> {
+    let rows: [(&[u8], &[(usize, u8)], &[u8], Option<DropCause>); 4] = [
         // another version, and behind it another kind
         (
             &GET,
@@ -41,9 +41,6 @@ fn names_the_first_fault(rt: HostRuntime) -> Result<(), Fail> {
             &[],
             Some(DropCause::BadVersion),
         ),
-        // an octet behind the message
-        (&GET, &[], &[0], Some(DropCause::Malformed)),
-        (&TWO_NAMES, &[], &[], None),
         // behind a community of 25 octets the tag of a Response, and a PDU past the end
         (
             &LONG_COMMUNITY,
@@ -64,14 +61,33 @@ fn names_the_first_fault(rt: HostRuntime) -> Result<(), Fail> {
             &[],
             Some(DropCause::Malformed),
         ),
+    ];
+    for (datagram, changes, end, cause) in rows {
+        assert_eq!(rt; cause_with(rt.alloc(), datagram, changes, end)?, cause);
+    }
+    Ok(())
+}
+
+#[test]
+fn names_the_fault_of_an_octet_left_over(rt: HostRuntime) -> Result<(), Fail> {
+    let rows: [&[(usize, u8)]; 3] = [
+        // an octet behind the message
+        &[],
         // an octet behind the PDU, and one behind the list
-        (&GET, &[(1, 0x28)], &[0], Some(DropCause::Malformed)),
-        (
-            &GET,
-            &[(1, 0x28), (14, 0x1b)],
-            &[0],
-            Some(DropCause::Malformed),
-        ),
+        &[(1, 0x28)],
+        &[(1, 0x28), (14, 0x1b)],
+    ];
+    for changes in rows {
+        let cause = cause_with(rt.alloc(), &GET, changes, &[0])?;
+        assert_eq!(rt; cause, Some(DropCause::Malformed));
+    }
+    Ok(())
+}
+
+#[test]
+fn names_the_first_fault_in_the_bindings(rt: HostRuntime) -> Result<(), Fail> {
+    let rows: [(&[u8], &[(usize, u8)], &[u8], Option<DropCause>); 5] = [
+        (&TWO_NAMES, &[], &[], None),
         // behind a name of 26 numbers a NULL with content
         (
             &LONG_NAME,

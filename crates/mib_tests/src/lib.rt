@@ -1,6 +1,6 @@
-//! Tests of the 51 objects of a bridge: what a walk over all of them shows, what a registry makes of
-//! them as boxed ones, what each of them reserves for a Set, and Sets of one of them whose device
-//! fails.
+//! Tests of the 51 objects of a bridge: what a walk over all of them shows, what a registry makes
+//! of them as boxed ones, what each of them reserves for a Set, and Sets of one of them whose
+//! device fails.
 //!
 //! # Entry points
 //! None: the tests call what `object_list` and `setphase_core` offer.

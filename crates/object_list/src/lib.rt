@@ -5,14 +5,15 @@
 //! [`Object`]: a managed object of any of the nine kinds, by `of` a column, or by `over` a column
 //! and a driver, which dot1dStpPortEnable takes. [`COLUMNS`]: the columns of the 51 objects in the
 //! order of their names; [`objects`]: the objects themselves, dot1dStpPortEnable over a driver, of
-//! which `Registry::new` makes a registry.
+//! which `Registry::new` makes a registry. [`ENABLE`] is the place of dot1dStpPortEnable among
+//! them, counted from 0.
 //!
 //! # Definitions
 //! `specs/Objects.antt`: the column of an object, and what it is to a registry.
 //!
 //! # Laws
-//! On [`objects`]: their rows are those of all objects, they have reserved nothing, dot1dStpPortEnable
-//! is over the driver, and they make a registry.
+//! On [`objects`]: their rows are those of all objects, they have reserved nothing,
+//! dot1dStpPortEnable is over the driver, and they make a registry.
 //!
 //! # Not claimed
 //! That there is memory for the list.

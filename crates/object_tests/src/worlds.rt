@@ -25,10 +25,11 @@ fn no_policy(alloc: Global) -> Result<Policy, Fail> {
     )
     .ok()
     .ok_or("tables")?;
-    let policy = Policy::new(alloc, Rows::new(Vec::new(alloc)), vacm)
-        .ok()
-        .ok_or("a policy")?;
-    Ok(policy)
+    Ok(
+        Policy::new(alloc, Rows::new(Vec::new(alloc)), vacm)
+            .ok()
+            .ok_or("a policy")?,
+    )
 }
 
 fn port(ifindex: u32) -> PortConfig

@@ -100,7 +100,7 @@ prefix_found (x ∷ xs) (y ∷ ys) e =
       | inr other ↦ absurd (let step = ap (λ (t : Bool). cond t (is_prefix xs ys) false) other.0 in cc)
     ]
 
-prefix_of : (front rest : List ℕ) → is_prefix front (front ++ rest) ≡ true
+pub prefix_of : (front rest : List ℕ) → is_prefix front (front ++ rest) ≡ true
 prefix_of [] rest = refl
 prefix_of (x ∷ xs) rest = ap (λ (t : Bool). cond t (is_prefix xs (xs ++ rest)) false) (eq-eqb x x refl) ∙ prefix_of xs rest
 

@@ -2,12 +2,13 @@
 //!
 //! # Entry points
 //! [`policy_of`] reads a table of TOML, [`policy_in`] octets, which are UTF-8 or no policy;
-//! [`keys`] has what stands under the keys of a table, which configurations use as well.
+//! [`text_of`] gives the text that octets are, where they are UTF-8; [`keys`] has what stands under
+//! the keys of a table, which configurations use as well.
 //!
 //! # Definitions
 //! `specs/Policies.antt`, `specs/Reading.antt`: what a text says and its first fault;
 //! `specs/Said.antt`, `specs/Texts.antt`: the same as functions; `specs/Keys.antt`: what stands
-//! under a key.
+//! under a key; `specs/Typed.antt`: a value that says a row is typed as one.
 //!
 //! # Laws
 //! In [`laws`]: what a table of TOML says is what the functions give.

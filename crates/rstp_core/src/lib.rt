@@ -4,11 +4,18 @@
 //!
 //! # Entry points
 //! [`Rstp`] with `on_bpdu`, `tick`, `link` and `settle`, each with its [`Outcome`]; `role`,
-//! `state`, `facts`, `bridge_facts`, `copy`, `is_same`.
+//! `state`, `facts`, `bridge_facts`, `copy`, `is_same`. [`Settled`] is what is kept of the settings
+//! as they are settled, [`BridgeFacts`] what a bridge tells of its tree. The types of ports come
+//! from `rstp_rules` ([`Port`], [`Info`], [`Role`], [`State`], [`Best`], [`SettledPort`],
+//! [`Timers`]), those of settings from `rstp_settings` ([`Settings`], [`MAX_PORTS`], [`Key`],
+//! [`BridgeKey`], [`PortKey`], [`BridgeConfig`], [`PortConfig`], [`IfIndex`], [`MAX_IFINDEX`]).
 //!
 //! # Definitions
 //! `specs/Tree.antt`: the tree and the four events as relations; `specs/Steps.antt`: the same as
-//! functions; `specs/Runs.antt`: lists of events; `specs/Legal.antt`: what every event keeps.
+//! functions; `specs/Runs.antt`: lists of events; `specs/Legal.antt`: what every event keeps;
+//! `specs/Passes.antt`: what all ports do together, pass by pass; `specs/Settled.antt`: what is
+//! kept of settled settings; inside the crate `specs/TreeInside.antt`: what holds of the fields of
+//! each tree.
 //!
 //! # Laws
 //! In [`laws`]: roles of the whole tree, one root port, which ports forward or learn, whose rows

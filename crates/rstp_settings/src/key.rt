@@ -32,7 +32,7 @@ pub enum PortKey {
     /// Path cost (17.14): 0 to 200000000, where 0 is the default cost of the port's speed, at first
     /// 0.
     Cost,
-    /// Protocol migration check (17.19.13): 1 asks for it, 0 is none, at first 0.
+    /// Protocol migration check (17.19.13, `mcheck`): 1 asks for it, 0 is none, at first 0.
     Migrate,
     /// Admin edge port (17.13.1): 1 is true, 2 is false, at first 2.
     Edge,
@@ -116,8 +116,8 @@ pub const POINT_TO_POINT_FALSE: u32 = 1;
 /// Admin point to point MAC: automatic, by full duplex.
 pub const POINT_TO_POINT_AUTO: u32 = 2;
 
-/// The least ageing time of learned addresses, in seconds (IEEE 802.1D-2004 Table 7-5).
+/// The least value of the setting [`BridgeKey::Aging`], in seconds (IEEE 802.1D-2004 Table 7-5).
 pub const MIN_AGING: u32 = 10;
 
-/// The greatest ageing time of learned addresses, in seconds (Table 7-5).
+/// The greatest value of the setting [`BridgeKey::Aging`], in seconds (Table 7-5).
 pub const MAX_AGING: u32 = 1_000_000;

@@ -5,7 +5,7 @@
 //! # Entry points
 //! [`settings::Settings`] with `get` and `put` by [`key::Key`], `copy` and `is_same`;
 //! [`config::PortConfig`], its interface number [`config::IfIndex`], and [`config::BridgeConfig`].
-//! Nothing here takes memory.
+//! [`copies`] copies lists with one element for each port. Nothing here takes memory.
 //!
 //! # Definitions
 //! `specs/Table.antt`: the map; `specs/Values.antt`: ranges and steps; `specs/Config.antt`: what a

@@ -3,12 +3,14 @@
 //!
 //! # Entry points
 //! [`run_script`] over any [`Session`], reader and writer; the words, numbers and hexadecimal of a
-//! line in [`words`].
+//! line in [`words`]. A [`LineFault`] is why a line is given up, a [`RunFault`] why a run stops
+//! before the end; programs give [`MAX_READS`] as the most reads of a run.
 //!
 //! # Definitions
 //! `specs/Lines.antt`: the lines of a text; `specs/Runs.antt`: what a session may say to lines, in
 //! their order, how far a run has come, and why a line or the end of a script may be given up;
-//! `specs/Words.antt`: words, numbers and hexadecimal.
+//! `specs/Words.antt`: words, numbers and hexadecimal; `specs/Faults.antt`: what stops a run where
+//! a line is given up.
 //!
 //! # Laws
 //! In [`laws`]: each text has its lines; hexadecimal is read back.

@@ -10,7 +10,7 @@ use std::process::Abort;
 use std::test::Fail;
 
 #[test]
-fn drops_what_is_no_request(rt: HostRuntime) -> Result<(), Fail> {
+fn drops_another_version(rt: HostRuntime) -> Result<(), Fail> {
     assert_answers(
         &rt,
         &[
@@ -26,6 +26,15 @@ fn drops_what_is_no_request(rt: HostRuntime) -> Result<(), Fail> {
                  300F300D06092B06010201110102000500",
                 "drop BadVersion",
             ),
+        ],
+    )
+}
+
+#[test]
+fn drops_what_is_no_message(rt: HostRuntime) -> Result<(), Fail> {
+    assert_answers(
+        &rt,
+        &[
             ("no octets", "request ", "drop Malformed"),
             (
                 "a length of no form",
@@ -123,6 +132,18 @@ fn takes_other_lines_for_bad(rt: HostRuntime) -> Result<(), Fail> {
             "audit",
             "audit ON",
             "counts ",
+            "end",
+            "policy ",
+            "count\u{E9}s",
+        ],
+    )
+}
+
+#[test]
+fn takes_other_plans_of_calls_for_bad(rt: HostRuntime) -> Result<(), Fail> {
+    assert_bad_lines(
+        &rt,
+        &[
             "driver",
             "driver ",
             "driver 0",
@@ -135,9 +156,6 @@ fn takes_other_lines_for_bad(rt: HostRuntime) -> Result<(), Fail> {
             "driver x",
             "driver 1\t2",
             "driver 18446744073709551617",
-            "end",
-            "policy ",
-            "count\u{E9}s",
         ],
     )
 }

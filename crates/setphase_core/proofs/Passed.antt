@@ -7,7 +7,7 @@ use Rattle.std.proofs.lemmas.List.Elements.{filter-append}
 use Rattle.std.proofs.lemmas.List.Sums.{sum_by-cons}
 use Rattle.fdb_core.specs.Rows.{IsRising as AreRising}
 use Rattle.oid_core.specs.Order.{name_lt, is_prefix}
-use Rattle.oid_core.proofs.OrderLaws.{prefix_only}
+use Rattle.oid_core.proofs.OrderLaws.{prefix_of}
 use Rattle.message_core.specs.declared.binding.Binding.{Binding}
 use Rattle.message_core.specs.Instances.{next_of, IsServable}
 use Rattle.setphase_core.specs.declared.world.World.{World}
@@ -398,12 +398,9 @@ open_servable passes rows w e h k =
 
 -- ---- nothing that is shown is missed
 
-begins_own : (p i : List ℕ) → is_prefix p (p ++ i) ≡ true
-begins_own p i = prefix_only p (p ++ i) (record { rest = i; parts = refl })
-
 hidden_under : (shows : List ℕ → Bool) (p : List ℕ) (shown : List IndexedValue) → ((name : List ℕ) → is_prefix p name ≡ true → shows name ≡ false) → filter (λ b. shows b.name) (map (under p) shown) ≡ []
 hidden_under shows p [] h = refl
-hidden_under shows p (s ∷ shown) h = rw (h (p ++ s.index) (begins_own p s.index)) (hidden_under shows p shown h)
+hidden_under shows p (s ∷ shown) h = rw (h (p ++ s.index) (prefix_of p s.index)) (hidden_under shows p shown h)
 
 pub nothing_missed : (passes shows : List ℕ → Bool) (rows : List ObjectRow) (w : World) → PassesHidden passes shows →
     filter (λ b. shows b.name) (open_instances passes rows w) ≡ filter (λ b. shows b.name) (instances rows w)

@@ -16,12 +16,20 @@
 //! [`is_scalar`], [`scalar_after`], [`port_at`], [`port_after`]: the indexes of scalars and ports;
 //! [`Writable`], [`assignment_by`], [`Slots`]: how an object is written, what a variable of it
 //! writes, and what it reserved; for those who write objects.
+//! [`Column`] is what an object shows: [`Base`], [`BasePort`], [`Stp`], [`StpPort`], [`Rapid`],
+//! [`ExtPort`], [`Tp`], [`TpFdb`], [`TpPort`], by an [`Index`]. [`Target`] is the setting that an
+//! object writes, [`Assignment`] what a variable writes, [`Slot`] what a test reserves,
+//! [`Reservation`] what stands at a place; [`TestedVariable`], [`Standing`] and [`Staged`] are
+//! those of `Staging`. What is wrong is a [`SetFault`], [`VariableFault`], [`DeviceFault`] or
+//! [`RegistryFault`]. Bounds: [`MAX_INDEX`], [`MAX_SLOTS`], [`MAX_VARIABLES`], [`MAX_COST`],
+//! [`MAX_PATH_COST`], [`MAX_INFO`].
 //!
 //! # Definitions
 //! `specs/Settings.antt`: the settings of a world as a finite map; `specs/Flat.antt`: a policy as
 //! its rows; `specs/Columns.antt`: what each object shows, row by row; `specs/Writing.antt`: how
-//! each is written; `specs/Names.antt`: the objects' names; `specs/Values.antt`: values by index; `specs/Objects.antt`: an object as plain
-//! data; `specs/Registry.antt`: the order of objects, and all their instances;
+//! each is written; `specs/Names.antt`: the objects' names; `specs/Values.antt`: values by index;
+//! `specs/Objects.antt`: an object as plain data; `specs/Registry.antt`: the order of objects, and
+//! all their instances;
 //! `specs/Variables.antt`, `specs/Together.antt`: why a Set is refused, by its variables one by one
 //! and together; `specs/Outcomes.antt`: how it ends; `specs/Staging.antt`, `specs/Tested.antt`:
 //! what stands between its steps; `specs/Searching.antt`: where a name stands among those of
@@ -40,9 +48,9 @@
 //!
 //! # Not claimed
 //! That changed settings are in force: `Bridge::settle` comes behind them. Which of several
-//! variables of one object is told where one of its calls failed. That a plan reaches a device. That
-//! the objects of a program are the 51. dot1dStaticTable (RFC 4188, 1.3.6.1.2.1.17.5.1) is left out: no address is
-//! configured, so it would have no rows.
+//! variables of one object is told where one of its calls failed. That a plan reaches a device.
+//! That the objects of a program are the 51. dot1dStaticTable (RFC 4188, 1.3.6.1.2.1.17.5.1) is
+//! left out: no address is configured, so it would have no rows.
 #![tactic(auto)]
 
 mod boxed;

@@ -4,7 +4,7 @@
 //! # Entry points
 //! [`SettingKey`], [`SettingValue`]: plain data. Of what stands above, the world of `setphase_core`
 //! alone tells their kinds apart. [`SettingKeys`]: a list of keys, each of which stands there as a
-//! [`ListedKey`].
+//! [`ListedKey`]. A list has [`MAX_KEYS`] keys at most.
 //!
 //! # Definitions
 //! `specs/Listed.antt`: which key the parts of a listed key are.

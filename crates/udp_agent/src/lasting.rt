@@ -76,6 +76,7 @@ pub fn serve_forever<'r, O: MibObject + Send, R: Threads + Wait + Net + Clock + 
 {
     let plan = plan_of(alloc, setup)?;
     let lines = bind_lines(rt, rt, alloc, setup)?;
+    // Of want of memory `?` makes an error of the system.
     let ends = serve_lines_forever(rt, &plan, &Teller(rt), kept, lines)?;
     Ok(ends)
 }

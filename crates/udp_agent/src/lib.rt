@@ -2,24 +2,27 @@
 //! own.
 //!
 //! # Entry points
-//! [`Setup`] says where, and how many rounds a line makes; [`serve`] binds its sockets ([`bind_lines`]) and runs its
-//! lines over a history by its plan ([`plan_of`], [`serve_lines`]), each in a thread of its own;
-//! [`tell_report`] logs what they did, [`tell_fault`] why there is no report. [`serve_forever`] does
-//! the same without an end ([`serve_lines_forever`]), and logs as it goes on; [`any_failed`] says
+//! [`Setup`] says where, and how many rounds a line makes, and [`setup_of`] makes one of what is
+//! configured; [`serve`] binds its sockets ([`bind_lines`]) and runs its lines over a history by
+//! its plan ([`plan_of`], [`serve_lines`]), each in a thread of its own; [`tell_report`] logs what
+//! they did, [`tell_fault`] why there is no report, a [`ServeFault`]. [`serve_forever`] does the
+//! same without an end ([`serve_lines_forever`]), and logs as it goes on; [`any_failed`] says
 //! whether a line failed, [`tell_not_begun`] logs why nothing was served.
 //!
 //! # Definitions
 //! `specs/Setups.antt`: what a setup holds; `specs/Binding.antt`: its lines, and what they have in
-//! common; `specs/Serving.antt`: what comes of serving them; `specs/Lasting.antt`: the same without an
-//! end.
+//! common: a plan has the setup's rounds, address and peers, and the lines are a worker for each
+//! thread that is to answer and one for each port; `specs/Serving.antt`: what comes of serving
+//! them; `specs/Lasting.antt`: the same without an end.
 //!
 //! # Laws
-//! On [`serve`] and [`serve_lines`]: what a whole run of the lines promises (`live_run::serve_run`).
-//! On [`serve_forever`] and [`serve_lines_forever`]: what lines that go on lap by lap promise
-//! (`live_laps::serve_laps`).
+//! On [`serve`] and [`serve_lines`]: what a whole run of the lines promises
+//! (`live_run::serve_run`). On [`serve_forever`] and [`serve_lines_forever`]: what lines that go on
+//! lap by lap promise (`live_laps::serve_laps`).
 //!
 //! # Not claimed
-//! To which addresses sockets are bound; what UDP delivers; that a run ends; the text that is logged.
+//! To which addresses sockets are bound; what UDP delivers; that a run ends; the text that is
+//! logged.
 #![tactic(auto)]
 
 mod binding;

@@ -8,6 +8,7 @@ use Rattle.std.proofs.lemmas.List.{append-nil}
 use Rattle.std.proofs.lemmas.List.Folds.{list_any_at, list_all_at, Any-from_list_any}
 use Rattle.std.proofs.lemmas.Option.{get_or_from_slice_get, slice_get_within}
 use Rattle.oid_core.specs.Order.{is_prefix}
+use Rattle.oid_core.proofs.OrderLaws.{prefix_of}
 use Rattle.vacm_core.specs.declared.tables.FamilyRow.{FamilyRow}
 use Rattle.vacm_core.specs.Best.{is_unbeaten, unbeaten}
 use Rattle.vacm_core.specs.Families.{mask_bit, agrees_from, matches, family_beats, by_type, by_family, is_included, in_view}
@@ -58,23 +59,19 @@ front_extends k mask (s ∷ subtree) (x ∷ prefix) e =
     let parts = and_true (not (mask_bit mask k) || s == x) (agrees_from (k + 1) mask (take (length prefix) subtree) prefix) e in
     and_from _ _ parts.0 (front_extends (k + 1) mask subtree prefix parts.1)
 
-begins_itself : (prefix rest : List ℕ) → is_prefix prefix (prefix ++ rest) ≡ true
-begins_itself [] rest = refl
-begins_itself (x ∷ prefix) rest = rw (eq-eqb x x refl) (begins_itself prefix rest)
-
 module _ (view prefix : List ℕ) (row : FamilyRow) where
   pub some_below : (may_match view prefix row ≡ true) ↔ ((rest : List ℕ) × (matches view (prefix ++ rest) row ≡ true))
   some_below = (
     (λ e. let parts = and_true (bytes_eq row.view view) (agrees_from 0 row.mask (take (length prefix) row.subtree) prefix) e in
         (drop (length prefix) row.subtree, and_from _ _ parts.0 (front_extends 0 row.mask row.subtree prefix parts.1))),
     (λ w. let parts = and_true (bytes_eq row.view view) (agrees_from 0 row.mask row.subtree (prefix ++ w.0)) w.1 in
-        and_from _ _ parts.0 (front_agrees 0 row.mask row.subtree prefix (prefix ++ w.0) (begins_itself prefix w.0) parts.1)),
+        and_from _ _ parts.0 (front_agrees 0 row.mask row.subtree prefix (prefix ++ w.0) (prefix_of prefix w.0) parts.1)),
   )
 
   pub all_below : (matches view prefix row ≡ true) ↔ ((rest : List ℕ) → matches view (prefix ++ rest) row ≡ true)
   all_below = (
     (λ e rest. let parts = and_true (bytes_eq row.view view) (agrees_from 0 row.mask row.subtree prefix) e in
-        and_from _ _ parts.0 (longer_agrees 0 row.mask row.subtree prefix (prefix ++ rest) (begins_itself prefix rest) parts.1)),
+        and_from _ _ parts.0 (longer_agrees 0 row.mask row.subtree prefix (prefix ++ rest) (prefix_of prefix rest) parts.1)),
     (λ h. ap (λ (name : List ℕ). matches view name row) (sym (append-nil prefix)) ∙ h []),
   )
 

@@ -6,9 +6,14 @@
 //! request up to its names, `Vacm::in_view` the answer on a name. Each names its row.
 //! `Vacm::hides_all` tells where a view is seen to hide every name that begins with a prefix. None
 //! of these but `new` takes memory. `Vacm::try_copy` is a copy, and `Vacm::rows` the rows as they
-//! are written, of which [`Same`] tells whether two are the same. [`checked_rows`] checks a table of
-//! any rows that are [`Written`], [`copied_rows`] copies any that are [`CopiedAs`] others, and
+//! are written, of which [`Same`] tells whether two are the same. [`checked_rows`] checks a table
+//! of any rows that are [`Written`], [`copied_rows`] copies any that are [`CopiedAs`] others, and
 //! [`deciding_row`] finds the row that decides a [`Contest`]; `community_core` uses all three.
+//! Written: [`VacmRows`] of [`WrittenGroup`], [`WrittenAccess`] and [`WrittenFamily`], with
+//! [`Text`] and [`Octets`]; kept: [`Rows`] of [`GroupRow`], [`AccessRow`] with a [`Level`], and
+//! [`FamilyRow`], with [`Name`] and [`Mask`]. An [`Ask`] with its [`ViewType`] gets a [`Verdict`],
+//! a name a [`FamilyAnswer`]. A [`TableFault`] is want of memory, or the [`VacmTable`], the row and
+//! what is [`Wrong`]. Bounds: [`MAX_NAME`], [`MAX_MASK`], [`MAX_FAMILY`], [`MAX_MODEL`].
 //!
 //! # Definitions
 //! `specs/Access.antt`: which access rows may decide and which beats which; `specs/Families.antt`:
@@ -19,7 +24,10 @@
 //! `specs/Trees.antt`, inside the crate: which family rows a tree leads to, by which numbers. A
 //! `Vacm` keeps a radix tree of its family rows, and `Vacm::in_view` goes by it: the row that it
 //! finds is the one that decides among all of them. `specs/Keys.antt`, inside the crate too: the
-//! order of rows by their keys, by which a `Vacm` finds a group row, and the access rows of a group.
+//! order of rows by their keys, by which a `Vacm` finds a group row, and the access rows of a
+//! group. `specs/Tables.antt`, `specs/Rows.antt`: the tables as they are kept, and the rows that
+//! written ones stand for; `specs/Levels.antt`: the numbers of the security levels;
+//! `specs/Texts.antt`: the texts of the tables.
 //!
 //! # Laws
 //! In [`laws`]: a row decides wherever one fits; of the names below a prefix, which a family has;
@@ -29,8 +37,10 @@
 //!
 //! # Not claimed
 //! How long a decision takes: `Vacm::decide` finds the group row by halves, and looks at the access
-//! rows of the group, at each context and at the family rows up to the first of the view;
-//! `Vacm::hides_all` looks at each family row, `Vacm::in_view` at those that its tree leads to.
+//! rows of the group, and at the contexts up to the one asked for. For the view it follows one way
+//! in the tree to a family row; only where that finds no row of the view does it go over the family
+//! rows, up to the first of the view, if there is one. `Vacm::hides_all` looks at each family row,
+//! `Vacm::in_view` at those that its tree leads to.
 #![tactic(auto)]
 
 mod checking;

@@ -25,6 +25,9 @@ impl Model for Text {
 
 impl Text {
     /// A copy of a text.
+    ///
+    /// # Errors
+    /// `AllocError` where there is no memory for it.
     pub fn new(alloc: Global, text: &str) -> Result<Text, AllocError>
         ensures { IfOk result (λ t. t ≡ text.now) }
     {

@@ -4,12 +4,16 @@
 //! # Entry points
 //! [`Wire`] gives datagrams and sends some: [`MemoryWire`] gives what it was handed, [`UdpWire`]
 //! what comes to a bound socket, [`FailingWire`] fails at one call and else hands on. [`Pace`] says
-//! how long ticks go on: [`CountPace`] so many times, [`SecondPace`] each second.
+//! how long ticks go on: [`CountPace`] so many times, [`SecondPace`] each second. A [`Packet`] is a
+//! datagram and its peer, [`Received`] what a receive gave, [`Given`] what a wire in memory is to
+//! give; what goes wrong is a [`WireFault`]. A receive over UDP is set to wait
+//! [`RECEIVE_WAIT_MILLIS`] milliseconds.
 //!
 //! # Definitions
 //! `specs/Acts.antt`: what a wire did, act by act, and its count of failures; `specs/Memory.antt`:
 //! what a wire in memory gives and keeps; `specs/Failing.antt`: which acts a failing wire hands on;
-//! `specs/Pacing.antt`: what a pace answers.
+//! `specs/Pacing.antt`: what a pace answers; `specs/FailingLaws.antt`, `specs/MemoryLaws.antt`,
+//! `specs/PacingLaws.antt`: that acts of each behind one another are one list.
 //!
 //! # Laws
 //! Of each wire and pace, on its trait: no acts lead nowhere, and acts behind acts are one list.

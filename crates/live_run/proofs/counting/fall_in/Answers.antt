@@ -1,10 +1,9 @@
 use Rattle.std.proofs.Common.{◌≤◌, ◌∙◌, List, [], ◌∷◌, ◌++◌, refl, sym, ap, arith, take, drop, suc, append-nil}
 use Rattle.history_core.specs.declared.receipt.Receipt.{Receipt}
-use Rattle.history_core.proofs.Rising.{least_behind, least_behind-snoc}
+use Rattle.history_core.proofs.Rising.{least_behind, least_behind-snoc, Rises-snoc, Rises-last}
 use Rattle.live_agent.specs.declared.trace.Item.{Item}
 use Rattle.live_run.specs.Reports.{receipts_of}
 use Rattle.live_run.proofs.Gathering.{one_more, cut_at, receipts_of-append, receipts_of-none}
-use Rattle.live_run.proofs.Falling.{Rises-snoc, Rises-last}
 use Rattle.live_run.proofs.counting.fall_in.Goals as goal
 
 pub loop-item-preserved-in_default : goal.loop-item-preserved-in_default

@@ -1,6 +1,6 @@
 use Rattle.std.proofs.Common.{arith}
 use Rattle.std.proofs.lemmas.Result.{err_from_is_err_and}
-use Rattle.message_core.proofs.Readers.{octets_from}
+use Rattle.ber_core.proofs.Octets.{octets_from}
 use Rattle.message_core.proofs.Growth.{long_by_name, long_by_value}
 use Rattle.message_core.proofs.reading.binding_from.Goals as goal
 

@@ -1,5 +1,5 @@
 use Rattle.std.proofs.Common.{arith}
-use Rattle.message_core.proofs.Readers.{octets_from}
+use Rattle.ber_core.proofs.Octets.{octets_from}
 use Rattle.message_core.proofs.Causes.{reply_reader}
 use Rattle.message_core.proofs.Decoded.{found_by, only_by, cause_by, exactly_by}
 use Rattle.message_core.proofs.Encodable.{reply_encodable_by}

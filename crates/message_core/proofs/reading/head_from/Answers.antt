@@ -1,6 +1,6 @@
 use Rattle.std.proofs.Common.{arith}
 use Rattle.std.proofs.lemmas.Result.{err_from_is_err_and}
-use Rattle.message_core.proofs.Readers.{octets_from}
+use Rattle.ber_core.proofs.Octets.{octets_from}
 use Rattle.message_core.proofs.Requests.{community_long}
 use Rattle.message_core.proofs.reading.head_from.Goals as goal
 

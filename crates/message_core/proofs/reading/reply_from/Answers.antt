@@ -4,7 +4,7 @@ use Rattle.std.proofs.lemmas.Result.{err_from_is_err_and}
 use Rattle.message_core.specs.FirstFault.{response_of}
 use Rattle.message_core.specs.declared.cause.DropCause.{DropCause}
 use Rattle.message_core.specs.Message.{IsResponseTag, IsStatusCode, GivesReply, IsReplyCause}
-use Rattle.message_core.proofs.Readers.{octets_from}
+use Rattle.ber_core.proofs.Octets.{octets_from}
 use Rattle.message_core.proofs.Requests.{status_is}
 use Rattle.message_core.proofs.Causes.{response_tags}
 use Rattle.message_core.proofs.Growth.{grows_in_pdu}

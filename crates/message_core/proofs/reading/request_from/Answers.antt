@@ -3,7 +3,7 @@ use Rattle.std.proofs.lemmas.Result.{err_from_is_err_and}
 use Rattle.message_core.specs.FirstFault.{kind_of}
 use Rattle.message_core.specs.declared.cause.DropCause.{DropCause}
 use Rattle.message_core.specs.Message.{IsRequestTag, IsAnyNumber, IsRequest, IsCause}
-use Rattle.message_core.proofs.Readers.{octets_from}
+use Rattle.ber_core.proofs.Octets.{octets_from}
 use Rattle.message_core.proofs.Causes.{request_tags}
 use Rattle.message_core.proofs.Growth.{grows_in_pdu}
 use Rattle.message_core.proofs.reading.request_from.Goals as goal
