@@ -1,20 +1,16 @@
 //! Which access row decides (RFC 3415, section 4, vacmAccessTable).
 use crate::names::named;
-use crate::rows::{access, family, group, tables};
+use crate::rows::{AccessTexts, rows_of};
 use std::alloc::Global;
 use std::test::Fail;
-use vacm_core::{Ask, Level, Vacm, Verdict, ViewType, WrittenAccess};
+use vacm_core::{Ask, Level, Vacm, Verdict, ViewType};
 
 // The access row that allows the user `u` to read in the context `c`.
-fn allowed(
-    alloc: Global,
-    first: WrittenAccess,
-    second: WrittenAccess,
-) -> Result<Option<usize>, Fail> {
-    let groups = Vec::from_array(alloc, [group(alloc, "u")?])?;
-    let access = Vec::from_array(alloc, [first, second])?;
-    let families = Vec::from_array(alloc, [family(alloc, "1.3", &[], true)?])?;
-    let vacm = Vacm::new(alloc, tables(alloc, groups, access, families)?)?;
+fn allowed(alloc: Global, access: &[AccessTexts]) -> Result<Option<usize>, Fail> {
+    let vacm = Vacm::new(
+        alloc,
+        rows_of(alloc, &["u"], access, &[("1.3", &[], true)])?,
+    )?;
     let ask = Ask {
         model: 2,
         security: named("u")?,
@@ -28,26 +24,15 @@ fn allowed(
     }
 }
 
+// The second row is of all contexts that begin with nothing, and of model 2.
 #[test]
-fn the_model_comes_before_the_whole_context(rt: HostRuntime) -> Result<(), Fail> {
-    let alloc = rt.alloc();
-    let row = allowed(
-        alloc,
-        access(alloc, "c", 0, true)?,
-        access(alloc, "", 2, false)?,
-    )?;
-    assert_eq!(rt; row, Some(1));
-    Ok(())
-}
-
-#[test]
-fn the_whole_context_comes_before_a_part(rt: HostRuntime) -> Result<(), Fail> {
-    let alloc = rt.alloc();
-    let row = allowed(
-        alloc,
-        access(alloc, "c", 2, true)?,
-        access(alloc, "", 2, false)?,
-    )?;
-    assert_eq!(rt; row, Some(0));
+fn access_rows_decide_in_order(rt: HostRuntime) -> Result<(), Fail> {
+    for (what, model, row) in [
+        ("the model comes before the whole context", 0, 1),
+        ("the whole context comes before a part", 2, 0),
+    ] {
+        let decides = allowed(rt.alloc(), &[("c", model, true), ("", 2, false)])?;
+        assert_eq!(rt; decides, Some(row), "{what}");
+    }
     Ok(())
 }

@@ -1,39 +1,33 @@
 //! Copies of the tables, and their rows as they are written.
-use crate::rows::{access, family, group, tables};
+use crate::rows::{AccessTexts, FamilyTexts, rows_of};
 use std::alloc::Global;
 use std::test::Fail;
 use vacm_core::{Same, Vacm, VacmRows};
 
-// Rows of which the last includes its family or not.
-fn some_rows(alloc: Global, included: bool) -> Result<VacmRows, Fail> {
-    let groups = Vec::from_array(alloc, [group(alloc, "u")?])?;
-    let access = Vec::from_array(
-        alloc,
-        [access(alloc, "c", 0, true)?, access(alloc, "", 2, false)?],
-    )?;
-    let families = Vec::from_array(
-        alloc,
-        [
-            family(alloc, "1.3", &[], true)?,
-            family(alloc, "1.3.6", &[], included)?,
-        ],
-    )?;
-    Ok(tables(alloc, groups, access, families)?)
+const ACCESS: [AccessTexts; 2] = [("c", 0, true), ("", 2, false)];
+
+// Families of which the last is not included, and is.
+const EXCLUDED: [FamilyTexts; 2] = [("1.3", &[], true), ("1.3.6", &[], false)];
+
+const INCLUDED: [FamilyTexts; 2] = [("1.3", &[], true), ("1.3.6", &[], true)];
+
+fn some_rows(alloc: Global, families: &[FamilyTexts]) -> Result<VacmRows, Fail> {
+    rows_of(alloc, &["u"], &ACCESS, families)
+}
+
+// The rows of a copy of the tables.
+fn copied_rows(alloc: Global) -> Result<VacmRows, Fail> {
+    let copy = Vacm::new(alloc, some_rows(alloc, &EXCLUDED)?)?.try_copy(alloc)?;
+    Ok(copy.rows(alloc)?)
 }
 
 #[test]
-fn a_copy_has_the_same_rows(rt: HostRuntime) -> Result<(), Fail> {
-    let alloc = rt.alloc();
-    let copy = Vacm::new(alloc, some_rows(alloc, false)?)?.try_copy(alloc)?;
-    let rows = copy.rows(alloc)?;
-    assert_eq!(rt; rows.same(&some_rows(alloc, false)?), true);
-    Ok(())
-}
-
-#[test]
-fn one_other_row_is_not_the_same(rt: HostRuntime) -> Result<(), Fail> {
-    let alloc = rt.alloc();
-    let rows = some_rows(alloc, false)?;
-    assert_eq!(rt; rows.same(&some_rows(alloc, true)?), false);
+fn a_copy_has_the_same_rows_and_no_others(rt: HostRuntime) -> Result<(), Fail> {
+    for (families, same) in [(EXCLUDED, true), (INCLUDED, false)] {
+        let rows = some_rows(rt.alloc(), &families)?;
+        let written = some_rows(rt.alloc(), &EXCLUDED)?.same(&rows);
+        let copied = copied_rows(rt.alloc())?.same(&rows);
+        assert_eq!(rt; (written, copied), (same, same));
+    }
     Ok(())
 }

@@ -7,110 +7,56 @@ use message_core::{ErrorStatus, Kind};
 use std::alloc::Global;
 use std::test::Fail;
 
+// The PDU type, the status and the index of a request, the group whose row lets it in, and the
+// view.
+type Asked<'a> = (Kind, ErrorStatus, i32, &'a str, &'a str);
+
 // The audit of a request that a group's row lets in to a view, a family of which excludes the first
 // binding.
-fn denied_audit(
-    alloc: Global,
-    kind: Kind,
-    status: ErrorStatus,
-    index: i32,
-    group: &str,
-    view: &str,
-    subtree: &str,
-) -> Result<Audit, Fail> {
-    let family = family_of(alloc, view, subtree)?;
-    let row = row_of(group)?;
+fn denied_audit(alloc: Global, asked: Asked, subtree: &str) -> Result<Audit, Fail> {
+    let (kind, status, index, group, view) = asked;
+    let family = Some(family_of(alloc, view, subtree)?);
+    let row = row_of(named(group)?);
     let view = named(view)?;
     let mut audit = audit_of(alloc, kind, status, index, Decision::Allowed { row, view });
-    audit.denied.push(Denied {
-        index: 1,
-        family: Some(family),
-    })?;
+    audit.denied.push(Denied { index: 1, family })?;
     Ok(audit)
 }
 
-// The line of such an audit.
-fn denied_line(
-    alloc: Global,
-    kind: Kind,
-    status: ErrorStatus,
-    index: i32,
-    group: &str,
-    view: &str,
-    subtree: &str,
-) -> Result<Vec<u8>, Fail> {
-    let audit = denied_audit(alloc, kind, status, index, group, view, subtree)?;
-    line_of(alloc, &audit)
+// The line of such an audit, and that of its copy.
+fn denied_lines(alloc: Global, asked: Asked, subtree: &str) -> Result<(Vec<u8>, Vec<u8>), Fail> {
+    let audit = denied_audit(alloc, asked, subtree)?;
+    let copy = audit.try_copy(alloc)?;
+    Ok((line_of(alloc, &audit)?, line_of(alloc, &copy)?))
 }
+
+const READ: Asked = (Kind::Get, ErrorStatus::NoError, 0, "readers", "p2");
+
+const LONG: Asked = (Kind::Get, ErrorStatus::NoError, 0, "readers", "v");
+
+const SET: Asked = (Kind::Set, ErrorStatus::NoAccess, 1, "writers", "w");
+
+// The lines up to the subtree.
+const READ_LINE: &str = "get 0 0 ok access(readers,,2,1) view p2 denied 1 family(p2,";
+
+const LONG_LINE: &str = "get 0 0 ok access(readers,,2,1) view v denied 1 family(v,";
+
+const SET_LINE: &str = "set 6 1 ok access(writers,,2,1) view w denied 1 family(w,";
 
 #[test]
 fn names_the_family_that_excludes(rt: HostRuntime) -> Result<(), Fail> {
-    let subtree = "1.3.6.1.2.1.17.2.15.1.3.0";
-    let status = ErrorStatus::NoError;
-    let line = denied_line(rt.alloc(), Kind::Get, status, 0, "readers", "p2", subtree)?;
-    assert_eq!(rt;
-        line.as_slice(),
-        b"get 0 0 ok access(readers,,2,1) view p2 denied 1 \
-              family(p2,1.3.6.1.2.1.17.2.15.1.3.0)\n"
-            .as_slice()
-    );
-    Ok(())
-}
-
-#[test]
-fn names_the_denied_binding_of_a_set(rt: HostRuntime) -> Result<(), Fail> {
-    let subtree = "1.3.6.1.2.1.17.2.15.1.0.1";
-    let status = ErrorStatus::NoAccess;
-    let line = denied_line(rt.alloc(), Kind::Set, status, 1, "writers", "w", subtree)?;
-    assert_eq!(rt;
-        line.as_slice(),
-        b"set 6 1 ok access(writers,,2,1) view w denied 1 \
-              family(w,1.3.6.1.2.1.17.2.15.1.0.1)\n"
-            .as_slice()
-    );
-    Ok(())
-}
-
-#[test]
-fn names_a_long_subtree(rt: HostRuntime) -> Result<(), Fail> {
-    for count in [25, 113] {
-        let subtree = long_name(rt.alloc(), count)?;
-        let mut said = Vec::from_slice(
-            rt.alloc(),
-            b"get 0 0 ok access(readers,,2,1) view v denied 1 family(v,",
-        )?;
-        said.extend_from_slice(subtree.as_bytes())?;
-        said.extend_from_slice(b")\n")?;
-        let status = ErrorStatus::NoError;
-        let line = denied_line(
-            rt.alloc(),
-            Kind::Get,
-            status,
-            0,
-            "readers",
-            "v",
-            subtree.as_str(),
-        )?;
-        assert_eq!(rt; line.as_slice(), said.as_slice());
+    for (asked, said, subtree, more) in [
+        (READ, READ_LINE, "1.3.6.1.2.1.17.2.15.1.3.0", 0),
+        (SET, SET_LINE, "1.3.6.1.2.1.17.2.15.1.0.1", 0),
+        (LONG, LONG_LINE, "1.3", 23),
+        (LONG, LONG_LINE, "1.3", 111),
+        (SET, SET_LINE, "1.3", 23),
+    ] {
+        let subtree = long_name(rt.alloc(), subtree, more)?;
+        let want = format!(in rt.alloc(); "{said}{subtree})\n")?;
+        let (line, copied) = denied_lines(rt.alloc(), asked, subtree.as_str())?;
+        assert_eq!(rt; line.as_slice(), want.as_bytes(), "{want}");
+        assert_eq!(rt; copied.as_slice(), want.as_bytes(), "{want}");
     }
-    Ok(())
-}
-
-#[test]
-fn copies_an_audit(rt: HostRuntime) -> Result<(), Fail> {
-    let subtree = long_name(rt.alloc(), 25)?;
-    let audit = denied_audit(
-        rt.alloc(),
-        Kind::Set,
-        ErrorStatus::NoAccess,
-        1,
-        "writers",
-        "w",
-        subtree.as_str(),
-    )?;
-    let copy = audit.try_copy(rt.alloc())?;
-    let line = line_of(rt.alloc(), &audit)?;
-    let copied = line_of(rt.alloc(), &copy)?;
-    assert_eq!(rt; copied.as_slice(), line.as_slice());
     Ok(())
 }

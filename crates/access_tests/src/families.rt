@@ -1,84 +1,85 @@
 //! Which family of a view has a name (RFC 3415, section 4, vacmViewTreeFamilyTable).
 use crate::names::{long_name, named};
-use crate::rows::{family, tables};
+use crate::rows::rows_of;
 use oid_core::Oid;
 use std::alloc::Global;
 use std::test::Fail;
 use vacm_core::{FamilyAnswer, Vacm};
 
-// Port 2's row of all columns, but for column 3.
-fn masked(alloc: Global) -> Result<Vacm, Fail> {
-    let included = family(alloc, "1.3.6.1.2.1.17.2.15.1.0.2", &[0xFF, 0xD0], true)?;
-    let excluded = family(alloc, "1.3.6.1.2.1.17.2.15.1.3.0", &[0xFF, 0xE0], false)?;
-    let families = Vec::from_array(alloc, [included, excluded])?;
-    let rows = tables(alloc, Vec::new(alloc), Vec::new(alloc), families)?;
-    Ok(Vacm::new(alloc, rows)?)
+// The subtree of a family that is included and its mask, those of one that is not, and a name; and
+// how many ones more the second subtree and the name have.
+type Asked<'a> = ((&'a str, &'a [u8]), (&'a str, &'a [u8]), &'a str, usize);
+
+// The answer of a view that has these two families.
+fn answer(alloc: Global, asked: Asked) -> Result<FamilyAnswer, Fail> {
+    let (included, excluded, name, more) = asked;
+    let subtree = long_name(alloc, excluded.0, more)?;
+    let families = [
+        (included.0, included.1, true),
+        (subtree.as_str(), excluded.1, false),
+    ];
+    let vacm = Vacm::new(alloc, rows_of(alloc, &[], &[], &families)?)?;
+    let name = long_name(alloc, name, more)?;
+    let name = Oid::parse(alloc, name.as_str())?;
+    Ok(vacm.in_view(&named("v")?, &name))
 }
 
-fn answer(alloc: Global, name: &str) -> Result<FamilyAnswer, Fail> {
-    let vacm = masked(alloc)?;
-    let view = named("v")?;
-    let name = Oid::parse(alloc, name)?;
-    Ok(vacm.in_view(&view, &name))
-}
+// Port 2's row of all columns, and column 3 of all ports.
+const PORT_2: (&str, &[u8]) = ("1.3.6.1.2.1.17.2.15.1.0.2", &[0xFF, 0xD0]);
 
-#[test]
-fn masks_make_families(rt: HostRuntime) -> Result<(), Fail> {
-    let alloc = rt.alloc();
-    let column_5 = answer(alloc, "1.3.6.1.2.1.17.2.15.1.5.2")?;
-    assert_eq!(rt; column_5, FamilyAnswer::Included(0));
-    let column_3 = answer(alloc, "1.3.6.1.2.1.17.2.15.1.3.2")?;
-    assert_eq!(rt;
-        column_3,
+const COLUMN_3: (&str, &[u8]) = ("1.3.6.1.2.1.17.2.15.1.3.0", &[0xFF, 0xE0]);
+
+// All of the internet, and nothing more.
+const ALL: (&str, &[u8]) = ("1.3", &[]);
+
+// Two families of one length that differ only where their masks do not count.
+const FOUR: (&str, &[u8]) = ("1.3.6.1.4", &[0xF7]);
+
+const NINE: (&str, &[u8]) = ("1.3.6.1.9", &[0xF7]);
+
+// What a row shows, what is asked, and the answer.
+const ROWS: [(&str, Asked, FamilyAnswer); 7] = [
+    (
+        "column 5 of port 2",
+        (PORT_2, COLUMN_3, "1.3.6.1.2.1.17.2.15.1.5.2", 0),
+        FamilyAnswer::Included(0),
+    ),
+    (
+        "the greater of equal lengths",
+        (PORT_2, COLUMN_3, "1.3.6.1.2.1.17.2.15.1.3.2", 0),
         FamilyAnswer::Excluded(1),
-        "the greater of equal lengths"
-    );
-    Ok(())
-}
+    ),
+    (
+        "another port",
+        (PORT_2, COLUMN_3, "1.3.6.1.2.1.17.2.15.1.5.1", 0),
+        FamilyAnswer::NoRow,
+    ),
+    (
+        "a subtree of 25 sub-identifiers",
+        (ALL, ALL, "1.3", 23),
+        FamilyAnswer::Excluded(1),
+    ),
+    (
+        "a subtree of 113 sub-identifiers",
+        (ALL, ALL, "1.3", 111),
+        FamilyAnswer::Excluded(1),
+    ),
+    (
+        "the greater, which is written second",
+        (FOUR, NINE, "1.3.6.1.4.5", 0),
+        FamilyAnswer::Excluded(1),
+    ),
+    (
+        "the greater, which is written first",
+        (NINE, FOUR, "1.3.6.1.4.5", 0),
+        FamilyAnswer::Included(0),
+    ),
+];
 
 #[test]
-fn other_ports_match_no_family(rt: HostRuntime) -> Result<(), Fail> {
-    let port_1 = answer(rt.alloc(), "1.3.6.1.2.1.17.2.15.1.5.1")?;
-    assert_eq!(rt; port_1, FamilyAnswer::NoRow);
-    Ok(())
-}
-
-#[test]
-fn long_subtrees_deny(rt: HostRuntime) -> Result<(), Fail> {
-    let alloc = rt.alloc();
-    let view = named("v")?;
-    for count in [25, 113] {
-        let text = long_name(alloc, count)?;
-        let included = family(alloc, "1.3", &[], true)?;
-        let excluded = family(alloc, text.as_str(), &[], false)?;
-        let families = Vec::from_array(alloc, [included, excluded])?;
-        let rows = tables(alloc, Vec::new(alloc), Vec::new(alloc), families)?;
-        let vacm = Vacm::new(alloc, rows)?;
-        let name = Oid::parse(alloc, text.as_str())?;
-        assert_eq!(rt; vacm.in_view(&view, &name), FamilyAnswer::Excluded(1));
-    }
-    Ok(())
-}
-
-// Two families of one length that differ only where their masks do not count: the greater decides,
-// whichever is written first.
-#[test]
-fn the_greater_decides_where_no_part_counts(rt: HostRuntime) -> Result<(), Fail> {
-    let alloc = rt.alloc();
-    let view = named("v")?;
-    let name = Oid::parse(alloc, "1.3.6.1.4.5")?;
-    for (included, excluded, answer) in [
-        ("1.3.6.1.4", "1.3.6.1.9", FamilyAnswer::Excluded(1)),
-        ("1.3.6.1.9", "1.3.6.1.4", FamilyAnswer::Included(0)),
-    ] {
-        let families = [
-            family(alloc, included, &[0xF7], true)?,
-            family(alloc, excluded, &[0xF7], false)?,
-        ];
-        let families = Vec::from_array(alloc, families)?;
-        let rows = tables(alloc, Vec::new(alloc), Vec::new(alloc), families)?;
-        let vacm = Vacm::new(alloc, rows)?;
-        assert_eq!(rt; vacm.in_view(&view, &name), answer);
+fn families_decide_by_mask_length_and_order(rt: HostRuntime) -> Result<(), Fail> {
+    for (what, asked, want) in ROWS {
+        assert_eq!(rt; answer(rt.alloc(), asked)?, want, "{what}");
     }
     Ok(())
 }

@@ -1,52 +1,36 @@
 //! The first fault of written rows.
-use crate::rows::{family, group, tables};
-use std::alloc::Global;
+use crate::rows::{FamilyTexts, rows_of};
 use std::test::Fail;
-use vacm_core::{TableFault, Vacm, VacmTable, WrittenFamily, Wrong};
+use vacm_core::{TableFault, Vacm, VacmTable, Wrong};
 
-fn fault_of_families(
-    alloc: Global,
-    families: Vec<WrittenFamily>,
-) -> Result<Option<TableFault<VacmTable>>, Fail> {
-    let rows = tables(alloc, Vec::new(alloc), Vec::new(alloc), families)?;
-    Ok(Vacm::new(alloc, rows).err())
-}
-
-#[test]
-fn masks_have_at_most_16_octets(rt: HostRuntime) -> Result<(), Fail> {
-    let alloc = rt.alloc();
-    let families = Vec::from_array(alloc, [family(alloc, "1.3", &[0xFF; 17], true)?])?;
-    let fault = fault_of_families(alloc, families)?;
-    assert_eq!(rt;
-        fault,
-        Some(TableFault::Row(VacmTable::Families, 0, Wrong::Length))
-    );
-    Ok(())
-}
-
-#[test]
-fn the_later_row_is_the_duplicate(rt: HostRuntime) -> Result<(), Fail> {
-    let alloc = rt.alloc();
-    let first = family(alloc, "1.3", &[], true)?;
-    let second = family(alloc, "1.3", &[0xFF], false)?;
-    let fault = fault_of_families(alloc, Vec::from_array(alloc, [first, second])?)?;
-    assert_eq!(rt;
-        fault,
-        Some(TableFault::Row(VacmTable::Families, 1, Wrong::Duplicate))
-    );
-    Ok(())
-}
+// What is at fault, names, families, and the fault.
+const ROWS: [(&str, &[&str], &[FamilyTexts], TableFault<VacmTable>); 3] = [
+    (
+        "a mask has at most 16 octets",
+        &[],
+        &[("1.3", &[0xFF; 17], true)],
+        TableFault::Row(VacmTable::Families, 0, Wrong::Length),
+    ),
+    (
+        "the later row is the duplicate",
+        &[],
+        &[("1.3", &[], true), ("1.3", &[0xFF], false)],
+        TableFault::Row(VacmTable::Families, 1, Wrong::Duplicate),
+    ),
+    (
+        "a length comes before a later field",
+        &["name-of-33-octets-and-not-of-32-.", "a b"],
+        &[],
+        TableFault::Row(VacmTable::Groups, 0, Wrong::Length),
+    ),
+];
 
 #[test]
-fn a_length_comes_before_a_later_field(rt: HostRuntime) -> Result<(), Fail> {
-    let alloc = rt.alloc();
-    let long = group(alloc, "name-of-33-octets-and-not-of-32-.")?;
-    let groups = Vec::from_array(alloc, [long, group(alloc, "a b")?])?;
-    let rows = tables(alloc, groups, Vec::new(alloc), Vec::new(alloc))?;
-    let fault = Vacm::new(alloc, rows).err();
-    assert_eq!(rt;
-        fault,
-        Some(TableFault::Row(VacmTable::Groups, 0, Wrong::Length))
-    );
+fn the_first_fault_of_rows_is_told(rt: HostRuntime) -> Result<(), Fail> {
+    for (what, names, families, want) in ROWS {
+        let rows = rows_of(rt.alloc(), names, &[], families)?;
+        let fault = Vacm::new(rt.alloc(), rows).err();
+        assert_eq!(rt; fault, Some(want), "{what}");
+    }
     Ok(())
 }

@@ -10,9 +10,9 @@ use std::test::Fail;
 use vacm_core::{AccessRow, FamilyRow, Level, Mask, Name};
 
 /// The key of a group's row for every context, under model 2 and from level 1 on.
-pub fn row_of(group: &str) -> Result<AccessKey, Fail> {
+pub fn row_of(group: Name) -> AccessKey {
     let row = AccessRow {
-        group: named(group)?,
+        group,
         prefix: Name::empty(),
         model: 2,
         level: Level::NoAuthNoPriv,
@@ -21,7 +21,7 @@ pub fn row_of(group: &str) -> Result<AccessKey, Fail> {
         write: Name::empty(),
         notify: Name::empty(),
     };
-    Ok(AccessKey::of(&row))
+    AccessKey::of(&row)
 }
 
 /// The key of the family of a view and a subtree.

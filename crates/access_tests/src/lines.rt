@@ -1,96 +1,90 @@
 //! The lines of audits that deny no binding.
 use crate::keys::{audit_of, line_of, row_of};
-use crate::names::named;
-use audit_core::write_audit;
+use audit_core::{Audit, write_audit};
 use decision::{Cause, Decision, Refusal};
 use message_core::{ErrorStatus, Kind};
+use std::alloc::Global;
 use std::test::Fail;
 use vacm_core::Name;
 
-#[test]
-fn names_the_row_without_a_view(rt: HostRuntime) -> Result<(), Fail> {
-    let row = row_of("readers")?;
-    let decision = Decision::Refused(Refusal::NoSuchView {
-        row,
-        view: Name::empty(),
-    });
-    let status = ErrorStatus::AuthorizationError;
-    let audit = audit_of(rt.alloc(), Kind::Set, status, 0, decision);
-    let line = line_of(rt.alloc(), &audit)?;
-    assert_eq!(rt;
-        line.as_slice(),
-        b"set 16 0 noSuchView access(readers,,2,1) empty\n".as_slice()
-    );
-    Ok(())
+// What decides, in short.
+#[derive(Clone, Copy)]
+enum By {
+    NoView,
+    NoGroup,
+    NoBindings,
+    NoContext,
+    View,
+    NoCommunity,
 }
 
-#[test]
-fn names_who_has_no_group(rt: HostRuntime) -> Result<(), Fail> {
-    let name = named("lost")?;
-    let decision = Decision::Refused(Refusal::NoGroupName { model: 2, name });
-    let status = ErrorStatus::AuthorizationError;
-    let audit = audit_of(rt.alloc(), Kind::Get, status, 0, decision);
-    let line = line_of(rt.alloc(), &audit)?;
-    assert_eq!(rt;
-        line.as_slice(),
-        b"get 16 0 noGroupName group(2,lost)\n".as_slice()
-    );
-    Ok(())
+fn decision_by(by: By) -> Decision {
+    match by {
+        By::NoView => Decision::Refused(Refusal::NoSuchView {
+            row: row_of(Name::of("readers")),
+            view: Name::empty(),
+        }),
+        By::NoGroup => Decision::Refused(Refusal::NoGroupName {
+            model: 2,
+            name: Name::of("lost"),
+        }),
+        By::NoBindings => Decision::Empty,
+        By::NoContext => Decision::Drop(Cause::NoSuchContext(Name::of("x"))),
+        By::View => Decision::Allowed {
+            row: row_of(Name::of("writers")),
+            view: Name::of("bridge"),
+        },
+        By::NoCommunity => Decision::Drop(Cause::UnknownCommunity),
+    }
 }
 
-#[test]
-fn names_no_row_of_an_empty_request(rt: HostRuntime) -> Result<(), Fail> {
-    let status = ErrorStatus::NoError;
-    let audit = audit_of(rt.alloc(), Kind::Get, status, 0, Decision::Empty);
-    let line = line_of(rt.alloc(), &audit)?;
-    assert_eq!(rt; line.as_slice(), b"get 0 0 empty\n".as_slice());
-    Ok(())
+// Whether the line of an audit that is added in memory behind another is this.
+fn is_added(alloc: Global, audit: &Audit, line: &str) -> Result<bool, Fail> {
+    let mut out = Vec::from_slice(alloc, b"reply\n")?;
+    write_audit(alloc, audit, &mut out)?;
+    Ok(out.strip_prefix(b"reply\n") == Some(line.as_bytes()))
 }
 
+// A table: over forty lines.
 #[test]
-fn names_the_unknown_context(rt: HostRuntime) -> Result<(), Fail> {
-    let decision = Decision::Drop(Cause::NoSuchContext(named("x")?));
-    let audit = audit_of(rt.alloc(), Kind::Get, ErrorStatus::NoError, 0, decision);
-    let line = line_of(rt.alloc(), &audit)?;
-    assert_eq!(rt; line.as_slice(), b"get drop noSuchContext x\n".as_slice());
-    Ok(())
-}
-
-#[test]
-fn names_the_view_of_a_failed_set(rt: HostRuntime) -> Result<(), Fail> {
-    let row = row_of("writers")?;
-    let view = named("bridge")?;
-    let decision = Decision::Allowed { row, view };
-    let audit = audit_of(
-        rt.alloc(),
-        Kind::Set,
-        ErrorStatus::CommitFailed,
-        2,
-        decision,
-    );
-    let line = line_of(rt.alloc(), &audit)?;
-    assert_eq!(rt;
-        line.as_slice(),
-        b"set 14 2 ok access(writers,,2,1) view bridge\n".as_slice()
-    );
-    Ok(())
-}
-
-#[test]
-fn adds_a_line_in_memory(rt: HostRuntime) -> Result<(), Fail> {
-    let status = ErrorStatus::NoError;
-    let audit = audit_of(
-        rt.alloc(),
-        Kind::GetBulk,
-        status,
-        0,
-        Decision::Drop(Cause::UnknownCommunity),
-    );
-    let mut out = Vec::from_slice(rt.alloc(), b"reply\n")?;
-    write_audit(rt.alloc(), &audit, &mut out)?;
-    assert_eq!(rt;
-        out.as_slice(),
-        b"reply\nbulk drop unknownCommunity\n".as_slice()
-    );
+fn names_what_decides(rt: HostRuntime) -> Result<(), Fail> {
+    let rows = [
+        (
+            (Kind::Set, ErrorStatus::AuthorizationError, 0),
+            By::NoView,
+            "set 16 0 noSuchView access(readers,,2,1) empty\n",
+        ),
+        (
+            (Kind::Get, ErrorStatus::AuthorizationError, 0),
+            By::NoGroup,
+            "get 16 0 noGroupName group(2,lost)\n",
+        ),
+        (
+            (Kind::Get, ErrorStatus::NoError, 0),
+            By::NoBindings,
+            "get 0 0 empty\n",
+        ),
+        (
+            (Kind::Get, ErrorStatus::NoError, 0),
+            By::NoContext,
+            "get drop noSuchContext x\n",
+        ),
+        (
+            (Kind::Set, ErrorStatus::CommitFailed, 2),
+            By::View,
+            "set 14 2 ok access(writers,,2,1) view bridge\n",
+        ),
+        (
+            (Kind::GetBulk, ErrorStatus::NoError, 0),
+            By::NoCommunity,
+            "bulk drop unknownCommunity\n",
+        ),
+    ];
+    for ((kind, status, index), by, want) in rows {
+        let audit = audit_of(rt.alloc(), kind, status, index, decision_by(by));
+        let line = line_of(rt.alloc(), &audit)?;
+        assert_eq!(rt; line.as_slice(), want.as_bytes(), "{want}");
+        assert!(rt; is_added(rt.alloc(), &audit, want)?, "{want}");
+    }
     Ok(())
 }

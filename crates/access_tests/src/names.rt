@@ -8,10 +8,10 @@ pub fn named(text: &str) -> Result<Name, Fail> {
     Ok(Name::from_str(text).ok_or("a name")?)
 }
 
-/// The dotted text of 1.3 and ones, of so many sub-identifiers.
-pub fn long_name(alloc: Global, count: usize) -> Result<String, Fail> {
-    let mut text = String::from_str(alloc, "1.3")?;
-    for _ in 2..count {
+/// A dotted text, and so many ones more.
+pub fn long_name(alloc: Global, text: &str, more: usize) -> Result<String, Fail> {
+    let mut text = String::from_str(alloc, text)?;
+    for _ in 0..more {
         text.push_str(".1")?;
     }
     Ok(text)

@@ -4,17 +4,30 @@ use std::alloc::Global;
 use std::test::Fail;
 use vacm_core::{Octets, Rows, Text, VacmRows, WrittenAccess, WrittenFamily, WrittenGroup};
 
-/// A name of SNMPv2c in the group `g`.
-pub fn group(alloc: Global, name: &str) -> Result<WrittenGroup, Fail> {
-    Ok(WrittenGroup {
-        model: 2,
-        name: Text::new(alloc, name)?,
-        group: Text::new(alloc, "g")?,
-    })
+/// The context or how it begins, the model, and whether it is the whole context, of an access row.
+pub type AccessTexts<'a> = (&'a str, i64, bool);
+
+/// The subtree and the mask of a family, and whether it is included.
+pub type FamilyTexts<'a> = (&'a str, &'a [u8], bool);
+
+// Names of SNMPv2c in the group `g`.
+fn groups(alloc: Global, names: &[&str]) -> Result<Rows<WrittenGroup>, Fail> {
+    let mut rows = Vec::new(alloc);
+    for name in names {
+        let name = Text::new(alloc, name)?;
+        let group = Text::new(alloc, "g")?;
+        rows.push(WrittenGroup {
+            model: 2,
+            name,
+            group,
+        })?;
+    }
+    Ok(Rows::new(rows))
 }
 
-/// An access row of the group `g` for the view `v` to read.
-pub fn access(alloc: Global, prefix: &str, model: i64, exact: bool) -> Result<WrittenAccess, Fail> {
+// An access row of the group `g` for the view `v` to read.
+fn access(alloc: Global, texts: AccessTexts) -> Result<WrittenAccess, Fail> {
+    let (prefix, model, exact) = texts;
     Ok(WrittenAccess {
         group: Text::new(alloc, "g")?,
         prefix: Text::new(alloc, prefix)?,
@@ -27,13 +40,17 @@ pub fn access(alloc: Global, prefix: &str, model: i64, exact: bool) -> Result<Wr
     })
 }
 
-/// A family of the view `v`.
-pub fn family(
-    alloc: Global,
-    subtree: &str,
-    mask: &[u8],
-    included: bool,
-) -> Result<WrittenFamily, Fail> {
+fn accesses(alloc: Global, texts: &[AccessTexts]) -> Result<Rows<WrittenAccess>, Fail> {
+    let mut rows = Vec::new(alloc);
+    for row in texts {
+        rows.push(access(alloc, *row)?)?;
+    }
+    Ok(Rows::new(rows))
+}
+
+// A family of the view `v`.
+fn family(alloc: Global, texts: FamilyTexts) -> Result<WrittenFamily, Fail> {
+    let (subtree, mask, included) = texts;
     Ok(WrittenFamily {
         view: Text::new(alloc, "v")?,
         subtree: Oid::parse(alloc, subtree)?,
@@ -42,17 +59,26 @@ pub fn family(
     })
 }
 
-/// Tables of these rows and the one context `c`.
-pub fn tables(
+fn families(alloc: Global, texts: &[FamilyTexts]) -> Result<Rows<WrittenFamily>, Fail> {
+    let mut rows = Vec::new(alloc);
+    for row in texts {
+        rows.push(family(alloc, *row)?)?;
+    }
+    Ok(Rows::new(rows))
+}
+
+/// The rows of names in the group `g`, of access rows of that group, and of families of the view
+/// `v`, and the one context `c`.
+pub fn rows_of(
     alloc: Global,
-    groups: Vec<WrittenGroup>,
-    access: Vec<WrittenAccess>,
-    families: Vec<WrittenFamily>,
+    names: &[&str],
+    access: &[AccessTexts],
+    family: &[FamilyTexts],
 ) -> Result<VacmRows, Fail> {
     Ok(VacmRows {
-        groups: Rows::new(groups),
-        access: Rows::new(access),
-        families: Rows::new(families),
+        groups: groups(alloc, names)?,
+        access: accesses(alloc, access)?,
+        families: families(alloc, family)?,
         contexts: Rows::new(Vec::from_array(alloc, [Text::new(alloc, "c")?])?),
     })
 }

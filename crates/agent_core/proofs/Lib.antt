@@ -15,3 +15,4 @@ pub mod LawProofs
 pub mod Denials
 pub mod Owners
 pub mod Passed
+pub mod Undenied

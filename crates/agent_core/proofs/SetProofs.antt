@@ -1,9 +1,6 @@
 -- What a Set that is answered can tell.
-use Rattle.std.proofs.Common.{◌≡◌, ◌∙◌, ℕ, ◌+◌, ◌≤◌, ◌*◌, Bool, true, false, List, [], ◌∷◌, length, map, Option, Some, None, IfSome, IsSome, ap, refl, sym, subst, arith}
+use Rattle.std.proofs.Common.{◌≡◌, ◌∙◌, ℕ, ◌+◌, ◌≤◌, Bool, true, false, List, [], ◌∷◌, length, map, Option, Some, None, IfSome, ap, refl, sym, subst, arith}
 use Rattle.std.proofs.lemmas.Bool.{ltb-false}
-use Rattle.message_core.specs.Canon.{canon_reply}
-use Rattle.message_core.specs.declared.binding.Binding.{Binding}
-use Rattle.message_core.specs.declared.limits.TheConstants.{MAX_REPLY}
 use Rattle.message_core.specs.declared.request.Kind.{Kind}
 use Rattle.message_core.specs.declared.request.Kind.TheVariants.{Get, GetNext, GetBulk, Set}
 use Rattle.message_core.specs.declared.request.Request.{Request}
@@ -11,7 +8,6 @@ use Rattle.message_core.proofs.Smallest.{reply_some}
 use Rattle.decision.specs.Deciding.{decision_on}
 use Rattle.decision.specs.declared.choice.Decision.{Decision}
 use Rattle.decision.specs.declared.choice.Decision.TheVariants.{Drop, Empty, Refused, Allowed}
-use Rattle.setting_keys.specs.declared.SettingKey.{SettingKey}
 use Rattle.setphase_core.specs.declared.sets.Refusal.{Refusal}
 use Rattle.setphase_core.specs.declared.sets.SetOutcome.{SetOutcome}
 use Rattle.setphase_core.specs.declared.sets.SetOutcome.TheVariants as ended
@@ -19,8 +15,7 @@ use Rattle.setphase_core.specs.declared.world.World.{World}
 use Rattle.setphase_core.specs.Objects.{ObjectRow, ObjectState, object_after_release}
 use Rattle.setphase_core.specs.Variables.{Written}
 use Rattle.setphase_core.specs.Outcomes.{SetNotes, CanFail, refusal_in, notes_in, world_after_set, failed_names, object_after}
-use Rattle.agent_core.specs.Fitting.{total}
-use Rattle.agent_core.specs.Sets.{greatest_index, longest_response, is_too_long, no_notes, IsDenied, MayFail, MayFailWhere, MayFailInSet}
+use Rattle.agent_core.specs.Sets.{greatest_index, longest_response, is_too_long, no_notes, IsDenied, MayFail, MayFailWhere}
 use Rattle.agent_core.specs.Answers.{MayHave, MayFailBy, MayFailInView}
 use Rattle.agent_core.proofs.LawProofs.{total_some}
 

@@ -1,5 +1,5 @@
 -- The step of a Set, and the steps of other requests, from what was called.
-use Rattle.std.proofs.Common.{◌≡◌, ◌≢◌, ◌∙◌, ℕ, ℤ, pos, ◌≤◌, Bool, true, false, List, [], length, map, Option, Some, None, Result, Ok, Err, IfOk, OnErr, ap, refl, sym, subst}
+use Rattle.std.proofs.Common.{◌≡◌, ◌≢◌, ◌∙◌, ℕ, ℤ, pos, ◌≤◌, true, false, List, [], length, map, Option, None, Result, Ok, Err, IfOk, OnErr, ap, refl, sym, subst}
 use Rattle.std.specs.declared.alloc.AllocError.{AllocError}
 use Rattle.message_core.specs.Canon.{answer_to}
 use Rattle.message_core.specs.declared.limits.TheConstants.{MAX_COMMUNITY}
@@ -32,7 +32,7 @@ use Rattle.agent_core.specs.Buffered.{Buffered}
 use Rattle.agent_core.specs.Denying.{denied_in}
 use Rattle.agent_core.specs.Replies.{reply_within_limit, refusal_reply, kind_reply}
 use Rattle.agent_core.specs.Sets.{SetStep, SetAnswer, is_too_long, too_long_reply, no_notes, set_answer, set_reply, set_step, settled_world, settling_bpdus, untested_step, tested_step, tested_step_by, IsToldOf, IsDeniedSet, MayFailInSet}
-use Rattle.agent_core.specs.Answers.{Outcome, replied, Step, shown_of, outcome_by, outcome_of, world_by, world_after, with_count_of, drop_audit, reply_audit, step_of, step_by, reading_step, allowed_step, writing_step, IsSent, IsAnswered, IsReply, IsDone, IsTold, IsShort, IsStep, MayHave, MayFailBy, MayFailInView, TakesMemory, TakesInView, notes_told, without_answer}
+use Rattle.agent_core.specs.Answers.{replied, Step, shown_of, outcome_by, outcome_of, world_by, world_after, with_count_of, drop_audit, reply_audit, step_of, step_by, reading_step, allowed_step, writing_step, IsSent, IsAnswered, IsReply, IsDone, IsTold, IsShort, IsStep, MayHave, MayFailBy, MayFailInView, TakesInView, notes_told, without_answer}
 use Rattle.agent_core.specs.declared.answered.Answered.{Answered}
 use Rattle.agent_core.specs.declared.answered.Answered.TheVariants as answered
 use Rattle.agent_core.specs.declared.sent_reply.SentReply.{SentReply}

@@ -1,6 +1,6 @@
 -- What objects show of a world, and one step of a request: what it is answered, its audit, and what
 -- it leaves.
-use Rattle.std.specs.Prelude.{◌≡◌, ◌≢◌, ℕ, ◌≤◌, pos, ◌+◌, ◌%◌, ◌^◌, All, [], List, length, map, Option, Some, None, Result, Ok, Err}
+use Rattle.std.specs.Prelude.{◌≡◌, ℕ, ◌≤◌, pos, ◌+◌, ◌%◌, ◌^◌, All, [], List, length, map, Option, Some, None, Result, Ok, Err}
 use Rattle.std.specs.declared.alloc.AllocError.{AllocError}
 use Rattle.message_core.specs.Canon.{canon_reply, answer_to}
 use Rattle.message_core.specs.declared.binding.Binding.{Binding}

@@ -1,5 +1,5 @@
 //! Answers a request: the decision, the reply by its kind, the audit (RFC 3416, 4.2).
-ghost use Rattle.std.specs.Prelude.{◌≡◌, ◌≢◌, ◌≤◌, ◌<◌, [], None, length, IfOk, OnErr};
+ghost use Rattle.std.specs.Prelude.{◌≡◌, ◌≢◌, ◌≤◌, ◌<◌, [], None, true, length, IfOk, OnErr};
 ghost use Rattle.message_core.specs.Canon.{canon_reply};
 ghost use Rattle.message_core.specs.Encodable.{AreEncodable};
 ghost use Rattle.message_core.specs.declared.limits.TheConstants.{MAX_COMMUNITY};
@@ -20,7 +20,8 @@ use crate::sent_reply::SentReply;
 use crate::served::Served;
 use crate::sets::answer_set;
 use crate::source::{Source, View};
-use crate::views::PolicyView;
+use crate::views::{EveryName, PolicyView};
+use crate::whole::Whole;
 use audit_core::{Audit, DeniedBindings};
 use decision::{AccessKey, Cause, Decision, decide};
 use message_core::{ErrorStatus, Kind, Request};
@@ -109,7 +110,7 @@ fn answer_read<O: MibObject>(
     ensures err { OnErr result (buffer.new ≡ buffer.old) }
 {
     let denied = denied_bindings(alloc, world.policy.vacm(), &view, request)?;
-    let sent = send_allowed(alloc, registry, world, &view, request, buffer)?;
+    let sent = send_read(alloc, registry, world, &view, request, &denied, buffer)?;
     Ok(reply_with(request, Decision::Allowed { row, view }, denied, sent))
 }
 
@@ -189,6 +190,35 @@ pub fn short_reply(request: &Request, buffer: &mut Buffer) -> usize
         .length
 }
 
+// Puts the reply to a request that is allowed in a view, and of which these bindings are denied, into
+// the buffer. Where none of a Get is, no name is looked up in the view again.
+fn send_read<O: MibObject>(
+    alloc: Global,
+    registry: &Registry<O>,
+    world: &World,
+    view: &Name,
+    request: &Request,
+    denied: &DeniedBindings,
+    buffer: &mut Buffer,
+) -> Result<SentReply, AllocError>
+    requires community { length request.now.community ≤ MAX_COMMUNITY }
+    requires encodable { AreEncodable request.now.bindings }
+    requires reads { request.now.kind ≢ Kind.Set }
+    requires denied { denied.now ≡
+        denied_in world.now.policy.vacm.families view.now request.now request.now.kind }
+    ensures sent { IfOk result (λ sent. IsSent (kind_reply (prefixes_of (rows_of registry.now))
+        (in_view world.now.policy.vacm.families view.now)
+        (instances (rows_of registry.now) world.now) request.now request.now.kind)
+        sent buffer.new.reply) }
+    ensures bpdus { buffer.new.bpdus ≡ buffer.old.bpdus }
+    ensures err { OnErr result (buffer.new ≡ buffer.old) }
+{
+    if request.kind == Kind::Get && denied.as_slice().is_empty() {
+        return send_undenied::<O, Brand>(alloc, registry, world, request, buffer, Blank::new(1));
+    }
+    send_allowed(alloc, registry, world, view, request, buffer)
+}
+
 // Puts the reply to a request that is allowed in a view into the buffer. Its looks are counted in a
 // new ledger, and by no clause here.
 fn send_allowed<O: MibObject>(
@@ -245,6 +275,33 @@ fn send_served<O: MibObject, L: Ledger>(
     };
     let view = PolicyView { vacm, view };
     send_kind(alloc, &source, &view, request, buffer, &mut steps)
+}
+
+// Puts the reply to a request that reads where every name is seen into the buffer. Its looks are
+// counted in the ledger of the blank, and by no clause here.
+fn send_undenied<O: MibObject, L: Ledger>(
+    alloc: Global,
+    registry: &Registry<O>,
+    world: &World,
+    request: &Request,
+    buffer: &mut Buffer,
+    blank: Blank,
+) -> Result<SentReply, AllocError>
+    requires community { length request.now.community ≤ MAX_COMMUNITY }
+    requires encodable { AreEncodable request.now.bindings }
+    requires name { blank.name ≡ L.name }
+    requires parts { blank.parts ≡ L.parts }
+    requires some { 0 < blank.parts }
+    requires reads { request.now.kind ≢ Kind.Set }
+    ensures sent { IfOk result (λ sent. IsSent (kind_reply (prefixes_of (rows_of registry.now))
+        (λ name. true) (instances (rows_of registry.now) world.now) request.now request.now.kind)
+        sent buffer.new.reply) }
+    ensures bpdus { buffer.new.bpdus ≡ buffer.old.bpdus }
+    ensures err { OnErr result (buffer.new ≡ buffer.old) }
+{
+    let mut steps: Steps<L> = Steps::new(blank);
+    let source = Whole { registry, world };
+    send_kind(alloc, &source, &EveryName, request, buffer, &mut steps)
 }
 
 // Answers a request by its kind, from any source and under any view.

@@ -45,6 +45,7 @@ mod served;
 mod sets;
 mod source;
 mod views;
+mod whole;
 
 pub use answered::Answered;
 pub use answering::{answer, short_reply};

@@ -3,8 +3,9 @@ ghost use Rattle.std.specs.Prelude.{◌≡◌, ◌≤◌, ◌<◌, length, IfOk}
 ghost use Rattle.oid_core.specs.declared.limits.TheConstants.{MAX_NUMBERS};
 ghost use Rattle.message_core.specs.Instances.{next_of};
 ghost use Rattle.vacm_core.specs.Hiding.{hides_all};
-ghost use Rattle.setphase_core.specs.Registry.{rows_of};
+ghost use Rattle.setphase_core.specs.Registry.{rows_of, prefixes_of, AreApart};
 ghost use Rattle.setphase_core.specs.Passing.{open_instances};
+ghost use Rattle.agent_core.specs.Reading.{object_of};
 
 use crate::source::{NOWHERE, Source, Successors};
 use message_core::{Binding, Value};
@@ -40,6 +41,25 @@ fn object_name(alloc: Global, prefix: &[u32]) -> Result<Oid, AllocError>
         Ok(name) => Ok(name),
         Err(OidFault::Memory) => Err(AllocError),
         Err(_) => unreachable!(),
+    }
+}
+
+// The name of the object whose name begins a name, where there is one. Only memory can fail.
+pub(crate) fn object_in<O: MibObject>(
+    alloc: Global,
+    registry: &Registry<O>,
+    world: &World,
+    name: &Oid,
+) -> Result<Option<Oid>, AllocError>
+    ensures found { IfOk result (λ found.
+        found ≡ object_of (prefixes_of (rows_of registry.now)) name.now) }
+    ensures apart { AreApart (prefixes_of (rows_of registry.now)) }
+{
+    registry.known(world);
+    let mut near = NOWHERE;
+    match registry.owner(name.as_slice(), &mut near) {
+        None => Ok(None),
+        Some(prefix) => Ok(Some(object_name(alloc, prefix)?)),
     }
 }
 
@@ -107,12 +127,7 @@ impl<O: MibObject, L: Ledger> Source<L> for Served<'_, O> {
     ghost objects = { λ s. prefixes_of (rows_of s.registry.now) };
 
     fn object(&self, alloc: Global, name: &Oid) -> Result<Option<Oid>, AllocError> {
-        self.registry.known(self.world);
-        let mut near = NOWHERE;
-        match self.registry.owner(name.as_slice(), &mut near) {
-            None => Ok(None),
-            Some(prefix) => Ok(Some(object_name(alloc, prefix)?)),
-        }
+        object_in(alloc, self.registry, self.world, name)
     }
 
     fn get(&self, alloc: Global, name: &Oid) -> Result<Option<Value>, AllocError> {

@@ -1,4 +1,4 @@
-//! The view that a policy gives.
+//! The view that a policy gives, and that of all names.
 ghost use Rattle.std.specs.Prelude.{◌≡◌};
 
 use crate::source::View;
@@ -21,5 +21,19 @@ impl View for PolicyView<'_> {
 
     fn has_name(&self, name: &Oid) -> bool {
         self.vacm.in_view(self.view, name).is_included()
+    }
+}
+
+/// The view of every name.
+#[derive(Drop)]
+pub(crate) struct EveryName;
+
+impl View for EveryName {
+    ghost use Rattle.std.specs.Prelude.{true};
+
+    ghost shows = { λ v name. true };
+
+    fn has_name(&self, _name: &Oid) -> bool {
+        true
     }
 }

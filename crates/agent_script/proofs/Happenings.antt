@@ -10,7 +10,7 @@ use Rattle.decision.specs.declared.choice.Cause.{Cause}
 use Rattle.frame_core.specs.declared.bpdu.Bpdu.{Bpdu}
 use Rattle.bridge_core.specs.Bridge.{address_of}
 use Rattle.agent_core.specs.Buffered.{Buffered}
-use Rattle.history_core.specs.History.{History, IsEntered, moved, next_of, next_step, next_entry, next_receipt, last_number}
+use Rattle.history_core.specs.History.{History, IsEntered, history_before_entry, next_of, next_step, next_entry, next_receipt, last_number}
 use Rattle.history_core.specs.Steps.{Step, MayTakeMemory, cause_of, failure_octets}
 use Rattle.history_core.specs.declared.entry.Entry.{Entry}
 use Rattle.history_core.specs.declared.event.Event.{Event}
@@ -57,7 +57,7 @@ module _ (a : Agent) (e : Event) (receipt : Receipt) (audit : Option Audit) (lat
         ∙ ap (λ (x : Option Cause). step_text a.is_auditing (address_of a.history.world.bridge) x e step) (sym c)
         ∙ sym (append-nil (event_text a.is_auditing a.history e (entered p.notes)));
     after = ap (λ (h : History). with_history a h) p.after_is;
-    whole_is = had (moved a.history).entries (next_entry (moved a.history) e p.notes) (ap (λ (h : History). h.entries) p.after_is)
+    whole_is = had (history_before_entry a.history).entries (next_entry (history_before_entry a.history) e p.notes) (ap (λ (h : History). h.entries) p.after_is)
         ∙ sym (and_true (not p.notes.no_room));
   }
 
@@ -182,14 +182,14 @@ says_nothing e a = record { mets = []; count = refl; may = tt; text = refl; afte
 
 -- ---- numbers
 
-next_moved : (h : History) → next_of (moved h) ≡ next_of h
+next_moved : (h : History) → next_of (history_before_entry h) ≡ next_of h
 next_moved h = elim (cases_Bool (length h.entries == MAX_ENTRIES)) [
   | inl full ↦ rw full (omega arith)
   | inr none ↦ rw none refl
 ]
 
 next_event : (h : History) (e : Event) (m : Met) → next_of (after_event h e m) ≤ next_of h + 1
-next_event h e (entered notes) = omega (arith, next_moved h, length-append (moved h).entries (next_entry (moved h) e notes ∷ []))
+next_event h e (entered notes) = omega (arith, next_moved h, length-append (history_before_entry h).entries (next_entry (history_before_entry h) e notes ∷ []))
 next_event h e short = omega arith
 
 pub next_events : (h : History) (e : Event) (ms : List Met) → next_of (after_events h (each_met e ms)) ≤ next_of h + length ms

@@ -1,12 +1,9 @@
 //! Learned addresses under a view that hides each object of their table whole (RFC 4188,
 //! dot1dTpFdbTable; RFC 3415, vacmViewTreeFamilyTable).
-use crate::messages::{ALL, ALL_BUT_LEARNED, GET, GET_NEXT, NULL, opening_world};
-use crate::requests::plain;
+use crate::messages::{ALL, ALL_BUT_LEARNED, GET, GET_NEXT, NULL, objects_of, opening_world};
 use crate::rows::{Row, assert_answers};
 use frame_core::{FrameIn, Mac};
 use setphase_core::{Column, TpFdb, TpPort, World};
-use std::alloc::Global;
-use std::process::Abort;
 use std::test::Fail;
 
 // Two stations.
@@ -41,89 +38,79 @@ fn hear(world: &mut World, source: Mac) -> Result<(), Fail> {
     Ok(())
 }
 
-// What is asked over the learned addresses and the numbers of the ports, where both stations have
-// been heard, and what is answered.
-fn assert_tp_rows(
-    rt: &impl Abort,
-    alloc: Global,
-    families: &str,
-    rows: &[Row<'_>],
-) -> Result<(), Fail> {
-    let mut objects = Vec::new(alloc);
-    objects.push(plain(Column::TpFdb(TpFdb::Address)))?;
-    objects.push(plain(Column::TpFdb(TpFdb::Port)))?;
-    objects.push(plain(Column::TpFdb(TpFdb::Status)))?;
-    objects.push(plain(Column::TpPort(TpPort::Port)))?;
-    let mut world = opening_world(alloc, families)?;
-    hear_stations(&mut world)?;
-    assert_answers(rt, alloc, objects, &mut world, rows)
-}
+// The learned addresses and the numbers of the ports.
+const LEARNED: &[Column] = &[
+    Column::TpFdb(TpFdb::Address),
+    Column::TpFdb(TpFdb::Port),
+    Column::TpFdb(TpFdb::Status),
+    Column::TpPort(TpPort::Port),
+];
 
-#[test]
-fn shows_learned_addresses_in_a_view_of_all(rt: HostRuntime) -> Result<(), Fail> {
-    assert_tp_rows(
-        &rt,
-        rt.alloc(),
-        ALL,
-        &[
-            (
-                "the first address, and the port of the second",
-                GET_NEXT,
-                (0, 0),
-                &[(&[4, 2, 0], NULL), (&[4, 3, 1, 2, 2, 0, 0, 0, 1, 1], NULL)],
-                &[
-                    (&[4, 3, 1, 1, 2, 0, 0, 0, 1, 1], &[4, 6, 2, 0, 0, 0, 1, 1]),
-                    (&[4, 3, 1, 2, 2, 0, 0, 0, 2, 2], &[2, 1, 1]),
-                ],
-            ),
-            (
-                "the port of the first address",
-                GET,
-                (0, 0),
-                &[(&[4, 3, 1, 2, 2, 0, 0, 0, 1, 1], NULL)],
-                &[(&[4, 3, 1, 2, 2, 0, 0, 0, 1, 1], &[2, 1, 1])],
-            ),
-        ],
-    )
-}
+const SHOWN: &[Row<'static>] = &[
+    (
+        "the first address, and the port of the second",
+        "public",
+        GET_NEXT,
+        (0, 0),
+        &[(&[4, 2, 0], NULL), (&[4, 3, 1, 2, 2, 0, 0, 0, 1, 1], NULL)],
+        Some(&[
+            (&[4, 3, 1, 1, 2, 0, 0, 0, 1, 1], &[4, 6, 2, 0, 0, 0, 1, 1]),
+            (&[4, 3, 1, 2, 2, 0, 0, 0, 2, 2], &[2, 1, 1]),
+        ]),
+    ),
+    (
+        "the port of the first address",
+        "public",
+        GET,
+        (0, 0),
+        &[(&[4, 3, 1, 2, 2, 0, 0, 0, 1, 1], NULL)],
+        Some(&[(&[4, 3, 1, 2, 2, 0, 0, 0, 1, 1], &[2, 1, 1])]),
+    ),
+];
 
-#[test]
-fn passes_over_the_hidden_table_of_learned_addresses(rt: HostRuntime) -> Result<(), Fail> {
-    assert_tp_rows(
-        &rt,
-        rt.alloc(),
-        ALL_BUT_LEARNED,
+const HIDDEN: &[Row<'static>] = &[
+    (
+        "from dot1dTpAgingTime, from amid the table, and the end",
+        "public",
+        GET_NEXT,
+        (0, 0),
         &[
-            (
-                "from dot1dTpAgingTime, from amid the table, and the end",
-                GET_NEXT,
-                (0, 0),
-                &[
-                    (&[4, 2, 0], NULL),
-                    (&[4, 3, 1, 2, 2, 0, 0, 0, 1, 1], NULL),
-                    (&[4, 4, 1, 1, 2], NULL),
-                ],
-                &[
-                    (&[4, 4, 1, 1, 1], &[2, 1, 1]),
-                    (&[4, 4, 1, 1, 1], &[2, 1, 1]),
-                    (&[4, 4, 1, 1, 2], &[0x82, 0]),
-                ],
-            ),
-            (
-                "an instance of the table, a name amid it, and one behind it",
-                GET,
-                (0, 0),
-                &[
-                    (&[4, 3, 1, 2, 2, 0, 0, 0, 1, 1], NULL),
-                    (&[4, 3, 1, 2, 9], NULL),
-                    (&[4, 4, 1, 1, 2], NULL),
-                ],
-                &[
-                    (&[4, 3, 1, 2, 2, 0, 0, 0, 1, 1], &[0x80, 0]),
-                    (&[4, 3, 1, 2, 9], &[0x80, 0]),
-                    (&[4, 4, 1, 1, 2], &[2, 1, 2]),
-                ],
-            ),
+            (&[4, 2, 0], NULL),
+            (&[4, 3, 1, 2, 2, 0, 0, 0, 1, 1], NULL),
+            (&[4, 4, 1, 1, 2], NULL),
         ],
-    )
+        Some(&[
+            (&[4, 4, 1, 1, 1], &[2, 1, 1]),
+            (&[4, 4, 1, 1, 1], &[2, 1, 1]),
+            (&[4, 4, 1, 1, 2], &[0x82, 0]),
+        ]),
+    ),
+    (
+        "an instance of the table, a name amid it, and one behind it",
+        "public",
+        GET,
+        (0, 0),
+        &[
+            (&[4, 3, 1, 2, 2, 0, 0, 0, 1, 1], NULL),
+            (&[4, 3, 1, 2, 9], NULL),
+            (&[4, 4, 1, 1, 2], NULL),
+        ],
+        Some(&[
+            (&[4, 3, 1, 2, 2, 0, 0, 0, 1, 1], &[0x80, 0]),
+            (&[4, 3, 1, 2, 9], &[0x80, 0]),
+            (&[4, 4, 1, 1, 2], &[2, 1, 2]),
+        ]),
+    ),
+];
+
+// Both stations have been heard.
+#[test]
+fn shows_or_hides_learned_addresses(rt: HostRuntime) -> Result<(), Fail> {
+    for (families, rows) in [(ALL, SHOWN), (ALL_BUT_LEARNED, HIDDEN)] {
+        let mut world = opening_world(rt.alloc(), families)?;
+        hear_stations(&mut world)?;
+        let objects = objects_of(rt.alloc(), LEARNED)?;
+        assert_answers(&rt, rt.alloc(), objects, &mut world, rows, (0, 0))?;
+    }
+    Ok(())
 }

@@ -1,11 +1,13 @@
 //! Messages of SNMP version 2c in octets (X.690; RFC 3416, section 3), written here by hand, and
-//! worlds to send them to.
+//! worlds and objects to send them to.
 use bridge_core::Bridge;
+use bridge_mib::{Steady, StpPortColumn};
 use community_core::Policy;
 use frame_core::Mac;
+use object_list::Object;
 use policy_text::policy_in;
 use rstp_core::{IfIndex, PortConfig};
-use setphase_core::World;
+use setphase_core::{Column, StpPort, World};
 use std::alloc::Global;
 use std::test::Fail;
 
@@ -178,4 +180,22 @@ pub fn opening_world(alloc: Global, families: &str) -> Result<World, Fail> {
         bad_communities: 0,
         unknown_contexts: 0,
     })
+}
+
+/// The objects of these columns, without a device.
+pub fn objects_of(alloc: Global, columns: &[Column]) -> Result<Vec<Object<Steady>>, Fail> {
+    let mut objects = Vec::new(alloc);
+    for column in columns {
+        objects.push(Object::of(*column))?;
+    }
+    Ok(objects)
+}
+
+/// The objects of these columns of dot1dStpPortTable.
+pub fn columns_of(alloc: Global, columns: &[StpPort]) -> Result<Vec<StpPortColumn>, Fail> {
+    let mut objects = Vec::new(alloc);
+    for column in columns {
+        objects.push(StpPortColumn::new(*column))?;
+    }
+    Ok(objects)
 }

@@ -32,20 +32,22 @@ fn short_reply_to(alloc: Global, head: &[u8], bindings: usize) -> Result<Buffer,
 
 #[test]
 fn replies_without_memory(rt: HostRuntime) -> Result<(), Fail> {
-    for (head, bindings, reply) in [
+    for (what, head, bindings, reply) in [
         (
+            "genErr",
             HEAD,
             1usize,
             b"\x30\x27\x02\x01\x01\x04\x06public\xA2\x1A\x02\x01\x01\x02\x01\x05\x02\x01\x00\x30\x0F\x30\x0D\x06\x09\x2B\x06\x01\x02\x01\x11\x01\x02\x00\x05\x00".as_slice(),
         ),
         (
+            "tooBig",
             LONG_HEAD,
             100,
             b"\x30\x18\x02\x01\x01\x04\x06public\xA2\x0B\x02\x01\x01\x02\x01\x01\x02\x01\x00\x30\x00".as_slice(),
         ),
     ] {
         let buffer = short_reply_to(rt.alloc(), head, bindings)?;
-        assert_eq!(rt; buffer.reply(), reply);
+        assert_eq!(rt; buffer.reply(), reply, "{what}");
     }
     Ok(())
 }

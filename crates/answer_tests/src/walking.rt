@@ -3,7 +3,8 @@ ghost use Rattle.std.specs.Prelude.{◌≡◌, ◌≤◌, ◌<◌, length};
 ghost use Rattle.message_core.specs.Encodable.{AreEncodable};
 ghost use Rattle.message_core.specs.declared.limits.TheConstants.{MAX_COMMUNITY};
 
-use crate::messages::{ALL, GET_BULK, NULL, message, opening_world};
+use crate::messages::{ALL, GET_BULK, NULL, columns_of, message, opening_world};
+use crate::rows::registry_of;
 use agent_core::{Successors, View, get_bulk, get_next};
 use bridge_mib::StpPortColumn;
 use message_core::{Binding, Bindings, MAX_COMMUNITY, Request, Value, decode};
@@ -70,13 +71,13 @@ fn next_under<L: Ledger>(
     view: &Below<'_>,
     name: &Oid,
     blank: Blank,
-) -> Result<Binding, Fail>
+) -> Result<Binding, AllocError>
     requires name { blank.name ≡ L.name }
     requires parts { blank.parts ≡ L.parts }
     requires some { 0 < blank.parts }
 {
     let mut steps: Steps<L> = Steps::new(blank);
-    Ok(get_next(alloc, ports, view, name, &mut steps)?)
+    get_next(alloc, ports, view, name, &mut steps)
 }
 
 // What GetBulk answers; the steps go into a new ledger.
@@ -86,7 +87,7 @@ fn bulk_under<L: Ledger>(
     view: &Below<'_>,
     request: &Request,
     blank: Blank,
-) -> Result<Bindings, Fail>
+) -> Result<Bindings, AllocError>
     requires community { length request.now.community ≤ MAX_COMMUNITY }
     requires encodable { AreEncodable request.now.bindings }
     requires name { blank.name ≡ L.name }
@@ -94,7 +95,7 @@ fn bulk_under<L: Ledger>(
     requires some { 0 < blank.parts }
 {
     let mut steps: Steps<L> = Steps::new(blank);
-    Ok(get_bulk(alloc, ports, view, request, &mut steps)?)
+    get_bulk(alloc, ports, view, request, &mut steps)
 }
 
 // The same, by a ledger of its own.
@@ -103,7 +104,7 @@ fn next_told(
     ports: &Ports<'_>,
     view: &Below<'_>,
     name: &Oid,
-) -> Result<Binding, Fail> {
+) -> Result<Binding, AllocError> {
     next_under::<Brand>(alloc, ports, view, name, Blank::new(1))
 }
 
@@ -119,45 +120,38 @@ fn bulk_told(
     if request.community.as_slice().len() > MAX_COMMUNITY {
         return Err(Fail::from("a community"));
     }
-    bulk_under::<Brand>(alloc, ports, view, &request, Blank::new(1))
+    Ok(bulk_under::<Brand>(alloc, ports, view, &request, Blank::new(1))?)
 }
 
-// The columns 4 and 5 of dot1dStpPortTable.
-fn stp_ports(alloc: Global) -> Result<Registry<StpPortColumn>, Fail> {
-    let mut columns = Vec::new(alloc);
-    columns.push(StpPortColumn::new(StpPort::Enable))?;
-    columns.push(StpPortColumn::new(StpPort::PathCost))?;
-    Ok(Registry::new(columns).ok().ok_or("a registry")?)
-}
-
-// A binding has this name, and this number as its value; no number stands for endOfMibView.
-fn assert_binding(
+// These bindings have these names, and these numbers as their values; no number stands for
+// endOfMibView.
+fn assert_bindings(
     rt: &impl Abort,
     alloc: Global,
-    binding: &Binding,
-    want: (&str, Option<i32>),
+    bindings: &[Binding],
+    want: &[(&str, Option<i32>)],
 ) -> Result<(), Fail> {
-    let (name, number) = want;
-    assert!(rt; binding.name == named(alloc, name)?, "{name}");
-    let is_as_wanted = match (&binding.value, number) {
-        (Value::Integer(value), Some(number)) => *value == number,
-        (Value::EndOfMibView, None) => true,
-        _ => false,
-    };
-    assert!(rt; is_as_wanted, "{name}");
+    assert_eq!(rt; bindings.len(), want.len());
+    for (binding, (name, number)) in bindings.iter().zip(want) {
+        assert!(rt; binding.name == named(alloc, name)?, "{name}");
+        let is_as_wanted = match (&binding.value, number) {
+            (Value::Integer(value), Some(number)) => value == number,
+            (Value::EndOfMibView, None) => true,
+            _ => false,
+        };
+        assert!(rt; is_as_wanted, "{name}");
+    }
     Ok(())
 }
 
-#[test]
-fn finds_the_next_that_is_seen(rt: HostRuntime) -> Result<(), Fail> {
-    let alloc = rt.alloc();
-    let world = opening_world(alloc, ALL)?;
-    let columns = stp_ports(alloc)?;
-    let ports = Ports {
-        columns: &columns,
-        world: &world,
-    };
-    let seen = named(alloc, "1.3.6.1.2.1.17.2.15.1.5")?;
+// GetNext from two names, and GetBulk of nine repetitions, over the columns 4 and 5 of
+// dot1dStpPortTable, the second of which is seen.
+fn assert_walks(
+    rt: &impl Abort,
+    alloc: Global,
+    ports: &Ports<'_>,
+    view: &Below<'_>,
+) -> Result<(), Fail> {
     for (asked, want) in [
         (
             "1.3.6.1.2.1.17.2.15.1.4.1",
@@ -168,32 +162,26 @@ fn finds_the_next_that_is_seen(rt: HostRuntime) -> Result<(), Fail> {
             ("1.3.6.1.2.1.17.2.15.1.5.2", None),
         ),
     ] {
-        let asked = named(alloc, asked)?;
-        let next = next_told(alloc, &ports, &Below(&seen), &asked)?;
-        assert_binding(&rt, alloc, &next, want)?;
+        let next = next_told(alloc, ports, view, &named(alloc, asked)?)?;
+        assert_bindings(rt, alloc, std::slice::from_ref(&next), &[want])?;
     }
-    Ok(())
-}
-
-#[test]
-fn repeats_to_the_end(rt: HostRuntime) -> Result<(), Fail> {
-    let alloc = rt.alloc();
-    let world = opening_world(alloc, ALL)?;
-    let columns = stp_ports(alloc)?;
-    let ports = Ports {
-        columns: &columns,
-        world: &world,
-    };
-    let seen = named(alloc, "1.3.6.1.2.1.17.2.15.1.5")?;
-    let bindings = bulk_told(alloc, &ports, &Below(&seen), &[2])?;
+    let bindings = bulk_told(alloc, ports, view, &[2])?;
     let want = [
         ("1.3.6.1.2.1.17.2.15.1.5.1", Some(20_000)),
         ("1.3.6.1.2.1.17.2.15.1.5.2", Some(20_000)),
         ("1.3.6.1.2.1.17.2.15.1.5.2", None),
     ];
-    assert_eq!(rt; bindings.as_slice().len(), want.len());
-    for (binding, want) in bindings.as_slice().iter().zip(want) {
-        assert_binding(&rt, alloc, binding, want)?;
-    }
-    Ok(())
+    assert_bindings(rt, alloc, bindings.as_slice(), &want)
+}
+
+#[test]
+fn walks_over_what_is_seen(rt: HostRuntime) -> Result<(), Fail> {
+    let seen = named(rt.alloc(), "1.3.6.1.2.1.17.2.15.1.5")?;
+    let columns = registry_of(columns_of(rt.alloc(), &[StpPort::Enable, StpPort::PathCost])?)?;
+    let world = opening_world(rt.alloc(), ALL)?;
+    let ports = Ports {
+        columns: &columns,
+        world: &world,
+    };
+    assert_walks(&rt, rt.alloc(), &ports, &Below(&seen))
 }

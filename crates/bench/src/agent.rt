@@ -24,15 +24,24 @@ const ENOUGH: u128 = 100_000_000;
 const ROUNDS: u32 = 4;
 
 /// Managed objects, the world that they show, and room for a reply.
-#[derive(Drop)]
 pub struct Agent<O: MibObject> {
     registry: Registry<O>,
     world: World,
     buffer: Buffer,
 }
 
+// By hand, so that who lets one go knows nothing of its parts.
+impl<O: MibObject> Drop for Agent<O> {
+    fn drop(self) {
+        let Agent {
+            registry: _registry,
+            world: _world,
+            buffer: _buffer,
+        } = self;
+    }
+}
+
 /// What is measured: datagrams that are sent one after another in each turn.
-#[derive(Drop)]
 pub struct Trial {
     /// What it is called.
     pub what: &'static str,
@@ -40,6 +49,17 @@ pub struct Trial {
     pub datagrams: Vec<Vec<u8>>,
     /// How many bindings the reply to each has.
     pub bindings: usize,
+}
+
+// By hand, so that who lets one go knows nothing of its parts.
+impl Drop for Trial {
+    fn drop(self) {
+        let Trial {
+            what: _what,
+            datagrams: _datagrams,
+            bindings: _bindings,
+        } = self;
+    }
 }
 
 /// What is said of an answer that is not the one that is wanted.

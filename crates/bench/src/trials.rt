@@ -98,8 +98,9 @@ fn get_bulk_of(
     numbers: &[u8],
     bindings: usize,
 ) -> Result<Trial, AllocError> {
-    let trial = trial_of(alloc, what, GET_BULK, repetitions, times, numbers)?;
-    Ok(Trial { bindings, ..trial })
+    let mut trial = trial_of(alloc, what, GET_BULK, repetitions, times, numbers)?;
+    trial.bindings = bindings;
+    Ok(trial)
 }
 
 // Sets of so many times dot1dStpTxHoldCount.0, one for each of these numbers.

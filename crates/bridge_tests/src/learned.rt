@@ -19,58 +19,56 @@ fn learn_all(rt: &impl Abort, fdb: &mut Fdb) {
     }
 }
 
-#[test]
-fn a_full_table_moves_and_refuses(rt: HostRuntime) {
-    let mut fdb = Fdb::new(rt.alloc(), usize::from(ROWS));
-    learn_all(&rt, &mut fdb);
-    assert_eq!(rt; fdb.len(), usize::from(ROWS));
-    assert_eq!(rt; fdb.learn(numbered(5_000), 1), Learnt::Full);
-    assert_eq!(rt; fdb.find(numbered(5_000)), None);
-    assert_eq!(rt; fdb.learn(numbered(7), 9), Learnt::Moved);
-    assert_eq!(rt; fdb.find(numbered(7)), Some(9));
+// A row of numbered addresses.
+fn row(number: u16, port: u16, age: u32) -> Row {
+    Row {
+        address: numbered(number),
+        port,
+        age,
+    }
 }
 
 #[test]
-fn a_walk_gives_all_rows_in_order(rt: HostRuntime) {
+fn a_full_table_is_walked_in_order_moves_and_refuses(rt: HostRuntime) {
     let mut fdb = Fdb::new(rt.alloc(), usize::from(ROWS));
     learn_all(&rt, &mut fdb);
     let mut after = None;
     for number in 0..ROWS {
-        let row = Row {
-            address: numbered(number),
-            port: 1 + number % 2,
-            age: 0,
-        };
+        let row = row(number, 1 + number % 2, 0);
         assert_eq!(rt; fdb.next_after(after), Some(row));
         after = Some(row.address);
     }
-    assert_eq!(rt; fdb.next_after(after), None);
-    let second = Row {
-        address: numbered(1),
-        port: 2,
-        age: 0,
-    };
-    assert_eq!(rt; fdb.next_after(Some(numbered(0))), Some(second));
+    assert_eq!(rt;
+        (
+            fdb.next_after(after),
+            fdb.next_after(Some(numbered(0))),
+            fdb.len()
+        ),
+        (None, Some(row(1, 2, 0)), usize::from(ROWS))
+    );
+    let full = fdb.learn(numbered(5_000), 1);
+    let moved = fdb.learn(numbered(7), 9);
+    assert_eq!(rt; (full, moved), (Learnt::Full, Learnt::Moved));
+    assert_eq!(rt;
+        (fdb.find(numbered(5_000)), fdb.find(numbered(7))),
+        (None, Some(9))
+    );
 }
 
 #[test]
 fn a_row_seen_again_is_young(rt: HostRuntime) {
     let mut fdb = Fdb::new(rt.alloc(), 2);
-    assert_eq!(rt; fdb.learn(numbered(1), 1), Learnt::New);
-    assert_eq!(rt; fdb.learn(numbered(2), 1), Learnt::New);
+    let learnt = (fdb.learn(numbered(1), 1), fdb.learn(numbered(2), 1));
+    assert_eq!(rt; learnt, (Learnt::New, Learnt::New));
     for _ in 0..9 {
         fdb.age(10);
     }
     assert_eq!(rt; fdb.learn(numbered(1), 1), Learnt::Same);
     fdb.age(10);
-    assert_eq!(rt; fdb.find(numbered(2)), None);
-    let row = Row {
-        address: numbered(1),
-        port: 1,
-        age: 1,
-    };
-    assert_eq!(rt; fdb.len(), 1);
-    assert_eq!(rt; fdb.next_after(None), Some(row));
+    assert_eq!(rt;
+        (fdb.find(numbered(2)), fdb.len(), fdb.next_after(None)),
+        (None, 1, Some(row(1, 1, 1)))
+    );
 }
 
 #[test]
@@ -79,10 +77,8 @@ fn a_flush_removes_the_rows_of_its_ports(rt: HostRuntime) {
     learn_all(&rt, &mut fdb);
     assert_eq!(rt; fdb.learn(numbered(5_000), 3), Learnt::New);
     fdb.flush_ports(&[3, 1]);
-    assert_eq!(rt; fdb.len(), 512);
-    assert_eq!(rt; fdb.find(numbered(2)), None);
-    assert_eq!(rt; fdb.find(numbered(3)), Some(2));
-    assert_eq!(rt; fdb.find(numbered(5_000)), None);
+    let found = [2, 3, 5_000].map(|number| fdb.find(numbered(number)));
+    assert_eq!(rt; (fdb.len(), found), (512, [None, Some(2), None]));
 }
 
 // Learns each address that has this octet at one place and zeros elsewhere.

@@ -98,11 +98,18 @@ fn assert_goes(rt: &impl Abort, forwarding: &Forwarding, ports: &[u16]) {
 }
 
 #[test]
-fn frames_go_where_their_destination_is(rt: HostRuntime) -> Result<(), Fail> {
+fn frames_go_where_their_destination_is_and_are_counted(rt: HostRuntime) -> Result<(), Fail> {
     let mut bridge = running(rt.alloc())?;
     assert_goes(&rt, &come(&mut bridge, 1, &TO_ALL)?, &[2]);
     assert_goes(&rt, &come(&mut bridge, 2, &TO_1)?, &[1]);
     assert_goes(&rt, &come(&mut bridge, 1, &TO_1_FROM_3)?, &[]);
+    assert_goes(&rt, &come(&mut bridge, 1, &RESERVED)?, &[]);
+    let facts = bridge.port_facts(1);
+    // Out goes the frame to station 1, and the BPDU of the link.
+    assert_eq!(rt;
+        (facts.frames_in, facts.discards_in, facts.frames_out),
+        (3, 2, 2)
+    );
     Ok(())
 }
 
@@ -118,21 +125,7 @@ fn a_flat_copy_is_the_bridge_until_it_changes(rt: HostRuntime) -> Result<(), Fai
     Ok(())
 }
 
-#[test]
-fn frames_are_counted(rt: HostRuntime) -> Result<(), Fail> {
-    let mut bridge = running(rt.alloc())?;
-    let _ = come(&mut bridge, 1, &TO_ALL)?;
-    let _ = come(&mut bridge, 2, &TO_1)?;
-    let _ = come(&mut bridge, 1, &TO_1_FROM_3)?;
-    assert_goes(&rt, &come(&mut bridge, 1, &RESERVED)?, &[]);
-    let facts = bridge.port_facts(1);
-    assert_eq!(rt; facts.frames_in, 3);
-    assert_eq!(rt; facts.discards_in, 2);
-    // The frame to station 1, and the BPDU of the link.
-    assert_eq!(rt; facts.frames_out, 2);
-    Ok(())
-}
-
+// By 300 seconds, and by 10; and a longer ageing time brings no address back.
 #[test]
 fn learned_addresses_age(rt: HostRuntime) -> Result<(), Fail> {
     let mut bridge = running(rt.alloc())?;
@@ -142,12 +135,6 @@ fn learned_addresses_age(rt: HostRuntime) -> Result<(), Fail> {
     assert_eq!(rt; bridge.fdb().len(), 1);
     pass(&mut bridge, 1);
     assert_eq!(rt; bridge.fdb().len(), 0);
-    Ok(())
-}
-
-#[test]
-fn a_longer_ageing_time_brings_no_address_back(rt: HostRuntime) -> Result<(), Fail> {
-    let mut bridge = running(rt.alloc())?;
     let _ = come(&mut bridge, 1, &TO_ALL)?;
     let _ = bridge.put_setting(Key::Bridge(BridgeKey::Aging), 10);
     pass(&mut bridge, 9);
@@ -187,8 +174,10 @@ fn a_full_table_forwards_all_the_same(rt: HostRuntime) -> Result<(), Fail> {
     learn_stations(&rt, &mut bridge, 1_024)?;
     assert_eq!(rt; bridge.facts().entry_discards, 0);
     assert_goes(&rt, &come(&mut bridge, 1, &from_station(1_024))?, &[2]);
-    assert_eq!(rt; bridge.fdb().len(), 1_024);
-    assert_eq!(rt; bridge.facts().entry_discards, 1);
+    assert_eq!(rt;
+        (bridge.fdb().len(), bridge.facts().entry_discards),
+        (1_024, 1)
+    );
     Ok(())
 }
 
@@ -222,8 +211,7 @@ fn learn_sources(rt: &impl Abort, bridge: &mut Bridge)
 fn a_source_of_any_octets_is_learned(rt: HostRuntime) -> Result<(), Fail> {
     let mut bridge = running(rt.alloc())?;
     learn_sources(&rt, &mut bridge);
-    assert_eq!(rt; bridge.facts().entry_discards, 0);
-    assert_eq!(rt; bridge.fdb().len(), 6);
+    assert_eq!(rt; (bridge.fdb().len(), bridge.facts().entry_discards), (6, 0));
     Ok(())
 }
 
@@ -289,27 +277,20 @@ fn each_of_32_ports_learns_new_sources(rt: HostRuntime) -> Result<(), Fail> {
     for port in 1..=32 {
         assert_found_at(&rt, &bridge, port);
     }
-    assert_eq!(rt; bridge.fdb().len(), 4 * 32);
-    assert_eq!(rt; bridge.facts().entry_discards, 0);
+    assert_eq!(rt;
+        (bridge.fdb().len(), bridge.facts().entry_discards),
+        (4 * 32, 0)
+    );
     Ok(())
 }
 
 #[test]
-fn a_better_bridge_becomes_root(rt: HostRuntime) -> Result<(), Fail> {
+fn a_better_bridge_becomes_root_and_is_forgotten(rt: HostRuntime) -> Result<(), Fail> {
     let mut bridge = opened(rt.alloc())?;
     let up = bridge.link(1, true);
     assert_eq!(rt; sent(&up, 0), PROPOSES);
     let answer = come(&mut bridge, 1, &BETTER)?;
-    assert_eq!(rt; sent(&answer.bpdus, 0), AGREES);
-    assert_eq!(rt; answer.egress.len(), 0);
-    Ok(())
-}
-
-#[test]
-fn a_root_is_shown_and_forgotten(rt: HostRuntime) -> Result<(), Fail> {
-    let mut bridge = opened(rt.alloc())?;
-    let _ = bridge.link(1, true);
-    let _ = come(&mut bridge, 1, &BETTER)?;
+    assert_eq!(rt; (sent(&answer.bpdus, 0), answer.egress.len()), (AGREES, 0));
     let facts = bridge.facts();
     assert_eq!(rt;
         (facts.root_port, facts.root_cost, facts.topology_changes),
@@ -344,20 +325,15 @@ fn slow() -> PortConfig {
 #[test]
 fn the_first_fault_is_named(rt: HostRuntime) {
     let group = Mac([0x01, 0x00, 0x00, 0x00, 0x00, 0x00]);
-    assert_eq!(rt;
-        Bridge::new(rt.alloc(), group, &[]).err(),
-        Some(BridgeFault::BadPorts)
-    );
-    assert_eq!(rt;
-        Bridge::new(rt.alloc(), group, &[port(); 33]).err(),
-        Some(BridgeFault::BadPorts)
-    );
-    assert_eq!(rt;
-        Bridge::new(rt.alloc(), group, &[slow()]).err(),
-        Some(BridgeFault::BadAddress)
-    );
-    assert_eq!(rt;
-        Bridge::new(rt.alloc(), OWN, &[port(), slow()]).err(),
-        Some(BridgeFault::BadSpeed)
-    );
+    let (many, one, two) = ([port(); 33], [slow()], [port(), slow()]);
+    let rows: [(Mac, &[PortConfig], BridgeFault); 4] = [
+        (group, &[], BridgeFault::BadPorts),
+        (group, &many, BridgeFault::BadPorts),
+        (group, &one, BridgeFault::BadAddress),
+        (OWN, &two, BridgeFault::BadSpeed),
+    ];
+    for (address, ports, fault) in rows {
+        let told = Bridge::new(rt.alloc(), address, ports).err();
+        assert_eq!(rt; told, Some(fault), "{} ports", ports.len());
+    }
 }

@@ -7,7 +7,6 @@ use frame_core::{Bpdu, BridgeId, Config, Mac, PortRole, PriorityVector, Rapid, T
 use rstp_core::{BridgeConfig, IfIndex, Outcome, PortConfig, Role, Rstp, State};
 use rstp_settings::key::{BridgeKey, Key, PortKey};
 use rstp_settings::settings::Settings;
-use std::test::Fail;
 
 const TIMES: Times = Times {
     message_age: 0,
@@ -130,79 +129,52 @@ fn worse_config() -> Bpdu {
 }
 
 #[test]
-fn a_port_that_comes_up_proposes(rt: HostRuntime) -> Result<(), Fail> {
+fn a_better_bridge_becomes_root_and_is_forgotten(rt: HostRuntime) {
     let settings = Settings::new(2);
     let mut tree = opening();
     let up = tree.link(1, true, &settings);
-    assert_eq!(rt; frame(&up, 0), PROPOSES);
-    assert_eq!(rt; frame(&up, 1), [0; 60]);
-    Ok(())
-}
-
-#[test]
-fn a_better_bridge_becomes_root(rt: HostRuntime) -> Result<(), Fail> {
-    let settings = Settings::new(2);
-    let mut tree = opening();
-    let _ = tree.link(1, true, &settings);
+    assert_eq!(rt; (frame(&up, 0), frame(&up, 1)), (PROPOSES, [0; 60]));
     let answer = tree.on_bpdu(1, &proposal(BETTER, 0x8002), &settings);
-    assert_eq!(rt; frame(&answer, 0), AGREES);
-    assert_eq!(rt; tree.bridge_facts().root_port(), 1);
-    assert_eq!(rt; tree.bridge_facts().root.vector.cost, 20000);
-    Ok(())
-}
-
-#[test]
-fn a_root_port_forwards_at_once(rt: HostRuntime) -> Result<(), Fail> {
-    let settings = Settings::new(2);
-    let mut tree = opening();
-    let _ = tree.link(1, true, &settings);
-    let _ = tree.on_bpdu(1, &proposal(BETTER, 0x8002), &settings);
-    assert_eq!(rt; tree.state(1), State::Forwarding);
-    assert_eq!(rt; tree.bridge_facts().topology_changes, 1);
-    Ok(())
-}
-
-#[test]
-fn a_silent_root_is_forgotten(rt: HostRuntime) -> Result<(), Fail> {
-    let settings = Settings::new(2);
-    let mut tree = opening();
-    let _ = tree.link(1, true, &settings);
-    let _ = tree.on_bpdu(1, &proposal(BETTER, 0x8002), &settings);
+    assert_eq!(rt;
+        (frame(&answer, 0), tree.state(1)),
+        (AGREES, State::Forwarding)
+    );
+    let facts = tree.bridge_facts();
+    assert_eq!(rt;
+        (
+            facts.root_port(),
+            facts.root.vector.cost,
+            facts.topology_changes
+        ),
+        (1, 20000, 1)
+    );
     pass(&mut tree, &settings, 5);
     assert_eq!(rt; tree.bridge_facts().root_port(), 1);
     pass(&mut tree, &settings, 1);
     assert_eq!(rt; tree.bridge_facts().root_port(), 0);
-    Ok(())
 }
 
+// The topology change that this is, is counted once.
 #[test]
-fn a_designated_port_learns_and_then_forwards(rt: HostRuntime) -> Result<(), Fail> {
+fn a_designated_port_learns_and_then_forwards(rt: HostRuntime) {
     let settings = Settings::new(2);
     let mut tree = opening();
     let _ = tree.link(1, true, &settings);
     pass(&mut tree, &settings, 15);
     assert_eq!(rt; tree.state(1), State::Learning);
     pass(&mut tree, &settings, 15);
-    assert_eq!(rt; tree.state(1), State::Forwarding);
-    assert_eq!(rt; tree.facts(1).forward_transitions, 1);
-    Ok(())
-}
-
-#[test]
-fn a_topology_change_is_counted_once(rt: HostRuntime) -> Result<(), Fail> {
-    let settings = Settings::new(2);
-    let mut tree = opening();
-    let _ = tree.link(1, true, &settings);
-    pass(&mut tree, &settings, 30);
-    assert_eq!(rt; tree.bridge_facts().topology_changes, 1);
-    assert_eq!(rt; tree.bridge_facts().since, 0);
+    assert_eq!(rt;
+        (tree.state(1), tree.facts(1).forward_transitions),
+        (State::Forwarding, 1)
+    );
+    let facts = tree.bridge_facts();
+    assert_eq!(rt; (facts.topology_changes, facts.since), (1, 0));
     pass(&mut tree, &settings, 3);
     assert_eq!(rt; tree.bridge_facts().since, 1);
-    Ok(())
 }
 
 #[test]
-fn ports_at_the_edge_forward_at_once(rt: HostRuntime) -> Result<(), Fail> {
+fn ports_at_the_edge_forward_at_once(rt: HostRuntime) {
     let mut settings = Settings::new(2);
     let mut tree = opening();
     settings.put(Key::Port(1, PortKey::Edge), 1);
@@ -212,7 +184,6 @@ fn ports_at_the_edge_forward_at_once(rt: HostRuntime) -> Result<(), Fail> {
     assert_eq!(rt; frame(&first, 0), at_edge(1));
     let second = tree.link(2, true, &settings);
     assert_eq!(rt; frame(&second, 1), at_edge(2));
-    Ok(())
 }
 
 // A bridge of one port, full duplex or not.
@@ -254,13 +225,13 @@ fn agreement() -> Bpdu {
 }
 
 // Whether a designated port forwards as soon as its neighbour agrees, with this point to point
-// setting.
-fn forwards_when_agreed(setting: u32, full: bool) -> bool
-    requires { setting ≤ 2 }
-{
+// setting, which is 2 at most.
+fn forwards_when_agreed(setting: u32, full: bool) -> bool {
     let mut settings = Settings::new(1);
     let mut tree = Rstp::new(&one_port(full));
-    settings.put(Key::Port(1, PortKey::PointToPoint), setting);
+    if setting <= 2 {
+        settings.put(Key::Port(1, PortKey::PointToPoint), setting);
+    }
     let _ = tree.settle(&mut settings);
     let _ = tree.link(1, true, &settings);
     let _ = tree.on_bpdu(1, &agreement(), &settings);
@@ -270,16 +241,24 @@ fn forwards_when_agreed(setting: u32, full: bool) -> bool
 // 0 forces true, 1 forces false, and 2 goes by full duplex.
 #[test]
 fn only_a_point_to_point_link_agrees(rt: HostRuntime) {
-    assert!(rt; forwards_when_agreed(0, true));
-    assert!(rt; forwards_when_agreed(0, false));
-    assert!(rt; !forwards_when_agreed(1, true));
-    assert!(rt; !forwards_when_agreed(1, false));
-    assert!(rt; forwards_when_agreed(2, true));
-    assert!(rt; !forwards_when_agreed(2, false));
+    for (setting, full, forwards) in [
+        (0, true, true),
+        (0, false, true),
+        (1, true, false),
+        (1, false, false),
+        (2, true, true),
+        (2, false, false),
+    ] {
+        assert_eq!(rt;
+            forwards_when_agreed(setting, full),
+            forwards,
+            "{setting}, full {full}"
+        );
+    }
 }
 
 #[test]
-fn of_two_ports_on_one_wire_one_is_backup(rt: HostRuntime) -> Result<(), Fail> {
+fn of_two_ports_on_one_wire_one_is_backup(rt: HostRuntime) {
     let settings = Settings::new(2);
     let mut tree = opening();
     let own = BridgeId {
@@ -290,56 +269,60 @@ fn of_two_ports_on_one_wire_one_is_backup(rt: HostRuntime) -> Result<(), Fail> {
     let _ = tree.link(2, true, &settings);
     let _ = tree.on_bpdu(2, &proposal(own, 0x8001), &settings);
     let _ = tree.on_bpdu(1, &proposal(own, 0x8002), &settings);
-    assert_eq!(rt; tree.role(1), Role::Designated);
-    assert_eq!(rt; tree.role(2), Role::Backup);
-    Ok(())
+    assert_eq!(rt;
+        (tree.role(1), tree.role(2)),
+        (Role::Designated, Role::Backup)
+    );
 }
 
 #[test]
-fn version_0_sends_config(rt: HostRuntime) -> Result<(), Fail> {
+fn version_0_sends_config(rt: HostRuntime) {
     let mut settings = Settings::new(2);
     let mut tree = opening();
     settings.put(Key::Bridge(BridgeKey::Version), 0);
     let _ = tree.settle(&mut settings);
     let up = tree.link(1, true, &settings);
     assert!(rt; is_config(sent(&up, 0)));
-    Ok(())
+}
+
+// A bridge that hears an old neighbour by port 1, and what it answers.
+fn beside_an_old_one(settings: &Settings) -> (Rstp, Option<Bpdu>)
+    requires { length settings.now.ports ≡ 2 }
+    ensures { length result.0.ports ≡ 2 }
+{
+    let mut tree = opening();
+    let _ = tree.link(1, true, settings);
+    let answer = tree.on_bpdu(1, &worse_config(), settings);
+    (tree, sent(&answer, 0))
 }
 
 #[test]
-fn a_config_is_answered_by_config_until_an_rst_comes(rt: HostRuntime) -> Result<(), Fail> {
+fn a_config_is_answered_by_config_until_an_rst_comes(rt: HostRuntime) {
     let settings = Settings::new(2);
-    let mut tree = opening();
-    let _ = tree.link(1, true, &settings);
-    let first = tree.on_bpdu(1, &worse_config(), &settings);
-    assert!(rt; is_config(sent(&first, 0)));
+    let (mut tree, first) = beside_an_old_one(&settings);
     let second = tree.on_bpdu(1, &proposal(WORSE, 0x8001), &settings);
-    assert!(rt; is_rapid(sent(&second, 0)));
-    Ok(())
+    assert_eq!(rt;
+        (is_config(first), is_rapid(sent(&second, 0))),
+        (true, true)
+    );
 }
 
 #[test]
-fn a_restart_forgets_an_old_neighbour(rt: HostRuntime) -> Result<(), Fail> {
+fn a_restart_forgets_an_old_neighbour(rt: HostRuntime) {
     let settings = Settings::new(2);
-    let mut tree = opening();
-    let _ = tree.link(1, true, &settings);
-    let _ = tree.on_bpdu(1, &worse_config(), &settings);
+    let (mut tree, _) = beside_an_old_one(&settings);
     let _ = tree.link(1, false, &settings);
     let up = tree.link(1, true, &settings);
     assert!(rt; is_rapid(sent(&up, 0)));
-    Ok(())
 }
 
 #[test]
-fn a_migration_check_forgets_an_old_neighbour(rt: HostRuntime) -> Result<(), Fail> {
+fn a_migration_check_forgets_an_old_neighbour(rt: HostRuntime) {
     let mut settings = Settings::new(2);
-    let mut tree = opening();
-    let _ = tree.link(1, true, &settings);
-    let _ = tree.on_bpdu(1, &worse_config(), &settings);
+    let (mut tree, _) = beside_an_old_one(&settings);
     settings.put(Key::Port(1, PortKey::Migrate), 1);
     let _ = tree.settle(&mut settings);
-    assert_eq!(rt; settings.get(Key::Port(1, PortKey::Migrate)), 0);
+    let migrate = settings.get(Key::Port(1, PortKey::Migrate));
     let tick = tree.tick(&settings);
-    assert!(rt; is_rapid(sent(&tick, 0)));
-    Ok(())
+    assert_eq!(rt; (migrate, is_rapid(sent(&tick, 0))), (0, true));
 }

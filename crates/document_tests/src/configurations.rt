@@ -1,10 +1,11 @@
 //! Texts of configurations: what they give, their faults, and what is told of these.
 use community_core::{PolicyFault, PolicyTable};
 use configuration::{
-    BUILT_IN, ConfigurationFault, PolicyKey, PortKey, ServeKey, configuration_in,
+    BUILT_IN, Configuration, ConfigurationFault, PolicyKey, PortKey, ServeKey, configuration_in,
     configuration_of_text, sentence,
 };
 use std::alloc::Global;
+use std::process::Abort;
 use std::test::Fail;
 
 const POLICY: &str = "
@@ -31,247 +32,519 @@ fn fault_of(alloc: Global, parts: [&str; 4]) -> Result<Option<ConfigurationFault
     Ok(configuration_of_text(alloc, text.as_str()).err())
 }
 
-#[test]
-fn the_built_in_text_reads(rt: HostRuntime) -> Result<(), Fail> {
-    let configuration = configuration_of_text(rt.alloc(), BUILT_IN)?;
-    assert_eq!(rt; configuration.address.0, [2, 0, 0, 0, 0, 10]);
-    assert_eq!(rt; configuration.ports.len(), 2);
-    assert_eq!(rt; configuration.ports[0].config.ifindex.number(), 1);
-    assert_eq!(rt; configuration.ports[1].config.ifindex.number(), 2);
-    assert_eq!(rt; configuration.ports[1].config.speed, 1000);
-    assert!(rt; configuration.ports[1].config.full);
-    assert!(rt; configuration.serve.is_none());
-    let caller = configuration.policy.caller(b"public").ok_or("public")?;
-    assert_eq!(rt; caller.security.as_str(), "public");
-    Ok(())
+// The address, how many ports there are, and whether `public` is known by that name.
+type Head = ([u8; 6], usize, bool);
+
+// The interface number of the first port, and where its frames come in and go out.
+type First = (u32, Option<u16>, Option<u16>);
+
+// The interface number, the speed and the duplex of the last port.
+type Last = (u32, u32, bool);
+
+// Where requests come in, how many threads answer them, and the rounds.
+type Served = Option<(u16, u32, u32)>;
+
+fn head_of(configuration: &Configuration) -> Head {
+    let caller = configuration.policy.caller(b"public");
+    let known = caller.is_some_and(|caller| caller.security.as_str() == "public");
+    (configuration.address.0, configuration.ports.len(), known)
 }
 
-#[test]
-fn digits_are_of_either_case(rt: HostRuntime) -> Result<(), Fail> {
-    let text =
-        "address = \"02aBcDeF00fF\"\ncontexts = []\ncommunity = []\ngroup = []\naccess = []\nfamily = []\n
+fn first_of(configuration: &Configuration) -> Option<First> {
+    let port = configuration.ports.first()?;
+    let listen = port.listen.map(|end| end.port());
+    let peer = port.peer.map(|end| end.port());
+    Some((port.config.ifindex.number(), listen, peer))
+}
+
+fn last_of(configuration: &Configuration) -> Option<Last> {
+    let config = configuration.ports.last()?.config;
+    Some((config.ifindex.number(), config.speed, config.full))
+}
+
+fn served_of(configuration: &Configuration) -> Served {
+    let serve = configuration.serve?;
+    Some((serve.snmp.port(), serve.workers, serve.rounds))
+}
+
+// Digits of either case, and a great interface number.
+const EITHER_CASE: &str = "address = \"02aBcDeF00fF\"
+contexts = []\ncommunity = []\ngroup = []\naccess = []\nfamily = []\n
 [[port]]\nifindex = 2147483647\nspeed = 100\nfull = false\n";
-    let configuration = configuration_of_text(rt.alloc(), text)?;
-    assert_eq!(rt;
-        configuration.address.0,
-        [0x02, 0xAB, 0xCD, 0xEF, 0x00, 0xFF]
-    );
-    let port = configuration.ports.first().ok_or("port")?;
-    assert_eq!(rt; port.config.ifindex.number(), 2147483647);
-    Ok(())
-}
 
-#[test]
-fn what_may_be_there_is_read(rt: HostRuntime) -> Result<(), Fail> {
-    let text =
-        "address = \"02000000000A\"\ncontexts = []\ncommunity = []\ngroup = []\naccess = []\nfamily = []\n
+// All that may be there.
+const ALL: &str = "address = \"02000000000A\"
+contexts = []\ncommunity = []\ngroup = []\naccess = []\nfamily = []\n
 [[port]]\nifindex = 1\nspeed = 10\nfull = true\nlisten = \"127.0.0.1:4001\"\npeer = \"[::1]:4002\"\n
 [serve]\nsnmp = \"127.0.0.1:1161\"\nworkers = 8\nrounds = 1000000\n";
-    let configuration = configuration_of_text(rt.alloc(), text)?;
-    let port = configuration.ports.first().ok_or("port")?;
-    assert_eq!(rt; port.listen.ok_or("listen")?.port(), 4001);
-    assert_eq!(rt; port.peer.ok_or("peer")?.port(), 4002);
-    let serve = configuration.serve.ok_or("serve")?;
-    assert_eq!(rt; serve.snmp.port(), 1161);
-    assert_eq!(rt; serve.workers, 8);
-    assert_eq!(rt; serve.rounds, 1000000);
+
+// Texts, and what they give.
+const GIVEN: [(&str, Head, First, Last, Served); 3] = [
+    (
+        BUILT_IN,
+        ([2, 0, 0, 0, 0, 10], 2, true),
+        (1, None, None),
+        (2, 1000, true),
+        None,
+    ),
+    (
+        EITHER_CASE,
+        ([0x02, 0xAB, 0xCD, 0xEF, 0x00, 0xFF], 1, false),
+        (2147483647, None, None),
+        (2147483647, 100, false),
+        None,
+    ),
+    (
+        ALL,
+        ([2, 0, 0, 0, 0, 10], 1, false),
+        (1, Some(4001), Some(4002)),
+        (1, 10, true),
+        Some((1161, 8, 1000000)),
+    ),
+];
+
+#[test]
+fn texts_give_configurations(rt: HostRuntime) -> Result<(), Fail> {
+    for (text, head, first, last, served) in GIVEN {
+        let given = configuration_of_text(rt.alloc(), text)?;
+        assert_eq!(rt; head_of(&given), head, "{text}");
+        assert_eq!(rt;
+            (first_of(&given), last_of(&given), served_of(&given)),
+            (Some(first), Some(last), served),
+            "{text}"
+        );
+    }
     Ok(())
 }
 
-#[test]
-fn other_texts_are_refused(rt: HostRuntime) -> Result<(), Fail> {
-    for (parts, line) in [
-        (["address = \r", "", "", ""], 1),
-        ([ADDRESS, "port = 02\n", POLICY, ""], 2),
-        ([ADDRESS, PORT, "listen = 127.0.0.1:161\n", POLICY], 6),
-        ([ADDRESS, PORT, "full = true\n", POLICY], 6),
-        ([ADDRESS, "# \u{e9}\u{4e00}\n", "contexts = [", ""], 3),
-    ] {
-        let fault = fault_of(rt.alloc(), parts)?;
-        assert_eq!(rt; fault, Some(ConfigurationFault::BadText(line)), "{line}");
+// A text in four parts, and its fault.
+type Refused = ([&'static str; 4], ConfigurationFault);
+
+// A policy without its contexts.
+const TABLES: &str = "community = []\ngroup = []\naccess = []\nfamily = []\n";
+
+// A context of 33 octets.
+const LONG: &str = "contexts = [\"\", \"a-name-of-33-octets-for-a-context\"]\n";
+
+// Texts that are no TOML, and the line of the fault.
+const TEXTS: [Refused; 5] = [
+    (["address = \r", "", "", ""], ConfigurationFault::BadText(1)),
+    (
+        [ADDRESS, "port = 02\n", POLICY, ""],
+        ConfigurationFault::BadText(2),
+    ),
+    (
+        [ADDRESS, PORT, "listen = 127.0.0.1:161\n", POLICY],
+        ConfigurationFault::BadText(6),
+    ),
+    (
+        [ADDRESS, PORT, "full = true\n", POLICY],
+        ConfigurationFault::BadText(6),
+    ),
+    (
+        [ADDRESS, "# \u{e9}\u{4e00}\n", "contexts = [", ""],
+        ConfigurationFault::BadText(3),
+    ),
+];
+
+// Addresses, ahead of another fault.
+const ADDRESSES: [Refused; 9] = [
+    (
+        ["", "serve = 1\n", POLICY, ""],
+        ConfigurationFault::BadAddress,
+    ),
+    (
+        ["address = 2\n", "serve = 1\n", POLICY, ""],
+        ConfigurationFault::BadAddress,
+    ),
+    (
+        ["address = \"\"\n", "serve = 1\n", POLICY, ""],
+        ConfigurationFault::BadAddress,
+    ),
+    (
+        ["address = \"02000000000\"\n", "serve = 1\n", POLICY, ""],
+        ConfigurationFault::BadAddress,
+    ),
+    (
+        ["address = \"02000000000A00\"\n", "serve = 1\n", POLICY, ""],
+        ConfigurationFault::BadAddress,
+    ),
+    (
+        ["address = \"02000000000G\"\n", "serve = 1\n", POLICY, ""],
+        ConfigurationFault::BadAddress,
+    ),
+    (
+        [
+            "address = \"02-00-00-00-00-0A\"\n",
+            "serve = 1\n",
+            POLICY,
+            "",
+        ],
+        ConfigurationFault::BadAddress,
+    ),
+    (
+        ["address = \"03000000000A\"\n", "serve = 1\n", POLICY, ""],
+        ConfigurationFault::BadAddress,
+    ),
+    (
+        ["address = \"FFFFFFFFFFFF\"\n", "serve = 1\n", POLICY, ""],
+        ConfigurationFault::BadAddress,
+    ),
+];
+
+// Arrays of ports.
+const ARRAYS: [Refused; 6] = [
+    (
+        [ADDRESS, "serve = 1\n", POLICY, ""],
+        ConfigurationFault::BadPorts,
+    ),
+    (
+        [ADDRESS, "serve = 1\n", POLICY, "port = 1\n"],
+        ConfigurationFault::BadPorts,
+    ),
+    (
+        [ADDRESS, "serve = 1\n", POLICY, "port = []\n"],
+        ConfigurationFault::BadPorts,
+    ),
+    (
+        [ADDRESS, "serve = 1\n", POLICY, "port = [1]\n"],
+        ConfigurationFault::BadPorts,
+    ),
+    (
+        [ADDRESS, "serve = 1\n", POLICY, "port = [{}, 1]\n"],
+        ConfigurationFault::BadPorts,
+    ),
+    (
+        [
+            ADDRESS,
+            "serve = 1\n",
+            POLICY,
+            "[port]\nifindex = 1\nspeed = 10\nfull = false\n",
+        ],
+        ConfigurationFault::BadPorts,
+    ),
+];
+
+// A second port.
+const PORTS: [Refused; 13] = [
+    (
+        [ADDRESS, POLICY, PORT_AND_TABLE, "speed = 10\nfull = true\n"],
+        ConfigurationFault::BadPort(1, PortKey::Ifindex),
+    ),
+    (
+        [
+            ADDRESS,
+            POLICY,
+            PORT_AND_TABLE,
+            "ifindex = 0\nspeed = 10\nfull = true\n",
+        ],
+        ConfigurationFault::BadPort(1, PortKey::Ifindex),
+    ),
+    (
+        [
+            ADDRESS,
+            POLICY,
+            PORT_AND_TABLE,
+            "ifindex = -1\nspeed = 10\nfull = true\n",
+        ],
+        ConfigurationFault::BadPort(1, PortKey::Ifindex),
+    ),
+    (
+        [
+            ADDRESS,
+            POLICY,
+            PORT_AND_TABLE,
+            "ifindex = 2147483648\nspeed = 11\n",
+        ],
+        ConfigurationFault::BadPort(1, PortKey::Ifindex),
+    ),
+    (
+        [
+            ADDRESS,
+            POLICY,
+            PORT_AND_TABLE,
+            "ifindex = 1\nspeed = 11\nfull = true\n",
+        ],
+        ConfigurationFault::BadPort(1, PortKey::Speed),
+    ),
+    (
+        [
+            ADDRESS,
+            POLICY,
+            PORT_AND_TABLE,
+            "ifindex = 1\nspeed = 10000\nfull = 1\n",
+        ],
+        ConfigurationFault::BadPort(1, PortKey::Speed),
+    ),
+    (
+        [
+            ADDRESS,
+            POLICY,
+            PORT_AND_TABLE,
+            "ifindex = 1\nspeed = 10\nfull = 1\n",
+        ],
+        ConfigurationFault::BadPort(1, PortKey::Full),
+    ),
+    (
+        [
+            ADDRESS,
+            POLICY,
+            PORT_AND_TABLE,
+            "ifindex = 1\nspeed = 10\nlisten = 1\n",
+        ],
+        ConfigurationFault::BadPort(1, PortKey::Full),
+    ),
+    (
+        [
+            ADDRESS,
+            POLICY,
+            PORT_AND_TABLE,
+            "ifindex = 1\nspeed = 10\nfull = true\nname = \"\"\n",
+        ],
+        ConfigurationFault::BadPort(1, PortKey::Other),
+    ),
+    (
+        [
+            ADDRESS,
+            POLICY,
+            PORT_AND_TABLE,
+            "ifindex = 1\nspeed = 10\nfull = true\nlisten = \"localhost:1\"\n",
+        ],
+        ConfigurationFault::BadPort(1, PortKey::Listen),
+    ),
+    (
+        [
+            ADDRESS,
+            POLICY,
+            PORT_AND_TABLE,
+            "ifindex = 1\nspeed = 10\nfull = true\nlisten = 1\npeer = 1\n",
+        ],
+        ConfigurationFault::BadPort(1, PortKey::Listen),
+    ),
+    (
+        [
+            ADDRESS,
+            POLICY,
+            PORT_AND_TABLE,
+            "ifindex = 1\nspeed = 10\nfull = true\npeer = \"127.0.0.1\"\n",
+        ],
+        ConfigurationFault::BadPort(1, PortKey::Peer),
+    ),
+    (
+        [
+            ADDRESS,
+            POLICY,
+            PORT_AND_TABLE,
+            "ifindex = 1\nspeed = 10\nfull = true\npeer = 1\nname = \"\"\n",
+        ],
+        ConfigurationFault::BadPort(1, PortKey::Peer),
+    ),
+];
+
+// Ways to serve, ahead of a fault of the policy.
+const SERVES: [Refused; 9] = [
+    (
+        [ADDRESS, "contexts = 1\n", PORT, "[serve]\n"],
+        ConfigurationFault::BadServe(ServeKey::Snmp),
+    ),
+    (
+        [
+            ADDRESS,
+            "contexts = 1\n",
+            PORT,
+            "[serve]\nsnmp = \"127.0.0.1\"\nworkers = 1\nrounds = 1\n",
+        ],
+        ConfigurationFault::BadServe(ServeKey::Snmp),
+    ),
+    (
+        [
+            ADDRESS,
+            "contexts = 1\n",
+            PORT,
+            "[serve]\nsnmp = \"127.0.0.1:161\"\nworkers = 0\nrounds = 1\n",
+        ],
+        ConfigurationFault::BadServe(ServeKey::Workers),
+    ),
+    (
+        [
+            ADDRESS,
+            "contexts = 1\n",
+            PORT,
+            "[serve]\nsnmp = \"127.0.0.1:161\"\nworkers = 9\nrounds = 0\n",
+        ],
+        ConfigurationFault::BadServe(ServeKey::Workers),
+    ),
+    (
+        [
+            ADDRESS,
+            "contexts = 1\n",
+            PORT,
+            "[serve]\nsnmp = \"127.0.0.1:161\"\nworkers = 1\nrounds = 0\n",
+        ],
+        ConfigurationFault::BadServe(ServeKey::Rounds),
+    ),
+    (
+        [
+            ADDRESS,
+            "contexts = 1\n",
+            PORT,
+            "[serve]\nsnmp = \"127.0.0.1:161\"\nworkers = 1\nrounds = 1000001\n",
+        ],
+        ConfigurationFault::BadServe(ServeKey::Rounds),
+    ),
+    (
+        [
+            ADDRESS,
+            "contexts = 1\n",
+            PORT,
+            "[serve]\nsnmp = \"127.0.0.1:161\"\nworkers = 1\n",
+        ],
+        ConfigurationFault::BadServe(ServeKey::Rounds),
+    ),
+    (
+        [
+            ADDRESS,
+            "contexts = 1\n",
+            PORT,
+            "[serve]\nsnmp = \"127.0.0.1:161\"\nworkers = 1\nrounds = 1\nlog = 1\n",
+        ],
+        ConfigurationFault::BadServe(ServeKey::Other),
+    ),
+    (
+        [
+            ADDRESS,
+            "contexts = 1\n",
+            PORT,
+            "[[serve]]\nsnmp = \"127.0.0.1:161\"\nworkers = 1\nrounds = 1\n",
+        ],
+        ConfigurationFault::BadServe(ServeKey::Serve),
+    ),
+];
+
+// Keys of a policy: the first of them that is no array is told.
+const KEYS: [Refused; 7] = [
+    (
+        [ADDRESS, "", PORT, ""],
+        ConfigurationFault::BadKeys(PolicyKey::Contexts),
+    ),
+    (
+        [ADDRESS, "contexts = 1\n", PORT, ""],
+        ConfigurationFault::BadKeys(PolicyKey::Contexts),
+    ),
+    (
+        [ADDRESS, "contexts = []\ngroup = 1\n", PORT, ""],
+        ConfigurationFault::BadKeys(PolicyKey::Community),
+    ),
+    (
+        [
+            ADDRESS,
+            "contexts = []\ncommunity = []\n[group]\n",
+            PORT,
+            "",
+        ],
+        ConfigurationFault::BadKeys(PolicyKey::Group),
+    ),
+    (
+        [
+            ADDRESS,
+            "contexts = []\ncommunity = []\ngroup = []\n",
+            PORT,
+            "",
+        ],
+        ConfigurationFault::BadKeys(PolicyKey::Access),
+    ),
+    (
+        [
+            ADDRESS,
+            "contexts = []\ncommunity = []\ngroup = []\naccess = []\n",
+            PORT,
+            "",
+        ],
+        ConfigurationFault::BadKeys(PolicyKey::Family),
+    ),
+    (
+        [
+            ADDRESS,
+            "a = 1\ncontexts = []\ncommunity = []\ngroup = []\naccess = []\nfamily = []\n",
+            PORT,
+            "",
+        ],
+        ConfigurationFault::BadKeys(PolicyKey::Other),
+    ),
+];
+
+// A context that is no string, and one of 33 octets.
+const POLICIES: [Refused; 2] = [
+    (
+        [
+            ADDRESS,
+            "contexts = [1]\ncommunity = []\ngroup = []\naccess = []\nfamily = []\n",
+            "",
+            PORT,
+        ],
+        ConfigurationFault::Policy(PolicyFault::BadField(PolicyTable::Contexts, 0)),
+    ),
+    (
+        [ADDRESS, LONG, TABLES, PORT],
+        ConfigurationFault::Policy(PolicyFault::BadLength(PolicyTable::Contexts, 1)),
+    ),
+];
+
+fn assert_refused(rt: &impl Abort, alloc: Global, rows: &[Refused]) -> Result<(), Fail> {
+    for (parts, fault) in rows {
+        let told = fault_of(alloc, *parts)?;
+        assert_eq!(rt; told, Some(*fault), "{parts:?}");
     }
     Ok(())
 }
 
 #[test]
-fn addresses_are_refused(rt: HostRuntime) -> Result<(), Fail> {
-    for address in [
-        "",
-        "address = 2\n",
-        "address = \"\"\n",
-        "address = \"02000000000\"\n",
-        "address = \"02000000000A00\"\n",
-        "address = \"02000000000G\"\n",
-        "address = \"02-00-00-00-00-0A\"\n",
-        "address = \"03000000000A\"\n",
-        "address = \"FFFFFFFFFFFF\"\n",
+fn other_configurations_are_refused(rt: HostRuntime) -> Result<(), Fail> {
+    for rows in [
+        TEXTS.as_slice(),
+        &ADDRESSES,
+        &ARRAYS,
+        &PORTS,
+        &SERVES,
+        &KEYS,
+        &POLICIES,
     ] {
-        let fault = fault_of(rt.alloc(), [address, "serve = 1\n", POLICY, ""])?;
-        assert_eq!(rt; fault, Some(ConfigurationFault::BadAddress), "{address}");
+        assert_refused(&rt, rt.alloc(), rows)?;
     }
     Ok(())
 }
 
-#[test]
-fn arrays_of_ports_are_refused(rt: HostRuntime) -> Result<(), Fail> {
-    for ports in [
-        "",
-        "port = 1\n",
-        "port = []\n",
-        "port = [1]\n",
-        "port = [{}, 1]\n",
-        "[port]\nifindex = 1\nspeed = 10\nfull = false\n",
-    ] {
-        let fault = fault_of(rt.alloc(), [ADDRESS, "serve = 1\n", POLICY, ports])?;
-        assert_eq!(rt; fault, Some(ConfigurationFault::BadPorts), "{ports}");
+// A configuration of so many ports.
+fn text_of(alloc: Global, ports: usize) -> Result<String, Fail> {
+    let mut text = String::from_str(alloc, ADDRESS)?;
+    text.push_str(POLICY)?;
+    for _ in 0..ports {
+        text.push_str(PORT)?;
     }
-    Ok(())
+    Ok(text)
 }
 
 #[test]
 fn there_are_32_ports_at_most(rt: HostRuntime) -> Result<(), Fail> {
-    let mut text = String::from_str(rt.alloc(), ADDRESS)?;
-    text.push_str(POLICY)?;
-    for _ in 0..32 {
-        text.push_str(PORT)?;
+    for (ports, end) in [(32, Ok(32)), (33, Err(ConfigurationFault::BadPorts))] {
+        let text = text_of(rt.alloc(), ports)?;
+        let given = configuration_of_text(rt.alloc(), text.as_str());
+        assert_eq!(rt; given.map(|given| given.ports.len()), end, "{ports} ports");
     }
-    let configuration = configuration_of_text(rt.alloc(), text.as_str())?;
-    assert_eq!(rt; configuration.ports.len(), 32);
-    text.push_str(PORT)?;
-    let fault = configuration_of_text(rt.alloc(), text.as_str()).err();
-    assert_eq!(rt; fault, Some(ConfigurationFault::BadPorts));
-    Ok(())
-}
-
-#[test]
-fn ports_are_refused(rt: HostRuntime) -> Result<(), Fail> {
-    for (port, key) in [
-        ("speed = 10\nfull = true\n", PortKey::Ifindex),
-        ("ifindex = 0\nspeed = 10\nfull = true\n", PortKey::Ifindex),
-        ("ifindex = -1\nspeed = 10\nfull = true\n", PortKey::Ifindex),
-        ("ifindex = 2147483648\nspeed = 11\n", PortKey::Ifindex),
-        ("ifindex = 1\nspeed = 11\nfull = true\n", PortKey::Speed),
-        ("ifindex = 1\nspeed = 10000\nfull = 1\n", PortKey::Speed),
-        ("ifindex = 1\nspeed = 10\nfull = 1\n", PortKey::Full),
-        ("ifindex = 1\nspeed = 10\nlisten = 1\n", PortKey::Full),
-        (
-            "ifindex = 1\nspeed = 10\nfull = true\nname = \"\"\n",
-            PortKey::Other,
-        ),
-        (
-            "ifindex = 1\nspeed = 10\nfull = true\nlisten = \"localhost:1\"\n",
-            PortKey::Listen,
-        ),
-        (
-            "ifindex = 1\nspeed = 10\nfull = true\nlisten = 1\npeer = 1\n",
-            PortKey::Listen,
-        ),
-        (
-            "ifindex = 1\nspeed = 10\nfull = true\npeer = \"127.0.0.1\"\n",
-            PortKey::Peer,
-        ),
-        (
-            "ifindex = 1\nspeed = 10\nfull = true\npeer = 1\nname = \"\"\n",
-            PortKey::Peer,
-        ),
-    ] {
-        let fault = fault_of(rt.alloc(), [ADDRESS, POLICY, PORT_AND_TABLE, port])?;
-        assert_eq!(rt; fault, Some(ConfigurationFault::BadPort(1, key)), "{port}");
-    }
-    Ok(())
-}
-
-#[test]
-fn ways_to_serve_are_refused(rt: HostRuntime) -> Result<(), Fail> {
-    for (serve, key) in [
-        ("[serve]\n", ServeKey::Snmp),
-        (
-            "[serve]\nsnmp = \"127.0.0.1\"\nworkers = 1\nrounds = 1\n",
-            ServeKey::Snmp,
-        ),
-        (
-            "[serve]\nsnmp = \"127.0.0.1:161\"\nworkers = 0\nrounds = 1\n",
-            ServeKey::Workers,
-        ),
-        (
-            "[serve]\nsnmp = \"127.0.0.1:161\"\nworkers = 9\nrounds = 0\n",
-            ServeKey::Workers,
-        ),
-        (
-            "[serve]\nsnmp = \"127.0.0.1:161\"\nworkers = 1\nrounds = 0\n",
-            ServeKey::Rounds,
-        ),
-        (
-            "[serve]\nsnmp = \"127.0.0.1:161\"\nworkers = 1\nrounds = 1000001\n",
-            ServeKey::Rounds,
-        ),
-        (
-            "[serve]\nsnmp = \"127.0.0.1:161\"\nworkers = 1\n",
-            ServeKey::Rounds,
-        ),
-        (
-            "[serve]\nsnmp = \"127.0.0.1:161\"\nworkers = 1\nrounds = 1\nlog = 1\n",
-            ServeKey::Other,
-        ),
-        (
-            "[[serve]]\nsnmp = \"127.0.0.1:161\"\nworkers = 1\nrounds = 1\n",
-            ServeKey::Serve,
-        ),
-    ] {
-        let fault = fault_of(rt.alloc(), [ADDRESS, "contexts = 1\n", PORT, serve])?;
-        assert_eq!(rt; fault, Some(ConfigurationFault::BadServe(key)), "{serve}");
-    }
-    Ok(())
-}
-
-// The first of them that is no array is told.
-#[test]
-fn keys_of_a_policy_are_refused(rt: HostRuntime) -> Result<(), Fail> {
-    for (keys, key) in [
-        ("", PolicyKey::Contexts),
-        ("contexts = 1\n", PolicyKey::Contexts),
-        ("contexts = []\ngroup = 1\n", PolicyKey::Community),
-        ("contexts = []\ncommunity = []\n[group]\n", PolicyKey::Group),
-        (
-            "contexts = []\ncommunity = []\ngroup = []\n",
-            PolicyKey::Access,
-        ),
-        (
-            "contexts = []\ncommunity = []\ngroup = []\naccess = []\n",
-            PolicyKey::Family,
-        ),
-        (
-            "a = 1\ncontexts = []\ncommunity = []\ngroup = []\naccess = []\nfamily = []\n",
-            PolicyKey::Other,
-        ),
-    ] {
-        let fault = fault_of(rt.alloc(), [ADDRESS, keys, PORT, ""])?;
-        assert_eq!(rt; fault, Some(ConfigurationFault::BadKeys(key)), "{keys}");
-    }
-    Ok(())
-}
-
-#[test]
-fn policies_are_refused(rt: HostRuntime) -> Result<(), Fail> {
-    let tables = "contexts = [1]\ncommunity = []\ngroup = []\naccess = []\nfamily = []\n";
-    let fault = fault_of(rt.alloc(), [ADDRESS, tables, "", PORT])?;
-    let no_string = PolicyFault::BadField(PolicyTable::Contexts, 0);
-    assert_eq!(rt; fault, Some(ConfigurationFault::Policy(no_string)));
-    let contexts = "contexts = [\"\", \"a-name-of-33-octets-for-a-context\"]\n";
-    let tables = "community = []\ngroup = []\naccess = []\nfamily = []\n";
-    let fault = fault_of(rt.alloc(), [ADDRESS, contexts, tables, PORT])?;
-    let too_long = PolicyFault::BadLength(PolicyTable::Contexts, 1);
-    assert_eq!(rt; fault, Some(ConfigurationFault::Policy(too_long)));
     Ok(())
 }
 
 #[test]
 fn other_octets_are_refused(rt: HostRuntime) -> Result<(), Fail> {
-    let mut octets = Vec::from_slice(rt.alloc(), BUILT_IN.as_bytes())?;
-    assert!(rt; configuration_in(rt.alloc(), octets.as_slice()).is_ok());
-    octets.extend_from_slice(b"# \xFF\n")?;
-    let fault = configuration_in(rt.alloc(), octets.as_slice()).err();
-    assert_eq!(rt; fault, Some(ConfigurationFault::BadOctets));
+    for (end, fault) in [
+        (b"".as_slice(), None),
+        (b"# \xFF\n", Some(ConfigurationFault::BadOctets)),
+    ] {
+        let mut octets = Vec::from_slice(rt.alloc(), BUILT_IN.as_bytes())?;
+        octets.extend_from_slice(end)?;
+        let told = configuration_in(rt.alloc(), octets.as_slice()).err();
+        assert_eq!(rt; told, fault, "{end:?}");
+    }
     Ok(())
 }
 
@@ -294,11 +567,14 @@ fn told_of(alloc: Global, parts: [&str; 4]) -> Result<String, Fail> {
     Ok(sentence(alloc, fault)?)
 }
 
-// A policy without its contexts.
-const TABLES: &str = "community = []\ngroup = []\naccess = []\nfamily = []\n";
+// A policy without its communities.
+const OTHERS: &str = "contexts = []\ngroup = []\naccess = []\nfamily = []\n";
 
+const SLOW: &str = "[[port]]\nifindex = 1\nspeed = 40\nfull = true\n";
+
+// A table: over forty lines.
 #[test]
-fn faults_of_the_top_level_are_told(rt: HostRuntime) -> Result<(), Fail> {
+fn faults_are_told(rt: HostRuntime) -> Result<(), Fail> {
     for (parts, told) in [
         (
             [ADDRESS, POLICY, "port = 02\n", ""],
@@ -318,21 +594,8 @@ fn faults_of_the_top_level_are_told(rt: HostRuntime) -> Result<(), Fail> {
             "top level: its keys are to be address, port, contexts, community, group, access and \
              family, and may be serve, and no others",
         ),
-    ] {
-        let text = told_of(rt.alloc(), parts)?;
-        assert!(rt; text.as_str() == told, "{text}");
-    }
-    Ok(())
-}
-
-#[test]
-fn faults_of_rows_and_tables_are_told(rt: HostRuntime) -> Result<(), Fail> {
-    let others = "contexts = []\ngroup = []\naccess = []\nfamily = []\n";
-    let long = "contexts = [\"\", \"a-name-of-33-octets-for-a-context\"]\n";
-    let slow = "[[port]]\nifindex = 1\nspeed = 40\nfull = true\n";
-    for (parts, told) in [
         (
-            [ADDRESS, POLICY, PORT, slow],
+            [ADDRESS, POLICY, PORT, SLOW],
             "row 2 of [[port]], counted from 1: speed is to be an integer, 10, 100 or 1000 (Mb/s)",
         ),
         (
@@ -345,11 +608,11 @@ fn faults_of_rows_and_tables_are_told(rt: HostRuntime) -> Result<(), Fail> {
             "table serve: snmp is to be a string of an address and a port, as \"127.0.0.1:161\"",
         ),
         (
-            [ADDRESS, long, TABLES, PORT],
+            [ADDRESS, LONG, TABLES, PORT],
             "row 2 of contexts, counted from 1: a context is to have at most 32 octets",
         ),
         (
-            [ADDRESS, others, PORT, COMMUNITY_TWICE],
+            [ADDRESS, OTHERS, PORT, COMMUNITY_TWICE],
             "row 2 of [[community]], counted from 1: no earlier row may have its index",
         ),
     ] {

@@ -32,69 +32,71 @@ fn fault_of(alloc: Global, text: &str) -> Result<Option<PolicyFault>, Fail> {
     Ok(policy_of(alloc, &table).err())
 }
 
-#[test]
-fn the_policy_knows_its_communities(rt: HostRuntime) -> Result<(), Fail> {
-    let policy = policy_from(rt.alloc(), IN_LINE)?;
-    let caller = policy.caller(b"public").ok_or("public")?;
-    assert_eq!(rt; caller.security.as_str(), "public");
-    assert!(rt; policy.caller(b"publik").is_none());
-    Ok(())
-}
-
-#[test]
-fn unknown_keys_are_refused(rt: HostRuntime) -> Result<(), Fail> {
-    let text = "contexts = []\ncommunity = []\ngroup = []\naccess = []\nfamily = []\nserve = 1\n";
-    let fault = fault_of(rt.alloc(), text)?;
-    assert_eq!(rt;
-        fault,
-        Some(PolicyFault::BadField(PolicyTable::Contexts, 0))
-    );
-    Ok(())
-}
-
-#[test]
-fn rows_are_looked_at_in_order(rt: HostRuntime) -> Result<(), Fail> {
-    let text = "contexts = []\ncommunity = []\naccess = []\nfamily = []\n
-[[group]]\nmodel = 2\nname = \"a b\"\ngroup = \"g\"\n
-[[group]]\nmodel = 2\nname = \"name-of-33-octets-and-not-of-32-.\"\ngroup = \"g\"\n";
-    let fault = fault_of(rt.alloc(), text)?;
-    assert_eq!(rt; fault, Some(PolicyFault::BadField(PolicyTable::Groups, 0)));
-    Ok(())
-}
-
-#[test]
-fn values_are_looked_at_before_rows(rt: HostRuntime) -> Result<(), Fail> {
-    let text = "contexts = []\naccess = []\nfamily = []\ncommunity = [1]\n
-[[group]]\nmodel = 2\nname = \"name-of-33-octets-and-not-of-32-.\"\ngroup = \"g\"\n";
-    let fault = fault_of(rt.alloc(), text)?;
-    assert_eq!(rt;
-        fault,
-        Some(PolicyFault::BadField(PolicyTable::Communities, 0))
-    );
-    Ok(())
-}
-
-#[test]
-fn the_first_index_decides(rt: HostRuntime) -> Result<(), Fail> {
-    let text = "contexts = []\naccess = []\nfamily = []\ngroup = []\n
+// Two communities of one name.
+const FIRST_INDEX: &str = "contexts = []\naccess = []\nfamily = []\ngroup = []\n
 [[community]]\nindex = \"ab\"\nname = \"c\"\nsecurity = \"two\"\ncontext = \"\"\n
 [[community]]\nindex = \"a\"\nname = \"c\"\nsecurity = \"one\"\ncontext = \"\"\n";
-    let policy = policy_from(rt.alloc(), text)?;
-    let caller = policy.caller(b"c").ok_or("c")?;
-    assert_eq!(rt; caller.security.as_str(), "one");
+
+// A community whose name is of more than letters.
+const ANY_TEXT: &str = "contexts = []\naccess = []\nfamily = []\ngroup = []\n
+[[community]]\nindex = \"a\"\nname = \"é €\"\nsecurity = \"one\"\ncontext = \"\"\n";
+
+// Whether a policy knows a community by this security name, or not at all.
+fn knows(policy: &Policy, community: &[u8], security: Option<&str>) -> bool {
+    match policy.caller(community) {
+        Some(caller) => security == Some(caller.security.as_str()),
+        None => security.is_none(),
+    }
+}
+
+// Of two communities of one name the first index decides.
+#[test]
+fn policies_know_their_communities(rt: HostRuntime) -> Result<(), Fail> {
+    for (text, community, security) in [
+        (IN_LINE, b"public".as_slice(), Some("public")),
+        (IN_LINE, b"publik", None),
+        (FIRST_INDEX, b"c", Some("one")),
+        (ANY_TEXT, b"\xC3\xA9 \xE2\x82\xAC", Some("one")),
+    ] {
+        let policy = policy_from(rt.alloc(), text)?;
+        assert!(rt; knows(&policy, community, security), "{text}");
+        let policy = policy_in(rt.alloc(), text.as_bytes())?.ok_or("a policy")?;
+        assert!(rt; knows(&policy, community, security), "{text}");
+    }
     Ok(())
 }
 
 #[test]
-fn a_second_row_of_one_index_is_refused(rt: HostRuntime) -> Result<(), Fail> {
-    let text = "contexts = []\naccess = []\nfamily = []\ngroup = []\n
+fn the_first_fault_of_a_policy_is_told(rt: HostRuntime) -> Result<(), Fail> {
+    for (text, fault) in [
+        // an unknown key
+        (
+            "contexts = []\ncommunity = []\ngroup = []\naccess = []\nfamily = []\nserve = 1\n",
+            PolicyFault::BadField(PolicyTable::Contexts, 0),
+        ),
+        // rows are looked at in order
+        (
+            "contexts = []\ncommunity = []\naccess = []\nfamily = []\n
+[[group]]\nmodel = 2\nname = \"a b\"\ngroup = \"g\"\n
+[[group]]\nmodel = 2\nname = \"name-of-33-octets-and-not-of-32-.\"\ngroup = \"g\"\n",
+            PolicyFault::BadField(PolicyTable::Groups, 0),
+        ),
+        // values are looked at before rows
+        (
+            "contexts = []\naccess = []\nfamily = []\ncommunity = [1]\n
+[[group]]\nmodel = 2\nname = \"name-of-33-octets-and-not-of-32-.\"\ngroup = \"g\"\n",
+            PolicyFault::BadField(PolicyTable::Communities, 0),
+        ),
+        // a second row of one index
+        (
+            "contexts = []\naccess = []\nfamily = []\ngroup = []\n
 [[community]]\nindex = \"a\"\nname = \"c\"\nsecurity = \"one\"\ncontext = \"\"\n
-[[community]]\nindex = \"a\"\nname = \"d\"\nsecurity = \"two\"\ncontext = \"\"\n";
-    let fault = fault_of(rt.alloc(), text)?;
-    assert_eq!(rt;
-        fault,
-        Some(PolicyFault::Duplicate(PolicyTable::Communities, 1))
-    );
+[[community]]\nindex = \"a\"\nname = \"d\"\nsecurity = \"two\"\ncontext = \"\"\n",
+            PolicyFault::Duplicate(PolicyTable::Communities, 1),
+        ),
+    ] {
+        assert_eq!(rt; fault_of(rt.alloc(), text)?, Some(fault), "{text}");
+    }
     Ok(())
 }
 
@@ -123,19 +125,10 @@ fn long_subtrees_are_read(rt: HostRuntime) -> Result<(), Fail> {
         let (policy, subtree) = policy_without(rt.alloc(), count)?;
         assert_eq!(rt;
             policy.vacm().in_view(&view, &subtree),
-            FamilyAnswer::Excluded(1)
+            FamilyAnswer::Excluded(1),
+            "{count} sub-identifiers"
         );
     }
-    Ok(())
-}
-
-#[test]
-fn a_community_name_is_any_text(rt: HostRuntime) -> Result<(), Fail> {
-    let text = "contexts = []\naccess = []\nfamily = []\ngroup = []\n
-[[community]]\nindex = \"a\"\nname = \"é €\"\nsecurity = \"one\"\ncontext = \"\"\n";
-    let policy = policy_in(rt.alloc(), text.as_bytes())?.ok_or("a policy")?;
-    let caller = policy.caller(b"\xC3\xA9 \xE2\x82\xAC").ok_or("a caller")?;
-    assert_eq!(rt; caller.security.as_str(), "one");
     Ok(())
 }
 

@@ -21,6 +21,8 @@ mod names;
 #[cfg(test)]
 mod reading;
 #[cfg(test)]
+mod repeated;
+#[cfg(test)]
 mod texts;
 #[cfg(test)]
 mod writing;

@@ -2,41 +2,36 @@
 use oid_core::{Oid, OidFault};
 use std::alloc::Global;
 use std::cmp::Ordering;
+use std::process::Abort;
 use std::test::Fail;
 
-#[test]
-fn refuses_slices(rt: HostRuntime) {
-    assert_eq!(rt;
-        Oid::from_slice(rt.alloc(), &[]).err(),
-        Some(OidFault::BadContent)
-    );
-    assert_eq!(rt;
-        Oid::from_slice(rt.alloc(), &[1; 129]).err(),
-        Some(OidFault::TooLong)
-    );
-}
-
-// Whether the name of these numbers, and its copy, have these numbers.
-fn is_made_and_copied(alloc: Global, numbers: &[u32]) -> Result<bool, Fail> {
-    let name = Oid::from_slice(alloc, numbers)?;
-    let copy = name.try_copy(alloc)?;
-    Ok(name.as_slice() == numbers && copy.as_slice() == numbers)
+// The fault of a name of these numbers, if it has one. It, and its copy, have these numbers.
+fn fault_of(rt: &impl Abort, alloc: Global, numbers: &[u32]) -> Result<Option<OidFault>, Fail> {
+    match Oid::from_slice(alloc, numbers) {
+        Err(fault) => Ok(Some(fault)),
+        Ok(name) => {
+            let copy = name.try_copy(alloc)?;
+            assert_eq!(rt; [name.as_slice(), copy.as_slice()], [numbers; 2]);
+            Ok(None)
+        }
+    }
 }
 
 #[test]
-fn makes_and_copies_25_numbers(rt: HostRuntime) -> Result<(), Fail> {
-    let mut numbers = [1; 25];
-    numbers[24] = 4294967295;
-    assert!(rt; is_made_and_copied(rt.alloc(), &numbers)?);
-    Ok(())
-}
-
-#[test]
-fn makes_and_copies_128_numbers(rt: HostRuntime) -> Result<(), Fail> {
-    let mut numbers = [1; 128];
-    numbers[24] = 7;
-    numbers[127] = 4294967295;
-    assert!(rt; is_made_and_copied(rt.alloc(), &numbers)?);
+fn makes_and_copies_names(rt: HostRuntime) -> Result<(), Fail> {
+    let mut short = [1; 25];
+    short[24] = 4294967295;
+    let mut long = [1; 128];
+    long[24] = 7;
+    long[127] = 4294967295;
+    for (numbers, fault) in [
+        (short.as_slice(), None),
+        (&long, None),
+        (&[], Some(OidFault::BadContent)),
+        (&[1; 129], Some(OidFault::TooLong)),
+    ] {
+        assert_eq!(rt; fault_of(&rt, rt.alloc(), numbers)?, fault, "{numbers:?}");
+    }
     Ok(())
 }
 
@@ -45,9 +40,13 @@ fn orders_names(rt: HostRuntime) -> Result<(), Fail> {
     let subtree = Oid::from_slice(rt.alloc(), &[1, 3, 6])?;
     let within = Oid::from_slice(rt.alloc(), &[1, 3, 6, 1])?;
     let after = Oid::from_slice(rt.alloc(), &[1, 3, 7])?;
-    assert_eq!(rt; subtree.cmp(&within), Ordering::Less);
-    assert_eq!(rt; after.cmp(&within), Ordering::Greater);
-    assert!(rt; subtree.is_prefix(&within));
-    assert!(rt; !within.is_prefix(&subtree));
+    assert_eq!(rt;
+        (subtree.cmp(&within), after.cmp(&within)),
+        (Ordering::Less, Ordering::Greater)
+    );
+    assert_eq!(rt;
+        (subtree.is_prefix(&within), within.is_prefix(&subtree)),
+        (true, false)
+    );
     Ok(())
 }

@@ -1,34 +1,26 @@
 //! Heads and contents that are read (X.690, 8.1 and 8.3).
 use ber_core::{BerFault, Tag, read_i32, read_tlv, read_u32, read_u64};
-use std::test::Fail;
 
-#[test]
-fn takes_lengths_in_the_long_form(rt: HostRuntime) -> Result<(), Fail> {
-    let (tag, content, rest) = read_tlv(&[0x04, 0x84, 0, 0, 0, 2, 7, 8, 9])?;
-    assert_eq!(rt; tag, Tag(4));
-    assert_eq!(rt; content, [7, 8].as_slice());
-    assert_eq!(rt; rest, [9].as_slice());
-    Ok(())
-}
+// A tag, a content, and what is behind it.
+type Element<'a> = (Tag, &'a [u8], &'a [u8]);
 
+// Lengths in the long form, also of nothing, and heads that are refused.
 #[test]
-fn takes_a_long_length_of_nothing(rt: HostRuntime) -> Result<(), Fail> {
-    let (_, content, _) = read_tlv(&[0x05, 0x81, 0x00])?;
-    assert_eq!(rt; content.len(), 0);
-    Ok(())
-}
-
-#[test]
-fn refuses_heads(rt: HostRuntime) {
-    let rows: [(&[u8], BerFault); 5] = [
-        (&[0x30, 0x80, 0, 0], BerFault::Indefinite),
-        (&[0x30, 0x85, 0, 0, 0, 0, 0], BerFault::LengthTooLong),
-        (&[0x30, 0x02, 1], BerFault::Short),
-        (&[0x30, 0x82, 0], BerFault::Short),
-        (&[], BerFault::Short),
+fn reads_heads(rt: HostRuntime) {
+    let rows: [(&[u8], Result<Element, BerFault>); 7] = [
+        (
+            &[0x04, 0x84, 0, 0, 0, 2, 7, 8, 9],
+            Ok((Tag(4), &[7, 8], &[9])),
+        ),
+        (&[0x05, 0x81, 0x00], Ok((Tag(5), &[], &[]))),
+        (&[0x30, 0x80, 0, 0], Err(BerFault::Indefinite)),
+        (&[0x30, 0x85, 0, 0, 0, 0, 0], Err(BerFault::LengthTooLong)),
+        (&[0x30, 0x02, 1], Err(BerFault::Short)),
+        (&[0x30, 0x82, 0], Err(BerFault::Short)),
+        (&[], Err(BerFault::Short)),
     ];
-    for (octets, fault) in rows {
-        assert_eq!(rt; read_tlv(octets).err(), Some(fault));
+    for (octets, read) in rows {
+        assert_eq!(rt; read_tlv(octets), read, "{octets:?}");
     }
 }
 
@@ -44,7 +36,7 @@ fn reads_integers(rt: HostRuntime) {
         (&[], None),
     ];
     for (content, number) in rows {
-        assert_eq!(rt; read_i32(content).ok(), number);
+        assert_eq!(rt; read_i32(content).ok(), number, "{content:?}");
     }
 }
 
@@ -59,7 +51,7 @@ fn reads_numbers_of_32_bits(rt: HostRuntime) {
         (&[], None),
     ];
     for (content, number) in rows {
-        assert_eq!(rt; read_u32(content).ok(), number);
+        assert_eq!(rt; read_u32(content).ok(), number, "{content:?}");
     }
 }
 
@@ -75,6 +67,6 @@ fn reads_numbers_of_64_bits(rt: HostRuntime) {
         (&[1, 0, 0, 0, 0, 0, 0, 0, 0], None),
     ];
     for (content, number) in rows {
-        assert_eq!(rt; read_u64(content).ok(), number);
+        assert_eq!(rt; read_u64(content).ok(), number, "{content:?}");
     }
 }

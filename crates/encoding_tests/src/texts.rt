@@ -1,79 +1,50 @@
 //! Names in dotted text.
+use crate::repeated::{dotted, with_ones};
 use oid_core::{Oid, OidFault};
-use std::alloc::{AllocError, Global};
 use std::test::Fail;
 
+// Texts and their numbers, with so many ones more.
+const READ: [(&str, &[u32], usize); 4] = [
+    ("1.3.6", &[1, 3, 6], 0),
+    ("2.4294967295.0", &[2, 4294967295, 0], 0),
+    ("1", &[1], 24),
+    ("1", &[1], 127),
+];
+
+// Texts and numbers, each with so many ones more: names of 25 and of 128 numbers among them.
 #[test]
-fn parses_a_name(rt: HostRuntime) -> Result<(), Fail> {
-    let name = Oid::parse(rt.alloc(), "1.3.6")?;
-    assert_eq!(rt; name.as_slice(), [1, 3, 6].as_slice());
+fn parses_texts(rt: HostRuntime) -> Result<(), Fail> {
+    for (text, numbers, ones) in READ {
+        let numbers = with_ones(rt.alloc(), numbers, 1, ones)?;
+        let text = dotted(rt.alloc(), text, ones)?;
+        let name = Oid::parse(rt.alloc(), text.as_str())?;
+        assert_eq!(rt; name.as_slice(), numbers.as_slice(), "{text}");
+    }
     Ok(())
 }
 
+// The last is that of 129 numbers.
 #[test]
-fn parses_the_greatest_number(rt: HostRuntime) -> Result<(), Fail> {
-    let name = Oid::parse(rt.alloc(), "2.4294967295.0")?;
-    assert_eq!(rt; name.as_slice(), [2, 4294967295, 0].as_slice());
-    Ok(())
-}
-
-#[test]
-fn refuses_texts(rt: HostRuntime) {
-    for text in [
-        "",
-        ".",
-        "1..3",
-        ".1.3",
-        "1.3.",
-        "01.3",
-        "1.03",
-        "+1.3",
-        "1.-3",
-        "1.4294967296",
-        "1.3 ",
-        "1,3",
+fn refuses_texts(rt: HostRuntime) -> Result<(), Fail> {
+    for (text, ones, fault) in [
+        ("", 0, OidFault::BadText),
+        (".", 0, OidFault::BadText),
+        ("1..3", 0, OidFault::BadText),
+        (".1.3", 0, OidFault::BadText),
+        ("1.3.", 0, OidFault::BadText),
+        ("01.3", 0, OidFault::BadText),
+        ("1.03", 0, OidFault::BadText),
+        ("+1.3", 0, OidFault::BadText),
+        ("1.-3", 0, OidFault::BadText),
+        ("1.4294967296", 0, OidFault::BadText),
+        ("1.3 ", 0, OidFault::BadText),
+        ("1,3", 0, OidFault::BadText),
+        ("1", 128, OidFault::TooLong),
     ] {
-        assert_eq!(rt;
-            Oid::parse(rt.alloc(), text).err(),
-            Some(OidFault::BadText),
-            "{text}"
-        );
+        let text = dotted(rt.alloc(), text, ones)?;
+        let told = Oid::parse(rt.alloc(), text.as_str()).err();
+        assert_eq!(rt; told, Some(fault), "{text}");
     }
-}
-
-// "1" and this many times ".1".
-fn ones(alloc: Global, more: usize) -> Result<String, AllocError> {
-    let mut text = String::new(alloc);
-    text.push('1')?;
-    for _ in 0..more {
-        text.push_str(".1")?;
-    }
-    Ok(text)
-}
-
-#[test]
-fn parses_25_numbers(rt: HostRuntime) -> Result<(), Fail> {
-    let text = ones(rt.alloc(), 24)?;
-    let name = Oid::parse(rt.alloc(), text.as_str())?;
-    assert_eq!(rt; name.as_slice(), [1; 25].as_slice());
-    Ok(())
-}
-
-#[test]
-fn parses_128_numbers(rt: HostRuntime) -> Result<(), Fail> {
-    let text = ones(rt.alloc(), 127)?;
-    let name = Oid::parse(rt.alloc(), text.as_str())?;
-    assert_eq!(rt; name.as_slice().len(), 128);
-    Ok(())
-}
-
-#[test]
-fn refuses_129_numbers(rt: HostRuntime) -> Result<(), Fail> {
-    let text = ones(rt.alloc(), 128)?;
-    assert_eq!(rt;
-        Oid::parse(rt.alloc(), text.as_str()).err(),
-        Some(OidFault::TooLong)
-    );
     Ok(())
 }
 

@@ -7,8 +7,7 @@ fn writes_from_the_back(rt: HostRuntime) {
     let mut out = Out::new(&mut room);
     let first = out.put_u32(Tag(0x41), 255);
     let second = out.put_i32(Tag(0x02), -128);
-    assert_eq!(rt; first, Ok(()));
-    assert_eq!(rt; second, Ok(()));
+    assert_eq!(rt; (first, second), (Ok(()), Ok(())));
     assert_eq!(rt; room, [0, 0x02, 0x01, 0x80, 0x41, 0x02, 0x00, 0xff]);
 }
 
@@ -28,8 +27,6 @@ fn refuses_what_does_not_fit(rt: HostRuntime) {
     let refused = out.put_u32(Tag(0x42), 128);
     let left = out.len();
     let fits = out.put_u32(Tag(0x42), 127);
-    assert_eq!(rt; refused, Err(BerFault::NoRoom));
-    assert_eq!(rt; left, 0);
-    assert_eq!(rt; fits, Ok(()));
+    assert_eq!(rt; (refused, left, fits), (Err(BerFault::NoRoom), 0, Ok(())));
     assert_eq!(rt; room, [0x42, 1, 127]);
 }

@@ -29,12 +29,12 @@ abbrev pub other_entries : List ℕ → List (Mac × Seen) → List (Mac × Seen
 other_entries ports entries = filter (λ e. not (list_any (λ n. n == e.1.port) ports)) entries
 
 -- the tick of an address, so many ticks lower
-abbrev pub lowered : ℕ → Seen → Seen
-lowered by seen = record seen { tick = seen.tick - by }
+abbrev pub seen_earlier : ℕ → Seen → Seen
+seen_earlier by seen = record seen { tick = seen.tick - by }
 
 -- all of them lowered
 abbrev pub lowered_entries : ℕ → List (Mac × Seen) → List (Mac × Seen)
-lowered_entries by entries = map (λ e. (e.0, lowered by e.1)) entries
+lowered_entries by entries = map (λ e. (e.0, seen_earlier by e.1)) entries
 
 -- the lowest tick of some addresses, or this one where it is lower
 abbrev pub oldest_tick : ℕ → List Seen → ℕ

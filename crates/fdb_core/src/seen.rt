@@ -1,6 +1,6 @@
 //! Where and when one address was learned.
 ghost use Rattle.std.specs.Prelude.{◌≡◌, ◌-◌};
-ghost use Rattle.fdb_core.specs.Seen.{lowered};
+ghost use Rattle.fdb_core.specs.Seen.{seen_earlier};
 
 /// The tick number at which all ticks are lowered.
 pub const LAST_TICK: u32 = u32::MAX;
@@ -24,7 +24,7 @@ impl Seen {
 
     /// Lowers the tick by so many ticks.
     pub fn lower(&mut self, by: u32)
-        ensures { self.new ≡ lowered by self.old }
+        ensures { self.new ≡ seen_earlier by self.old }
     {
         self.tick = self.tick.saturating_sub(by);
     }

@@ -63,23 +63,12 @@ fn writes_the_worked_frame(rt: HostRuntime) {
 }
 
 #[test]
-fn reads_the_worked_frame_with_and_without_padding(rt: HostRuntime) {
-    assert_eq!(rt; read_frame(&PROPOSES), Ok(worked_frame()));
-    assert_eq!(rt; read_frame(&PROPOSES[..UNPADDED]), Ok(worked_frame()));
-}
-
-#[test]
 fn tells_frames_by_their_bpdus(rt: HostRuntime) {
     let frame = worked_frame();
     let mut other = frame;
     assert!(rt; frame.same(&other));
     other.bpdu = None;
     assert!(rt; !frame.same(&other));
-}
-
-#[test]
-fn refuses_a_frame_without_its_last_octet(rt: HostRuntime) {
-    assert_eq!(rt; read_frame(&PROPOSES[..52]), Err(FrameFault::BadBpdu));
 }
 
 // What the worked frame without its padding and with another octet at one place is read as.
@@ -94,46 +83,43 @@ fn changed(place: usize, octet: u8) -> Result<FrameIn, FrameFault> {
     }
 }
 
+// Another length, type or version is refused, and a later version read.
 #[test]
-fn refuses_another_length_type_or_version(rt: HostRuntime) {
-    for (place, octet) in [
-        (13, 0x26),
-        (20, 0x01),
-        (19, 0x01),
-        (14, 0x43),
-        (16, 0x13),
-        (18, 1),
+fn reads_other_heads(rt: HostRuntime) {
+    for (place, octet, read) in [
+        (13, 0x26, Err(FrameFault::BadBpdu)),
+        (20, 0x01, Err(FrameFault::BadBpdu)),
+        (19, 0x01, Err(FrameFault::BadBpdu)),
+        (14, 0x43, Err(FrameFault::BadBpdu)),
+        (16, 0x13, Err(FrameFault::BadBpdu)),
+        (18, 1, Err(FrameFault::BadBpdu)),
+        (19, 0x03, Ok(worked_frame())),
+        (52, 0xFF, Ok(worked_frame())),
     ] {
-        assert_eq!(rt;
-            changed(place, octet),
-            Err(FrameFault::BadBpdu),
-            "octet {place}"
-        );
+        assert_eq!(rt; changed(place, octet), read, "octet {place}");
     }
 }
 
+// Of a frame that is no BPDU only the addresses are read.
 #[test]
-fn reads_a_later_version(rt: HostRuntime) {
-    assert_eq!(rt; changed(19, 0x03), Ok(worked_frame()));
-    assert_eq!(rt; changed(52, 0xFF), Ok(worked_frame()));
-}
-
-#[test]
-fn refuses_too_few_and_too_many_octets(rt: HostRuntime) {
-    assert_eq!(rt; read_frame(&[0x02, 0x00]), Err(FrameFault::Short));
-    assert_eq!(rt; read_frame(&PROPOSES[..13]), Err(FrameFault::Short));
-    assert_eq!(rt; read_frame(&[0xFF; 1_519]), Err(FrameFault::TooLong));
-}
-
-#[test]
-fn reads_only_the_addresses_of_another_frame(rt: HostRuntime) {
-    let frame = FrameIn {
+fn reads_frames_of_any_length(rt: HostRuntime) {
+    let other = FrameIn {
         destination: Mac([0xFF; 6]),
         source: Mac([0xFF; 6]),
         bpdu: None,
     };
-    assert_eq!(rt; read_frame(&[0xFF; 14]), Ok(frame));
-    assert_eq!(rt; read_frame(&[0xFF; 1_518]), Ok(frame));
+    for (octets, read) in [
+        (PROPOSES.as_slice(), Ok(worked_frame())),
+        (&PROPOSES[..UNPADDED], Ok(worked_frame())),
+        (&PROPOSES[..52], Err(FrameFault::BadBpdu)),
+        (&PROPOSES[..13], Err(FrameFault::Short)),
+        (&[0x02, 0x00], Err(FrameFault::Short)),
+        (&[0xFF; 14], Ok(other)),
+        (&[0xFF; 1_518], Ok(other)),
+        (&[0xFF; 1_519], Err(FrameFault::TooLong)),
+    ] {
+        assert_eq!(rt; read_frame(octets), read, "{octets:?}");
+    }
 }
 
 #[test]

@@ -6,7 +6,7 @@ use Rattle.setphase_core.specs.declared.world.World.{World}
 use Rattle.setphase_core.specs.Objects.{ObjectRow, ObjectState}
 use Rattle.setphase_core.specs.Registry.{rows_of}
 use Rattle.history_core.specs.Steps.{Notes, Step, step_of, MayNote, AreAtRest}
-use Rattle.history_core.specs.History.{History, undos_in, notes_of, resting, step_at, EventMet, event_met, events_met, replay, IsEntry, IsLegal, next_of, IsHistory, fresh, rebased, next_step, next_entry, with_entry, after, last_number}
+use Rattle.history_core.specs.History.{History, undos_in, notes_of, resting, step_at, EventMet, event_met, events_met, replay, IsEntry, IsLegal, next_of, IsHistory, fresh, history_at_new_base, next_step, next_entry, with_entry, after, last_number}
 use Rattle.history_core.specs.Keeping.{Enters}
 use Rattle.history_core.specs.declared.entry.Entry.{Entry}
 use Rattle.history_core.specs.declared.event.Event.{Event}
@@ -79,10 +79,10 @@ with_entry-ok h e n m legal world_is rest room blocks fits =
     }
 
 after-ok_by : (h : History) (e : Event) (n : Notes) (b : Bool) → (length h.entries == MAX_ENTRIES) ≡ b → IsHistory h
-    → MayBe h e n → next_of h < last_number → IsHistory (with_entry (if b then rebased h else h) e n)
+    → MayBe h e n → next_of h < last_number → IsHistory (with_entry (if b then history_at_new_base h else h) e n)
 after-ok_by h e n true is ok m fits =
     let full : length h.entries ≡ MAX_ENTRIES = grind (arith, nat_tests) in
-    with_entry-ok (rebased h) e n (record { may = m.may; undos = m.undos }) tt refl ok.at_rest (omega arith)
+    with_entry-ok (history_at_new_base h) e n (record { may = m.may; undos = m.undos }) tt refl ok.at_rest (omega arith)
     (ok.blocks.0 + 1, omega (arith, ok.blocks.1, full)) (omega (arith, fits))
 after-ok_by h e n false is ok m fits =
     let other : length h.entries ≢ MAX_ENTRIES = grind (arith, nat_tests) in
@@ -123,7 +123,7 @@ entered-is_by : (h : History) (e : Event) (n : Notes) (b : Bool) (new : Option W
     → Enters new (next_of h) h.entries h.base h.base_number entry entries base base_number
     → entry ≡ next_entry h e n
     → entered h e n entries base base_number (next_step h e n).world (next_step h e n).objects
-    ≡ with_entry (if b then rebased h else h) e n
+    ≡ with_entry (if b then history_at_new_base h else h) e n
 entered-is_by h e n true None entry entries base base_number is moves en = cc
 entered-is_by h e n true (Some new) entry entries base base_number is moves en =
     let same : new ≡ h.world = cc in

@@ -106,12 +106,12 @@ fresh objects w n = record {
 }
 
 -- the history with its base moved to the present world
-abbrev pub rebased : History → History
-rebased h = record h { base_number = next_of h; base = h.world; entries = [] }
+abbrev pub history_at_new_base : History → History
+history_at_new_base h = record h { base_number = next_of h; base = h.world; entries = [] }
 
--- The base moves where the history is full.
-abbrev pub moved : History → History
-moved h = if length h.entries == MAX_ENTRIES then rebased h else h
+-- The history that an event is entered into: its base moves where it is full.
+abbrev pub history_before_entry : History → History
+history_before_entry h = if length h.entries == MAX_ENTRIES then history_at_new_base h else h
 
 -- the step of an event at the present world, which met this
 abbrev pub next_step : History → Event → Notes → Step
@@ -138,7 +138,7 @@ with_entry h e notes = record h {
 
 -- the history after an event
 abbrev pub after : History → Event → Notes → History
-after h e notes = with_entry (moved h) e notes
+after h e notes = with_entry (history_before_entry h) e notes
 
 -- the receipt of an event
 abbrev pub next_receipt : History → Event → Notes → Receipt

@@ -1,9 +1,10 @@
 //! What is kept of a history: its base, its entries, and the world as it is.
-ghost use Rattle.std.specs.Prelude.{◌≡◌, ◌≤◌, ◌<◌, None, Ok, length, IfOk, IfErr, vec_capacity, ◌⊎◌, OnErr, IsErr};
+ghost use Rattle.std.specs.Prelude.{◌≡◌, ◌<◌, None, Ok, length, IfOk, IfErr, ◌⊎◌, OnErr, IsErr};
 ghost use Rattle.history_core.specs.Keeping.{due_base, world_in, entry_of, receipt_of, Enters, applied_by};
 
 use crate::applied::Applied;
 use crate::comparing::{Mismatch, Tally, compare};
+use crate::entries::Entries;
 use crate::entry::Entry;
 use crate::event::{Event, ReceiptEvent};
 use crate::happening::{Happened, cause_in, happen, put_failure, quiet};
@@ -23,7 +24,7 @@ pub struct Kept<O: MibObject> {
     base_number: u64,
     // Boxed, so that an event at which the base does not move moves no room for one.
     base: Box<FlatWorld>,
-    entries: Vec<Entry>,
+    entries: Entries,
     world: World,
     registry: Registry<O>,
 }
@@ -43,8 +44,6 @@ impl<O: MibObject> Drop for Kept<O> {
 }
 
 impl<O: MibObject> Model for Kept<O> {
-    ghost use Rattle.std.specs.Prelude.{◌≤◌, vec_capacity};
-    ghost use Rattle.history_core.specs.declared.limits.TheConstants.{MAX_ENTRIES};
     ghost use Rattle.history_core.specs.History.{History, IsHistory};
 
     ghost Value = { History };
@@ -53,7 +52,7 @@ impl<O: MibObject> Model for Kept<O> {
       first = k.first;
       base_number = k.base_number;
       base = k.base.value;
-      entries = k.entries.items;
+      entries = k.entries;
       world = k.world;
       objects = k.registry;
     } };
@@ -62,10 +61,10 @@ impl<O: MibObject> Model for Kept<O> {
       first = k.first;
       base_number = k.base_number;
       base = k.base.value;
-      entries = k.entries.items;
+      entries = k.entries;
       world = k.world;
       objects = k.registry;
-    }) × (MAX_ENTRIES ≤ vec_capacity k.entries) };
+    }) };
 }
 
 // What is ready before an event happens.
@@ -88,7 +87,7 @@ impl<O: MibObject> Kept<O> {
     /// # Errors
     ///
     /// `AllocError` where there is no memory for a flat copy of the world, or for the room of
-    /// [`MAX_ENTRIES`] entries; the objects and the world come back.
+    /// [`MAX_ENTRIES`] entries, twice; the objects and the world come back.
     pub fn new(
         alloc: Global,
         registry: Registry<O>,
@@ -117,7 +116,7 @@ impl<O: MibObject> Kept<O> {
         let Ok(base) = flat_copy(alloc, &world) else {
             return Err((AllocError, registry, world));
         };
-        let Ok(entries) = Vec::with_capacity(alloc, MAX_ENTRIES) else {
+        let Ok(entries) = Entries::reserved(alloc) else {
             return Err((AllocError, registry, world));
         };
         registry.release();
@@ -337,25 +336,23 @@ fn made_of(number: u64, event: Event, told: ReceiptEvent, happened: Happened) ->
 
 // Enters an entry: where there is a new base, it takes the place of the old one and all entries.
 fn enter(
-    entries: &mut Vec<Entry>,
+    entries: &mut Entries,
     base: &mut Box<FlatWorld>,
     base_number: &mut u64,
     new: Option<Box<FlatWorld>>,
     number: u64,
     entry: Entry,
 )
-    requires room { world_in new ≡ None → length entries.old.items < MAX_ENTRIES }
-    requires reserved { MAX_ENTRIES ≤ vec_capacity entries.old }
-    ensures entered { Enters (world_in new) number entries.old.items base.old.value base_number.old
-        entry entries.new.items base.new.value base_number.new }
-    ensures capacity { vec_capacity entries.new ≡ vec_capacity entries.old }
+    requires { world_in new ≡ None → length entries.old < MAX_ENTRIES }
+    ensures { Enters (world_in new) number entries.old base.old.value base_number.old
+        entry entries.new base.new.value base_number.new }
 {
     if let Some(new) = new {
         *base = new;
         *base_number = number;
         entries.clear();
     }
-    entries.push_reserved(entry);
+    entries.push(entry);
 }
 
 // What is told of an event that was entered.

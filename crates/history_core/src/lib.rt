@@ -25,7 +25,8 @@
 //!
 //! The base moves only where [`MAX_ENTRIES`] are kept, to the world before the event. A request is
 //! told to be dropped exactly where its policy drops it. Where memory was wanting any other request
-//! is answered by genErr; where no number is left there is no reply.
+//! is answered by genErr, or by tooBig where that is too long; where no number is left there is no
+//! reply.
 //!
 //! # Not claimed
 //! That memory was refused where want of it is told, or that there is some; which calls a device
@@ -35,6 +36,7 @@
 mod applied;
 mod comparing;
 mod egress;
+mod entries;
 mod entry;
 mod event;
 mod happening;
@@ -42,8 +44,6 @@ mod kept;
 pub mod laws;
 mod limits;
 mod receipt;
-#[cfg(test)]
-mod tests;
 
 pub use applied::Applied;
 pub use comparing::{Mismatch, Tally, compare};

@@ -39,27 +39,19 @@ fn after<O: MibObject>(
 }
 
 #[test]
-fn keeps_4096_entries(rt: HostRuntime) -> Result<(), Fail> {
-    let all = objects(rt.alloc(), Planned::new())?;
-    let tally = Tally {
-        stood: 4096,
-        older: 0,
-    };
-    assert_eq!(rt; after(rt.alloc(), all, MAX_ENTRIES)?, (0, Some(tally)));
-    Ok(())
-}
-
-#[test]
-fn moves_the_base_with_the_next(rt: HostRuntime) -> Result<(), Fail> {
-    let all = objects(rt.alloc(), Planned::new())?;
-    let tally = Tally {
-        stood: 1,
-        older: 4096,
-    };
-    assert_eq!(rt;
-        after(rt.alloc(), all, MAX_ENTRIES + 1)?,
-        (4096, Some(tally))
-    );
+fn moves_the_base_behind_4096_entries(rt: HostRuntime) -> Result<(), Fail> {
+    for (count, base, stood, older) in [
+        (MAX_ENTRIES, 0, 4096, 0),
+        (MAX_ENTRIES + 1, 4096, 1, 4096),
+    ] {
+        let all = objects(rt.alloc(), Planned::new())?;
+        let tally = Tally { stood, older };
+        assert_eq!(rt;
+            after(rt.alloc(), all, count)?,
+            (base, Some(tally)),
+            "{count}"
+        );
+    }
     Ok(())
 }
 
@@ -84,15 +76,14 @@ fn entered_from<O: MibObject>(alloc: Global, objects: Vec<O>, first: u64) -> Res
 }
 
 #[test]
-fn ends_before_the_greatest_number(rt: HostRuntime) -> Result<(), Fail> {
-    let all = objects(rt.alloc(), Planned::new())?;
-    assert_eq!(rt; entered_from(rt.alloc(), all, u64::MAX - 1)?, 1);
-    Ok(())
-}
-
-#[test]
 fn is_full_at_the_greatest_number(rt: HostRuntime) -> Result<(), Fail> {
-    let all = objects(rt.alloc(), Planned::new())?;
-    assert_eq!(rt; entered_from(rt.alloc(), all, u64::MAX)?, 0);
+    for (first, entries) in [(u64::MAX - 1, 1), (u64::MAX, 0)] {
+        let all = objects(rt.alloc(), Planned::new())?;
+        assert_eq!(rt;
+            entered_from(rt.alloc(), all, first)?,
+            entries,
+            "from {first}"
+        );
+    }
     Ok(())
 }

@@ -52,18 +52,13 @@ fn compared<O: MibObject>(
 }
 
 #[test]
-fn compares_three_receipts(rt: HostRuntime) -> Result<(), Fail> {
-    let all = objects(rt.alloc(), Planned::new())?;
-    let tally = compared(rt.alloc(), all, 3, false)?;
-    assert_eq!(rt; tally, Ok(Tally { stood: 3, older: 0 }));
-    Ok(())
-}
-
-// The receipts 0, 1 and 1 do not rise.
-#[test]
-fn finds_a_receipt_that_comes_twice(rt: HostRuntime) -> Result<(), Fail> {
-    let all = objects(rt.alloc(), Planned::new())?;
-    let mismatch = compared(rt.alloc(), all, 2, true)?;
-    assert_eq!(rt; mismatch, Err(Mismatch(1)));
+fn compares_receipts_with_their_history(rt: HostRuntime) -> Result<(), Fail> {
+    for (what, count, again, tally) in [
+        ("three", 3, false, Ok(Tally { stood: 3, older: 0 })),
+        ("0, 1 and 1 do not rise", 2, true, Err(Mismatch(1))),
+    ] {
+        let all = objects(rt.alloc(), Planned::new())?;
+        assert_eq!(rt; compared(rt.alloc(), all, count, again)?, tally, "{what}");
+    }
     Ok(())
 }

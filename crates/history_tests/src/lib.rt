@@ -1,4 +1,5 @@
-//! Tests of histories of the built-in world: numbers, receipts, replies, and the move of the base.
+//! Tests of histories of the built-in world: numbers, receipts, replies, and the move of the base;
+//! and of receipts by themselves: their copies, and how they compare with entries.
 //!
 //! # Entry points
 //! None: the tests call what `history_core` offers.
@@ -17,5 +18,7 @@
 mod base;
 #[cfg(test)]
 mod entries;
+#[cfg(test)]
+mod receipts;
 #[cfg(test)]
 mod support;

@@ -6,7 +6,7 @@ use Rattle.wire_core.specs.Acts.{Act}
 use Rattle.history_core.specs.declared.applied.Applied.{Applied}
 use Rattle.history_core.specs.declared.applied.Applied.TheVariants.{Done, Dropped, Short, HistoryFull}
 use Rattle.wire_core.specs.declared.wire.WireFault.{WireFault}
-use Rattle.live_lock.specs.Sharing.{entered}
+use Rattle.live_lock.specs.Sharing.{entry_count}
 use Rattle.live_agent.specs.declared.trace.End.{End}
 use Rattle.live_agent.specs.declared.trace.End.TheVariants as end
 use Rattle.live_agent.specs.declared.trace.Item.{Item}
@@ -34,7 +34,7 @@ entered_in-append (item.Short ∷ xs) ys = entered_in-append xs ys
 entered_in-append (item.Full ∷ xs) ys = entered_in-append xs ys
 
 -- what an event left in the trace counts its entries
-pub entered_one : (a : Applied) → entered_in (item_of a ∷ []) ≡ entered a
+pub entered_one : (a : Applied) → entered_in (item_of a ∷ []) ≡ entry_count a
 entered_one (Done r audit) = omega arith
 entered_one (Dropped r cause audit) = omega arith
 entered_one (Short back) = refl

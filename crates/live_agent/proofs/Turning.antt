@@ -6,7 +6,7 @@ use Rattle.wire_core.specs.declared.wire.WireFault.{WireFault}
 use Rattle.agent_core.specs.Buffered.{Buffered}
 use Rattle.history_core.specs.declared.applied.Applied.{Applied}
 use Rattle.history_core.specs.declared.event.Event.{Event}
-use Rattle.live_lock.specs.Sharing.{entered}
+use Rattle.live_lock.specs.Sharing.{entry_count}
 use Rattle.live_agent.specs.declared.trace.End.{End}
 use Rattle.live_agent.specs.declared.trace.Item.{Item}
 use Rattle.live_agent.specs.Turns.{Happening, Turn, acts_of, items_of, item_of, end_of, entered_in}
@@ -17,7 +17,7 @@ use Rattle.live_agent.proofs.Running.{entered_one}
 abbrev pub happening : Event → Applied → Buffered → (fault : Option WireFault) → List Act → Happening
 happening e applied buffer fault acts = record { event = e; applied = applied; buffer = buffer; acts = acts; fault = fault }
 
-pub amount_is : (amount later : ℕ) (applied : Applied) → later ≡ amount + entered applied → later ≡ amount + entered_in (item_of applied ∷ [])
+pub amount_is : (amount later : ℕ) (applied : Applied) → later ≡ amount + entry_count applied → later ≡ amount + entered_in (item_of applied ∷ [])
 amount_is amount later applied is = is ∙ ap (λ (n : ℕ). amount + n) (sym (entered_one applied))
 
 -- a turn that left nothing in the trace

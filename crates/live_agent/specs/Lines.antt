@@ -17,7 +17,7 @@ use Rattle.history_core.specs.declared.applied.Applied.{Applied}
 use Rattle.history_core.specs.declared.applied.Applied.TheVariants.{Done, Dropped, Short, HistoryFull}
 use Rattle.history_core.specs.declared.event.Event.{Event}
 use Rattle.history_core.specs.declared.event.Event.TheVariants as event
-use Rattle.live_lock.specs.Sharing.{TakesPlace, IsToldOf, entered}
+use Rattle.live_lock.specs.Sharing.{TakesPlace, IsToldOf, entry_count}
 use Rattle.live_agent.specs.declared.plan.Plan.{Plan}
 use Rattle.live_sending.specs.Packets.{reply_packets, frame_packets, bpdu_packets}
 use Rattle.live_sending.specs.Sending.{IsSending}
@@ -131,7 +131,7 @@ pub record HasLinked {W : Type 0} (went : W → List Act → W → Type 0) (s : 
   pub happens : Happens s (event.Link port true) (ports_packets s happening) happening
   pub acts : went a happening.acts b
   pub items_are : later_items ≡ items ++ item_of happening.applied ∷ []
-  pub amount_is : later_amount ≡ amount + entered happening.applied
+  pub amount_is : later_amount ≡ amount + entry_count happening.applied
   pub ends_so : ends ≡ end_after_link happening.applied happening.fault
 
 -- The link went up, and then the rounds of the port ran.

@@ -1,7 +1,7 @@
 //! What the workers' laps came to, under a lock of its own.
 ghost use Rattle.std.specs.Prelude.{◌≡◌, ◌+◌, ◌∷◌, []};
 ghost use Rattle.live_agent.specs.Turns.{entered_in};
-ghost use Rattle.live_run.specs.Reports.{refused_in, counted};
+ghost use Rattle.live_run.specs.Reports.{refused_in, count_up_to_max};
 
 use live_agent::Item;
 use std::sync::{Mutex, Wait};
@@ -27,7 +27,7 @@ fn entered(item: &Item) -> u64
 
 /// How many requests of a trace were entered. The count stops at `u64::MAX`.
 pub fn entered_in(items: &[Item]) -> u64
-    ensures { result ≡ counted (entered_in items.now) }
+    ensures { result ≡ count_up_to_max (entered_in items.now) }
 {
     let mut count: u64 = 0;
     for item in items {
@@ -48,7 +48,7 @@ fn refused(item: &Item) -> u64
 
 /// How many datagrams of a trace were refused. The count stops at `u64::MAX`.
 pub fn refused_in(items: &[Item]) -> u64
-    ensures { result ≡ counted (refused_in items.now) }
+    ensures { result ≡ count_up_to_max (refused_in items.now) }
 {
     let mut count: u64 = 0;
     for item in items {
@@ -60,8 +60,8 @@ pub fn refused_in(items: &[Item]) -> u64
 impl Worked {
     // So many more. A count stops at `u64::MAX`.
     fn add(&mut self, requests: u64, drops: u64)
-        ensures requests { self.new.requests ≡ counted (self.old.requests + requests) }
-        ensures drops { self.new.drops ≡ counted (self.old.drops + drops) }
+        ensures requests { self.new.requests ≡ count_up_to_max (self.old.requests + requests) }
+        ensures drops { self.new.drops ≡ count_up_to_max (self.old.drops + drops) }
     {
         self.requests = self.requests.saturating_add(requests);
         self.drops = self.drops.saturating_add(drops);

@@ -7,17 +7,17 @@ use Rattle.decision.specs.declared.choice.Cause.{Cause}
 use Rattle.setphase_core.specs.declared.world.World.{World}
 use Rattle.agent_core.specs.Buffered.{Buffered}
 use Rattle.history_core.specs.Steps.{Notes, cause_of}
-use Rattle.history_core.specs.History.{History, next_of, rebased, next_entry, with_entry, IsEntered, Applies}
+use Rattle.history_core.specs.History.{History, next_of, history_at_new_base, next_entry, with_entry, IsEntered, Applies}
 use Rattle.history_core.specs.declared.applied.Applied.{Applied}
 use Rattle.history_core.specs.declared.applied.Applied.TheVariants.{Done, Dropped, Short, HistoryFull}
 use Rattle.history_core.specs.declared.event.Event.{Event}
 use Rattle.history_core.specs.declared.event.Event.TheVariants as event
 use Rattle.history_core.specs.declared.limits.TheConstants.{MAX_ENTRIES}
 use Rattle.history_core.specs.declared.receipt.Receipt.{Receipt}
-use Rattle.live_lock.specs.Sharing.{IsHeld, entered, IsDroppable, IsToldOf}
+use Rattle.live_lock.specs.Sharing.{IsHeld, entry_count, IsDroppable, IsToldOf}
 
 after-held_by : (start h : History) (n : ℕ) (e : Event) (notes : Notes) (b : Bool) → (length h.entries == MAX_ENTRIES) ≡ b → IsHeld start h n
-    → IsHeld start (with_entry (if b then rebased h else h) e notes) (n + 1)
+    → IsHeld start (with_entry (if b then history_at_new_base h else h) e notes) (n + 1)
 after-held_by start h n e notes true test held =
     let full : length h.entries ≡ MAX_ENTRIES = grind (arith, nat_tests) in
     let count = held.counted in
@@ -53,7 +53,7 @@ same-held start h later n m held same count =
 
 -- an event, whatever became of it
 pub applied-held : (start h later : History) (n m : ℕ) (e : Event) (a : Applied) (b : Buffered)
-    → IsHeld start h n → Applies h e a later b → m ≡ n + entered a → IsHeld start later m
+    → IsHeld start h n → Applies h e a later b → m ≡ n + entry_count a → IsHeld start later m
 applied-held start h later n m e (Done r audit) b held did count = entered-held start h later n m e r audit b held did.2 count
 applied-held start h later n m e (Dropped r cause audit) b held did count = entered-held start h later n m e r (Some audit) b held did.2 count
 applied-held start h later n m e (Short back) b held did count = same-held start h later n m held did.3 count

@@ -36,11 +36,11 @@ pub record IsHeld (start h : History) (count : ℕ) : Type 0 where
 -- ---- what a thread is told
 
 -- how many entries an event made
-abbrev pub entered : Applied → ℕ
-entered (Done receipt audit) = 1
-entered (Dropped receipt cause audit) = 1
-entered (Short back) = 0
-entered (HistoryFull back) = 0
+abbrev pub entry_count : Applied → ℕ
+entry_count (Done receipt audit) = 1
+entry_count (Dropped receipt cause audit) = 1
+entry_count (Short back) = 0
+entry_count (HistoryFull back) = 0
 
 -- An event took its place: by then the history went on from its start by some entries, it was a
 -- legal one whose objects were at rest, and what became of the event is what that history makes of

@@ -3,7 +3,7 @@ ghost use Rattle.std.specs.Prelude.{◌≡◌, ◌+◌, ◌<◌, IfOk, OnErr};
 ghost use Rattle.history_core.specs.History.{IsHistory};
 ghost use Rattle.history_core.specs.Receipts.{told_of, TakesMemory};
 ghost use Rattle.history_core.specs.Steps.{IsEncodable};
-ghost use Rattle.live_lock.specs.Sharing.{entered, IsHeld, TakesPlace, IsToldOf};
+ghost use Rattle.live_lock.specs.Sharing.{entry_count, IsHeld, TakesPlace, IsToldOf};
 ghost use Rattle.live_lock.specs.Counting.{IsCounted};
 
 use crate::run::Run;
@@ -93,7 +93,7 @@ impl<O: MibObject, L: Run> Held<O, L> {
         requires takes { OnErr told (TakesMemory (told_of event)) }
         ensures place { TakesPlace L.start event result buffer.new }
         ensures told { IsToldOf event result buffer.new }
-        ensures amount { share.new.amount ≡ share.old.amount + entered result }
+        ensures amount { share.new.amount ≡ share.old.amount + entry_count result }
         ensures parts { share.new.parts ≡ share.old.parts }
     {
         let Held { kept, book, .. } = self;
@@ -135,7 +135,7 @@ impl<O: MibObject, L: Run> Held<O, L> {
 
 // How many entries an event made.
 fn entries_of(applied: &Applied) -> u64
-    ensures { result ≡ entered applied.now }
+    ensures { result ≡ entry_count applied.now }
 {
     match applied {
         Applied::Done(..) | Applied::Dropped(..) => 1,

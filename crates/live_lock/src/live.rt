@@ -5,7 +5,7 @@ ghost use Rattle.history_core.specs.History.{IsHistory};
 ghost use Rattle.history_core.specs.Steps.{IsEncodable};
 ghost use Rattle.history_core.specs.declared.event.Event.TheVariants as event;
 ghost use Rattle.live_lock.specs.Counting.{IsCounted};
-ghost use Rattle.live_lock.specs.Sharing.{entered, IsHeld, TakesPlace, IsToldOf};
+ghost use Rattle.live_lock.specs.Sharing.{entry_count, IsHeld, TakesPlace, IsToldOf};
 
 use crate::held::{Counts, Held};
 use crate::run::Run;
@@ -65,7 +65,7 @@ impl<O: MibObject, L: Run> Live<O, L> {
         requires { 0 < share.old.parts }
         ensures place { TakesPlace L.start (event.Frame port frame) result buffer.new }
         ensures told { IsToldOf (event.Frame port frame) result buffer.new }
-        ensures amount { share.new.amount ≡ share.old.amount + entered result }
+        ensures amount { share.new.amount ≡ share.old.amount + entry_count result }
         ensures parts { share.new.parts ≡ share.old.parts }
     {
         self.apply(rt, alloc, share, Event::Frame { port, frame }, buffer)
@@ -82,7 +82,7 @@ impl<O: MibObject, L: Run> Live<O, L> {
         requires { 0 < share.old.parts }
         ensures place { TakesPlace L.start event.Tick result buffer.new }
         ensures told { IsToldOf event.Tick result buffer.new }
-        ensures amount { share.new.amount ≡ share.old.amount + entered result }
+        ensures amount { share.new.amount ≡ share.old.amount + entry_count result }
         ensures parts { share.new.parts ≡ share.old.parts }
     {
         self.apply(rt, alloc, share, Event::Tick, buffer)
@@ -101,7 +101,7 @@ impl<O: MibObject, L: Run> Live<O, L> {
         requires { 0 < share.old.parts }
         ensures place { TakesPlace L.start (event.Link port up) result buffer.new }
         ensures told { IsToldOf (event.Link port up) result buffer.new }
-        ensures amount { share.new.amount ≡ share.old.amount + entered result }
+        ensures amount { share.new.amount ≡ share.old.amount + entry_count result }
         ensures parts { share.new.parts ≡ share.old.parts }
     {
         self.apply(rt, alloc, share, Event::Link { port, up }, buffer)
@@ -119,7 +119,7 @@ impl<O: MibObject, L: Run> Live<O, L> {
         requires { 0 < share.old.parts }
         ensures place { TakesPlace L.start (event.Policy policy) result buffer.new }
         ensures told { IsToldOf (event.Policy policy) result buffer.new }
-        ensures amount { share.new.amount ≡ share.old.amount + entered result }
+        ensures amount { share.new.amount ≡ share.old.amount + entry_count result }
         ensures parts { share.new.parts ≡ share.old.parts }
     {
         self.apply(rt, alloc, share, Event::Policy(policy), buffer)
@@ -140,7 +140,7 @@ impl<O: MibObject, L: Run> Live<O, L> {
         requires encodable { AreEncodable request.bindings }
         ensures place { TakesPlace L.start (event.Request request) result buffer.new }
         ensures told { IsToldOf (event.Request request) result buffer.new }
-        ensures amount { share.new.amount ≡ share.old.amount + entered result }
+        ensures amount { share.new.amount ≡ share.old.amount + entry_count result }
         ensures parts { share.new.parts ≡ share.old.parts }
     {
         self.apply(rt, alloc, share, Event::Request(request), buffer)
@@ -176,7 +176,7 @@ impl<O: MibObject, L: Run> Live<O, L> {
         requires encodable { IsEncodable event }
         ensures place { TakesPlace L.start event result buffer.new }
         ensures told { IsToldOf event result buffer.new }
-        ensures amount { share.new.amount ≡ share.old.amount + entered result }
+        ensures amount { share.new.amount ≡ share.old.amount + entry_count result }
         ensures parts { share.new.parts ≡ share.old.parts }
     {
         let told = event.told(alloc);

@@ -6,7 +6,7 @@ use Rattle.wire_core.specs.declared.wire.WireFault.{WireFault}
 use Rattle.live_agent.specs.declared.trace.Item.{Item}
 use Rattle.live_agent.specs.declared.trace.Item.TheVariants as item
 use Rattle.live_agent.specs.declared.trace.Ran.{Ran}
-use Rattle.live_run.specs.Reports.{refused_in, refused_by, counted, fault_at, first_of, first_fault}
+use Rattle.live_run.specs.Reports.{refused_in, refused_by, count_up_to_max, fault_at, first_of, first_fault}
 
 pub refused_in-append : (xs ys : List Item) → refused_in (xs ++ ys) ≡ refused_in xs + refused_in ys
 refused_in-append [] ys = omega arith
@@ -20,11 +20,11 @@ refused_by-snoc [] r = omega arith
 refused_by-snoc (x ∷ rs) r = omega (arith, refused_by-snoc rs r)
 
 -- a count that has stopped stays
-pub counted-more : (count n m later : ℕ) → count ≡ counted n → later ≡ min (count + m) 18446744073709551615 → later ≡ counted (n + m)
-counted-more count n m later is next = omega (arith, ints, clamps, is, next)
+pub count_up_to_max-more : (count n m later : ℕ) → count ≡ count_up_to_max n → later ≡ min (count + m) 18446744073709551615 → later ≡ count_up_to_max (n + m)
+count_up_to_max-more count n m later is next = omega (arith, ints, clamps, is, next)
 
-pub counted-twice : (count n m k later : ℕ) → count ≡ counted n → k ≡ counted m → later ≡ min (count + k) 18446744073709551615 → later ≡ counted (n + m)
-counted-twice count n m k later is one next = omega (arith, ints, clamps, is, one, next)
+pub count_up_to_max-twice : (count n m k later : ℕ) → count ≡ count_up_to_max n → k ≡ count_up_to_max m → later ≡ min (count + k) 18446744073709551615 → later ≡ count_up_to_max (n + m)
+count_up_to_max-twice count n m k later is one next = omega (arith, ints, clamps, is, one, next)
 
 pub first_of-none : (o : Option WireFault) → first_of o None ≡ o
 first_of-none (Some c) = refl

@@ -46,8 +46,8 @@ refused_by [] = 0
 refused_by (ran ∷ rans) = refused_in ran.trace + refused_by rans
 
 -- a count that stops at the largest number of 64 bits
-abbrev pub counted : ℕ → ℕ
-counted n = min n 18446744073709551615
+abbrev pub count_up_to_max : ℕ → ℕ
+count_up_to_max n = min n 18446744073709551615
 
 -- the numbers of a trace rise
 abbrev pub RisesIn : Ran → Type 0
@@ -101,7 +101,7 @@ pub record IsReport (h : History) (runs : Runs) (report : Report) : Type 0 where
   pub entries_are : report.entries ≡ entered_of runs
   pub requests_are : report.requests ≡ entered_by runs.workers.items
   pub older_are : report.older ≡ count_older h.base_number sorted
-  pub drops_are : report.drops ≡ counted (refused_by runs.workers.items)
+  pub drops_are : report.drops ≡ count_up_to_max (refused_by runs.workers.items)
 
 -- The receipts, sorted, do not agree with the history, and this is the first number at which.
 pub record Disagrees (h : History) (receipts : List Receipt) (number : ℕ) : Type 0 where

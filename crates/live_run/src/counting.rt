@@ -1,7 +1,7 @@
 //! What is counted of the traces of a run, and what is looked at in them.
 ghost use Rattle.std.specs.Prelude.{◌≡◌, ◌↔◌, ◌≤◌, ◌∷◌, [], All, IsTrue, MatchOption};
 ghost use Rattle.history_core.specs.Comparing.{Rises, least_after};
-ghost use Rattle.live_run.specs.Reports.{receipts_of, refused_in, refused_by, counted, fault_at, first_fault, fault_of, HadMemory, RisesIn, EachRan, FallsAt, FirstFalls, FallsIn, IsFaultOf, IsSound};
+ghost use Rattle.live_run.specs.Reports.{receipts_of, refused_in, refused_by, count_up_to_max, fault_at, first_fault, fault_of, HadMemory, RisesIn, EachRan, FallsAt, FirstFalls, FallsIn, IsFaultOf, IsSound};
 
 use crate::lines::Runs;
 use crate::report::RunFault;
@@ -20,7 +20,7 @@ fn refused(item: &Item) -> u64
 
 // How many datagrams of a trace were refused.
 fn refused_in(items: &[Item]) -> u64
-    ensures { result ≡ counted (refused_in items.now) }
+    ensures { result ≡ count_up_to_max (refused_in items.now) }
 {
     let mut count: u64 = 0;
     for item in items {
@@ -31,7 +31,7 @@ fn refused_in(items: &[Item]) -> u64
 
 /// How many datagrams these lines refused. The count stops at `u64::MAX`.
 pub fn refused_by(runs: &[Ran]) -> u64
-    ensures { result ≡ counted (refused_by runs.now) }
+    ensures { result ≡ count_up_to_max (refused_by runs.now) }
 {
     let mut count: u64 = 0;
     for ran in runs {

@@ -1,7 +1,7 @@
 //! What a run is judged by: its receipts beside the history, and how its lines ended.
 ghost use Rattle.std.specs.Prelude.{◌≡◌, IfOk, IfSome, MatchResult};
 ghost use Rattle.live_run.specs.Crews.{entered_by};
-ghost use Rattle.live_run.specs.Reports.{all_receipts, counted, refused_by, Disagrees, IsReport, IsRunFault};
+ghost use Rattle.live_run.specs.Reports.{all_receipts, count_up_to_max, refused_by, Disagrees, IsReport, IsRunFault};
 ghost use Rattle.live_run.specs.Agreeing.{IsAgreement};
 
 use crate::collecting::{add_receipts, add_trace};
@@ -78,7 +78,7 @@ fn report_of(agreement: Agreement, runs: Runs) -> Report
     ensures entries { result.entries ≡ agreement.entries }
     ensures requests { result.requests ≡ agreement.requests }
     ensures older { result.older ≡ agreement.older }
-    ensures drops { result.drops ≡ counted (refused_by runs.workers.items) }
+    ensures drops { result.drops ≡ count_up_to_max (refused_by runs.workers.items) }
     ensures runs { result.runs ≡ runs }
 {
     let drops = refused_by(runs.workers.as_slice());

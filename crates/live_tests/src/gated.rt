@@ -1,10 +1,10 @@
 //! Two workers at the same time, of which a gate holds one until the other's call is answered.
-use crate::support::{MANAGER, asking, is_sent, lines_of, of_edges, peer, plan_of};
+use crate::support::{MANAGER, asking, count_of, lines_of, of_edges, peer, run};
 use fixtures::message::Held::{Integer, Null};
-use fixtures::message::{Message, get, octets_of, of, reply, set};
+use fixtures::message::{get, octets_of, of, reply, set};
 use fixtures::names::PRIORITY;
-use live_agent::{Gate, OpenGate};
-use live_run::{Lines, serve_run};
+use live_agent::Gate;
+use live_run::Lines;
 use std::alloc::Global;
 use std::sync::{Mutex, Wait};
 use std::test::Fail;
@@ -55,105 +55,46 @@ impl<C: Clock> Gate for HoldGate<C> {
 
 // Worker 0, which sets the priority, and worker 1, which asks for it.
 fn two_workers(alloc: Global) -> Result<Lines<MemoryWire, CountPace>, Fail> {
-    let mut workers = Vec::new(alloc);
-    workers.push(asking(alloc, &[of("admin", set(&[(PRIORITY, Integer(8192))]))])?)?;
-    workers.push(asking(alloc, &[of("admin", get(&[(PRIORITY, Null)]))])?)?;
+    let setter = asking(alloc, &[of("admin", set(&[(PRIORITY, Integer(8192))]))])?;
+    let getter = asking(alloc, &[of("admin", get(&[(PRIORITY, Null)]))])?;
+    let workers = Vec::from_array(alloc, [setter, getter])?;
     lines_of(alloc, workers, MemoryWire::new(alloc), 0)
 }
 
-// Whether the worker of this number answered its one call so.
-fn is_told(
-    alloc: Global,
-    lines: &Lines<MemoryWire, CountPace>,
-    worker: usize,
-    awaited: &Message<'_>,
-) -> Result<bool, Fail> {
-    let octets = octets_of(alloc, awaited)?;
-    match lines.workers.get(worker) {
-        Some(wire) => Ok(is_sent(wire.sent(), peer(MANAGER), &octets)),
-        None => Ok(false),
-    }
-}
-
-// What a run of lines leaves under a gate: the lines, and how many entries there are.
-fn gated<G: Gate + Sync, R: Threads + Wait + Sync>(
-    rt: &R,
-    alloc: Global,
-    gate: &G,
-    lines: Lines<MemoryWire, CountPace>,
-) -> Result<(Lines<MemoryWire, CountPace>, u64), Fail> {
-    let plan = plan_of(alloc, 10)?;
-    if lines.workers.len() > 8 || lines.ports.len() > 2 {
-        return Err(Fail::from("few lines"));
-    }
-    let (lines, _, report) = serve_run(rt, &plan, gate, of_edges(alloc)?, lines);
-    match report {
-        Ok(report) => Ok((lines, report.entries)),
-        Err(_) => Err(Fail::from("a report")),
-    }
-}
-
-// Whether the worker that asks is told this value while a gate holds the other, or itself.
+// How many replies the worker that asks sends while a gate holds the other, or itself, how many of
+// them tell this value, and how many entries there are.
 fn reads<C: Clock + Sync + Drop, R: Threads + Wait + Sync>(
     rt: &R,
     alloc: Global,
     clock: C,
     held: usize,
     value: i32,
-) -> Result<bool, Fail> {
+) -> Result<(usize, usize, u64), Fail> {
     let gate = HoldGate {
         held,
         answered: Mutex::new(0),
         clock,
     };
-    let (lines, entries) = gated(rt, alloc, &gate, two_workers(alloc)?)?;
-    let values = [(PRIORITY, Integer(value))];
-    let awaited = of("admin", reply(&values));
-    Ok(entries == 4 && is_told(alloc, &lines, 1, &awaited)?)
+    let lines = two_workers(alloc)?;
+    let (lines, _, report) = run(rt, alloc, 10, &gate, of_edges(alloc)?, lines)?;
+    let entries = report.ok().ok_or("a report")?.entries;
+    let octets = octets_of(alloc, &of("admin", reply(&[(PRIORITY, Integer(value))])))?;
+    let asking = lines.workers.get(1).ok_or("a worker")?;
+    let told = count_of(asking.sent(), peer(MANAGER), &octets);
+    Ok((asking.sent().len(), told, entries))
 }
 
 #[test]
-fn a_held_get_reads_what_was_set(rt: HostRuntime) -> Result<(), Fail> {
-    assert!(rt; reads(&rt, rt.alloc(), &rt, 1, 8192)?);
-    Ok(())
-}
-
-#[test]
-fn a_get_is_answered_while_a_set_is_held(rt: HostRuntime) -> Result<(), Fail> {
-    assert!(rt; reads(&rt, rt.alloc(), &rt, 0, 32768)?);
-    Ok(())
-}
-
-// A worker with a Set and a Get behind it.
-fn set_then_get(alloc: Global) -> Result<Lines<MemoryWire, CountPace>, Fail> {
-    let mut workers = Vec::new(alloc);
-    workers.push(asking(
-        alloc,
-        &[
-            of("admin", set(&[(PRIORITY, Integer(8192))])),
-            of("admin", get(&[(PRIORITY, Null)])),
-        ],
-    )?)?;
-    lines_of(alloc, workers, MemoryWire::new(alloc), 3)
-}
-
-// Whether a worker's Get reads what its Set was answered with, beside two ports and three seconds.
-fn reads_its_own<R: Threads + Wait + Sync>(rt: &R, alloc: Global) -> Result<bool, Fail> {
-    let (lines, entries) = gated(rt, alloc, &OpenGate, set_then_get(alloc)?)?;
-    let octets = octets_of(alloc, &of("admin", reply(&[(PRIORITY, Integer(8192))])))?;
-    let told = match lines.workers.first() {
-        Some(wire) => wire
-            .sent()
-            .iter()
-            .filter(|packet| packet.octets.as_slice() == octets.as_slice())
-            .count(),
-        None => 0,
-    };
-    Ok(entries == 7 && told == 2)
-}
-
-#[test]
-fn a_get_reads_what_its_worker_set(rt: HostRuntime) -> Result<(), Fail> {
-    assert!(rt; reads_its_own(&rt, rt.alloc())?);
+fn a_get_is_answered_beside_a_set(rt: HostRuntime) -> Result<(), Fail> {
+    for (what, held, value) in [
+        ("a held Get reads what was set", 1, 8192),
+        ("a Get does not wait for a held Set", 0, 32768),
+    ] {
+        assert_eq!(rt;
+            reads(&rt, rt.alloc(), &rt, held, value)?,
+            (1, 1, 4),
+            "{what}"
+        );
+    }
     Ok(())
 }

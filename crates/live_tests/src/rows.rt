@@ -1,15 +1,15 @@
 //! Whole runs over wires in memory.
 use crate::support::{
-    FLOODED, MANAGER, PEER_OF_PORT_2, Shown, asking, carrying, is_sent, lines_of, of_edges,
-    of_fast_hello, one, peer, plan_of, policed,
+    FLOODED, MANAGER, PEER_OF_PORT_2, Shown, asking, carrying, count_of, lines_of, of_edges,
+    of_fast_hello, peer, policed, run,
 };
 use fixtures::message::Held::{Integer, NoObject, Null};
-use fixtures::message::{get, octets_of, of, reply, set};
+use fixtures::message::{Message, Pdu, octets_of};
 use fixtures::names::{HELLO, PRIORITY};
 use fixtures::policies::MASKED;
 use history_core::Kept;
 use live_agent::OpenGate;
-use live_run::{Lines, Report, RunFault, serve_run};
+use live_run::{Lines, Report};
 use std::alloc::Global;
 use std::sync::Wait;
 use std::test::Fail;
@@ -19,106 +19,174 @@ use wire_core::{CountPace, MemoryWire};
 // dot1dStpPortState of port 2.
 const STATE_OF_2: &str = "1.3.6.1.2.1.17.2.15.1.3.2";
 
-// What a run of these lines leaves.
-fn run<R: Threads + Wait + Sync>(
+type Wires = Lines<MemoryWire, CountPace>;
+
+// What a run of one worker and a wire for port 1 leaves, and its report.
+fn ran<R: Threads + Wait + Sync>(
     rt: &R,
     alloc: Global,
     history: Kept<Shown>,
-    lines: Lines<MemoryWire, CountPace>,
-) -> Result<(Lines<MemoryWire, CountPace>, Kept<Shown>, Report), Fail> {
-    let plan = plan_of(alloc, 5000)?;
-    if lines.workers.len() > 8 || lines.ports.len() > 2 {
-        return Err(Fail::from("few lines"));
+    wires: (MemoryWire, MemoryWire),
+    seconds: u64,
+) -> Result<(Wires, Kept<Shown>, Report), Fail> {
+    let (worker, port) = wires;
+    let lines = lines_of(alloc, Vec::from_array(alloc, [worker])?, port, seconds)?;
+    let (lines, history, report) = run(rt, alloc, 5000, &OpenGate, history, lines)?;
+    Ok((lines, history, report.ok().ok_or("a report")?))
+}
+
+// A bridge of two ports: of a view that hides, of edges, or with a hello time of one second.
+#[derive(Clone, Copy)]
+enum World {
+    Masked,
+    Edges,
+    FastHello,
+}
+
+fn history_of(alloc: Global, world: World) -> Result<Kept<Shown>, Fail> {
+    match world {
+        World::Masked => policed(alloc, MASKED),
+        World::Edges => of_edges(alloc),
+        World::FastHello => of_fast_hello(alloc),
     }
-    let (lines, history, report) = serve_run(rt, &plan, &OpenGate, history, lines);
-    match report {
-        Ok(report) => Ok((lines, history, report)),
-        Err(_) => Err(Fail::from("a report")),
-    }
 }
 
-// Whether the first worker sent one reply, with these octets.
-fn is_answered(lines: &Lines<MemoryWire, CountPace>, octets: &[u8]) -> bool {
-    match lines.workers.first() {
-        Some(wire) => is_sent(wire.sent(), peer(MANAGER), octets),
-        None => false,
-    }
+// A worker of a bridge is asked messages, the last of them some times again, while so many seconds
+// go by.
+#[derive(Clone, Copy)]
+struct Case<'a> {
+    what: &'a str,
+    world: World,
+    messages: &'a [Message<'a>],
+    again: usize,
+    seconds: u64,
+    // What some of its replies tell; how many packets it sends, and how many of them tell that. Where
+    // it sets the priority, it sends the BPDU of each port too.
+    told: Message<'a>,
+    replies: [usize; 2],
+    // How many entries and requests there are, the base number, and how many receipts are older.
+    counts: [u64; 4],
 }
 
-// Whether a Get of the state of port 2, which the view hides, is told so.
-fn hides<R: Threads + Wait + Sync>(rt: &R, alloc: Global) -> Result<bool, Fail> {
-    let workers = one(alloc, asking(alloc, &[get(&[(STATE_OF_2, Null)])])?)?;
-    let lines = lines_of(alloc, workers, MemoryWire::new(alloc), 0)?;
-    let (lines, _, report) = run(rt, alloc, policed(alloc, MASKED)?, lines)?;
-    let awaited = octets_of(alloc, &reply(&[(STATE_OF_2, NoObject)]))?;
-    Ok(is_answered(&lines, &awaited) && report.entries == 3 && report.requests == 1)
-}
-
-#[test]
-fn a_run_hides_what_the_view_hides(rt: HostRuntime) -> Result<(), Fail> {
-    assert!(rt; hides(&rt, rt.alloc())?);
-    Ok(())
-}
-
-// Whether a frame at port 1 goes out by port 2's peer, over port 1's wire.
-fn forwards<R: Threads + Wait + Sync>(rt: &R, alloc: Global) -> Result<bool, Fail> {
-    let workers = one(alloc, MemoryWire::new(alloc))?;
-    let lines = lines_of(alloc, workers, carrying(alloc, &FLOODED)?, 0)?;
-    let (lines, _, report) = run(rt, alloc, of_edges(alloc)?, lines)?;
-    let forwarded = match lines.ports.first() {
-        Some(wire) => is_sent(wire.sent(), peer(PEER_OF_PORT_2), &FLOODED),
-        None => false,
-    };
-    Ok(forwarded && report.entries == 3)
-}
-
-#[test]
-fn a_run_forwards_a_frame(rt: HostRuntime) -> Result<(), Fail> {
-    assert!(rt; forwards(&rt, rt.alloc())?);
-    Ok(())
-}
-
-// Two values that a worker is asked for many times: the priority, and the hello time.
-const ASKED: [(&str, fixtures::message::Held<'static>); 2] = [(PRIORITY, Null), (HELLO, Null)];
-
-// One Set of the priority, and then so many Gets.
-fn set_and_gets(alloc: Global, gets: usize) -> Result<MemoryWire, Fail> {
-    let mut wire = asking(alloc, &[of("admin", set(&[(PRIORITY, Integer(8192))]))])?;
-    let octets = octets_of(alloc, &of("admin", get(&ASKED)))?;
-    for _ in 0..gets {
-        wire.give_datagram(peer(MANAGER), &octets)?;
+// A worker that is asked so.
+fn worker_of(alloc: Global, case: &Case) -> Result<MemoryWire, Fail> {
+    let mut wire = asking(alloc, case.messages)?;
+    if let Some(last) = case.messages.last() {
+        let octets = octets_of(alloc, last)?;
+        for _ in 0..case.again {
+            wire.give_datagram(peer(MANAGER), &octets)?;
+        }
     }
     Ok(wire)
 }
 
-// How many replies of a wire have these octets.
-fn count_of(wire: &MemoryWire, octets: &[u8]) -> usize {
-    wire.sent()
-        .iter()
-        .filter(|packet| packet.octets.as_slice() == octets)
-        .count()
-}
-
-// A run of a Set and 4,200 Gets: how many Gets read what was set, how many entries there are, the
-// base number, and how many receipts are older.
-fn long_run<R: Threads + Wait + Sync>(
+// The replies and the counts of a run.
+fn answers<R: Threads + Wait + Sync>(
     rt: &R,
     alloc: Global,
-) -> Result<(usize, u64, u64, u64), Fail> {
-    let workers = one(alloc, set_and_gets(alloc, 4200)?)?;
-    let lines = lines_of(alloc, workers, MemoryWire::new(alloc), 0)?;
-    let (lines, history, report) = run(rt, alloc, of_fast_hello(alloc)?, lines)?;
-    let values = [(PRIORITY, Integer(8192)), (HELLO, Integer(100))];
-    let awaited = octets_of(alloc, &of("admin", reply(&values)))?;
-    let read = match lines.workers.first() {
-        Some(wire) => count_of(wire, &awaited),
-        None => 0,
-    };
-    Ok((read, report.entries, history.base_number(), report.older))
+    case: &Case,
+) -> Result<([usize; 2], [u64; 4]), Fail> {
+    let octets = octets_of(alloc, &case.told)?;
+    let wires = (worker_of(alloc, case)?, MemoryWire::new(alloc));
+    let history = history_of(alloc, case.world)?;
+    let (lines, history, report) = ran(rt, alloc, history, wires, case.seconds)?;
+    let worker = lines.workers.first().ok_or("a worker")?;
+    let told = count_of(worker.sent(), peer(MANAGER), &octets);
+    let base = history.base_number();
+    Ok((
+        [worker.sent().len(), told],
+        [report.entries, report.requests, base, report.older],
+    ))
 }
 
+const SET_PRIORITY: Message<'static> = Message {
+    community: "admin",
+    pdu: Pdu::Set,
+    id: 1,
+    first: 0,
+    second: 0,
+    bindings: &[(PRIORITY, Integer(8192))],
+};
+
+const GET_PRIORITY: Message<'static> = Message {
+    pdu: Pdu::Get,
+    bindings: &[(PRIORITY, Null)],
+    ..SET_PRIORITY
+};
+
+const GET_BOTH: Message<'static> = Message {
+    bindings: &[(PRIORITY, Null), (HELLO, Null)],
+    ..GET_PRIORITY
+};
+
+const GET_STATE: Message<'static> = Message {
+    community: "public",
+    bindings: &[(STATE_OF_2, Null)],
+    ..GET_PRIORITY
+};
+
+const CASES: &[Case<'static>] = &[
+    Case {
+        what: "a Get reads what its worker set, beside two ports",
+        world: World::Edges,
+        messages: &[SET_PRIORITY, GET_PRIORITY],
+        again: 0,
+        seconds: 3,
+        told: Message {
+            pdu: Pdu::Response,
+            ..SET_PRIORITY
+        },
+        replies: [4, 2],
+        counts: [7, 2, 0, 0],
+    },
+    Case {
+        what: "a run hides what the view hides",
+        world: World::Masked,
+        messages: &[GET_STATE],
+        again: 0,
+        seconds: 0,
+        told: Message {
+            pdu: Pdu::Response,
+            bindings: &[(STATE_OF_2, NoObject)],
+            ..GET_STATE
+        },
+        replies: [1, 1],
+        counts: [3, 1, 0, 0],
+    },
+    Case {
+        what: "a Set and 4,200 Gets move the base",
+        world: World::FastHello,
+        messages: &[SET_PRIORITY, GET_BOTH],
+        again: 4199,
+        seconds: 0,
+        told: Message {
+            pdu: Pdu::Response,
+            bindings: &[(PRIORITY, Integer(8192)), (HELLO, Integer(100))],
+            ..SET_PRIORITY
+        },
+        replies: [4203, 4200],
+        counts: [4203, 4201, 4096, 4096],
+    },
+];
+
 #[test]
-fn a_long_run_moves_the_base(rt: HostRuntime) -> Result<(), Fail> {
-    assert_eq!(rt; long_run(&rt, rt.alloc())?, (4200, 4203, 4096, 4096));
+fn a_worker_answers_and_is_counted(rt: HostRuntime) -> Result<(), Fail> {
+    for case in CASES {
+        let what = case.what;
+        let answered = answers(&rt, rt.alloc(), case)?;
+        assert_eq!(rt; answered, (case.replies, case.counts), "{what}");
+    }
+    Ok(())
+}
+
+// A frame at port 1 goes out by port 2's peer, over port 1's wire, alone.
+#[test]
+fn a_run_forwards_a_frame(rt: HostRuntime) -> Result<(), Fail> {
+    let alloc = rt.alloc();
+    let wires = (MemoryWire::new(alloc), carrying(alloc, &FLOODED)?);
+    let (lines, _, report) = ran(&rt, alloc, of_edges(alloc)?, wires, 0)?;
+    let port = lines.ports.first().ok_or("a port")?;
+    let forwarded = count_of(port.sent(), peer(PEER_OF_PORT_2), &FLOODED);
+    assert_eq!(rt; (port.sent().len(), forwarded, report.entries), (1, 1, 3));
     Ok(())
 }

@@ -5,15 +5,17 @@ use fixtures::message::{Message, octets_of};
 use fixtures::worlds::{Served, all_of, bridge_of, built_in_for, edges, port};
 use frame_core::Mac;
 use history_core::Kept;
-use live_agent::Plan;
-use live_run::Lines;
+use live_agent::{Gate, Plan};
+use live_run::{Lines, Report, RunFault, serve_run};
 use object_list::{Object, objects};
 use rstp_core::{BridgeKey, IfIndex, Key};
 use setphase_core::{Registry, are_named};
 use std::alloc::Global;
 use std::net::{IpAddr, Ipv4Addr, SocketAddr};
+use std::sync::Wait;
 use std::test::Fail;
-use wire_core::{CountPace, MemoryWire, Packet};
+use std::thread::Threads;
+use wire_core::{CountPace, MemoryWire, Packet, Wire};
 
 /// The objects of a bridge, with no device that fails.
 pub type Shown = Object<Planned>;
@@ -37,8 +39,8 @@ pub const FLOODED: [u8; 14] = [
     0xFF, 0xFF, 0xFF, 0xFF, 0xFF, 0xFF, 0x02, 0x00, 0x00, 0x00, 0x01, 0x01, 0x08, 0x00,
 ];
 
-/// A history over what is served, in which nothing has happened.
-pub fn history_of(alloc: Global, served: Served) -> Result<Kept<Shown>, Fail> {
+// A history over what is served, in which nothing has happened.
+fn history_of(alloc: Global, served: Served) -> Result<Kept<Shown>, Fail> {
     let Served { world, .. } = served;
     let all = objects(alloc, Planned::new())?;
     if !are_named(all.as_slice()) {
@@ -76,17 +78,30 @@ pub fn of_fast_hello(alloc: Global) -> Result<Kept<Shown>, Fail> {
     history_of(alloc, all_of(alloc, bridge)?)
 }
 
-/// A plan of so many rounds, over a bridge of two ports with peers.
-pub fn plan_of(alloc: Global, rounds: u64) -> Result<Plan, Fail> {
-    let mut peers = Vec::new(alloc);
-    peers.push(peer(PEER_OF_PORT_1))?;
-    peers.push(peer(PEER_OF_PORT_2))?;
+// A plan of so many rounds, over a bridge of two ports with peers.
+fn plan_of(alloc: Global, rounds: u64) -> Result<Plan, Fail> {
     Ok(Plan {
         alloc,
         rounds,
         source: Mac([2, 0, 0, 0, 0, 10]),
-        peers,
+        peers: Vec::from_array(alloc, [peer(PEER_OF_PORT_1), peer(PEER_OF_PORT_2)])?,
     })
+}
+
+/// What a run of so many rounds leaves under a gate, and its report.
+pub fn run<W: Wire + Send, G: Gate + Sync, R: Threads + Wait + Sync>(
+    rt: &R,
+    alloc: Global,
+    rounds: u64,
+    gate: &G,
+    history: Kept<Shown>,
+    lines: Lines<W, CountPace>,
+) -> Result<(Lines<W, CountPace>, Kept<Shown>, Result<Report, RunFault>), Fail> {
+    let plan = plan_of(alloc, rounds)?;
+    if lines.workers.len() > 8 || lines.ports.len() > 2 {
+        return Err(Fail::from("few lines"));
+    }
+    Ok(serve_run(rt, &plan, gate, history, lines))
 }
 
 /// A wire that gives these messages of a manager, in order, and is closed behind them.
@@ -113,28 +128,17 @@ pub fn lines_of(
     port: MemoryWire,
     seconds: u64,
 ) -> Result<Lines<MemoryWire, CountPace>, Fail> {
-    let mut ports = Vec::new(alloc);
-    ports.push(port)?;
-    ports.push(MemoryWire::new(alloc))?;
     Ok(Lines {
         workers,
-        ports,
+        ports: Vec::from_array(alloc, [port, MemoryWire::new(alloc)])?,
         ticker: MemoryWire::new(alloc),
         pace: CountPace::new(seconds),
     })
 }
 
-/// The wires of a list of one.
-pub fn one(alloc: Global, wire: MemoryWire) -> Result<Vec<MemoryWire>, Fail> {
-    let mut wires = Vec::new(alloc);
-    wires.push(wire)?;
-    Ok(wires)
-}
-
-/// Whether what was sent is one packet of these octets to this peer.
-pub fn is_sent(sent: &[Packet], to: SocketAddr, octets: &[u8]) -> bool {
-    match sent {
-        [packet] => packet.peer == to && packet.octets.as_slice() == octets,
-        _ => false,
-    }
+/// How many of these packets bear these octets to this peer.
+pub fn count_of(sent: &[Packet], to: SocketAddr, octets: &[u8]) -> usize {
+    sent.iter()
+        .filter(|packet| packet.peer == to && packet.octets.as_slice() == octets)
+        .count()
 }

@@ -3,13 +3,14 @@
 //!
 //! # Entry points
 //! [`run_manager`] does what the words of a command line ask for, and gives the exit status: 0,
-//! [`FAILED`] or [`USAGE`]. Where it is 0 nothing is said on standard error, and words that are no
-//! command send and write nothing. [`command_of`] reads the words: a [`Command`] with its
-//! [`Errand`], or a [`WordsFault`]. [`ask`] gives the bindings that answer a request, or a
-//! [`ManagerFault`]; [`walk`] those of a subtree of names, [`MAX_NAMES`] at most. [`report`] writes
-//! the line of a [`Failure`]. A request is sent [`DEFAULT_TRIES`] times at most where no word says
-//! it, and [`MAX_TRIES`] where one does; [`MAX_BULK`] bounds the numbers of a GetBulk, and
-//! [`RECEIVE_ROOM`] is how many octets are lent to a receive.
+//! [`FAILED`] or [`USAGE`]. Where it is 0 nothing is said on standard error. Words that are no
+//! command send nothing and write nothing on standard output; the usage stands on standard error.
+//! [`command_of`] reads the words: a [`Command`] with its [`Errand`], or a [`WordsFault`]. [`ask`]
+//! gives the bindings that answer a request, or a [`ManagerFault`]; [`walk`] those of a subtree of
+//! names, fewer than [`MAX_NAMES`]: 99,999 at most. [`report`] writes the line of a [`Failure`]. A
+//! request is sent [`DEFAULT_TRIES`] times at most where no word says it, and [`MAX_TRIES`] where
+//! one does; [`MAX_BULK`] bounds the numbers of a GetBulk, and [`RECEIVE_ROOM`] is how many octets
+//! are lent to a receive.
 //!
 //! # Definitions
 //! `specs/Replies.antt`: what a datagram says to a request; `specs/Asks.antt`: the tries of an ask,

@@ -6,12 +6,31 @@ use std::alloc::Global;
 use std::test::*;
 use wire_core::{Given, MemoryWire};
 
-// How an ask over a wire ends: how many bindings answer it, or why none does.
-fn asked(
-    alloc: Global,
-    wire: &mut MemoryWire,
-    tries: u32,
-) -> Result<Result<usize, ManagerFault>, Fail> {
+// What a try hears.
+#[derive(Clone, Copy)]
+enum Heard<'a> {
+    Nothing,
+    Fault,
+    Datagram(&'a [u8]),
+}
+
+// A wire that gives these, and then nothing.
+fn wire_of(alloc: Global, heard: &[Heard]) -> Result<MemoryWire, Fail> {
+    let mut wire = MemoryWire::new(alloc);
+    for given in heard {
+        match *given {
+            Heard::Nothing => wire.give(Given::Nothing)?,
+            Heard::Fault => wire.give(Given::Fault)?,
+            Heard::Datagram(octets) => wire.give_datagram(agent(), octets)?,
+        }
+    }
+    Ok(wire)
+}
+
+// How an ask ends: how many bindings answer it, or why none does; and how many datagrams it sent.
+type End = (Result<usize, ManagerFault>, usize);
+
+fn asked(alloc: Global, heard: &[Heard], tries: u32) -> Result<End, Fail> {
     let Ok(request) = decode(alloc, &GET) else {
         return Err("no request")?;
     };
@@ -19,62 +38,59 @@ fn asked(
     let Ok(_) = encode_request(&request, &mut room) else {
         return Err("too long")?;
     };
-    match ask(alloc, wire, agent(), &request, tries) {
-        Ok(found) => Ok(Ok(found.len())),
-        Err(fault) => Ok(Err(fault)),
+    let mut wire = wire_of(alloc, heard)?;
+    let end = ask(alloc, &mut wire, agent(), &request, tries).map(|found| found.len());
+    Ok((end, wire.sent().len()))
+}
+
+const REFUSAL: ManagerFault = ManagerFault::Error(ErrorStatus::AuthorizationError, 0);
+
+// A table: over forty lines.
+#[test]
+fn asks_end_by_what_their_tries_hear(rt: HostRuntime) -> Result<(), Fail> {
+    let id_2 = with_id(TWO_PORTS, 2);
+    let id_9 = with_id(OTHER_COMMUNITY, 9);
+    let other_id = [Heard::Datagram(&id_2), Heard::Datagram(&TWO_PORTS)];
+    for (what, heard, tries, end) in [
+        (
+            "nothing three times",
+            [Heard::Nothing, Heard::Fault],
+            3,
+            (Err(ManagerFault::Timeout(3)), 3),
+        ),
+        ("a reply of another id", other_id, 3, (Ok(1), 2)),
+        (
+            "a refusal",
+            [Heard::Datagram(&REFUSED), Heard::Nothing],
+            1,
+            (Err(REFUSAL), 1),
+        ),
+        (
+            "no bindings",
+            [Heard::Datagram(&NO_BINDINGS), Heard::Nothing],
+            1,
+            (Ok(0), 1),
+        ),
+        (
+            "another community",
+            [Heard::Datagram(&OTHER_COMMUNITY), Heard::Nothing],
+            1,
+            (Err(ManagerFault::BadReply), 1),
+        ),
+        (
+            "a request",
+            [Heard::Datagram(&GET), Heard::Nothing],
+            1,
+            (Err(ManagerFault::BadReply), 1),
+        ),
+        (
+            "another community of another id",
+            [Heard::Datagram(&id_9), Heard::Nothing],
+            1,
+            (Err(ManagerFault::Timeout(1)), 1),
+        ),
+    ] {
+        assert_eq!(rt; asked(rt.alloc(), &heard, tries)?, end, "{what}");
     }
-}
-
-// The same over a wire that gives one datagram, with one try.
-fn asked_once(alloc: Global, datagram: &[u8]) -> Result<Result<usize, ManagerFault>, Fail> {
-    let mut wire = MemoryWire::new(alloc);
-    wire.give_datagram(agent(), datagram)?;
-    asked(alloc, &mut wire, 1)
-}
-
-#[test]
-fn nothing_three_times_is_a_timeout(rt: HostRuntime) -> Result<(), Fail> {
-    let alloc = rt.alloc();
-    let mut wire = MemoryWire::new(alloc);
-    wire.give(Given::Nothing)?;
-    wire.give(Given::Fault)?;
-    let end = asked(alloc, &mut wire, 3)?;
-    assert_eq!(rt;
-        (end, wire.sent().len()),
-        (Err(ManagerFault::Timeout(3)), 3)
-    );
-    Ok(())
-}
-
-#[test]
-fn reply_of_another_id_uses_up_a_try(rt: HostRuntime) -> Result<(), Fail> {
-    let alloc = rt.alloc();
-    let mut wire = MemoryWire::new(alloc);
-    wire.give_datagram(agent(), &with_id(TWO_PORTS, 2))?;
-    wire.give_datagram(agent(), &TWO_PORTS)?;
-    let end = asked(alloc, &mut wire, 3)?;
-    assert_eq!(rt; (end, wire.sent().len()), (Ok(1), 2));
-    Ok(())
-}
-
-#[test]
-fn each_datagram_ends_the_ask_its_own_way(rt: HostRuntime) -> Result<(), Fail> {
-    let alloc = rt.alloc();
-    let ends = (
-        asked_once(alloc, &REFUSED)?,
-        asked_once(alloc, &NO_BINDINGS)?,
-        asked_once(alloc, &OTHER_COMMUNITY)?,
-        asked_once(alloc, &GET)?,
-    );
-    let refused = Err(ManagerFault::Error(ErrorStatus::AuthorizationError, 0));
-    let bad = Err(ManagerFault::BadReply);
-    assert_eq!(rt; ends, (refused, Ok(0), bad, bad));
-    Ok(())
-}
-
-#[test]
-fn other_community_of_another_id_uses_up_a_try(rt: HostRuntime) -> Result<(), Fail> {
-    let end = asked_once(rt.alloc(), &with_id(OTHER_COMMUNITY, 9))?;
-    assert_eq!(rt; end, Err(ManagerFault::Timeout(1)));
     Ok(())
 }

@@ -5,25 +5,46 @@ use std::alloc::Global;
 use std::test::*;
 use wire_core::MemoryWire;
 
-// A text, and so many times another behind it.
-fn repeated(alloc: Global, head: &str, times: usize, text: &str) -> Result<String, Fail> {
-    let mut word = String::from_str(alloc, head)?;
-    for _ in 0..times {
-        word.push_str(text)?;
-    }
-    Ok(word)
-}
+const REFUSED: [&[&str]; 24] = [
+    // words that are no command
+    &[],
+    &["get", AGENT, "public"],
+    &["walk", AGENT, "public", PORTS, PORTS],
+    &["set", AGENT, "public", PORTS],
+    // too few words
+    &["get", AGENT],
+    &["bulk", AGENT, "public", "0", "5"],
+    &["bulk", AGENT, "public", "0"],
+    &["get", AGENT, "public", PORTS, "--tries"],
+    // words that cannot be read
+    &["got", AGENT, "public", PORTS],
+    &["get", "127.0.0.1", "public", PORTS],
+    &["get", AGENT, "public", "1..3"],
+    &["get", AGENT, "public", "1"],
+    // numbers that cannot be read
+    &["bulk", AGENT, "public", "0", "2147483648", PORTS],
+    &["set", AGENT, "public", "1.3.6=i:-0"],
+    &["set", AGENT, "public", "1.3.6=x:0"],
+    &["get", AGENT, "public", PORTS, "--tries", "11"],
+    // values that cannot be read
+    &["set", AGENT, "public", "1.3.6=i:-2147483649"],
+    &["set", AGENT, "public", "1.3.6=i:2147483648"],
+    &["set", AGENT, "public", "1.3.6=s:00"],
+    &["set", AGENT, "public", "1.3.6=i:1=i:1"],
+    // an option that cannot be read
+    &["--tries", "0", "get", AGENT, "public", PORTS],
+    &["get", "--tries", "2", AGENT, "public", PORTS],
+    &[
+        "--tries", "2", "get", AGENT, "public", PORTS, "--tries", "2",
+    ],
+    &["-tries", "2", "get", AGENT, "public", PORTS],
+];
 
 #[test]
-fn words_that_are_no_command(rt: HostRuntime) -> Result<(), Fail> {
-    let alloc = rt.alloc();
-    let counts = (
-        is_usage(alloc, &[])?,
-        is_usage(alloc, &["get", AGENT, "public"])?,
-        is_usage(alloc, &["walk", AGENT, "public", PORTS, PORTS])?,
-        is_usage(alloc, &["set", AGENT, "public", PORTS])?,
-    );
-    assert_eq!(rt; counts, (true, true, true, true));
+fn other_words_are_refused(rt: HostRuntime) -> Result<(), Fail> {
+    for words in REFUSED {
+        assert!(rt; is_usage(rt.alloc(), words)?, "{words:?}");
+    }
     Ok(())
 }
 
@@ -40,109 +61,53 @@ fn no_word_at_all(rt: HostRuntime) -> Result<(), Fail> {
     Ok(())
 }
 
-#[test]
-fn too_few_words(rt: HostRuntime) -> Result<(), Fail> {
-    let alloc = rt.alloc();
-    let few = (
-        is_usage(alloc, &["get", AGENT])?,
-        is_usage(alloc, &["bulk", AGENT, "public", "0", "5"])?,
-        is_usage(alloc, &["bulk", AGENT, "public", "0"])?,
-        is_usage(alloc, &["get", AGENT, "public", PORTS, "--tries"])?,
-    );
-    assert_eq!(rt; few, (true, true, true, true));
-    Ok(())
+// A text, and so many times another behind it.
+type Repeated = (&'static str, usize, &'static str);
+
+fn word_of(alloc: Global, repeated: Repeated) -> Result<String, Fail> {
+    let (head, times, text) = repeated;
+    let mut word = String::from_str(alloc, head)?;
+    for _ in 0..times {
+        word.push_str(text)?;
+    }
+    Ok(word)
 }
 
-#[test]
-fn words_that_cannot_be_read(rt: HostRuntime) -> Result<(), Fail> {
-    let alloc = rt.alloc();
-    let unread = (
-        is_usage(alloc, &["got", AGENT, "public", PORTS])?,
-        is_usage(alloc, &["get", "127.0.0.1", "public", PORTS])?,
-        is_usage(alloc, &["get", AGENT, "public", "1..3"])?,
-        is_usage(alloc, &["get", AGENT, "public", "1"])?,
-    );
-    assert_eq!(rt; unread, (true, true, true, true));
-    Ok(())
+// How many datagrams a command of these three words sends, and whether it is no command.
+fn end_of(
+    alloc: Global,
+    verb: &str,
+    community: Repeated,
+    operand: Repeated,
+) -> Result<(usize, bool), Fail> {
+    let community = word_of(alloc, community)?;
+    let operand = word_of(alloc, operand)?;
+    let words = [verb, AGENT, community.as_str(), operand.as_str()];
+    let sent = sent_by(alloc, &words)?;
+    Ok((sent, is_usage(alloc, &words)?))
 }
 
-#[test]
-fn numbers_that_cannot_be_read(rt: HostRuntime) -> Result<(), Fail> {
-    let alloc = rt.alloc();
-    let unread = (
-        is_usage(alloc, &["bulk", AGENT, "public", "0", "2147483648", PORTS])?,
-        is_usage(alloc, &["set", AGENT, "public", "1.3.6=i:-0"])?,
-        is_usage(alloc, &["set", AGENT, "public", "1.3.6=x:0"])?,
-        is_usage(alloc, &["get", AGENT, "public", PORTS, "--tries", "11"])?,
-    );
-    assert_eq!(rt; unread, (true, true, true, true));
-    Ok(())
-}
+const PUBLIC: Repeated = ("public", 0, "");
 
-#[test]
-fn values_that_cannot_be_read(rt: HostRuntime) -> Result<(), Fail> {
-    let alloc = rt.alloc();
-    let unread = (
-        is_usage(alloc, &["set", AGENT, "public", "1.3.6=i:-2147483649"])?,
-        is_usage(alloc, &["set", AGENT, "public", "1.3.6=i:2147483648"])?,
-        is_usage(alloc, &["set", AGENT, "public", "1.3.6=s:00"])?,
-        is_usage(alloc, &["set", AGENT, "public", "1.3.6=i:1=i:1"])?,
-    );
-    assert_eq!(rt; unread, (true, true, true, true));
-    Ok(())
-}
+const NAME: Repeated = (PORTS, 0, "");
 
+// Names of 128 numbers and more, communities of 255 octets and more, requests of 2,048 octets and
+// more: one of community `public` that sets octets under 1.3.6 has 44 octets more than they.
 #[test]
-fn option_that_cannot_be_read(rt: HostRuntime) -> Result<(), Fail> {
-    let alloc = rt.alloc();
-    let unread = (
-        is_usage(alloc, &["--tries", "0", "get", AGENT, "public", PORTS])?,
-        is_usage(alloc, &["get", "--tries", "2", AGENT, "public", PORTS])?,
-        is_usage(
-            alloc,
-            &[
-                "--tries", "2", "get", AGENT, "public", PORTS, "--tries", "2",
-            ],
-        )?,
-        is_usage(alloc, &["-tries", "2", "get", AGENT, "public", PORTS])?,
-    );
-    assert_eq!(rt; unread, (true, true, true, true));
-    Ok(())
-}
-
-#[test]
-fn name_of_too_many_numbers(rt: HostRuntime) -> Result<(), Fail> {
-    let alloc = rt.alloc();
-    let most = repeated(alloc, "1.3", 126, ".1")?;
-    let more = repeated(alloc, "1.3", 127, ".1")?;
-    assert_eq!(rt;
-        sent_by(alloc, &["get", AGENT, "public", most.as_str()])?,
-        3
-    );
-    assert!(rt; is_usage(alloc, &["get", AGENT, "public", more.as_str()])?);
-    Ok(())
-}
-
-#[test]
-fn community_that_is_too_long(rt: HostRuntime) -> Result<(), Fail> {
-    let alloc = rt.alloc();
-    let most = repeated(alloc, "", 255, "c")?;
-    let more = repeated(alloc, "", 256, "c")?;
-    assert_eq!(rt; sent_by(alloc, &["get", AGENT, most.as_str(), PORTS])?, 3);
-    assert!(rt; is_usage(alloc, &["get", AGENT, more.as_str(), PORTS])?);
-    Ok(())
-}
-
-// A request of community `public` that sets these octets under 1.3.6 has 44 octets more than they.
-#[test]
-fn request_that_is_too_long(rt: HostRuntime) -> Result<(), Fail> {
-    let alloc = rt.alloc();
-    let most = repeated(alloc, "1.3.6=x:", 2004, "00")?;
-    let more = repeated(alloc, "1.3.6=x:", 2005, "00")?;
-    assert_eq!(rt;
-        sent_by(alloc, &["set", AGENT, "public", most.as_str()])?,
-        3
-    );
-    assert!(rt; is_usage(alloc, &["set", AGENT, "public", more.as_str()])?);
+fn words_that_are_too_long(rt: HostRuntime) -> Result<(), Fail> {
+    for (verb, community, operand, end) in [
+        ("get", PUBLIC, ("1.3", 126, ".1"), (3, false)),
+        ("get", PUBLIC, ("1.3", 127, ".1"), (0, true)),
+        ("get", ("", 255, "c"), NAME, (3, false)),
+        ("get", ("", 256, "c"), NAME, (0, true)),
+        ("set", PUBLIC, ("1.3.6=x:", 2004, "00"), (3, false)),
+        ("set", PUBLIC, ("1.3.6=x:", 2005, "00"), (0, true)),
+    ] {
+        assert_eq!(rt;
+            end_of(rt.alloc(), verb, community, operand)?,
+            end,
+            "{verb} {community:?} {operand:?}"
+        );
+    }
     Ok(())
 }

@@ -1,7 +1,7 @@
 //! The requests that words ask for, against the octets that Net-SNMP sends for the same, but for
 //! the request-id, which is 1.
 use crate::datagrams::{AT_THE_END, TWO_PORTS, agent, with_id};
-use crate::running::{AGENT, PORTS, ends_so, run, sends_so};
+use crate::running::{AGENT, LONG_COMMUNITY, LONG_NAME, PORTS, run, sends_so};
 use std::test::*;
 use wire_core::MemoryWire;
 
@@ -54,67 +54,48 @@ const LONG: [u8; 94] = [
     0x74, 0x75, 0x76, 0x77, 0x78, 0x79, 0x7A, 0x7B, 0x7C, 0x7D, 0x7E, 0x7F, 0x05, 0x00,
 ];
 
-// A Response to it of 30 octets, as scapy writes it.
-const LONG_RESPONSE: [u8; 124] = [
-    0x30, 0x7A, 0x02, 0x01, 0x01, 0x04, 0x1E, 0x61, 0x20, 0x63, 0x6F, 0x6D, 0x6D, 0x75, 0x6E, 0x69,
-    0x74, 0x79, 0x20, 0x6F, 0x66, 0x20, 0x74, 0x68, 0x69, 0x72, 0x74, 0x79, 0x20, 0x6F, 0x63, 0x74,
-    0x65, 0x74, 0x73, 0x2E, 0x2E, 0xA2, 0x55, 0x02, 0x01, 0x01, 0x02, 0x01, 0x00, 0x02, 0x01, 0x00,
-    0x30, 0x4A, 0x30, 0x48, 0x06, 0x26, 0x2B, 0x06, 0x01, 0x04, 0x01, 0x8F, 0xFF, 0xFF, 0xFF, 0x7F,
-    0x64, 0x65, 0x66, 0x67, 0x68, 0x69, 0x6A, 0x6B, 0x6C, 0x6D, 0x6E, 0x6F, 0x70, 0x71, 0x72, 0x73,
-    0x74, 0x75, 0x76, 0x77, 0x78, 0x79, 0x7A, 0x7B, 0x7C, 0x7D, 0x7E, 0x7F, 0x04, 0x1E, 0xA0, 0xA1,
-    0xA2, 0xA3, 0xA4, 0xA5, 0xA6, 0xA7, 0xA8, 0xA9, 0xAA, 0xAB, 0xAC, 0xAD, 0xAE, 0xAF, 0xB0, 0xB1,
-    0xB2, 0xB3, 0xB4, 0xB5, 0xB6, 0xB7, 0xB8, 0xB9, 0xBA, 0xBB, 0xBC, 0xBD,
+// Words, and the request that they ask for.
+const SENT: [(&[&str], &[u8]); 5] = [
+    (&["next", AGENT, "public", PORTS], &NEXT),
+    (
+        &[
+            "bulk",
+            AGENT,
+            "public",
+            "1",
+            "10",
+            "1.3.6.1.2.1.1.3.0",
+            "1.3.6.1.2.1.17.2.15",
+        ],
+        &BULK,
+    ),
+    (
+        &[
+            "set",
+            AGENT,
+            "private",
+            "1.3.6.1.2.1.17.2.2.0=i:4096",
+            "1.3.6.1.2.1.17.2.3.0=i:-2147483648",
+        ],
+        &SET,
+    ),
+    (
+        &[
+            "set",
+            AGENT,
+            "private",
+            "1.3.6.1.2.1.1.5.0=x:A0A1A2A3A4A5A6A7A8A9aaabacadaeafB0B1B2B3B4B5B6B7B8B9bAbBbCbD",
+        ],
+        &SET_OCTETS,
+    ),
+    (&["get", AGENT, LONG_COMMUNITY, LONG_NAME], &LONG),
 ];
 
-// A Response of eight types, as scapy writes it.
-const TYPES: [u8; 129] = [
-    0x30, 0x7F, 0x02, 0x01, 0x01, 0x04, 0x06, 0x70, 0x75, 0x62, 0x6C, 0x69, 0x63, 0xA2, 0x72, 0x02,
-    0x01, 0x01, 0x02, 0x01, 0x00, 0x02, 0x01, 0x00, 0x30, 0x67, 0x30, 0x0A, 0x06, 0x04, 0x2B, 0x06,
-    0x01, 0x01, 0x02, 0x02, 0xFF, 0x7F, 0x30, 0x0A, 0x06, 0x04, 0x2B, 0x06, 0x01, 0x02, 0x04, 0x02,
-    0x00, 0xFF, 0x30, 0x08, 0x06, 0x04, 0x2B, 0x06, 0x01, 0x03, 0x05, 0x00, 0x30, 0x0F, 0x06, 0x04,
-    0x2B, 0x06, 0x01, 0x04, 0x06, 0x07, 0x2B, 0x06, 0x01, 0x04, 0x01, 0xBF, 0x08, 0x30, 0x0C, 0x06,
-    0x04, 0x2B, 0x06, 0x01, 0x05, 0x40, 0x04, 0xC0, 0x00, 0x02, 0xFF, 0x30, 0x0D, 0x06, 0x04, 0x2B,
-    0x06, 0x01, 0x06, 0x41, 0x05, 0x00, 0xFF, 0xFF, 0xFF, 0xFF, 0x30, 0x0A, 0x06, 0x04, 0x2B, 0x06,
-    0x01, 0x07, 0x42, 0x02, 0x00, 0x80, 0x30, 0x09, 0x06, 0x04, 0x2B, 0x06, 0x01, 0x08, 0x43, 0x01,
-    0x00,
-];
-
-// A name of 35 numbers.
-const LONG_NAME: &str = "1.3.6.1.4.1.4294967295.100.101.102.103.104.105.106.107.108.109.110.111.\
-112.113.114.115.116.117.118.119.120.121.122.123.124.125.126.127";
-
-const LONG_COMMUNITY: &str = "a community of thirty octets..";
-
 #[test]
-fn next_and_bulk_are_sent(rt: HostRuntime) -> Result<(), Fail> {
-    let alloc = rt.alloc();
-    let names = ["1.3.6.1.2.1.1.3.0", "1.3.6.1.2.1.17.2.15"];
-    let bulk = ["bulk", AGENT, "public", "1", "10", names[0], names[1]];
-    let same = (
-        sends_so(alloc, &["next", AGENT, "public", PORTS], &NEXT)?,
-        sends_so(alloc, &bulk, &BULK)?,
-    );
-    assert_eq!(rt; same, (true, true));
-    Ok(())
-}
-
-#[test]
-fn sets_are_sent(rt: HostRuntime) -> Result<(), Fail> {
-    let alloc = rt.alloc();
-    let numbers = [
-        "1.3.6.1.2.1.17.2.2.0=i:4096",
-        "1.3.6.1.2.1.17.2.3.0=i:-2147483648",
-    ];
-    let octets = "1.3.6.1.2.1.1.5.0=x:A0A1A2A3A4A5A6A7A8A9aaabacadaeafB0B1B2B3B4B5B6B7B8B9bAbBbCbD";
-    let same = (
-        sends_so(
-            alloc,
-            &["set", AGENT, "private", numbers[0], numbers[1]],
-            &SET,
-        )?,
-        sends_so(alloc, &["set", AGENT, "private", octets], &SET_OCTETS)?,
-    );
-    assert_eq!(rt; same, (true, true));
+fn requests_are_sent(rt: HostRuntime) -> Result<(), Fail> {
+    for (words, octets) in SENT {
+        assert!(rt; sends_so(rt.alloc(), words, octets)?, "{words:?}");
+    }
     Ok(())
 }
 
@@ -138,32 +119,5 @@ fn walk_asks_behind_each_name(rt: HostRuntime) -> Result<(), Fail> {
         (status, same, out.as_slice() == line.as_slice()),
         (0, true, true)
     );
-    Ok(())
-}
-
-#[test]
-fn long_request_is_sent(rt: HostRuntime) -> Result<(), Fail> {
-    let words = ["get", AGENT, LONG_COMMUNITY, LONG_NAME];
-    assert!(rt; sends_so(rt.alloc(), &words, &LONG)?);
-    Ok(())
-}
-
-#[test]
-fn long_response_is_written(rt: HostRuntime) -> Result<(), Fail> {
-    let words = ["get", AGENT, LONG_COMMUNITY, LONG_NAME];
-    let line = b"1.3.6.1.4.1.4294967295.100.101.102.103.104.105.106.107.108.109.110.111.112.113.\
-114.115.116.117.118.119.120.121.122.123.124.125.126.127 \
-OCTETS A0A1A2A3A4A5A6A7A8A9AAABACADAEAFB0B1B2B3B4B5B6B7B8B9BABBBCBD\n";
-    assert!(rt; ends_so(rt.alloc(), &words, &LONG_RESPONSE, (0, line, b""))?);
-    Ok(())
-}
-
-#[test]
-fn each_type_is_written(rt: HostRuntime) -> Result<(), Fail> {
-    let words = ["get", AGENT, "public", PORTS];
-    let lines = b"1.3.6.1.1 INTEGER -129\n1.3.6.1.2 OCTETS 00FF\n1.3.6.1.3 NULL\n\
-1.3.6.1.4 OID 1.3.6.1.4.1.8072\n1.3.6.1.5 IPADDRESS 192.0.2.255\n1.3.6.1.6 COUNTER32 4294967295\n\
-1.3.6.1.7 GAUGE32 128\n1.3.6.1.8 TIMETICKS 0\n";
-    assert!(rt; ends_so(rt.alloc(), &words, &TYPES, (0, lines, b""))?);
     Ok(())
 }

@@ -11,6 +11,14 @@ pub const PORTS: &str = "1.3.6.1.2.1.17.1.2.0";
 /// The word of the agent's end.
 pub const AGENT: &str = "127.0.0.1:161";
 
+/// A name of 35 numbers.
+pub const LONG_NAME: &str =
+    "1.3.6.1.4.1.4294967295.100.101.102.103.104.105.106.107.108.109.110.111.\
+112.113.114.115.116.117.118.119.120.121.122.123.124.125.126.127";
+
+/// A community of 30 octets.
+pub const LONG_COMMUNITY: &str = "a community of thirty octets..";
+
 // The words of a command line, the program's name first.
 fn words_of(alloc: Global, texts: &[&str]) -> Result<Vec<String>, Fail> {
     let mut words = Vec::new(alloc);

@@ -20,31 +20,37 @@ fn walked(
     let mut wire = MemoryWire::new(alloc);
     wire.give_datagram(agent(), &TWO_PORTS)?;
     wire.give_datagram(agent(), second)?;
-    match walk(alloc, &mut wire, agent(), b"public", &root, 1) {
-        Ok(found) => Ok((Ok(found.len()), wire.sent().len())),
-        Err(fault) => Ok((Err(fault), wire.sent().len())),
+    let end = walk(alloc, &mut wire, agent(), b"public", &root, 1).map(|found| found.len());
+    Ok((end, wire.sent().len()))
+}
+
+#[test]
+fn walks_end_by_what_their_asks_find(rt: HostRuntime) -> Result<(), Fail> {
+    let again = with_id(TWO_PORTS, 2);
+    let end_of_view = with_id(AT_THE_END, 2);
+    let no_bindings = with_id(NO_BINDINGS, 2);
+    for (what, root, second, end) in [
+        (
+            "a repeated name",
+            "1.3.6.1.2.1.17",
+            again.as_slice(),
+            (Err(ManagerFault::NotIncreasing), 2),
+        ),
+        (
+            "the end of the view",
+            "1.3.6.1.2.1.17",
+            &end_of_view,
+            (Ok(1), 2),
+        ),
+        ("a name outside", "1.3.6.1.2.1.16", &TWO_PORTS, (Ok(0), 1)),
+        (
+            "a reply without one binding",
+            "1.3.6.1.2.1.17",
+            &no_bindings,
+            (Err(ManagerFault::BadReply), 2),
+        ),
+    ] {
+        assert_eq!(rt; walked(rt.alloc(), root, second)?, end, "{what}");
     }
-}
-
-#[test]
-fn repeated_name_is_not_increasing(rt: HostRuntime) -> Result<(), Fail> {
-    let end = walked(rt.alloc(), "1.3.6.1.2.1.17", &with_id(TWO_PORTS, 2))?;
-    assert_eq!(rt; end, (Err(ManagerFault::NotIncreasing), 2));
-    Ok(())
-}
-
-#[test]
-fn walk_ends_at_the_end_of_the_view(rt: HostRuntime) -> Result<(), Fail> {
-    let alloc = rt.alloc();
-    let end = walked(alloc, "1.3.6.1.2.1.17", &with_id(AT_THE_END, 2))?;
-    let outside = walked(alloc, "1.3.6.1.2.1.16", &TWO_PORTS)?;
-    assert_eq!(rt; (end, outside), ((Ok(1), 2), (Ok(0), 1)));
-    Ok(())
-}
-
-#[test]
-fn reply_without_one_binding_is_bad(rt: HostRuntime) -> Result<(), Fail> {
-    let end = walked(rt.alloc(), "1.3.6.1.2.1.17", &with_id(NO_BINDINGS, 2))?;
-    assert_eq!(rt; end, (Err(ManagerFault::BadReply), 2));
     Ok(())
 }

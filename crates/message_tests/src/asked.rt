@@ -36,7 +36,7 @@ fn writes_as_others_do(rt: HostRuntime) -> Result<(), Fail> {
     ] {
         let mut buffer = [0; 2048];
         let len = again(rt.alloc(), datagram, &mut buffer)?;
-        assert_eq!(rt; buffer.get(..len), Some(datagram));
+        assert_eq!(rt; buffer.get(..len), Some(datagram), "{datagram:?}");
     }
     Ok(())
 }
@@ -57,12 +57,17 @@ fn set_of(alloc: Global, octets: usize) -> Result<Request, Fail>
     })
 }
 
+// What is written of such a request.
+fn written(alloc: Global, octets: usize) -> Result<Result<usize, TooBig>, Fail> {
+    let request = set_of(alloc, octets)?;
+    Ok(encode_request(&request, &mut [0; 2048]))
+}
+
+// Beside the community such a message has 24 octets.
 #[test]
 fn writes_at_most_2048_octets(rt: HostRuntime) -> Result<(), Fail> {
-    // beside the community such a message has 24 octets
     for (community, len) in [(2024, Ok(2048)), (2025, Err(TooBig))] {
-        let request = set_of(rt.alloc(), community)?;
-        assert_eq!(rt; encode_request(&request, &mut [0; 2048]), len);
+        assert_eq!(rt; written(rt.alloc(), community)?, len);
     }
     Ok(())
 }

@@ -2,6 +2,7 @@
 use crate::datagrams::ALL_TYPES;
 use crate::long_datagrams::{LONG, LONG_COMMUNITY, LONG_NAME, LONG_OCTET_STRING, LONG_OPAQUE};
 use message_core::{Octets, Room, decode};
+use std::alloc::Global;
 use std::test::Fail;
 
 // Where the tag of the PDU of `ALL_TYPES` stands, and that of a SetRequest (RFC 3416, section 3).
@@ -9,48 +10,42 @@ const PDU_TAG: usize = 14;
 
 const SET_REQUEST: u8 = 0xa3;
 
-#[test]
-fn copies_long_octets(rt: HostRuntime) -> Result<(), Fail> {
-    let octets = Octets::from_slice(rt.alloc(), &LONG)?;
-    let copy = octets.try_copy(rt.alloc())?;
-    assert_eq!(rt; copy.as_slice(), LONG.as_slice());
-    Ok(())
+// Whether a copy, the octets of a vector, and those that fill room are these octets.
+fn are_same(alloc: Global, octets: &[u8]) -> Result<[bool; 3], Fail> {
+    let copy = Octets::from_slice(alloc, octets)?.try_copy(alloc)?;
+    let copied = copy.as_slice() == octets;
+    let vector = Octets::from_vec(octets.to_vec(alloc)?);
+    let taken = vector.as_slice() == octets;
+    let filled = Room::reserved(alloc, octets.len())?.filled(octets);
+    Ok([copied, taken, filled.as_slice() == octets])
 }
 
 #[test]
-fn takes_vectors(rt: HostRuntime) -> Result<(), Fail> {
-    for octets in [LONG.as_slice(), b"abc".as_slice()] {
-        let kept = Octets::from_vec(octets.to_vec(rt.alloc())?);
-        assert_eq!(rt; kept.as_slice(), octets);
-    }
-    Ok(())
-}
-
-#[test]
-fn fills_room(rt: HostRuntime) -> Result<(), Fail> {
+fn copies_octets_takes_vectors_and_fills_room(rt: HostRuntime) -> Result<(), Fail> {
     for octets in [LONG.as_slice(), b"abc"] {
-        let room = Room::reserved(rt.alloc(), octets.len())?;
-        assert_eq!(rt; room.filled(octets).as_slice(), octets);
+        assert_eq!(rt; are_same(rt.alloc(), octets)?, [true; 3], "{octets:?}");
     }
     Ok(())
 }
 
+// Whether the copy of a request is the same as another.
+fn is_copied(alloc: Global, datagram: &[u8], other: &[u8]) -> Result<bool, Fail> {
+    let copy = decode(alloc, datagram)?.try_copy(alloc)?;
+    Ok(copy.same(&decode(alloc, other)?))
+}
+
 #[test]
-fn copies_requests(rt: HostRuntime) -> Result<(), Fail> {
+fn copies_requests_and_tells_them_apart(rt: HostRuntime) -> Result<(), Fail> {
     let mut set = ALL_TYPES;
     set[PDU_TAG] = SET_REQUEST;
-    for datagram in [set.as_slice(), &LONG_COMMUNITY, &LONG_NAME] {
-        let request = decode(rt.alloc(), datagram)?;
-        let copy = request.try_copy(rt.alloc())?;
-        assert!(rt; copy.same(&request));
+    for (datagram, other, same) in [
+        (set.as_slice(), set.as_slice(), true),
+        (&LONG_COMMUNITY, &LONG_COMMUNITY, true),
+        (&LONG_NAME, &LONG_NAME, true),
+        (&LONG_OCTET_STRING, &LONG_OPAQUE, false),
+    ] {
+        let copied = is_copied(rt.alloc(), datagram, other)?;
+        assert_eq!(rt; copied, same, "{datagram:?}");
     }
-    Ok(())
-}
-
-#[test]
-fn tells_requests_apart(rt: HostRuntime) -> Result<(), Fail> {
-    let request = decode(rt.alloc(), &LONG_OCTET_STRING)?;
-    let other = decode(rt.alloc(), &LONG_OPAQUE)?;
-    assert!(rt; !request.same(&other));
     Ok(())
 }

@@ -34,7 +34,7 @@ fn writes_as_others_do(rt: HostRuntime) -> Result<(), Fail> {
     ] {
         let mut buffer = [0; 1472];
         let len = echoed(rt.alloc(), response, status, index, &mut buffer)?;
-        assert_eq!(rt; buffer.get(..len), Some(response));
+        assert_eq!(rt; buffer.get(..len), Some(response), "{response:?}");
     }
     Ok(())
 }

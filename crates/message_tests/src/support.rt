@@ -1,5 +1,5 @@
-//! What the tests of requests, values and faults share.
-use message_core::{Binding, DropCause, decode};
+//! What the tests share.
+use message_core::{Binding, DropCause, Value, decode};
 use std::alloc::Global;
 use std::test::Fail;
 
@@ -9,6 +9,31 @@ pub fn binding_in(alloc: Global, datagram: &[u8]) -> Result<Binding, Fail> {
     match request.bindings.as_slice() {
         [binding] => Ok(binding.try_copy(alloc)?),
         _ => Err(Fail::from("one binding")),
+    }
+}
+
+/// The type of a value and its number, its octets or its sub-identifiers.
+pub type Shown<'a> = (&'static str, u64, &'a [u8], &'a [u32]);
+
+/// What a value is.
+pub fn shown(value: &Value) -> Shown {
+    match value {
+        Value::Integer(number) if *number < 0 => {
+            ("INTEGER, minus", u64::from(number.unsigned_abs()), &[], &[])
+        }
+        Value::Integer(number) => ("INTEGER", u64::from(number.unsigned_abs()), &[], &[]),
+        Value::OctetString(octets) => ("OCTET STRING", 0, octets.as_slice(), &[]),
+        Value::Null => ("NULL", 0, &[], &[]),
+        Value::ObjectIdentifier(name) => ("OBJECT IDENTIFIER", 0, &[], name.as_slice()),
+        Value::IpAddress(address) => ("IpAddress", 0, address.as_slice(), &[]),
+        Value::Counter32(count) => ("Counter32", u64::from(*count), &[], &[]),
+        Value::Gauge32(level) => ("Gauge32", u64::from(*level), &[], &[]),
+        Value::TimeTicks(ticks) => ("TimeTicks", u64::from(*ticks), &[], &[]),
+        Value::Opaque(octets) => ("Opaque", 0, octets.as_slice(), &[]),
+        Value::Counter64(count) => ("Counter64", *count, &[], &[]),
+        Value::NoSuchObject => ("noSuchObject", 0, &[], &[]),
+        Value::NoSuchInstance => ("noSuchInstance", 0, &[], &[]),
+        Value::EndOfMibView => ("endOfMibView", 0, &[], &[]),
     }
 }
 

@@ -93,50 +93,46 @@ fn are<O: MibObject>(alloc: Global, objects: &[O], names: &[&str]) -> Result<boo
     Ok(objects.len() == names.len())
 }
 
-// Why no registry takes the objects, and the objects that it hands back.
-fn refused<O: MibObject>(objects: Vec<O>) -> Result<(RegistryFault, Vec<O>), Fail> {
+// How a registry of objects with these names ends: how many objects it has, or why none takes them
+// and whether it hands back the same.
+type End = (Result<usize, RegistryFault>, bool);
+
+fn end_of<O: MibObject>(alloc: Global, objects: Vec<O>, names: &[&str]) -> Result<End, Fail> {
     if !are_named(objects.as_slice()) {
         return Err(Fail::from("names of objects"));
     }
-    Ok(Registry::new(objects).err().ok_or("refused")?)
-}
-
-// How many objects the registry of these objects has.
-fn taken<O: MibObject>(objects: Vec<O>) -> Result<usize, Fail> {
-    if !are_named(objects.as_slice()) {
-        return Err(Fail::from("names of objects"));
+    match Registry::new(objects) {
+        Ok(registry) => Ok((Ok(registry.len()), true)),
+        Err((fault, back)) => Ok((Err(fault), are(alloc, back.as_slice(), names)?)),
     }
-    Ok(Registry::new(objects).ok().ok_or("a registry")?.len())
 }
 
-#[test]
-fn takes_all_objects_in_order(rt: HostRuntime) -> Result<(), Fail> {
-    let objects = boxed(rt.alloc(), &COLUMNS)?;
-    assert!(rt; are(rt.alloc(), objects.as_slice(), &NAMES)?);
-    assert_eq!(rt; taken(objects)?, 51);
-    Ok(())
-}
-
-#[test]
-fn hands_back_objects_of_which_two_are_exchanged(rt: HostRuntime) -> Result<(), Fail> {
-    let mut columns = COLUMNS;
+// The columns, and their names, of which two are exchanged.
+fn exchanged() -> ([Column; 51], [&'static str; 51]) {
+    let (mut columns, mut names) = (COLUMNS, NAMES);
     columns.swap(6, 7);
-    let mut names = NAMES;
     names.swap(6, 7);
-    let (fault, objects) = refused(boxed(rt.alloc(), &columns)?)?;
-    assert_eq!(rt; fault, RegistryFault::Unsorted);
-    assert!(rt; are(rt.alloc(), objects.as_slice(), &names)?);
-    Ok(())
+    (columns, names)
+}
+
+// The columns, and their names, of which one is there twice.
+fn doubled() -> ([Column; 51], [&'static str; 51]) {
+    let (mut columns, mut names) = (COLUMNS, NAMES);
+    columns[2] = COLUMNS[1];
+    names[2] = NAMES[1];
+    (columns, names)
 }
 
 #[test]
-fn hands_back_objects_of_which_one_is_there_twice(rt: HostRuntime) -> Result<(), Fail> {
-    let mut columns = COLUMNS;
-    columns[2] = COLUMNS[1];
-    let mut names = NAMES;
-    names[2] = NAMES[1];
-    let (fault, objects) = refused(boxed(rt.alloc(), &columns)?)?;
-    assert_eq!(rt; fault, RegistryFault::Nested);
-    assert!(rt; are(rt.alloc(), objects.as_slice(), &names)?);
+fn a_registry_takes_objects_in_order(rt: HostRuntime) -> Result<(), Fail> {
+    for (what, (columns, names), end) in [
+        ("all in order", (COLUMNS, NAMES), Ok(51)),
+        ("two exchanged", exchanged(), Err(RegistryFault::Unsorted)),
+        ("one twice", doubled(), Err(RegistryFault::Nested)),
+    ] {
+        let objects = boxed(rt.alloc(), &columns)?;
+        assert!(rt; are(rt.alloc(), objects.as_slice(), &names)?, "{what}");
+        assert_eq!(rt; end_of(rt.alloc(), objects, &names)?, (end, true), "{what}");
+    }
     Ok(())
 }

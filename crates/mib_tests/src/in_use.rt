@@ -1,7 +1,7 @@
 //! What a bridge of five ports shows in use: of three speeds, half and full duplex, one port
 //! disabled, other settings than the opening ones, another root, learned addresses.
-use crate::walks::{shown_at, walk_all};
-use crate::worlds::{hear, pass, port, put, put_at, raise, world_of};
+use crate::walks::{say_at, walk_all};
+use crate::worlds::{hear, pass, port, put, put_at, raise, two_ports, world_of};
 use rstp_core::{BridgeKey, PortKey};
 use setphase_core::World;
 use std::alloc::Global;
@@ -195,7 +195,7 @@ fn frame_of(to: [u8; 6], first: u8, last: [u8; 2]) -> [u8; 14] {
 const TO_ALL: [u8; 6] = [0xFF; 6];
 
 // Settings other than the opening ones, settled.
-fn change_settings(world: &mut World) -> Result<(), Fail> {
+fn change_settings(world: &mut World) {
     put(world, BridgeKey::Priority, 4096);
     put(world, BridgeKey::MaxAge, 1800);
     put(world, BridgeKey::Hello, 300);
@@ -203,20 +203,19 @@ fn change_settings(world: &mut World) -> Result<(), Fail> {
     put(world, BridgeKey::Version, 0);
     put(world, BridgeKey::HoldCount, 4);
     put(world, BridgeKey::Aging, 100);
-    change_ports(world)?;
+    change_ports(world);
     let _sent = world.bridge.settle();
-    Ok(())
 }
 
-fn change_ports(world: &mut World) -> Result<(), Fail> {
-    put_at(world, 2, PortKey::Priority, 16)?;
-    put_at(world, 5, PortKey::Enable, 2)?;
-    put_at(world, 3, PortKey::Cost, 77)?;
-    put_at(world, 4, PortKey::Cost, 70_000)?;
-    put_at(world, 4, PortKey::Edge, 1)?;
-    put_at(world, 1, PortKey::PointToPoint, 0)?;
-    put_at(world, 2, PortKey::PointToPoint, 1)?;
-    put_at(world, 2, PortKey::Migrate, 1)
+fn change_ports(world: &mut World) {
+    put_at(world, 2, PortKey::Priority, 16);
+    put_at(world, 5, PortKey::Enable, 2);
+    put_at(world, 3, PortKey::Cost, 77);
+    put_at(world, 4, PortKey::Cost, 70_000);
+    put_at(world, 4, PortKey::Edge, 1);
+    put_at(world, 1, PortKey::PointToPoint, 0);
+    put_at(world, 2, PortKey::PointToPoint, 1);
+    put_at(world, 2, PortKey::Migrate, 1);
 }
 
 // Seconds by fives, ahead of each of which the root is heard of.
@@ -231,21 +230,36 @@ fn pass_fives(world: &mut World, fives: u32) -> Result<(), Fail> {
 // Frames at two ports that forward, and at one that is disabled: to all, to a learned address, to
 // an address at its own port, and to a reserved one.
 fn hear_frames(world: &mut World) -> Result<(), Fail> {
-    let learned = [0x02, 0, 0, 0, 2, 2];
-    hear(world, 2, &frame_of(TO_ALL, 0x02, [2, 2]))?;
-    hear(world, 1, &frame_of(learned, 0x02, [1, 1]))?;
-    hear(world, 1, &frame_of([0x02, 0, 0, 0, 1, 1], 0x02, [1, 1]))?;
-    hear(
-        world,
-        2,
-        &frame_of([0x01, 0x80, 0xC2, 0, 0, 2], 0x02, [2, 3]),
-    )?;
-    hear(world, 5, &frame_of(TO_ALL, 0x02, [5, 5]))
+    for (port, to, last) in [
+        (2, TO_ALL, [2, 2]),
+        (1, [0x02, 0, 0, 0, 2, 2], [1, 1]),
+        (1, [0x02, 0, 0, 0, 1, 1], [1, 1]),
+        (2, [0x01, 0x80, 0xC2, 0, 0, 2], [2, 3]),
+        (5, TO_ALL, [5, 5]),
+    ] {
+        hear(world, port, &frame_of(to, 0x02, last))?;
+    }
+    Ok(())
 }
 
-// The bridge after seventy seconds: ports 1 and 2 forward, port 3 learns, port 4 discards.
-fn world_in_use(alloc: Global) -> Result<World, Fail> {
-    let mut world = world_of(
+// Seventy seconds: then ports 1 and 2 forward, port 3 learns, port 4 discards.
+fn use_bridge(world: &mut World) -> Result<(), Fail> {
+    for port in [1, 2, 5] {
+        raise(world, port);
+    }
+    pass_fives(world, 8)?;
+    hear_frames(world)?;
+    pass_fives(world, 2)?;
+    raise(world, 3);
+    pass_fives(world, 2)?;
+    raise(world, 4);
+    pass_fives(world, 2)?;
+    hear(world, 3, &frame_of(TO_ALL, 0x0A, [3, 3]))
+}
+
+// The bridge as it opens, of five ports.
+fn five_ports(alloc: Global) -> Result<World, Fail> {
+    world_of(
         alloc,
         &[
             port(7, 10, false),
@@ -254,25 +268,14 @@ fn world_in_use(alloc: Global) -> Result<World, Fail> {
             port(12, 1_000, true),
             port(2_147_483_647, 1_000, true),
         ],
-    )?;
-    change_settings(&mut world)?;
-    raise(&mut world, 1)?;
-    raise(&mut world, 2)?;
-    raise(&mut world, 5)?;
-    pass_fives(&mut world, 8)?;
-    hear_frames(&mut world)?;
-    pass_fives(&mut world, 2)?;
-    raise(&mut world, 3)?;
-    pass_fives(&mut world, 2)?;
-    raise(&mut world, 4)?;
-    pass_fives(&mut world, 2)?;
-    hear(&mut world, 3, &frame_of(TO_ALL, 0x0A, [3, 3]))?;
-    Ok(world)
+    )
 }
 
 #[test]
 fn shows_a_bridge_in_use(rt: HostRuntime) -> Result<(), Fail> {
-    let world = world_in_use(rt.alloc())?;
+    let mut world = five_ports(rt.alloc())?;
+    change_settings(&mut world);
+    use_bridge(&mut world)?;
     let text = walk_all(rt.alloc(), &world)?;
     assert_eq!(rt; text.as_slice(), IN_USE.as_bytes());
     Ok(())
@@ -286,16 +289,15 @@ fn hear_sources(world: &mut World, port: u16, group: u8) -> Result<(), Fail> {
     Ok(())
 }
 
-// A bridge whose table of learned addresses is full, with its 1,024 rows.
-fn full_world(alloc: Global) -> Result<World, Fail> {
-    let mut world = world_of(alloc, &[port(1, 1_000, true), port(2, 1_000, true)])?;
-    put_at(&mut world, 1, PortKey::Edge, 1)?;
+// The table of learned addresses of a bridge of two ports becomes full, with its 1,024 rows.
+fn fill(world: &mut World) -> Result<(), Fail> {
+    put_at(world, 1, PortKey::Edge, 1);
     let _sent = world.bridge.settle();
-    raise(&mut world, 1)?;
+    raise(world, 1);
     for group in 0..4 {
-        hear_sources(&mut world, 1, group)?;
+        hear_sources(world, 1, group)?;
     }
-    Ok(world)
+    Ok(())
 }
 
 // dot1dTpLearnedEntryDiscards.0, and the port of the last address that found room.
@@ -305,13 +307,13 @@ const LAST_ROW: [u32; 17] = [1, 3, 6, 1, 2, 1, 17, 4, 3, 1, 2, 2, 0, 0, 0, 3, 25
 
 #[test]
 fn counts_addresses_that_find_no_room(rt: HostRuntime) -> Result<(), Fail> {
-    let mut world = full_world(rt.alloc())?;
-    let before = shown_at(rt.alloc(), &world, &ENTRY_DISCARDS)?;
-    let last = shown_at(rt.alloc(), &world, &LAST_ROW)?;
+    let mut world = two_ports(rt.alloc())?;
+    fill(&mut world)?;
+    let mut text = Vec::new(rt.alloc());
+    say_at(rt.alloc(), &world, &ENTRY_DISCARDS, &mut text)?;
+    say_at(rt.alloc(), &world, &LAST_ROW, &mut text)?;
     hear(&mut world, 1, &frame_of(TO_ALL, 0x02, [4, 0]))?;
-    let after = shown_at(rt.alloc(), &world, &ENTRY_DISCARDS)?;
-    assert_eq!(rt; before.as_slice(), b" C 0".as_slice());
-    assert_eq!(rt; last.as_slice(), b" I 1".as_slice());
-    assert_eq!(rt; after.as_slice(), b" C 1".as_slice());
+    say_at(rt.alloc(), &world, &ENTRY_DISCARDS, &mut text)?;
+    assert_eq!(rt; text.as_slice(), b" C 0 I 1 C 1".as_slice());
     Ok(())
 }

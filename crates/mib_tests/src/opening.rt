@@ -1,6 +1,6 @@
 //! What a bridge of two ports shows as it opens.
 use crate::walks::walk_all;
-use crate::worlds::{port, world_of};
+use crate::worlds::two_ports;
 use std::test::Fail;
 
 // All 75 instances: the name behind dot1dBridge, the type and the value.
@@ -84,7 +84,7 @@ const OPENING: &str = "\
 
 #[test]
 fn shows_75_instances(rt: HostRuntime) -> Result<(), Fail> {
-    let world = world_of(rt.alloc(), &[port(1, 1_000, true), port(2, 1_000, true)])?;
+    let world = two_ports(rt.alloc())?;
     let text = walk_all(rt.alloc(), &world)?;
     assert_eq!(rt; text.as_slice(), OPENING.as_bytes());
     Ok(())

@@ -46,38 +46,14 @@ fn filled(world: &World, column: Column, at: u32, right: i32) -> Result<Object<S
     Ok(object)
 }
 
-// The fault of a test that finds all places taken, and how many slots are reserved then.
-fn tested_65_times(
-    world: &World,
-    column: Column,
-    at: u32,
-    right: i32,
-) -> Result<(Option<SetFault>, usize), Fail> {
-    let mut object = filled(world, column, at, right)?;
-    let fault = object.test(world, &[at], &Value::Integer(right)).err();
-    Ok((fault, object.held()))
-}
-
-#[test]
-fn has_64_places(rt: HostRuntime) -> Result<(), Fail> {
-    let world = one_port(rt.alloc())?;
-    for (column, at, right, _wrong) in WRITTEN {
-        let told = tested_65_times(&world, column, at, right)?;
-        assert_eq!(rt;
-            told,
-            (Some(SetFault::ResourceUnavailable), 64),
-            "{column:?}"
-        );
-    }
-    Ok(())
-}
-
-// What keeps its fault where all places are taken: another type, a value that the object does not
-// take, an instance that there is not (port 2, and a scalar's at .2).
-fn other_faults(world: &World, written: Written) -> Result<([Option<SetFault>; 3], usize), Fail> {
+// The faults of tests that find all places taken, and how many slots are reserved then. All but the
+// first keep their fault: another type, a value that the object does not take, an instance that
+// there is not (port 2, and a scalar's at .2).
+fn faults(world: &World, written: Written) -> Result<([Option<SetFault>; 4], usize), Fail> {
     let (column, at, right, wrong) = written;
     let mut object = filled(world, column, at, right)?;
     let faults = [
+        object.test(world, &[at], &Value::Integer(right)).err(),
         object.test(world, &[at], &Value::Gauge32(1)).err(),
         object.test(world, &[at], &Value::Integer(wrong)).err(),
         object.test(world, &[2], &Value::Integer(right)).err(),
@@ -86,20 +62,16 @@ fn other_faults(world: &World, written: Written) -> Result<([Option<SetFault>; 3
 }
 
 #[test]
-fn tells_other_faults_where_all_places_are_taken(rt: HostRuntime) -> Result<(), Fail> {
+fn has_64_places_and_tells_other_faults(rt: HostRuntime) -> Result<(), Fail> {
     let world = one_port(rt.alloc())?;
     let want = [
+        Some(SetFault::ResourceUnavailable),
         Some(SetFault::WrongType),
         Some(SetFault::WrongValue),
         Some(SetFault::NoCreation),
     ];
     for written in WRITTEN {
-        assert_eq!(rt;
-            other_faults(&world, written)?,
-            (want, 64),
-            "{:?}",
-            written.0
-        );
+        assert_eq!(rt; faults(&world, written)?, (want, 64), "{:?}", written.0);
     }
     Ok(())
 }

@@ -5,7 +5,7 @@ use message_core::{Binding, Value};
 use oid_core::Oid;
 use rstp_core::{Key, PortKey};
 use setphase_core::{Registry, SetOutcome, Staging, Standing, World, are_named, run_set};
-use setting_keys::{SettingKey, SettingKeys};
+use setting_keys::SettingKey;
 use std::alloc::Global;
 use std::test::Fail;
 use vacm_core::Name;
@@ -62,63 +62,62 @@ fn enables_of(world: &World) -> [u32; 3] {
     ]
 }
 
+// How a Set ended: all is done, all was undone after the commit of a number failed, or one setting
+// could not be undone then.
+#[derive(Clone, Copy, Debug, PartialEq, Eq)]
+enum End {
+    Done,
+    Undone(usize),
+    Stuck(usize, SettingKey),
+    Another,
+}
+
+fn end_of(outcome: &SetOutcome) -> End {
+    match outcome {
+        SetOutcome::Done => End::Done,
+        SetOutcome::CommitFailed(number) => End::Undone(*number),
+        SetOutcome::UndoFailed(number, keys) => match keys.as_slice() {
+            [key] => End::Stuck(*number, key.key()),
+            _ => End::Another,
+        },
+        SetOutcome::Refused(_) => End::Another,
+    }
+}
+
 // How a Set that disables ports ends, of whose calls of the device those of the plan fail; what is
 // enabled then; and how many slots are reserved.
-fn ended(alloc: Global, plan: u64, ports: &[u32]) -> Result<(SetOutcome, [u32; 3], usize), Fail> {
+fn ended(alloc: Global, plan: u64, ports: &[u32]) -> Result<(End, [u32; 3], usize), Fail> {
     let mut world = three_ports(alloc)?;
     let mut registry = enables(alloc)?;
     registry.arm(plan);
     let bindings = disabling(alloc, ports)?;
     let outcome = run_set(&mut registry, &mut world, &bindings, &Name::of("all"));
-    Ok((outcome, enables_of(&world), registry.held()))
+    Ok((end_of(&outcome), enables_of(&world), registry.held()))
 }
 
-// The number of the commit that failed where all was undone, or 0.
-fn undone(outcome: SetOutcome) -> usize {
-    match outcome {
-        SetOutcome::CommitFailed(number) => number,
-        _ => 0,
-    }
-}
-
-// The number of the commit that failed, and what was not undone.
-fn stuck(outcome: SetOutcome) -> Option<(usize, SettingKeys)> {
-    match outcome {
-        SetOutcome::UndoFailed(number, keys) => Some((number, keys)),
-        _ => None,
-    }
-}
-
+// The first call is the commit for port 1. Calls 3 and 4 are the commit for port 3, and then the
+// undoing for port 2, the later one, which is undone first.
 #[test]
-fn disables_two_ports(rt: HostRuntime) -> Result<(), Fail> {
-    let (outcome, enables, held) = ended(rt.alloc(), 0, &[1, 2])?;
-    assert!(rt; matches!(outcome, SetOutcome::Done));
-    assert_eq!(rt; enables, [2, 2, 1]);
-    assert_eq!(rt; held, 0);
-    Ok(())
-}
-
-// The first call fails: that is the commit for port 1.
-#[test]
-fn changes_nothing_where_the_first_commit_fails(rt: HostRuntime) -> Result<(), Fail> {
-    let (outcome, enables, held) = ended(rt.alloc(), 0b0001, &[1, 2])?;
-    assert_eq!(rt; undone(outcome), 1);
-    assert_eq!(rt; enables, [1, 1, 1]);
-    assert_eq!(rt; held, 0);
-    Ok(())
-}
-
-// Calls 3 and 4 fail: the commit for port 3, and then the undoing for port 2, the later one, which
-// is undone first.
-#[test]
-fn keeps_the_setting_that_could_not_be_undone(rt: HostRuntime) -> Result<(), Fail> {
-    let (outcome, enables, held) = ended(rt.alloc(), 0b1100, &[1, 2, 3])?;
-    let (number, keys) = stuck(outcome).ok_or("a failed undo")?;
-    assert_eq!(rt; number, 3);
+fn sets_end_by_what_the_device_does(rt: HostRuntime) -> Result<(), Fail> {
     let port_2 = SettingKey::Bridge(Key::Port(2, PortKey::Enable));
-    assert!(rt; matches!(keys.as_slice(), [key] if key.key() == port_2));
-    assert_eq!(rt; enables, [1, 2, 1]);
-    assert_eq!(rt; held, 0);
+    let rows: [(&str, u64, &[u32], End, [u32; 3]); 3] = [
+        ("no call fails", 0, &[1, 2], End::Done, [2, 2, 1]),
+        ("call 1 fails", 0b0001, &[1, 2], End::Undone(1), [1, 1, 1]),
+        (
+            "calls 3 and 4 fail",
+            0b1100,
+            &[1, 2, 3],
+            End::Stuck(3, port_2),
+            [1, 2, 1],
+        ),
+    ];
+    for (what, plan, ports, end, enables) in rows {
+        assert_eq!(rt;
+            ended(rt.alloc(), plan, ports)?,
+            (end, enables, 0),
+            "{what}"
+        );
+    }
     Ok(())
 }
 
@@ -135,19 +134,6 @@ fn stage_and_drop(
         return false;
     };
     staging.stage(world, &all, second).is_ok()
-}
-
-#[test]
-fn releases_what_was_tested(rt: HostRuntime) -> Result<(), Fail> {
-    let world = three_ports(rt.alloc())?;
-    let mut registry = enables(rt.alloc())?;
-    let bindings = disabling(rt.alloc(), &[1, 2])?;
-    let [first, second] = bindings.as_slice() else {
-        return Err(Fail::from("two variables"));
-    };
-    assert!(rt; stage_and_drop(&mut registry, &world, first, second));
-    assert_eq!(rt; registry.held(), 0);
-    Ok(())
 }
 
 // Tests two variables of a Set, commits both, undoes the second, and drops the Set. Whether all of
@@ -179,16 +165,18 @@ fn undo_one_and_drop(
     staging.undo_last(world).is_ok()
 }
 
+// A Set that is dropped releases what it tested, and then one what it committed and undid.
 #[test]
-fn releases_what_was_committed_and_undone(rt: HostRuntime) -> Result<(), Fail> {
+fn releases_what_was_tested_or_undone(rt: HostRuntime) -> Result<(), Fail> {
     let mut world = three_ports(rt.alloc())?;
     let mut registry = enables(rt.alloc())?;
     let bindings = disabling(rt.alloc(), &[1, 2])?;
     let [first, second] = bindings.as_slice() else {
         return Err(Fail::from("two variables"));
     };
-    assert!(rt; undo_one_and_drop(&mut registry, &mut world, first, second));
-    assert_eq!(rt; enables_of(&world), [2, 1, 1]);
+    assert!(rt; stage_and_drop(&mut registry, &world, first, second));
     assert_eq!(rt; registry.held(), 0);
+    assert!(rt; undo_one_and_drop(&mut registry, &mut world, first, second));
+    assert_eq!(rt; (enables_of(&world), registry.held()), ([2, 1, 1], 0));
     Ok(())
 }

@@ -1,8 +1,8 @@
 //! The text of a walk over all objects.
 use bridge_mib::Steady;
 use message_core::{Binding, Value};
-use object_list::objects;
-use setphase_core::{MibObject, Registry, World};
+use object_list::{Object, objects};
+use setphase_core::{Registry, World};
 use std::alloc::Global;
 use std::io::Write;
 use std::test::Fail;
@@ -64,12 +64,18 @@ fn say_instance(instance: &Binding, text: &mut Vec<u8>) -> Result<(), Fail> {
     Ok(())
 }
 
-// What a walk over a registry says.
-fn walk<O: MibObject>(
-    alloc: Global,
-    registry: &Registry<O>,
-    world: &World,
-) -> Result<Vec<u8>, Fail> {
+// All objects of a bridge.
+fn registry(alloc: Global) -> Result<Registry<Object<Steady>>, Fail> {
+    Ok(
+        Registry::new(objects(alloc, Steady)?)
+            .ok()
+            .ok_or("a registry")?,
+    )
+}
+
+/// What a walk over all objects of a bridge says, a line for each instance.
+pub fn walk_all(alloc: Global, world: &World) -> Result<Vec<u8>, Fail> {
+    let registry = registry(alloc)?;
     let mut text = Vec::new(alloc);
     let mut after = Vec::from_slice(alloc, &[0, 0])?;
     for _ in 0..MOST {
@@ -82,23 +88,11 @@ fn walk<O: MibObject>(
     Err(Fail::from("a walk without end"))
 }
 
-/// What a walk over all objects of a bridge says, a line for each instance.
-pub fn walk_all(alloc: Global, world: &World) -> Result<Vec<u8>, Fail> {
-    let registry = Registry::new(objects(alloc, Steady)?)
-        .ok()
-        .ok_or("a registry")?;
-    walk(alloc, &registry, world)
-}
-
-/// What an object shows under a name: a space, the letter of the type, a space and the value, or
-/// nothing.
-pub fn shown_at(alloc: Global, world: &World, name: &[u32]) -> Result<Vec<u8>, Fail> {
-    let registry = Registry::new(objects(alloc, Steady)?)
-        .ok()
-        .ok_or("a registry")?;
-    let mut text = Vec::new(alloc);
-    if let Some(value) = registry.read(alloc, world, name, 0) {
-        say_value(&value, &mut text)?;
+/// Appends what an object shows under a name: a space, the letter of the type, a space and the
+/// value, or nothing.
+pub fn say_at(alloc: Global, world: &World, name: &[u32], text: &mut Vec<u8>) -> Result<(), Fail> {
+    match registry(alloc)?.read(alloc, world, name, 0) {
+        Some(value) => say_value(&value, text),
+        None => Ok(()),
     }
-    Ok(text)
 }

@@ -44,7 +44,12 @@ pub fn world_of(alloc: Global, ports: &[PortConfig]) -> Result<World, Fail> {
     world_under(alloc, ports, NO_POLICY)
 }
 
-/// The same under a policy of one view, `all`, in which all of the bridge is.
+/// The same of two ports of 1 Gb/s.
+pub fn two_ports(alloc: Global) -> Result<World, Fail> {
+    world_of(alloc, &[port(1, 1_000, true), port(2, 1_000, true)])
+}
+
+/// The same of these ports under a policy of one view, `all`, in which all of the bridge is.
 pub fn seen_world_of(alloc: Global, ports: &[PortConfig]) -> Result<World, Fail> {
     world_under(alloc, ports, ALL_SEEN)
 }
@@ -68,24 +73,20 @@ pub fn put(world: &mut World, key: BridgeKey, value: u32)
     let _before = world.bridge.put_setting(Key::Bridge(key), value);
 }
 
-/// Gives a setting of a port a value.
-pub fn put_at(world: &mut World, port: u16, key: PortKey, value: u32) -> Result<(), Fail>
+/// Gives a setting of a port a value, where there is that port.
+pub fn put_at(world: &mut World, port: u16, key: PortKey, value: u32)
     requires { IsPortRange key value }
 {
-    if port < 1 || usize::from(port) > world.bridge.ports() {
-        return Err(Fail::from("a port"));
+    if port >= 1 && usize::from(port) <= world.bridge.ports() {
+        let _before = world.bridge.put_setting(Key::Port(port, key), value);
     }
-    let _before = world.bridge.put_setting(Key::Port(port, key), value);
-    Ok(())
 }
 
-/// The link of a port goes up.
-pub fn raise(world: &mut World, port: u16) -> Result<(), Fail> {
-    if port < 1 || usize::from(port) > world.bridge.ports() {
-        return Err(Fail::from("a port"));
+/// The link of a port goes up, where there is that port.
+pub fn raise(world: &mut World, port: u16) {
+    if port >= 1 && usize::from(port) <= world.bridge.ports() {
+        let _sent = world.bridge.link(port, true);
     }
-    let _sent = world.bridge.link(port, true);
-    Ok(())
 }
 
 /// A frame comes in by a port.

@@ -1,9 +1,10 @@
 //! GetBulk (RFC 3416, 4.2.3).
+use crate::support::Over::{Policy, ThreePorts};
+use crate::support::{Table, assert_tables};
 use fixtures::message::Held::{Counter, End, Integer, Name, Null};
 use fixtures::names::{LAST, PORTS, TYPE};
-use fixtures::rows::{Row, assert_rows};
-use fixtures::worlds::{all_of, bridge_of, built_in, port};
-use rstp_core::IfIndex;
+use fixtures::policies::WHOLE_BRIDGE;
+use fixtures::rows::Row;
 use std::test::Fail;
 
 // dot1dBaseNumPorts, the column of a port's ifIndex, and the circuit of port 1.
@@ -62,32 +63,20 @@ const REPETITIONS: [Row<'static>; 5] = [
     ),
 ];
 
-#[test]
-fn answers_repetition_by_repetition(rt: HostRuntime) -> Result<(), Fail> {
-    assert_rows(&rt, built_in(rt.alloc())?, &REPETITIONS)
-}
-
 // A GetBulk of one name once and three repetitions of another, and its reply, as other encoders
 // write them.
-#[test]
-fn answers_the_octets_of_another_encoder(rt: HostRuntime) -> Result<(), Fail> {
-    assert_rows(
-        &rt,
-        built_in(rt.alloc())?,
-        &[Row::Line(
-            "request 303602010104067075626C6963A529020101020101020103\
+const OTHER_ENCODER: [Row<'static>; 1] = [Row::Line(
+    "request 303602010104067075626C6963A529020101020101020103\
              301E300C06082B060102011101020500\
              300E060A2B0601020111010401020500",
-            &[
-                "reply 305E02010104067075626C6963A251020101020100020100",
-                "3046300E06092B0601020111010200020102",
-                "3010060B2B06010201110104010201020101",
-                "3010060B2B06010201110104010202020102",
-                "3010060B2B06010201110104010301060100\n",
-            ],
-        )],
-    )
-}
+    &[
+        "reply 305E02010104067075626C6963A251020101020100020100",
+        "3046300E06092B0601020111010200020102",
+        "3010060B2B06010201110104010201020101",
+        "3010060B2B06010201110104010202020102",
+        "3010060B2B06010201110104010301060100\n",
+    ],
+)];
 
 const COUNTS: [Row<'static>; 4] = [
     Row::Bulk(
@@ -114,11 +103,6 @@ const COUNTS: [Row<'static>; 4] = [
     ),
 ];
 
-#[test]
-fn counts_names_and_repetitions(rt: HostRuntime) -> Result<(), Fail> {
-    assert_rows(&rt, built_in(rt.alloc())?, &COUNTS)
-}
-
 // The port, the interface number and the circuit of three ports, row by row.
 const THREE_PORTS: [Row<'static>; 1] = [Row::Bulk(
     "three columns of three ports",
@@ -142,13 +126,26 @@ const THREE_PORTS: [Row<'static>; 1] = [Row::Bulk(
     ],
 )];
 
+const TABLES: &[Table<'static>] = &[
+    (
+        "repetition by repetition",
+        Policy(WHOLE_BRIDGE),
+        &REPETITIONS,
+    ),
+    (
+        "the octets of another encoder",
+        Policy(WHOLE_BRIDGE),
+        &OTHER_ENCODER,
+    ),
+    (
+        "counts of names and of repetitions",
+        Policy(WHOLE_BRIDGE),
+        &COUNTS,
+    ),
+    ("a table row by row", ThreePorts, &THREE_PORTS),
+];
+
 #[test]
-fn answers_a_table_row_by_row(rt: HostRuntime) -> Result<(), Fail> {
-    let ports = [
-        port(IfIndex::of(7)),
-        port(IfIndex::of(3)),
-        port(IfIndex::of(2147483647)),
-    ];
-    let bridge = bridge_of(rt.alloc(), &ports)?;
-    assert_rows(&rt, all_of(rt.alloc(), bridge)?, &THREE_PORTS)
+fn answers_get_bulk(rt: HostRuntime) -> Result<(), Fail> {
+    assert_tables(&rt, TABLES)
 }

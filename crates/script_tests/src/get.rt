@@ -1,48 +1,14 @@
 //! Get, and requests of no names (RFC 3416, 4.2.1).
+use crate::support::Over::{First, Policy};
+use crate::support::{ASKED, Table, assert_tables};
 use fixtures::message::Held::{Counter, Integer, Name, NoInstance, NoObject, Null, Octets, Ticks};
-use fixtures::message::{Held, Message, bulk, get, next, of, reply, set};
+use fixtures::message::{Message, Pdu};
 use fixtures::names::{ADDRESS, LAST, PRIORITY, ROOT, SINCE};
-use fixtures::rows::{Row, assert_rows, replied};
-use fixtures::support::{GET, TWO_PORTS, assert_answers, repeated};
-use fixtures::worlds::{OWN_ADDRESS, OWN_IDENTIFIER, built_in, first_objects};
-use std::alloc::AllocGlobal;
-use std::process::Abort;
+use fixtures::policies::WHOLE_BRIDGE;
+use fixtures::rows::Row;
+use fixtures::rows::Said::Reply;
+use fixtures::worlds::{OWN_ADDRESS, OWN_IDENTIFIER};
 use std::test::Fail;
-
-// The same Get, as other encoders wrote it.
-#[test]
-fn answers_a_get(rt: HostRuntime) -> Result<(), Fail> {
-    assert_answers(
-        &rt,
-        &[
-            ("the shortest lengths", GET, TWO_PORTS),
-            (
-                "a length in the long form",
-                "request 3082002702010104067075626C6963A01A020101020100020100\
-                 300F300D06092B06010201110102000500",
-                TWO_PORTS,
-            ),
-            (
-                "an error-status, which means nothing",
-                "request 302702010104067075626C6963A01A020101020105020100\
-                 300F300D06092B06010201110102000500",
-                TWO_PORTS,
-            ),
-            (
-                "an id of four octets",
-                "request 302A02010104067075626C6963A01D020400000001020100020100\
-                 300F300D06092B06010201110102000500",
-                TWO_PORTS,
-            ),
-            (
-                "small letters",
-                "request 302702010104067075626c6963a01a020101020100020100\
-                 300f300d06092b06010201110102000500",
-                TWO_PORTS,
-            ),
-        ],
-    )
-}
 
 // An instance of each type, and one of each group.
 const OPENING: [Row<'static>; 1] = [Row::Shown(
@@ -62,11 +28,6 @@ const OPENING: [Row<'static>; 1] = [Row::Shown(
     ],
 )];
 
-#[test]
-fn shows_the_bridge(rt: HostRuntime) -> Result<(), Fail> {
-    assert_rows(&rt, built_in(rt.alloc())?, &OPENING)
-}
-
 const MISSING: [Row<'static>; 1] = [Row::Shown(
     "instances, a column without rows, objects, another group, and what there is",
     &[
@@ -81,11 +42,6 @@ const MISSING: [Row<'static>; 1] = [Row::Shown(
     ],
 )];
 
-#[test]
-fn tells_what_is_missing(rt: HostRuntime) -> Result<(), Fail> {
-    assert_rows(&rt, built_in(rt.alloc())?, &MISSING)
-}
-
 const OF_TWO_OBJECTS: [Row<'static>; 1] = [Row::Shown(
     "the third object is left out",
     &[
@@ -95,70 +51,79 @@ const OF_TWO_OBJECTS: [Row<'static>; 1] = [Row::Shown(
     ],
 )];
 
-#[test]
-fn knows_the_objects_that_there_are(rt: HostRuntime) -> Result<(), Fail> {
-    assert_rows(&rt, first_objects(rt.alloc(), 2)?, &OF_TWO_OBJECTS)
-}
+// An id of two octets.
+const WITH_ID: Message<'static> = Message { id: -129, ..ASKED };
+
+const ID: [Row<'static>; 1] = [Row::Request(
+    "an id of two octets",
+    Message {
+        bindings: &[(ADDRESS, Null)],
+        ..WITH_ID
+    },
+    Reply(Message {
+        pdu: Pdu::Response,
+        bindings: &[(ADDRESS, Octets(OWN_ADDRESS))],
+        ..WITH_ID
+    }),
+    None,
+)];
+
+// A Get of no names whose numbers are not 0, and the reply of none.
+const NUMBERS: Message<'static> = Message {
+    first: 3,
+    second: 4,
+    ..ASKED
+};
+
+const NONE: Message<'static> = Message {
+    pdu: Pdu::Response,
+    ..ASKED
+};
+
+const NO_NAMES: [Row<'static>; 4] = [
+    Row::Request("a Get", NUMBERS, Reply(NONE), None),
+    Row::Request(
+        "a GetNext",
+        Message {
+            pdu: Pdu::GetNext,
+            ..NUMBERS
+        },
+        Reply(NONE),
+        None,
+    ),
+    Row::Request(
+        "a Set",
+        Message {
+            pdu: Pdu::Set,
+            ..NUMBERS
+        },
+        Reply(NONE),
+        None,
+    ),
+    Row::Request(
+        "a GetBulk",
+        Message {
+            pdu: Pdu::GetBulk,
+            ..NUMBERS
+        },
+        Reply(NONE),
+        None,
+    ),
+];
+
+const TABLES: &[Table<'static>] = &[
+    ("the bridge", Policy(WHOLE_BRIDGE), &OPENING),
+    ("what is missing", Policy(WHOLE_BRIDGE), &MISSING),
+    ("the objects that there are", First(2), &OF_TWO_OBJECTS),
+    ("the id of the request", Policy(WHOLE_BRIDGE), &ID),
+    (
+        "no names, answered with none",
+        Policy(WHOLE_BRIDGE),
+        &NO_NAMES,
+    ),
+];
 
 #[test]
-fn replies_with_the_id_of_the_request(rt: HostRuntime) -> Result<(), Fail> {
-    let with_id = |message| Message {
-        id: -129,
-        ..message
-    };
-    assert_rows(
-        &rt,
-        built_in(rt.alloc())?,
-        &[replied(
-            "an id of two octets",
-            with_id(get(&[(ADDRESS, Null)])),
-            with_id(reply(&[(ADDRESS, Octets(OWN_ADDRESS))])),
-        )],
-    )
-}
-
-// What is held under so many more numbers behind a name.
-fn assert_held_below<R: Abort + AllocGlobal>(
-    rt: &R,
-    name: &str,
-    more: usize,
-    held: Held<'static>,
-) -> Result<(), Fail> {
-    let long = repeated(rt.alloc(), name, more, ".1")?;
-    let instances = [(long.as_str(), held)];
-    assert_rows(
-        rt,
-        built_in(rt.alloc())?,
-        &[Row::Shown("a long name", &instances)],
-    )
-}
-
-// Names of more numbers than take no memory, 25 and 128: below an object, and below none.
-#[test]
-fn looks_for_long_names(rt: HostRuntime) -> Result<(), Fail> {
-    for more in [16usize, 119] {
-        assert_held_below(&rt, "1.3.6.1.2.1.17.1.1", more, NoInstance)?;
-        assert_held_below(&rt, "1.3.6.1.2.1.17.1.9", more, NoObject)?;
-    }
-    Ok(())
-}
-
-#[test]
-fn answers_no_names_with_none(rt: HostRuntime) -> Result<(), Fail> {
-    let none = reply(&[]);
-    let numbers = |message| Message {
-        first: 3,
-        second: 4,
-        ..message
-    };
-    assert_rows(
-        &rt,
-        built_in(rt.alloc())?,
-        &[
-            replied("a Get", numbers(get(&[])), none),
-            replied("a GetNext", numbers(next(&[])), none),
-            replied("a Set", numbers(set(&[])), none),
-            replied("a GetBulk", bulk(3, 4, &[]), none),
-        ],
-    )
+fn answers_get(rt: HostRuntime) -> Result<(), Fail> {
+    assert_tables(&rt, TABLES)
 }

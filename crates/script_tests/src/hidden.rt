@@ -1,10 +1,10 @@
 //! What a view hides: columns, ports, and whole objects (RFC 3415, 2.4; RFC 3416, 4.2).
+use crate::support::Over::Policy;
+use crate::support::{Table, assert_tables};
 use fixtures::message::Held::{End, Integer, NoInstance, NoObject, Null, Octets};
-use fixtures::message::{get, next, reply};
 use fixtures::policies::MASKED;
-use fixtures::rows::Said::Reply;
-use fixtures::rows::{AUDIT_ON, Row, assert_rows, audited};
-use fixtures::worlds::{OWN_IDENTIFIER, built_in_for};
+use fixtures::rows::{AUDIT_ON, Row};
+use fixtures::worlds::OWN_IDENTIFIER;
 use std::test::Fail;
 
 // The columns of port 2 that the tests ask for: its priority, its state, whether it is enabled,
@@ -22,41 +22,27 @@ const ROOT_2: &str = "1.3.6.1.2.1.17.2.15.1.6.2";
 const LAST_2: &str = "1.3.6.1.2.1.17.2.15.1.11.2";
 
 // Port 2 in all columns of the port table is to be seen, but for its state.
-#[test]
-fn sees_by_families(rt: HostRuntime) -> Result<(), Fail> {
-    assert_rows(
-        &rt,
-        built_in_for(rt.alloc(), MASKED)?,
-        &[
-            AUDIT_ON,
-            audited(
-                "a name in the view",
-                get(&[(COST_2, Null)]),
-                Reply(reply(&[(COST_2, Integer(20000))])),
-                "get 0 0 ok access(readers,,2,1) view p2",
-            ),
-            audited(
-                "a column that is left out",
-                get(&[(STATE_2, Null)]),
-                Reply(reply(&[(STATE_2, NoObject)])),
-                "get 0 0 ok access(readers,,2,1) view p2 denied 1 \
-                 family(p2,1.3.6.1.2.1.17.2.15.1.3.0)",
-            ),
-            audited(
-                "a port that no family has",
-                get(&[("1.3.6.1.2.1.17.2.15.1.5.1", Null)]),
-                Reply(reply(&[("1.3.6.1.2.1.17.2.15.1.5.1", NoInstance)])),
-                "get 0 0 ok access(readers,,2,1) view p2 denied 1 none",
-            ),
-            audited(
-                "GetNext passes over what is hidden",
-                next(&[(PRIORITY_2, Null)]),
-                Reply(reply(&[(ENABLE_2, Integer(1))])),
-                "next 0 0 ok access(readers,,2,1) view p2",
-            ),
-        ],
-    )
-}
+const SEEN: [Row<'static>; 9] = [
+    AUDIT_ON,
+    Row::Shown("a name in the view", &[(COST_2, Integer(20000))]),
+    Row::Behind(&["audit get 0 0 ok access(readers,,2,1) view p2\n"]),
+    Row::Shown("a column that is left out", &[(STATE_2, NoObject)]),
+    Row::Behind(&[
+        "audit get 0 0 ok access(readers,,2,1) view p2 denied 1 ",
+        "family(p2,1.3.6.1.2.1.17.2.15.1.3.0)\n",
+    ]),
+    Row::Shown(
+        "a port that no family has",
+        &[("1.3.6.1.2.1.17.2.15.1.5.1", NoInstance)],
+    ),
+    Row::Behind(&["audit get 0 0 ok access(readers,,2,1) view p2 denied 1 none\n"]),
+    Row::Next(
+        "GetNext passes over what is hidden",
+        &[(PRIORITY_2, Null)],
+        &[(ENABLE_2, Integer(1))],
+    ),
+    Row::Behind(&["audit next 0 0 ok access(readers,,2,1) view p2\n"]),
+];
 
 const PASSED_OVER: [Row<'static>; 3] = [
     Row::Next(
@@ -89,7 +75,12 @@ const PASSED_OVER: [Row<'static>; 3] = [
     ),
 ];
 
+const TABLES: &[Table<'static>] = &[
+    ("what is seen by families", Policy(MASKED), &SEEN),
+    ("what is passed over", Policy(MASKED), &PASSED_OVER),
+];
+
 #[test]
-fn passes_over_what_is_hidden(rt: HostRuntime) -> Result<(), Fail> {
-    assert_rows(&rt, built_in_for(rt.alloc(), MASKED)?, &PASSED_OVER)
+fn hides_by_families(rt: HostRuntime) -> Result<(), Fail> {
+    assert_tables(&rt, TABLES)
 }

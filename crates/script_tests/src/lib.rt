@@ -22,8 +22,6 @@
 #[cfg(test)]
 mod access;
 #[cfg(test)]
-mod bridge;
-#[cfg(test)]
 mod bulk;
 #[cfg(test)]
 mod get;
@@ -34,6 +32,8 @@ mod lines;
 #[cfg(test)]
 mod live;
 #[cfg(test)]
+mod long;
+#[cfg(test)]
 mod message;
 #[cfg(test)]
 mod next;
@@ -41,3 +41,5 @@ mod next;
 mod policy;
 #[cfg(test)]
 mod sizes;
+#[cfg(test)]
+mod support;

@@ -1,4 +1,6 @@
 //! The bridge as it runs: a frame, a link or a second changes what the next request reads.
+use crate::support::Over::{Edges, Policy};
+use crate::support::{Table, assert_tables};
 use fixtures::bpdus::{
     AGREEMENT, BETTER, BETTER_ROOT, CHANGE, FORWARDING_1, FORWARDING_2, HELLO_TIME, LEARNING,
     PROPOSAL,
@@ -8,8 +10,9 @@ use fixtures::names::{
     DISCARDS_1, IN_FRAMES_1, LEARNED_PORT, OUT_FRAMES_1, ROOT, ROOT_COST, ROOT_PORT, SINCE,
     STATE_1, TOP_CHANGES, TP_PORT_1, TRANSITIONS_1,
 };
-use fixtures::rows::{Row, assert_rows};
-use fixtures::worlds::{OWN_IDENTIFIER, all_of, built_in, edges};
+use fixtures::policies::WHOLE_BRIDGE;
+use fixtures::rows::Row;
+use fixtures::worlds::OWN_IDENTIFIER;
 use std::test::Fail;
 
 // After three hello times without a word the other root is forgotten. The change of the topology
@@ -48,11 +51,6 @@ const ANOTHER_ROOT: [Row<'static>; 6] = [
         ],
     ),
 ];
-
-#[test]
-fn shows_another_root_until_it_is_silent(rt: HostRuntime) -> Result<(), Fail> {
-    assert_rows(&rt, built_in(rt.alloc())?, &ANOTHER_ROOT)
-}
 
 // Each second second a BPDU goes out. After the forward delay the port learns, after another it
 // forwards: the topology changes, which is told for a hello time and a second.
@@ -93,11 +91,6 @@ const COMES_TO_FORWARD: [Row<'static>; 13] = [
     Row::Line("tick 3", &[CHANGE, FORWARDING_1]),
     Row::Shown("a second after the change", &[(SINCE, Ticks(100))]),
 ];
-
-#[test]
-fn shows_a_port_that_comes_to_forward(rt: HostRuntime) -> Result<(), Fail> {
-    assert_rows(&rt, built_in(rt.alloc())?, &COMES_TO_FORWARD)
-}
 
 // dot1dTpFdbPort of the station 02-00-00-00-01-01.
 const STATION: &str = "1.3.6.1.2.1.17.4.3.1.2.2.0.0.0.1.1";
@@ -141,7 +134,36 @@ const LEARNED: [Row<'static>; 13] = [
     ),
 ];
 
+// Edges forward as soon as their links are up.
+const FORWARDED: [Row<'static>; 6] = [
+    Row::Line("link 1 up", &[FORWARDING_1]),
+    Row::Line("link 2 up", &[FORWARDING_2]),
+    Row::Line("frame 1 FFFFFFFFFFFF0200000001010800", &["forward 2\n"]),
+    Row::Line("frame 2 0200000001010200000002020800", &["forward 1\n"]),
+    Row::Line("frame 1 0200000001010200000003030800", &["forward -\n"]),
+    Row::Line("frame 1 0180C20000030200000003030800", &["forward -\n"]),
+];
+
+const TABLES: &[Table<'static>] = &[
+    (
+        "another root until it is silent",
+        Policy(WHOLE_BRIDGE),
+        &ANOTHER_ROOT,
+    ),
+    (
+        "a port that comes to forward",
+        Policy(WHOLE_BRIDGE),
+        &COMES_TO_FORWARD,
+    ),
+    ("what it has learned", Edges, &LEARNED),
+    (
+        "what is forwarded by what it has learned",
+        Edges,
+        &FORWARDED,
+    ),
+];
+
 #[test]
-fn shows_what_it_has_learned(rt: HostRuntime) -> Result<(), Fail> {
-    assert_rows(&rt, all_of(rt.alloc(), edges(rt.alloc())?)?, &LEARNED)
+fn shows_the_bridge_as_it_runs(rt: HostRuntime) -> Result<(), Fail> {
+    assert_tables(&rt, TABLES)
 }

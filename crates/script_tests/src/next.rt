@@ -1,12 +1,11 @@
 //! GetNext (RFC 3416, 4.2.2).
+use crate::support::Over::{First, Policy};
+use crate::support::{Table, assert_tables};
 use fixtures::message::Held::{Counter, End, Integer, Null, Octets};
-use fixtures::message::{Held, next, reply};
 use fixtures::names::{ADDRESS, LAST, PORTS, TOP_CHANGES, TYPE};
-use fixtures::rows::{Row, assert_rows, line_with};
-use fixtures::support::{assert_said, repeated};
-use fixtures::worlds::{OWN_ADDRESS, built_in, first_objects};
-use std::alloc::AllocGlobal;
-use std::process::Abort;
+use fixtures::policies::WHOLE_BRIDGE;
+use fixtures::rows::Row;
+use fixtures::worlds::OWN_ADDRESS;
 use std::test::Fail;
 
 const OF_ALL: [Row<'static>; 3] = [
@@ -45,11 +44,6 @@ const OF_ALL: [Row<'static>; 3] = [
     ),
 ];
 
-#[test]
-fn answers_what_comes_next(rt: HostRuntime) -> Result<(), Fail> {
-    assert_rows(&rt, built_in(rt.alloc())?, &OF_ALL)
-}
-
 const OF_THREE_OBJECTS: [Row<'static>; 3] = [
     Row::Next(
         "three objects",
@@ -70,32 +64,16 @@ const OF_THREE_OBJECTS: [Row<'static>; 3] = [
     ),
 ];
 
-#[test]
-fn ends_behind_the_last_object(rt: HostRuntime) -> Result<(), Fail> {
-    assert_rows(&rt, first_objects(rt.alloc(), 3)?, &OF_THREE_OBJECTS)
-}
+const TABLES: &[Table<'static>] = &[
+    ("what comes next", Policy(WHOLE_BRIDGE), &OF_ALL),
+    (
+        "the end behind the last object",
+        First(3),
+        &OF_THREE_OBJECTS,
+    ),
+];
 
-// What comes next after a name.
-fn assert_next<R: Abort + AllocGlobal>(
-    rt: &R,
-    name: &str,
-    answer: &str,
-    held: Held<'static>,
-) -> Result<(), Fail> {
-    let asked = line_with(rt.alloc(), "request", &next(&[(name, Null)]))?;
-    let said = line_with(rt.alloc(), "reply", &reply(&[(answer, held)]))?;
-    assert_said(rt, &[&asked], &[&said])
-}
-
-// Names of more numbers than take no memory, 25 and 128: between two instances, and behind the
-// last.
 #[test]
-fn goes_on_from_long_names(rt: HostRuntime) -> Result<(), Fail> {
-    for more in [15usize, 118] {
-        let between = repeated(rt.alloc(), ADDRESS, more, ".1")?;
-        assert_next(&rt, &between, PORTS, Integer(2))?;
-        let behind = repeated(rt.alloc(), "1.3.6.1.2.1.17.9.9.9", more, ".1")?;
-        assert_next(&rt, &behind, &behind, End)?;
-    }
-    Ok(())
+fn answers_get_next(rt: HostRuntime) -> Result<(), Fail> {
+    assert_tables(&rt, TABLES)
 }

@@ -1,14 +1,12 @@
 //! Sets that access control refuses, and their audits (RFC 3415, 3.2; RFC 3416, 4.2.5).
+use crate::support::Over::TwoPorts;
+use crate::support::{Table, assert_over};
 use fixtures::message::Held::{Integer, Octets};
-use fixtures::message::{
-    AUTHORIZATION_ERROR, Bound, Message, NO_ACCESS, NOT_WRITABLE, WRONG_TYPE, failed, of, reply,
-    set,
-};
+use fixtures::message::{AUTHORIZATION_ERROR, Message, NO_ACCESS, NOT_WRITABLE, Pdu, WRONG_TYPE};
 use fixtures::names::{ADMIN_COST_1, COST_1, COST_32_1, ENABLE_1, PORTS, PRIORITY};
 use fixtures::policies::{ALL_BUT_PORT_1, READ_BRIDGE, READERS, STRANGERS, WHOLE_BRIDGE, WRITERS};
 use fixtures::rows::Said::{Drop, Reply};
-use fixtures::rows::{AUDIT_OFF, AUDIT_ON, Row, assert_rows, audited};
-use fixtures::worlds::{built_in, built_in_for};
+use fixtures::rows::{AUDIT_OFF, AUDIT_ON, Row};
 use std::test::Fail;
 
 // Port 1 in the columns of the port table is not in the view `w`.
@@ -43,11 +41,6 @@ const HIDDEN: &[Row<'static>] = &[
     ]),
 ];
 
-#[test]
-fn names_the_family_that_leaves_out(rt: HostRuntime) -> Result<(), Fail> {
-    assert_rows(&rt, built_in_for(rt.alloc(), ALL_BUT_PORT_1)?, HIDDEN)
-}
-
 // Another fault ahead of it is told alone.
 const BEHIND_A_FAULT: &[Row<'static>] = &[
     AUDIT_ON,
@@ -65,15 +58,6 @@ const BEHIND_A_FAULT: &[Row<'static>] = &[
     Row::Behind(&["audit set 7 1 ok access(writers,,2,1) view w\n"]),
 ];
 
-#[test]
-fn tells_a_fault_ahead_alone(rt: HostRuntime) -> Result<(), Fail> {
-    assert_rows(
-        &rt,
-        built_in_for(rt.alloc(), ALL_BUT_PORT_1)?,
-        BEHIND_A_FAULT,
-    )
-}
-
 // dot1dStpPortAdminPathCost of port 1 is in the view, and shows the same setting.
 const SAME_SETTING: &[Row<'static>] = &[
     Row::Assigned(
@@ -90,11 +74,6 @@ const SAME_SETTING: &[Row<'static>] = &[
         &[(COST_1, Integer(10))],
     ),
 ];
-
-#[test]
-fn judges_the_name_and_not_the_setting(rt: HostRuntime) -> Result<(), Fail> {
-    assert_rows(&rt, built_in_for(rt.alloc(), ALL_BUT_PORT_1)?, SAME_SETTING)
-}
 
 // sysName.0, and a name that begins the bridge's, are in no family.
 const OUTSIDE: &[Row<'static>] = &[
@@ -121,53 +100,47 @@ const OUTSIDE: &[Row<'static>] = &[
     Row::Shown("nothing is changed", &[(PRIORITY, Integer(32768))]),
 ];
 
-#[test]
-fn tells_where_no_family_has_a_name(rt: HostRuntime) -> Result<(), Fail> {
-    assert_rows(&rt, built_in(rt.alloc())?, OUTSIDE)
-}
+// A Set of the priority by `public`, and the reply by which access control refuses it whole.
+const SET: Message<'static> = Message {
+    community: "public",
+    pdu: Pdu::Set,
+    id: 1,
+    first: 0,
+    second: 0,
+    bindings: &[(PRIORITY, Integer(4096))],
+};
 
-const PRIORITY_4096: &[Bound<'static>] = &[(PRIORITY, Integer(4096))];
-
-// A Set of the priority by this community.
-fn priority_of(community: &str) -> Message<'_> {
-    of(community, set(PRIORITY_4096))
-}
-
-// A Set of the priority by this community, which is not let in.
-fn refused<'a>(what: &'a str, community: &'a str, audit: &'a str) -> Row<'a> {
-    let said = of(community, failed(AUTHORIZATION_ERROR, PRIORITY_4096));
-    audited(what, priority_of(community), Reply(said), audit)
-}
+const REFUSED: Message<'static> = Message {
+    pdu: Pdu::Response,
+    first: AUTHORIZATION_ERROR,
+    ..SET
+};
 
 // The writers write a view that no family has.
 const WRITE_NOWHERE: &str = "write = \"nowhere\"\n";
 
-#[test]
-fn writes_no_view_of_no_family(rt: HostRuntime) -> Result<(), Fail> {
-    let policy = [READERS, READ_BRIDGE, WRITERS, WRITE_NOWHERE];
-    assert_rows(
-        &rt,
-        built_in_for(rt.alloc(), &policy)?,
-        &[
-            AUDIT_ON,
-            refused(
-                "no family",
-                "admin",
-                "set 16 0 noSuchView access(writers,,2,1) view nowhere",
-            ),
-            refused(
-                "no view",
-                "public",
-                "set 16 0 noSuchView access(readers,,2,1) empty",
-            ),
-            AUDIT_OFF,
-            Row::Shown("nothing is changed", &[(PRIORITY, Integer(32768))]),
-        ],
-    )
-}
+const NOWHERE: &[Row<'static>] = &[
+    AUDIT_ON,
+    Row::Refused(
+        "no family",
+        (AUTHORIZATION_ERROR, 0),
+        &[(PRIORITY, Integer(4096))],
+    ),
+    Row::Behind(&["audit set 16 0 noSuchView access(writers,,2,1) view nowhere\n"]),
+    Row::Request(
+        "no view",
+        SET,
+        Reply(REFUSED),
+        Some("set 16 0 noSuchView access(readers,,2,1) empty"),
+    ),
+    AUDIT_OFF,
+    Row::Shown("nothing is changed", &[(PRIORITY, Integer(32768))]),
+];
 
-// A community of a group that has no access row.
-const IDLERS: &str = r#"[[community]]
+// The line that the writers write the view `bridge`, and a community of a group that has no access
+// row.
+const IDLERS: &str = r#"write = "bridge"
+[[community]]
 index = "i"
 name = "idle"
 security = "idle"
@@ -178,72 +151,109 @@ name = "idle"
 group = "idlers"
 "#;
 
-#[test]
-fn tells_where_there_is_no_access_row(rt: HostRuntime) -> Result<(), Fail> {
-    let [readers, read, writers, write] = *WHOLE_BRIDGE else {
-        return Err(Fail::from("four pieces"));
-    };
-    assert_rows(
-        &rt,
-        built_in_for(rt.alloc(), &[readers, read, writers, write, IDLERS])?,
-        &[
-            AUDIT_ON,
-            refused(
-                "no access row",
-                "idle",
-                "set 16 0 noAccessEntry access(idlers,,2,1)",
-            ),
-        ],
-    )
-}
+const IDLE: &[Row<'static>] = &[
+    AUDIT_ON,
+    Row::Request(
+        "no access row",
+        Message {
+            community: "idle",
+            ..SET
+        },
+        Reply(Message {
+            community: "idle",
+            ..REFUSED
+        }),
+        Some("set 16 0 noAccessEntry access(idlers,,2,1)"),
+    ),
+];
 
-#[test]
-fn tells_who_is_not_known(rt: HostRuntime) -> Result<(), Fail> {
-    assert_rows(
-        &rt,
-        built_in_for(rt.alloc(), &[STRANGERS])?,
-        &[
-            AUDIT_ON,
-            refused("no group", "lost", "set 16 0 noGroupName group(2,lost)"),
-            dropped_for(
-                "no such context",
-                "far",
-                "NoSuchContext",
-                "set drop noSuchContext x",
-            ),
-            dropped_for(
-                "no such community",
-                "publik",
-                "UnknownCommunity",
-                "set drop unknownCommunity",
-            ),
-            Row::Line("counts", &["counts 0 0 0 0 0 1 1\n"]),
-        ],
-    )
-}
-
-// A Set of the priority by this community, which is dropped for a cause.
-fn dropped_for<'a>(what: &'a str, community: &'a str, cause: &'a str, audit: &'a str) -> Row<'a> {
-    audited(what, priority_of(community), Drop(cause), audit)
-}
+const UNKNOWN: &[Row<'static>] = &[
+    AUDIT_ON,
+    Row::Request(
+        "no group",
+        Message {
+            community: "lost",
+            ..SET
+        },
+        Reply(Message {
+            community: "lost",
+            ..REFUSED
+        }),
+        Some("set 16 0 noGroupName group(2,lost)"),
+    ),
+    Row::Request(
+        "no such context",
+        Message {
+            community: "far",
+            ..SET
+        },
+        Drop("NoSuchContext"),
+        Some("set drop noSuchContext x"),
+    ),
+    Row::Request(
+        "no such community",
+        Message {
+            community: "publik",
+            ..SET
+        },
+        Drop("UnknownCommunity"),
+        Some("set drop unknownCommunity"),
+    ),
+    Row::Line("counts", &["counts 0 0 0 0 0 1 1\n"]),
+];
 
 // Where there are no names no view is asked for.
-#[test]
-fn answers_a_set_of_nothing(rt: HostRuntime) -> Result<(), Fail> {
-    let nothing = of("admin", reply(&[]));
-    let nothing_read = of("public", reply(&[]));
-    assert_rows(
-        &rt,
-        built_in(rt.alloc())?,
+const NOTHING: &[Row<'static>] = &[
+    AUDIT_ON,
+    Row::Assigned("a writer", &[]),
+    Row::Behind(&["audit set 0 0 empty\n"]),
+    Row::Request(
+        "a reader",
+        Message {
+            bindings: &[],
+            ..SET
+        },
+        Reply(Message {
+            pdu: Pdu::Response,
+            bindings: &[],
+            ..SET
+        }),
+        Some("set 0 0 empty"),
+    ),
+];
+
+// The tables by the policy that they are under.
+const TABLES: &[(&[&str], &[Table<'static>])] = &[
+    (
+        ALL_BUT_PORT_1,
         &[
-            AUDIT_ON,
-            audited(
-                "a writer",
-                of("admin", set(&[])),
-                Reply(nothing),
-                "set 0 0 empty",
-            ),
-            audited("a reader", set(&[]), Reply(nothing_read), "set 0 0 empty"),
+            ("names the family that leaves out", HIDDEN),
+            ("tells a fault ahead alone", BEHIND_A_FAULT),
+            ("judges the name and not the setting", SAME_SETTING),
         ],
-    )
+    ),
+    (
+        WHOLE_BRIDGE,
+        &[
+            ("tells where no family has a name", OUTSIDE),
+            ("answers a Set of nothing", NOTHING),
+        ],
+    ),
+    (
+        &[READERS, READ_BRIDGE, WRITERS, WRITE_NOWHERE],
+        &[("writes no view of no family", NOWHERE)],
+    ),
+    (
+        &[READERS, READ_BRIDGE, WRITERS, IDLERS],
+        &[("tells where there is no access row", IDLE)],
+    ),
+    (&[STRANGERS], &[("tells who is not known", UNKNOWN)]),
+];
+
+#[test]
+fn refuses_without_access(rt: HostRuntime) -> Result<(), Fail> {
+    for (policy, tables) in TABLES {
+        assert_over(&rt, TwoPorts(policy), tables)?;
+    }
+    Ok(())
 }

@@ -1,11 +1,12 @@
 //! Sets whose devices fail: dot1dStpPortEnable tells a driver each value that is committed, or put
 //! back, and `driver` says which of these calls fail (RFC 3416, 4.2.5, the second phase).
-use crate::support::{assert_sets, three_ports};
+use crate::support::Over::ThreePorts;
+use crate::support::{Table, assert_over, assert_sets};
 use fixtures::bpdus::PROPOSAL;
 use fixtures::message::Held::{Integer, Octets};
 use fixtures::message::{COMMIT_FAILED, NOT_WRITABLE, UNDO_FAILED, WRONG_VALUE};
 use fixtures::names::{ENABLE_1, ENABLE_2, ENABLE_3, PORTS, PRIORITY, ROOT, STATE_1};
-use fixtures::rows::{AUDIT_OFF, AUDIT_ON, Row, assert_rows};
+use fixtures::rows::{AUDIT_OFF, AUDIT_ON, Row};
 use fixtures::worlds::OWN_IDENTIFIER;
 use std::test::Fail;
 
@@ -41,11 +42,6 @@ const SECOND_COMMIT: &[Row<'static>] = &[
     ),
 ];
 
-#[test]
-fn puts_back_what_was_committed(rt: HostRuntime) -> Result<(), Fail> {
-    assert_sets(&rt, SECOND_COMMIT)
-}
-
 // The putting back fails as well: the first keeps the new value, and is named.
 const STUCK: &[Row<'static>] = &[
     AUDIT_ON,
@@ -70,11 +66,6 @@ const STUCK: &[Row<'static>] = &[
     ),
 ];
 
-#[test]
-fn names_what_is_not_put_back(rt: HostRuntime) -> Result<(), Fail> {
-    assert_sets(&rt, STUCK)
-}
-
 // The driver is told a value also where it is there already.
 const SAME_VALUE: &[Row<'static>] = &[
     Row::Line("driver 1", &[]),
@@ -87,11 +78,6 @@ const SAME_VALUE: &[Row<'static>] = &[
     Row::Assigned("and again", &[(ENABLE_1, Integer(1))]),
     OPENING,
 ];
-
-#[test]
-fn tells_the_driver_the_same_value(rt: HostRuntime) -> Result<(), Fail> {
-    assert_sets(&rt, SAME_VALUE)
-}
 
 // One setting that is written twice is committed once: the failing call is that of the next Set.
 const ONE_CALL: &[Row<'static>] = &[
@@ -110,11 +96,6 @@ const ONE_CALL: &[Row<'static>] = &[
     Row::Assigned("the third call", &[(ENABLE_1, Integer(1))]),
     OPENING,
 ];
-
-#[test]
-fn tells_the_driver_once(rt: HostRuntime) -> Result<(), Fail> {
-    assert_sets(&rt, ONE_CALL)
-}
 
 // What is written twice is passed over, and yet counted in the index.
 const INDEX_OF_THREE: &[Row<'static>] = &[
@@ -142,11 +123,6 @@ const INDEX_OF_THREE: &[Row<'static>] = &[
     OPENING,
 ];
 
-#[test]
-fn tells_the_variable_whose_commit_fails(rt: HostRuntime) -> Result<(), Fail> {
-    assert_sets(&rt, INDEX_OF_THREE)
-}
-
 const STUCK_AHEAD: &[Row<'static>] = &[
     AUDIT_ON,
     Row::Line("driver 2 3", &[]),
@@ -173,11 +149,6 @@ const PORT_1_STUCK: Row<'static> = Row::Shown(
     ],
 );
 
-#[test]
-fn puts_back_what_is_behind(rt: HostRuntime) -> Result<(), Fail> {
-    assert_sets(&rt, STUCK_AHEAD)
-}
-
 // The others are put back also behind an undoing that failed.
 const STUCK_BEHIND: &[Row<'static>] = &[
     AUDIT_ON,
@@ -196,11 +167,6 @@ const STUCK_BEHIND: &[Row<'static>] = &[
     PORT_1_STUCK,
 ];
 
-#[test]
-fn puts_back_what_is_ahead(rt: HostRuntime) -> Result<(), Fail> {
-    assert_sets(&rt, STUCK_BEHIND)
-}
-
 // A value that was there already is told the driver again as it is put back. Where that fails it
 // is named, though nothing is changed.
 const SAME_VALUE_STUCK: &[Row<'static>] = &[
@@ -215,11 +181,6 @@ const SAME_VALUE_STUCK: &[Row<'static>] = &[
     AUDIT_OFF,
     OPENING,
 ];
-
-#[test]
-fn names_a_value_that_was_there(rt: HostRuntime) -> Result<(), Fail> {
-    assert_sets(&rt, SAME_VALUE_STUCK)
-}
 
 // Of three ports the third fails. Call 4 puts back the second, call 5 the first.
 const LATER_OF_TWO: &[Row<'static>] = &[
@@ -244,11 +205,6 @@ const DISABLE_ALL: Row<'static> = Row::Refused(
     ],
 );
 
-#[test]
-fn puts_back_the_later_first(rt: HostRuntime) -> Result<(), Fail> {
-    assert_rows(&rt, three_ports(rt.alloc())?, LATER_OF_TWO)
-}
-
 const BOTH_OF_TWO: &[Row<'static>] = &[
     AUDIT_ON,
     Row::Line("driver 3 4 5", &[]),
@@ -267,11 +223,6 @@ const BOTH_OF_TWO: &[Row<'static>] = &[
         ],
     ),
 ];
-
-#[test]
-fn names_all_that_is_not_put_back(rt: HostRuntime) -> Result<(), Fail> {
-    assert_rows(&rt, three_ports(rt.alloc())?, BOTH_OF_TWO)
-}
 
 const THIRD_ALONE: &[Row<'static>] = &[
     AUDIT_ON,
@@ -297,11 +248,6 @@ const THIRD_ALONE: &[Row<'static>] = &[
     ),
 ];
 
-#[test]
-fn puts_back_two_of_three(rt: HostRuntime) -> Result<(), Fail> {
-    assert_rows(&rt, three_ports(rt.alloc())?, THIRD_ALONE)
-}
-
 // A Set that is refused tells the driver nothing.
 const NO_CALLS: &[Row<'static>] = &[
     Row::Line("driver 1", &[]),
@@ -324,11 +270,6 @@ const NO_CALLS: &[Row<'static>] = &[
     Row::Assigned("the second call", &[(ENABLE_1, Integer(2))]),
 ];
 
-#[test]
-fn tells_the_driver_no_refused_value(rt: HostRuntime) -> Result<(), Fail> {
-    assert_sets(&rt, NO_CALLS)
-}
-
 // A plan counts the calls of more than one Set, and is gone with the next. A line that is none
 // leaves it.
 const PLANS: &[Row<'static>] = &[
@@ -345,11 +286,6 @@ const PLANS: &[Row<'static>] = &[
     Row::Shown("it is disabled", &[(ENABLE_1, Integer(2))]),
 ];
 
-#[test]
-fn fails_by_the_last_plan(rt: HostRuntime) -> Result<(), Fail> {
-    assert_sets(&rt, PLANS)
-}
-
 // All is put back, so the bridge has nothing to settle.
 const NOTHING_SENT: &[Row<'static>] = &[
     Row::Line("link 1 up", &[PROPOSAL]),
@@ -365,11 +301,6 @@ const NOTHING_SENT: &[Row<'static>] = &[
     ),
     Row::Line("tick 1", &[PROPOSAL]),
 ];
-
-#[test]
-fn sends_nothing_where_all_is_put_back(rt: HostRuntime) -> Result<(), Fail> {
-    assert_sets(&rt, NOTHING_SENT)
-}
 
 // Port 1 stays enabled, as it was to be: the bridge settles with that.
 const STUCK_ENABLED: &[Row<'static>] = &[
@@ -393,7 +324,29 @@ const STUCK_ENABLED: &[Row<'static>] = &[
     ),
 ];
 
+const TABLES: &[Table<'static>] = &[
+    ("puts back what was committed", SECOND_COMMIT),
+    ("names what is not put back", STUCK),
+    ("tells the driver the same value", SAME_VALUE),
+    ("tells the driver once", ONE_CALL),
+    ("tells the variable whose commit fails", INDEX_OF_THREE),
+    ("puts back what is behind", STUCK_AHEAD),
+    ("puts back what is ahead", STUCK_BEHIND),
+    ("names a value that was there", SAME_VALUE_STUCK),
+    ("tells the driver no refused value", NO_CALLS),
+    ("fails by the last plan", PLANS),
+    ("sends nothing where all is put back", NOTHING_SENT),
+    ("settles with what is not put back", STUCK_ENABLED),
+];
+
+const OF_THREE_PORTS: &[Table<'static>] = &[
+    ("puts back the later first", LATER_OF_TWO),
+    ("names all that is not put back", BOTH_OF_TWO),
+    ("puts back two of three", THIRD_ALONE),
+];
+
 #[test]
-fn settles_with_what_is_not_put_back(rt: HostRuntime) -> Result<(), Fail> {
-    assert_sets(&rt, STUCK_ENABLED)
+fn answers_as_devices_fail(rt: HostRuntime) -> Result<(), Fail> {
+    assert_sets(&rt, TABLES)?;
+    assert_over(&rt, ThreePorts, OF_THREE_PORTS)
 }

@@ -1,5 +1,5 @@
 //! What is wrong with one variable of a Set (RFC 3416, 4.2.5, the cases of its first phase).
-use crate::support::assert_sets;
+use crate::support::{Table, assert_sets};
 use fixtures::message::Held::{
     Counter, End, Gauge, Integer, Name, NoInstance, NoObject, Null, Octets, Tagged, Ticks,
 };
@@ -46,22 +46,12 @@ const OTHER_TYPES: &[Row<'static>] = &[
     ),
 ];
 
-#[test]
-fn refuses_other_types(rt: HostRuntime) -> Result<(), Fail> {
-    assert_sets(&rt, OTHER_TYPES)
-}
-
 // What stands for a value in a reply alone.
 const EXCEPTIONS: &[Row<'static>] = &[
     Row::Refused("noSuchObject", (WRONG_TYPE, 1), &[(PRIORITY, NoObject)]),
     Row::Refused("noSuchInstance", (WRONG_TYPE, 1), &[(PRIORITY, NoInstance)]),
     Row::Refused("endOfMibView", (WRONG_TYPE, 1), &[(PRIORITY, End)]),
 ];
-
-#[test]
-fn refuses_exceptions(rt: HostRuntime) -> Result<(), Fail> {
-    assert_sets(&rt, EXCEPTIONS)
-}
 
 const READ_ONLY: &[Row<'static>] = &[
     Row::Refused(
@@ -106,11 +96,6 @@ const READ_ONLY: &[Row<'static>] = &[
     ),
 ];
 
-#[test]
-fn writes_nothing_that_is_read_only(rt: HostRuntime) -> Result<(), Fail> {
-    assert_sets(&rt, READ_ONLY)
-}
-
 // Names in the view, under which there is no object.
 const NO_OBJECTS: &[Row<'static>] = &[
     Row::Refused(
@@ -136,11 +121,6 @@ const NO_OBJECTS: &[Row<'static>] = &[
     Row::Refused("a group", (NOT_WRITABLE, 1), &[("1.3.6.1.2.1.17.2", Null)]),
     Row::Refused("the bridge", (NOT_WRITABLE, 1), &[("1.3.6.1.2.1.17", Null)]),
 ];
-
-#[test]
-fn writes_nothing_where_there_is_no_object(rt: HostRuntime) -> Result<(), Fail> {
-    assert_sets(&rt, NO_OBJECTS)
-}
 
 const NO_INSTANCES: &[Row<'static>] = &[
     Row::Refused(
@@ -186,11 +166,6 @@ const NO_INSTANCES: &[Row<'static>] = &[
     ),
 ];
 
-#[test]
-fn makes_no_instances(rt: HostRuntime) -> Result<(), Fail> {
-    assert_sets(&rt, NO_INSTANCES)
-}
-
 // Type is looked at ahead of value, and value ahead of the instance.
 const ORDER: &[Row<'static>] = &[
     Row::Refused(
@@ -210,11 +185,6 @@ const ORDER: &[Row<'static>] = &[
     ),
     Row::Refused("the instance", (NO_CREATION, 1), &[(COST_32_9, Integer(1))]),
 ];
-
-#[test]
-fn tells_the_first_fault_of_a_variable(rt: HostRuntime) -> Result<(), Fail> {
-    assert_sets(&rt, ORDER)
-}
 
 const FIRST: &[Row<'static>] = &[
     Row::Refused(
@@ -247,11 +217,6 @@ const FIRST: &[Row<'static>] = &[
     ),
 ];
 
-#[test]
-fn tells_the_first_faulty_variable(rt: HostRuntime) -> Result<(), Fail> {
-    assert_sets(&rt, FIRST)
-}
-
 // What is no value in any encoding gives no request.
 const MALFORMED: &[Row<'static>] = &[
     // An INTEGER past the end of its binding.
@@ -275,7 +240,18 @@ const MALFORMED: &[Row<'static>] = &[
     Row::Shown("nothing is changed", &[(PRIORITY, Integer(32768))]),
 ];
 
+const TABLES: &[Table<'static>] = &[
+    ("refuses other types", OTHER_TYPES),
+    ("refuses exceptions", EXCEPTIONS),
+    ("writes nothing that is read only", READ_ONLY),
+    ("writes nothing where there is no object", NO_OBJECTS),
+    ("makes no instances", NO_INSTANCES),
+    ("tells the first fault of a variable", ORDER),
+    ("tells the first faulty variable", FIRST),
+    ("drops values of no encoding", MALFORMED),
+];
+
 #[test]
-fn drops_values_of_no_encoding(rt: HostRuntime) -> Result<(), Fail> {
-    assert_sets(&rt, MALFORMED)
+fn tells_what_is_wrong_with_a_variable(rt: HostRuntime) -> Result<(), Fail> {
+    assert_sets(&rt, TABLES)
 }

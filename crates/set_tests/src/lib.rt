@@ -26,8 +26,6 @@ mod devices;
 #[cfg(test)]
 mod faults;
 #[cfg(test)]
-mod later;
-#[cfg(test)]
 mod many;
 #[cfg(test)]
 mod octets;

@@ -3,8 +3,8 @@
 use crate::support::assert_sets;
 use fixtures::message::Held::Integer;
 use fixtures::message::{
-    AUTHORIZATION_ERROR, Bound, NOT_WRITABLE, RESOURCE_UNAVAILABLE, TOO_BIG, WRONG_VALUE, failed,
-    many, of, set,
+    AUTHORIZATION_ERROR, Bound, NOT_WRITABLE, RESOURCE_UNAVAILABLE, TOO_BIG, WRONG_VALUE,
+    failed_at, many, of, set,
 };
 use fixtures::names::{ENABLE_1, PORTS, PRIORITY};
 use fixtures::rows::Said::Reply;
@@ -22,164 +22,155 @@ const PORTS_2: Bound<'static> = (PORTS, Integer(2));
 
 const OFF: Bound<'static> = (PRIORITY, Integer(1));
 
-const UNCHANGED: Row<'static> = Row::Shown("nothing is changed", &[(PRIORITY, Integer(32768))]);
+// A binding of another setting.
+const DISABLED: Bound<'static> = (ENABLE_1, Integer(2));
 
-// So many bindings of the priority in 17 octets each, and behind them so many of another.
-fn behind<'a>(
-    alloc: Global,
-    short: usize,
-    others: usize,
-    other: Bound<'a>,
-) -> Result<Vec<Bound<'a>>, Fail> {
-    let mut bindings = many(alloc, short, SHORT)?;
-    bindings.extend_from_slice(&many(alloc, others, other)?)?;
+// A binding of 17 octets of another group, which no view has.
+const ELSEWHERE: Bound<'static> = ("1.3.6.1.2.1.18.2.2.0", Integer(4096));
+
+// A Set that is refused: what it is, its community, so many of each of its bindings, the
+// error-status and the error-index of its reply, and its audit.
+type Refused<'a> = (
+    &'a str,
+    &'a str,
+    &'a [(usize, Bound<'a>)],
+    (i32, i32),
+    &'a str,
+);
+
+// The 65th variable, and other faults. A reply to `admin` of n short bindings, measured with four
+// octets for the error-index, has 34 + 17 x n octets: so 84 short ones fit, in 1,462 octets, and 74
+// of them and 10 long ones, in 1,472. One more does not fit, though the reply itself, whose
+// error-index takes an octet, would. What access control refuses is not measured as a Set: the
+// reply to `public` of 72 short bindings and 12 long ones has 1,472 octets as it is.
+const REFUSED: &[Refused<'static>] = &[
+    (
+        "65 variables",
+        "admin",
+        &[(65, SHORT)],
+        (RESOURCE_UNAVAILABLE, 65),
+        "set 13 65 ok access(writers,,2,1) view bridge",
+    ),
+    (
+        "65 variables, the last of which is never written",
+        "admin",
+        &[(64, SHORT), (1, PORTS_2)],
+        (NOT_WRITABLE, 65),
+        "set 17 65 ok access(writers,,2,1) view bridge",
+    ),
+    (
+        "65 variables of two objects, the last of which is never written",
+        "admin",
+        &[(64, DISABLED), (1, PORTS_2)],
+        (NOT_WRITABLE, 65),
+        "set 17 65 ok access(writers,,2,1) view bridge",
+    ),
+    (
+        "65 variables, the last but one of which is faulty",
+        "admin",
+        &[(63, SHORT), (2, OFF)],
+        (WRONG_VALUE, 64),
+        "set 10 64 ok access(writers,,2,1) view bridge",
+    ),
+    (
+        "65 variables, the last of which has another value",
+        "admin",
+        &[(64, SHORT), (1, LONG)],
+        (RESOURCE_UNAVAILABLE, 65),
+        "set 13 65 ok access(writers,,2,1) view bridge",
+    ),
+    (
+        "1,462 octets",
+        "admin",
+        &[(84, SHORT)],
+        (RESOURCE_UNAVAILABLE, 65),
+        "set 13 65 ok access(writers,,2,1) view bridge",
+    ),
+    (
+        "1,472 octets",
+        "admin",
+        &[(74, SHORT), (10, LONG)],
+        (RESOURCE_UNAVAILABLE, 65),
+        "set 13 65 ok access(writers,,2,1) view bridge",
+    ),
+    (
+        "1,473 octets",
+        "admin",
+        &[(73, SHORT), (11, LONG)],
+        (TOO_BIG, 0),
+        "set 1 0 ok access(writers,,2,1) view bridge",
+    ),
+    (
+        "1,474 octets, none of them to be written",
+        "admin",
+        &[(90, PORTS_2)],
+        (TOO_BIG, 0),
+        "set 1 0 ok access(writers,,2,1) view bridge",
+    ),
+    (
+        "1,479 octets",
+        "admin",
+        &[(85, SHORT)],
+        (TOO_BIG, 0),
+        "set 1 0 ok access(writers,,2,1) view bridge",
+    ),
+    (
+        "1,479 octets: no name is tested, and none denied",
+        "admin",
+        &[(85, ELSEWHERE)],
+        (TOO_BIG, 0),
+        "set 1 0 ok access(writers,,2,1) view bridge",
+    ),
+    (
+        "1,472 octets without a write view",
+        "public",
+        &[(72, SHORT), (12, LONG)],
+        (AUTHORIZATION_ERROR, 0),
+        "set 16 0 noSuchView access(readers,,2,1) empty",
+    ),
+    (
+        "1,473 octets without a write view",
+        "public",
+        &[(71, SHORT), (13, LONG)],
+        (TOO_BIG, 0),
+        "set 1 0 noSuchView access(readers,,2,1) empty",
+    ),
+];
+
+// So many of each of these bindings.
+fn runs_of<'a>(alloc: Global, runs: &[(usize, Bound<'a>)]) -> Result<Vec<Bound<'a>>, Fail> {
+    let mut bindings = Vec::new(alloc);
+    for (times, bound) in runs {
+        bindings.extend_from_slice(&many(alloc, *times, *bound)?)?;
+    }
     Ok(bindings)
 }
 
-#[test]
-fn takes_64_variables(rt: HostRuntime) -> Result<(), Fail> {
-    let bindings = many(rt.alloc(), 64, SHORT)?;
-    assert_sets(
-        &rt,
-        &[
-            Row::Assigned("64 variables", &bindings),
-            Row::Shown("they are written", &[SHORT]),
-        ],
-    )
+// The bindings of a reply of this error-status to a Set of these.
+fn told_back<'a>(status: i32, bindings: &'a [Bound<'a>]) -> &'a [Bound<'a>] {
+    if status == TOO_BIG { &[] } else { bindings }
 }
 
+// Each is refused again, changes nothing, and keeps no room: 64 variables have it behind it.
 #[test]
-fn has_no_room_for_65_variables(rt: HostRuntime) -> Result<(), Fail> {
-    let bindings = many(rt.alloc(), 65, SHORT)?;
-    assert_sets(
-        &rt,
-        &[
+fn has_room_for_64_variables(rt: HostRuntime) -> Result<(), Fail> {
+    for (what, community, runs, (status, index), audit) in REFUSED {
+        let bindings = runs_of(rt.alloc(), runs)?;
+        let asked = of(community, set(&bindings));
+        let told = told_back(*status, &bindings);
+        let said = of(community, failed_at(*status, *index, told));
+        let rows = [
+            replied(what, asked, said),
             AUDIT_ON,
-            Row::Refused("65 variables", (RESOURCE_UNAVAILABLE, 65), &bindings),
-            Row::Behind(&["audit set 13 65 ok access(writers,,2,1) view bridge\n"]),
+            audited(what, asked, Reply(said), audit),
             AUDIT_OFF,
-            UNCHANGED,
-        ],
-    )
-}
-
-#[test]
-fn tells_other_faults_of_65_variables(rt: HostRuntime) -> Result<(), Fail> {
-    let last = behind(rt.alloc(), 64, 1, PORTS_2)?;
-    let last_two = behind(rt.alloc(), 63, 2, OFF)?;
-    let two_values = behind(rt.alloc(), 64, 1, LONG)?;
-    assert_sets(
-        &rt,
-        &[
-            Row::Refused("the last is never written", (NOT_WRITABLE, 65), &last),
-            Row::Refused("the last but one is faulty", (WRONG_VALUE, 64), &last_two),
-            Row::Refused(
-                "the last has another value",
-                (RESOURCE_UNAVAILABLE, 65),
-                &two_values,
-            ),
-            UNCHANGED,
-        ],
-    )
-}
-
-// A reply to `admin` of n short bindings, measured with four octets for the error-index, has 34 +
-// 17 x n octets. So 84 short ones fit, in 1,462 octets.
-#[test]
-fn measures_before_it_tests(rt: HostRuntime) -> Result<(), Fail> {
-    let fitting = many(rt.alloc(), 84, SHORT)?;
-    let longer = many(rt.alloc(), 85, SHORT)?;
-    let faulty = many(rt.alloc(), 90, PORTS_2)?;
-    let too_big = of("admin", failed(TOO_BIG, &[]));
-    assert_sets(
-        &rt,
-        &[
-            Row::Refused("1,462 octets", (RESOURCE_UNAVAILABLE, 65), &fitting),
-            replied("1,479 octets", of("admin", set(&longer)), too_big),
-            replied(
-                "1,474 octets, none of them to be written",
-                of("admin", set(&faulty)),
-                too_big,
-            ),
-            UNCHANGED,
-        ],
-    )
-}
-
-// 34 + 74 x 17 + 10 x 18 octets are 1,472. One more does not fit, though the reply itself, whose
-// error-index takes an octet, would.
-#[test]
-fn measures_to_the_octet(rt: HostRuntime) -> Result<(), Fail> {
-    let most = behind(rt.alloc(), 74, 10, LONG)?;
-    let more = behind(rt.alloc(), 73, 11, LONG)?;
-    let too_big = of("admin", failed(TOO_BIG, &[]));
-    assert_sets(
-        &rt,
-        &[
-            Row::Refused("1,472 octets", (RESOURCE_UNAVAILABLE, 65), &most),
-            replied("1,473 octets", of("admin", set(&more)), too_big),
-            UNCHANGED,
-        ],
-    )
-}
-
-#[test]
-fn audits_what_is_too_big(rt: HostRuntime) -> Result<(), Fail> {
-    let longer = many(rt.alloc(), 85, ("1.3.6.1.2.1.18.2.2.0", Integer(4096)))?;
-    let too_big = of("admin", failed(TOO_BIG, &[]));
-    assert_sets(
-        &rt,
-        &[
-            AUDIT_ON,
-            audited(
-                "no name is tested, and none denied",
-                of("admin", set(&longer)),
-                Reply(too_big),
-                "set 1 0 ok access(writers,,2,1) view bridge",
-            ),
-        ],
-    )
-}
-
-// What access control refuses is not measured as a Set: the reply to `public` of 72 short bindings
-// and 12 long ones has 1,472 octets as it is. A reply that is longer is tooBig.
-#[test]
-fn refuses_before_it_measures(rt: HostRuntime) -> Result<(), Fail> {
-    let most = behind(rt.alloc(), 72, 12, LONG)?;
-    let more = behind(rt.alloc(), 71, 13, LONG)?;
-    assert_sets(
-        &rt,
-        &[
-            AUDIT_ON,
-            audited(
-                "1,472 octets",
-                set(&most),
-                Reply(failed(AUTHORIZATION_ERROR, &most)),
-                "set 16 0 noSuchView access(readers,,2,1) empty",
-            ),
-            audited(
-                "1,473 octets",
-                set(&more),
-                Reply(failed(TOO_BIG, &[])),
-                "set 1 0 noSuchView access(readers,,2,1) empty",
-            ),
-        ],
-    )
-}
-
-// 64 variables of one object, and one more that is never written.
-#[test]
-fn keeps_no_room_of_a_refused_set(rt: HostRuntime) -> Result<(), Fail> {
-    let bindings = many(rt.alloc(), 64, (ENABLE_1, Integer(2)))?;
-    let mut more = many(rt.alloc(), 64, (ENABLE_1, Integer(2)))?;
-    more.push(PORTS_2)?;
-    assert_sets(
-        &rt,
-        &[
-            Row::Refused("the last is never written", (NOT_WRITABLE, 65), &more),
-            Row::Refused("and again", (NOT_WRITABLE, 65), &more),
-            Row::Assigned("64 variables", &bindings),
-            Row::Assigned("and again", &bindings),
-        ],
-    )
+            Row::Shown("nothing is changed", &[(PRIORITY, Integer(32768))]),
+            Row::Assigned("64 variables", &[DISABLED; 64]),
+            Row::Assigned("and again", &[DISABLED; 64]),
+            Row::Assigned("64 of another object", &[SHORT; 64]),
+            Row::Shown("they are written", &[SHORT]),
+        ];
+        assert_sets(&rt, &[(what, &rows)])?;
+    }
+    Ok(())
 }

@@ -1,5 +1,5 @@
 //! Sets as other encoders wrote them.
-use crate::support::assert_sets;
+use crate::support::{Table, assert_sets};
 use fixtures::message::Held::Integer;
 use fixtures::names::PRIORITY;
 use fixtures::rows::Row;
@@ -37,7 +37,9 @@ const PRIORITIES: &[Row<'static>] = &[
     Row::Shown("no third Set", &[(PRIORITY, Integer(8192))]),
 ];
 
+const TABLES: &[Table<'static>] = &[("answers other encoders", PRIORITIES)];
+
 #[test]
 fn answers_other_encoders(rt: HostRuntime) -> Result<(), Fail> {
-    assert_sets(&rt, PRIORITIES)
+    assert_sets(&rt, TABLES)
 }

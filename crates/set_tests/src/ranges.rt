@@ -1,7 +1,7 @@
 //! The values that each of the fifteen writable objects takes: the least and the greatest, and not
 //! one more, nor one between two steps (RFC 4188, RFC 4318; IEEE 802.1D-2004, 17.14). A Get behind
-//! a Set reads what is written.
-use crate::support::assert_sets;
+//! a Set reads what is written, also 300 seconds later.
+use crate::support::{Table, assert_sets};
 use fixtures::message::Held::Integer;
 use fixtures::message::{Bound, WRONG_VALUE};
 use fixtures::names::{
@@ -11,6 +11,9 @@ use fixtures::names::{
 use fixtures::rows::Row;
 use std::alloc::{AllocGlobal, Global};
 use std::test::Fail;
+
+// What an object is, the values that it takes, and some that it does not.
+type Range<'a> = (&'a str, &'a [Bound<'a>], &'a [Bound<'a>]);
 
 // Each of these is taken, and read back.
 fn taken_rows<'a>(alloc: Global, taken: &'a [Bound<'a>]) -> Result<Vec<Row<'a>>, Fail> {
@@ -22,33 +25,22 @@ fn taken_rows<'a>(alloc: Global, taken: &'a [Bound<'a>]) -> Result<Vec<Row<'a>>,
     Ok(rows)
 }
 
-// None of these is taken.
-fn refused_rows<'a>(alloc: Global, refused: &'a [Bound<'a>]) -> Result<Vec<Row<'a>>, Fail> {
-    let mut rows = Vec::new(alloc);
+// The values that an object takes, and some that it does not; the last that it took stays.
+fn range_rows<'a>(alloc: Global, range: &Range<'a>) -> Result<Vec<Row<'a>>, Fail> {
+    let (_, taken, refused) = *range;
+    let mut rows = taken_rows(alloc, taken)?;
     for one in refused.chunks(1) {
         rows.push(Row::Refused("a value out of the range", (WRONG_VALUE, 1), one))?;
+    }
+    if let Some(last) = taken.last() {
+        rows.push(Row::Shown("the last stays", std::slice::from_ref(last)))?;
     }
     Ok(rows)
 }
 
-// The values that an object takes, and some that it does not; the last that it took stays.
-fn assert_range<R: AllocGlobal>(
-    rt: &R,
-    taken: &[Bound<'_>],
-    refused: &[Bound<'_>],
-) -> Result<(), Fail> {
-    let mut rows = taken_rows(rt.alloc(), taken)?;
-    rows.extend_from_slice(&refused_rows(rt.alloc(), refused)?)?;
-    for last in taken.last() {
-        rows.push(Row::Shown("the last stays", std::slice::from_ref(last)))?;
-    }
-    assert_sets(rt, &rows)
-}
-
-#[test]
-fn takes_priorities_of_a_bridge(rt: HostRuntime) -> Result<(), Fail> {
-    assert_range(
-        &rt,
+const RANGES: &[Range<'static>] = &[
+    (
+        "priorities of a bridge",
         &[
             (PRIORITY, Integer(0)),
             (PRIORITY, Integer(4096)),
@@ -65,14 +57,10 @@ fn takes_priorities_of_a_bridge(rt: HostRuntime) -> Result<(), Fail> {
             (PRIORITY, Integer(i32::MIN)),
             (PRIORITY, Integer(i32::MAX)),
         ],
-    )
-}
-
-// Up to twice the forward delay of 15 s but a second.
-#[test]
-fn takes_max_ages(rt: HostRuntime) -> Result<(), Fail> {
-    assert_range(
-        &rt,
+    ),
+    // Up to twice the forward delay of 15 s but a second.
+    (
+        "max ages",
         &[(MAX_AGE, Integer(600)), (MAX_AGE, Integer(2800))],
         &[
             (MAX_AGE, Integer(500)),
@@ -84,14 +72,10 @@ fn takes_max_ages(rt: HostRuntime) -> Result<(), Fail> {
             (MAX_AGE, Integer(-600)),
             (MAX_AGE, Integer(i32::MAX)),
         ],
-    )
-}
-
-// Up to half the max age of 20 s but a second.
-#[test]
-fn takes_hello_times(rt: HostRuntime) -> Result<(), Fail> {
-    assert_range(
-        &rt,
+    ),
+    // Up to half the max age of 20 s but a second.
+    (
+        "hello times",
         &[(HELLO, Integer(100)), (HELLO, Integer(900))],
         &[
             (HELLO, Integer(0)),
@@ -101,14 +85,10 @@ fn takes_hello_times(rt: HostRuntime) -> Result<(), Fail> {
             (HELLO, Integer(1100)),
             (HELLO, Integer(-100)),
         ],
-    )
-}
-
-// From half the max age of 20 s and a second.
-#[test]
-fn takes_forward_delays(rt: HostRuntime) -> Result<(), Fail> {
-    assert_range(
-        &rt,
+    ),
+    // From half the max age of 20 s and a second.
+    (
+        "forward delays",
         &[
             (FORWARD_DELAY, Integer(1100)),
             (FORWARD_DELAY, Integer(3000)),
@@ -121,52 +101,36 @@ fn takes_forward_delays(rt: HostRuntime) -> Result<(), Fail> {
             (FORWARD_DELAY, Integer(3100)),
             (FORWARD_DELAY, Integer(-400)),
         ],
-    )
-}
-
-#[test]
-fn takes_versions(rt: HostRuntime) -> Result<(), Fail> {
-    assert_range(
-        &rt,
+    ),
+    (
+        "versions",
         &[(VERSION, Integer(0)), (VERSION, Integer(2))],
         &[
             (VERSION, Integer(-1)),
             (VERSION, Integer(1)),
             (VERSION, Integer(3)),
         ],
-    )
-}
-
-#[test]
-fn takes_hold_counts(rt: HostRuntime) -> Result<(), Fail> {
-    assert_range(
-        &rt,
+    ),
+    (
+        "hold counts",
         &[(HOLD_COUNT, Integer(1)), (HOLD_COUNT, Integer(10))],
         &[
             (HOLD_COUNT, Integer(0)),
             (HOLD_COUNT, Integer(11)),
             (HOLD_COUNT, Integer(-1)),
         ],
-    )
-}
-
-#[test]
-fn takes_aging_times(rt: HostRuntime) -> Result<(), Fail> {
-    assert_range(
-        &rt,
+    ),
+    (
+        "aging times",
         &[(AGING, Integer(10)), (AGING, Integer(1_000_000))],
         &[
             (AGING, Integer(9)),
             (AGING, Integer(1_000_001)),
             (AGING, Integer(-10)),
         ],
-    )
-}
-
-#[test]
-fn takes_priorities_of_a_port(rt: HostRuntime) -> Result<(), Fail> {
-    assert_range(
-        &rt,
+    ),
+    (
+        "priorities of a port",
         &[
             (PRIORITY_1, Integer(0)),
             (PRIORITY_1, Integer(16)),
@@ -180,39 +144,27 @@ fn takes_priorities_of_a_port(rt: HostRuntime) -> Result<(), Fail> {
             (PRIORITY_1, Integer(256)),
             (PRIORITY_1, Integer(-16)),
         ],
-    )
-}
-
-#[test]
-fn takes_enabled_and_disabled(rt: HostRuntime) -> Result<(), Fail> {
-    assert_range(
-        &rt,
+    ),
+    (
+        "enabled and disabled",
         &[(ENABLE_1, Integer(2)), (ENABLE_1, Integer(1))],
         &[
             (ENABLE_1, Integer(0)),
             (ENABLE_1, Integer(3)),
             (ENABLE_1, Integer(-1)),
         ],
-    )
-}
-
-#[test]
-fn takes_path_costs_of_16_bits(rt: HostRuntime) -> Result<(), Fail> {
-    assert_range(
-        &rt,
+    ),
+    (
+        "path costs of 16 bits",
         &[(COST_1, Integer(1)), (COST_1, Integer(65535))],
         &[
             (COST_1, Integer(0)),
             (COST_1, Integer(65536)),
             (COST_1, Integer(-1)),
         ],
-    )
-}
-
-#[test]
-fn takes_path_costs_of_32_bits(rt: HostRuntime) -> Result<(), Fail> {
-    assert_range(
-        &rt,
+    ),
+    (
+        "path costs of 32 bits",
         &[(COST_32_1, Integer(1)), (COST_32_1, Integer(200_000_000))],
         &[
             (COST_32_1, Integer(0)),
@@ -220,13 +172,9 @@ fn takes_path_costs_of_32_bits(rt: HostRuntime) -> Result<(), Fail> {
             (COST_32_1, Integer(-1)),
             (COST_32_1, Integer(i32::MAX)),
         ],
-    )
-}
-
-#[test]
-fn takes_costs_of_an_administrator(rt: HostRuntime) -> Result<(), Fail> {
-    assert_range(
-        &rt,
+    ),
+    (
+        "costs of an administrator",
         &[
             (ADMIN_COST_1, Integer(200_000_000)),
             (ADMIN_COST_1, Integer(0)),
@@ -235,26 +183,18 @@ fn takes_costs_of_an_administrator(rt: HostRuntime) -> Result<(), Fail> {
             (ADMIN_COST_1, Integer(-1)),
             (ADMIN_COST_1, Integer(200_000_001)),
         ],
-    )
-}
-
-#[test]
-fn takes_edge_or_not(rt: HostRuntime) -> Result<(), Fail> {
-    assert_range(
-        &rt,
+    ),
+    (
+        "edge or not",
         &[(EDGE_1, Integer(1)), (EDGE_1, Integer(2))],
         &[
             (EDGE_1, Integer(0)),
             (EDGE_1, Integer(3)),
             (EDGE_1, Integer(-1)),
         ],
-    )
-}
-
-#[test]
-fn takes_links_of_three_kinds(rt: HostRuntime) -> Result<(), Fail> {
-    assert_range(
-        &rt,
+    ),
+    (
+        "links of three kinds",
         &[
             (POINT_TO_POINT_1, Integer(0)),
             (POINT_TO_POINT_1, Integer(2)),
@@ -264,8 +204,8 @@ fn takes_links_of_three_kinds(rt: HostRuntime) -> Result<(), Fail> {
             (POINT_TO_POINT_1, Integer(-1)),
             (POINT_TO_POINT_1, Integer(3)),
         ],
-    )
-}
+    ),
+];
 
 // Whether it is true, and spent, or false: what is read is false.
 const MIGRATIONS: &[Row<'static>] = &[
@@ -276,11 +216,6 @@ const MIGRATIONS: &[Row<'static>] = &[
     Row::Refused("0", (WRONG_VALUE, 1), &[(MIGRATION_1, Integer(0))]),
     Row::Refused("3", (WRONG_VALUE, 1), &[(MIGRATION_1, Integer(3))]),
 ];
-
-#[test]
-fn takes_migrations(rt: HostRuntime) -> Result<(), Fail> {
-    assert_sets(&rt, MIGRATIONS)
-}
 
 // One cost in use, as three objects show it. A port of 1,000 Mb/s has 20,000 by default.
 const COSTS: &[Row<'static>] = &[
@@ -309,11 +244,6 @@ const COSTS: &[Row<'static>] = &[
     ),
 ];
 
-#[test]
-fn shows_a_cost_in_three_ways(rt: HostRuntime) -> Result<(), Fail> {
-    assert_sets(&rt, COSTS)
-}
-
 // All fifteen in one Set.
 const FIFTEEN: &[Bound<'static>] = &[
     (PRIORITY, Integer(8192)),
@@ -333,15 +263,57 @@ const FIFTEEN: &[Bound<'static>] = &[
     (AGING, Integer(10)),
 ];
 
+const ALL_AT_ONCE: &[Row<'static>] = &[
+    Row::Assigned("all that is writable", FIFTEEN),
+    Row::Shown("all is read back", FIFTEEN),
+    Row::Assigned("the same again", FIFTEEN),
+    Row::Shown("nothing is changed", FIFTEEN),
+];
+
+// Another value than the opening one for each writable object but the check of migration, which is
+// spent at once. The three costs of a path are one setting.
+const WRITTEN: &[Bound<'static>] = &[
+    (PRIORITY, Integer(61440)),
+    (MAX_AGE, Integer(4000)),
+    (HELLO, Integer(1000)),
+    (FORWARD_DELAY, Integer(3000)),
+    (VERSION, Integer(0)),
+    (HOLD_COUNT, Integer(10)),
+    (PRIORITY_1, Integer(240)),
+    (ENABLE_1, Integer(2)),
+    (COST_1, Integer(65535)),
+    (COST_32_1, Integer(65535)),
+    (EDGE_1, Integer(1)),
+    (POINT_TO_POINT_1, Integer(1)),
+    (ADMIN_COST_1, Integer(65535)),
+    (AGING, Integer(1_000_000)),
+];
+
+// What is written stays while time passes. No link is up, so nothing is sent.
+const LATER: &[Row<'static>] = &[
+    Row::Line("tick 300", &[]),
+    Row::Assigned("fourteen of the fifteen, in one Set", WRITTEN),
+    Row::Assigned("the check of migration", &[(MIGRATION_1, Integer(1))]),
+    Row::Line("tick 300", &[]),
+    Row::Shown("they stay", WRITTEN),
+    Row::Shown("the check is spent", &[(MIGRATION_1, Integer(2))]),
+];
+
+const TABLES: &[Table<'static>] = &[
+    ("takes migrations", MIGRATIONS),
+    ("shows a cost in three ways", COSTS),
+    ("writes all at once", ALL_AT_ONCE),
+    (
+        "keeps what is written, 300 seconds behind the start, for 300 seconds",
+        LATER,
+    ),
+];
+
 #[test]
-fn writes_all_at_once(rt: HostRuntime) -> Result<(), Fail> {
-    assert_sets(
-        &rt,
-        &[
-            Row::Assigned("all that is writable", FIFTEEN),
-            Row::Shown("all is read back", FIFTEEN),
-            Row::Assigned("the same again", FIFTEEN),
-            Row::Shown("nothing is changed", FIFTEEN),
-        ],
-    )
+fn takes_what_is_in_range(rt: HostRuntime) -> Result<(), Fail> {
+    for range in RANGES {
+        let rows = range_rows(rt.alloc(), range)?;
+        assert_sets(&rt, &[(range.0, rows.as_slice())])?;
+    }
+    assert_sets(&rt, TABLES)
 }

@@ -1,6 +1,6 @@
 //! What ports send as a Set settles, behind its reply and its audit (IEEE 802.1D-2004, 17.14,
 //! 17.29).
-use crate::support::assert_sets;
+use crate::support::{Table, assert_sets};
 use fixtures::bpdus::{AGREEMENT, BETTER, FORWARDING_1, FORWARDING_2, HELLO_TIME, PROPOSAL};
 use fixtures::message::Held::{Counter, Integer, Null, Octets};
 use fixtures::message::WRONG_VALUE;
@@ -39,21 +39,11 @@ const BEHIND_A_SET: &[Row<'static>] = &[
     Row::Behind(&["audit set 0 0 ok access(writers,,2,1) view bridge\n"]),
 ];
 
-#[test]
-fn sends_behind_the_audit(rt: HostRuntime) -> Result<(), Fail> {
-    assert_sets(&rt, BEHIND_A_SET)
-}
-
 // No port is on, so none sends.
 const LINKS_DOWN: &[Row<'static>] = &[
     Row::Assigned("a better priority", &[(PRIORITY, Integer(4096))]),
     Row::Line("link 1 up", &[PROPOSAL_4096]),
 ];
-
-#[test]
-fn sends_nothing_while_links_are_down(rt: HostRuntime) -> Result<(), Fail> {
-    assert_sets(&rt, LINKS_DOWN)
-}
 
 const REFUSED: &[Row<'static>] = &[
     LINK_UP,
@@ -65,11 +55,6 @@ const REFUSED: &[Row<'static>] = &[
     Row::Shown("the root is as before", &[(ROOT, Octets(OWN_IDENTIFIER))]),
     Row::Line("tick 1", &[PROPOSAL]),
 ];
-
-#[test]
-fn sends_nothing_where_a_set_is_refused(rt: HostRuntime) -> Result<(), Fail> {
-    assert_sets(&rt, REFUSED)
-}
 
 // A max age of 40 s, a hello time of 10 s and a forward delay of 30 s, in 1/256 s.
 const TIMES: &[Row<'static>] = &[
@@ -93,11 +78,6 @@ const TIMES: &[Row<'static>] = &[
     ]),
 ];
 
-#[test]
-fn sends_other_times(rt: HostRuntime) -> Result<(), Fail> {
-    assert_sets(&rt, TIMES)
-}
-
 const PORT_PRIORITY: &[Row<'static>] = &[
     LINK_UP,
     Row::Assigned("the best priority of the port", &[(PRIORITY_1, Integer(0))]),
@@ -107,11 +87,6 @@ const PORT_PRIORITY: &[Row<'static>] = &[
     ]),
     Row::Assigned("what no BPDU tells", &[(AGING, Integer(10))]),
 ];
-
-#[test]
-fn sends_another_port_identifier(rt: HostRuntime) -> Result<(), Fail> {
-    assert_sets(&rt, PORT_PRIORITY)
-}
 
 // The Config BPDU of the same port (IEEE 802.1D-2004, 9.3.1).
 const CONFIG: &str = "bpdu 1 0180C200000002000000000A00264242030000000000\
@@ -125,11 +100,6 @@ const VERSIONS: &[Row<'static>] = &[
     Row::Behind(&[PROPOSAL]),
 ];
 
-#[test]
-fn sends_by_the_version(rt: HostRuntime) -> Result<(), Fail> {
-    assert_sets(&rt, VERSIONS)
-}
-
 const ENABLES: &[Row<'static>] = &[
     LINK_UP,
     Row::Assigned("disabled", &[(ENABLE_1, Integer(2))]),
@@ -139,11 +109,6 @@ const ENABLES: &[Row<'static>] = &[
     Row::Behind(&[PROPOSAL]),
     Row::Shown("the port is on", &[(STATE_1, Integer(2))]),
 ];
-
-#[test]
-fn sends_as_a_port_is_enabled(rt: HostRuntime) -> Result<(), Fail> {
-    assert_sets(&rt, ENABLES)
-}
 
 // It forwards at once, which is no change of the topology, and is told at the next hello time.
 const EDGES: &[Row<'static>] = &[
@@ -160,11 +125,6 @@ const EDGES: &[Row<'static>] = &[
     Row::Line("tick 1", &[FORWARDING_1]),
 ];
 
-#[test]
-fn forwards_as_a_port_becomes_an_edge(rt: HostRuntime) -> Result<(), Fail> {
-    assert_sets(&rt, EDGES)
-}
-
 // A Config BPDU of a worse bridge, which is answered with another.
 const WORSE: &str = "frame 1 0180C200000002000000000100264242030000000000\
     900002000000000100000000900002000000000180020000140002000F00";
@@ -178,11 +138,6 @@ const MIGRATIONS: &[Row<'static>] = &[
     Row::Line("tick 2", &[PROPOSAL]),
 ];
 
-#[test]
-fn sends_rapid_bpdus_after_a_migration(rt: HostRuntime) -> Result<(), Fail> {
-    assert_sets(&rt, MIGRATIONS)
-}
-
 // Under a hold count of 1 what a second Set changes is sent a second later.
 const HELD_BACK: &[Row<'static>] = &[
     Row::Assigned("one BPDU a second", &[(HOLD_COUNT, Integer(1))]),
@@ -191,11 +146,6 @@ const HELD_BACK: &[Row<'static>] = &[
     Row::Assigned("a better priority", &[(PRIORITY, Integer(4096))]),
     Row::Line("tick 1", &[PROPOSAL_4096]),
 ];
-
-#[test]
-fn sends_no_more_than_the_hold_count(rt: HostRuntime) -> Result<(), Fail> {
-    assert_sets(&rt, HELD_BACK)
-}
 
 // Port 1 hears another root, and port 2 tells its cost: 20,000, then 10. The topology changes.
 const COSTS: &[Row<'static>] = &[
@@ -217,11 +167,6 @@ const COSTS: &[Row<'static>] = &[
     ]),
     Row::Shown("the cost to the root", &[(ROOT_COST, Integer(10))]),
 ];
-
-#[test]
-fn sends_another_root_cost(rt: HostRuntime) -> Result<(), Fail> {
-    assert_sets(&rt, COSTS)
-}
 
 // Both ports are edges, and forward as soon as their links are up. The learned address is gone
 // once it is as old as the aging time.
@@ -257,11 +202,6 @@ const FORWARDED: &[Row<'static>] = &[
     ),
 ];
 
-#[test]
-fn forwards_between_edges(rt: HostRuntime) -> Result<(), Fail> {
-    assert_sets(&rt, FORWARDED)
-}
-
 const AGES: &[Row<'static>] = &[
     Row::Assigned(
         "both are edges, and addresses age in 10 s",
@@ -291,7 +231,23 @@ const AGES: &[Row<'static>] = &[
     ),
 ];
 
+const TABLES: &[Table<'static>] = &[
+    ("sends behind the audit", BEHIND_A_SET),
+    ("sends nothing while links are down", LINKS_DOWN),
+    ("sends nothing where a set is refused", REFUSED),
+    ("sends other times", TIMES),
+    ("sends another port identifier", PORT_PRIORITY),
+    ("sends by the version", VERSIONS),
+    ("sends as a port is enabled", ENABLES),
+    ("forwards as a port becomes an edge", EDGES),
+    ("sends rapid bpdus after a migration", MIGRATIONS),
+    ("sends no more than the hold count", HELD_BACK),
+    ("sends another root cost", COSTS),
+    ("forwards between edges", FORWARDED),
+    ("forgets by the aging time", AGES),
+];
+
 #[test]
-fn forgets_by_the_aging_time(rt: HostRuntime) -> Result<(), Fail> {
-    assert_sets(&rt, AGES)
+fn sends_as_a_set_settles(rt: HostRuntime) -> Result<(), Fail> {
+    assert_sets(&rt, TABLES)
 }

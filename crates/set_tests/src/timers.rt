@@ -1,7 +1,7 @@
 //! The three timers of a bridge, which a Set leaves in this relation: twice the forward delay but a
 //! second is at least the max age, and that is at least twice the hello time and a second (IEEE
 //! 802.1D-2004, 17.14). They are judged together, as they would be behind the Set.
-use crate::support::assert_sets;
+use crate::support::{Table, assert_sets};
 use fixtures::message::Held::Integer;
 use fixtures::message::{INCONSISTENT_VALUE, WRONG_VALUE};
 use fixtures::names::{FORWARD_DELAY, HELLO, MAX_AGE, PORTS, PRIORITY};
@@ -29,11 +29,6 @@ const MAX_AGES: &[Row<'static>] = &[
     Row::Shown("6 s", &[(MAX_AGE, Integer(600))]),
 ];
 
-#[test]
-fn judges_the_max_age(rt: HostRuntime) -> Result<(), Fail> {
-    assert_sets(&rt, MAX_AGES)
-}
-
 // 2 x (9 s + 1 s) is 20 s.
 const HELLO_TIMES: &[Row<'static>] = &[
     Row::Refused("10 s", (INCONSISTENT_VALUE, 1), &[(HELLO, Integer(1000))]),
@@ -43,11 +38,6 @@ const HELLO_TIMES: &[Row<'static>] = &[
     Row::Assigned("the least, 1 s", &[(HELLO, Integer(100))]),
     Row::Shown("1 s", &[(HELLO, Integer(100))]),
 ];
-
-#[test]
-fn judges_the_hello_time(rt: HostRuntime) -> Result<(), Fail> {
-    assert_sets(&rt, HELLO_TIMES)
-}
 
 // 2 x (11 s - 1 s) is 20 s.
 const FORWARD_DELAYS: &[Row<'static>] = &[
@@ -62,11 +52,6 @@ const FORWARD_DELAYS: &[Row<'static>] = &[
     Row::Assigned("the greatest, 30 s", &[(FORWARD_DELAY, Integer(3000))]),
     Row::Shown("30 s", &[(FORWARD_DELAY, Integer(3000))]),
 ];
-
-#[test]
-fn judges_the_forward_delay(rt: HostRuntime) -> Result<(), Fail> {
-    assert_sets(&rt, FORWARD_DELAYS)
-}
 
 // 2 x (21 s - 1 s) is 40 s.
 const TWO_TIMERS: &[Row<'static>] = &[
@@ -90,11 +75,6 @@ const TWO_TIMERS: &[Row<'static>] = &[
     ),
     OPENING,
 ];
-
-#[test]
-fn judges_two_timers_together(rt: HostRuntime) -> Result<(), Fail> {
-    assert_sets(&rt, TWO_TIMERS)
-}
 
 // From the least of all three to the greatest and back: no order of single Sets of each would do.
 const THREE_TIMERS: &[Row<'static>] = &[
@@ -146,11 +126,6 @@ const THREE_TIMERS: &[Row<'static>] = &[
     Row::Assigned("a hello time of 2 s", &[(HELLO, Integer(200))]),
 ];
 
-#[test]
-fn judges_three_timers_together(rt: HostRuntime) -> Result<(), Fail> {
-    assert_sets(&rt, THREE_TIMERS)
-}
-
 const INDEXES: &[Row<'static>] = &[
     Row::Refused(
         "the first that names a timer is told",
@@ -187,7 +162,16 @@ const INDEXES: &[Row<'static>] = &[
     OPENING,
 ];
 
+const TABLES: &[Table<'static>] = &[
+    ("judges the max age", MAX_AGES),
+    ("judges the hello time", HELLO_TIMES),
+    ("judges the forward delay", FORWARD_DELAYS),
+    ("judges two timers together", TWO_TIMERS),
+    ("judges three timers together", THREE_TIMERS),
+    ("tells where timers do not suit", INDEXES),
+];
+
 #[test]
-fn tells_where_timers_do_not_suit(rt: HostRuntime) -> Result<(), Fail> {
-    assert_sets(&rt, INDEXES)
+fn judges_timers_together(rt: HostRuntime) -> Result<(), Fail> {
+    assert_sets(&rt, TABLES)
 }

@@ -1,5 +1,5 @@
 //! One setting that is written twice in a Set, through the same object or through others.
-use crate::support::assert_sets;
+use crate::support::{Table, assert_sets};
 use fixtures::message::Held::Integer;
 use fixtures::message::{INCONSISTENT_VALUE, WRONG_VALUE};
 use fixtures::names::{ADMIN_COST_1, COST_1, COST_32_1, EDGE_1, EDGE_2, MIGRATION_1, PRIORITY};
@@ -41,11 +41,6 @@ const TWO_COSTS: &[Row<'static>] = &[
     ),
 ];
 
-#[test]
-fn refuses_two_costs(rt: HostRuntime) -> Result<(), Fail> {
-    assert_sets(&rt, TWO_COSTS)
-}
-
 const ONE_COST: &[Row<'static>] = &[
     Row::Assigned(
         "one cost twice",
@@ -76,11 +71,6 @@ const ONE_COST: &[Row<'static>] = &[
         ],
     ),
 ];
-
-#[test]
-fn takes_one_cost_more_than_once(rt: HostRuntime) -> Result<(), Fail> {
-    assert_sets(&rt, ONE_COST)
-}
 
 const SAME_NAME: &[Row<'static>] = &[
     Row::Assigned(
@@ -123,11 +113,6 @@ const SAME_NAME: &[Row<'static>] = &[
     ),
 ];
 
-#[test]
-fn takes_one_value_under_one_name(rt: HostRuntime) -> Result<(), Fail> {
-    assert_sets(&rt, SAME_NAME)
-}
-
 const OTHER_PORTS: &[Row<'static>] = &[
     Row::Assigned("two ports", &[(EDGE_1, Integer(1)), (EDGE_2, Integer(2))]),
     Row::Shown(
@@ -146,7 +131,14 @@ const OTHER_PORTS: &[Row<'static>] = &[
     Row::Shown("it is spent", &[(MIGRATION_1, Integer(2))]),
 ];
 
+const TABLES: &[Table<'static>] = &[
+    ("refuses two costs", TWO_COSTS),
+    ("takes one cost more than once", ONE_COST),
+    ("takes one value under one name", SAME_NAME),
+    ("compares settings of one port", OTHER_PORTS),
+];
+
 #[test]
-fn compares_settings_of_one_port(rt: HostRuntime) -> Result<(), Fail> {
-    assert_sets(&rt, OTHER_PORTS)
+fn judges_settings_that_are_written_twice(rt: HostRuntime) -> Result<(), Fail> {
+    assert_sets(&rt, TABLES)
 }

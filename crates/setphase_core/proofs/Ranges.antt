@@ -32,7 +32,7 @@ use Rattle.setphase_core.specs.declared.column.Column.{Column}
 use Rattle.setphase_core.specs.declared.column.Column.TheVariants as column
 use Rattle.setphase_core.specs.Settings.{HasSetting, IsSettingInRange}
 use Rattle.setphase_core.specs.Values.{port_index}
-use Rattle.setphase_core.specs.Writing.{writable_of, takes, given, key_at, assignment_at, assignment_by, assignment_of, stp_writable, stp_port_writable, rapid_writable, ext_port_writable, tp_writable}
+use Rattle.setphase_core.specs.Writing.{writable_of, takes, number_given, key_at, assignment_at, assignment_by, assignment_of, stp_writable, stp_port_writable, rapid_writable, ext_port_writable, tp_writable}
 
 -- A number that an object takes.
 record Taken (x : Writable) (n : ℕ) : Type 0 where
@@ -55,7 +55,7 @@ IsTargetRange (target.Port k) v = IsPortRange k v
 -- What each object that is written gives is in the range of its setting.
 abbrev GivesRange : Option Writable → Type 0
 GivesRange None = Unit {0}
-GivesRange (Some x) = (n : ℕ) → Taken x n → IsTargetRange x.target (given x.target n)
+GivesRange (Some x) = (n : ℕ) → Taken x n → IsTargetRange x.target (number_given x.target n)
 
 two_or_none : (n : ℕ) → n ≤ 2 → n % 2 ≡ 0 → (n ≡ 0) ⊎ (n ≡ 2)
 two_or_none zero h e = inl refl
@@ -163,9 +163,9 @@ target_legal (target.Port k) w at v a even range e = port_legal k w at v a even 
 
 integer_legal : (x : Writable) (w : World) (at : List ℕ) (n : ℕ) (a : Assignment) (b : Bool) →
     port_count w.bridge ≡ length w.bridge.settings.ports → GivesRange (Some x) → takes x n ≡ b →
-    cond b (assignment_at (key_at x.target w at) (given x.target n)) (Err WrongValue) ≡ Ok a → IsLegal w a
+    cond b (assignment_at (key_at x.target w at) (number_given x.target n)) (Err WrongValue) ≡ Ok a → IsLegal w a
 integer_legal x w at n a true even range is e =
-    target_legal x.target w at (given x.target n) a even (range n (taken x n is)) e
+    target_legal x.target w at (number_given x.target n) a even (range n (taken x n is)) e
 integer_legal x w at n a false even range is e = absurd (cc)
 
 by_legal : (x : Option Writable) (w : World) (at : List ℕ) (v : Value) (a : Assignment) →

@@ -15,7 +15,7 @@ use Rattle.setphase_core.specs.Objects.{ObjectRow, ObjectState, reserve, object_
 use Rattle.setphase_core.specs.Registry.{rows_of, prefixes_of}
 use Rattle.setphase_core.specs.Searching.{IsOwnerPlace}
 use Rattle.setphase_core.specs.Settings.{put}
-use Rattle.setphase_core.specs.Variables.{Written, written, writings, variable, assignment_for, refusals_for, refusal_for, single_refusals}
+use Rattle.setphase_core.specs.Variables.{Written, writings_of, writings, variable, assignment_for, refusals_for, refusal_for, single_refusals}
 use Rattle.setphase_core.specs.Together.{assign, assignments, contradicts, contradicting, is_timer, timer_numbers}
 use Rattle.setphase_core.specs.Staging.{object_at, assignments_of, assignment_of_entry, ArePending, IsDistinct, HaveSettings}
 use Rattle.setphase_core.specs.Tested.{first_in, value_among, standing_by, is_contradicting, staged_by, IsPassed, IsFaulty, AreStaged, ArePassed}
@@ -214,7 +214,7 @@ module _ (rows : List ObjectRow) (w : World) (view : List ℕ) (bs : List Bindin
   writings-rest : writings rows w (drop i bs) ≡ written_now ∷ writings rows w (drop (suc i) bs)
   writings-rest =
       ap (writings rows w) rest
-      ∙ ap (λ r. written b.name r ++ writings rows w (drop (suc i) bs)) assigned
+      ∙ ap (λ r. writings_of b.name r ++ writings rows w (drop (suc i) bs)) assigned
 
   within : passed.place < length os
   within = omega (arith, passed.at.owner.0, places os)

@@ -20,7 +20,7 @@ use Rattle.setphase_core.specs.declared.staging.VariableFault.{VariableFault}
 use Rattle.setphase_core.specs.declared.staging.VariableFault.TheVariants.{NoAccess, Refused}
 use Rattle.setphase_core.specs.declared.world.World.{World}
 use Rattle.setphase_core.specs.Objects.{ObjectRow}
-use Rattle.setphase_core.specs.Variables.{Written, written, writings, assignment_for, with_room, variable, status_of, refusal_for, refusals_for, single_refusals}
+use Rattle.setphase_core.specs.Variables.{Written, writings_of, writings, assignment_for, with_room, variable, status_of, refusal_for, refusals_for, single_refusals}
 use Rattle.setphase_core.specs.Together.{assign, assignments, contradicts, contradicting, is_timer, timer_numbers, timers_agree, disagreeing, inconsistent, joint_refusals, refusal_of}
 use Rattle.setphase_core.specs.Outcomes.{SetNotes, CanFail, AreNotes}
 
@@ -74,7 +74,7 @@ disagreeing_within : (ps : List Assignment) (b : Bool) (n : ℕ) → length ps �
 disagreeing_within ps true n h = tt
 disagreeing_within ps false n h = timers_within 1 ps n (omega arith) (omega (arith, h))
 
-written_most : (name : List ℕ) (r : Result Assignment SetFault) → length (written name r) ≤ 1
+written_most : (name : List ℕ) (r : Result Assignment SetFault) → length (writings_of name r) ≤ 1
 written_most name (Ok a) = omega arith
 written_most name (Err f) = omega arith
 
@@ -83,7 +83,7 @@ pub writings_most : (rows : List ObjectRow) (w : World) (bs : List Binding) →
     length (writings rows w bs) ≤ length bs
 writings_most rows w [] = omega arith
 writings_most rows w (b ∷ bs) =
-    omega (arith, length-append (written b.name (assignment_for rows w b)) (writings rows w bs), written_most b.name (assignment_for rows w b), writings_most rows w bs)
+    omega (arith, length-append (writings_of b.name (assignment_for rows w b)) (writings rows w bs), written_most b.name (assignment_for rows w b), writings_most rows w bs)
 
 -- ---- the refusal
 

@@ -19,7 +19,7 @@ use Rattle.setphase_core.specs.Searching.{IsOwnerPlace}
 use Rattle.setphase_core.specs.Staging.{object_at}
 use Rattle.setphase_core.specs.Tested.{answer_at, IsFaulty}
 use Rattle.setphase_core.specs.Variables.{object_of, assignment_in, assignment_for, with_room, in_answer, variable}
-use Rattle.setphase_core.specs.Writing.{assignment_of, placed}
+use Rattle.setphase_core.specs.Writing.{assignment_of, next_slot}
 
 -- ---- the object of a name
 
@@ -58,7 +58,7 @@ placed_as a reserved slot true e =
 placed_as a reserved slot false e = absurd (cc)
 
 pub placed_ok : (r : Result Assignment SetFault) (reserved : List Reservation) (slot : Slot) →
-    placed reserved r ≡ Ok slot → IsPlacedAs r reserved slot
+    next_slot reserved r ≡ Ok slot → IsPlacedAs r reserved slot
 placed_ok (Ok a) reserved slot e = placed_as a reserved slot (nat_lt (length reserved) MAX_SLOTS) e
 placed_ok (Err f) reserved slot e = absurd (cc)
 
@@ -81,7 +81,7 @@ with_some_left a before room =
     let some : nat_lt before MAX_VARIABLES ≡ true = grind (arith, nat_tests, room) in rw some refl
 
 refused_by : (r : Result Assignment SetFault) (reserved : List Reservation) (before : ℕ)
-    (f : SetFault) → length reserved ≤ before → placed reserved r ≡ Err f →
+    (f : SetFault) → length reserved ≤ before → next_slot reserved r ≡ Err f →
     with_room before r ≡ Err (Refused f)
 refused_by (Err g) reserved before f few e = ap (λ (h : SetFault). Err (Refused h)) (same e)
   where

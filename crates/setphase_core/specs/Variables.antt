@@ -82,10 +82,10 @@ pub record Written : Type 0 where
   pub name : List ℕ
   pub assignment : Assignment
 
-abbrev pub written : List ℕ → Result Assignment SetFault → List Written
-written name (Ok a) = record { name = name; assignment = a } ∷ []
-written name (Err f) = []
+abbrev pub writings_of : List ℕ → Result Assignment SetFault → List Written
+writings_of name (Ok a) = record { name = name; assignment = a } ∷ []
+writings_of name (Err f) = []
 
 -- What the variables of a Set write, in their order.
 abbrev pub writings : List ObjectRow → World → List Binding → List Written
-writings rows w bs = flat_map (λ b. written b.name (assignment_for rows w b)) bs
+writings rows w bs = flat_map (λ b. writings_of b.name (assignment_for rows w b)) bs

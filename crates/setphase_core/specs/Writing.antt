@@ -114,9 +114,9 @@ takes w n = nat_le w.least n && nat_le n w.most && (n % w.step == 0)
 
 -- What its setting gets for it. A protocol migration check is asked for by true; false asks for
 -- none (RFC 4318, dot1dStpPortProtocolMigration).
-abbrev pub given : Target → ℕ → ℕ
-given (target.Port port.Migrate) n = if n == 1 then MIGRATION_CHECK else 0
-given other n = n
+abbrev pub number_given : Target → ℕ → ℕ
+number_given (target.Port port.Migrate) n = if n == 1 then MIGRATION_CHECK else 0
+number_given other n = n
 
 -- The setting that the instance of an index writes; none where there can never be such an instance.
 abbrev pub key_at : Target → World → List ℕ → Option SettingKey
@@ -134,7 +134,7 @@ assignment_at (Some k) n = Ok (record { key = k; value = Number n })
 abbrev pub integer_assignment : Writable → World → List ℕ → ℤ → Result Assignment SetFault
 integer_assignment writable w at (pos n) =
     if takes writable n
-    then assignment_at (key_at writable.target w at) (given writable.target n)
+    then assignment_at (key_at writable.target w at) (number_given writable.target n)
     else Err WrongValue
 integer_assignment writable w at (negsuc n) = Err WrongValue
 
@@ -153,13 +153,13 @@ assignment_of c w at v = assignment_by (writable_of c) w at v
 -- ---- what the test of a variable answers
 
 -- A variable that passed has the next of the object's places, while there is one.
-abbrev pub placed : List Reservation → Result Assignment SetFault → Result Slot SetFault
-placed reserved (Err fault) = Err fault
-placed reserved (Ok a) =
+abbrev pub next_slot : List Reservation → Result Assignment SetFault → Result Slot SetFault
+next_slot reserved (Err fault) = Err fault
+next_slot reserved (Ok a) =
     if nat_lt (length reserved) MAX_SLOTS
     then Ok (record { key = a.key; value = a.value; place = length reserved })
     else Err ResourceUnavailable
 
 abbrev pub test_answer : Column → World → List Reservation → List ℕ → Value →
     Result Slot SetFault
-test_answer c w reserved at v = placed reserved (assignment_of c w at v)
+test_answer c w reserved at v = next_slot reserved (assignment_of c w at v)

@@ -145,8 +145,9 @@ impl<O: MibObject> Registry<O> {
 
     /// The value of the instance of that name, where there is one. It takes no memory.
     ///
-    /// `near` may be any number, and only time hangs on it: the place that `owner` left there for
-    /// this name spares a search.
+    /// `near` may be any number, and only time hangs on it: where it is the place of the object
+    /// whose name begins this one, or the one before, no search is made. The number that `owner`
+    /// leaves for the same name is that place.
     pub fn read(&self, alloc: Global, world: &World, name: &[u32], near: usize) -> Option<Value>
         ensures { result ≡ value_of (instances (rows_of self.now) world.now) name.now }
     {
@@ -179,8 +180,10 @@ impl<O: MibObject> Registry<O> {
     /// passed over between the name and the instance, or the end: so the steps, and the objects
     /// ahead that are to be passed over, are together as many as before, and one more.
     ///
-    /// `near` may be any number, and only time hangs on it: the place that the last call of a walk
-    /// left there spares this one the search for the object of the name.
+    /// `near` may be any number, and only time hangs on it: where it is the place of the object
+    /// whose name begins this one, or the one before, no search is made. A number is left there as
+    /// by `owner`: the object's place, or where no object has the name, the place of the first one
+    /// behind it. A walk hands it on to its next call.
     pub fn next_open<P: Passing, L: Ledger>(
         &self,
         alloc: Global,

@@ -3,7 +3,7 @@ ghost use Rattle.std.specs.Prelude.{◌≡◌, ◌<◌, ◌≤◌, [], ◌∷◌
 ghost use Rattle.setting_keys.specs.declared.SettingValue.{SettingValue as AnySetting};
 ghost use Rattle.setphase_core.specs.Objects.{pending_reservation, committed_reservation};
 ghost use Rattle.setphase_core.specs.Settings.{HasSetting, IsSettingInRange, setting, put};
-ghost use Rattle.setphase_core.specs.Writing.{placed};
+ghost use Rattle.setphase_core.specs.Writing.{next_slot};
 
 use crate::limits::MAX_SLOTS;
 use crate::object::{Assignment, Reservation, SetFault, Slot};
@@ -49,7 +49,7 @@ impl Slots {
     /// # Errors
     /// The variable's fault, or `ResourceUnavailable` where all places are taken.
     pub fn reserve(&mut self, tested: Result<Assignment, SetFault>) -> Result<Slot, SetFault>
-        ensures answer { result ≡ placed self.old tested }
+        ensures answer { result ≡ next_slot self.old tested }
         ensures reserved { IfOk result (λ slot.
             self.new ≡ self.old ++ pending_reservation slot ∷ []) }
         ensures refused { OnErr result (self.new ≡ self.old) }

@@ -1,6 +1,6 @@
 //! How a Set writes an object, and what one of its variables writes.
 ghost use Rattle.std.specs.Prelude.{◌≡◌, ◌<◌, IfSome};
-ghost use Rattle.setphase_core.specs.Writing.{takes, given, key_at, integer_assignment, assignment_by};
+ghost use Rattle.setphase_core.specs.Writing.{takes, number_given, key_at, integer_assignment, assignment_by};
 
 use crate::index::{is_scalar, port_at};
 use crate::object::{Assignment, SetFault};
@@ -21,7 +21,7 @@ pub enum Target {
 impl Target {
     // What the setting gets for a number that the object takes.
     fn given(self, number: u32) -> u32
-        ensures { result ≡ given self number }
+        ensures { result ≡ number_given self number }
     {
         match self {
             Target::Port(PortKey::Migrate) => { if number == 1 { MIGRATION_CHECK } else { 0 } }

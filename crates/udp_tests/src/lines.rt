@@ -1,5 +1,5 @@
 //! Lines that are bound by hand.
-use crate::support::{OWN, asks, hears, here, history};
+use crate::support::{OWN, exchange, hears, here, history};
 use live_agent::Plan;
 use live_run::Lines;
 use std::alloc::Global;
@@ -8,7 +8,7 @@ use std::sync::Wait;
 use std::test::Fail;
 use std::thread::Threads;
 use udp_agent::serve_lines;
-use wire_core::{CountPace, UdpWire};
+use wire_core::{CountPace, UdpWire, Wire};
 
 // The lines of a worker alone, over this wire.
 fn lines_of<R: Net>(
@@ -16,13 +16,10 @@ fn lines_of<R: Net>(
     alloc: Global,
     worker: UdpWire,
 ) -> Result<Lines<UdpWire, CountPace>, Fail> {
-    let ticker = UdpWire::bind(rt, alloc, here(0))?;
-    let mut workers = Vec::new(alloc);
-    workers.push(worker)?;
     Ok(Lines {
-        workers,
+        workers: Vec::from_array(alloc, [worker])?,
         ports: Vec::new(alloc),
-        ticker,
+        ticker: UdpWire::bind(rt, alloc, here(0))?,
         pace: CountPace::new(0),
     })
 }
@@ -48,12 +45,14 @@ fn is_served<R: Threads + Wait + Sync>(
 #[test]
 fn answers_over_udp(rt: HostRuntime) -> Result<(), Fail> {
     let alloc = rt.alloc();
+    let (asked, replied) = exchange(alloc)?;
     let worker = UdpWire::bind(&rt, alloc, here(0))?;
     let at = worker.local_addr()?;
     let mut client = UdpWire::bind(&rt, alloc, here(0))?;
-    assert!(rt; asks(alloc, &mut client, at)?);
+    let sent = client.send(at, &asked).is_ok();
     let lines = lines_of(&rt, alloc, worker)?;
-    assert!(rt; is_served(&rt, alloc, lines)?);
-    assert!(rt; hears(alloc, &mut client, at)?);
+    let served = is_served(&rt, alloc, lines)?;
+    let heard = hears(&mut client, at, Some(replied.as_slice()));
+    assert_eq!(rt; (sent, served, heard), (true, true, true));
     Ok(())
 }

@@ -1,13 +1,16 @@
 //! Lines that are bound by a setup.
-use crate::support::{OWN, asks, hears, hears_front, here, history};
+use crate::support::{OWN, exchange, hears, hears_front, here, history};
 use arrayvec::ArrayVec;
 use configuration::{Port, Serve};
 use fixtures::worlds::port;
 use frame_core::BRIDGE_GROUP;
 use rstp_core::{IfIndex, MAX_PORTS};
 use std::alloc::Global;
-use std::net::SocketAddr;
+use std::net::{Net, SocketAddr};
+use std::sync::Wait;
 use std::test::Fail;
+use std::thread::Threads;
+use std::time::Clock;
 use udp_agent::{ServeFault, Setup, bind_lines, plan_of, serve, serve_lines, setup_of};
 use wire_core::{UdpWire, Wire};
 
@@ -44,83 +47,85 @@ fn setup_to(peer: SocketAddr, serve: Serve) -> Result<Setup, Fail> {
 
 #[test]
 fn sets_up_only_what_has_sockets(rt: HostRuntime) -> Result<(), Fail> {
-    let serve = served(here(0), 1);
-    assert!(rt; setup_of(OWN, ports_to(Some(here(9))), Some(serve)).is_some());
-    assert!(rt; setup_of(OWN, ports_to(Some(here(9))), None).is_none());
-    assert!(rt; setup_of(OWN, ports_to(None), Some(serve)).is_none());
-    Ok(())
-}
-
-// One of two workers over one socket is asked once; each port's link goes up, and the clock ticks once.
-#[test]
-fn serves_what_its_setup_says(rt: HostRuntime) -> Result<(), Fail> {
-    let alloc = rt.alloc();
-    let mut neighbour = UdpWire::bind(&rt, alloc, here(0))?;
-    let mut client = UdpWire::bind(&rt, alloc, here(0))?;
-    let setup = setup_to(neighbour.local_addr()?, served(here(0), 2))?;
-    let lines = bind_lines(&rt, &rt, alloc, &setup)?;
-    let at = match lines.workers.first() {
-        Some(worker) => worker.local_addr()?,
-        None => return Err(Fail::from("no worker")),
-    };
-    assert!(rt; asks(alloc, &mut client, at)?);
-    let plan = plan_of(alloc, &setup)?;
-    let report = serve_lines(&rt, &plan, history(alloc)?, lines)
-        .ok()
-        .ok_or("a report")?;
-    assert_eq!(rt;
-        (report.entries, report.requests, report.older, report.drops),
-        (4, 1, 0, 0)
-    );
-    assert!(rt; hears(alloc, &mut client, at)?);
-    assert!(rt; hears_front(&mut neighbour, &BRIDGE_GROUP.0));
-    Ok(())
-}
-
-// A datagram that holds no request is counted, and answered by nothing.
-#[test]
-fn counts_what_is_no_request(rt: HostRuntime) -> Result<(), Fail> {
-    let alloc = rt.alloc();
-    let mut client = UdpWire::bind(&rt, alloc, here(0))?;
-    let setup = setup_to(here(9), served(here(0), 1))?;
-    let lines = bind_lines(&rt, &rt, alloc, &setup)?;
-    let at = match lines.workers.first() {
-        Some(worker) => worker.local_addr()?,
-        None => return Err(Fail::from("no worker")),
-    };
-    assert!(rt; client.send(at, b"no request").is_ok());
-    let plan = plan_of(alloc, &setup)?;
-    let report = serve_lines(&rt, &plan, history(alloc)?, lines)
-        .ok()
-        .ok_or("a report")?;
-    assert_eq!(rt;
-        (report.entries, report.requests, report.older, report.drops),
-        (3, 0, 0, 1)
-    );
-    assert!(rt; !hears_front(&mut client, b""));
-    Ok(())
-}
-
-#[test]
-fn serves_nobody(rt: HostRuntime) -> Result<(), Fail> {
-    let alloc = rt.alloc();
-    let setup = setup_to(here(9), served(here(0), 8))?;
-    match serve(&rt, alloc, &setup, history(alloc)?) {
-        Ok(report) => assert_eq!(rt;
-            (report.entries, report.requests, report.runs.workers.len()),
-            (3, 0, 8)
-        ),
-        Err(_) => return Err(Fail::from("a report")),
+    let serve = Some(served(here(0), 1));
+    for (what, peer, serve, is_setup) in [
+        ("all", Some(here(9)), serve, true),
+        ("not how to serve", Some(here(9)), None, false),
+        ("no peers", None, serve, false),
+    ] {
+        let setup = setup_of(OWN, ports_to(peer), serve);
+        assert_eq!(rt; setup.is_some(), is_setup, "{what}");
     }
     Ok(())
 }
 
+// A datagram to workers, how many these are, and the entries, requests, older receipts and drops that
+// are reported.
+type Sent<'a> = (&'a [u8], u32, (u64, u64, u64, u64));
+
+// Whether workers over one socket are sent a datagram and report so, each port's neighbour hears a
+// BPDU, and who sent it hears this or nothing.
+fn answers<R: Net + Clock + Threads + Wait + Sync>(
+    rt: &R,
+    alloc: Global,
+    sent: Sent,
+    awaited: Option<&[u8]>,
+) -> Result<bool, Fail> {
+    let (datagram, workers, counts) = sent;
+    let mut neighbour = UdpWire::bind(rt, alloc, here(0))?;
+    let mut client = UdpWire::bind(rt, alloc, here(0))?;
+    let setup = setup_to(neighbour.local_addr()?, served(here(0), workers))?;
+    let lines = bind_lines(rt, rt, alloc, &setup)?;
+    let at = lines.workers.first().ok_or("a worker")?.local_addr()?;
+    let sent = client.send(at, datagram).is_ok();
+    let plan = plan_of(alloc, &setup)?;
+    let report = serve_lines(rt, &plan, history(alloc)?, lines)
+        .ok()
+        .ok_or("a report")?;
+    let told = (report.entries, report.requests, report.older, report.drops);
+    let bpdu = hears_front(&mut neighbour, &BRIDGE_GROUP.0);
+    Ok(sent && told == counts && bpdu && hears(&mut client, at, awaited))
+}
+
+// Each port's link goes up, and the clock ticks once. One of two workers is asked once; a datagram that
+// holds no request is counted, and answered by nothing.
 #[test]
-fn begins_nothing_where_a_socket_is_taken(rt: HostRuntime) -> Result<(), Fail> {
+fn serves_what_its_setup_says(rt: HostRuntime) -> Result<(), Fail> {
+    let alloc = rt.alloc();
+    let (asked, replied) = exchange(alloc)?;
+    for (what, sent, awaited) in [
+        (
+            "a request",
+            (asked.as_slice(), 2, (4, 1, 0, 0)),
+            Some(replied.as_slice()),
+        ),
+        (
+            "no request",
+            (b"no request".as_slice(), 1, (3, 0, 0, 1)),
+            None,
+        ),
+    ] {
+        assert!(rt; answers(&rt, alloc, sent, awaited)?, "{what}");
+    }
+    Ok(())
+}
+
+// It serves nobody, and begins nothing where its socket is another's.
+#[test]
+fn begins_where_its_sockets_are_free(rt: HostRuntime) -> Result<(), Fail> {
     let alloc = rt.alloc();
     let other = UdpWire::bind(&rt, alloc, here(0))?;
-    let setup = setup_to(here(9), served(other.local_addr()?, 1))?;
-    let answer = serve(&rt, alloc, &setup, history(alloc)?);
-    assert!(rt; matches!(answer, Err(ServeFault::Begin(_))));
+    for (what, snmp, workers, counts) in [
+        ("free", here(0), 8, Some((3, 0, 8))),
+        ("taken", other.local_addr()?, 1, None),
+    ] {
+        let setup = setup_to(here(9), served(snmp, workers))?;
+        let told = match serve(&rt, alloc, &setup, history(alloc)?) {
+            Ok(report) => Some((report.entries, report.requests, report.runs.workers.len())),
+            Err(ServeFault::Begin(_)) => None,
+            Err(_) => return Err(Fail::from("a report")),
+        };
+        assert_eq!(rt; told, counts, "{what}");
+    }
     Ok(())
 }

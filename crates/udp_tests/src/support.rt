@@ -27,31 +27,26 @@ pub fn history(alloc: Global) -> Result<Kept<Object<Planned>>, Fail> {
     if !are_named(shown.as_slice()) {
         return Err(Fail::from("names"));
     }
-    match Registry::new(shown) {
-        Ok(registry) => {
-            let kept = Kept::new(alloc, registry, built_in(alloc)?.world);
-            Ok(kept.ok().ok_or("no room")?)
-        }
-        Err(_) => Err(Fail::from("no registry")),
-    }
+    let world = built_in(alloc)?.world;
+    let registry = Registry::new(shown).ok().ok_or("a registry")?;
+    Ok(Kept::new(alloc, registry, world).ok().ok_or("room")?)
 }
 
-/// Whether a client hears from there how many ports there are.
-pub fn hears(alloc: Global, client: &mut UdpWire, at: SocketAddr) -> Result<bool, Fail> {
-    let awaited = octets_of(alloc, &reply(&[(PORTS, Integer(2))]))?;
+/// A request for how many ports there are, and its reply.
+pub fn exchange(alloc: Global) -> Result<(Vec<u8>, Vec<u8>), Fail> {
+    let asked = octets_of(alloc, &get(&[(PORTS, Null)]))?;
+    Ok((asked, octets_of(alloc, &reply(&[(PORTS, Integer(2))]))?))
+}
+
+/// Whether a client hears from there just these octets, or no datagram at all.
+pub fn hears(client: &mut UdpWire, at: SocketAddr, awaited: Option<&[u8]>) -> bool {
     let mut octets = [0u8; 64];
     match client.receive(&mut octets) {
         Ok(Received::Datagram(len, from)) => {
-            Ok(from == at && octets.get(..len) == Some(awaited.as_slice()))
+            awaited.is_some() && from == at && octets.get(..len) == awaited
         }
-        _ => Ok(false),
+        _ => awaited.is_none(),
     }
-}
-
-/// Asks there how many ports there are.
-pub fn asks(alloc: Global, client: &mut UdpWire, at: SocketAddr) -> Result<bool, Fail> {
-    let asked = octets_of(alloc, &get(&[(PORTS, Null)]))?;
-    Ok(client.send(at, &asked).is_ok())
 }
 
 /// Whether a datagram came to a client whose first octets are these.

@@ -9,7 +9,7 @@ use Rattle.vacm_core.specs.declared.tables.FamilyRow.{FamilyRow}
 use Rattle.vacm_core.specs.Families.{mask_bit, agrees_from}
 use Rattle.vacm_core.specs.Rows.{same_family}
 use Rattle.vacm_core.specs.Tables.{KeysDiffer}
-use Rattle.vacm_core.specs.Trees.{leads, fits, same_parts, fixed, view_way, subtree_way, way_of, IsPlaced}
+use Rattle.vacm_core.specs.Trees.{leads, fits, same_parts, counting_part, view_way, subtree_way, way_of, IsPlaced}
 use Rattle.vacm_core.proofs.Agrees.{and_true}
 use Rattle.vacm_core.proofs.Ties.{bytes_same}
 
@@ -45,7 +45,7 @@ fits_agrees k mask [] name = refl
 fits_agrees k mask (s ∷ subtree) [] = refl
 fits_agrees k mask (s ∷ subtree) (n ∷ name) = ap (λ (b : Bool). (not (mask_bit mask k) || s == n) && b) (fits_agrees (k + 1) mask subtree name)
 
-fits_view : (view : List ℕ) (way : List Step) (name : List ℕ) → fits (map fixed view ++ way) (view ++ name) ≡ fits way name
+fits_view : (view : List ℕ) (way : List Step) (name : List ℕ) → fits (map counting_part view ++ way) (view ++ name) ≡ fits way name
 fits_view [] way name = refl
 fits_view (v ∷ view) way name = (λ i. eq-eqb v v refl i && fits_view view way name i)
 
@@ -75,7 +75,7 @@ unfolding numbers
 numbers_subtree k mask [] = refl
 numbers_subtree k mask (s ∷ subtree) = ap (λ (l : List ℕ). s ∷ l) (numbers_subtree (k + 1) mask subtree)
 
-numbers_view : (view : List ℕ) (rest : List Step) → numbers (map fixed view ++ rest) ≡ view ++ numbers rest
+numbers_view : (view : List ℕ) (rest : List Step) → numbers (map counting_part view ++ rest) ≡ view ++ numbers rest
 unfolding numbers
 numbers_view [] rest = refl
 numbers_view (v ∷ view) rest = ap (λ (l : List ℕ). v ∷ l) (numbers_view view rest)

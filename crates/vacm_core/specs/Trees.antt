@@ -99,12 +99,12 @@ pub record IsLater {R : Type 0} (passes : R → Bool) (beats : R → R → Bool)
 -- ---- the tree of the family rows
 
 -- a step that counts
-abbrev pub fixed : ℕ → Step
-fixed part = record { part = part; counts = true }
+abbrev pub counting_part : ℕ → Step
+counting_part part = record { part = part; counts = true }
 
 -- the way to the rows of a view: the length of its name and its octets
 abbrev pub view_way : List ℕ → List Step
-view_way view = fixed (length view) ∷ map fixed view
+view_way view = counting_part (length view) ∷ map counting_part view
 
 -- the way of a subtree, from the k-th bit of the mask on
 abbrev pub subtree_way : ℕ → List ℕ → List ℕ → List Step

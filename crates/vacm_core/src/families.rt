@@ -6,7 +6,7 @@ ghost use Rattle.vacm_core.specs.Rows.{same_family};
 ghost use Rattle.vacm_core.specs.Tables.{KeysDiffer};
 ghost use Rattle.vacm_core.specs.Access.{has_view};
 ghost use Rattle.vacm_core.specs.Families.{deciding_family};
-ghost use Rattle.vacm_core.specs.Trees.{leads, reaches, fixed, way_of, IsPlaced, IsTreeOf};
+ghost use Rattle.vacm_core.specs.Trees.{leads, reaches, counting_part, way_of, IsPlaced, IsTreeOf};
 ghost use Rattle.vacm_core.specs.declared.tables.FamilyRow.{FamilyRow};
 
 use crate::copying::copied_rows;
@@ -133,7 +133,7 @@ fn has_family(rows: &[FamilyRow], view: &Name) -> bool
 
 // A step that counts.
 fn fixed(part: u32) -> Step
-    ensures { result ≡ fixed part }
+    ensures { result ≡ counting_part part }
 {
     Step { part, counts: true }
 }

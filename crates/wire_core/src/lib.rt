@@ -33,6 +33,3 @@ pub use memory::{Given, MemoryWire};
 pub use pace::{CountPace, Pace, SecondPace};
 pub use udp::{RECEIVE_WAIT_MILLIS, UdpWire};
 pub use wire::{Packet, Received, Wire, WireFault};
-
-#[cfg(test)]
-mod tests;

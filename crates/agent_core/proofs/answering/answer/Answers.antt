@@ -1,8 +1,5 @@
-use Rattle.std.proofs.Common.{◌≡◌, ◌≢◌, ◌∙◌, ◌≤◌, [], length, sym, refl, ap, subst, rules}
+use Rattle.std.proofs.Common.{◌≢◌, ◌∙◌, sym, rules}
 use Rattle.message_core.specs.declared.request.Kind.TheVariants.{Set}
-use Rattle.message_core.specs.declared.limits.TheConstants.{MAX_COMMUNITY}
-use Rattle.decision.specs.Deciding.{decision_on}
-use Rattle.decision.specs.declared.choice.Decision.TheVariants.{Drop, Empty, Refused, Allowed}
 use Rattle.agent_core.proofs.SetSteps.{dropped_step, empty_step, refused_step, set_stepped, read_stepped}
 use Rattle.agent_core.proofs.answering.answer.Goals as goal
 

@@ -1,12 +1,12 @@
 use Rattle.std.proofs.Common.{◌≡◌, ◌∷◌, ◌++◌, length, map, take}
-use Rattle.vacm_core.specs.Trees.{fixed, view_way, subtree_way}
+use Rattle.vacm_core.specs.Trees.{counting_part, view_way, subtree_way}
 use Rattle.vacm_core.proofs.families.way_of.Given as goal
 
 -- the steps of the view so far
 abbrev pub invariant-loop-octet : goal.invariant-loop-octet
 invariant-loop-octet l = record {
   view : l.view ≡ l.row.view;
-  steps : l.way.items ≡ fixed (length l.view) ∷ map fixed (take l.octet-index l.view);
+  steps : l.way.items ≡ counting_part (length l.view) ∷ map counting_part (take l.octet-index l.view);
 }
 
 -- the steps so far

@@ -12,26 +12,26 @@ use Rattle.history_core.proofs.kept.Kept.apply_told.Goals as goal
 pub invariant_of-self-2 : goal.invariant_of-self-2
 invariant_of-self-2 g c =
     let k = c.self.inside in
-    let h : History = record { first = k.first; base_number = k.base_number; base = k.base.value; entries = k.entries.items; world = k.world; objects = k.registry } in
+    let h : History = record { first = k.first; base_number = k.base_number; base = k.base.value; entries = k.entries; world = k.world; objects = k.registry } in
     let number = c.next_number-number.ensures ∙ ap next_of (sym c.self.view_is) in
     let other : next_of h ≢ last_number = (λ e. c.if-number.false (number ∙ e)) in
-    let below : next_of h < 2 ^ 64 = c.self.invariant.0.fits in
+    let below : next_of h < 2 ^ 64 = c.self.invariant.fits in
     let base = c.in-Ok.ensures.base ∙ ap due_base (sym c.self.view_is) in
-    let t = left-ok h c.args.event c.happen.new.happened _ _ _ _ _ _ _ _ _ c.self.invariant.0 number (omega (arith, below, other)) base c.in-Ok-happen.ensures.happens c.made_of-entry.ensures.entry c.enter.ensures.entered in
-    (t.1, omega (arith, c.self.invariant.1, c.enter.ensures.capacity))
+    let t = left-ok h c.args.event c.happen.new.happened _ _ _ _ _ _ _ _ _ c.self.invariant number (omega (arith, below, other)) base c.in-Ok-happen.ensures.happens c.made_of-entry.ensures.entry c.enter.ensures in
+    t.1
 
 pub returns : goal.returns
 returns g c =
     let k = c.self.inside in
-    let h : History = record { first = k.first; base_number = k.base_number; base = k.base.value; entries = k.entries.items; world = k.world; objects = k.registry } in
-    let later : History = record { first = k.first; base_number = c.enter.new.base_number; base = c.enter.new.base.value; entries = c.enter.new.entries.items; world = c.happen.new.world; objects = c.happen.new.registry } in
+    let h : History = record { first = k.first; base_number = k.base_number; base = k.base.value; entries = k.entries; world = k.world; objects = k.registry } in
+    let later : History = record { first = k.first; base_number = c.enter.new.base_number; base = c.enter.new.base.value; entries = c.enter.new.entries; world = c.happen.new.world; objects = c.happen.new.registry } in
     let number = c.next_number-number.ensures ∙ ap next_of (sym c.self.view_is) in
     let other : next_of h ≢ last_number = (λ e. c.if-number.false (number ∙ e)) in
-    let most : next_of h < 2 ^ 64 = c.self.invariant.0.fits in
+    let most : next_of h < 2 ^ 64 = c.self.invariant.fits in
     let below : next_of h < last_number = omega (arith, most, other) in
     let base = c.in-Ok.ensures.base ∙ ap due_base (sym c.self.view_is) in
     let happens = c.in-Ok-happen.ensures.happens in
-    let t = left-ok h c.args.event c.happen.new.happened _ _ _ _ _ _ _ _ _ c.self.invariant.0 number below base happens c.made_of-entry.ensures.entry c.enter.ensures.entered in
+    let t = left-ok h c.args.event c.happen.new.happened _ _ _ _ _ _ _ _ _ c.self.invariant number below base happens c.made_of-entry.ensures.entry c.enter.ensures in
     let told : c.in-Ok.ready.told ≡ told_of c.args.event =
     subst (λ (x : Result ReceiptEvent AllocError). IfOk x (λ t. t ≡ told_of c.args.event)) c.in-Ok.ensures.told c.requires.told in
     let applied = applies-ok h c.args.event c.happen.new.happened c.happen.new.world c.happen.new.registry c.happen.new.buffer c.next_number-number.result c.in-Ok.ready.told c.made_of-entry.result.receipt c.made_of-entry.result.audit later

@@ -1,0 +1,4 @@
+use Rattle.agent_core.proofs.answering.send_read.Given as goal
+
+abbrev pub ghosts-send_undenied : goal.ghosts-send_undenied
+ghosts-send_undenied g a = record { name = a.blank.name; parts = a.blank.parts }

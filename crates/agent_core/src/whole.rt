@@ -1,0 +1,61 @@
+//! Managed objects and the world that they show, as what a request is answered from whose names are
+//! all seen.
+ghost use Rattle.std.specs.Prelude.{◌≡◌};
+
+use crate::served::object_in;
+use crate::source::{NOWHERE, Source, Successors};
+use message_core::{Binding, Value};
+use oid_core::Oid;
+use setphase_core::{MibObject, Registry, World};
+use std::alloc::{AllocError, Global};
+use std::sync::ledger::Ledger;
+use steps::Steps;
+
+/// Managed objects, and the world that they show (RFC 3416, 4.2: the variables to which an agent
+/// has access).
+#[derive(Drop)]
+pub struct Whole<'a, O: MibObject> {
+    /// The objects.
+    pub registry: &'a Registry<O>,
+    /// The world.
+    pub world: &'a World,
+}
+
+impl<O: MibObject, L: Ledger> Successors<L> for Whole<'_, O> {
+    ghost use Rattle.setphase_core.specs.Registry.{rows_of};
+    ghost use Rattle.agent_core.specs.Answers.{shown_of};
+
+    ghost instances = { λ s. (shown_of (rows_of s.registry.now) s.world.now).instances };
+
+    fn known(&self) {
+        self.registry.known(self.world);
+    }
+
+    fn next(
+        &self,
+        alloc: Global,
+        name: &Oid,
+        _near: &mut usize,
+        steps: &mut Steps<L>,
+    ) -> Result<Option<Binding>, AllocError> {
+        steps.tick();
+        self.registry.next(alloc, self.world, name.as_slice())
+    }
+}
+
+impl<O: MibObject, L: Ledger> Source<L> for Whole<'_, O> {
+    ghost use Rattle.setphase_core.specs.Registry.{rows_of, prefixes_of};
+
+    ghost objects = { λ s. prefixes_of (rows_of s.registry.now) };
+
+    fn object(&self, alloc: Global, name: &Oid) -> Result<Option<Oid>, AllocError> {
+        object_in(alloc, self.registry, self.world, name)
+    }
+
+    fn get(&self, alloc: Global, name: &Oid) -> Result<Option<Value>, AllocError> {
+        Ok(
+            self.registry
+                .read(alloc, self.world, name.as_slice(), NOWHERE),
+        )
+    }
+}

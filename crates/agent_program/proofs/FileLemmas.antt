@@ -1,0 +1,49 @@
+-- What the program does with a file, by what was read of it.
+use Rattle.std.proofs.Common.{ℕ, List, Option, Result, Ok, Err, IfErr, Vec}
+use Rattle.std.specs.declared.alloc.Global.{Global}
+use Rattle.setphase_core.specs.Objects.{ObjectState}
+use Rattle.agent_program.specs.declared.files.NotRead.{NotRead}
+use Rattle.agent_program.specs.declared.failure.Failure.{Failure}
+use Rattle.agent_program.specs.declared.words.Lasting.{Lasting}
+use Rattle.agent_program.specs.Files.{IsNotRead, IsReadOf, read_view}
+use Rattle.agent_program.specs.Telling.{IsFileChecked, IsCheckOf}
+use Rattle.agent_program.specs.Services.{Service, OpensRead, OpensFile}
+use Rattle.agent_program.specs.Programs.{RunsRead, RunsFile}
+
+-- what was not read of this file names it, also as a list of octets
+named_by : (file : List ℕ) (read : Result (Vec ℕ Global) NotRead)
+    → IfErr read (λ why. IsNotRead file why) → IfErr (read_view read) (λ why. IsNotRead file why)
+named_by file (Ok octets) named = tt
+named_by file (Err why) named = named
+
+read_of : (Gives : List ℕ → Result (List ℕ) NotRead → Type 0) (file : List ℕ)
+    (read : Result (Vec ℕ Global) NotRead) → IfErr read (λ why. IsNotRead file why)
+    → Gives file (read_view read) → IsReadOf Gives file (read_view read)
+read_of Gives file read named gave = record { named = named_by file read named; gave = gave }
+
+pub file_run : {I O : Type 0} (Gives : List ℕ → Result (List ℕ) NotRead → Type 0)
+    (objects : List ObjectState) (remaining : I → Option (List ℕ))
+    (contents : O → Option (List ℕ)) (file : List ℕ) (read : Result (Vec ℕ Global) NotRead) (reader reader' : I) (writer writer' : O)
+    (ended : Result (Unit {0}) Failure) → IfErr read (λ why. IsNotRead file why)
+    → Gives file (read_view read)
+    → RunsRead remaining contents objects (read_view read) reader reader' writer writer' ended
+    → RunsFile Gives objects remaining contents file reader reader' writer writer' ended
+file_run Gives objects remaining contents file read reader reader' writer writer' ended named gave ran =
+    record { read = read_view read; is = read_of Gives file read named gave; ran = ran }
+
+pub file_check : {O : Type 0} (Gives : List ℕ → Result (List ℕ) NotRead → Type 0)
+    (contents : O → Option (List ℕ)) (file : List ℕ) (read : Result (Vec ℕ Global) NotRead)
+    (writer writer' : O) (ended : Result (Unit {0}) Failure)
+    → IfErr read (λ why. IsNotRead file why) → Gives file (read_view read)
+    → IsFileChecked contents (read_view read) writer writer' ended
+    → IsCheckOf Gives contents file writer writer' ended
+file_check Gives contents file read writer writer' ended named gave checked =
+    record { read = read_view read; is = read_of Gives file read named gave; checked = checked }
+
+pub file_served : (Gives : List ℕ → Result (List ℕ) NotRead → Type 0) (objects : List ObjectState)
+    (lasting : Lasting) (file : List ℕ) (read : Result (Vec ℕ Global) NotRead)
+    (done : Result (Option Service) Failure)
+    → IfErr read (λ why. IsNotRead file why) → Gives file (read_view read)
+    → OpensRead objects lasting (read_view read) done → OpensFile Gives objects lasting file done
+file_served Gives objects lasting file read done named gave opens =
+    record { read = read_view read; is = read_of Gives file read named gave; opens = opens }

@@ -1,0 +1,104 @@
+-- How the program ends: its exit status, and what it says on standard error.
+use Rattle.std.specs.Prelude.{◌≡◌, ℕ, codes, List, [], ◌++◌, Option, Result, Ok, Err}
+use Rattle.std.specs.Io.KnownBytes.{Appends}
+use Rattle.std.specs.declared.io.ErrorKind.{ErrorKind}
+use Rattle.std.specs.declared.io.ErrorKind.TheVariants.{OutOfMemory}
+use Rattle.script_core.specs.declared.fault.RunFault.{RunFault}
+use Rattle.script_core.specs.declared.fault.RunFault.TheVariants.{Input as InputFailed, Output as OutputFailed, Memory as NoMemory, Stopped as Given}
+use Rattle.agent_script.specs.declared.session.Run.{Run}
+use Rattle.agent_program.specs.declared.opening.NotRun.{NotRun}
+use Rattle.agent_program.specs.declared.opening.NotRun.TheVariants.{Refused as IsRefused, Memory, NoRegistry, Stopped}
+use Rattle.agent_program.specs.declared.files.NotRead.{NotRead}
+use Rattle.agent_program.specs.declared.files.NotRead.TheVariants.{Memory as FileMemory, Unreadable}
+use Rattle.agent_program.specs.declared.words.Wrong.{Wrong}
+use Rattle.agent_program.specs.declared.words.Wrong.TheVariants.{Unexpected, Missing}
+use Rattle.agent_program.specs.declared.telling.NotTaken.{NotTaken}
+use Rattle.agent_program.specs.declared.failure.Failure.{Failure}
+use Rattle.agent_program.specs.declared.failure.Failure.TheVariants.{Usage, NotText, CannotRead, Refused, Input, Output, Run as RunFailed}
+
+-- the exit status: 2 for words that are no command and for a configuration that cannot be read or
+-- is refused, 1 for what failed in a run
+abbrev pub failure_status : Failure → ℕ
+failure_status (Usage why) = 2
+failure_status NotText = 2
+failure_status (CannotRead file) = 2
+failure_status Refused = 2
+failure_status Input = 1
+failure_status Output = 1
+failure_status RunFailed = 1
+
+abbrev pub status_of : {A : Type 0} → Result A Failure → ℕ
+status_of (Ok done) = 0
+status_of (Err failure) = failure_status failure
+
+-- what a failure is called, and what it names
+abbrev pub failure_words : Failure → List ℕ
+failure_words (Usage (Unexpected word)) = codes "usage: agentd [script|check|serve [--forever] --config FILE]: unexpected word "
+failure_words (Usage Missing) = codes "usage: agentd [script|check|serve [--forever] --config FILE]: --config FILE is missing"
+failure_words NotText = codes "usage: agentd [script|check|serve [--forever] --config FILE]: a word is no text"
+failure_words (CannotRead file) = codes "cannot read "
+failure_words Refused = codes "configuration refused"
+failure_words Input = codes "input failed"
+failure_words Output = codes "output failed"
+failure_words RunFailed = codes "run failed"
+
+abbrev pub failure_name : Failure → List ℕ
+failure_name (Usage (Unexpected word)) = word.now
+failure_name (Usage Missing) = []
+failure_name NotText = []
+failure_name (CannotRead file) = file.now
+failure_name Refused = []
+failure_name Input = []
+failure_name Output = []
+failure_name RunFailed = []
+
+-- its line
+abbrev pub failure_line : Failure → List ℕ
+failure_line failure =
+    codes "agentd: " ++ (failure_words failure ++ (failure_name failure ++ codes "\n"))
+
+-- what is said on standard error
+abbrev pub said_of : {A : Type 0} → Result A Failure → List ℕ
+said_of (Ok done) = []
+said_of (Err failure) = failure_line failure
+
+-- words that were not had, as a failure of the program: want of memory for them is not their fault
+abbrev pub words_failure : ErrorKind → Failure
+words_failure OutOfMemory = RunFailed
+words_failure kind = NotText
+
+-- a run that did not come to its end, as a failure of the program
+abbrev pub run_failure : RunFault → Failure
+run_failure InputFailed = Input
+run_failure OutputFailed = Output
+run_failure NoMemory = RunFailed
+run_failure Given = RunFailed
+
+-- a file that was not read, as a failure of the program: without memory for its octets nothing is
+-- said of them
+abbrev pub read_failure : NotRead → Failure
+read_failure FileMemory = Refused
+read_failure (Unreadable file) = CannotRead file
+
+abbrev pub failure_of : NotRun → Failure
+failure_of IsRefused = Refused
+failure_of Memory = Refused
+failure_of NoRegistry = Refused
+failure_of (Stopped fault) = run_failure fault
+
+abbrev pub ended_by : Result Run NotRun → Result (Unit {0}) Failure
+ended_by (Ok run) = Ok tt
+ended_by (Err why) = Err (failure_of why)
+
+-- a writer took a front of this text, and nothing else
+pub record TakesFront (old new : Option (List ℕ)) (text : List ℕ) : Type 0 where
+  pub front : List ℕ
+  pub rest : List ℕ
+  pub whole : text ≡ front ++ rest
+  pub took : Appends old new front
+
+-- a line was taken whole, or a front of it behind which a write failed
+abbrev pub IsLineTaken : Result (Unit {0}) NotTaken → Option (List ℕ) → Option (List ℕ) → List ℕ →
+    Type 0
+IsLineTaken (Ok done) old new line = Appends old new line
+IsLineTaken (Err failed) old new line = TakesFront old new line

@@ -1,0 +1,123 @@
+-- What the program does with its words.
+use Rattle.std.specs.Prelude.{◌≡◌, ℕ, List, Option, None, Result, Ok, Err}
+use Rattle.configuration.specs.declared.configuration.TheConstants.{BUILT_IN}
+use Rattle.setphase_core.specs.Objects.{ObjectState}
+use Rattle.agent_script.specs.declared.session.Run.{Run}
+use Rattle.agent_program.specs.declared.files.NotRead.{NotRead}
+use Rattle.agent_program.specs.declared.opening.NotRun.{NotRun}
+use Rattle.agent_program.specs.declared.failure.Failure.{Failure}
+use Rattle.agent_program.specs.declared.failure.Ended.{Ended}
+use Rattle.agent_program.specs.declared.failure.Failure.TheVariants.{Usage}
+use Rattle.agent_program.specs.declared.words.TheConstants.{HELP, VERSION}
+use Rattle.agent_program.specs.declared.words.Asked.{Asked}
+use Rattle.agent_program.specs.declared.words.Asked.TheVariants.{BuiltIn, Script, Check, Serve, Help, Version}
+use Rattle.agent_program.specs.declared.words.Lasting.{Lasting}
+use Rattle.agent_program.specs.declared.words.Wrong.{Wrong}
+use Rattle.agent_program.specs.Words.{asking_of, asking_view}
+use Rattle.agent_program.specs.Files.{IsReadOf}
+use Rattle.agent_program.specs.Endings.{status_of, said_of, ended_by, read_failure, IsLineTaken}
+use Rattle.agent_program.specs.Runs.{IsUntouched, IsRunBy}
+use Rattle.agent_program.specs.Services.{Service, OpensFile}
+use Rattle.agent_program.specs.Telling.{IsTold, IsCheckOf}
+
+-- an end that leaves nothing to be served
+abbrev pub nothing_left : Result (Unit {0}) Failure → Result (Option Service) Failure
+nothing_left (Ok done) = Ok None
+nothing_left (Err failure) = Err failure
+
+-- what is left to be served
+abbrev pub left_of : Result (Option Service) Failure → Option Service
+left_of (Ok left) = left
+left_of (Err failure) = None
+
+-- The program did this and ended so, and nothing is left to be served.
+pub record HasDone (Did : Result (Unit {0}) Failure → Type 0) (done : Result (Option Service) Failure)
+    : Type 0 where
+  pub ended : Result (Unit {0}) Failure
+  pub did : Did ended
+  pub is : done ≡ nothing_left ended
+
+module _ {I O : Type 0} (remaining : I → Option (List ℕ)) (contents : O → Option (List ℕ)) where
+  -- a run by these octets, over the objects that were handed in, ended the program so
+  pub record RunsBy (objects : List ObjectState) (octets : List ℕ) (reader reader' : I)
+      (writer writer' : O) (ended : Result (Unit {0}) Failure) : Type 0 where
+    pub result : Result Run NotRun
+    pub run : IsRunBy remaining contents objects octets reader reader' writer writer' result
+    pub is : ended ≡ ended_by result
+
+  -- the program failed so before it read or wrote anything
+  pub record FailsFirst (failure : Failure) (reader reader' : I) (writer writer' : O) (ended : Result (Unit {0}) Failure) : Type 0 where
+    pub failed : ended ≡ Err failure
+    pub untouched : IsUntouched remaining contents reader reader' writer writer'
+
+  -- A run by what was read of a file: by its octets, and by nothing else where they were not had.
+  abbrev pub RunsRead : List ObjectState → Result (List ℕ) NotRead → I → I → O → O
+      → Result (Unit {0}) Failure → Type 0
+  RunsRead objects (Ok octets) reader reader' writer writer' ended =
+      RunsBy objects octets reader reader' writer writer' ended
+  RunsRead objects (Err why) reader reader' writer writer' ended =
+      FailsFirst (read_failure why) reader reader' writer writer' ended
+
+  -- the program told something, and read nothing
+  pub record Tells (text : List ℕ) (reader reader' : I) (writer writer' : O) (ended : Result (Unit {0}) Failure) : Type 0 where
+    pub unread : reader' ≡ reader
+    pub told : IsTold contents text writer writer' ended
+
+-- Beside these a reader of files, by what a read of the file of a name may give, and the objects
+-- that were handed in.
+module _ {I O : Type 0} (Gives : List ℕ → Result (List ℕ) NotRead → Type 0)
+    (objects : List ObjectState) (remaining : I → Option (List ℕ))
+    (contents : O → Option (List ℕ)) where
+  -- a file was read, or not, and the program ran by what was read of it
+  pub record RunsFile (file : List ℕ) (reader reader' : I) (writer writer' : O)
+      (ended : Result (Unit {0}) Failure) : Type 0 where
+    pub read : Result (List ℕ) NotRead
+    pub is : IsReadOf Gives file read
+    pub ran : RunsRead remaining contents objects read reader reader' writer writer' ended
+
+  -- the program told whether a file is a configuration, and read nothing else
+  pub record ChecksFile (file : List ℕ) (reader reader' : I) (writer writer' : O)
+      (ended : Result (Unit {0}) Failure) : Type 0 where
+    pub unread : reader' ≡ reader
+    pub checked : IsCheckOf Gives contents file writer writer' ended
+
+  -- what a file says is to be served, for so long; nothing else was read, and nothing written
+  pub record ServesFile (file : List ℕ) (lasting : Lasting) (reader reader' : I) (writer writer' : O)
+      (done : Result (Option Service) Failure) : Type 0 where
+    pub untouched : IsUntouched remaining contents reader reader' writer writer'
+    pub opens : OpensFile Gives objects lasting file done
+
+  -- What the program did for what its words ask.
+  abbrev pub Does : Result Asked Wrong → I → I → O → O → Result (Option Service) Failure → Type 0
+  Does (Ok BuiltIn) reader reader' writer writer' done =
+      HasDone (RunsBy remaining contents objects BUILT_IN.now reader reader' writer writer') done
+  Does (Ok (Script file)) reader reader' writer writer' done =
+      HasDone (RunsFile file.now reader reader' writer writer') done
+  Does (Ok (Check file)) reader reader' writer writer' done =
+      HasDone (ChecksFile file.now reader reader' writer writer') done
+  Does (Ok (Serve file lasting)) reader reader' writer writer' done =
+      ServesFile file.now lasting reader reader' writer writer' done
+  Does (Ok Help) reader reader' writer writer' done =
+      HasDone (Tells remaining contents HELP.now reader reader' writer writer') done
+  Does (Ok Version) reader reader' writer writer' done =
+      HasDone (Tells remaining contents VERSION.now reader reader' writer writer') done
+  Does (Err wrong) reader reader' writer writer' done =
+      HasDone (FailsFirst remaining contents (Usage wrong) reader reader' writer writer') done
+
+  -- The program did what its words, its name first, ask for.
+  pub record HasEnded (words : List (List ℕ)) (reader reader' : I) (writer writer' : O)
+      (done : Result (Option Service) Failure) : Type 0 where
+    pub asked : Result Asked Wrong
+    pub is : asking_view asked ≡ asking_of words
+    pub does : Does asked reader reader' writer writer' done
+
+  -- The program did what its words ask for, and this is left to be served, if anything: its status is
+  -- that of how it ended, and on standard error stands the line that says so, whole or a front of it
+  -- behind which a write failed.
+  pub record IsProgramRun (words : List (List ℕ)) (reader reader' : I) (writer writer' : O)
+      (errors errors' : Option (List ℕ)) (finished : Ended) (left : Option Service) : Type 0 where
+    pub done : Result (Option Service) Failure
+    pub did : HasEnded words reader reader' writer writer' done
+    pub status : finished.status ≡ status_of done
+    pub said : IsLineTaken finished.line errors errors' (said_of done)
+    pub left_is : left ≡ left_of done

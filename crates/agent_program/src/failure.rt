@@ -1,0 +1,184 @@
+//! Why the program ends with another status than 0.
+ghost use Rattle.std.specs.Prelude.{◌≡◌, ◌++◌, OnOk};
+ghost use Rattle.std.specs.Io.KnownBytes.{Appends};
+ghost use Rattle.std.specs.IoError.{error_kind};
+ghost use Rattle.agent_program.specs.Telling.{IsTold};
+ghost use Rattle.agent_program.specs.Endings.{failure_status, failure_words, failure_name, failure_line, failure_of, words_failure, run_failure, read_failure, TakesFront, IsLineTaken};
+
+use crate::files::NotRead;
+use crate::opening::NotRun;
+use crate::telling::{NotTaken, write_front};
+use crate::words::Wrong;
+use script_core::RunFault;
+use std::io::{self, ErrorKind, Write};
+
+/// The status for words that are no command, and for a configuration that cannot be read or is
+/// refused.
+pub const USAGE: u8 = 2;
+
+/// The status for input, output or a run that failed.
+pub const FAILED: u8 = 1;
+
+/// Why the program ends with another status than 0.
+#[derive(Debug, Drop)]
+pub enum Failure<'a> {
+    /// The words are no command, for this reason.
+    Usage(Wrong<'a>),
+    /// A word is no text.
+    NotText,
+    /// The file of the configuration cannot be read.
+    CannotRead(&'a str),
+    /// The configuration is none, there is no memory for it or for the objects, or these make no
+    /// registry.
+    Refused,
+    /// The input could not be read to its end.
+    Input,
+    /// The output could not be written.
+    Output,
+    /// The run found no memory for its own lines and lists, or what was to be served was not, or
+    /// failed.
+    Run,
+}
+
+impl From<io::Error> for Failure<'_> {
+    ghost from_gives = { λ error failure. failure ≡ words_failure (error_kind error) };
+
+    // Words that cannot be read are no text; want of memory for them is not their fault.
+    fn from(error: io::Error) -> Self {
+        match error.kind() {
+            ErrorKind::OutOfMemory => Failure::Run,
+            _ => Failure::NotText,
+        }
+    }
+}
+
+// A run that did not come to its end, as a failure of the program.
+fn run_failure<'a>(fault: RunFault) -> Failure<'a>
+    ensures { result ≡ run_failure fault }
+{
+    match fault {
+        RunFault::Input => Failure::Input,
+        RunFault::Output => Failure::Output,
+        RunFault::Memory | RunFault::Stopped => Failure::Run,
+    }
+}
+
+/// Why the octets of a configuration were not run to the end of a script, as a failure of the
+/// program.
+pub fn failure_of<'a>(why: NotRun) -> Failure<'a>
+    ensures { result ≡ failure_of why }
+{
+    match why {
+        NotRun::Refused | NotRun::Memory | NotRun::NoRegistry => Failure::Refused,
+        NotRun::Stopped(fault) => run_failure(fault),
+    }
+}
+
+/// Why a file was not read, as a failure of the program.
+pub fn read_failure(why: NotRead<'_>) -> Failure<'_>
+    ensures { result ≡ read_failure why.entry }
+{
+    match why {
+        NotRead::Memory => Failure::Refused,
+        NotRead::Unreadable(file) => Failure::CannotRead(file),
+    }
+}
+
+impl Failure<'_> {
+    /// The exit status, 1 or 2.
+    pub fn status(&self) -> u8
+        ensures { result ≡ failure_status self.now }
+    {
+        match self {
+            Failure::Usage(_) | Failure::NotText | Failure::CannotRead(_) | Failure::Refused =>
+                USAGE,
+            Failure::Input | Failure::Output | Failure::Run => FAILED,
+        }
+    }
+
+    // What it is called.
+    fn words(&self) -> &'static [u8]
+        ensures { result.now ≡ failure_words self.now }
+    {
+        match self {
+            Failure::Usage(Wrong::Unexpected(_)) =>
+                b"usage: agentd [script|check|serve [--forever] --config FILE]: unexpected word ",
+            Failure::Usage(Wrong::Missing) =>
+                b"usage: agentd [script|check|serve [--forever] --config FILE]: --config FILE is missing",
+            Failure::NotText =>
+                b"usage: agentd [script|check|serve [--forever] --config FILE]: a word is no text",
+            Failure::CannotRead(_) => b"cannot read ",
+            Failure::Refused => b"configuration refused",
+            Failure::Input => b"input failed",
+            Failure::Output => b"output failed",
+            Failure::Run => b"run failed",
+        }
+    }
+
+    // What it names.
+    fn name(&self) -> &[u8]
+        ensures { result.now ≡ failure_name self.now }
+    {
+        match self {
+            Failure::Usage(Wrong::Unexpected(word)) => word.as_bytes(),
+            Failure::CannotRead(file) => file.as_bytes(),
+            Failure::Usage(Wrong::Missing)
+            | Failure::NotText
+            | Failure::Refused
+            | Failure::Input
+            | Failure::Output
+            | Failure::Run => b"",
+        }
+    }
+}
+
+// Writes the line of a failure until a write fails.
+fn write_line<E: Write>(failure: &Failure<'_>, errors: &mut E) -> Result<(), NotTaken>
+    ensures whole { OnOk result (Appends (E.contents errors.old) (E.contents errors.new)
+        (failure_line failure.now)) }
+    ensures front { TakesFront (E.contents errors.old) (E.contents errors.new)
+        (failure_line failure.now) }
+{
+    write_front(errors, b"agentd: ")?;
+    write_front(errors, failure.words())?;
+    write_front(errors, failure.name())?;
+    write_front(errors, b"\n")
+}
+
+/// How a run of the program ended, as it is told.
+#[derive(Clone, Copy, Debug, PartialEq, Eq)]
+pub struct Ended {
+    /// The exit status, 0 to 2.
+    pub status: u8,
+    /// Whether its line is written whole, or a front of it, behind which a write failed.
+    pub line: Result<(), NotTaken>,
+}
+
+/// Writes a failure as one line, or a front of it where a write fails, and gives its exit status.
+pub fn report<E: Write>(failure: &Failure<'_>, errors: &mut E) -> Ended
+    ensures status { result.status ≡ failure_status failure.now }
+    ensures line { IsLineTaken result.line (E.contents errors.old) (E.contents errors.new)
+        (failure_line failure.now) }
+{
+    let line = write_line(failure, errors);
+    Ended {
+        status: failure.status(),
+        line,
+    }
+}
+
+/// Writes a text to the output, and flushes it.
+///
+/// # Errors
+/// `Output` where a write fails, behind a front of the text, or where the flush does.
+pub fn tell<'a, O: Write>(text: &[u8], writer: &mut O) -> Result<(), Failure<'a>>
+    ensures { IsTold O.contents text.now writer.old writer.new result }
+{
+    match write_front(writer, text) {
+        Ok(()) => match writer.flush() {
+            Ok(()) => Ok(()),
+            Err(_) => Err(Failure::Output),
+        },
+        Err(_) => Err(Failure::Output),
+    }
+}

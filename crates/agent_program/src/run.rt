@@ -1,0 +1,225 @@
+//! What the program does with its words.
+ghost use Rattle.std.specs.Prelude.{◌≡◌, map, string_bytes};
+ghost use Rattle.agent_program.specs.Endings.{ended_by};
+ghost use Rattle.agent_program.specs.Files.{read_view};
+ghost use Rattle.agent_program.specs.Telling.{IsCheckOf};
+ghost use Rattle.agent_program.specs.Services.{OpensRead, OpensFile};
+ghost use Rattle.agent_program.specs.Programs.{RunsBy, RunsRead, RunsFile, Does, HasEnded, IsProgramRun, nothing_left};
+
+use crate::checking::check_read;
+use crate::failure::{Ended, Failure, failure_of, read_failure, report, tell};
+use crate::files::{NotRead, ReadFile};
+use crate::running::run_octets;
+use crate::serving::{Opened, open_service};
+use crate::words::{Asked, HELP, Lasting, VERSION, Wrong, asked_by};
+use configuration::BUILT_IN;
+use setphase_core::{MibObject, Registry};
+use std::alloc::Global;
+use std::io::{Read, Write};
+
+/// Runs the program on the words of its command line, its name first, and gives its exit status: 0;
+/// 1 where input, output or the run failed; 2 for words that are no command, and for a
+/// configuration that cannot be read or is refused. A failure is written to `errors` as one line,
+/// whole or a front of it behind which a write failed. The octets of a file are those that `files`
+/// gives for its name. The script runs over exactly the objects that are handed in; where they make
+/// no registry, its configuration is refused.
+///
+/// Where the words ask to serve, it gives what is to be served as well, and for how long, and has
+/// neither read from `reader` nor written anything; the caller has then to serve it.
+pub fn run_words<F, M, I, O, E>(
+    alloc: Global,
+    files: &F,
+    objects: Vec<M>,
+    words: &[String],
+    reader: &mut I,
+    writer: &mut O,
+    errors: &mut E,
+) -> (Ended, Option<(Registry<M>, Opened, Lasting)>)
+where
+    F: ReadFile,
+    M: MibObject,
+    I: Read,
+    O: Write,
+    E: Write,
+    ensures { IsProgramRun (F.gives files.now) (map M.state objects.items)
+        I.remaining O.contents (map string_bytes words.now)
+        reader.old reader.new writer.old writer.new
+        (E.contents errors.old) (E.contents errors.new) result.0 result.1 }
+{
+    match try_words(alloc, files, objects, words, reader, writer) {
+        Ok(left) => {
+            let ended = Ended {
+                status: 0,
+                line: Ok(()),
+            };
+            (ended, left)
+        }
+        Err(failure) => (report(&failure, errors), None),
+    }
+}
+
+// Runs the program, and gives what is left to be served, or why it failed.
+fn try_words<'a, F, M, I, O>(
+    alloc: Global,
+    files: &F,
+    objects: Vec<M>,
+    words: &'a [String],
+    reader: &mut I,
+    writer: &mut O,
+) -> Result<Option<(Registry<M>, Opened, Lasting)>, Failure<'a>>
+where
+    F: ReadFile,
+    M: MibObject,
+    I: Read,
+    O: Write,
+    ensures { HasEnded (F.gives files.now) (map M.state objects.items)
+        I.remaining O.contents (map string_bytes words.now)
+        reader.old reader.new writer.old writer.new result }
+{
+    do_asked(alloc, files, objects, asked_by(words), reader, writer)
+}
+
+// Does what was asked for.
+fn do_asked<'a, F, M, I, O>(
+    alloc: Global,
+    files: &F,
+    objects: Vec<M>,
+    asked: Result<Asked<'a>, Wrong<'a>>,
+    reader: &mut I,
+    writer: &mut O,
+) -> Result<Option<(Registry<M>, Opened, Lasting)>, Failure<'a>>
+where
+    F: ReadFile,
+    M: MibObject,
+    I: Read,
+    O: Write,
+    ensures { Does (F.gives files.now) (map M.state objects.items)
+        I.remaining O.contents asked.entry
+        reader.old reader.new writer.old writer.new result }
+{
+    match asked {
+        Ok(Asked::BuiltIn) => finish(run_by(alloc, objects, BUILT_IN.as_bytes(), reader, writer)),
+        Ok(Asked::Script(file)) => finish(run_file(alloc, files, objects, file, reader, writer)),
+        Ok(Asked::Check(file)) => finish(check_file(alloc, files, file, writer)),
+        Ok(Asked::Serve(file, lasting)) => serve_file(alloc, files, objects, file, lasting),
+        Ok(Asked::Help) => finish(tell(HELP.as_bytes(), writer)),
+        Ok(Asked::Version) => finish(tell(VERSION.as_bytes(), writer)),
+        Err(wrong) => Err(Failure::Usage(wrong)),
+    }
+}
+
+// What has ended so leaves nothing to be served.
+fn finish<'a, M: MibObject>(
+    ended: Result<(), Failure<'a>>,
+) -> Result<Option<(Registry<M>, Opened, Lasting)>, Failure<'a>>
+    ensures { result ≡ nothing_left ended.entry }
+{
+    match ended {
+        Ok(()) => Ok(None),
+        Err(failure) => Err(failure),
+    }
+}
+
+// What is to be served for so long by what was read of a file.
+fn serve_read<'a, M: MibObject>(
+    alloc: Global,
+    objects: Vec<M>,
+    read: Result<Vec<u8>, NotRead<'a>>,
+    lasting: Lasting,
+) -> Result<Option<(Registry<M>, Opened, Lasting)>, Failure<'a>>
+    ensures { OpensRead (map M.state objects.items) lasting (read_view read.entry) result }
+{
+    match read {
+        Ok(octets) => match open_service(alloc, objects, &octets) {
+            Ok((registry, opened)) => Ok(Some((registry, opened, lasting))),
+            Err(reason) => Err(failure_of(reason)),
+        },
+        Err(unread) => Err(read_failure(unread)),
+    }
+}
+
+// What is to be served for so long by a file.
+#[tactic(auto, using(crate::proofs::FileLemmas::file_served))]
+fn serve_file<'a, F: ReadFile, M: MibObject>(
+    alloc: Global,
+    files: &F,
+    objects: Vec<M>,
+    file: &'a str,
+    lasting: Lasting,
+) -> Result<Option<(Registry<M>, Opened, Lasting)>, Failure<'a>>
+    ensures { OpensFile (F.gives files.now) (map M.state objects.items) lasting file.now result }
+{
+    serve_read(alloc, objects, files.read_file(file), lasting)
+}
+
+// Runs the script by the octets of a configuration.
+fn run_by<'a, M: MibObject, I: Read, O: Write>(
+    alloc: Global,
+    objects: Vec<M>,
+    octets: &[u8],
+    reader: &mut I,
+    writer: &mut O,
+) -> Result<(), Failure<'a>>
+    ensures { RunsBy I.remaining O.contents (map M.state objects.items)
+        octets.now reader.old reader.new writer.old writer.new result }
+{
+    match run_octets(alloc, objects, octets, reader, writer) {
+        Ok(_) => Ok(()),
+        Err(why) => Err(failure_of(why)),
+    }
+}
+
+// Runs the script by what was read of a file; where it could not be read, by nothing else.
+fn run_read<'a, M: MibObject, I: Read, O: Write>(
+    alloc: Global,
+    objects: Vec<M>,
+    read: Result<Vec<u8>, NotRead<'a>>,
+    reader: &mut I,
+    writer: &mut O,
+) -> Result<(), Failure<'a>>
+    ensures { RunsRead I.remaining O.contents (map M.state objects.items)
+        (read_view read.entry) reader.old reader.new writer.old writer.new result }
+{
+    match read {
+        Ok(octets) => run_by(alloc, objects, &octets, reader, writer),
+        Err(why) => Err(read_failure(why)),
+    }
+}
+
+// Runs the script by a file.
+#[tactic(auto, using(crate::proofs::FileLemmas::file_run))]
+fn run_file<'a, F, M, I, O>(
+    alloc: Global,
+    files: &F,
+    objects: Vec<M>,
+    file: &'a str,
+    reader: &mut I,
+    writer: &mut O,
+) -> Result<(), Failure<'a>>
+where
+    F: ReadFile,
+    M: MibObject,
+    I: Read,
+    O: Write,
+    ensures { RunsFile (F.gives files.now) (map M.state objects.items)
+        I.remaining O.contents file.now
+        reader.old reader.new writer.old writer.new result }
+{
+    run_read(alloc, objects, files.read_file(file), reader, writer)
+}
+
+// Tells whether a file is a configuration.
+#[tactic(auto, using(crate::proofs::FileLemmas::file_check))]
+fn check_file<'a, F, O>(
+    alloc: Global,
+    files: &F,
+    file: &'a str,
+    writer: &mut O,
+) -> Result<(), Failure<'a>>
+where
+    F: ReadFile,
+    O: Write,
+    ensures { IsCheckOf (F.gives files.now) O.contents file.now writer.old writer.new result }
+{
+    check_read(alloc, files.read_file(file), writer)
+}

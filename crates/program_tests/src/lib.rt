@@ -1,0 +1,24 @@
+//! Tests of the agent's program by its words: scripts, checks of configurations, what is to be
+//! served, and what is told of failures.
+//!
+//! # Entry points
+//! None: the tests call what `agent_program` offers.
+//!
+//! # Definitions
+//! None.
+//!
+//! # Laws
+//! None.
+//!
+//! # Not claimed
+//! Anything but what each test compares.
+#![tactic(auto)]
+
+#[cfg(test)]
+mod runs;
+#[cfg(test)]
+mod serving;
+#[cfg(test)]
+mod support;
+#[cfg(test)]
+mod words;

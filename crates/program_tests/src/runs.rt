@@ -1,0 +1,425 @@
+//! Runs of the script by a configuration, and checks of one.
+use crate::serving::{SETUP, SETUPS};
+use crate::support::{
+    Case, FILE, Full, GET, Names, REFUSED, REPLY, SILENT, assert_runs, ran_over, ran_with, words_of,
+};
+use agent_program::{Failure, NotRead, SystemFiles, check_read, run_words};
+use bridge_mib::Planned;
+use configuration::BUILT_IN;
+use object_list::{Object, objects};
+use setphase_core::{Base, Column};
+use std::alloc::{AllocGlobal, Global};
+use std::io;
+use std::io::{Error, ErrorKind, Read, Write};
+use std::rt::Files;
+use std::test::Fail;
+
+/// What is said to that line where no object has its name: noSuchObject (RFC 3416, 4.2.1).
+const NO_SUCH_OBJECT: &[u8] =
+    b"reply 302702010104067075626C6963A21A020101020100020100300F300D06092B06010201110102008000\n";
+
+/// Gives its octets, and then fails.
+#[derive(Drop)]
+struct Failing<'a> {
+    octets: &'a [u8],
+}
+
+impl Read for Failing<'_> {
+    fn read(&mut self, buf: &mut [u8]) -> io::Result<usize> {
+        match self.octets.split_first() {
+            None => Err(Error::from(ErrorKind::Other)),
+            Some((first, rest)) => {
+                if buf.is_empty() {
+                    return Ok(0);
+                }
+                buf[0] = *first;
+                self.octets = rest;
+                Ok(1)
+            }
+        }
+    }
+}
+
+// The status of a run of the script over these streams, and what is told of its failure.
+fn ended<R: Files + AllocGlobal, I: Read, O: Write>(
+    rt: &R,
+    reader: &mut I,
+    out: &mut O,
+) -> Result<(u8, Vec<u8>), Fail> {
+    let alloc = rt.alloc();
+    let words = words_of(alloc, &["agentd"])?;
+    let all = objects(alloc, Planned::new())?;
+    let mut errors = Vec::new(alloc);
+    let (ended, _) = run_words(
+        alloc,
+        &SystemFiles(rt),
+        all,
+        &words,
+        reader,
+        out,
+        &mut errors,
+    );
+    Ok((ended.status, errors))
+}
+
+#[test]
+fn fails_with_its_input_or_its_output(rt: HostRuntime) -> Result<(), Fail> {
+    let mut out = Vec::new(rt.alloc());
+    let (status, errors) = ended(&rt, &mut Failing { octets: GET }, &mut out)?;
+    assert_eq!(rt;
+        (status, out.as_slice(), errors.as_slice()),
+        (1, REPLY, b"agentd: input failed\n".as_slice())
+    );
+    let (status, errors) = ended(&rt, &mut { GET }, &mut Full)?;
+    assert_eq!(rt;
+        (status, errors.as_slice()),
+        (1, b"agentd: output failed\n".as_slice())
+    );
+    Ok(())
+}
+
+/// Another community, view, address and port than the built-in configuration has.
+const OTHER: &str = "address = \"02AABBCCDDEE\"
+contexts = []
+[[port]]
+ifindex = 7
+speed = 1000
+full = true
+[[community]]
+index = \"s\"
+name = \"sesame\"
+security = \"gate\"
+context = \"\"
+[[group]]
+model = 2
+name = \"gate\"
+group = \"visitors\"
+[[access]]
+group = \"visitors\"
+prefix = \"\"
+model = 2
+level = 1
+exact = true
+read = \"part\"
+write = \"\"
+notify = \"\"
+[[family]]
+view = \"part\"
+subtree = \"1.3.6.1.2.1.17\"
+mask = \"\"
+included = true
+[[family]]
+view = \"part\"
+subtree = \"1.3.6.1.2.1.17.1.2\"
+mask = \"\"
+included = false
+";
+
+/// Asks as `public` and as `sesame` for 1.3.6.1.2.1.17.1.2.0, and lets two links go up.
+const OTHER_SCRIPT: &[u8] =
+    b"request 302702010104067075626C6963A01A020101020100020100300F300D06092B06010201110102000500
+audit on
+request 30270201010406736573616D65A01A020101020100020100300F300D06092B06010201110102000500
+link 1 up
+link 2 up
+";
+
+/// What is said to it.
+const OTHER_TEXT: &[u8] = b"drop UnknownCommunity
+reply 30270201010406736573616D65A21A020101020100020100300F300D06092B06010201110102008000
+audit get 0 0 ok access(visitors,,2,1) view part denied 1 family(part,1.3.6.1.2.1.17.1.2)
+bpdu 1 0180C200000002AABBCCDDEE0027424203000002020E800002AABBCCDDEE00000000800002AABBCCDDEE80010000140002000F000000000000000000
+badline
+";
+
+/// What is told of a group address.
+const TOLD: &[u8] =
+    b"top level: address is to be a string of 12 hexadecimal digits, and no group address: \
+      its first octet is even\n";
+
+/// What is told where there is no memory for the configuration.
+const NO_MEMORY: &[u8] =
+    b"there was no memory to read the configuration; whether it is right is not known\n";
+
+/// What is told of a configuration that is right.
+const RIGHT: &[u8] = b"configuration ok\n";
+
+// A script by a file, and a check of one.
+const SCRIPT: Case<'static> = Case {
+    words: &["agentd", "script", "--config", FILE],
+    ..SILENT
+};
+
+const CHECK: Case<'static> = Case {
+    words: &["agentd", "check", "--config", FILE],
+    ..SILENT
+};
+
+// A script by a file that is no configuration.
+const REFUSES: Case<'static> = Case {
+    status: 2,
+    errors: REFUSED,
+    ..SCRIPT
+};
+
+const VERSION: Case<'static> = Case {
+    out: b"agentd 0.1\n",
+    ..SILENT
+};
+
+const RUNS: &[Case<'static>] = &[
+    Case {
+        what: "a script by no file",
+        out: REPLY,
+        ..SILENT
+    },
+    Case {
+        what: "a script by the built-in configuration",
+        parts: &[BUILT_IN],
+        out: REPLY,
+        ..SCRIPT
+    },
+    // The policy, the address and the ports are the file's.
+    Case {
+        what: "a script by another",
+        parts: &[OTHER],
+        script: OTHER_SCRIPT,
+        out: OTHER_TEXT,
+        ..SCRIPT
+    },
+    Case {
+        what: "a script by a file in one word",
+        words: &["agentd", "script", "--config=given.toml"],
+        parts: &[OTHER],
+        script: OTHER_SCRIPT,
+        out: OTHER_TEXT,
+        ..SILENT
+    },
+    Case {
+        what: "the ports of the configuration",
+        parts: &[
+            BUILT_IN,
+            "[[port]]\nifindex = 3\nspeed = 10\nfull = false\n",
+        ],
+        script: b"frame 3 0200\nframe 4 0200\n",
+        out: b"badframe Short\nbadline\n",
+        ..SCRIPT
+    },
+    Case {
+        what: "no file",
+        words: &["agentd", "script", "--config", "none.toml"],
+        status: 2,
+        errors: b"agentd: cannot read none.toml\n",
+        ..SILENT
+    },
+    Case {
+        what: "an empty file",
+        ..REFUSES
+    },
+    Case {
+        what: "a key of no value",
+        octets: b"address = \n",
+        ..REFUSES
+    },
+    Case {
+        what: "octets that are no text",
+        octets: b"# \xFF\n",
+        ..REFUSES
+    },
+    Case {
+        what: "a group address",
+        octets: b"address = \"01000000000A\"\n",
+        ..REFUSES
+    },
+    Case {
+        what: "a check of a right file",
+        parts: &[BUILT_IN],
+        out: RIGHT,
+        ..CHECK
+    },
+    Case {
+        what: "a check of a file in one word",
+        words: &["agentd", "check", "--config=given.toml"],
+        parts: &[OTHER],
+        out: RIGHT,
+        ..SILENT
+    },
+    Case {
+        what: "a check of a wrong file",
+        octets: b"address = \"01000000000A\"\n",
+        status: 2,
+        out: TOLD,
+        errors: REFUSED,
+        ..CHECK
+    },
+    Case {
+        what: "the version",
+        words: &["agentd", "--version"],
+        ..VERSION
+    },
+    Case {
+        what: "the version in short",
+        words: &["agentd", "-V"],
+        ..VERSION
+    },
+];
+
+#[test]
+fn runs_by_a_file(rt: HostRuntime) -> Result<(), Fail> {
+    assert_runs(&rt, RUNS)?;
+    assert_runs(&rt, SETUPS)
+}
+
+// A text of these parts.
+fn text_of(alloc: Global, parts: &[&str]) -> Result<String, Fail> {
+    let mut text = String::new(alloc);
+    for part in parts {
+        text.push_str(part)?;
+    }
+    Ok(text)
+}
+
+// The octets that run, that are checked, and that are served by are those that are given for FILE.
+// A table: over forty lines.
+#[test]
+fn runs_by_what_is_given_for_a_file(rt: HostRuntime) -> Result<(), Fail> {
+    let files = Names { alloc: rt.alloc() };
+    let setup = text_of(rt.alloc(), SETUP)?;
+    let setup = setup.as_str();
+    let word = text_of(rt.alloc(), &["--config=", setup])?;
+    for (what, words, script, status, out) in [
+        (
+            "a script",
+            ["agentd", "script", "--config", OTHER].as_slice(),
+            OTHER_SCRIPT,
+            0,
+            OTHER_TEXT,
+        ),
+        (
+            "a check of a wrong one",
+            [
+                "agentd",
+                "check",
+                "--config",
+                "address = \"01000000000A\"\n",
+            ]
+            .as_slice(),
+            GET,
+            2,
+            TOLD,
+        ),
+        (
+            "a check",
+            ["agentd", "check", "--config", OTHER].as_slice(),
+            GET,
+            0,
+            RIGHT,
+        ),
+        (
+            "serves in one word",
+            ["agentd", "serve", word.as_str()].as_slice(),
+            GET,
+            0,
+            b"".as_slice(),
+        ),
+        (
+            "serves without an end",
+            ["agentd", "serve", "--forever", "--config", setup].as_slice(),
+            GET,
+            0,
+            b"".as_slice(),
+        ),
+        (
+            "the same word last",
+            ["agentd", "serve", "--config", setup, "--forever"].as_slice(),
+            GET,
+            0,
+            b"".as_slice(),
+        ),
+    ] {
+        let run = ran_over(rt.alloc(), &files, words, script)?;
+        let errors = if status == 0 { b"".as_slice() } else { REFUSED };
+        assert_eq!(rt;
+            (run.status, run.out.as_slice(), run.errors.as_slice()),
+            (status, out, errors),
+            "{what}"
+        );
+    }
+    Ok(())
+}
+
+// The objects of these columns, in this order.
+fn objects_of(alloc: Global, columns: &[Column]) -> Result<Vec<Object<Planned>>, Fail> {
+    let mut objects = Vec::new(alloc);
+    for column in columns {
+        objects.push(Object::of(*column))?;
+    }
+    Ok(objects)
+}
+
+// Objects that make no registry are asked for by a script alone. A table: over forty lines.
+#[test]
+fn runs_over_the_objects_that_are_handed_in(rt: HostRuntime) -> Result<(), Fail> {
+    let files = Names { alloc: rt.alloc() };
+    let ports = Column::Base(Base::NumPorts);
+    let address = Column::Base(Base::BridgeAddress);
+    let script = ["agentd"].as_slice();
+    let version = ["agentd", "-V"].as_slice();
+    let none = b"".as_slice();
+    for (what, columns, words, status, out, errors) in [
+        ("both", [address, ports].as_slice(), script, 0, REPLY, none),
+        ("the ports", [ports].as_slice(), script, 0, REPLY, none),
+        (
+            "the address",
+            [address].as_slice(),
+            script,
+            0,
+            NO_SUCH_OBJECT,
+            none,
+        ),
+        ("none", [].as_slice(), script, 0, NO_SUCH_OBJECT, none),
+        (
+            "out of order",
+            [ports, address].as_slice(),
+            script,
+            2,
+            none,
+            REFUSED,
+        ),
+        (
+            "twice the same",
+            [ports, ports].as_slice(),
+            script,
+            2,
+            none,
+            REFUSED,
+        ),
+        (
+            "no script",
+            [ports, ports].as_slice(),
+            version,
+            0,
+            b"agentd 0.1\n".as_slice(),
+            none,
+        ),
+    ] {
+        let objects = objects_of(rt.alloc(), columns)?;
+        let run = ran_with(rt.alloc(), &files, objects, words, GET)?;
+        assert_eq!(rt;
+            (run.status, run.out.as_slice(), run.errors.as_slice()),
+            (status, out, errors),
+            "{what}"
+        );
+    }
+    Ok(())
+}
+
+// Want of memory for a file's octets is told as that for its configuration.
+#[test]
+fn says_that_there_is_no_memory_for_a_file(rt: HostRuntime) -> Result<(), Fail> {
+    let mut out = Vec::new(rt.alloc());
+    let ended = check_read(rt.alloc(), Err(NotRead::Memory), &mut out);
+    assert!(rt; matches!(ended, Err(Failure::Refused)));
+    assert_eq!(rt; out.as_slice(), NO_MEMORY);
+    Ok(())
+}
