@@ -29,7 +29,7 @@ const PORT_2: (&str, &[u8]) = ("1.3.6.1.2.1.17.2.15.1.0.2", &[0xFF, 0xD0]);
 
 const COLUMN_3: (&str, &[u8]) = ("1.3.6.1.2.1.17.2.15.1.3.0", &[0xFF, 0xE0]);
 
-// All of the internet, and nothing more.
+// All names below 1.3.
 const ALL: (&str, &[u8]) = ("1.3", &[]);
 
 // Two families of one length that differ only where their masks do not count.

@@ -26,9 +26,9 @@
 //! None.
 //!
 //! # Not claimed
-//! That a write failed where the line of a failure is told to be cut off. That memory was refused
-//! where the answer is for want of it. What a file of the system holds. That the caller serves what
-//! is left to be served.
+//! That a read or a write failed where a run is told to have ended so, or where the line of a failure
+//! is told to be cut off. That memory was refused where the answer is for want of it. Whether sockets
+//! can be bound. What a file of the system holds. That the caller serves what is left to be served.
 #![tactic(auto)]
 
 mod checking;

@@ -13,8 +13,8 @@
 //!
 //! # Not claimed
 //! That the words are those of the command line, that the objects that `main` makes are the 51 of
-//! `object_list`, that it serves what is left to be served, and its status then. What a file of the
-//! system holds and a terminal shows.
+//! `object_list`, that it serves what is left to be served, its status then, and what is logged. What
+//! a file of the system holds and a terminal shows.
 #![tactic(auto)]
 
 use agent_program::{

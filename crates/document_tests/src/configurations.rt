@@ -421,7 +421,7 @@ const SERVES: [Refused; 9] = [
     ),
 ];
 
-// Keys of a policy: the first of them that is no array is told.
+// Keys of a policy: the first of them that is missing, unknown or no array is told.
 const KEYS: [Refused; 7] = [
     (
         [ADDRESS, "", PORT, ""],

@@ -1,4 +1,6 @@
 //! Names in their encoding (X.690, 8.19).
+ghost use Rattle.std.specs.Prelude.{◌<◌, ◌^◌, length};
+
 use crate::repeated::with_ones;
 use ber_core::Out;
 use oid_core::{Oid, OidFault};
@@ -51,7 +53,9 @@ fn written(
     alloc: Global,
     numbers: &[u32],
     room: &mut [u8],
-) -> Result<(Result<(), OidFault>, usize), Fail> {
+) -> Result<(Result<(), OidFault>, usize), Fail>
+    requires { length room.old < 2 ^ 32 }
+{
     let name = Oid::from_slice(alloc, numbers)?;
     let mut out = Out::new(room);
     let end = name.write_ber(&mut out);

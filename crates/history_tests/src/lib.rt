@@ -1,5 +1,5 @@
-//! Tests of histories of the built-in world: numbers, receipts, replies, and the move of the base;
-//! and of receipts by themselves: their copies, and how they compare with entries.
+//! Tests of histories of the built-in world: numbers, receipts, the move of the base, and the last
+//! number; and of receipts by themselves: their copies, and how they compare with entries.
 //!
 //! # Entry points
 //! None: the tests call what `history_core` offers.

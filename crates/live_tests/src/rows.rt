@@ -1,7 +1,7 @@
 //! Whole runs over wires in memory.
 use crate::support::{
     FLOODED, MANAGER, PEER_OF_PORT_2, Shown, asking, carrying, count_of, lines_of, of_edges,
-    of_fast_hello, peer, policed, run,
+    of_fast_hello, packets_to, peer, policed, run,
 };
 use fixtures::message::Held::{Integer, NoObject, Null};
 use fixtures::message::{Message, Pdu, octets_of};
@@ -60,8 +60,8 @@ struct Case<'a> {
     messages: &'a [Message<'a>],
     again: usize,
     seconds: u64,
-    // What some of its replies tell; how many packets it sends, and how many of them tell that. Where
-    // it sets the priority, it sends the BPDU of each port too.
+    // What some of its replies tell; how many packets it sends to its manager, and how many of them
+    // tell that.
     told: Message<'a>,
     replies: [usize; 2],
     // How many entries and requests there are, the base number, and how many receipts are older.
@@ -94,7 +94,7 @@ fn answers<R: Threads + Wait + Sync>(
     let told = count_of(worker.sent(), peer(MANAGER), &octets);
     let base = history.base_number();
     Ok((
-        [worker.sent().len(), told],
+        [packets_to(worker.sent(), peer(MANAGER)), told],
         [report.entries, report.requests, base, report.older],
     ))
 }
@@ -136,7 +136,7 @@ const CASES: &[Case<'static>] = &[
             pdu: Pdu::Response,
             ..SET_PRIORITY
         },
-        replies: [4, 2],
+        replies: [2, 2],
         counts: [7, 2, 0, 0],
     },
     Case {
@@ -164,7 +164,7 @@ const CASES: &[Case<'static>] = &[
             bindings: &[(PRIORITY, Integer(8192)), (HELLO, Integer(100))],
             ..SET_PRIORITY
         },
-        replies: [4203, 4200],
+        replies: [4201, 4200],
         counts: [4203, 4201, 4096, 4096],
     },
 ];

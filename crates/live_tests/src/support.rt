@@ -136,6 +136,11 @@ pub fn lines_of(
     })
 }
 
+/// How many of these packets go to this peer.
+pub fn packets_to(sent: &[Packet], to: SocketAddr) -> usize {
+    sent.iter().filter(|packet| packet.peer == to).count()
+}
+
 /// How many of these packets bear these octets to this peer.
 pub fn count_of(sent: &[Packet], to: SocketAddr, octets: &[u8]) -> usize {
     sent.iter()

@@ -1,5 +1,5 @@
-//! A manager of SNMP version 2c: asks an agent over a wire, again and again until it answers, and
-//! walks through a subtree of its names (RFC 3416, section 4.2).
+//! A manager of SNMP version 2c: asks an agent over a wire, again until it answers or its tries are
+//! used up, and walks through a subtree of its names (RFC 3416, section 4.2).
 //!
 //! # Entry points
 //! [`run_manager`] does what the words of a command line ask for, and gives the exit status: 0,
@@ -23,7 +23,7 @@
 //!
 //! # Not claimed
 //! That a peer answers; who it is that answers; that a growth or a write succeeds; what a writer
-//! holds whose write failed.
+//! holds whose write failed; what stands on standard error where the status is not 0.
 #![tactic(auto)]
 
 mod asking;

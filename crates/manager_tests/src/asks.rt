@@ -14,7 +14,7 @@ enum Heard<'a> {
     Datagram(&'a [u8]),
 }
 
-// A wire that gives these, and then nothing.
+// A wire that gives these, and then is closed.
 fn wire_of(alloc: Global, heard: &[Heard]) -> Result<MemoryWire, Fail> {
     let mut wire = MemoryWire::new(alloc);
     for given in heard {
@@ -53,7 +53,7 @@ fn asks_end_by_what_their_tries_hear(rt: HostRuntime) -> Result<(), Fail> {
     let other_id = [Heard::Datagram(&id_2), Heard::Datagram(&TWO_PORTS)];
     for (what, heard, tries, end) in [
         (
-            "nothing three times",
+            "nothing, a fault, a closed wire",
             [Heard::Nothing, Heard::Fault],
             3,
             (Err(ManagerFault::Timeout(3)), 3),

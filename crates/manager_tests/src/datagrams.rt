@@ -6,7 +6,7 @@ pub fn agent() -> SocketAddr {
     SocketAddr::new(IpAddr::V4(Ipv4Addr::LOCALHOST), 161)
 }
 
-// Where the request-id stands in each of these datagrams.
+// Where the request-id stands in each of these datagrams but `LONG_RESPONSE`.
 const ID: usize = 17;
 
 /// A GetRequest of 1.3.6.1.2.1.17.1.2.0 (dot1dBaseNumPorts), of community `public` and request-id
@@ -51,7 +51,8 @@ pub const NO_BINDINGS: [u8; 26] = [
     0x01, 0x01, 0x02, 0x01, 0x00, 0x02, 0x01, 0x00, 0x30, 0x00,
 ];
 
-/// A Response of 30 octets to a Get of a long name by a long community, as scapy writes it.
+/// A Response with a value of 30 octets to a Get of a long name by a long community, as scapy writes
+/// it.
 pub const LONG_RESPONSE: [u8; 124] = [
     0x30, 0x7A, 0x02, 0x01, 0x01, 0x04, 0x1E, 0x61, 0x20, 0x63, 0x6F, 0x6D, 0x6D, 0x75, 0x6E, 0x69,
     0x74, 0x79, 0x20, 0x6F, 0x66, 0x20, 0x74, 0x68, 0x69, 0x72, 0x74, 0x79, 0x20, 0x6F, 0x63, 0x74,

@@ -1,4 +1,4 @@
-//! Words that are no command: each reason once.
+//! Words that are no command, by their reason.
 use crate::running::{AGENT, PORTS, is_usage, sent_by};
 use manager_core::run_manager;
 use std::alloc::Global;

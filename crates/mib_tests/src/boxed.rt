@@ -123,16 +123,26 @@ fn doubled() -> ([Column; 51], [&'static str; 51]) {
     (columns, names)
 }
 
+// Whether the objects of these columns have these names, and how a registry of them ends.
+fn taken(
+    alloc: Global,
+    columns: [Column; 51],
+    names: [&'static str; 51],
+) -> Result<(bool, End), Fail> {
+    let objects = boxed(alloc, &columns)?;
+    let named = are(alloc, objects.as_slice(), &names)?;
+    Ok((named, end_of(alloc, objects, &names)?))
+}
+
 #[test]
 fn a_registry_takes_objects_in_order(rt: HostRuntime) -> Result<(), Fail> {
-    for (what, (columns, names), end) in [
-        ("all in order", (COLUMNS, NAMES), Ok(51)),
-        ("two exchanged", exchanged(), Err(RegistryFault::Unsorted)),
-        ("one twice", doubled(), Err(RegistryFault::Nested)),
-    ] {
-        let objects = boxed(rt.alloc(), &columns)?;
-        assert!(rt; are(rt.alloc(), objects.as_slice(), &names)?, "{what}");
-        assert_eq!(rt; end_of(rt.alloc(), objects, &names)?, (end, true), "{what}");
-    }
+    let all = taken(rt.alloc(), COLUMNS, NAMES)?;
+    assert_eq!(rt; all, (true, (Ok(51), true)));
+    let (columns, names) = exchanged();
+    let unsorted = taken(rt.alloc(), columns, names)?;
+    assert_eq!(rt; unsorted, (true, (Err(RegistryFault::Unsorted), true)));
+    let (columns, names) = doubled();
+    let nested = taken(rt.alloc(), columns, names)?;
+    assert_eq!(rt; nested, (true, (Err(RegistryFault::Nested), true)));
     Ok(())
 }

@@ -357,7 +357,8 @@ fn objects_of(alloc: Global, columns: &[Column]) -> Result<Vec<Object<Planned>>,
     Ok(objects)
 }
 
-// Objects that make no registry are asked for by a script alone. A table: over forty lines.
+// Whether objects make a registry is looked at for a script, and not for the version. A table: over
+// forty lines.
 #[test]
 fn runs_over_the_objects_that_are_handed_in(rt: HostRuntime) -> Result<(), Fail> {
     let files = Names { alloc: rt.alloc() };

@@ -1,7 +1,7 @@
 //! Files to serve by, and whether they hold a setup.
 use crate::support::{Case, FILE, REFUSED, SILENT};
 
-/// The keys that stand in no table, and a table of how to serve.
+/// The keys that stand in no table.
 const TOP: &str = "address = \"02AABBCCDDEE\"
 contexts = []
 community = []

@@ -2,13 +2,15 @@
 use crate::support::Over::Policy;
 use crate::support::{ASKED, Table, assert_tables};
 use fixtures::message::Held::{Integer, NoInstance, Null};
-use fixtures::message::{AUTHORIZATION_ERROR, Message, Pdu, get, reply};
+use fixtures::message::{AUTHORIZATION_ERROR, Bound, Message, Pdu, get, reply};
 use fixtures::names::{PORTS, PRIORITY};
 use fixtures::policies::{READERS, STRANGERS, WHOLE_BRIDGE};
 use fixtures::rows::Said::{Drop, Reply};
-use fixtures::rows::{AUDIT_OFF, AUDIT_ON, Row, assert_rows, replied};
+use fixtures::rows::{AUDIT_OFF, AUDIT_ON, Row, assert_rows, audited};
 use fixtures::support::{joined, repeated};
 use fixtures::worlds::built_in;
+use std::alloc::{AllocGlobal, Global};
+use std::process::Abort;
 use std::test::Fail;
 
 // A Get of dot1dBaseNumPorts.0, and a Set of dot1dStpPriority.0.
@@ -141,40 +143,54 @@ mask = ""
 included = false
 "#;
 
-// A name below a subtree that is left out: the audit names the subtree. Subtrees of more numbers
-// than take no memory: 25 and 113.
+// The lines of a policy whose view `v` has not what is below a subtree, and then `audit on`.
+fn policy_without(alloc: Global, subtree: &str) -> Result<String, Fail> {
+    let row = [
+        "policy\n",
+        READERS,
+        VIEW_V,
+        "subtree = \"",
+        subtree,
+        "\"\nend\naudit on",
+    ];
+    joined(alloc, &row)
+}
+
+// A Get of a name that is left out.
+fn denied_row<'a>(asked: &'a [Bound<'a>], answer: &'a [Bound<'a>], audit: &'a str) -> Row<'a> {
+    let said = Reply(reply(answer));
+    audited(
+        "a name below a subtree that is left out",
+        get(asked),
+        said,
+        audit,
+    )
+}
+
+// A name below a subtree that is left out: the audit names the subtree.
+fn assert_denied_below<R: Abort + AllocGlobal>(rt: &R, subtree: &str) -> Result<(), Fail> {
+    let below = joined(rt.alloc(), &[subtree, ".1"])?;
+    let head = "get 0 0 ok access(readers,,2,1) view v denied 1 family(v,";
+    let audit = joined(rt.alloc(), &[head, subtree, ")"])?;
+    let policy = policy_without(rt.alloc(), subtree)?;
+    let asked = [(below.as_str(), Null)];
+    let answer = [(below.as_str(), NoInstance)];
+    assert_rows(
+        rt,
+        built_in(rt.alloc())?,
+        &[
+            Row::Line(policy.as_str(), &["policy ok\n"]),
+            denied_row(&asked, &answer, audit.as_str()),
+        ],
+    )
+}
+
+// Names of more numbers than take no memory: 25 and 113.
 #[test]
 fn audits_long_subtrees(rt: HostRuntime) -> Result<(), Fail> {
     for more in [18usize, 106] {
         let subtree = repeated(rt.alloc(), "1.3.6.1.2.1.17", more, ".1")?;
-        let below = joined(rt.alloc(), &[&subtree, ".1"])?;
-        let policy = joined(
-            rt.alloc(),
-            &[
-                "policy\n",
-                READERS,
-                VIEW_V,
-                "subtree = \"",
-                &subtree,
-                "\"\nend\naudit on",
-            ],
-        )?;
-        let asked = [(below.as_str(), Null)];
-        let told = [(below.as_str(), NoInstance)];
-        let rows = [
-            Row::Line(&policy, &["policy ok\n"]),
-            replied(
-                "a name below a subtree that is left out",
-                get(&asked),
-                reply(&told),
-            ),
-            Row::Behind(&[
-                "audit get 0 0 ok access(readers,,2,1) view v denied 1 family(v,",
-                &subtree,
-                ")\n",
-            ]),
-        ];
-        assert_rows(&rt, built_in(rt.alloc())?, &rows)?;
+        assert_denied_below(&rt, &subtree)?;
     }
     Ok(())
 }

@@ -55,7 +55,7 @@ const PASSED_OVER: [Row<'static>; 3] = [
         ],
     ),
     Row::Bulk(
-        "port 1, and a column, in each repetition",
+        "port 1 in each repetition, and a column",
         0,
         2,
         &[(PRIORITY_2, Null), (COST_2, Null)],

@@ -1,4 +1,5 @@
-//! Lines that are none, datagrams that give no request, and scripts whose last line has no end.
+//! Lines: those that are none, too long or no text, datagrams and what they are answered, a last
+//! line without an end.
 use crate::support::Over::Policy;
 use crate::support::{ASKED, Table, assert_tables};
 use fixtures::bpdus::{AGREEMENT, BETTER, PROPOSAL};

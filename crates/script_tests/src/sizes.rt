@@ -1,11 +1,10 @@
 //! Replies of at most 1,472 octets (RFC 3416, 4.2.1 to 4.2.3).
 use crate::support::ASKED;
 use fixtures::message::Held::{End, Integer, Null, Octets};
-use fixtures::message::{Bound, Message, Pdu, TOO_BIG, failed, many};
+use fixtures::message::{Bound, Message, Pdu, TOO_BIG, failed, runs_of};
 use fixtures::names::{PORTS, ROOT, ROOT_COST, TOP_CHANGES};
 use fixtures::rows::{assert_rows, replied};
 use fixtures::worlds::{OWN_IDENTIFIER, first_objects};
-use std::alloc::Global;
 use std::test::Fail;
 
 // A root in a reply, of 23 octets.
@@ -90,15 +89,6 @@ const CASES: &[Case<'static>] = &[
         &[(60, HELD_ROOT), (4, (ROOT, End))],
     ),
 ];
-
-// So many of each of these bindings.
-fn runs_of<'a>(alloc: Global, runs: &[(usize, Bound<'a>)]) -> Result<Vec<Bound<'a>>, Fail> {
-    let mut bindings = Vec::new(alloc);
-    for (times, bound) in runs {
-        bindings.extend_from_slice(&many(alloc, *times, *bound)?)?;
-    }
-    Ok(bindings)
-}
 
 #[test]
 fn sends_as_much_as_fits(rt: HostRuntime) -> Result<(), Fail> {

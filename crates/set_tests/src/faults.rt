@@ -155,7 +155,7 @@ const NO_INSTANCES: &[Row<'static>] = &[
     ),
     Row::Refused("port 9", (NO_CREATION, 1), &[(COST_32_9, Integer(10))]),
     Row::Refused(
-        "port 1 of the greatest number and 2",
+        "port 65537, which is 1 in 16 bits",
         (NO_CREATION, 1),
         &[("1.3.6.1.2.1.17.2.15.1.4.65537", Integer(1))],
     ),

@@ -4,12 +4,11 @@ use crate::support::assert_sets;
 use fixtures::message::Held::Integer;
 use fixtures::message::{
     AUTHORIZATION_ERROR, Bound, NOT_WRITABLE, RESOURCE_UNAVAILABLE, TOO_BIG, WRONG_VALUE,
-    failed_at, many, of, set,
+    failed_at, of, runs_of, set,
 };
 use fixtures::names::{ENABLE_1, PORTS, PRIORITY};
 use fixtures::rows::Said::Reply;
 use fixtures::rows::{AUDIT_OFF, AUDIT_ON, Row, audited, replied};
-use std::alloc::Global;
 use std::test::Fail;
 
 // A binding of 17 octets, and one of 18: the number of its INTEGER has two octets, and three.
@@ -136,15 +135,6 @@ const REFUSED: &[Refused<'static>] = &[
         "set 1 0 noSuchView access(readers,,2,1) empty",
     ),
 ];
-
-// So many of each of these bindings.
-fn runs_of<'a>(alloc: Global, runs: &[(usize, Bound<'a>)]) -> Result<Vec<Bound<'a>>, Fail> {
-    let mut bindings = Vec::new(alloc);
-    for (times, bound) in runs {
-        bindings.extend_from_slice(&many(alloc, *times, *bound)?)?;
-    }
-    Ok(bindings)
-}
 
 // The bindings of a reply of this error-status to a Set of these.
 fn told_back<'a>(status: i32, bindings: &'a [Bound<'a>]) -> &'a [Bound<'a>] {
