@@ -11,6 +11,7 @@ use setphase_core::{Base, Column};
 use std::alloc::{AllocGlobal, Global};
 use std::io;
 use std::io::{Error, ErrorKind, Read, Write};
+use std::process::Abort;
 use std::rt::Files;
 use std::test::Fail;
 
@@ -279,73 +280,76 @@ fn text_of(alloc: Global, parts: &[&str]) -> Result<String, Fail> {
     Ok(text)
 }
 
-// The octets that run, that are checked, and that are served by are those that are given for FILE.
-// A table: over forty lines.
+// What a run that ends so writes of its failure.
+fn errors_of(status: u8) -> &'static [u8] {
+    if status == 0 { b"" } else { REFUSED }
+}
+
+// A run over files of which each holds its own name.
+fn assert_given<R: AllocGlobal + Abort>(
+    rt: &R,
+    what: &str,
+    words: &[&str],
+    script: &[u8],
+    status: u8,
+    out: &[u8],
+) -> Result<(), Fail> {
+    let files = Names { alloc: rt.alloc() };
+    let run = ran_over(rt.alloc(), &files, words, script)?;
+    assert_eq!(rt; (run.status, run.out.as_slice()), (status, out), "{what}");
+    assert_eq!(rt; run.errors.as_slice(), errors_of(status), "{what}");
+    Ok(())
+}
+
+// What it is, its words, its script, its status, and what it writes.
+const GIVEN: [(&str, &[&str], &[u8], u8, &[u8]); 3] = [
+    (
+        "a script",
+        &["agentd", "script", "--config", OTHER],
+        OTHER_SCRIPT,
+        0,
+        OTHER_TEXT,
+    ),
+    (
+        "a check of a wrong one",
+        &[
+            "agentd",
+            "check",
+            "--config",
+            "address = \"01000000000A\"\n",
+        ],
+        GET,
+        2,
+        TOLD,
+    ),
+    (
+        "a check",
+        &["agentd", "check", "--config", OTHER],
+        GET,
+        0,
+        RIGHT,
+    ),
+];
+
 #[test]
 fn runs_by_what_is_given_for_a_file(rt: HostRuntime) -> Result<(), Fail> {
-    let files = Names { alloc: rt.alloc() };
+    for (what, words, script, status, out) in GIVEN {
+        assert_given(&rt, what, words, script, status, out)?;
+    }
+    Ok(())
+}
+
+#[test]
+fn serves_what_is_given_for_a_file(rt: HostRuntime) -> Result<(), Fail> {
     let setup = text_of(rt.alloc(), SETUP)?;
     let setup = setup.as_str();
     let word = text_of(rt.alloc(), &["--config=", setup])?;
-    for (what, words, script, status, out) in [
-        (
-            "a script",
-            ["agentd", "script", "--config", OTHER].as_slice(),
-            OTHER_SCRIPT,
-            0,
-            OTHER_TEXT,
-        ),
-        (
-            "a check of a wrong one",
-            [
-                "agentd",
-                "check",
-                "--config",
-                "address = \"01000000000A\"\n",
-            ]
-            .as_slice(),
-            GET,
-            2,
-            TOLD,
-        ),
-        (
-            "a check",
-            ["agentd", "check", "--config", OTHER].as_slice(),
-            GET,
-            0,
-            RIGHT,
-        ),
-        (
-            "serves in one word",
-            ["agentd", "serve", word.as_str()].as_slice(),
-            GET,
-            0,
-            b"".as_slice(),
-        ),
-        (
-            "serves without an end",
-            ["agentd", "serve", "--forever", "--config", setup].as_slice(),
-            GET,
-            0,
-            b"".as_slice(),
-        ),
-        (
-            "the same word last",
-            ["agentd", "serve", "--config", setup, "--forever"].as_slice(),
-            GET,
-            0,
-            b"".as_slice(),
-        ),
-    ] {
-        let run = ran_over(rt.alloc(), &files, words, script)?;
-        let errors = if status == 0 { b"".as_slice() } else { REFUSED };
-        assert_eq!(rt;
-            (run.status, run.out.as_slice(), run.errors.as_slice()),
-            (status, out, errors),
-            "{what}"
-        );
-    }
-    Ok(())
+    let one = ["agentd", "serve", word.as_str()];
+    assert_given(&rt, "in one word", &one, GET, 0, b"")?;
+    let first = ["agentd", "serve", "--forever", "--config", setup];
+    assert_given(&rt, "without an end", &first, GET, 0, b"")?;
+    let last = ["agentd", "serve", "--config", setup, "--forever"];
+    assert_given(&rt, "the same word last", &last, GET, 0, b"")
 }
 
 // The objects of these columns, in this order.

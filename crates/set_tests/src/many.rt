@@ -1,14 +1,16 @@
 //! Sets of many variables: room for 64 of them, and replies of at most 1,472 octets (RFC 3416,
 //! 4.2.5).
-use crate::support::assert_sets;
 use fixtures::message::Held::Integer;
 use fixtures::message::{
     AUTHORIZATION_ERROR, Bound, NOT_WRITABLE, RESOURCE_UNAVAILABLE, TOO_BIG, WRONG_VALUE,
     failed_at, of, runs_of, set,
 };
 use fixtures::names::{ENABLE_1, PORTS, PRIORITY};
+use fixtures::policies::WHOLE_BRIDGE;
 use fixtures::rows::Said::Reply;
-use fixtures::rows::{AUDIT_OFF, AUDIT_ON, Row, audited, replied};
+use fixtures::rows::{AUDIT_OFF, AUDIT_ON, Row, assert_rows, audited, replied};
+use fixtures::worlds::built_in_for;
+use std::alloc::AllocGlobal;
 use std::test::Fail;
 
 // A binding of 17 octets, and one of 18: the number of its INTEGER has two octets, and three.
@@ -141,26 +143,50 @@ fn told_back<'a>(status: i32, bindings: &'a [Bound<'a>]) -> &'a [Bound<'a>] {
     if status == TOO_BIG { &[] } else { bindings }
 }
 
-// Each is refused again, changes nothing, and keeps no room: 64 variables have it behind it.
-#[test]
-fn has_room_for_64_variables(rt: HostRuntime) -> Result<(), Fail> {
-    for (what, community, runs, (status, index), audit) in REFUSED {
-        let bindings = runs_of(rt.alloc(), runs)?;
-        let asked = of(community, set(&bindings));
-        let told = told_back(*status, &bindings);
-        let said = of(community, failed_at(*status, *index, told));
-        let rows = [
+const UNCHANGED: Row<'static> = Row::Shown("nothing is changed", &[(PRIORITY, Integer(32768))]);
+
+const DISABLES: Row<'static> = Row::Assigned("64 variables", &[DISABLED; 64]);
+
+const SHORTS: Row<'static> = Row::Assigned("64 of another object", &[SHORT; 64]);
+
+const WRITTEN: Row<'static> = Row::Shown("they are written", &[SHORT]);
+
+// Such a Set of these is refused again, changes nothing, and keeps no room: 64 variables have it
+// behind it.
+fn assert_refused<'a, R: AllocGlobal>(
+    rt: &R,
+    refused: &'a Refused<'a>,
+    bindings: &'a [Bound<'a>],
+) -> Result<(), Fail> {
+    let (what, community, _, (status, index), audit) = *refused;
+    let asked = of(community, set(bindings));
+    let said = of(
+        community,
+        failed_at(status, index, told_back(status, bindings)),
+    );
+    let answer = Reply(said);
+    assert_rows(
+        rt,
+        built_in_for(rt.alloc(), WHOLE_BRIDGE)?,
+        &[
             replied(what, asked, said),
             AUDIT_ON,
-            audited(what, asked, Reply(said), audit),
+            audited(what, asked, answer, audit),
             AUDIT_OFF,
-            Row::Shown("nothing is changed", &[(PRIORITY, Integer(32768))]),
-            Row::Assigned("64 variables", &[DISABLED; 64]),
-            Row::Assigned("and again", &[DISABLED; 64]),
-            Row::Assigned("64 of another object", &[SHORT; 64]),
-            Row::Shown("they are written", &[SHORT]),
-        ];
-        assert_sets(&rt, &[(what, &rows)])?;
+            UNCHANGED,
+            DISABLES,
+            DISABLES,
+            SHORTS,
+            WRITTEN,
+        ],
+    )
+}
+
+#[test]
+fn has_room_for_64_variables(rt: HostRuntime) -> Result<(), Fail> {
+    for refused in REFUSED {
+        let bindings = runs_of(rt.alloc(), refused.2)?;
+        assert_refused(&rt, refused, &bindings)?;
     }
     Ok(())
 }

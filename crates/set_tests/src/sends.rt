@@ -231,23 +231,47 @@ const AGES: &[Row<'static>] = &[
     ),
 ];
 
-const TABLES: &[Table<'static>] = &[
+const BPDUS: &[Table<'static>] = &[
     ("sends behind the audit", BEHIND_A_SET),
     ("sends nothing while links are down", LINKS_DOWN),
     ("sends nothing where a set is refused", REFUSED),
     ("sends other times", TIMES),
+];
+
+const PORTS: &[Table<'static>] = &[
     ("sends another port identifier", PORT_PRIORITY),
     ("sends by the version", VERSIONS),
     ("sends as a port is enabled", ENABLES),
-    ("forwards as a port becomes an edge", EDGES),
+];
+
+const TREES: &[Table<'static>] = &[
     ("sends rapid bpdus after a migration", MIGRATIONS),
     ("sends no more than the hold count", HELD_BACK),
     ("sends another root cost", COSTS),
+];
+
+const FRAMES: &[Table<'static>] = &[
+    ("forwards as a port becomes an edge", EDGES),
     ("forwards between edges", FORWARDED),
     ("forgets by the aging time", AGES),
 ];
 
 #[test]
 fn sends_as_a_set_settles(rt: HostRuntime) -> Result<(), Fail> {
-    assert_sets(&rt, TABLES)
+    assert_sets(&rt, BPDUS)
+}
+
+#[test]
+fn sends_as_a_port_is_set(rt: HostRuntime) -> Result<(), Fail> {
+    assert_sets(&rt, PORTS)
+}
+
+#[test]
+fn sends_as_the_tree_is_set(rt: HostRuntime) -> Result<(), Fail> {
+    assert_sets(&rt, TREES)
+}
+
+#[test]
+fn forwards_as_a_set_settles(rt: HostRuntime) -> Result<(), Fail> {
+    assert_sets(&rt, FRAMES)
 }
