@@ -67,6 +67,12 @@ fn families(alloc: Global, texts: &[FamilyTexts]) -> Result<Rows<WrittenFamily>,
     Ok(Rows::new(rows))
 }
 
+fn contexts(alloc: Global) -> Result<Rows<Text>, Fail> {
+    let mut rows = Vec::new(alloc);
+    rows.push(Text::new(alloc, "c")?)?;
+    Ok(Rows::new(rows))
+}
+
 /// The rows of names in the group `g`, of access rows of that group, and of families of the view
 /// `v`, and the one context `c`.
 pub fn rows_of(
@@ -79,6 +85,6 @@ pub fn rows_of(
         groups: groups(alloc, names)?,
         access: accesses(alloc, access)?,
         families: families(alloc, family)?,
-        contexts: Rows::new(Vec::from_array(alloc, [Text::new(alloc, "c")?])?),
+        contexts: contexts(alloc)?,
     })
 }

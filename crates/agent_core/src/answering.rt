@@ -191,7 +191,8 @@ pub fn short_reply(request: &Request, buffer: &mut Buffer) -> usize
 }
 
 // Puts the reply to a request that is allowed in a view, and of which these bindings are denied, into
-// the buffer. Where none of a Get is, no name is looked up in the view again.
+// the buffer. A Get of which none is denied is answered as where every name is seen: so no name is
+// looked up in the view again.
 fn send_read<O: MibObject>(
     alloc: Global,
     registry: &Registry<O>,
@@ -277,8 +278,8 @@ fn send_served<O: MibObject, L: Ledger>(
     send_kind(alloc, &source, &view, request, buffer, &mut steps)
 }
 
-// Puts the reply to a request that reads where every name is seen into the buffer. Its looks are
-// counted in the ledger of the blank, and by no clause here.
+// Puts the reply to a request where every name is seen into the buffer. It is for a Get, which looks
+// for no successor: nothing is counted in the ledger of the blank.
 fn send_undenied<O: MibObject, L: Ledger>(
     alloc: Global,
     registry: &Registry<O>,

@@ -4,8 +4,8 @@
 //! # Entry points
 //! [`answer`] is one step of a request over a `Registry` of managed objects and the `World` that
 //! they show: its reply and what the ports send stand in a [`Buffer`], its audit is given, a drop
-//! is counted, a Set changes all its variables or none but what could not be undone. Objects that
-//! the view is seen to hide whole are passed over, however many instances they show.
+//! is counted, a Set changes all its variables or none but what could not be undone. For time
+//! alone, objects that the view is seen to hide whole are passed over.
 //! [`short_reply`] writes the reply for a want of memory, and takes none. Under any [`View`]
 //! [`get`] answers from any [`Source`], and [`get_next`] and [`get_bulk`] from any [`Successors`],
 //! of which they can ask nothing but the next instance: each such look is a step. [`Answered`] is
@@ -21,13 +21,15 @@
 //! and their room.
 //!
 //! # Laws
-//! In [`laws`]: replies hang on nothing but what is visible; repeated GetNext lists all of it; a
-//! name has one object; repetitions are successors; the longest front that fits; one look where
-//! nothing is hidden.
+//! In [`laws`]: replies hang on nothing but what is visible, those of Get also on the objects and on
+//! which of the asked names are in the view; repeated GetNext lists all that is visible; a name has
+//! one object; repetitions are successors; the longest front that fits, and that few bindings do;
+//! one look where nothing is hidden.
 //!
 //! # Not claimed
 //! That memory was refused where want of it is answered; which calls a device fails, and which of
-//! several variables of one object is told as failed.
+//! several variables of one object is told as failed; what is passed over, and how often `answer`
+//! looks.
 #![tactic(auto)]
 
 mod answered;

@@ -28,8 +28,8 @@ pub enum Failure<'a> {
     NotText,
     /// The file of the configuration cannot be read.
     CannotRead(&'a str),
-    /// The configuration is none, there is no memory for it or for the objects, or these make no
-    /// registry.
+    /// The configuration is none or does not say how to serve where that is asked, there is no memory
+    /// for it or for the objects, or these make no registry.
     Refused,
     /// The input could not be read to its end.
     Input,

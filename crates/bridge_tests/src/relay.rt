@@ -125,26 +125,29 @@ fn a_flat_copy_is_the_bridge_until_it_changes(rt: HostRuntime) -> Result<(), Fai
     Ok(())
 }
 
+// After these seconds so many addresses are known.
+fn assert_known_after(rt: &impl Abort, bridge: &mut Bridge, seconds: u32, count: usize)
+    ensures { port_count bridge.new ≡ port_count bridge.old }
+{
+    pass(bridge, seconds);
+    assert_eq!(rt; bridge.fdb().len(), count);
+}
+
 // By 300 seconds, and by 10; and a longer ageing time brings no address back.
 #[test]
 fn learned_addresses_age(rt: HostRuntime) -> Result<(), Fail> {
     let mut bridge = running(rt.alloc())?;
     let _ = come(&mut bridge, 1, &TO_ALL)?;
-    assert_eq!(rt; bridge.fdb().len(), 1);
-    pass(&mut bridge, 299);
-    assert_eq!(rt; bridge.fdb().len(), 1);
-    pass(&mut bridge, 1);
-    assert_eq!(rt; bridge.fdb().len(), 0);
+    assert_known_after(&rt, &mut bridge, 0, 1);
+    assert_known_after(&rt, &mut bridge, 299, 1);
+    assert_known_after(&rt, &mut bridge, 1, 0);
     let _ = come(&mut bridge, 1, &TO_ALL)?;
     let _ = bridge.put_setting(Key::Bridge(BridgeKey::Aging), 10);
-    pass(&mut bridge, 9);
-    assert_eq!(rt; bridge.fdb().len(), 1);
-    pass(&mut bridge, 1);
-    assert_eq!(rt; bridge.fdb().len(), 0);
+    assert_known_after(&rt, &mut bridge, 9, 1);
+    assert_known_after(&rt, &mut bridge, 1, 0);
     let _ = bridge.put_setting(Key::Bridge(BridgeKey::Aging), 1_000);
-    assert_eq!(rt; bridge.fdb().len(), 0);
-    pass(&mut bridge, 1);
-    assert_eq!(rt; bridge.fdb().len(), 0);
+    assert_known_after(&rt, &mut bridge, 0, 0);
+    assert_known_after(&rt, &mut bridge, 1, 0);
     Ok(())
 }
 

@@ -44,6 +44,9 @@ type Last = (u32, u32, bool);
 // Where requests come in, how many threads answer them, and the rounds.
 type Served = Option<(u16, u32, u32)>;
 
+// What a configuration gives beside its head.
+type Rest = (Option<First>, Option<Last>, Served);
+
 fn head_of(configuration: &Configuration) -> Head {
     let caller = configuration.policy.caller(b"public");
     let known = caller.is_some_and(|caller| caller.security.as_str() == "public");
@@ -78,8 +81,10 @@ contexts = []\ncommunity = []\ngroup = []\naccess = []\nfamily = []\n
 [[port]]\nifindex = 1\nspeed = 10\nfull = true\nlisten = \"127.0.0.1:4001\"\npeer = \"[::1]:4002\"\n
 [serve]\nsnmp = \"127.0.0.1:1161\"\nworkers = 8\nrounds = 1000000\n";
 
-// Texts, and what they give.
-const GIVEN: [(&str, Head, First, Last, Served); 3] = [
+// A text, and what it gives.
+type Given = (&'static str, Head, First, Last, Served);
+
+const GIVEN: [Given; 3] = [
     (
         BUILT_IN,
         ([2, 0, 0, 0, 0, 10], 2, true),
@@ -103,18 +108,27 @@ const GIVEN: [(&str, Head, First, Last, Served); 3] = [
     ),
 ];
 
-#[test]
-fn texts_give_configurations(rt: HostRuntime) -> Result<(), Fail> {
-    for (text, head, first, last, served) in GIVEN {
-        let given = configuration_of_text(rt.alloc(), text)?;
-        assert_eq!(rt; head_of(&given), head, "{text}");
-        assert_eq!(rt;
-            (first_of(&given), last_of(&given), served_of(&given)),
-            (Some(first), Some(last), served),
-            "{text}"
-        );
+// The head of what a text gives, and the rest of it.
+fn given_of(alloc: Global, text: &str) -> Result<(Head, Rest), Fail> {
+    let given = configuration_of_text(alloc, text)?;
+    Ok((
+        head_of(&given),
+        (first_of(&given), last_of(&given), served_of(&given)),
+    ))
+}
+
+fn assert_given(rt: &impl Abort, alloc: Global, rows: &[Given]) -> Result<(), Fail> {
+    for (text, head, first, last, served) in rows {
+        let (given, rest) = given_of(alloc, *text)?;
+        assert_eq!(rt; given, *head, "{text}");
+        assert_eq!(rt; rest, (Some(*first), Some(*last), *served), "{text}");
     }
     Ok(())
+}
+
+#[test]
+fn texts_give_configurations(rt: HostRuntime) -> Result<(), Fail> {
+    assert_given(&rt, rt.alloc(), &GIVEN)
 }
 
 // A text in four parts, and its fault.
@@ -225,119 +239,35 @@ const ARRAYS: [Refused; 6] = [
     ),
 ];
 
-// A second port.
-const PORTS: [Refused; 13] = [
+// A second port, and which of its keys is wrong.
+const PORTS: [(&str, PortKey); 13] = [
+    ("speed = 10\nfull = true\n", PortKey::Ifindex),
+    ("ifindex = 0\nspeed = 10\nfull = true\n", PortKey::Ifindex),
+    ("ifindex = -1\nspeed = 10\nfull = true\n", PortKey::Ifindex),
+    ("ifindex = 2147483648\nspeed = 11\n", PortKey::Ifindex),
+    ("ifindex = 1\nspeed = 11\nfull = true\n", PortKey::Speed),
+    ("ifindex = 1\nspeed = 10000\nfull = 1\n", PortKey::Speed),
+    ("ifindex = 1\nspeed = 10\nfull = 1\n", PortKey::Full),
+    ("ifindex = 1\nspeed = 10\nlisten = 1\n", PortKey::Full),
     (
-        [ADDRESS, POLICY, PORT_AND_TABLE, "speed = 10\nfull = true\n"],
-        ConfigurationFault::BadPort(1, PortKey::Ifindex),
+        "ifindex = 1\nspeed = 10\nfull = true\nname = \"\"\n",
+        PortKey::Other,
     ),
     (
-        [
-            ADDRESS,
-            POLICY,
-            PORT_AND_TABLE,
-            "ifindex = 0\nspeed = 10\nfull = true\n",
-        ],
-        ConfigurationFault::BadPort(1, PortKey::Ifindex),
+        "ifindex = 1\nspeed = 10\nfull = true\nlisten = \"localhost:1\"\n",
+        PortKey::Listen,
     ),
     (
-        [
-            ADDRESS,
-            POLICY,
-            PORT_AND_TABLE,
-            "ifindex = -1\nspeed = 10\nfull = true\n",
-        ],
-        ConfigurationFault::BadPort(1, PortKey::Ifindex),
+        "ifindex = 1\nspeed = 10\nfull = true\nlisten = 1\npeer = 1\n",
+        PortKey::Listen,
     ),
     (
-        [
-            ADDRESS,
-            POLICY,
-            PORT_AND_TABLE,
-            "ifindex = 2147483648\nspeed = 11\n",
-        ],
-        ConfigurationFault::BadPort(1, PortKey::Ifindex),
+        "ifindex = 1\nspeed = 10\nfull = true\npeer = \"127.0.0.1\"\n",
+        PortKey::Peer,
     ),
     (
-        [
-            ADDRESS,
-            POLICY,
-            PORT_AND_TABLE,
-            "ifindex = 1\nspeed = 11\nfull = true\n",
-        ],
-        ConfigurationFault::BadPort(1, PortKey::Speed),
-    ),
-    (
-        [
-            ADDRESS,
-            POLICY,
-            PORT_AND_TABLE,
-            "ifindex = 1\nspeed = 10000\nfull = 1\n",
-        ],
-        ConfigurationFault::BadPort(1, PortKey::Speed),
-    ),
-    (
-        [
-            ADDRESS,
-            POLICY,
-            PORT_AND_TABLE,
-            "ifindex = 1\nspeed = 10\nfull = 1\n",
-        ],
-        ConfigurationFault::BadPort(1, PortKey::Full),
-    ),
-    (
-        [
-            ADDRESS,
-            POLICY,
-            PORT_AND_TABLE,
-            "ifindex = 1\nspeed = 10\nlisten = 1\n",
-        ],
-        ConfigurationFault::BadPort(1, PortKey::Full),
-    ),
-    (
-        [
-            ADDRESS,
-            POLICY,
-            PORT_AND_TABLE,
-            "ifindex = 1\nspeed = 10\nfull = true\nname = \"\"\n",
-        ],
-        ConfigurationFault::BadPort(1, PortKey::Other),
-    ),
-    (
-        [
-            ADDRESS,
-            POLICY,
-            PORT_AND_TABLE,
-            "ifindex = 1\nspeed = 10\nfull = true\nlisten = \"localhost:1\"\n",
-        ],
-        ConfigurationFault::BadPort(1, PortKey::Listen),
-    ),
-    (
-        [
-            ADDRESS,
-            POLICY,
-            PORT_AND_TABLE,
-            "ifindex = 1\nspeed = 10\nfull = true\nlisten = 1\npeer = 1\n",
-        ],
-        ConfigurationFault::BadPort(1, PortKey::Listen),
-    ),
-    (
-        [
-            ADDRESS,
-            POLICY,
-            PORT_AND_TABLE,
-            "ifindex = 1\nspeed = 10\nfull = true\npeer = \"127.0.0.1\"\n",
-        ],
-        ConfigurationFault::BadPort(1, PortKey::Peer),
-    ),
-    (
-        [
-            ADDRESS,
-            POLICY,
-            PORT_AND_TABLE,
-            "ifindex = 1\nspeed = 10\nfull = true\npeer = 1\nname = \"\"\n",
-        ],
-        ConfigurationFault::BadPort(1, PortKey::Peer),
+        "ifindex = 1\nspeed = 10\nfull = true\npeer = 1\nname = \"\"\n",
+        PortKey::Peer,
     ),
 ];
 
@@ -490,28 +420,61 @@ const POLICIES: [Refused; 2] = [
     ),
 ];
 
+fn assert_fault(
+    rt: &impl Abort,
+    alloc: Global,
+    parts: [&str; 4],
+    fault: ConfigurationFault,
+) -> Result<(), Fail> {
+    let told = fault_of(alloc, parts)?;
+    assert_eq!(rt; told, Some(fault), "{parts:?}");
+    Ok(())
+}
+
 fn assert_refused(rt: &impl Abort, alloc: Global, rows: &[Refused]) -> Result<(), Fail> {
     for (parts, fault) in rows {
-        let told = fault_of(alloc, *parts)?;
-        assert_eq!(rt; told, Some(*fault), "{parts:?}");
+        assert_fault(rt, alloc, *parts, *fault)?;
     }
     Ok(())
 }
 
 #[test]
-fn other_configurations_are_refused(rt: HostRuntime) -> Result<(), Fail> {
-    for rows in [
-        TEXTS.as_slice(),
-        &ADDRESSES,
-        &ARRAYS,
-        &PORTS,
-        &SERVES,
-        &KEYS,
-        &POLICIES,
-    ] {
-        assert_refused(&rt, rt.alloc(), rows)?;
+fn texts_that_are_no_toml_are_refused(rt: HostRuntime) -> Result<(), Fail> {
+    assert_refused(&rt, rt.alloc(), &TEXTS)
+}
+
+#[test]
+fn other_addresses_are_refused(rt: HostRuntime) -> Result<(), Fail> {
+    assert_refused(&rt, rt.alloc(), &ADDRESSES)
+}
+
+#[test]
+fn other_arrays_of_ports_are_refused(rt: HostRuntime) -> Result<(), Fail> {
+    assert_refused(&rt, rt.alloc(), &ARRAYS)
+}
+
+#[test]
+fn other_ports_are_refused(rt: HostRuntime) -> Result<(), Fail> {
+    for (port, key) in PORTS {
+        let parts = [ADDRESS, POLICY, PORT_AND_TABLE, port];
+        assert_fault(&rt, rt.alloc(), parts, ConfigurationFault::BadPort(1, key))?;
     }
     Ok(())
+}
+
+#[test]
+fn other_ways_to_serve_are_refused(rt: HostRuntime) -> Result<(), Fail> {
+    assert_refused(&rt, rt.alloc(), &SERVES)
+}
+
+#[test]
+fn other_keys_of_a_policy_are_refused(rt: HostRuntime) -> Result<(), Fail> {
+    assert_refused(&rt, rt.alloc(), &KEYS)
+}
+
+#[test]
+fn other_contexts_are_refused(rt: HostRuntime) -> Result<(), Fail> {
+    assert_refused(&rt, rt.alloc(), &POLICIES)
 }
 
 // A configuration of so many ports.

@@ -7,8 +7,9 @@ use std::alloc::{AllocError, Global};
 use std::marker::Model;
 use std::mem::swap;
 
-/// At most [`MAX_ENTRIES`] entries, with room for them all. Once they are cleared they lie aside, and
-/// each new one lets one of them go: so no event has to let go all of them, under a lock.
+/// Entries, with room for [`MAX_ENTRIES`]. Once they are cleared they lie aside, and each new one
+/// lets one of them go: so no event has to let go all of them, under a lock. No clause tells when one
+/// is let go.
 pub struct Entries {
     kept: Vec<Entry>,
     past: Vec<Entry>,
@@ -61,7 +62,7 @@ impl Entries {
         self.kept.as_slice()
     }
 
-    /// No entries any more. Those that there were are let go later.
+    /// No entries any more. Those that there were are let go later, and what lay aside at once.
     pub fn clear(&mut self)
         ensures { self.new ≡ [] }
     {
@@ -69,7 +70,7 @@ impl Entries {
         self.kept.clear();
     }
 
-    /// One entry more. Takes no memory.
+    /// One entry more, where there are not [`MAX_ENTRIES`] yet. Takes no memory.
     pub fn push(&mut self, entry: Entry)
         requires { length self.old < MAX_ENTRIES }
         ensures { self.new ≡ self.old ++ entry ∷ [] }

@@ -8,7 +8,7 @@
 //! [`Applied`]: what became of it. [`Entry`]: what is kept of one event. [`Receipt`]: what its
 //! caller is told of it, with `try_copy`, and `same`, which takes no memory. [`compare`] says
 //! whether receipts agree with any entries, or names the first that does not. A [`Tally`] says how
-//! many agree, a [`Mismatch`] which does not. [`Egress`] has the ports by which a frame goes out;
+//! many agree and how many are older, a [`Mismatch`] which does not. [`Egress`] has the ports by which a frame goes out;
 //! [`ReceiptEvent`] is what a receipt tells of its event. At most [`MAX_ENTRIES`] entries are kept.
 //!
 //! # Definitions
@@ -23,8 +23,8 @@
 //! the base gives the world as it is. [`laws::one_history`]: one base and the same events that met
 //! the same make the same entries.
 //!
-//! The base moves only where [`MAX_ENTRIES`] are kept, to the world before the event. A request is
-//! told to be dropped exactly where its policy drops it. Where memory was wanting any other request
+//! The base moves only where [`MAX_ENTRIES`] are kept, to the world before the event. A request that
+//! is entered is told to be dropped exactly where its policy drops it. Where memory was wanting any other request
 //! is answered by genErr, or by tooBig where that is too long; where no number is left there is no
 //! reply.
 //!

@@ -6,6 +6,7 @@ ghost use Rattle.manager_core.specs.Replies.{IsTold, IsHeard, fault_of};
 use crate::fault::ManagerFault;
 use message_core::{Bindings, DropCause, ErrorStatus, Reply, Request, decode_reply};
 use std::alloc::Global;
+use std::mem::replace;
 
 /// What a datagram that came after a request says to it: nothing, as the reply to another request
 /// does, or how the ask ends.
@@ -18,7 +19,7 @@ pub fn hear(
     ensures encodable { IfSome result (λ end. IfOk end AreEncodable) }
 {
     match decode_reply(alloc, datagram) {
-        Ok(reply) => tell(request, reply),
+        Ok(reply) => tell(alloc, request, reply),
         Err(cause) => Some(Err(fault_of(cause))),
     }
 }
@@ -34,7 +35,11 @@ fn fault_of(cause: DropCause) -> ManagerFault
 }
 
 // What a reply says to a request.
-fn tell(request: &Request, reply: Reply) -> Option<Result<Bindings, ManagerFault>>
+fn tell(
+    alloc: Global,
+    request: &Request,
+    mut reply: Reply,
+) -> Option<Result<Bindings, ManagerFault>>
     requires { AreEncodable reply.bindings }
     ensures told { IsTold request.now reply result }
     ensures encodable { IfSome result (λ end. IfOk end AreEncodable) }
@@ -48,5 +53,5 @@ fn tell(request: &Request, reply: Reply) -> Option<Result<Bindings, ManagerFault
     if reply.status != ErrorStatus::NoError {
         return Some(Err(ManagerFault::Error(reply.status, reply.index)));
     }
-    Some(Ok(reply.bindings))
+    Some(Ok(replace(&mut reply.bindings, Bindings::new(alloc))))
 }

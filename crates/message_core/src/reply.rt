@@ -4,7 +4,6 @@ use crate::octets::Octets;
 use crate::status::ErrorStatus;
 
 /// A reply: what a message of version 2c with a Response says.
-#[derive(Drop)]
 pub struct Reply {
     /// The request-id of the request that it answers.
     pub id: i32,
@@ -16,4 +15,17 @@ pub struct Reply {
     pub community: Octets,
     /// The variable bindings.
     pub bindings: Bindings,
+}
+
+// By hand, so that who lets one go knows nothing of its parts.
+impl Drop for Reply {
+    fn drop(self) {
+        let Reply {
+            id: _id,
+            status: _status,
+            index: _index,
+            community: _community,
+            bindings: _bindings,
+        } = self;
+    }
 }

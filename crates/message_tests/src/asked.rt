@@ -6,6 +6,7 @@ use crate::datagrams::{
     SET_IP_ADDRESS, SET_OBJECT_IDENTIFIER, SET_OCTET_STRING, SET_OPAQUE, SET_TIME_TICKS,
 };
 use crate::long_datagrams::{LONG_COMMUNITY, LONG_NAME};
+use crate::support::assert_written;
 use message_core::{Bindings, Kind, Octets, Request, TooBig, decode, decode_reply, encode_request};
 use std::alloc::Global;
 use std::test::Fail;
@@ -16,27 +17,30 @@ fn again(alloc: Global, datagram: &[u8], buffer: &mut [u8; 2048]) -> Result<usiz
     Ok(encode_request(&request, buffer)?)
 }
 
+// Datagrams of other encoders.
+const OTHERS: [&[u8]; 14] = [
+    &GET,
+    &GET_NEXT,
+    &GET_BULK,
+    &SET_INTEGER,
+    &SET_OCTET_STRING,
+    &SET_OBJECT_IDENTIFIER,
+    &SET_IP_ADDRESS,
+    &SET_COUNTER32,
+    &SET_GAUGE32,
+    &SET_TIME_TICKS,
+    &SET_OPAQUE,
+    &SET_COUNTER64,
+    &LONG_COMMUNITY,
+    &LONG_NAME,
+];
+
 #[test]
 fn writes_as_others_do(rt: HostRuntime) -> Result<(), Fail> {
-    for datagram in [
-        GET.as_slice(),
-        &GET_NEXT,
-        &GET_BULK,
-        &SET_INTEGER,
-        &SET_OCTET_STRING,
-        &SET_OBJECT_IDENTIFIER,
-        &SET_IP_ADDRESS,
-        &SET_COUNTER32,
-        &SET_GAUGE32,
-        &SET_TIME_TICKS,
-        &SET_OPAQUE,
-        &SET_COUNTER64,
-        &LONG_COMMUNITY,
-        &LONG_NAME,
-    ] {
+    for datagram in OTHERS {
         let mut buffer = [0; 2048];
         let len = again(rt.alloc(), datagram, &mut buffer)?;
-        assert_eq!(rt; buffer.get(..len), Some(datagram), "{datagram:?}");
+        assert_written(&rt, &buffer, len, datagram);
     }
     Ok(())
 }

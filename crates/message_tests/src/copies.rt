@@ -1,7 +1,7 @@
 //! Octets and requests that are copied and compared, octets of a vector, and those that fill room.
 use crate::datagrams::ALL_TYPES;
 use crate::long_datagrams::{LONG, LONG_COMMUNITY, LONG_NAME, LONG_OCTET_STRING, LONG_OPAQUE};
-use message_core::{Octets, Room, decode};
+use message_core::{Octets, Request, Room, decode};
 use std::alloc::Global;
 use std::test::Fail;
 
@@ -28,10 +28,22 @@ fn copies_octets_takes_vectors_and_fills_room(rt: HostRuntime) -> Result<(), Fai
     Ok(())
 }
 
+// A copy of the request that a datagram gives.
+fn copy_in(alloc: Global, datagram: &[u8]) -> Result<Request, Fail> {
+    let request = decode(alloc, datagram)?;
+    Ok(request.try_copy(alloc)?)
+}
+
+// Whether a request is the same as the one that a datagram gives.
+fn is_same(alloc: Global, request: &Request, other: &[u8]) -> Result<bool, Fail> {
+    let other = decode(alloc, other)?;
+    Ok(request.same(&other))
+}
+
 // Whether the copy of a request is the same as another.
 fn is_copied(alloc: Global, datagram: &[u8], other: &[u8]) -> Result<bool, Fail> {
-    let copy = decode(alloc, datagram)?.try_copy(alloc)?;
-    Ok(copy.same(&decode(alloc, other)?))
+    let copy = copy_in(alloc, datagram)?;
+    is_same(alloc, &copy, other)
 }
 
 #[test]

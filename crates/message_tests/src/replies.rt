@@ -1,5 +1,6 @@
 //! Replies, as others write them.
 use crate::datagrams::{ALL_TYPES, ERROR, EXCEPTIONS, REPLY};
+use crate::support::assert_written;
 use message_core::{
     Binding, Bindings, ErrorStatus, Octets, Reply, Value, decode, encode_answer, encode_reply,
 };
@@ -25,16 +26,19 @@ fn echoed(
     Ok(encode_answer(&request, status, index, request.bindings.as_slice(), buffer)?)
 }
 
+// Responses, their error-statuses, and their error-indices.
+const RESPONSES: [(&[u8], ErrorStatus, i32); 3] = [
+    (&ALL_TYPES, ErrorStatus::NoError, 0),
+    (&EXCEPTIONS, ErrorStatus::NoError, 0),
+    (&ERROR, ErrorStatus::NotWritable, 1),
+];
+
 #[test]
 fn writes_as_others_do(rt: HostRuntime) -> Result<(), Fail> {
-    for (response, status, index) in [
-        (ALL_TYPES.as_slice(), ErrorStatus::NoError, 0),
-        (EXCEPTIONS.as_slice(), ErrorStatus::NoError, 0),
-        (ERROR.as_slice(), ErrorStatus::NotWritable, 1),
-    ] {
+    for (response, status, index) in RESPONSES {
         let mut buffer = [0; 1472];
         let len = echoed(rt.alloc(), response, status, index, &mut buffer)?;
-        assert_eq!(rt; buffer.get(..len), Some(response), "{response:?}");
+        assert_written(&rt, &buffer, len, response);
     }
     Ok(())
 }

@@ -2,6 +2,7 @@
 use crate::datagrams::{GET, GET_BULK, GET_LONG, GET_LONG_LENGTH};
 use crate::long_datagrams::LONG_COMMUNITY;
 use message_core::{Kind, Request, decode};
+use std::process::Abort;
 use std::test::Fail;
 
 // The PDU type of a request, its three numbers, and how many bindings it has.
@@ -25,15 +26,20 @@ const ROWS: [(&[u8], Head, &[u8]); 5] = [
     ),
 ];
 
+fn assert_head(rt: &impl Abort, request: &Request, head: Head, datagram: &[u8]) {
+    assert_eq!(rt; head_of(request), head, "{datagram:?}");
+}
+
+fn assert_community(rt: &impl Abort, request: &Request, community: &[u8], datagram: &[u8]) {
+    assert_eq!(rt; request.community.as_slice(), community, "{datagram:?}");
+}
+
 #[test]
 fn reads_heads_and_communities(rt: HostRuntime) -> Result<(), Fail> {
     for (datagram, head, community) in ROWS {
         let request = decode(rt.alloc(), datagram)?;
-        assert_eq!(rt;
-            (head_of(&request), request.community.as_slice()),
-            (head, community),
-            "{datagram:?}"
-        );
+        assert_head(&rt, &request, head, datagram);
+        assert_community(&rt, &request, community, datagram);
     }
     Ok(())
 }

@@ -1,7 +1,7 @@
 //! Replies that are read, and why others are not.
 use crate::datagrams::{ALL_TYPES, ERROR, EXCEPTIONS, REPLY};
 use crate::long_datagrams::{LONG, LONG_COMMUNITY, LONG_NAME, NUMBERS};
-use crate::support::{Shown, shown};
+use crate::support::{Shown, assert_written, changed, shown};
 use message_core::{Binding, DropCause, ErrorStatus, Reply, decode_reply, encode_reply};
 use std::alloc::Global;
 use std::process::Abort;
@@ -54,18 +54,23 @@ fn assert_values(rt: &impl Abort, bindings: &[Binding], values: &[Shown]) {
     }
 }
 
-// The head of a reply that is read, whose values are these, and what is written of it.
+fn assert_head(rt: &impl Abort, reply: &Reply, head: Head, datagram: &[u8]) {
+    assert_eq!(rt; head_of(reply), head, "{datagram:?}");
+}
+
+// What is written of a reply that is read, whose head and values are these.
 fn again(
     rt: &impl Abort,
     alloc: Global,
     datagram: &[u8],
+    head: Head,
     values: &[Shown],
     buffer: &mut [u8; 1472],
-) -> Result<(Head, usize), Fail> {
+) -> Result<usize, Fail> {
     let reply = decode_reply(alloc, datagram)?;
+    assert_head(rt, &reply, head, datagram);
     assert_values(rt, reply.bindings.as_slice(), values);
-    let len = encode_reply(&reply, buffer)?;
-    Ok((head_of(&reply), len))
+    Ok(encode_reply(&reply, buffer)?)
 }
 
 // Replies, their heads, and their values.
@@ -78,25 +83,19 @@ const READ: [(&[u8], Head, &[Shown]); 4] = [
 
 #[test]
 fn reads_as_others_write(rt: HostRuntime) -> Result<(), Fail> {
-    for (datagram, want, values) in READ {
+    for (datagram, head, values) in READ {
         let mut buffer = [0; 1472];
-        let (head, len) = again(&rt, rt.alloc(), datagram, values, &mut buffer)?;
-        assert_eq!(rt;
-            (head, buffer.get(..len)),
-            (want, Some(datagram)),
-            "{datagram:?}"
-        );
+        let len = again(&rt, rt.alloc(), datagram, head, values, &mut buffer)?;
+        assert_written(&rt, &buffer, len, datagram);
     }
     Ok(())
 }
 
 // The number of the error-status of a reply whose octet at a place is another, or what drops it.
 fn status_with(alloc: Global, datagram: &[u8], place: usize, octet: u8) -> Result<i32, DropCause> {
-    let mut other = datagram.to_vec(alloc)?;
-    if let Some(found) = other.get_mut(place) {
-        *found = octet;
-    }
-    Ok(decode_reply(alloc, &other)?.status.code())
+    let other = changed(alloc, datagram, &[(place, octet)])?;
+    let reply = decode_reply(alloc, &other)?;
+    Ok(reply.status.code())
 }
 
 // A datagram, a place of it and the octet there, and what drops it then.
@@ -137,10 +136,7 @@ fn reads_statuses_up_to_18_and_responses_alone(rt: HostRuntime) {
 
 // How many octets the community of a reply has, and how many numbers its first name.
 fn lens_of(alloc: Global, request: &[u8], tag: usize) -> Result<(usize, usize), Fail> {
-    let mut datagram = request.to_vec(alloc)?;
-    if let Some(found) = datagram.get_mut(tag) {
-        *found = RESPONSE;
-    }
+    let datagram = changed(alloc, request, &[(tag, RESPONSE)])?;
     let reply = decode_reply(alloc, &datagram)?;
     let first = reply.bindings.as_slice().first();
     let name = first.map_or(0, |binding| binding.name.as_slice().len());

@@ -1,6 +1,7 @@
 //! What the tests share.
 use message_core::{Binding, DropCause, Value, decode};
-use std::alloc::Global;
+use std::alloc::{AllocError, Global};
+use std::process::Abort;
 use std::test::Fail;
 
 /// A copy of the one binding that a request has.
@@ -15,26 +16,87 @@ pub fn binding_in(alloc: Global, datagram: &[u8]) -> Result<Binding, Fail> {
 /// The type of a value and its number, its octets or its sub-identifiers.
 pub type Shown<'a> = (&'static str, u64, &'a [u8], &'a [u32]);
 
+fn type_of(value: &Value) -> &'static str {
+    match value {
+        Value::Integer(number) if *number < 0 => "INTEGER, minus",
+        Value::Integer(_) => "INTEGER",
+        Value::OctetString(_) => "OCTET STRING",
+        Value::Null => "NULL",
+        Value::ObjectIdentifier(_) => "OBJECT IDENTIFIER",
+        Value::IpAddress(_) => "IpAddress",
+        Value::Counter32(_) => "Counter32",
+        Value::Gauge32(_) => "Gauge32",
+        Value::TimeTicks(_) => "TimeTicks",
+        Value::Opaque(_) => "Opaque",
+        Value::Counter64(_) => "Counter64",
+        Value::NoSuchObject => "noSuchObject",
+        Value::NoSuchInstance => "noSuchInstance",
+        Value::EndOfMibView => "endOfMibView",
+    }
+}
+
+// The number of a value, or 0 where it has none.
+fn number_of(value: &Value) -> u64 {
+    match value {
+        Value::Integer(number) => u64::from(number.unsigned_abs()),
+        Value::Counter32(count) => u64::from(*count),
+        Value::Gauge32(level) => u64::from(*level),
+        Value::TimeTicks(ticks) => u64::from(*ticks),
+        Value::Counter64(count) => *count,
+        _ => 0,
+    }
+}
+
+// The octets of a value, or none.
+fn octets_of(value: &Value) -> &[u8] {
+    match value {
+        Value::OctetString(octets) | Value::Opaque(octets) => octets.as_slice(),
+        Value::IpAddress(address) => address.as_slice(),
+        _ => &[],
+    }
+}
+
+// The sub-identifiers of a value, or none.
+fn numbers_of(value: &Value) -> &[u32] {
+    match value {
+        Value::ObjectIdentifier(name) => name.as_slice(),
+        _ => &[],
+    }
+}
+
 /// What a value is.
 pub fn shown(value: &Value) -> Shown {
-    match value {
-        Value::Integer(number) if *number < 0 => {
-            ("INTEGER, minus", u64::from(number.unsigned_abs()), &[], &[])
-        }
-        Value::Integer(number) => ("INTEGER", u64::from(number.unsigned_abs()), &[], &[]),
-        Value::OctetString(octets) => ("OCTET STRING", 0, octets.as_slice(), &[]),
-        Value::Null => ("NULL", 0, &[], &[]),
-        Value::ObjectIdentifier(name) => ("OBJECT IDENTIFIER", 0, &[], name.as_slice()),
-        Value::IpAddress(address) => ("IpAddress", 0, address.as_slice(), &[]),
-        Value::Counter32(count) => ("Counter32", u64::from(*count), &[], &[]),
-        Value::Gauge32(level) => ("Gauge32", u64::from(*level), &[], &[]),
-        Value::TimeTicks(ticks) => ("TimeTicks", u64::from(*ticks), &[], &[]),
-        Value::Opaque(octets) => ("Opaque", 0, octets.as_slice(), &[]),
-        Value::Counter64(count) => ("Counter64", *count, &[], &[]),
-        Value::NoSuchObject => ("noSuchObject", 0, &[], &[]),
-        Value::NoSuchInstance => ("noSuchInstance", 0, &[], &[]),
-        Value::EndOfMibView => ("endOfMibView", 0, &[], &[]),
+    (
+        type_of(value),
+        number_of(value),
+        octets_of(value),
+        numbers_of(value),
+    )
+}
+
+/// What is written, the first octets of a buffer, is a datagram.
+pub fn assert_written(rt: &impl Abort, buffer: &[u8], len: usize, datagram: &[u8]) {
+    assert_eq!(rt; buffer.get(..len), Some(datagram), "{datagram:?}");
+}
+
+// Another octet at a place, where there is one.
+fn put(octets: &mut [u8], place: usize, octet: u8) {
+    if let Some(found) = octets.get_mut(place) {
+        *found = octet;
     }
+}
+
+/// A datagram in which these octets are others.
+pub fn changed(
+    alloc: Global,
+    datagram: &[u8],
+    changes: &[(usize, u8)],
+) -> Result<Vec<u8>, AllocError> {
+    let mut other = datagram.to_vec(alloc)?;
+    for (place, octet) in changes {
+        put(&mut other, *place, *octet);
+    }
+    Ok(other)
 }
 
 /// What drops a datagram in which these octets are others, and which has some more behind it.
@@ -44,12 +106,7 @@ pub fn cause_with(
     changes: &[(usize, u8)],
     end: &[u8],
 ) -> Result<Option<DropCause>, Fail> {
-    let mut other = datagram.to_vec(alloc)?;
-    for (place, octet) in changes {
-        if let Some(found) = other.get_mut(*place) {
-            *found = *octet;
-        }
-    }
+    let mut other = changed(alloc, datagram, changes)?;
     other.extend_from_slice(end)?;
     Ok(decode(alloc, &other).err())
 }

@@ -7,6 +7,8 @@ use crate::long_datagrams::{
     LONG, LONG_NAME, LONG_OBJECT_IDENTIFIER, LONG_OCTET_STRING, LONG_OPAQUE, NUMBERS,
 };
 use crate::support::{Shown, binding_in, shown};
+use message_core::Binding;
+use std::process::Abort;
 use std::test::Fail;
 
 // The name in a Get, and that in each Set but of no long name.
@@ -48,12 +50,16 @@ const ROWS: [(&[u8], &[u32], Shown); 14] = [
     ),
 ];
 
+fn assert_binding(rt: &impl Abort, binding: &Binding, name: &[u32], value: Shown) {
+    assert_eq!(rt; binding.name.as_slice(), name, "{value:?}");
+    assert_eq!(rt; shown(&binding.value), value);
+}
+
 #[test]
 fn reads_names_and_values(rt: HostRuntime) -> Result<(), Fail> {
     for (datagram, name, value) in ROWS {
         let binding = binding_in(rt.alloc(), datagram)?;
-        assert_eq!(rt; binding.name.as_slice(), name, "{value:?}");
-        assert_eq!(rt; shown(&binding.value), value);
+        assert_binding(&rt, &binding, name, value);
     }
     Ok(())
 }

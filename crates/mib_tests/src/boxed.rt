@@ -138,9 +138,19 @@ fn taken(
 fn a_registry_takes_objects_in_order(rt: HostRuntime) -> Result<(), Fail> {
     let all = taken(rt.alloc(), COLUMNS, NAMES)?;
     assert_eq!(rt; all, (true, (Ok(51), true)));
+    Ok(())
+}
+
+#[test]
+fn a_registry_refuses_objects_out_of_order(rt: HostRuntime) -> Result<(), Fail> {
     let (columns, names) = exchanged();
     let unsorted = taken(rt.alloc(), columns, names)?;
     assert_eq!(rt; unsorted, (true, (Err(RegistryFault::Unsorted), true)));
+    Ok(())
+}
+
+#[test]
+fn a_registry_refuses_an_object_that_is_there_twice(rt: HostRuntime) -> Result<(), Fail> {
     let (columns, names) = doubled();
     let nested = taken(rt.alloc(), columns, names)?;
     assert_eq!(rt; nested, (true, (Err(RegistryFault::Nested), true)));

@@ -229,14 +229,16 @@ fn pass_fives(world: &mut World, fives: u32) -> Result<(), Fail> {
 
 // Frames at two ports that forward, and at one that is disabled: to all, to a learned address, to
 // an address at its own port, and to a reserved one.
+const FRAMES: [(u16, [u8; 6], [u8; 2]); 5] = [
+    (2, TO_ALL, [2, 2]),
+    (1, [0x02, 0, 0, 0, 2, 2], [1, 1]),
+    (1, [0x02, 0, 0, 0, 1, 1], [1, 1]),
+    (2, [0x01, 0x80, 0xC2, 0, 0, 2], [2, 3]),
+    (5, TO_ALL, [5, 5]),
+];
+
 fn hear_frames(world: &mut World) -> Result<(), Fail> {
-    for (port, to, last) in [
-        (2, TO_ALL, [2, 2]),
-        (1, [0x02, 0, 0, 0, 2, 2], [1, 1]),
-        (1, [0x02, 0, 0, 0, 1, 1], [1, 1]),
-        (2, [0x01, 0x80, 0xC2, 0, 0, 2], [2, 3]),
-        (5, TO_ALL, [5, 5]),
-    ] {
+    for (port, to, last) in FRAMES {
         hear(world, port, &frame_of(to, 0x02, last))?;
     }
     Ok(())

@@ -61,17 +61,18 @@ fn faults(world: &World, written: Written) -> Result<([Option<SetFault>; 4], usi
     Ok((faults, object.held()))
 }
 
+const FAULTS: [Option<SetFault>; 4] = [
+    Some(SetFault::ResourceUnavailable),
+    Some(SetFault::WrongType),
+    Some(SetFault::WrongValue),
+    Some(SetFault::NoCreation),
+];
+
 #[test]
 fn has_64_places_and_tells_other_faults(rt: HostRuntime) -> Result<(), Fail> {
     let world = one_port(rt.alloc())?;
-    let want = [
-        Some(SetFault::ResourceUnavailable),
-        Some(SetFault::WrongType),
-        Some(SetFault::WrongValue),
-        Some(SetFault::NoCreation),
-    ];
     for written in WRITTEN {
-        assert_eq!(rt; faults(&world, written)?, (want, 64), "{:?}", written.0);
+        assert_eq!(rt; faults(&world, written)?, (FAULTS, 64), "{:?}", written.0);
     }
     Ok(())
 }

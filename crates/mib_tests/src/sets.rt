@@ -95,23 +95,26 @@ fn ended(alloc: Global, plan: u64, ports: &[u32]) -> Result<(End, [u32; 3], usiz
     Ok((end_of(&outcome), enables_of(&world), registry.held()))
 }
 
+const PORT_2: SettingKey = SettingKey::Bridge(Key::Port(2, PortKey::Enable));
+
+// What fails, the plan of it, the ports that a Set disables, how it ends, and what is enabled then.
 // The first call is the commit for port 1. Calls 3 and 4 are the commit for port 3, and then the
 // undoing for port 2, the later one, which is undone first.
+const ENDS: [(&str, u64, &[u32], End, [u32; 3]); 3] = [
+    ("no call fails", 0, &[1, 2], End::Done, [2, 2, 1]),
+    ("call 1 fails", 0b0001, &[1, 2], End::Undone(1), [1, 1, 1]),
+    (
+        "calls 3 and 4 fail",
+        0b1100,
+        &[1, 2, 3],
+        End::Stuck(3, PORT_2),
+        [1, 2, 1],
+    ),
+];
+
 #[test]
 fn sets_end_by_what_the_device_does(rt: HostRuntime) -> Result<(), Fail> {
-    let port_2 = SettingKey::Bridge(Key::Port(2, PortKey::Enable));
-    let rows: [(&str, u64, &[u32], End, [u32; 3]); 3] = [
-        ("no call fails", 0, &[1, 2], End::Done, [2, 2, 1]),
-        ("call 1 fails", 0b0001, &[1, 2], End::Undone(1), [1, 1, 1]),
-        (
-            "calls 3 and 4 fail",
-            0b1100,
-            &[1, 2, 3],
-            End::Stuck(3, port_2),
-            [1, 2, 1],
-        ),
-    ];
-    for (what, plan, ports, end, enables) in rows {
+    for (what, plan, ports, end, enables) in ENDS {
         assert_eq!(rt;
             ended(rt.alloc(), plan, ports)?,
             (end, enables, 0),

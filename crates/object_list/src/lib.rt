@@ -2,7 +2,7 @@
 //! all of them.
 //!
 //! # Entry points
-//! [`Object`]: a managed object of any of the nine kinds, by `of` a column, or by `over` a column
+//! [`Object`]: a managed object of any of the ten kinds, by `of` a column, or by `over` a column
 //! and a driver, which dot1dStpPortEnable takes. [`COLUMNS`]: the columns of the 51 objects in the
 //! order of their names; [`objects`]: the objects themselves, dot1dStpPortEnable over a driver, of
 //! which `Registry::new` makes a registry. [`ENABLE`] is the place of dot1dStpPortEnable among

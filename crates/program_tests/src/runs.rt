@@ -361,53 +361,59 @@ fn objects_of(alloc: Global, columns: &[Column]) -> Result<Vec<Object<Planned>>,
     Ok(objects)
 }
 
-// Whether objects make a registry is looked at for a script, and not for the version. A table: over
-// forty lines.
+/// dot1dBaseNumPorts.
+const PORTS: Column = Column::Base(Base::NumPorts);
+
+/// dot1dBaseBridgeAddress.
+const ADDRESS: Column = Column::Base(Base::BridgeAddress);
+
+const SCRIPT_WORDS: &[&str] = &["agentd"];
+
+/// What objects they are, their columns, the words of a run over them, its status, and what it
+/// writes.
+const OBJECTS: [(&str, &[Column], &[&str], u8, &[u8], &[u8]); 7] = [
+    ("both", &[ADDRESS, PORTS], SCRIPT_WORDS, 0, REPLY, b""),
+    ("the ports", &[PORTS], SCRIPT_WORDS, 0, REPLY, b""),
+    (
+        "the address",
+        &[ADDRESS],
+        SCRIPT_WORDS,
+        0,
+        NO_SUCH_OBJECT,
+        b"",
+    ),
+    ("none", &[], SCRIPT_WORDS, 0, NO_SUCH_OBJECT, b""),
+    (
+        "out of order",
+        &[PORTS, ADDRESS],
+        SCRIPT_WORDS,
+        2,
+        b"",
+        REFUSED,
+    ),
+    (
+        "twice the same",
+        &[PORTS, PORTS],
+        SCRIPT_WORDS,
+        2,
+        b"",
+        REFUSED,
+    ),
+    (
+        "no script",
+        &[PORTS, PORTS],
+        &["agentd", "-V"],
+        0,
+        b"agentd 0.1\n",
+        b"",
+    ),
+];
+
+// Whether objects make a registry is looked at for a script, and not for the version.
 #[test]
 fn runs_over_the_objects_that_are_handed_in(rt: HostRuntime) -> Result<(), Fail> {
     let files = Names { alloc: rt.alloc() };
-    let ports = Column::Base(Base::NumPorts);
-    let address = Column::Base(Base::BridgeAddress);
-    let script = ["agentd"].as_slice();
-    let version = ["agentd", "-V"].as_slice();
-    let none = b"".as_slice();
-    for (what, columns, words, status, out, errors) in [
-        ("both", [address, ports].as_slice(), script, 0, REPLY, none),
-        ("the ports", [ports].as_slice(), script, 0, REPLY, none),
-        (
-            "the address",
-            [address].as_slice(),
-            script,
-            0,
-            NO_SUCH_OBJECT,
-            none,
-        ),
-        ("none", [].as_slice(), script, 0, NO_SUCH_OBJECT, none),
-        (
-            "out of order",
-            [ports, address].as_slice(),
-            script,
-            2,
-            none,
-            REFUSED,
-        ),
-        (
-            "twice the same",
-            [ports, ports].as_slice(),
-            script,
-            2,
-            none,
-            REFUSED,
-        ),
-        (
-            "no script",
-            [ports, ports].as_slice(),
-            version,
-            0,
-            b"agentd 0.1\n".as_slice(),
-            none,
-        ),
-    ] {
+    for (what, columns, words, status, out, errors) in OBJECTS {
         let objects = objects_of(rt.alloc(), columns)?;
         let run = ran_with(rt.alloc(), &files, objects, words, GET)?;
         assert_eq!(rt;

@@ -4,6 +4,7 @@ use agent_program::{Failure, NotTaken, collect_words, report};
 use bumpalo::Bump;
 use std::alloc::{AllocGlobal, Global};
 use std::io::{Error, ErrorKind};
+use std::process::Abort;
 use std::rt::Files;
 use std::test::Fail;
 
@@ -29,77 +30,69 @@ fn refused<R: Files + AllocGlobal>(rt: &R, words: &[&str]) -> Result<String, Fai
 /// What is told where there is no FILE.
 const NO_FILE: &str = "--config FILE is missing\n";
 
-// A table: over forty lines.
+/// Words that are no command, and what is told of them.
+const WRONG: [(&[&str], &str); 20] = [
+    (&["agentd", "script"], NO_FILE),
+    (&["agentd", "serve"], NO_FILE),
+    (&["agentd", "serve", "--forever"], NO_FILE),
+    (&["agentd", "check", "--config"], NO_FILE),
+    (&["agentd", "script", "--config="], NO_FILE),
+    (&["agentd", "check", "--config=", "a.toml"], NO_FILE),
+    (&["agentd", "script", "", ""], "unexpected word \n"),
+    (
+        &["agentd", "server", "--config", "a.toml"],
+        "unexpected word server\n",
+    ),
+    (
+        &["agentd", "--config", "a.toml"],
+        "unexpected word --config\n",
+    ),
+    (
+        &["agentd", "script", "--config", "a.toml", "--fast"],
+        "unexpected word --fast\n",
+    ),
+    (&["agentd", "--version", "now"], "unexpected word now\n"),
+    (&["agentd", "-V", "-h"], "unexpected word -h\n"),
+    (&["agentd", "-v"], "unexpected word -v\n"),
+    (
+        &["agentd", "check", "--config=a.toml", "b.toml"],
+        "unexpected word b.toml\n",
+    ),
+    (
+        &["agentd", "script", "--conf=a.toml"],
+        "unexpected word --conf=a.toml\n",
+    ),
+    (
+        &["agentd", "serve", "--config", "a.toml", "now"],
+        "unexpected word now\n",
+    ),
+    (
+        &["agentd", "serve", "--config", "a.toml", "--forever", "now"],
+        "unexpected word now\n",
+    ),
+    (
+        &[
+            "agentd",
+            "serve",
+            "--forever",
+            "--config=a.toml",
+            "--forever",
+        ],
+        "unexpected word --forever\n",
+    ),
+    (
+        &["agentd", "check", "--config", "a.toml", "--forever"],
+        "unexpected word --forever\n",
+    ),
+    (
+        &["agentd", "script", "--forever", "--config", "a.toml"],
+        "unexpected word --forever\n",
+    ),
+];
+
 #[test]
 fn tells_what_is_wrong_with_words(rt: HostRuntime) -> Result<(), Fail> {
-    for (words, told) in [
-        (["agentd", "script"].as_slice(), NO_FILE),
-        (["agentd", "serve"].as_slice(), NO_FILE),
-        (["agentd", "serve", "--forever"].as_slice(), NO_FILE),
-        (["agentd", "check", "--config"].as_slice(), NO_FILE),
-        (["agentd", "script", "--config="].as_slice(), NO_FILE),
-        (
-            ["agentd", "check", "--config=", "a.toml"].as_slice(),
-            NO_FILE,
-        ),
-        (
-            ["agentd", "script", "", ""].as_slice(),
-            "unexpected word \n",
-        ),
-        (
-            ["agentd", "server", "--config", "a.toml"].as_slice(),
-            "unexpected word server\n",
-        ),
-        (
-            ["agentd", "--config", "a.toml"].as_slice(),
-            "unexpected word --config\n",
-        ),
-        (
-            ["agentd", "script", "--config", "a.toml", "--fast"].as_slice(),
-            "unexpected word --fast\n",
-        ),
-        (
-            ["agentd", "--version", "now"].as_slice(),
-            "unexpected word now\n",
-        ),
-        (["agentd", "-V", "-h"].as_slice(), "unexpected word -h\n"),
-        (["agentd", "-v"].as_slice(), "unexpected word -v\n"),
-        (
-            ["agentd", "check", "--config=a.toml", "b.toml"].as_slice(),
-            "unexpected word b.toml\n",
-        ),
-        (
-            ["agentd", "script", "--conf=a.toml"].as_slice(),
-            "unexpected word --conf=a.toml\n",
-        ),
-        (
-            ["agentd", "serve", "--config", "a.toml", "now"].as_slice(),
-            "unexpected word now\n",
-        ),
-        (
-            ["agentd", "serve", "--config", "a.toml", "--forever", "now"].as_slice(),
-            "unexpected word now\n",
-        ),
-        (
-            [
-                "agentd",
-                "serve",
-                "--forever",
-                "--config=a.toml",
-                "--forever",
-            ]
-            .as_slice(),
-            "unexpected word --forever\n",
-        ),
-        (
-            ["agentd", "check", "--config", "a.toml", "--forever"].as_slice(),
-            "unexpected word --forever\n",
-        ),
-        (
-            ["agentd", "script", "--forever", "--config", "a.toml"].as_slice(),
-            "unexpected word --forever\n",
-        ),
-    ] {
+    for (words, told) in WRONG {
         assert_eq!(rt; refused(&rt, words)?.as_str(), told, "{words:?}");
     }
     Ok(())
@@ -141,19 +134,22 @@ fn has_help(octets: &[u8]) -> Result<bool, Fail> {
     Ok(true)
 }
 
+/// Words that ask for the help.
+const HELP: [&[&str]; 9] = [
+    &["agentd", "--help"],
+    &["agentd", "-h"],
+    &["agentd", "script", "--help"],
+    &["agentd", "script", "-h"],
+    &["agentd", "check", "--help"],
+    &["agentd", "check", "-h"],
+    &["agentd", "serve", "--help"],
+    &["agentd", "serve", "-h"],
+    &["agentd", "serve", "--forever", "--help"],
+];
+
 #[test]
 fn tells_its_help(rt: HostRuntime) -> Result<(), Fail> {
-    for words in [
-        ["agentd", "--help"].as_slice(),
-        ["agentd", "-h"].as_slice(),
-        ["agentd", "script", "--help"].as_slice(),
-        ["agentd", "script", "-h"].as_slice(),
-        ["agentd", "check", "--help"].as_slice(),
-        ["agentd", "check", "-h"].as_slice(),
-        ["agentd", "serve", "--help"].as_slice(),
-        ["agentd", "serve", "-h"].as_slice(),
-        ["agentd", "serve", "--forever", "--help"].as_slice(),
-    ] {
+    for words in HELP {
         let run = ran(&rt, words, GET)?;
         assert_eq!(rt;
             (
@@ -188,32 +184,34 @@ fn no_room(alloc: Global) -> Result<Error, Fail> {
     Ok(refused.ok_or("there was room")?)
 }
 
-#[test]
-fn reports_words_that_it_cannot_keep(rt: HostRuntime) -> Result<(), Fail> {
-    for (what, fault, status, line) in [
-        (
-            "no room",
-            no_room(rt.alloc())?,
-            1,
-            b"agentd: run failed\n".as_slice(),
-        ),
-        (
-            "no text",
-            Error::from(ErrorKind::InvalidData),
-            2,
-            b"agentd: usage: agentd [script|check|serve [--forever] --config FILE]: a word is no text\n",
-        ),
-    ] {
-        let failure = Failure::from(fault);
-        let mut errors = Vec::new(rt.alloc());
-        let whole = report(&failure, &mut errors);
-        assert_eq!(rt;
-            (whole.status, whole.line, errors.as_slice()),
-            (status, Ok(()), line),
-            "{what}"
-        );
-        let cut = report(&failure, &mut Full);
-        assert_eq!(rt; (cut.status, cut.line), (status, Err(NotTaken)), "{what}");
-    }
+// What the program reports of words that it could not collect, on standard error and where that is
+// full.
+fn assert_reported<R: AllocGlobal + Abort>(
+    rt: &R,
+    fault: Error,
+    status: u8,
+    line: &[u8],
+) -> Result<(), Fail> {
+    let failure = Failure::from(fault);
+    let mut errors = Vec::new(rt.alloc());
+    let whole = report(&failure, &mut errors);
+    assert_eq!(rt;
+        (whole.status, whole.line, errors.as_slice()),
+        (status, Ok(()), line)
+    );
+    let cut = report(&failure, &mut Full);
+    assert_eq!(rt; (cut.status, cut.line), (status, Err(NotTaken)));
     Ok(())
+}
+
+#[test]
+fn reports_words_for_which_there_is_no_room(rt: HostRuntime) -> Result<(), Fail> {
+    assert_reported(&rt, no_room(rt.alloc())?, 1, b"agentd: run failed\n")
+}
+
+#[test]
+fn reports_words_that_are_no_text(rt: HostRuntime) -> Result<(), Fail> {
+    let line =
+        b"agentd: usage: agentd [script|check|serve [--forever] --config FILE]: a word is no text\n";
+    assert_reported(&rt, Error::from(ErrorKind::InvalidData), 2, line)
 }

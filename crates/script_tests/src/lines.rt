@@ -252,6 +252,11 @@ fn answers_scripts(rt: HostRuntime) -> Result<(), Fail> {
     for (script, said) in SCRIPTS {
         assert_said(&rt, script, said)?;
     }
+    Ok(())
+}
+
+#[test]
+fn answers_datagrams(rt: HostRuntime) -> Result<(), Fail> {
     assert_answers(&rt, DATAGRAMS)
 }
 
@@ -259,9 +264,8 @@ fn answers_scripts(rt: HostRuntime) -> Result<(), Fail> {
 const NO_TEXT: &[u8] =
     b"policy\n# \xE9\ncontexts = []\ncommunity = []\ngroup = []\naccess = []\nfamily = []\nend\n";
 
-// A Get that ends early, and a policy that is no text.
 #[test]
-fn refuses_octets(rt: HostRuntime) -> Result<(), Fail> {
+fn refuses_a_get_that_ends_early(rt: HostRuntime) -> Result<(), Fail> {
     let text = GET.as_bytes();
     for octets in 0..41usize {
         let out = said_to(rt.alloc(), &text[..8 + 2 * octets])?;
@@ -271,23 +275,31 @@ fn refuses_octets(rt: HostRuntime) -> Result<(), Fail> {
             "{octets} octets"
         );
     }
+    Ok(())
+}
+
+#[test]
+fn refuses_a_policy_that_is_no_text(rt: HostRuntime) -> Result<(), Fail> {
     let out = said_to(rt.alloc(), NO_TEXT)?;
     assert_eq!(rt; out.as_slice(), b"policy refused\n".as_slice());
     Ok(())
 }
 
+// How a line begins, how many octets of 30 are behind that, and what is said to it.
+const LONG: &[(&str, usize, &str)] = &[
+    ("request ", 2048, "drop Malformed\n"),
+    ("request ", 2049, "drop TooLong\n"),
+    (
+        "frame 1 FFFFFFFFFFFF020000000101",
+        1507,
+        "badframe TooLong\n",
+    ),
+];
+
 #[test]
 fn refuses_what_is_too_long(rt: HostRuntime) -> Result<(), Fail> {
-    for (word, times, said) in [
-        ("request ", 2048usize, "drop Malformed\n"),
-        ("request ", 2049, "drop TooLong\n"),
-        (
-            "frame 1 FFFFFFFFFFFF020000000101",
-            1507,
-            "badframe TooLong\n",
-        ),
-    ] {
-        let line = repeated(rt.alloc(), word, times, "30")?;
+    for (word, times, said) in LONG {
+        let line = repeated(rt.alloc(), word, *times, "30")?;
         assert_said(&rt, &[&line, "\n"], &[said])?;
     }
     Ok(())

@@ -347,6 +347,10 @@ const OF_THREE_PORTS: &[Table<'static>] = &[
 
 #[test]
 fn answers_as_devices_fail(rt: HostRuntime) -> Result<(), Fail> {
-    assert_sets(&rt, TABLES)?;
+    assert_sets(&rt, TABLES)
+}
+
+#[test]
+fn answers_as_devices_of_three_ports_fail(rt: HostRuntime) -> Result<(), Fail> {
     assert_over(&rt, ThreePorts, OF_THREE_PORTS)
 }

@@ -1,6 +1,7 @@
-//! The values that each of the fifteen writable objects takes: the least and the greatest, of timers
-//! those that the others allow, and not one more, nor one between two steps (RFC 4188, RFC 4318; IEEE
-//! 802.1D-2004, 17.14). A Get behind a Set reads what is written, also 300 seconds later.
+//! The values that each of the fifteen writable objects takes: the least and the greatest, of
+//! timers those that the others allow, and not one more, nor one between two steps (RFC 4188, RFC
+//! 4318; IEEE 802.1D-2004, 17.14). A Get behind a Set reads what is written, also 300 seconds
+//! later.
 use crate::support::{Table, assert_sets};
 use fixtures::message::Held::Integer;
 use fixtures::message::{Bound, WRONG_VALUE};
@@ -315,5 +316,10 @@ fn takes_what_is_in_range(rt: HostRuntime) -> Result<(), Fail> {
         let rows = range_rows(rt.alloc(), range)?;
         assert_sets(&rt, &[(range.0, rows.as_slice())])?;
     }
+    Ok(())
+}
+
+#[test]
+fn shows_and_keeps_what_is_written(rt: HostRuntime) -> Result<(), Fail> {
     assert_sets(&rt, TABLES)
 }

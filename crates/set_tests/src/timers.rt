@@ -76,8 +76,8 @@ const TWO_TIMERS: &[Row<'static>] = &[
     OPENING,
 ];
 
-// From the least of all three to the greatest and back, in one order: single Sets of each in that order
-// would not do.
+// From the least of all three to the greatest and back, in one order: single Sets of each in that
+// order would not do.
 const THREE_TIMERS: &[Row<'static>] = &[
     Row::Assigned(
         "the least",

@@ -118,10 +118,10 @@ impl<O: MibObject> Registry<O> {
 
     /// The name of the object whose name begins a name, where there is one. It takes no memory.
     ///
-    /// `near` may be any number, and only time hangs on it: where it is the place of that object, or
-    /// the one before, no search is made. A number is left there for the next call, on which only
-    /// time hangs as well. It is meant to be the object's place, or where no object has the name,
-    /// the place of the first one behind it. No clause holds it; a test does.
+    /// `near` may be any number, and only time hangs on it: where it is the place of that object,
+    /// or the one before, no search is made. A number is left there for the next call, on which
+    /// only time hangs as well. It is meant to be the object's place, or where no object has the
+    /// name, the place of the first one behind it. No clause holds it; a test does.
     pub fn owner(&self, name: &[u32], near: &mut usize) -> Option<&[u32]>
         ensures { option_copied result ≡ owner_of (rows_of self.now) name.now }
     {
