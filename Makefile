@@ -5,9 +5,10 @@ run:
 	cd crates/agentd && rt try < stdin
 
 # Proves every crate from nothing, tries the must-fail edits, runs the tests and the programs; then serves the agent so built
-# over UDP, which the manager and, where it is there, Net-SNMP ask.
+# over UDP, which the manager and, where it is there, Net-SNMP ask. As many checks run at a time as there are processors, each
+# in one job: a second job costs a check a third more processor time. Each check takes up to 4 GB.
 test:
-	rt ci
+	RT_JOBS=$${RT_JOBS:-$$(nproc)} rt ci
 	tools/udp-session
 
 # Tries further wrong bodies, which the gate leaves out: of all crates, or of CRATES="NAME ..".

@@ -8,8 +8,9 @@
 //! [`Applied`]: what became of it. [`Entry`]: what is kept of one event. [`Receipt`]: what its
 //! caller is told of it, with `try_copy`, and `same`, which takes no memory. [`compare`] says
 //! whether receipts agree with any entries, or names the first that does not. A [`Tally`] says how
-//! many agree and how many are older, a [`Mismatch`] which does not. [`Egress`] has the ports by which a frame goes out;
-//! [`ReceiptEvent`] is what a receipt tells of its event. At most [`MAX_ENTRIES`] entries are kept.
+//! many agree and how many are older, a [`Mismatch`] which does not. [`Egress`] has the ports by
+//! which a frame goes out; [`ReceiptEvent`] is what a receipt tells of its event. At most
+//! [`MAX_ENTRIES`] entries are kept.
 //!
 //! # Definitions
 //! `specs/Steps.antt`: what an event makes of a world and its objects, and what comes out;
@@ -23,10 +24,10 @@
 //! the base gives the world as it is. [`laws::one_history`]: one base and the same events that met
 //! the same make the same entries.
 //!
-//! The base moves only where [`MAX_ENTRIES`] are kept, to the world before the event. A request that
-//! is entered is told to be dropped exactly where its policy drops it. Where memory was wanting any other request
-//! is answered by genErr, or by tooBig where that is too long; where no number is left there is no
-//! reply.
+//! The base moves only where [`MAX_ENTRIES`] are kept, to the world before the event. A request
+//! that is entered is told to be dropped exactly where its policy drops it. Where memory was
+//! wanting any other request is answered by genErr, or by tooBig where that is too long; where no
+//! number is left there is no reply.
 //!
 //! # Not claimed
 //! That memory was refused where want of it is told, or that there is some; which calls a device

@@ -124,7 +124,7 @@ fn doubled() -> ([Column; 51], [&'static str; 51]) {
 }
 
 // Whether the objects of these columns have these names, and how a registry of them ends.
-fn taken(
+fn registration(
     alloc: Global,
     columns: [Column; 51],
     names: [&'static str; 51],
@@ -136,7 +136,7 @@ fn taken(
 
 #[test]
 fn a_registry_takes_objects_in_order(rt: HostRuntime) -> Result<(), Fail> {
-    let all = taken(rt.alloc(), COLUMNS, NAMES)?;
+    let all = registration(rt.alloc(), COLUMNS, NAMES)?;
     assert_eq!(rt; all, (true, (Ok(51), true)));
     Ok(())
 }
@@ -144,7 +144,7 @@ fn a_registry_takes_objects_in_order(rt: HostRuntime) -> Result<(), Fail> {
 #[test]
 fn a_registry_refuses_objects_out_of_order(rt: HostRuntime) -> Result<(), Fail> {
     let (columns, names) = exchanged();
-    let unsorted = taken(rt.alloc(), columns, names)?;
+    let unsorted = registration(rt.alloc(), columns, names)?;
     assert_eq!(rt; unsorted, (true, (Err(RegistryFault::Unsorted), true)));
     Ok(())
 }
@@ -152,7 +152,7 @@ fn a_registry_refuses_objects_out_of_order(rt: HostRuntime) -> Result<(), Fail> 
 #[test]
 fn a_registry_refuses_an_object_that_is_there_twice(rt: HostRuntime) -> Result<(), Fail> {
     let (columns, names) = doubled();
-    let nested = taken(rt.alloc(), columns, names)?;
+    let nested = registration(rt.alloc(), columns, names)?;
     assert_eq!(rt; nested, (true, (Err(RegistryFault::Nested), true)));
     Ok(())
 }
