@@ -1,7 +1,7 @@
 //! The lines of audits with denied bindings.
 use crate::keys::{audit_of, family_of, line_of, row_of};
 use crate::names::{long_name, named};
-use audit_core::{Audit, Denied};
+use audit_core::{Audit, Denied, UnrestoredRoom};
 use decision::Decision;
 use message_core::{ErrorStatus, Kind};
 use std::alloc::Global;
@@ -26,7 +26,7 @@ fn denied_audit(alloc: Global, asked: Asked, subtree: &str) -> Result<Audit, Fai
 // The line of such an audit, and that of its copy.
 fn denied_lines(alloc: Global, asked: Asked, subtree: &str) -> Result<(Vec<u8>, Vec<u8>), Fail> {
     let audit = denied_audit(alloc, asked, subtree)?;
-    let copy = audit.try_copy(alloc)?;
+    let copy = audit.try_copy_in(alloc, UnrestoredRoom::none())?;
     Ok((line_of(alloc, &audit)?, line_of(alloc, &copy)?))
 }
 

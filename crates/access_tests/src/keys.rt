@@ -1,10 +1,9 @@
 //! Keys of rows and audits that the tests share.
 use crate::names::named;
-use audit_core::{Audit, DeniedBindings, FamilyKey, audit_line};
+use audit_core::{Audit, DeniedBindings, FamilyKey, Unrestored, audit_line};
 use decision::{AccessKey, Decision};
 use message_core::{ErrorStatus, Kind};
 use oid_core::Oid;
-use setting_keys::SettingKeys;
 use std::alloc::Global;
 use std::test::Fail;
 use vacm_core::{AccessRow, FamilyRow, Level, Mask, Name};
@@ -50,7 +49,7 @@ pub fn audit_of(
         index,
         decision,
         denied: DeniedBindings::new(alloc),
-        unrestored: SettingKeys::new(),
+        unrestored: Unrestored::none(),
     }
 }
 

@@ -1,6 +1,6 @@
 //! The lines of audits of a Set that could not be undone.
 use crate::keys::{audit_of, family_of, line_of, row_of};
-use audit_core::{Audit, Denied};
+use audit_core::{Audit, Denied, UnrestoredRoom};
 use decision::Decision;
 use message_core::{ErrorStatus, Kind};
 use rstp_settings::key::{BridgeKey, Key, PortKey};
@@ -21,18 +21,18 @@ fn settings(keys: &[Key]) -> SettingKeys {
 }
 
 // The audit of a Set that could not put these settings back.
-fn undo_failed(alloc: Global, keys: &[Key]) -> Audit {
+fn undo_failed(alloc: Global, keys: &[Key]) -> Result<Audit, Fail> {
     let row = row_of(Name::of("writers"));
     let view = Name::of("w");
     let status = ErrorStatus::UndoFailed;
     let mut audit = audit_of(alloc, Kind::Set, status, 0, Decision::Allowed { row, view });
-    audit.unrestored = settings(keys);
-    audit
+    audit.unrestored = UnrestoredRoom::reserved(alloc)?.filled(settings(keys));
+    Ok(audit)
 }
 
 // The line of such an audit, which denies the second binding where a family excludes it.
 fn said_of(alloc: Global, denied: Option<&str>, keys: &[Key]) -> Result<Vec<u8>, Fail> {
-    let mut audit = undo_failed(alloc, keys);
+    let mut audit = undo_failed(alloc, keys)?;
     if let Some(subtree) = denied {
         let family = Some(family_of(alloc, "w", subtree)?);
         audit.denied.push(Denied { index: 2, family })?;

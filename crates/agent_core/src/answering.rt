@@ -22,11 +22,10 @@ use crate::sets::answer_set;
 use crate::source::{Source, View};
 use crate::views::{EveryName, PolicyView};
 use crate::whole::Whole;
-use audit_core::{Audit, DeniedBindings};
+use audit_core::{Audit, DeniedBindings, Unrestored, UnrestoredRoom};
 use decision::{AccessKey, Cause, Decision, decide};
 use message_core::{ErrorStatus, Kind, Request};
 use setphase_core::{MibObject, Registry, World};
-use setting_keys::SettingKeys;
 use std::alloc::{AllocError, Global};
 use std::marker::Brand;
 use std::sync::ledger::{Blank, Ledger};
@@ -45,7 +44,7 @@ use vacm_core::Name;
 /// How often a GetBulk looks for a successor is said by `get_bulk`, and by no clause here.
 ///
 /// The caller hands in a request whose names and OBJECT IDENTIFIER values have an encoding, as
-/// `decode` gives it.
+/// `decode` gives it, and for a Set room for the settings that may not be undone.
 ///
 /// # Errors
 /// Only memory can fail: then the buffer is empty, the world is as before, and the request is one
@@ -57,8 +56,10 @@ pub fn answer<O: MibObject>(
     world: &mut World,
     request: &Request,
     buffer: &mut Buffer,
+    room: UnrestoredRoom,
 ) -> Result<Answered, AllocError>
-    requires { AreEncodable request.now.bindings }
+    requires encodable { AreEncodable request.now.bindings }
+    requires room { request.now.kind ≡ Kind.Set → room ≡ true }
     ensures { IsStep registry.old world.old request.now result buffer.new world.new registry.new }
 {
     buffer.clear();
@@ -79,7 +80,7 @@ pub fn answer<O: MibObject>(
             Ok(reply_with(request, Decision::Refused(why), none, sent))
         }
         Decision::Allowed { row, view } => match request.kind {
-            Kind::Set => answer_set(alloc, registry, world, request, row, view, buffer),
+            Kind::Set => answer_set(alloc, registry, world, request, row, view, buffer, room),
             Kind::Get | Kind::GetNext | Kind::GetBulk => {
                 answer_read(alloc, registry, world, request, row, view, buffer)
             }
@@ -139,7 +140,7 @@ fn drop_request(alloc: Global, request: &Request, cause: Cause) -> Answered
         index: 0,
         decision: Decision::Drop(cause),
         denied: DeniedBindings::new(alloc),
-        unrestored: SettingKeys::new(),
+        unrestored: Unrestored::none(),
     })
 }
 
@@ -167,7 +168,7 @@ fn reply_with(
             index: sent.index,
             decision,
             denied,
-            unrestored: SettingKeys::new(),
+            unrestored: Unrestored::none(),
         },
         None,
     )

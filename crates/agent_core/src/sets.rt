@@ -1,5 +1,5 @@
 //! Answers a Set that is let in to a view (RFC 3416, 4.2.5).
-ghost use Rattle.std.specs.Prelude.{◌≡◌, ◌≤◌, ◌<◌, ◌^◌, [], IfOk, IfSome, OnErr, length, map, pos};
+ghost use Rattle.std.specs.Prelude.{◌≡◌, ◌≤◌, ◌<◌, ◌^◌, [], true, IfOk, IfSome, OnErr, length, map, pos};
 ghost use Rattle.message_core.specs.Encodable.{AreEncodable};
 ghost use Rattle.message_core.specs.declared.limits.TheConstants.{MAX_COMMUNITY};
 ghost use Rattle.vacm_core.specs.Families.{NamesFamilyOf};
@@ -13,7 +13,7 @@ use crate::answered::Answered;
 use crate::buffer::Buffer;
 use crate::denying::denied_variable;
 use crate::sent_reply::SentReply;
-use audit_core::{Audit, DeniedBindings};
+use audit_core::{Audit, DeniedBindings, UnrestoredRoom};
 use decision::{AccessKey, Decision};
 use message_core::{ErrorStatus, Request};
 use rstp_settings::settings::Settings;
@@ -120,7 +120,15 @@ fn settle_changed(before: &Settings, world: &mut World, buffer: &mut Buffer)
 }
 
 // What a Set is answered whose reply stands in the buffer.
-fn told(request: &Request, row: AccessKey, view: Name, answer: SetTold, sent: SentReply) -> Answered
+fn told(
+    request: &Request,
+    row: AccessKey,
+    view: Name,
+    answer: SetTold,
+    sent: SentReply,
+    room: UnrestoredRoom,
+) -> Answered
+    requires { room ≡ true }
     ensures { result ≡ Answered.Reply sent.length (record {
       kind = request.now.kind;
       status = sent.status;
@@ -145,7 +153,7 @@ fn told(request: &Request, row: AccessKey, view: Name, answer: SetTold, sent: Se
             index: sent.index,
             decision: Decision::Allowed { row, view },
             denied,
-            unrestored,
+            unrestored: room.filled(unrestored),
         },
         failed,
     )
@@ -164,7 +172,9 @@ pub(crate) fn answer_set<O: MibObject>(
     row: AccessKey,
     view: Name,
     buffer: &mut Buffer,
+    room: UnrestoredRoom,
 ) -> Result<Answered, AllocError>
+    requires room { room ≡ true }
     requires community { length request.now.community ≤ MAX_COMMUNITY }
     requires encodable { AreEncodable request.now.bindings }
     requires silent { buffer.old.bpdus ≡ [] }
@@ -182,7 +192,7 @@ pub(crate) fn answer_set<O: MibObject>(
     if buffer.is_too_long(request) {
         let sent = buffer.put_too_long(request);
         let none = plain_answer(alloc, sent.status, sent.index, None, SettingKeys::new());
-        return Ok(told(request, row, view, none, sent));
+        return Ok(told(request, row, view, none, sent, room));
     }
     let bindings = request.bindings.as_slice();
     let before = world.bridge.copied_settings();
@@ -190,5 +200,5 @@ pub(crate) fn answer_set<O: MibObject>(
     let answer = set_answer(alloc, world.policy.vacm(), outcome)?;
     settle_changed(&before, world, buffer);
     let sent = buffer.put(request, answer.status, answer.index, bindings);
-    Ok(told(request, row, view, answer, sent))
+    Ok(told(request, row, view, answer, sent, room))
 }

@@ -1,6 +1,7 @@
 //! What is asked over managed objects, and what is answered.
 use crate::messages::{Bound, RESPONSE, message};
 use agent_core::{Answered, Buffer, answer};
+use audit_core::UnrestoredRoom;
 use message_core::decode;
 use setphase_core::{MibObject, Registry, World, are_named};
 use std::alloc::Global;
@@ -16,7 +17,8 @@ fn reply_to<O: MibObject>(
 ) -> Result<Buffer, Fail> {
     let request = decode(alloc, datagram).ok().ok_or("a request")?;
     let mut buffer = Buffer::new();
-    match answer(alloc, registry, world, &request, &mut buffer)? {
+    let room = UnrestoredRoom::reserved(alloc)?;
+    match answer(alloc, registry, world, &request, &mut buffer, room)? {
         Answered::Reply(_, _, _) => Ok(buffer),
         Answered::NoReply(_) => Ok(Buffer::new()),
     }

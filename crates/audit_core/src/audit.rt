@@ -1,13 +1,12 @@
 //! The record of a request's decision.
-ghost use Rattle.std.specs.Prelude.{◌≡◌, ◌≢◌, [], Some, IfOk, OnErr};
+ghost use Rattle.std.specs.Prelude.{◌≡◌, ◌≢◌, [], true, Some, IfOk, OnErr};
 ghost use Rattle.audit_core.specs.Text.{audit_text, kind_text};
 
 use crate::denied::DeniedBindings;
-use crate::unrestored::WrittenUnrestored;
+use crate::unrestored::{Unrestored, UnrestoredRoom, WrittenUnrestored};
 use crate::written::{WrittenCause, WrittenLeave, WrittenRefusal};
 use decision::Decision;
 use message_core::{ErrorStatus, Kind};
-use setting_keys::SettingKeys;
 use std::alloc::{AllocError, Global};
 use std::fmt;
 
@@ -29,12 +28,14 @@ pub struct Audit {
     pub denied: DeniedBindings,
     /// The settings that a Set left at their new values, since undoing failed (RFC 3416, 4.2.5), in
     /// the order of their variables; none but where the status is undoFailed.
-    pub unrestored: SettingKeys,
+    pub unrestored: Unrestored,
 }
 
 impl Audit {
-    /// A copy. Takes memory only for denied variable bindings.
-    pub fn try_copy(&self, alloc: Global) -> Result<Audit, AllocError>
+    /// A copy, whose settings that were left at their new values lie in a room that was reserved for
+    /// them, if there are some. Takes memory only for denied variable bindings.
+    pub fn try_copy_in(&self, alloc: Global, room: UnrestoredRoom) -> Result<Audit, AllocError>
+        requires { self.now.unrestored ≢ [] → room ≡ true }
         ensures value { IfOk result (λ copy. copy ≡ self.now) }
         ensures denied { OnErr result (self.now.denied ≢ []) }
     {
@@ -45,7 +46,7 @@ impl Audit {
             index: self.index,
             decision: self.decision.copy(),
             denied,
-            unrestored: self.unrestored.copy(),
+            unrestored: self.unrestored.copy_in(room),
         })
     }
 }

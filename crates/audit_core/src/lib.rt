@@ -3,13 +3,15 @@
 //! # Entry points
 //! [`Audit`] is a plain record: the PDU type, status and index as sent, the decision with the keys
 //! of its rows, the denied variable bindings, and the settings that a Set could not put back.
-//! [`audit_line`] and [`write_audit`] write its line. `Audit::try_copy` is a copy, which takes
+//! [`audit_line`] and [`write_audit`] write its line. `Audit::try_copy_in` is a copy, which takes
 //! memory only for denied variable bindings. The denied bindings are [`DeniedBindings`], a
 //! list of [`Denied`], each with the [`FamilyKey`] of the family that excludes its name, where one
-//! does.
+//! does. The settings that a Set could not put back are [`Unrestored`]; they lie in an
+//! [`UnrestoredRoom`], which is reserved before the Set.
 //!
 //! # Definitions
-//! `specs/Text.antt`: the line, to the octet; `specs/Keys.antt`: the key of a family row.
+//! `specs/Text.antt`: the line, to the octet; `specs/Keys.antt`: the key of a family row;
+//! `specs/Unrestored.antt`: how settings and room for them lie in memory.
 //!
 //! # Laws
 //! None.
@@ -30,3 +32,4 @@ pub use audit::Audit;
 pub use denied::{Denied, DeniedBindings};
 pub use keys::FamilyKey;
 pub use line::{audit_line, write_audit};
+pub use unrestored::{Unrestored, UnrestoredRoom};

@@ -1,11 +1,125 @@
-//! How the settings are written that a Set could not put back.
-ghost use Rattle.std.specs.Prelude.{◌≡◌, Some};
+//! The settings that a Set could not put back, room for them, and how they are written.
+ghost use Rattle.std.specs.Prelude.{◌≡◌, ◌≢◌, [], true, false, Some, IfOk};
 ghost use Rattle.std.specs.List.{flat_map};
 ghost use Rattle.audit_core.specs.Text.{bridge_key_text, port_key_text, key_text, unrestored_text};
 
 use rstp_settings::key::{BridgeKey, Key, PortKey};
-use setting_keys::{SettingKey, SettingKeys};
+use setting_keys::{ListedKey, SettingKey, SettingKeys};
+use std::alloc::{AllocError, Global};
 use std::fmt;
+use std::marker::Model;
+
+/// The settings that a Set left at their new values, since undoing failed (RFC 3416, 4.2.5), seen as
+/// the list of their keys. They lie in memory of their own, for audits are moved about, and only
+/// after a Set that was not undone are there some.
+pub struct Unrestored {
+    keys: Option<Box<SettingKeys>>,
+}
+
+// By hand, so that who lets one go knows nothing of its parts.
+impl Drop for Unrestored {
+    fn drop(self) {
+        let Unrestored { keys: _keys } = self;
+    }
+}
+
+impl Model for Unrestored {
+    ghost use Rattle.std.specs.Prelude.{List};
+    ghost use Rattle.setting_keys.specs.declared.SettingKey.{SettingKey as AnyKey};
+    ghost use Rattle.audit_core.specs.Unrestored.{keys_in};
+
+    ghost Value = { List AnyKey };
+
+    ghost view = { λ u. keys_in u.keys };
+}
+
+impl Unrestored {
+    /// No settings. Takes no memory.
+    pub fn none() -> Unrestored
+        ensures { result ≡ [] }
+    {
+        Unrestored { keys: None }
+    }
+
+    /// The keys of the settings, in the order of their variables.
+    pub fn as_slice(&self) -> &[ListedKey]
+        ensures { result.now ≡ self.now }
+    {
+        match &self.keys {
+            Some(keys) => keys.as_slice(),
+            None => &[],
+        }
+    }
+
+    /// A copy, in a room that was reserved for it if there are settings. Takes no memory.
+    pub fn copy_in(&self, room: UnrestoredRoom) -> Unrestored
+        requires { self.now ≢ [] → room ≡ true }
+        ensures { result ≡ self.now }
+    {
+        match &self.keys {
+            Some(keys) => room.filled(keys.copy()),
+            None => Unrestored::none(),
+        }
+    }
+}
+
+/// Room for the settings that a Set may leave at their new values, or none; seen as whether there is
+/// some. It is reserved where want of memory can still be told, and filled where nothing may fail any
+/// more.
+pub struct UnrestoredRoom {
+    keys: Option<Box<SettingKeys>>,
+}
+
+// By hand, so that who lets one go knows nothing of its parts.
+impl Drop for UnrestoredRoom {
+    fn drop(self) {
+        let UnrestoredRoom { keys: _keys } = self;
+    }
+}
+
+impl Model for UnrestoredRoom {
+    ghost use Rattle.std.specs.Prelude.{Bool};
+    ghost use Rattle.audit_core.specs.Unrestored.{is_room};
+
+    ghost Value = { Bool };
+
+    ghost view = { λ room. is_room room.keys };
+}
+
+impl UnrestoredRoom {
+    /// No room, as for a request that writes nothing. Takes no memory.
+    pub fn none() -> UnrestoredRoom
+        ensures { result ≡ false }
+    {
+        UnrestoredRoom { keys: None }
+    }
+
+    /// Room for as many settings as a list of keys has.
+    pub fn reserved(alloc: Global) -> Result<UnrestoredRoom, AllocError>
+        ensures { IfOk result (λ room. room ≡ true) }
+    {
+        let keys = Box::new(alloc, SettingKeys::new())?;
+        Ok(UnrestoredRoom { keys: Some(keys) })
+    }
+
+    /// These settings; where there are none, the room is let go. Takes no memory, so it cannot fail.
+    pub fn filled(self, keys: SettingKeys) -> Unrestored
+        requires { keys ≢ [] → self ≡ true }
+        ensures { result ≡ keys }
+    {
+        if keys.is_empty() {
+            return Unrestored::none();
+        }
+        let UnrestoredRoom { keys: room } = self;
+        match room {
+            Some(mut room) => {
+                *room = keys;
+                Unrestored { keys: Some(room) }
+            }
+            None => unreachable!(),
+        }
+    }
+}
 
 // The word for a setting of the bridge as a whole.
 fn bridge_word(key: BridgeKey) -> &'static str
@@ -75,7 +189,7 @@ impl fmt::Display for WrittenOne {
 
 /// The settings that a Set left at their new values, since undoing failed.
 #[derive(Drop)]
-pub struct WrittenUnrestored<'a>(pub &'a SettingKeys);
+pub struct WrittenUnrestored<'a>(pub &'a Unrestored);
 
 /// One behind the other, as ` unrestored aging unrestored enable(1)`.
 impl fmt::Display for WrittenUnrestored<'_> {

@@ -2,6 +2,7 @@
 use crate::print::print_nanos;
 use crate::replies::{bindings_in, count_in};
 use agent_core::{Answered, Buffer, answer};
+use audit_core::UnrestoredRoom;
 use message_core::decode;
 use setphase_core::{MibObject, Registry, World, are_named};
 use std::alloc::Global;
@@ -101,7 +102,8 @@ impl<O: MibObject> Agent<O> {
             world,
             buffer,
         } = self;
-        match answer(alloc, registry, world, &request, buffer)? {
+        let room = UnrestoredRoom::reserved(alloc)?;
+        match answer(alloc, registry, world, &request, buffer, room)? {
             Answered::Reply(length, _, _) => Ok(length),
             Answered::NoReply(_) => Err(wrong()),
         }

@@ -1,5 +1,5 @@
 -- What an answered request came to is its step.
-use Rattle.std.proofs.Common.{◌≡◌, ◌≢◌, ◌∙◌, ◌<◌, arith, length, ℕ, false, List, [], Some, None, Result, Ok, Err, OnErr, ap, refl, sym, subst}
+use Rattle.std.proofs.Common.{◌≡◌, ◌≢◌, ◌∙◌, ◌<◌, arith, length, ℕ, Bool, true, false, List, [], Some, None, Result, Ok, Err, OnErr, ap, refl, sym, subst}
 use Rattle.std.specs.Prelude.{unwrap_or}
 use Rattle.std.specs.Result.{OnOk}
 use Rattle.std.specs.declared.alloc.AllocError.{AllocError}
@@ -12,13 +12,13 @@ use Rattle.decision.specs.declared.keys.AccessKey.{AccessKey}
 use Rattle.decision.specs.declared.choice.Decision.{Decision}
 use Rattle.decision.specs.declared.choice.Decision.TheVariants.{Drop, Empty, Refused, Allowed}
 use Rattle.setphase_core.specs.declared.world.World.{World}
-use Rattle.setphase_core.specs.Objects.{ObjectState}
+use Rattle.setphase_core.specs.Objects.{ObjectRow, ObjectState}
 use Rattle.setphase_core.specs.Registry.{rows_of}
 use Rattle.setphase_core.specs.Outcomes.{SetNotes}
 use Rattle.agent_core.specs.Buffered.{Buffered}
 use Rattle.agent_core.specs.Sets.{no_notes}
 use Rattle.agent_core.specs.Answers as answers
-use Rattle.agent_core.specs.Answers.{Outcome, dropped, replied, audit_in, Shown, shown_of, outcome_of, outcome_by, reading_step, allowed_step, step_by, IsAnswered, IsTold, IsShort, without_answer, notes_told}
+use Rattle.agent_core.specs.Answers.{Outcome, dropped, replied, audit_in, Shown, shown_of, outcome_of, outcome_by, reading_step, allowed_step, step_by, IsAnswered, IsTold, IsShort, MayFailInView, MayFailBy, MayHave, without_answer, notes_told}
 use Rattle.agent_core.specs.declared.answered.Answered.{Answered}
 use Rattle.agent_core.specs.declared.answered.Answered.TheVariants as answered
 use Rattle.history_core.specs.Steps.{Notes, step_of, octets_in, AreAtRest}
@@ -88,6 +88,49 @@ undo_none : (os : List ObjectState) (w : World) (r : Request) (n : SetNotes) (au
     → IsAnswered (answers.step_of os w r n).outcome (answered.NoReply audit) b → audit.unrestored ≡ []
 unfolding answers.step_of
 undo_none os w r n audit b h = undo_none_by os w r n (decision_on w.policy r) audit b h
+
+-- ---- no request but a Set undoes anything
+
+in_view_meets_none : (rows : List ObjectRow) (w : World) (view : List ℕ) (r : Request) (n : SetNotes) (kind : Kind)
+    → kind ≢ Set → MayFailInView rows w view r n kind → n ≡ no_notes
+in_view_meets_none rows w view r n Get reads may = may
+in_view_meets_none rows w view r n GetNext reads may = may
+in_view_meets_none rows w view r n GetBulk reads may = may
+in_view_meets_none rows w view r n Set reads may = absurd (reads refl)
+
+meets_none_by : (rows : List ObjectRow) (w : World) (r : Request) (n : SetNotes) (d : Decision) → r.kind ≢ Set → MayFailBy rows w r n d → n ≡ no_notes
+meets_none_by rows w r n (Drop cause) reads may = may
+meets_none_by rows w r n Empty reads may = may
+meets_none_by rows w r n (Refused why) reads may = may
+meets_none_by rows w r n (Allowed row view) reads may = in_view_meets_none rows w view r n r.kind reads may
+
+meets_none : (rows : List ObjectRow) (w : World) (r : Request) (n : SetNotes) → r.kind ≢ Set → MayHave rows w r n → n ≡ no_notes
+unfolding MayHave
+meets_none rows w r n reads may = meets_none_by rows w r n (decision_on w.policy r) reads may
+
+told_undoes_none : (os : List ObjectState) (w : World) (r : Request) (told : Answered) (b : Buffered)
+    → notes_told told ≡ no_notes → IsAnswered (answers.step_of os w r (notes_told told)).outcome told b
+    → (audit_told told).unrestored ≡ []
+told_undoes_none os w r (answered.Reply len audit failed) b none h = ap (λ (n : SetNotes). n.undos) none
+told_undoes_none os w r (answered.NoReply audit) b none h = undo_none os w r no_notes audit b h
+
+abbrev IsSet : Kind → Type 0
+IsSet Get = ⊥
+IsSet GetNext = ⊥
+IsSet GetBulk = ⊥
+IsSet Set = Unit {0}
+
+room_by : (kind : Kind) (room : Bool) → (kind ≡ Set → room ≡ true) → ((kind ≢ Set) → ⊥) → room ≡ true
+room_by Get room given other = absurd (other (λ e. subst IsSet (sym e) tt))
+room_by GetNext room given other = absurd (other (λ e. subst IsSet (sym e) tt))
+room_by GetBulk room given other = absurd (other (λ e. subst IsSet (sym e) tt))
+room_by Set room given other = given refl
+
+-- Where a setting could not be put back there is room for it.
+pub undone_has_room : (os : List ObjectState) (w : World) (r : Request) (told : Answered) (b : Buffered) (later : World) (os_later : List ObjectState) (room : Bool)
+    → IsTold os w r told b later os_later → (r.kind ≡ Set → room ≡ true) → (audit_told told).unrestored ≢ [] → room ≡ true
+undone_has_room os w r told b later os_later room h given some =
+    room_by r.kind room given (λ reads. some (told_undoes_none os w r told b (meets_none (rows_of os) w r (notes_told told) reads h.may) h.done.answer))
 
 -- ---- what an answered request came to
 

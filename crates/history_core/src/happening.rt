@@ -1,5 +1,5 @@
 //! What an event does to a world and the objects that show it.
-ghost use Rattle.std.specs.Prelude.{◌≡◌, ◌≢◌, ◌<◌, ◌≤◌, None, [], List, length, IfOk, OnOk, OnErr};
+ghost use Rattle.std.specs.Prelude.{◌≡◌, ◌≢◌, ◌<◌, ◌≤◌, None, [], true, List, length, IfOk, OnOk, OnErr};
 ghost use Rattle.std.specs.Option.{ForSome};
 ghost use Rattle.message_core.specs.Encodable.{AreEncodable};
 ghost use Rattle.message_core.specs.declared.limits.TheConstants.{INLINE_OCTETS};
@@ -10,7 +10,7 @@ ghost use Rattle.history_core.specs.Happening.{quiet, audit_told, happened_by, H
 use crate::egress::Egress;
 use crate::event::Event;
 use agent_core::{Answered, Buffer, answer, short_reply};
-use audit_core::Audit;
+use audit_core::{Audit, UnrestoredRoom};
 use bridge_core::Bridge;
 use decision::{Cause, Decision, decide};
 use frame_core::FrameIn;
@@ -120,6 +120,15 @@ struct Rooms {
     told: Room,
 }
 
+// What is reserved for a request: room for its reply and its copy, and for the settings that could
+// not be put back in its audit and in the copy of that.
+#[derive(Drop)]
+struct Reserved {
+    replies: Option<Rooms>,
+    entered: UnrestoredRoom,
+    told: UnrestoredRoom,
+}
+
 impl Rooms {
     // Room for any reply, twice.
     fn reserved(alloc: Global) -> Result<Rooms, AllocError>
@@ -143,16 +152,27 @@ impl Rooms {
     }
 }
 
-// What is reserved for the reply to a request of this kind: rooms for any reply to a Set, since what
-// that writes cannot be taken back where there is then no memory.
-fn rooms_for(alloc: Global, kind: Kind) -> Result<Option<Rooms>, AllocError>
-    ensures set { IfOk result (λ rooms. rooms ≡ None → kind ≢ Kind.Set) }
-    ensures entered { IfOk result (λ rooms. ForSome rooms (λ r. MAX_REPLY ≤ r.entered)) }
-    ensures told { IfOk result (λ rooms. ForSome rooms (λ r. MAX_REPLY ≤ r.told)) }
+// What is reserved for a request of this kind: for a Set rooms for any reply and for any settings,
+// since what that writes cannot be taken back where there is then no memory.
+fn reserved_for(alloc: Global, kind: Kind) -> Result<Reserved, AllocError>
+    ensures set { IfOk result (λ reserved. reserved.replies ≡ None → kind ≢ Kind.Set) }
+    ensures entered { IfOk result (λ reserved.
+        ForSome reserved.replies (λ r. MAX_REPLY ≤ r.entered)) }
+    ensures told { IfOk result (λ reserved. ForSome reserved.replies (λ r. MAX_REPLY ≤ r.told)) }
+    ensures entered_keys { IfOk result (λ reserved. kind ≡ Kind.Set → reserved.entered ≡ true) }
+    ensures told_keys { IfOk result (λ reserved. kind ≡ Kind.Set → reserved.told ≡ true) }
 {
     match kind {
-        Kind::Set => Ok(Some(Rooms::reserved(alloc)?)),
-        Kind::Get | Kind::GetNext | Kind::GetBulk => Ok(None),
+        Kind::Set => Ok(Reserved {
+            replies: Some(Rooms::reserved(alloc)?),
+            entered: UnrestoredRoom::reserved(alloc)?,
+            told: UnrestoredRoom::reserved(alloc)?,
+        }),
+        Kind::Get | Kind::GetNext | Kind::GetBulk => Ok(Reserved {
+            replies: None,
+            entered: UnrestoredRoom::none(),
+            told: UnrestoredRoom::none(),
+        }),
     }
 }
 
@@ -176,14 +196,17 @@ fn replies_in(
     }
 }
 
-// What an answered request came to, where these octets are its reply, if it has one.
+// What an answered request came to, where these octets are its reply, if it has one, and the settings
+// that could not be put back are copied into this room.
 fn come_to(
     alloc: Global,
     answered: Answered,
     replies: (Octets, Octets),
+    room: UnrestoredRoom,
     happened: &mut Happened,
 ) -> Result<(), AllocError>
     requires replies { replies.0 ≡ replies.1 }
+    requires room { (audit_told answered).unrestored ≢ [] → room ≡ true }
     requires quiet { happened.old ≡ quiet }
     ensures happened { OnOk result (happened.new ≡ happened_by answered replies.0) }
     ensures denied { OnErr result ((audit_told answered).denied ≢ []) }
@@ -191,14 +214,14 @@ fn come_to(
     match answered {
         Answered::Reply(_, audit, failed) => {
             let (reply, told_reply) = replies;
-            happened.told_audit = Some(audit.try_copy(alloc)?);
+            happened.told_audit = Some(audit.try_copy_in(alloc, room)?);
             happened.audit = Some(audit);
             happened.failed = failed;
             happened.reply = Some(reply);
             happened.told_reply = Some(told_reply);
         }
         Answered::NoReply(audit) => {
-            happened.told_audit = Some(audit.try_copy(alloc)?);
+            happened.told_audit = Some(audit.try_copy_in(alloc, room)?);
             happened.audit = Some(audit);
         }
     }
@@ -223,10 +246,14 @@ fn answer_request<O: MibObject>(
     ensures world { OnErr result (world.new ≡ world.old) }
     ensures objects { OnErr result (registry.new ≡ registry.old) }
 {
-    let rooms = rooms_for(alloc, request.kind)?;
-    let answered = answer(alloc, registry, world, request, buffer)?;
+    let Reserved {
+        replies: rooms,
+        entered,
+        told,
+    } = reserved_for(alloc, request.kind)?;
+    let answered = answer(alloc, registry, world, request, buffer, entered)?;
     let replies = replies_in(alloc, rooms, buffer.reply())?;
-    come_to(alloc, answered, replies, happened)
+    come_to(alloc, answered, replies, told, happened)
 }
 
 /// An event happens. What it came to is put into a place that is lent for it, and quiet, so that it

@@ -1,0 +1,14 @@
+-- The settings that a Set left at their new values, and room for them, as they lie in memory.
+use Rattle.std.specs.Prelude.{Box, Bool, true, false, List, [], Option, Some, None}
+use Rattle.std.specs.declared.alloc.Global.{Global}
+use Rattle.setting_keys.specs.declared.SettingKey.{SettingKey}
+
+-- the keys that lie there, none where nothing does
+abbrev pub keys_in : Option (Box (List SettingKey) Global) → List SettingKey
+keys_in None = []
+keys_in (Some keys) = keys.value
+
+-- whether there is room
+abbrev pub is_room : Option (Box (List SettingKey) Global) → Bool
+is_room None = false
+is_room (Some keys) = true
