@@ -26,7 +26,8 @@ fn denied_audit(alloc: Global, asked: Asked, subtree: &str) -> Result<Audit, Fai
 // The line of such an audit, and that of its copy.
 fn denied_lines(alloc: Global, asked: Asked, subtree: &str) -> Result<(Vec<u8>, Vec<u8>), Fail> {
     let audit = denied_audit(alloc, asked, subtree)?;
-    let copy = audit.try_copy_in(alloc, UnrestoredRoom::none())?;
+    let room = UnrestoredRoom::reserved(alloc)?;
+    let copy = audit.try_copy_in(alloc, room)?;
     Ok((line_of(alloc, &audit)?, line_of(alloc, &copy)?))
 }
 
