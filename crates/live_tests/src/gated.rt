@@ -20,11 +20,21 @@ const TURNS: u32 = 1000;
 const TURN_MILLIS: u64 = 10;
 
 // Holds one worker ahead of its call until a call is answered, for 1,000 turns of 10 milliseconds.
+// It counts the calls that are to begin and those that are answered, and those that it let begin when
+// its turns were over.
 #[derive(Drop)]
 struct HoldGate<C> {
     held: usize,
+    asked: Mutex<u64>,
     answered: Mutex<u64>,
+    late: Mutex<u64>,
     clock: C,
+}
+
+// One more.
+fn count<R: Wait>(rt: &R, counter: &Mutex<u64>) {
+    let mut counter = counter.lock(rt);
+    *counter = counter.saturating_add(1);
 }
 
 impl<C: Clock> HoldGate<C> {
@@ -36,6 +46,7 @@ impl<C: Clock> HoldGate<C> {
 
 impl<C: Clock> Gate for HoldGate<C> {
     fn before<R: Wait>(&self, rt: &R, worker: usize) {
+        count(rt, &self.asked);
         if worker != self.held {
             return;
         }
@@ -45,11 +56,11 @@ impl<C: Clock> Gate for HoldGate<C> {
             }
             thread::sleep(&self.clock, Duration::from_millis(TURN_MILLIS));
         }
+        count(rt, &self.late);
     }
 
     fn after<R: Wait>(&self, rt: &R, _worker: usize, _number: u64) {
-        let mut answered = self.answered.lock(rt);
-        *answered = answered.saturating_add(1);
+        count(rt, &self.answered);
     }
 }
 
@@ -62,17 +73,23 @@ fn two_workers(alloc: Global) -> Result<Lines<MemoryWire, CountPace>, Fail> {
 }
 
 // How many replies the worker that asks sends while a gate holds the other, or itself, how many of
-// them tell this value, and how many entries there are.
+// them tell this value, and how many entries there are; and how many calls the gate was asked for,
+// and how many it let begin late.
+type Read = ((usize, usize, u64), (u64, u64));
+
+// What is read so.
 fn reads<C: Clock + Sync + Drop, R: Threads + Wait + Sync>(
     rt: &R,
     alloc: Global,
     clock: C,
     held: usize,
     value: i32,
-) -> Result<(usize, usize, u64), Fail> {
+) -> Result<Read, Fail> {
     let gate = HoldGate {
         held,
+        asked: Mutex::new(0),
         answered: Mutex::new(0),
+        late: Mutex::new(0),
         clock,
     };
     let lines = two_workers(alloc)?;
@@ -81,7 +98,8 @@ fn reads<C: Clock + Sync + Drop, R: Threads + Wait + Sync>(
     let octets = octets_of(alloc, &of("admin", reply(&[(PRIORITY, Integer(value))])))?;
     let asking = lines.workers.get(1).ok_or("a worker")?;
     let told = count_of(asking.sent(), peer(MANAGER), &octets);
-    Ok((asking.sent().len(), told, entries))
+    let (asked, late) = (*gate.asked.lock(rt), *gate.late.lock(rt));
+    Ok(((asking.sent().len(), told, entries), (asked, late)))
 }
 
 #[test]
@@ -92,7 +110,7 @@ fn a_get_is_answered_beside_a_set(rt: HostRuntime) -> Result<(), Fail> {
     ] {
         assert_eq!(rt;
             reads(&rt, rt.alloc(), &rt, held, value)?,
-            (1, 1, 4),
+            ((1, 1, 4), (2, 0)),
             "{what}"
         );
     }
