@@ -31,12 +31,13 @@ Lines of a script, from standard input:
   driver N..        the ports' devices fail at these of their next 64 calls, and at no other
   any other line    badline
 
-serve wants the table serve in FILE, and listen and peer of each port. One socket takes the requests, and
-one of each port its frames; each thread that answers and each port makes as many receives as rounds says,
-of at most a second each, and the clock as many seconds. When all are done, what was done is logged on
-standard error: entries E requests Q older O drops D. With --forever each begins its rounds anew when they
-are done. That line comes each time the clock is done, and one where a worker, a port or the clock ends, with
-its reason; the others go on. When all have ended, the status is 1 if one failed, else 0.
+serve wants the table serve in FILE, and listen and peer of each port: else FILE is refused, status 2.
+One socket takes the requests, and one of each port its frames; each thread that answers and each port makes
+as many receives as rounds says, of at most a second each, and the clock as many seconds. When all are done,
+what was done is logged on standard error: entries E requests Q older O drops D. With --forever each begins
+its rounds anew when they are done. That line comes each time the clock is done, and one where a worker, a
+port or the clock ends, with its reason; the others go on. When all have ended, the status is 1 if one failed,
+else 0.
 
 Without words the built-in configuration runs: address 02000000000A, two ports, the communities public and admin.
 

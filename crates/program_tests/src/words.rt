@@ -99,7 +99,7 @@ fn tells_what_is_wrong_with_words(rt: HostRuntime) -> Result<(), Fail> {
 }
 
 /// Lines of the help, whole.
-const HELP_LINES: [&str; 16] = [
+const HELP_LINES: [&str; 17] = [
     "  agentd script --config FILE   runs it by the configuration in FILE, a TOML document",
     "  agentd check --config FILE    tells whether FILE is a configuration, and if not, what would be right",
     "  agentd serve --config FILE    serves the agent of FILE over UDP: its requests and its ports' frames",
@@ -107,7 +107,8 @@ const HELP_LINES: [&str; 16] = [
     "                                the same without an end; --forever may also stand last",
     "  agentd --help                 tells this, as --help behind script, check or serve does; also -h",
     "--config=FILE in one word is the same as --config FILE.",
-    "its reason; the others go on. When all have ended, the status is 1 if one failed, else 0.",
+    "serve wants the table serve in FILE, and listen and peer of each port: else FILE is refused, status 2.",
+    "port or the clock ends, with its reason; the others go on. When all have ended, the status is 1 if one failed,",
     "                    badframe and the cause",
     "  link P up         the link of port P goes up: the BPDUs that are sent",
     "  link P down       the link of port P goes down: the same",
