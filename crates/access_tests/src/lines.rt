@@ -45,7 +45,7 @@ fn is_added(alloc: Global, audit: &Audit, line: &str) -> Result<bool, Fail> {
     Ok(out.strip_prefix(b"reply\n") == Some(line.as_bytes()))
 }
 
-// A table: over forty lines.
+// A table: longer than other functions.
 #[test]
 fn names_what_decides(rt: HostRuntime) -> Result<(), Fail> {
     let rows = [

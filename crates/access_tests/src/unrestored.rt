@@ -48,7 +48,7 @@ const FOUR: [Key; 4] = [
     Key::Bridge(BridgeKey::Hello),
 ];
 
-// A table: over forty lines.
+// A table: longer than other functions.
 #[test]
 fn names_settings_that_are_not_restored(rt: HostRuntime) -> Result<(), Fail> {
     let rows: [(Option<&str>, &[Key], &str); 15] = [

@@ -44,7 +44,8 @@ use vacm_core::Name;
 /// How often a GetBulk looks for a successor is said by `get_bulk`, and by no clause here.
 ///
 /// The caller hands in a request whose names and OBJECT IDENTIFIER values have an encoding, as
-/// `decode` gives it, and for a Set room for the settings that may not be undone.
+/// `decode` gives it, and for a Set room for the settings that a failing device may keep from being
+/// undone.
 ///
 /// # Errors
 /// Only memory can fail: then the buffer is empty, the world is as before, and the request is one

@@ -4,8 +4,9 @@
 //! # Entry points
 //! [`answer`] is one step of a request over a `Registry` of managed objects and the `World` that
 //! they show: its reply and what the ports send stand in a [`Buffer`], its audit is given, a drop
-//! is counted, a Set changes all its variables or none but what could not be undone. For time
-//! alone, objects that the view is seen to hide whole are passed over.
+//! is counted, a Set changes all its variables or none but what could not be undone, and is handed
+//! the room in which its audit names that. For time alone, objects that the view is seen to hide
+//! whole are passed over.
 //! [`short_reply`] writes the reply for a want of memory, and takes none. Under any [`View`]
 //! [`get`] answers from any [`Source`], and [`get_next`] and [`get_bulk`] from any [`Successors`],
 //! of which they can ask nothing but the next instance: each such look is a step. [`Answered`] is

@@ -6,8 +6,8 @@
 //! [`audit_line`] and [`write_audit`] write its line. `Audit::try_copy_in` is a copy, which takes
 //! memory only for denied variable bindings. The denied bindings are [`DeniedBindings`], a
 //! list of [`Denied`], each with the [`FamilyKey`] of the family that excludes its name, where one
-//! does. The settings that a Set could not put back are [`Unrestored`]; they lie in an
-//! [`UnrestoredRoom`], which is reserved before the Set.
+//! does. The settings that a Set could not put back are [`Unrestored`]: an [`UnrestoredRoom`], which
+//! is reserved before the Set, is filled with them.
 //!
 //! # Definitions
 //! `specs/Text.antt`: the line, to the octet; `specs/Keys.antt`: the key of a family row;

@@ -535,7 +535,7 @@ const OTHERS: &str = "contexts = []\ngroup = []\naccess = []\nfamily = []\n";
 
 const SLOW: &str = "[[port]]\nifindex = 1\nspeed = 40\nfull = true\n";
 
-// A table: over forty lines.
+// A table: longer than other functions.
 #[test]
 fn faults_are_told(rt: HostRuntime) -> Result<(), Fail> {
     for (parts, told) in [

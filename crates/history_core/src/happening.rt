@@ -120,8 +120,8 @@ struct Rooms {
     told: Room,
 }
 
-// What is reserved for a request: room for its reply and its copy, and for the settings that could
-// not be put back in its audit and in the copy of that.
+// What is reserved for a Set, and for no other request: room for its reply and its copy, and for the
+// settings that could not be put back, in its audit and in the copy of that.
 #[derive(Drop)]
 struct Reserved {
     replies: Option<Rooms>,
@@ -228,8 +228,9 @@ fn come_to(
     Ok(())
 }
 
-// A request comes. Want of memory for its reply or its audit changes nothing: of a Set the room for
-// its reply is there first, and one that is dropped is counted, and has no reply that takes memory.
+// A request comes. Want of memory for its reply or its audit changes nothing: of a Set the rooms for
+// its reply and for what could not be undone are there first, and one that is dropped is counted, and
+// has no reply that takes memory.
 fn answer_request<O: MibObject>(
     alloc: Global,
     registry: &mut Registry<O>,

@@ -6,7 +6,9 @@ use Rattle.audit_core.specs.declared.audit.Audit.{Audit}
 use Rattle.decision.specs.declared.choice.Cause.{Cause}
 use Rattle.setphase_core.specs.declared.world.World.{World}
 use Rattle.agent_core.specs.Buffered.{Buffered}
-use Rattle.history_core.specs.Steps.{Notes, cause_of}
+use Rattle.setphase_core.specs.Registry.{rows_of}
+use Rattle.history_core.specs.Steps.{Notes, AreAtRest, cause_of}
+use Rattle.history_core.proofs.Stepping.{step_rests}
 use Rattle.history_core.specs.History.{History, next_of, history_at_new_base, next_entry, with_entry, IsEntered, Applies}
 use Rattle.history_core.specs.declared.applied.Applied.{Applied}
 use Rattle.history_core.specs.declared.applied.Applied.TheVariants.{Done, Dropped, Short, HistoryFull}
@@ -16,9 +18,9 @@ use Rattle.history_core.specs.declared.limits.TheConstants.{MAX_ENTRIES}
 use Rattle.history_core.specs.declared.receipt.Receipt.{Receipt}
 use Rattle.live_lock.specs.Sharing.{IsHeld, entry_count, IsDroppable, IsToldOf}
 
-after-held_by : (start h : History) (n : ℕ) (e : Event) (notes : Notes) (b : Bool) → (length h.entries == MAX_ENTRIES) ≡ b → IsHeld start h n
+after-held_by : (start h : History) (n : ℕ) (e : Event) (notes : Notes) (b : Bool) → (length h.entries == MAX_ENTRIES) ≡ b → AreAtRest h.objects → IsHeld start h n
     → IsHeld start (with_entry (if b then history_at_new_base h else h) e notes) (n + 1)
-after-held_by start h n e notes true test held =
+after-held_by start h n e notes true test rest held =
     let full : length h.entries ≡ MAX_ENTRIES = grind (arith, nat_tests) in
     let count = held.counted in
     let o = held.onward in
@@ -27,8 +29,9 @@ after-held_by start h n e notes true test held =
       first = held.first;
       onward = omega arith;
       continues = λ same. absurd (omega arith);
+      rows = (step_rests h.objects h.world e notes rest).rows ∙ held.rows;
     }
-after-held_by start h n e notes false test held =
+after-held_by start h n e notes false test rest held =
     record {
       counted = omega (arith, held.counted, length-append h.entries (next_entry h e notes ∷ []));
       first = held.first;
@@ -38,13 +41,14 @@ after-held_by start h n e notes false test held =
             c.0,
             (c.1.0 ++ next_entry h e notes ∷ [], ap (λ es. es ++ next_entry h e notes ∷ []) c.1.1 ∙ append_assoc start.entries c.1.0 (next_entry h e notes ∷ [])),
           );
+      rows = (step_rests h.objects h.world e notes rest).rows ∙ held.rows;
     }
 
 entered-held : (start h later : History) (n m : ℕ) (e : Event) (r : Receipt) (audit : Option Audit) (b : Buffered)
-    → IsHeld start h n → IsEntered h e r audit later b → m ≡ n + 1 → IsHeld start later m
-entered-held start h later n m e r audit b held did count =
+    → AreAtRest h.objects → IsHeld start h n → IsEntered h e r audit later b → m ≡ n + 1 → IsHeld start later m
+entered-held start h later n m e r audit b rest held did count =
     subst (λ (k : ℕ). IsHeld start later k) (sym count)
-    (subst (λ (x : History). IsHeld start x (n + 1)) (sym did.after_is) (after-held_by start h n e did.notes (length h.entries == MAX_ENTRIES) refl held))
+    (subst (λ (x : History). IsHeld start x (n + 1)) (sym did.after_is) (after-held_by start h n e did.notes (length h.entries == MAX_ENTRIES) refl rest held))
 
 same-held : (start h later : History) (n m : ℕ) → IsHeld start h n → later ≡ h → m ≡ n + 0 → IsHeld start later m
 same-held start h later n m held same count =
@@ -53,11 +57,11 @@ same-held start h later n m held same count =
 
 -- an event, whatever became of it
 pub applied-held : (start h later : History) (n m : ℕ) (e : Event) (a : Applied) (b : Buffered)
-    → IsHeld start h n → Applies h e a later b → m ≡ n + entry_count a → IsHeld start later m
-applied-held start h later n m e (Done r audit) b held did count = entered-held start h later n m e r audit b held did.2 count
-applied-held start h later n m e (Dropped r cause audit) b held did count = entered-held start h later n m e r (Some audit) b held did.2 count
-applied-held start h later n m e (Short back) b held did count = same-held start h later n m held did.3 count
-applied-held start h later n m e (HistoryFull back) b held did count = same-held start h later n m held did.2 count
+    → AreAtRest h.objects → IsHeld start h n → Applies h e a later b → m ≡ n + entry_count a → IsHeld start later m
+applied-held start h later n m e (Done r audit) b rest held did count = entered-held start h later n m e r audit b rest held did.2 count
+applied-held start h later n m e (Dropped r cause audit) b rest held did count = entered-held start h later n m e r (Some audit) b rest held did.2 count
+applied-held start h later n m e (Short back) b rest held did count = same-held start h later n m held did.3 count
+applied-held start h later n m e (HistoryFull back) b rest held did count = same-held start h later n m held did.2 count
 
 droppable : (w : World) (e : Event) (cause : Cause) → cause_of w e ≡ Some cause → IsDroppable e
 droppable w (event.Frame port frame) cause is = cc
@@ -86,4 +90,5 @@ start-held start h n same none =
       first = ap (λ (x : History). x.first) same;
       onward = omega arith;
       continues = λ still. (ap (λ (x : History). x.base) same, ([], ap (λ (x : History). x.entries) same ∙ sym (append-nil start.entries)));
+      rows = ap (λ (x : History). rows_of x.objects) same;
     }

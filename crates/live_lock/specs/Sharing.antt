@@ -9,6 +9,7 @@ use Rattle.history_core.specs.declared.entry.Entry.{Entry}
 use Rattle.history_core.specs.declared.event.Event.{Event}
 use Rattle.history_core.specs.declared.event.Event.TheVariants as event
 use Rattle.setphase_core.specs.Opening.{opening_world}
+use Rattle.setphase_core.specs.Registry.{rows_of}
 
 -- Where a run starts that no call picked: nothing is served, and nothing has happened.
 abbrev pub nowhere : History
@@ -25,13 +26,14 @@ Continues start h = h.base_number ≡ start.base_number →
     (h.base ≡ start.base) × ((more : List Entry) × (h.entries ≡ start.entries ++ more))
 
 -- A history that goes on from another by so many entries: the number of its first entry of all is
--- the same, the number of its next is past that of the other by the count, and its base never goes
--- back.
+-- the same, the number of its next is past that of the other by the count, its base never goes back,
+-- and its objects are the other's: they have the same rows.
 pub record IsHeld (start h : History) (count : ℕ) : Type 0 where
   pub counted : next_of h ≡ next_of start + count
   pub first : h.first ≡ start.first
   pub onward : start.base_number ≤ h.base_number
   pub continues : Continues start h
+  pub rows : rows_of h.objects ≡ rows_of start.objects
 
 -- ---- what a thread is told
 

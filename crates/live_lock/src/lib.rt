@@ -8,8 +8,9 @@
 //! shares count what each thread entered.
 //!
 //! # Definitions
-//! `specs/Sharing.antt`: a history that goes on from another by so many entries; an event that took
-//! its place in it; and what an answer tells of an event, whatever the history was;
+//! `specs/Sharing.antt`: a history that goes on from another by so many entries, over the same
+//! objects; an event that took its place in it; and what an answer tells of an event, whatever the
+//! history was;
 //! `specs/Counting.antt`: how far a shared history is past its start.
 //!
 //! # Laws

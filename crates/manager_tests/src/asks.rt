@@ -45,7 +45,7 @@ fn asked(alloc: Global, heard: &[Heard], tries: u32) -> Result<End, Fail> {
 
 const REFUSAL: ManagerFault = ManagerFault::Error(ErrorStatus::AuthorizationError, 0);
 
-// A table: over forty lines.
+// A table: longer than other functions.
 #[test]
 fn asks_end_by_what_their_tries_hear(rt: HostRuntime) -> Result<(), Fail> {
     let id_2 = with_id(TWO_PORTS, 2);

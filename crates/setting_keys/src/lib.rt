@@ -57,8 +57,8 @@ impl Default for SettingValue {
 /// The most keys that a list of them has: as many as a Set has variables.
 pub const MAX_KEYS: usize = 64;
 
-// The parts of a key, in an order in which they take four octets and not eight: lists of keys are
-// moved about with each audit.
+// The parts of a key, in an order in which they take four octets and not eight: a list of 64 is moved
+// about while a Set is made, and room for two is reserved for each.
 #[derive(Clone, Copy)]
 enum Parts {
     Bridge(BridgeKey),

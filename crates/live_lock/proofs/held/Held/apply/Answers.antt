@@ -4,7 +4,7 @@ use Rattle.live_lock.proofs.held.Held.apply.Goals as goal
 
 pub invariant_of-self : goal.invariant_of-self
 invariant_of-self g c = (
-  applied-held g.L.Run.start _ _ c.self.inside.book.total _ c.args.event c.apply_told-applied.result _ c.self.invariant.0 c.apply_told-applied.ensures (c.add.ensures.total ∙ ap (λ n. c.self.inside.book.total + n) c.entries_of.ensures),
+  applied-held g.L.Run.start _ _ c.self.inside.book.total _ c.args.event c.apply_told-applied.result _ c.legal.ensures.at_rest c.self.invariant.0 c.apply_told-applied.ensures (c.add.ensures.total ∙ ap (λ n. c.self.inside.book.total + n) c.entries_of.ensures),
   c.self.invariant.1,
   c.self.invariant.2,
 )
