@@ -1,4 +1,4 @@
-//! Tests of whole runs: lines over wires in memory, on one history.
+//! Tests of whole runs over wires in memory, and of a policy that comes to a history.
 //!
 //! # Entry points
 //! None.
@@ -17,6 +17,10 @@
 mod failing;
 #[cfg(test)]
 mod gated;
+#[cfg(test)]
+mod policies;
+#[cfg(test)]
+mod replayed;
 #[cfg(test)]
 mod rows;
 #[cfg(test)]

@@ -1,0 +1,102 @@
+//! A policy that comes to a history under its lock, and what is answered by it from then on.
+ghost use Rattle.std.specs.Prelude.{◌≡◌, ◌<◌, IfOk};
+ghost use Rattle.message_core.specs.Encodable.{AreEncodable};
+
+use crate::support::{Shown, policed};
+use agent_core::Buffer;
+use fixtures::message::Held::{Integer, NoObject, Null};
+use fixtures::message::{Message, get, octets_of, reply};
+use fixtures::names::STATE_2;
+use fixtures::policies::{MASKED, WHOLE_BRIDGE, policy_of};
+use history_core::{Applied, Kept, ReceiptEvent};
+use live_lock::{Live, Run};
+use message_core::{Request, decode};
+use std::alloc::Global;
+use std::marker::Brand;
+use std::sync::Wait;
+use std::sync::ledger::{Blank, Share};
+use std::test::Fail;
+
+// The request of a message.
+fn request_of(alloc: Global, message: &Message<'_>) -> Result<Request, Fail>
+    ensures { IfOk result (λ request. AreEncodable request.bindings) }
+{
+    let octets = octets_of(alloc, message)?;
+    match decode(alloc, &octets) {
+        Ok(request) => Ok(request),
+        Err(_) => Err(Fail::from("a request")),
+    }
+}
+
+// Whether a Get of the state of port 2 is replied to with this.
+fn tells<L: Run, R: Wait>(
+    rt: &R,
+    alloc: Global,
+    live: &Live<Shown, L>,
+    share: &mut Share<L>,
+    state: Message<'_>,
+) -> Result<bool, Fail>
+    requires { 0 < share.old.parts }
+    ensures { share.new.parts ≡ share.old.parts }
+{
+    let mut buffer = Buffer::new();
+    let request = request_of(alloc, &get(&[(STATE_2, Null)]))?;
+    let awaited = octets_of(alloc, &state)?;
+    let _ = live.request(rt, alloc, share, request, &mut buffer);
+    Ok(buffer.reply() == awaited.as_slice())
+}
+
+// The number of the entry of a policy that hides the state of port 2, and whose receipt tells of a
+// policy.
+fn put_policy<L: Run, R: Wait>(
+    rt: &R,
+    alloc: Global,
+    live: &Live<Shown, L>,
+    share: &mut Share<L>,
+) -> Result<Option<u64>, Fail>
+    requires { 0 < share.old.parts }
+    ensures { share.new.parts ≡ share.old.parts }
+{
+    let mut buffer = Buffer::new();
+    let policy = policy_of(alloc, MASKED)?;
+    match live.policy(rt, alloc, share, policy, &mut buffer) {
+        Applied::Done(receipt, None) if matches!(receipt.event, ReceiptEvent::Policy) => {
+            Ok(Some(receipt.number))
+        }
+        _ => Ok(None),
+    }
+}
+
+// Whether a Get of the state of port 2 tells it ahead of a policy that hides it, the number of that
+// policy's entry, and whether the same Get tells no such object behind it.
+fn told_around<L: Run, R: Wait>(
+    rt: &R,
+    alloc: Global,
+    kept: Kept<Shown>,
+    blank: Blank,
+) -> Result<(bool, Option<u64>, bool), Fail>
+    requires name { blank.name ≡ L.name }
+    requires all { blank.parts ≡ L.parts }
+    requires some { 0 < blank.parts }
+    requires start { kept ≡ L.start }
+{
+    let (live, mut share) = Live::<Shown, L>::new(kept, blank);
+    let shown = reply(&[(STATE_2, Integer(1))]);
+    let hidden = reply(&[(STATE_2, NoObject)]);
+    let ahead = tells(rt, alloc, &live, &mut share, shown)?;
+    let number = put_policy(rt, alloc, &live, &mut share)?;
+    let behind = tells(rt, alloc, &live, &mut share, hidden)?;
+    Ok((ahead, number, behind))
+}
+
+// The same, of a history in which nothing has happened.
+fn told<R: Wait>(rt: &R, alloc: Global) -> Result<(bool, Option<u64>, bool), Fail> {
+    let kept = policed(alloc, WHOLE_BRIDGE)?;
+    told_around::<Brand, R>(rt, alloc, kept, Blank::new(1))
+}
+
+#[test]
+fn a_policy_judges_what_comes_behind_it(rt: HostRuntime) -> Result<(), Fail> {
+    assert_eq!(rt; told(&rt, rt.alloc())?, (true, Some(1), true));
+    Ok(())
+}

@@ -1,0 +1,162 @@
+//! A run whose receipts are replayed one after another, over a history of an equal world.
+ghost use Rattle.std.specs.Prelude.{IfOk};
+ghost use Rattle.message_core.specs.Encodable.{AreEncodable};
+ghost use Rattle.history_core.specs.Steps.{IsEncodable};
+
+use crate::support::{FLOODED, Shown, asking, carrying, lines_of, of_edges, run};
+use agent_core::Buffer;
+use fixtures::message::Held::{Integer, Null};
+use fixtures::message::{Message, Pdu, octets_of};
+use fixtures::names::{LEARNED_PORT, PRIORITY, SINCE, STATE_1};
+use history_core::{Applied, Event, Kept, Receipt, ReceiptEvent};
+use live_agent::{Item, OpenGate, Ran};
+use live_run::Runs;
+use message_core::{Request, decode};
+use std::alloc::Global;
+use std::sync::Wait;
+use std::test::Fail;
+use std::thread::Threads;
+
+const SET: Message<'static> = Message {
+    community: "admin",
+    pdu: Pdu::Set,
+    id: 1,
+    first: 0,
+    second: 0,
+    bindings: &[(PRIORITY, Integer(8192))],
+};
+
+const GET: Message<'static> = Message {
+    pdu: Pdu::Get,
+    bindings: &[(PRIORITY, Null), (SINCE, Null), (STATE_1, Null)],
+    ..SET
+};
+
+const NEXT: Message<'static> = Message {
+    pdu: Pdu::GetNext,
+    id: 2,
+    bindings: &[(LEARNED_PORT, Null), (PRIORITY, Null)],
+    ..SET
+};
+
+// All that is asked of a run.
+const ASKED: &[Message<'static>] = &[SET, GET, NEXT];
+
+// The request among those asked of which a receipt tells.
+fn asked(alloc: Global, told: &Request) -> Result<Request, Fail>
+    ensures { IfOk result (λ request. AreEncodable request.bindings) }
+{
+    for message in ASKED {
+        let octets = octets_of(alloc, message)?;
+        match decode(alloc, &octets) {
+            Ok(request) if request.same(told) => return Ok(request),
+            _ => {}
+        }
+    }
+    Err(Fail::from("a request that was asked"))
+}
+
+// The event of which a receipt tells.
+fn event_of(alloc: Global, told: &ReceiptEvent) -> Result<Event, Fail>
+    ensures { IfOk result (λ event. IsEncodable event) }
+{
+    match told {
+        ReceiptEvent::Frame { port, frame } => Ok(Event::Frame {
+            port: *port,
+            frame: *frame,
+        }),
+        ReceiptEvent::Tick => Ok(Event::Tick),
+        ReceiptEvent::Link { port, up } => Ok(Event::Link {
+            port: *port,
+            up: *up,
+        }),
+        ReceiptEvent::Request(request) => Ok(Event::Request(asked(alloc, request)?)),
+        ReceiptEvent::Policy => Err(Fail::from("an event that a line has")),
+    }
+}
+
+// The receipt of this number in what a line left.
+fn receipt_in(ran: &Ran, number: u64) -> Option<&Receipt> {
+    for item in ran.trace.as_slice() {
+        match item {
+            Item::Entered(receipt) if receipt.number == number => return Some(receipt),
+            _ => {}
+        }
+    }
+    None
+}
+
+// The receipt of this number in what some lines left.
+fn receipt_among(runs: &[Ran], number: u64) -> Option<&Receipt> {
+    for ran in runs {
+        if let Some(receipt) = receipt_in(ran, number) {
+            return Some(receipt);
+        }
+    }
+    None
+}
+
+// The receipt of this number in a run.
+fn receipt_at(runs: &Runs, number: u64) -> Option<&Receipt> {
+    receipt_among(runs.workers.as_slice(), number)
+        .or_else(|| receipt_among(runs.ports.as_slice(), number))
+        .or_else(|| receipt_in(&runs.ticker, number))
+}
+
+// Whether the event of a receipt gives the same receipt where it happens to this history.
+fn stands(alloc: Global, history: &mut Kept<Shown>, told: &Receipt) -> Result<bool, Fail> {
+    let mut buffer = Buffer::new();
+    let event = event_of(alloc, &told.event)?;
+    match history.apply(alloc, event, &mut buffer) {
+        Applied::Done(receipt, _) => Ok(receipt.same(told)),
+        _ => Ok(false),
+    }
+}
+
+// How many receipts of a run stand, one after another, in a history of an equal world, of so many
+// entries; and that history.
+fn replayed(alloc: Global, runs: &Runs, entries: u64) -> Result<(u64, Kept<Shown>), Fail> {
+    let mut history = of_edges(alloc)?;
+    for number in 0..entries {
+        let told = receipt_at(runs, number).ok_or("a receipt")?;
+        if !stands(alloc, &mut history, told)? {
+            return Ok((number, history));
+        }
+    }
+    Ok((entries, history))
+}
+
+// What a last request is answered.
+fn answer(alloc: Global, history: &mut Kept<Shown>) -> Result<Vec<u8>, Fail> {
+    let mut buffer = Buffer::new();
+    let octets = octets_of(alloc, &GET)?;
+    match decode(alloc, &octets) {
+        Ok(request) => {
+            let _ = history.apply(alloc, Event::Request(request), &mut buffer);
+        }
+        Err(_) => return Err(Fail::from("a request")),
+    }
+    Ok(Vec::from_slice(alloc, buffer.reply())?)
+}
+
+// How many entries a run of two workers, two ports and the ticker made, how many of them stand
+// again, and whether both histories answer a last request alike.
+fn compared<R: Threads + Wait + Sync>(rt: &R, alloc: Global) -> Result<(u64, u64, bool), Fail> {
+    let workers = Vec::from_array(
+        alloc,
+        [asking(alloc, &[SET, NEXT])?, asking(alloc, &[GET])?],
+    )?;
+    let lines = lines_of(alloc, workers, carrying(alloc, &FLOODED)?, 3)?;
+    let (_, mut history, report) = run(rt, alloc, 10, &OpenGate, of_edges(alloc)?, lines)?;
+    let report = report.ok().ok_or("a report")?;
+    let (stood, mut again) = replayed(alloc, &report.runs, report.entries)?;
+    let last = answer(alloc, &mut history)?;
+    Ok((report.entries, stood, last == answer(alloc, &mut again)?))
+}
+
+// Three requests, two links, a frame that goes out and three seconds are nine entries.
+#[test]
+fn the_receipts_of_a_run_replay(rt: HostRuntime) -> Result<(), Fail> {
+    assert_eq!(rt; compared(&rt, rt.alloc())?, (9, 9, true));
+    Ok(())
+}
