@@ -5,7 +5,7 @@ use crate::requests::{GET, GET_BULK, GET_NEXT, name_of, request, set_request};
 use frame_core::Mac;
 use setphase_core::MibObject;
 use std::alloc::{AllocError, Global};
-use std::io;
+use std::{io, slice};
 
 /// dot1dBase behind 1.3.6.1.2.1.17.
 const FIRST: &[u8] = &[1];
@@ -125,27 +125,43 @@ fn sets_of(
     })
 }
 
-/// What is asked where all of the bridge is seen: reads of a scalar, of a port and of the learned
-/// row of an address; of 60 names 60 successors of 16 octets fit, and then 26 of 18. Then Sets: of
-/// the number that is there, of another and back, and of 64 times the same.
-pub fn trials_in_all(alloc: Global, address: Mac) -> Result<Vec<Trial>, AllocError> {
-    let learned = port_of(address);
-    let mut trials = Vec::new(alloc);
+// Reads of a scalar, of a port and of the learned row under this name.
+fn push_reads(alloc: Global, trials: &mut Vec<Trial>, learned: &[u8]) -> Result<(), AllocError> {
     trials.push(get(alloc, "Get of a scalar", NUM_PORTS)?)?;
     trials.push(get(alloc, "Get of a port's state", STATE_1)?)?;
-    trials.push(get(alloc, "Get of a learned row", &learned)?)?;
+    trials.push(get(alloc, "Get of a learned row", learned)?)?;
     trials.push(get_next(alloc, "GetNext of a scalar", NUM_PORTS)?)?;
     trials.push(get_next(alloc, "GetNext of a port's state", STATE_1)?)?;
-    trials.push(get_next(alloc, "GetNext of a learned row", &learned)?)?;
+    trials.push(get_next(alloc, "GetNext of a learned row", learned)?)?;
+    Ok(())
+}
+
+// GetBulks, where of 60 names 60 successors of 16 octets fit, and then 26 of 18.
+fn push_bulks(alloc: Global, trials: &mut Vec<Trial>) -> Result<(), AllocError> {
     trials.push(get_bulk(alloc, "GetBulk of 20 from the first scalar", FIRST, 20)?)?;
     trials.push(get_bulk(alloc, "GetBulk of 20 learned rows", LEARNED, 20)?)?;
     let ten = "GetBulk of 60 names, 10 repetitions";
     trials.push(get_bulk_of(alloc, ten, TEN, 60, NUM_PORTS, 86)?)?;
     let most = "GetBulk of 60 names, 2147483647 repetitions";
     trials.push(get_bulk_of(alloc, most, MOST, 60, NUM_PORTS, 86)?)?;
+    Ok(())
+}
+
+// Sets of the number that is there, of another and back, and of 64 times the same.
+fn push_sets(alloc: Global, trials: &mut Vec<Trial>) -> Result<(), AllocError> {
     trials.push(sets_of(alloc, "Set that changes nothing", 1, &[6])?)?;
     trials.push(sets_of(alloc, "two Sets that change a setting", 1, &[5, 6])?)?;
     trials.push(sets_of(alloc, "Set of 64 variables", 64, &[6])?)?;
+    Ok(())
+}
+
+/// What is asked where all of the bridge is seen: reads, also of the learned row of an address,
+/// GetBulks and Sets.
+pub fn trials_in_all(alloc: Global, address: Mac) -> Result<Vec<Trial>, AllocError> {
+    let mut trials = Vec::new(alloc);
+    push_reads(alloc, &mut trials, &port_of(address))?;
+    push_bulks(alloc, &mut trials)?;
+    push_sets(alloc, &mut trials)?;
     Ok(trials)
 }
 
@@ -187,7 +203,7 @@ pub fn walk_of<O: MibObject>(
     let mut name = name_of(alloc, &[])?;
     let mut datagrams = Vec::new(alloc);
     for turn in 0..=instances {
-        let asked = request(alloc, GET_NEXT, ZERO, &[name])?;
+        let asked = request(alloc, GET_NEXT, ZERO, slice::from_ref(&name))?;
         agent.send(alloc, &asked)?;
         let (next, is_end) = bindings_in(agent.reply())
             .and_then(first_in)
