@@ -27,7 +27,7 @@ Continues start h = h.base_number ≡ start.base_number →
 
 -- A history that goes on from another by so many entries: the number of its first entry of all is
 -- the same, the number of its next is past that of the other by the count, its base never goes back,
--- and its objects are the other's: they have the same rows.
+-- and its objects have the rows of the other's.
 pub record IsHeld (start h : History) (count : ℕ) : Type 0 where
   pub counted : next_of h ≡ next_of start + count
   pub first : h.first ≡ start.first

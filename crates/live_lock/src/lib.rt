@@ -8,8 +8,8 @@
 //! shares count what each thread entered.
 //!
 //! # Definitions
-//! `specs/Sharing.antt`: a history that goes on from another by so many entries, over the same
-//! objects; an event that took its place in it; and what an answer tells of an event, whatever the
+//! `specs/Sharing.antt`: a history that goes on from another by so many entries, over objects of the
+//! same rows; an event that took its place in it; and what an answer tells of an event, whatever the
 //! history was;
 //! `specs/Counting.antt`: how far a shared history is past its start.
 //!

@@ -46,8 +46,8 @@ fn tells<L: Run, R: Wait>(
     Ok(buffer.reply() == awaited.as_slice())
 }
 
-// The number of the entry of a policy that hides the state of port 2, and whose receipt tells of a
-// policy.
+// Puts a policy into force that hides the state of port 2: the number of its entry, where its receipt
+// tells of a policy.
 fn put_policy<L: Run, R: Wait>(
     rt: &R,
     alloc: Global,
@@ -68,13 +68,13 @@ fn put_policy<L: Run, R: Wait>(
 }
 
 // Whether a Get of the state of port 2 tells it ahead of a policy that hides it, the number of that
-// policy's entry, and whether the same Get tells no such object behind it.
+// policy's entry, whether the same Get tells no such object behind it, and how many entries there are.
 fn told_around<L: Run, R: Wait>(
     rt: &R,
     alloc: Global,
     kept: Kept<Shown>,
     blank: Blank,
-) -> Result<(bool, Option<u64>, bool), Fail>
+) -> Result<(bool, Option<u64>, bool, u64), Fail>
     requires name { blank.name ≡ L.name }
     requires all { blank.parts ≡ L.parts }
     requires some { 0 < blank.parts }
@@ -86,17 +86,17 @@ fn told_around<L: Run, R: Wait>(
     let ahead = tells(rt, alloc, &live, &mut share, shown)?;
     let number = put_policy(rt, alloc, &live, &mut share)?;
     let behind = tells(rt, alloc, &live, &mut share, hidden)?;
-    Ok((ahead, number, behind))
+    Ok((ahead, number, behind, live.counts(rt).entries))
 }
 
 // The same, of a history in which nothing has happened.
-fn told<R: Wait>(rt: &R, alloc: Global) -> Result<(bool, Option<u64>, bool), Fail> {
+fn told<R: Wait>(rt: &R, alloc: Global) -> Result<(bool, Option<u64>, bool, u64), Fail> {
     let kept = policed(alloc, WHOLE_BRIDGE)?;
     told_around::<Brand, R>(rt, alloc, kept, Blank::new(1))
 }
 
 #[test]
 fn a_policy_judges_what_comes_behind_it(rt: HostRuntime) -> Result<(), Fail> {
-    assert_eq!(rt; told(&rt, rt.alloc())?, (true, Some(1), true));
+    assert_eq!(rt; told(&rt, rt.alloc())?, (true, Some(1), true, 3));
     Ok(())
 }

@@ -3,7 +3,9 @@ ghost use Rattle.std.specs.Prelude.{IfOk};
 ghost use Rattle.message_core.specs.Encodable.{AreEncodable};
 ghost use Rattle.history_core.specs.Steps.{IsEncodable};
 
-use crate::support::{FLOODED, Shown, asking, carrying, lines_of, of_edges, run};
+use crate::support::{
+    FLOODED, PEER_OF_PORT_2, Shown, asking, carrying, count_of, lines_of, of_edges, peer, run,
+};
 use agent_core::Buffer;
 use fixtures::message::Held::{Integer, Null};
 use fixtures::message::{Message, Pdu, octets_of};
@@ -32,12 +34,26 @@ const GET: Message<'static> = Message {
     ..SET
 };
 
+// Asks for the first learned row, and for the priority, which comes behind this name.
 const NEXT: Message<'static> = Message {
     pdu: Pdu::GetNext,
     id: 2,
-    bindings: &[(LEARNED_PORT, Null), (PRIORITY, Null)],
+    bindings: &[(LEARNED_PORT, Null), (PROTOCOL, Null)],
     ..SET
 };
+
+// What that is answered behind the Set and the frame.
+const TOLD: Message<'static> = Message {
+    pdu: Pdu::Response,
+    bindings: &[(PORT_OF_SENDER, Integer(1)), (PRIORITY, Integer(8192))],
+    ..NEXT
+};
+
+// dot1dStpProtocolSpecification.0.
+const PROTOCOL: &str = "1.3.6.1.2.1.17.2.1.0";
+
+// dot1dTpFdbPort of the station that sends the frame to everybody.
+const PORT_OF_SENDER: &str = "1.3.6.1.2.1.17.4.3.1.2.2.0.0.0.1.1";
 
 // All that is asked of a run.
 const ASKED: &[Message<'static>] = &[SET, GET, NEXT];
@@ -113,8 +129,8 @@ fn stands(alloc: Global, history: &mut Kept<Shown>, told: &Receipt) -> Result<bo
     }
 }
 
-// How many receipts of a run stand, one after another, in a history of an equal world, of so many
-// entries; and that history.
+// How many of the first `entries` receipts of a run stand, one after another, in a history of an
+// equal world; and that history.
 fn replayed(alloc: Global, runs: &Runs, entries: u64) -> Result<(u64, Kept<Shown>), Fail> {
     let mut history = of_edges(alloc)?;
     for number in 0..entries {
@@ -126,37 +142,47 @@ fn replayed(alloc: Global, runs: &Runs, entries: u64) -> Result<(u64, Kept<Shown
     Ok((entries, history))
 }
 
-// What a last request is answered.
-fn answer(alloc: Global, history: &mut Kept<Shown>) -> Result<Vec<u8>, Fail> {
+// Whether a last request tells the learned row of the frame, and the priority that was set.
+fn tells_all(alloc: Global, history: &mut Kept<Shown>) -> Result<bool, Fail> {
     let mut buffer = Buffer::new();
-    let octets = octets_of(alloc, &GET)?;
+    let awaited = octets_of(alloc, &TOLD)?;
+    let octets = octets_of(alloc, &NEXT)?;
     match decode(alloc, &octets) {
         Ok(request) => {
             let _ = history.apply(alloc, Event::Request(request), &mut buffer);
         }
         Err(_) => return Err(Fail::from("a request")),
     }
-    Ok(Vec::from_slice(alloc, buffer.reply())?)
+    Ok(buffer.reply() == awaited.as_slice())
 }
 
 // How many entries a run of two workers, two ports and the ticker made, how many of them stand
-// again, and whether both histories answer a last request alike.
-fn compared<R: Threads + Wait + Sync>(rt: &R, alloc: Global) -> Result<(u64, u64, bool), Fail> {
+// again, and whether a last request tells both histories alike; and how often the frame went out.
+fn compared<R: Threads + Wait + Sync>(
+    rt: &R,
+    alloc: Global,
+) -> Result<(u64, u64, [bool; 2], usize), Fail> {
     let workers = Vec::from_array(
         alloc,
         [asking(alloc, &[SET, NEXT])?, asking(alloc, &[GET])?],
     )?;
     let lines = lines_of(alloc, workers, carrying(alloc, &FLOODED)?, 3)?;
-    let (_, mut history, report) = run(rt, alloc, 10, &OpenGate, of_edges(alloc)?, lines)?;
+    let (lines, mut history, report) = run(rt, alloc, 10, &OpenGate, of_edges(alloc)?, lines)?;
     let report = report.ok().ok_or("a report")?;
     let (stood, mut again) = replayed(alloc, &report.runs, report.entries)?;
-    let last = answer(alloc, &mut history)?;
-    Ok((report.entries, stood, last == answer(alloc, &mut again)?))
+    let told = [
+        tells_all(alloc, &mut history)?,
+        tells_all(alloc, &mut again)?,
+    ];
+    let port = lines.ports.first().ok_or("a port")?;
+    let forwarded = count_of(port.sent(), peer(PEER_OF_PORT_2), &FLOODED);
+    Ok((report.entries, stood, told, forwarded))
 }
 
-// Three requests, two links, a frame that goes out and three seconds are nine entries.
+// Three requests, two links that are up already, a frame that goes out by port 2 and three seconds
+// are nine entries.
 #[test]
 fn the_receipts_of_a_run_replay(rt: HostRuntime) -> Result<(), Fail> {
-    assert_eq!(rt; compared(&rt, rt.alloc())?, (9, 9, true));
+    assert_eq!(rt; compared(&rt, rt.alloc())?, (9, 9, [true, true], 1));
     Ok(())
 }
