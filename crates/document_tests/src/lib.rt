@@ -14,6 +14,8 @@
 #![tactic(auto)]
 
 #[cfg(test)]
+mod built_in;
+#[cfg(test)]
 mod configurations;
 #[cfg(test)]
 mod policies;

@@ -19,7 +19,7 @@
 //! writes; `specs/Words.antt`: which words of a command line ask for which command.
 //!
 //! # Laws
-//! None beside the contracts.
+//! In [`laws`]: the limits and the exit statuses, as numbers.
 //!
 //! # Not claimed
 //! That a peer answers; who it is that answers; that a growth or a write succeeds; what a writer
@@ -29,6 +29,7 @@
 mod asking;
 mod fault;
 mod hearing;
+pub mod laws;
 mod lines;
 mod program;
 mod run;

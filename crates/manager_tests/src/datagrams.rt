@@ -84,3 +84,14 @@ pub fn with_id<const N: usize>(mut datagram: [u8; N], id: u8) -> [u8; N] {
     }
     datagram
 }
+
+// Where the last number of the name stands in `TWO_PORTS`.
+const LAST_NUMBER: usize = 38;
+
+/// `TWO_PORTS` with another request-id, and this last number of its name; both stand in one octet
+/// below 128.
+pub fn instance(id: u8, last: u8) -> [u8; 42] {
+    let mut datagram = with_id(TWO_PORTS, id);
+    datagram[LAST_NUMBER] = last;
+    datagram
+}

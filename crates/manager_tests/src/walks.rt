@@ -1,5 +1,5 @@
 //! How walks end, by what their asks find.
-use crate::datagrams::{AT_THE_END, NO_BINDINGS, TWO_PORTS, agent, with_id};
+use crate::datagrams::{AT_THE_END, NO_BINDINGS, TWO_PORTS, agent, instance, with_id};
 use manager_core::{ManagerFault, walk};
 use oid_core::Oid;
 use std::alloc::Global;
@@ -52,5 +52,31 @@ fn walks_end_by_what_their_asks_find(rt: HostRuntime) -> Result<(), Fail> {
     ] {
         assert_eq!(rt; walked(rt.alloc(), root, second)?, end, "{what}");
     }
+    Ok(())
+}
+
+// How many instances a wire gives.
+const NAMES: u8 = 126;
+
+// A wire that gives instances of so many rising names, by the request-ids 1, 2 and so on, and then
+// the end of the view.
+fn long_wire(alloc: Global) -> Result<MemoryWire, Fail> {
+    let mut wire = MemoryWire::new(alloc);
+    for before in 0..NAMES {
+        wire.give_datagram(agent(), &instance(before + 1, before))?;
+    }
+    wire.give_datagram(agent(), &with_id(AT_THE_END, NAMES + 1))?;
+    Ok(wire)
+}
+
+#[test]
+fn walk_finds_more_than_a_hundred_names(rt: HostRuntime) -> Result<(), Fail> {
+    let mut wire = long_wire(rt.alloc())?;
+    let root = Oid::parse(rt.alloc(), "1.3.6.1.2.1.17.1.2")?;
+    if !root.is_encodable() {
+        return Err("no root")?;
+    }
+    let end = walk(rt.alloc(), &mut wire, agent(), b"public", &root, 1);
+    assert_eq!(rt; (end.map(|found| found.len()), wire.sent().len()), (Ok(126), 127));
     Ok(())
 }
