@@ -1,5 +1,5 @@
 -- What a run of a manager asks and writes.
-use Rattle.std.specs.Prelude.{◌≡◌, ℕ, ◌≤◌, ◌⊎◌, codes, List, length, Option, Result, Ok, Err}
+use Rattle.std.specs.Prelude.{◌≡◌, ◌≢◌, ℕ, ◌≤◌, ◌⊎◌, codes, List, [], ◌++◌, length, Option, Result, Ok, Err}
 use Rattle.std.specs.Io.KnownBytes.{Appends}
 use Rattle.std.specs.declared.net.socket_addr.SocketAddr.{SocketAddr}
 use Rattle.oid_core.specs.Name.{HasRoot}
@@ -16,7 +16,7 @@ use Rattle.manager_core.specs.declared.run.Failure.{Failure}
 use Rattle.manager_core.specs.declared.run.Failure.TheVariants.{Fault, Output}
 use Rattle.manager_core.specs.declared.words.Command.{Command}
 use Rattle.manager_core.specs.declared.program.TheConstants.{USAGE, FAILED}
-use Rattle.manager_core.specs.Words.{IsCommand}
+use Rattle.manager_core.specs.Words.{IsCommand, TakesMemory}
 use Rattle.manager_core.specs.Asks.{HasAsked}
 use Rattle.manager_core.specs.Walks.{HasWalked}
 use Rattle.manager_core.specs.Lines.{lines_of, fault_text}
@@ -33,13 +33,23 @@ HasFound went peer (Ask r) tries a end b = HasAsked went peer r tries a end b
 HasFound went peer (Walk community root) tries a end b =
     HasWalked went peer community root tries a end b
 
--- A text was written whole; or there was no memory for it, and nothing was; or the output failed.
+-- an output took a front of this text, and nothing else
+pub record TakesFront (old new : Option (List ℕ)) (text : List ℕ) : Type 0 where
+  pub front : List ℕ
+  pub rest : List ℕ
+  pub whole : text ≡ front ++ rest
+  pub took : Appends old new front
+
+-- A text was written whole; or it has octets, there was no memory for it, and nothing was written;
+-- or the output failed, and a front of it was written.
 abbrev pub IsWritten : {O : Type 0} → (O → Option (List ℕ)) → List ℕ → O → Result (Unit {0}) Failure → O → Type 0
 IsWritten contents text old (Ok done) new = Appends (contents old) (contents new) text
-IsWritten contents text old (Err (Fault fault)) new = (fault ≡ Memory) × (new ≡ old)
-IsWritten contents text old (Err Output) new = Unit {0}
+IsWritten contents text old (Err (Fault fault)) new =
+    (fault ≡ Memory) × (text ≢ []) × (new ≡ old)
+IsWritten contents text old (Err Output) new = TakesFront (contents old) (contents new) text
 
--- What was found is written, a line for each binding; a fault writes nothing.
+-- What was found is written, a line for each binding, or a front of that where the output fails; a
+-- fault writes nothing.
 abbrev pub IsRun : {O : Type 0} → (O → Option (List ℕ)) → Result (List Binding) ManagerFault → O → Result (Unit {0}) Failure → O → Type 0
 IsRun contents (Ok found) old result new = IsWritten contents (lines_of found) old result new
 IsRun contents (Err fault) old result new = (result ≡ Err (Fault fault)) × (new ≡ old)
@@ -60,7 +70,7 @@ HasRun went contents c a old status b new =
     (end : Result (List Binding) ManagerFault) × (ran : Result (Unit {0}) Failure) × HasFound went c.agent c.errand c.tries a end b × IsRun contents end old ran new × (status ≡ status_of ran)
 
 -- The same by the words of a command line: the command that they ask for was done; or they ask for
--- none, or there was no memory for it, and then nothing was asked or written.
+-- none, or reading them takes memory and there was none, and then nothing was asked or written.
 abbrev pub HasDone : {W O : Type 0} → (W → List Act → W → Type 0) → (O → Option (List ℕ)) → List (List ℕ) → W → O → ℕ → W → O → Type 0
 HasDone went contents words a old status b new =
-    ((c : Command) × IsCommand words c × HasRun went contents c a old status b new) ⊎ ((((status ≡ USAGE) × ((c : Command) → ¬ IsCommand words c)) ⊎ (status ≡ FAILED)) × (b ≡ a) × (new ≡ old))
+    ((c : Command) × IsCommand words c × HasRun went contents c a old status b new) ⊎ ((((status ≡ USAGE) × ((c : Command) → ¬ IsCommand words c)) ⊎ ((status ≡ FAILED) × TakesMemory words)) × (b ≡ a) × (new ≡ old))

@@ -80,7 +80,8 @@ pub record IsNext (community : List ℕ) (tries id : ℕ) (name : List ℕ) (a :
 
 -- The asks of a walk that goes on from a name with this request-id, and its result: the walk ends by
 -- the first ask, or finds a binding by it and goes on from its name. It goes no further with
--- BadReply where it has found as many names as it may, and with Memory only where that is wanting.
+-- BadReply where it has found as many names as it may. It may go no further with Memory: each request
+-- takes some, and so does each binding that is found.
 abbrev pub IsWalk : List ℕ → List ℕ → ℕ → ℕ → List ℕ → List Asked → Result (List Binding) ManagerFault → Type 0
 IsWalk community root tries id name [] result =
     ((MAX_NAMES < id) × (result ≡ Err BadReply)) ⊎ (result ≡ Err Memory)

@@ -1,16 +1,17 @@
 -- Which words of a command line ask for which command.
-use Rattle.std.specs.Prelude.{◌≡◌, ℕ, ◌-◌, ◌≤◌, ◌==◌, nat_lt, pos, ℤ, FitsSigned, Bool, if◌then◌else◌, codes, decimal, List, [], ◌∷◌, ◌++◌, length, get_or, take, drop, Option, Some, None, Result, Ok, Err}
+use Rattle.std.specs.Prelude.{◌≡◌, ℕ, ◌-◌, ◌<◌, ◌≤◌, ◌⊎◌, ◌%◌, ◌==◌, nat_lt, pos, ℤ, FitsSigned, Bool, if◌then◌else◌, codes, decimal, List, [], ◌∷◌, ◌++◌, length, get_or, take, drop, Option, Some, None, Result, Ok, Err}
 use Rattle.std.specs.Int.{w32}
 use Rattle.std.specs.Fmt.{signed_decimal}
-use Rattle.std.specs.List.{before_first, after_first}
+use Rattle.std.specs.List.{before_first, after_first, position_or_len}
 use Rattle.std.specs.Str.{bytes_eq}
 use Rattle.std.specs.Net.Grammar.{IsSocketText}
+use Rattle.std.specs.declared.net.socket_addr.SocketAddr.{SocketAddr}
 use Rattle.script_core.specs.Words.{octets_of}
 use Rattle.oid_core.specs.Name.{HasRoot}
 use Rattle.oid_core.specs.Text.{IsDotted}
-use Rattle.oid_core.specs.declared.limits.TheConstants.{MAX_NUMBERS}
+use Rattle.oid_core.specs.declared.limits.TheConstants.{INLINE_NUMBERS, MAX_NUMBERS}
 use Rattle.message_core.specs.Canon.{canon_request}
-use Rattle.message_core.specs.declared.limits.TheConstants.{MAX_COMMUNITY, MAX_REQUEST}
+use Rattle.message_core.specs.declared.limits.TheConstants.{INLINE_OCTETS, MAX_COMMUNITY, MAX_REQUEST}
 use Rattle.message_core.specs.declared.value.Value.{Value}
 use Rattle.message_core.specs.declared.value.Value.TheVariants.{Integer, OctetString, Null, ObjectIdentifier, IpAddress, Counter32, Gauge32, TimeTicks, Opaque, Counter64, NoSuchObject, NoSuchInstance, EndOfMibView}
 use Rattle.message_core.specs.declared.binding.Binding.{Binding}
@@ -26,7 +27,8 @@ use Rattle.manager_core.specs.declared.words.WordsFault.{WordsFault}
 use Rattle.manager_core.specs.declared.words.WordsFault.TheVariants.{Usage, Memory}
 use Rattle.manager_core.specs.declared.words.TheConstants.{DEFAULT_TRIES, MAX_TRIES, MAX_BULK}
 
--- A value of a kind was read, or there is none; there can be no memory for it.
+-- A value of a kind was read, or there is none; or there was no memory for it, of which another rule
+-- says when that can be.
 abbrev pub Reads : {X : Type 0} → (X → Type 0) → Result X WordsFault → Type 0
 Reads Is (Ok x) = Is x
 Reads {X} Is (Err Usage) = (x : X) → ¬ Is x
@@ -218,3 +220,89 @@ pub record IsAsked (words : List (List ℕ)) (c : Command) : Type 0 where
 abbrev pub IsCommand : List (List ℕ) → Command → Type 0
 IsCommand [] c = ⊥
 IsCommand (name ∷ words) c = IsAsked words c
+
+-- ---- where reading takes memory, and there can be none for it
+
+-- a name with dots of more numbers than a name holds in itself
+abbrev pub TakesName : List ℕ → Type 0
+TakesName word =
+    (name : List ℕ) × IsDotted word name × (INLINE_NUMBERS < length name) × (length name ≤ MAX_NUMBERS)
+
+-- two characters for each of one octet or more, which are then read as digits
+abbrev pub TakesOctets : List ℕ → Type 0
+TakesOctets text = (1 ≤ length text) × (length text % 2 ≡ 0)
+
+-- the octets of a value
+abbrev pub TakesValue : List ℕ → Type 0
+TakesValue text = (rest : List ℕ) × (text ≡ codes "x:" ++ rest) × TakesOctets rest
+
+-- the name of a setting, which has a `=`, or its value behind a name that is read
+pub record TakesSetting (word : List ℕ) : Type 0 where
+  pub equals : position_or_len is_equals word < length word
+  pub takes : TakesName (before_first is_equals word) ⊎ ((name : List ℕ) × IsNameText (before_first is_equals word) name × TakesValue (after_first is_equals word))
+
+-- A list of bindings takes memory for the first of them where its word is read, and reading that
+-- word may take some. Where neither is so, no other word is read.
+abbrev pub TakeSome : (List ℕ → Binding → Type 0) → (List ℕ → Type 0) → List (List ℕ) → Type 0
+TakeSome IsText Takes [] = ⊥
+TakeSome IsText Takes (word ∷ words) = ((b : Binding) × IsText word b) ⊎ Takes word
+
+abbrev pub TakeNames : List (List ℕ) → Type 0
+TakeNames words = TakeSome IsAskedText TakesName words
+
+-- the names of a GetBulk, behind two numbers of it
+pub record TakesBulkOf (number number' : List ℕ) (names : List (List ℕ)) : Type 0 where
+  pub first : ℤ
+  pub second : ℤ
+  pub is_first : IsBulkText number first
+  pub is_second : IsBulkText number' second
+  pub takes : TakeNames names
+
+abbrev pub TakesBulk : List (List ℕ) → Type 0
+TakesBulk [] = ⊥
+TakesBulk (number ∷ []) = ⊥
+TakesBulk (number ∷ (number' ∷ names)) = TakesBulkOf number number' names
+
+-- the root of a walk, which is one word
+abbrev pub TakesRoot : List (List ℕ) → Type 0
+TakesRoot [] = ⊥
+TakesRoot (word ∷ []) = TakesName word
+TakesRoot (word ∷ (extra ∷ more)) = ⊥
+
+-- the words behind the community, by the word that says what is asked for
+abbrev pub TakeRest : Option Word → List (List ℕ) → Type 0
+TakeRest None rest = ⊥
+TakeRest (Some Get) rest = TakeNames rest
+TakeRest (Some Next) rest = TakeNames rest
+TakeRest (Some Bulk) rest = TakesBulk rest
+TakeRest (Some Walk) rest = TakesRoot rest
+TakeRest (Some Set) rest = TakeSome IsSettingText TakesSetting rest
+
+-- a community of more octets than a string holds in itself, or the words behind it
+abbrev pub TakesErrand : Option Word → List ℕ → List (List ℕ) → Type 0
+TakesErrand None community rest = ⊥
+TakesErrand (Some word) community rest =
+    (length community ≤ MAX_COMMUNITY) × ((INLINE_OCTETS < length community) ⊎ TakeRest (Some word) rest)
+
+-- WORD, ADDRESS, COMMUNITY and REST, of which the first three are right
+pub record TakesTargetOf (word address community : List ℕ) (rest : List (List ℕ)) : Type 0 where
+  pub agent : SocketAddr
+  pub is_agent : IsSocketText address agent
+  pub errand : TakesErrand (word_of word) community rest
+
+abbrev pub TakesTarget : List (List ℕ) → Type 0
+TakesTarget [] = ⊥
+TakesTarget (word ∷ []) = ⊥
+TakesTarget (word ∷ (address ∷ [])) = ⊥
+TakesTarget (word ∷ (address ∷ (community ∷ rest))) = TakesTargetOf word address community rest
+
+-- the words behind the program's name, whose tries are right
+pub record TakesAsked (words : List (List ℕ)) : Type 0 where
+  pub tries : ℕ
+  pub is_tries : IsTriesBy (option_of words).0 tries
+  pub target : TakesTarget (option_of words).1
+
+-- Reading these words, the program's name first, can take memory.
+abbrev pub TakesMemory : List (List ℕ) → Type 0
+TakesMemory [] = ⊥
+TakesMemory (name ∷ words) = TakesAsked words

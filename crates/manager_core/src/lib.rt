@@ -22,8 +22,8 @@
 //! In [`laws`]: the limits and the exit statuses, as numbers.
 //!
 //! # Not claimed
-//! That a peer answers; who it is that answers; that a growth or a write succeeds; what a writer
-//! holds whose write failed; what stands on standard error where the status is not 0.
+//! That a peer answers; who it is that answers; that a growth or a write succeeds; that memory was
+//! refused where that is said; what stands on standard error where the status is not 0.
 #![tactic(auto)]
 
 mod asking;
@@ -35,6 +35,7 @@ mod program;
 mod run;
 mod walking;
 mod words;
+mod writing;
 
 pub use asking::{RECEIVE_ROOM, ask};
 pub use fault::ManagerFault;

@@ -1,5 +1,5 @@
 //! The lines that a manager writes.
-ghost use Rattle.std.specs.Prelude.{◌≡◌, ◌++◌, codes, decimal, OnOk};
+ghost use Rattle.std.specs.Prelude.{◌≡◌, ◌≢◌, [], ◌++◌, codes, decimal, OnOk, OnErr};
 ghost use Rattle.std.specs.Fmt.{signed_decimal};
 ghost use Rattle.std.specs.List.{flat_map};
 ghost use Rattle.hex.specs.Hex.{encode_upper};
@@ -15,9 +15,11 @@ use std::io::Write;
 /// Appends the line of each binding, in order: its name, its type and its value.
 ///
 /// # Errors
-/// There is no memory for them; then nothing is said of what stands behind what was there.
+/// There is no memory for them, and they are not empty; then nothing is said of what stands behind
+/// what was there.
 pub(crate) fn push_lines(bindings: &[Binding], out: &mut Vec<u8>) -> Result<(), AllocError>
-    ensures { OnOk result (out.new.items ≡ out.old.items ++ lines_of bindings.now) }
+    ensures lines { OnOk result (out.new.items ≡ out.old.items ++ lines_of bindings.now) }
+    ensures some { OnErr result (lines_of bindings.now ≢ []) }
 {
     for binding in bindings {
         push_line(binding, out)?;

@@ -10,6 +10,7 @@ use crate::asking::ask_for;
 use crate::fault::ManagerFault;
 use crate::lines::push_lines;
 use crate::walking::walk_from;
+use crate::writing::write_flushed;
 use message_core::{Binding, Bindings, Octets, Request};
 use oid_core::Oid;
 use std::alloc::Global;
@@ -54,8 +55,8 @@ impl fmt::Display for Failure {
 /// is found. Without an answer nothing is written.
 ///
 /// # Errors
-/// The fault of the ask or walk, `Memory` also where there is none for the lines. `Output` where a
-/// write or the flush fails; nothing is said of what the writer holds then.
+/// The fault of the ask or walk, `Memory` also where there is none for the lines, and nothing is
+/// written then. `Output` where a write or the flush fails: a front of the lines is written.
 pub(crate) fn run_errand<W: Wire, O: Write>(
     alloc: Global,
     wire: &mut W,
@@ -102,20 +103,7 @@ fn write_found<O: Write>(alloc: Global, found: &[Binding], out: &mut O) -> Resul
     if let Err(_) = push_lines(found, &mut text) {
         return Err(Failure::Fault(ManagerFault::Memory));
     }
-    match write_flushed(text.as_slice(), out) {
-        true => Ok(()),
-        false => Err(Failure::Output),
-    }
-}
-
-// Writes octets and flushes them, and says whether that was done.
-fn write_flushed<O: Write>(octets: &[u8], out: &mut O) -> bool
-    ensures { IsTrue result → Appends (O.contents out.old) (O.contents out.new) octets.now }
-{
-    match out.write_all(octets) {
-        Ok(()) => out.flush().is_ok(),
-        Err(_) => false,
-    }
+    write_flushed(text.as_slice(), out)
 }
 
 /// Writes the line of a failure, and says whether it was written whole: where a write fails,

@@ -1,11 +1,11 @@
 //! What the words of a command line ask for.
-ghost use Rattle.std.specs.Prelude.{◌≡◌, ◌≤◌, pos, codes, map, option_map, string_bytes, length, IfOk};
+ghost use Rattle.std.specs.Prelude.{◌≡◌, ◌≤◌, pos, codes, map, option_map, string_bytes, length, IfOk, IfErr, IsErrOf};
 ghost use Rattle.std.specs.Net.Grammar.{IsSocketText};
 ghost use Rattle.message_core.specs.Encodable.{AreEncodable};
 ghost use Rattle.message_core.specs.declared.binding.Binding.{Binding};
 ghost use Rattle.message_core.specs.declared.request.Kind.TheVariants as kind;
 ghost use Rattle.manager_core.specs.Runs.{IsAskable};
-ghost use Rattle.manager_core.specs.Words.{Reads, IsTriesText, IsTriesBy, IsBulkText, IsIntegerText, IsNameText, IsAskedText, IsOctetsText, IsValueText, IsSettingText, AreSomeTexts, first_request, AsksBy, IsAskOf, IsBulkBy, IsWalkBy, word_of, IsErrandBy, IsTarget, option_of, IsAsked, IsCommand};
+ghost use Rattle.manager_core.specs.Words.{Reads, IsTriesText, IsTriesBy, IsBulkText, IsIntegerText, IsNameText, IsAskedText, IsOctetsText, IsValueText, IsSettingText, AreSomeTexts, first_request, AsksBy, IsAskOf, IsBulkBy, IsWalkBy, word_of, IsErrandBy, IsTarget, option_of, IsAsked, IsCommand, TakesName, TakesOctets, TakesValue, TakesSetting, TakeSome, TakeNames, TakesBulk, TakesRoot, TakeRest, TakesErrand, TakesTarget, TakesAsked, TakesMemory};
 
 use crate::run::Errand;
 use message_core::{
@@ -80,9 +80,14 @@ pub enum Word {
 /// # Errors
 /// `Usage` where they are no command: another WORD; an ADDRESS, NAME, number or value that cannot
 /// be read; no NAME; a NAME that has no encoding; a COMMUNITY of more than `MAX_COMMUNITY` octets;
-/// a request that does not fit into a datagram. `Memory` where there is none for what they say.
+/// a request that does not fit into a datagram. `Memory` where there is none for what they say, and
+/// they take some: for a COMMUNITY of more than `INLINE_OCTETS` octets, the first NAME or setting, a
+/// NAME of more than `INLINE_NUMBERS` numbers and octets of a value, where all in front of it is
+/// right.
 pub fn command_of(alloc: Global, words: &[String]) -> Result<Command, WordsFault>
     ensures read { Reads (IsCommand (map string_bytes words.now)) result }
+    ensures memory { IsErrOf result WordsFault.Memory →
+        TakesMemory (map string_bytes words.now) }
     ensures askable { IfOk result (λ c. IsAskable c.errand) }
 {
     match words.split_first() {
@@ -94,6 +99,8 @@ pub fn command_of(alloc: Global, words: &[String]) -> Result<Command, WordsFault
 // The command of the words behind the program's name.
 fn asked_of(alloc: Global, words: &[String]) -> Result<Command, WordsFault>
     ensures read { Reads (IsAsked (map string_bytes words.now)) result }
+    ensures memory { IsErrOf result WordsFault.Memory →
+        TakesAsked (map string_bytes words.now) }
     ensures askable { IfOk result (λ c. IsAskable c.errand) }
 {
     let (option, others) = option_of(words);
@@ -125,7 +132,8 @@ fn option_of(words: &[String]) -> (Option<&str>, &[String])
 
 // The number of tries, by the word behind the option.
 fn tries_by(option: Option<&str>) -> Result<u32, WordsFault>
-    ensures { Reads (IsTriesBy (option_map (λ word. word.now) option.entry)) result }
+    ensures read { Reads (IsTriesBy (option_map (λ word. word.now) option.entry)) result }
+    ensures usage { IfErr result (λ fault. fault ≡ WordsFault.Usage) }
 {
     match option {
         Some(word) => tries_of(word),
@@ -135,7 +143,8 @@ fn tries_by(option: Option<&str>) -> Result<u32, WordsFault>
 
 // The number of tries of a word: 1 to 10.
 fn tries_of(word: &str) -> Result<u32, WordsFault>
-    ensures { Reads (IsTriesText word.now) result }
+    ensures read { Reads (IsTriesText word.now) result }
+    ensures usage { IfErr result (λ fault. fault ≡ WordsFault.Usage) }
 {
     match read_number(word.as_bytes(), MAX_TRIES) {
         Some(tries) if tries > 0 => Ok(tries),
@@ -146,6 +155,8 @@ fn tries_of(word: &str) -> Result<u32, WordsFault>
 // The command of so many tries and of the words behind the options.
 fn command_with(alloc: Global, tries: u32, words: &[String]) -> Result<Command, WordsFault>
     ensures read { Reads (λ c. (c.tries ≡ tries) × IsTarget (map string_bytes words.now) c) result }
+    ensures memory { IsErrOf result WordsFault.Memory →
+        TakesTarget (map string_bytes words.now) }
     ensures askable { IfOk result (λ c. IsAskable c.errand) }
 {
     if words.len() < 3 {
@@ -167,7 +178,8 @@ fn command_with(alloc: Global, tries: u32, words: &[String]) -> Result<Command, 
 
 // The address of a word.
 fn address_of(word: &str) -> Result<SocketAddr, WordsFault>
-    ensures { Reads (IsSocketText word.now) result }
+    ensures read { Reads (IsSocketText word.now) result }
+    ensures usage { IfErr result (λ fault. fault ≡ WordsFault.Usage) }
 {
     match word.parse::<SocketAddr>() {
         Ok(address) => Ok(address),
@@ -184,6 +196,8 @@ fn errand_of(
 ) -> Result<Errand, WordsFault>
     ensures read { Reads (λ errand. (length community.now ≤ MAX_COMMUNITY) ×
         IsErrandBy (word_of word.now) community.now (map string_bytes rest.now) errand) result }
+    ensures memory { IsErrOf result WordsFault.Memory →
+        TakesErrand (word_of word.now) community.now (map string_bytes rest.now) }
     ensures askable { IfOk result IsAskable }
 {
     if community.len() > MAX_COMMUNITY {
@@ -221,6 +235,8 @@ fn errand_by(
 ) -> Result<Errand, WordsFault>
     requires { length community ≤ MAX_COMMUNITY }
     ensures read { Reads (IsErrandBy (Some word) community (map string_bytes rest.now)) result }
+    ensures memory { IsErrOf result WordsFault.Memory →
+        TakeRest (Some word) (map string_bytes rest.now) }
     ensures askable { IfOk result IsAskable }
 {
     match word {
@@ -241,6 +257,8 @@ fn ask_of(
 ) -> Result<Errand, WordsFault>
     ensures read { Reads (IsAskOf kind community (pos 0) (pos 0) IsAskedText
         (map string_bytes words.now)) result }
+    ensures memory { IsErrOf result WordsFault.Memory →
+        TakeNames (map string_bytes words.now) }
     ensures askable { IfOk result IsAskable }
 {
     match names_of(alloc, words) {
@@ -253,6 +271,8 @@ fn ask_of(
 fn set_of(alloc: Global, community: Octets, words: &[String]) -> Result<Errand, WordsFault>
     ensures read { Reads (IsAskOf kind.Set community (pos 0) (pos 0) IsSettingText
         (map string_bytes words.now)) result }
+    ensures memory { IsErrOf result WordsFault.Memory →
+        TakeSome IsSettingText TakesSetting (map string_bytes words.now) }
     ensures askable { IfOk result IsAskable }
 {
     match settings_of(alloc, words) {
@@ -264,6 +284,8 @@ fn set_of(alloc: Global, community: Octets, words: &[String]) -> Result<Errand, 
 // A GetBulk by its two numbers and its names.
 fn bulk_by(alloc: Global, community: Octets, rest: &[String]) -> Result<Errand, WordsFault>
     ensures read { Reads (IsBulkBy community (map string_bytes rest.now)) result }
+    ensures memory { IsErrOf result WordsFault.Memory →
+        TakesBulk (map string_bytes rest.now) }
     ensures askable { IfOk result IsAskable }
 {
     if rest.len() < 2 {
@@ -287,6 +309,8 @@ fn bulk_by(alloc: Global, community: Octets, rest: &[String]) -> Result<Errand, 
 fn walk_by(alloc: Global, community: Octets, rest: &[String]) -> Result<Errand, WordsFault>
     requires { length community ≤ MAX_COMMUNITY }
     ensures read { Reads (IsWalkBy community (map string_bytes rest.now)) result }
+    ensures memory { IsErrOf result WordsFault.Memory →
+        TakesRoot (map string_bytes rest.now) }
     ensures askable { IfOk result IsAskable }
 {
     if rest.len() != 1 {
@@ -308,6 +332,7 @@ fn asking(
 ) -> Result<Errand, WordsFault>
     requires { AreEncodable bindings }
     ensures read { Reads (AsksBy (first_request kind first second community bindings)) result }
+    ensures usage { IfErr result (λ fault. fault ≡ WordsFault.Usage) }
     ensures askable { IfOk result IsAskable }
 {
     let request = Request {
@@ -328,6 +353,8 @@ fn asking(
 // The bindings that ask for names, at least one, each with NULL.
 fn names_of(alloc: Global, words: &[String]) -> Result<Bindings, WordsFault>
     ensures read { Reads (AreSomeTexts IsAskedText (map string_bytes words.now)) result }
+    ensures memory { IsErrOf result WordsFault.Memory →
+        TakeNames (map string_bytes words.now) }
     ensures encodable { IfOk result AreEncodable }
 {
     if words.is_empty() {
@@ -346,6 +373,8 @@ fn names_of(alloc: Global, words: &[String]) -> Result<Bindings, WordsFault>
 // The bindings of settings, at least one.
 fn settings_of(alloc: Global, words: &[String]) -> Result<Bindings, WordsFault>
     ensures read { Reads (AreSomeTexts IsSettingText (map string_bytes words.now)) result }
+    ensures memory { IsErrOf result WordsFault.Memory →
+        TakeSome IsSettingText TakesSetting (map string_bytes words.now) }
     ensures encodable { IfOk result AreEncodable }
 {
     if words.is_empty() {
@@ -363,7 +392,9 @@ fn settings_of(alloc: Global, words: &[String]) -> Result<Bindings, WordsFault>
 
 // The binding that asks for a name, with NULL.
 fn asked_name(alloc: Global, word: &str) -> Result<Binding, WordsFault>
-    ensures { Reads (IsAskedText word.now) result }
+    ensures read { Reads (IsAskedText word.now) result }
+    ensures memory { IsErrOf result WordsFault.Memory →
+        TakesName word.now }
 {
     match name_of(alloc, word) {
         Ok(name) => Ok(Binding {
@@ -376,7 +407,9 @@ fn asked_name(alloc: Global, word: &str) -> Result<Binding, WordsFault>
 
 // The name of a word, where it has an encoding.
 fn name_of(alloc: Global, word: &str) -> Result<Oid, WordsFault>
-    ensures { Reads (IsNameText word.now) result }
+    ensures read { Reads (IsNameText word.now) result }
+    ensures memory { IsErrOf result WordsFault.Memory →
+        TakesName word.now }
 {
     match Oid::parse(alloc, word) {
         Ok(name) if name.is_encodable() => Ok(name),
@@ -387,7 +420,9 @@ fn name_of(alloc: Global, word: &str) -> Result<Oid, WordsFault>
 
 // The binding of a setting: a name, and behind the first `=` its value.
 fn setting_of(alloc: Global, word: &str) -> Result<Binding, WordsFault>
-    ensures { Reads (IsSettingText word.now) result }
+    ensures read { Reads (IsSettingText word.now) result }
+    ensures memory { IsErrOf result WordsFault.Memory →
+        TakesSetting word.now }
 {
     let Some((name, value)) = word.split_once('=') else {
         return Err(WordsFault::Usage);
@@ -404,7 +439,9 @@ fn setting_of(alloc: Global, word: &str) -> Result<Binding, WordsFault>
 
 // The value of a setting: `i:` and a number, or `x:` and octets in hexadecimal.
 fn value_of(alloc: Global, text: &[u8]) -> Result<Value, WordsFault>
-    ensures { Reads (IsValueText text.now) result }
+    ensures read { Reads (IsValueText text.now) result }
+    ensures memory { IsErrOf result WordsFault.Memory →
+        TakesValue text.now }
 {
     match text {
         [b'i', b':', number @ ..] => match integer_of(number) {
@@ -421,8 +458,16 @@ fn value_of(alloc: Global, text: &[u8]) -> Result<Value, WordsFault>
 
 // The octets of a text in hexadecimal.
 fn octets_of(alloc: Global, digits: &[u8]) -> Result<Octets, WordsFault>
-    ensures { Reads (IsOctetsText digits.now) result }
+    ensures read { Reads (IsOctetsText digits.now) result }
+    ensures memory { IsErrOf result WordsFault.Memory →
+        TakesOctets digits.now }
 {
+    if digits.is_empty() {
+        return Ok(Octets::from_vec(Vec::new(alloc)));
+    }
+    if digits.len() % 2 != 0 {
+        return Err(WordsFault::Usage);
+    }
     match read_hex(alloc, digits) {
         Ok(Some(octets)) => Ok(Octets::from_vec(octets)),
         Ok(None) => Err(WordsFault::Usage),
@@ -432,7 +477,8 @@ fn octets_of(alloc: Global, digits: &[u8]) -> Result<Octets, WordsFault>
 
 // The INTEGER of a text: digits with no leading zero, or a minus and such digits, not 0.
 fn integer_of(text: &[u8]) -> Result<i32, WordsFault>
-    ensures { Reads (IsIntegerText text.now) result }
+    ensures read { Reads (IsIntegerText text.now) result }
+    ensures usage { IfErr result (λ fault. fault ≡ WordsFault.Usage) }
 {
     match text {
         [b'-', digits @ ..] => match read_number(digits, MAX_BULK + 1) {
@@ -445,7 +491,8 @@ fn integer_of(text: &[u8]) -> Result<i32, WordsFault>
 
 // A number from 0 to `MAX_BULK`.
 fn bulk_number(word: &[u8]) -> Result<i32, WordsFault>
-    ensures { Reads (IsBulkText word.now) result }
+    ensures read { Reads (IsBulkText word.now) result }
+    ensures usage { IfErr result (λ fault. fault ≡ WordsFault.Usage) }
 {
     match read_number(word, MAX_BULK) {
         Some(number) => Ok(number as i32),
