@@ -18,6 +18,8 @@ mod asks;
 #[cfg(test)]
 mod datagrams;
 #[cfg(test)]
+mod outputs;
+#[cfg(test)]
 mod programs;
 #[cfg(test)]
 mod refusals;

@@ -19,8 +19,8 @@ pub const LONG_NAME: &str =
 /// A community of 30 octets.
 pub const LONG_COMMUNITY: &str = "a community of thirty octets..";
 
-// The words of a command line, the program's name first.
-fn words_of(alloc: Global, texts: &[&str]) -> Result<Vec<String>, Fail> {
+/// The words of a command line, the program's name first.
+pub fn words_of(alloc: Global, texts: &[&str]) -> Result<Vec<String>, Fail> {
     let mut words = Vec::new(alloc);
     words.push(String::from_str(alloc, "manager")?)?;
     for text in texts {

@@ -77,6 +77,9 @@ fn walk_finds_more_than_a_hundred_names(rt: HostRuntime) -> Result<(), Fail> {
         return Err("no root")?;
     }
     let end = walk(rt.alloc(), &mut wire, agent(), b"public", &root, 1);
-    assert_eq!(rt; (end.map(|found| found.len()), wire.sent().len()), (Ok(126), 127));
+    assert_eq!(rt;
+        (end.map(|found| found.len()), wire.sent().len()),
+        (Ok(126), 127)
+    );
     Ok(())
 }
