@@ -13,7 +13,7 @@ type Row = (
     Option<DropCause>,
 );
 
-const ROWS: [Row; 36] = [
+const ROWS: [Row; 37] = [
     // another octet at one place
     (&GET, &[(20, 0x05)], &[], None),
     (&GET, &[(4, 0x00)], &[], Some(DropCause::BadVersion)),
@@ -37,6 +37,8 @@ const ROWS: [Row; 36] = [
         &[],
         Some(DropCause::BadVersion),
     ),
+    // ahead of a community of 25 octets another version
+    (&LONG_COMMUNITY, &[(4, 0)], &[], Some(DropCause::BadVersion)),
     // behind a community of 25 octets the tag of a Response, and a PDU past the end
     (
         &LONG_COMMUNITY,
