@@ -1,6 +1,9 @@
-//! Learned addresses under a view that hides each object of their table whole (RFC 4188,
-//! dot1dTpFdbTable; RFC 3415, vacmViewTreeFamilyTable).
-use crate::messages::{ALL, ALL_BUT_LEARNED, GET, GET_NEXT, NULL, objects_of, opening_world};
+//! Learned addresses under a view that hides each object of their table whole, and under one that
+//! hides a row of it in each column (RFC 4188, dot1dTpFdbTable; RFC 3415, vacmViewTreeFamilyTable).
+use crate::messages::{
+    ALL, ALL_BUT_LEARNED, ALL_BUT_ONE_LEARNED, GET, GET_BULK, GET_NEXT, NULL, objects_of,
+    opening_world,
+};
 use crate::rows::{Row, assert_answers};
 use frame_core::{FrameIn, Mac};
 use setphase_core::{Column, TpFdb, TpPort, World};
@@ -103,10 +106,56 @@ const HIDDEN: &[Row<'static>] = &[
     ),
 ];
 
+// The rows of the second station.
+const SECOND: &[Row<'static>] = &[
+    (
+        "from dot1dTpAgingTime through the table",
+        "public",
+        GET_BULK,
+        (0, 3),
+        &[(&[4, 2, 0], NULL)],
+        Some(&[
+            (&[4, 3, 1, 1, 2, 0, 0, 0, 2, 2], &[4, 6, 2, 0, 0, 0, 2, 2]),
+            (&[4, 3, 1, 2, 2, 0, 0, 0, 2, 2], &[2, 1, 1]),
+            (&[4, 3, 1, 3, 2, 0, 0, 0, 2, 2], &[2, 1, 3]),
+        ]),
+    ),
+    (
+        "from the last row of the table to the end",
+        "public",
+        GET_BULK,
+        (0, 3),
+        &[(&[4, 3, 1, 3, 2, 0, 0, 0, 2, 2], NULL)],
+        Some(&[
+            (&[4, 4, 1, 1, 1], &[2, 1, 1]),
+            (&[4, 4, 1, 1, 2], &[2, 1, 2]),
+            (&[4, 4, 1, 1, 2], &[0x82, 0]),
+        ]),
+    ),
+    (
+        "the hidden row, and what stands behind it",
+        "public",
+        GET_NEXT,
+        (0, 0),
+        &[
+            (&[4, 3, 1, 1, 2, 0, 0, 0, 1], NULL),
+            (&[4, 3, 1, 3, 2, 0, 0, 0, 1, 1], NULL),
+        ],
+        Some(&[
+            (&[4, 3, 1, 1, 2, 0, 0, 0, 2, 2], &[4, 6, 2, 0, 0, 0, 2, 2]),
+            (&[4, 3, 1, 3, 2, 0, 0, 0, 2, 2], &[2, 1, 3]),
+        ]),
+    ),
+];
+
 // Both stations have been heard.
 #[test]
 fn shows_or_hides_learned_addresses(rt: HostRuntime) -> Result<(), Fail> {
-    for (families, rows) in [(ALL, SHOWN), (ALL_BUT_LEARNED, HIDDEN)] {
+    for (families, rows) in [
+        (ALL, SHOWN),
+        (ALL_BUT_LEARNED, HIDDEN),
+        (ALL_BUT_ONE_LEARNED, SECOND),
+    ] {
         let mut world = opening_world(rt.alloc(), families)?;
         hear_stations(&mut world)?;
         let objects = objects_of(rt.alloc(), LEARNED)?;

@@ -122,6 +122,20 @@ mask = ""
 included = false
 "#;
 
+/// The families of a view of all of the bridge but the row of 02-00-00-00-01-01 in each column of
+/// dot1dTpFdbTable.
+pub const ALL_BUT_ONE_LEARNED: &str = r#"[[family]]
+view = "seen"
+subtree = "1.3.6.1.2.1.17"
+mask = ""
+included = true
+[[family]]
+view = "seen"
+subtree = "1.3.6.1.2.1.17.4.3.1.0.2.0.0.0.1.1"
+mask = "FFDF"
+included = false
+"#;
+
 /// The families of port 2 in all columns of dot1dStpPortTable, but for column 3, dot1dStpPortState.
 pub const PORT_2: &str = r#"[[family]]
 view = "seen"
