@@ -18,4 +18,6 @@ mod lines;
 #[cfg(test)]
 mod setups;
 #[cfg(test)]
+mod sockets;
+#[cfg(test)]
 mod support;

@@ -1,5 +1,5 @@
 //! Lines that are bound by a setup.
-use crate::support::{OWN, exchange, hears, hears_front, here, history};
+use crate::support::{OWN, exchange, hears, here, history, sender_of};
 use arrayvec::ArrayVec;
 use configuration::{Port, Serve};
 use fixtures::worlds::port;
@@ -83,7 +83,7 @@ fn answers<R: Net + Clock + Threads + Wait + Sync>(
         .ok()
         .ok_or("a report")?;
     let told = (report.entries, report.requests, report.older, report.drops);
-    let bpdu = hears_front(&mut neighbour, &BRIDGE_GROUP.0);
+    let bpdu = sender_of(&mut neighbour, &BRIDGE_GROUP.0).is_some();
     Ok(sent && told == counts && bpdu && hears(&mut client, at, awaited))
 }
 

@@ -49,14 +49,14 @@ pub fn hears(client: &mut UdpWire, at: SocketAddr, awaited: Option<&[u8]>) -> bo
     }
 }
 
-/// Whether a datagram came to a client whose first octets are these.
-pub fn hears_front(client: &mut UdpWire, front: &[u8]) -> bool {
+/// Who sent a client the next datagram, where its first octets are these.
+pub fn sender_of(client: &mut UdpWire, front: &[u8]) -> Option<SocketAddr> {
     let mut octets = [0u8; 1600];
     match client.receive(&mut octets) {
-        Ok(Received::Datagram(len, _)) => match octets.get(..len) {
-            Some(heard) => heard.starts_with(front),
-            None => false,
-        },
-        _ => false,
+        Ok(Received::Datagram(len, from)) => {
+            let is_awaited = octets.get(..len)?.starts_with(front);
+            is_awaited.then_some(from)
+        }
+        _ => None,
     }
 }
