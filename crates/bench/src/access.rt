@@ -15,9 +15,6 @@ const TURNS: u32 = 100_000;
 /// How many rows there are.
 const ROWS: [u32; 3] = [10, 100, 1_000];
 
-/// A mask by which a name need not agree with the eighth number of a subtree.
-pub const ANY_GROUP: &str = "FE";
-
 /// The family of the view `last`, which is all of the bridge.
 const LAST: &str =
     "[[family]]\nview = \"last\"\nsubtree = \"1.3.6.1.2.1.17\"\nmask = \"\"\nincluded = true\n";
@@ -60,28 +57,23 @@ pub fn policy_of_families(alloc: Global, families: &str) -> io::Result<Policy> {
     policy_of(alloc, &text)
 }
 
-/// A row of `[[family]]`, in TOML, by which the view `bridge` includes a subtree.
-pub fn family_text(alloc: Global, subtree: &str, mask: &str) -> Result<String, AllocError> {
+// A row of `[[family]]`, in TOML, by which the view `bridge` includes a subtree.
+fn family_text(alloc: Global, subtree: &str) -> Result<String, AllocError> {
     format!(in alloc;
-        "[[family]]\nview = \"bridge\"\nsubtree = \"{subtree}\"\nmask = \"{mask}\"\nincluded = true\n"
+        "[[family]]\nview = \"bridge\"\nsubtree = \"{subtree}\"\nmask = \"\"\nincluded = true\n"
     )
 }
 
-/// A policy of so many families: those of the view `bridge`, siblings under one node, one a group of
-/// objects, each with this mask, and last the one of the view `last`, which is all of the bridge.
-fn policy_with_masks(alloc: Global, families: u32, mask: &str) -> io::Result<Policy> {
+// A policy of so many families: those of the view `bridge`, siblings under one node, one a group of
+// objects, and last the one of the view `last`, which is all of the bridge.
+fn policy_with(alloc: Global, families: u32) -> io::Result<Policy> {
     let mut rows = String::new(alloc);
     for number in 1..families {
         let subtree = format!(in alloc; "1.3.6.1.2.1.17.{number}")?;
-        rows.push_str(&family_text(alloc, &subtree, mask)?)?;
+        rows.push_str(&family_text(alloc, &subtree)?)?;
     }
     rows.push_str(LAST)?;
     policy_of_families(alloc, &rows)
-}
-
-/// A policy of so many families, without masks.
-pub fn policy_with(alloc: Global, families: u32) -> io::Result<Policy> {
-    policy_with_masks(alloc, families, "")
 }
 
 // A policy of so many access rows: one of the group `readers`, and those of other groups.
@@ -129,8 +121,8 @@ fn measure_decide(rt: &HostRuntime, vacm: &Vacm) -> io::Result<()> {
     println!(rt; "{allowed} allowed")
 }
 
-/// The name of these numbers.
-pub fn oid_of(alloc: Global, numbers: &[u32]) -> io::Result<Oid> {
+// The name of these numbers.
+fn oid_of(alloc: Global, numbers: &[u32]) -> io::Result<Oid> {
     match Oid::from_slice(alloc, numbers) {
         Ok(name) => Ok(name),
         Err(_) => Err(Error::from(ErrorKind::OutOfMemory)),
@@ -146,8 +138,8 @@ fn names(alloc: Global) -> io::Result<Vec<Oid>> {
     Ok(names)
 }
 
-/// Asks for each of eight names in turn whether it is in the view `bridge`.
-pub fn measure_in_view(rt: &HostRuntime, vacm: &Vacm, names: &[Oid]) -> io::Result<()> {
+// Asks for each of eight names in turn whether it is in the view `bridge`.
+fn measure_in_view(rt: &HostRuntime, vacm: &Vacm, names: &[Oid]) -> io::Result<()> {
     let view = name_of("bridge")?;
     let start = Instant::now(rt)?;
     let mut included = 0u32;
@@ -167,9 +159,6 @@ fn measure_families(rt: &HostRuntime, families: u32) -> io::Result<()> {
     println!(rt; "{families} family rows")?;
     let policy = policy_with(rt.alloc(), families)?;
     measure_decide(rt, policy.vacm())?;
-    measure_in_view(rt, policy.vacm(), &names)?;
-    println!(rt; "{families} family rows, each for any group of objects")?;
-    let policy = policy_with_masks(rt.alloc(), families, ANY_GROUP)?;
     measure_in_view(rt, policy.vacm(), &names)
 }
 

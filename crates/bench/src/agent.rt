@@ -68,8 +68,8 @@ pub fn wrong() -> Error {
     Error::from(ErrorKind::InvalidData)
 }
 
-/// The registry of these objects.
-pub fn registry_of<O: MibObject>(objects: Vec<O>) -> io::Result<Registry<O>> {
+// The registry of these objects.
+fn registry_of<O: MibObject>(objects: Vec<O>) -> io::Result<Registry<O>> {
     if are_named(objects.as_slice()) {
         Registry::new(objects).ok().ok_or(wrong())
     } else {

@@ -1,46 +1,15 @@
-//! Frames and learned addresses.
+//! Learned addresses.
 use crate::print::print_turns;
 use fdb_core::{Fdb, Learnt, MAX_AGING_TIME, MIN_AGING_TIME};
-use frame_core::worked::PROPOSES;
-use frame_core::{Bpdu, FrameIn, Mac, read_frame};
+use frame_core::Mac;
 use std::io;
 use std::time::Instant;
-
-/// How often a frame is read.
-const FRAMES: u32 = 1_000_000;
 
 /// How many addresses are learned.
 const ADDRESSES: [u32; 2] = [10, 1_024];
 
 /// How many seconds pass in which no address is old enough to go.
 const SECONDS: u32 = 1_000;
-
-// The cost that a frame's RST BPDU tells.
-fn cost_in(frame: &[u8]) -> u32 {
-    match read_frame(frame) {
-        Ok(
-            FrameIn {
-                bpdu: Some(Bpdu::Rapid(bpdu)),
-                ..
-            },
-        ) => bpdu.vector.cost,
-        _ => 0,
-    }
-}
-
-/// Reads a frame with a BPDU over and over; each time another of its fields has changed.
-pub fn measure_frames(rt: &HostRuntime) -> io::Result<()> {
-    let mut frame = PROPOSES;
-    let start = Instant::now(rt)?;
-    let mut costs = 0u32;
-    for turn in 0..FRAMES {
-        let place = 21 + (turn % 32) as usize;
-        frame[place] = frame[place].wrapping_add(1);
-        costs = costs.wrapping_add(cost_in(&frame));
-    }
-    print_turns(rt, "frames read", FRAMES, &start)?;
-    println!(rt; "sum of their costs: {costs}")
-}
 
 // The addresses in an order that looks random: a step that meets each of 1,024 once.
 fn address_at(turn: u32) -> Mac {

@@ -1,8 +1,7 @@
 //! Worlds whose agent is measured: ports, learned rows, and views of them.
 use crate::access::policy_of_families;
-use crate::agent::{Agent, Trial, registry_of, wrong};
+use crate::agent::{Agent, Trial, wrong};
 use crate::forwarding::{bridge_of, prepare, station};
-use crate::messages::measure_lines;
 use crate::trials::{trials_in_all, trials_in_row, trials_past_rows, walk_of};
 use bridge_mib::Steady;
 use object_list::objects;
@@ -142,7 +141,7 @@ impl Scene {
         match self.view {
             View::All => trials_in_all(alloc, station(self.rows / 2)),
             View::PastRows => trials_past_rows(alloc),
-            View::OneRow => trials_in_row(alloc, station(512)),
+            View::OneRow => trials_in_row(alloc),
         }
     }
 }
@@ -154,8 +153,6 @@ pub enum Work {
     Check,
     /// Requests are measured, from their octets to those of the reply.
     Measure,
-    /// A script is measured.
-    Script,
 }
 
 // Answers each trial of a world once.
@@ -193,16 +190,12 @@ fn measure_scene<O: MibObject>(
 
 // Does the work over these objects.
 fn work_over<O: MibObject>(rt: &HostRuntime, objects: Vec<O>, work: Work) -> io::Result<()> {
-    let world = SCENES[0].world(rt.alloc())?;
-    if matches!(work, Work::Script) {
-        return measure_lines(rt, registry_of(objects)?, world);
-    }
-    let mut agent = Agent::new(objects, world)?;
+    let mut agent = Agent::new(objects, SCENES[0].world(rt.alloc())?)?;
     for scene in SCENES {
         agent.show(scene.world(rt.alloc())?);
         match work {
             Work::Measure => measure_scene(rt, &mut agent, scene)?,
-            Work::Check | Work::Script => check_scene(rt, &mut agent, scene)?,
+            Work::Check => check_scene(rt, &mut agent, scene)?,
         }
     }
     Ok(())

@@ -25,17 +25,11 @@ const AGING_TIME: &[u8] = &[4, 2, 0];
 /// dot1dTpFdbTable, the learned rows.
 const LEARNED: &[u8] = &[4, 3];
 
-/// dot1dTpPortTable, behind the learned rows.
-const BEHIND: &[u8] = &[4, 4];
-
 /// 0, the error-index of a request, as the content of an INTEGER.
 const ZERO: &[u8] = &[0];
 
 /// One repetition, as the content of an INTEGER.
 const ONE: &[u8] = &[1];
-
-/// 10 repetitions.
-const TEN: &[u8] = &[10];
 
 /// 20 repetitions.
 const TWENTY: &[u8] = &[20];
@@ -130,7 +124,6 @@ fn push_reads(alloc: Global, trials: &mut Vec<Trial>, learned: &[u8]) -> Result<
     trials.push(get(alloc, "Get of a scalar", NUM_PORTS)?)?;
     trials.push(get(alloc, "Get of a port's state", STATE_1)?)?;
     trials.push(get(alloc, "Get of a learned row", learned)?)?;
-    trials.push(get_next(alloc, "GetNext of a scalar", NUM_PORTS)?)?;
     trials.push(get_next(alloc, "GetNext of a port's state", STATE_1)?)?;
     trials.push(get_next(alloc, "GetNext of a learned row", learned)?)?;
     Ok(())
@@ -140,8 +133,6 @@ fn push_reads(alloc: Global, trials: &mut Vec<Trial>, learned: &[u8]) -> Result<
 fn push_bulks(alloc: Global, trials: &mut Vec<Trial>) -> Result<(), AllocError> {
     trials.push(get_bulk(alloc, "GetBulk of 20 from the first scalar", FIRST, 20)?)?;
     trials.push(get_bulk(alloc, "GetBulk of 20 learned rows", LEARNED, 20)?)?;
-    let ten = "GetBulk of 60 names, 10 repetitions";
-    trials.push(get_bulk_of(alloc, ten, TEN, 60, NUM_PORTS, 86)?)?;
     let most = "GetBulk of 60 names, 2147483647 repetitions";
     trials.push(get_bulk_of(alloc, most, MOST, 60, NUM_PORTS, 86)?)?;
     Ok(())
@@ -165,29 +156,21 @@ pub fn trials_in_all(alloc: Global, address: Mac) -> Result<Vec<Trial>, AllocErr
     Ok(trials)
 }
 
-/// What is asked of 32 ports where the learned rows are hidden: reads ahead of them and past them.
+/// What is asked of 32 ports where the learned rows are hidden: GetBulks past them.
 /// Of 100 successors 80 fit, which have 18 octets each, as 32 of the reply are beside them.
 pub fn trials_past_rows(alloc: Global) -> Result<Vec<Trial>, AllocError> {
     let mut trials = Vec::new(alloc);
-    trials.push(get_next(alloc, "GetNext of a scalar", NUM_PORTS)?)?;
-    trials.push(get_next(alloc, "GetNext past the rows", AGING_TIME)?)?;
-    trials.push(get_bulk(alloc, "GetBulk of 20 from the first scalar", FIRST, 20)?)?;
     trials.push(get_bulk(alloc, "GetBulk of 20 past the rows", AGING_TIME, 20)?)?;
     let hundred = "GetBulk of 100 names past the rows";
     trials.push(get_bulk_of(alloc, hundred, ONE, 100, AGING_TIME, 80)?)?;
     Ok(trials)
 }
 
-/// What is asked where the learned row of this address is all that is seen: its three columns, and
-/// behind them endOfMibView. Of 100 successors 51 fit, which have 28 octets each.
-pub fn trials_in_row(alloc: Global, address: Mac) -> Result<Vec<Trial>, AllocError> {
-    let learned = port_of(address);
+/// What is asked where one learned row is all that is seen. Of 100 successors 51 fit, which have 28
+/// octets each.
+pub fn trials_in_row(alloc: Global) -> Result<Vec<Trial>, AllocError> {
     let mut trials = Vec::new(alloc);
-    trials.push(get(alloc, "Get of the row", &learned)?)?;
     trials.push(get_next(alloc, "GetNext to the row", NUM_PORTS)?)?;
-    trials.push(get_next(alloc, "GetNext in the row", &learned)?)?;
-    trials.push(get_next(alloc, "GetNext behind the row", BEHIND)?)?;
-    trials.push(get_bulk(alloc, "GetBulk of 20 to the row", NUM_PORTS, 4)?)?;
     let hundred = "GetBulk of 100 names to the row";
     trials.push(get_bulk_of(alloc, hundred, ONE, 100, NUM_PORTS, 51)?)?;
     Ok(trials)
