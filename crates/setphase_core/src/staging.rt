@@ -131,7 +131,7 @@ impl<'a, O: MibObject> Staging<'a, O> {
         ensures fault { IfErr result (λ fault. IsFaulty self.old.registry.now world.now view.now
             self.old.tested binding.now fault) }
         ensures unchanged { IfErr result (λ fault.
-            ¬ (fault ≡ VariableFault.Refused ResourceUnavailable)
+            (fault ≡ VariableFault.Refused ResourceUnavailable → self.old.tested < MAX_VARIABLES)
             → self.new.registry.now ≡ self.old.registry.now) }
         ensures released { OnErr result
             (map object_after_release self.new.registry.now
