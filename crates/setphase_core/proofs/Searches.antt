@@ -1,12 +1,15 @@
 -- The binary search for the place of a name, and how many turns it takes.
-use Rattle.std.proofs.Common.{◌≡◌, ℕ, zero, suc, ◌+◌, ◌-◌, ◌*◌, ◌/◌, ◌^◌, ◌<◌, ◌≤◌, Bool, ◌||◌, true, false, List, [], ◌∷◌, length, refl, ap, subst, ◌∙◌, arith, Some, None, Err, inl, inr, add-one, find}
+use Rattle.std.proofs.Common.{◌≡◌, ℕ, zero, suc, ◌+◌, ◌-◌, ◌*◌, ◌/◌, ◌^◌, ◌<◌, ◌≤◌, Bool, not, ◌||◌, true, false, if◌then◌else◌, List, [], ◌∷◌, length, refl, sym, ap, subst, ◌∙◌, arith, Some, None, Err, inl, inr, add-one, find}
 use Rattle.std.proofs.Math.Nat.{mul-le-mul_left, pow-succ'}
 use Rattle.oid_core.specs.Order.{name_lt, is_prefix}
 use Rattle.oid_core.proofs.OrderLaws.{name_lt-trans}
-use Rattle.setphase_core.specs.Searching.{prefix_at, may_follow, IsPlaceBehind, IsOwnerPlace, IsPlace, IsStart}
+use Rattle.setphase_core.specs.Searching.{prefix_at, may_follow, IsPlaceBehind, IsOwnerPlace, IsPlace, IsStart, least_comparisons}
 use Rattle.setphase_core.proofs.Below.{begun_lt, begun_not_lt, begun_apart, begun_apart_back, below_itself_lt}
 use Rattle.setphase_core.proofs.Ordered.{AreOrdered, ordered_at}
+use Rattle.std.specs.List.{list_any}
 use Rattle.std.proofs.lemmas.Bool.Decides.{eqb_tells, leb_tells}
+use Rattle.std.proofs.lemmas.List.{get_or_read_under}
+use Rattle.std.proofs.lemmas.List.Folds.{list_any_at, Any-from_list_any}
 
 -- what stands between the turns: the place is from `low` to `high`, and `turns` turns have left so
 -- little
@@ -18,6 +21,9 @@ pub record IsSearched (prefixes : List (List ℕ)) (name : List ℕ) (low high t
   pub apart : 0 < low → is_prefix (prefix_at prefixes (low - 1)) name ≡ false
   pub left : 2 ^ turns * (high - low) ≤ length prefixes
   pub work : 2 ^ turns ≤ 2 * length prefixes + 1
+  pub raised : 0 < low → 1 ≤ turns
+  pub lowered : high < length prefixes → 1 ≤ turns
+  pub both : 0 < low → high < length prefixes → 2 ≤ turns
 
 pub search_begins : (prefixes : List (List ℕ)) (name : List ℕ) → IsSearched prefixes name 0 (length prefixes) 0
 search_begins prefixes name = record {
@@ -28,6 +34,9 @@ search_begins prefixes name = record {
   apart = λ h. absurd (omega (arith, h));
   left = omega arith;
   work = omega arith;
+  raised = λ h. absurd (omega (arith, h));
+  lowered = λ h. absurd (omega (arith, h));
+  both = λ h l. absurd (omega (arith, h));
 }
 
 -- half of what is left, after one turn more
@@ -69,6 +78,9 @@ search_left prefixes name low high middle turns ordered s lt is below =
       apart = s.apart;
       left = rw (power_more turns) (halved (2 ^ turns) (high - low) (middle - low) (length prefixes) s.left half);
       work = rw (power_more turns) (doubled (2 ^ turns) (high - low) (length prefixes) s.left (omega (arith, lt)));
+      raised = λ h. omega arith;
+      lowered = λ h. omega arith;
+      both = λ h l. omega (arith, s.raised h);
     }
 
 pub search_right : (prefixes : List (List ℕ)) (name : List ℕ) (low high middle turns : ℕ) → AreOrdered prefixes → IsSearched prefixes name low high turns → low < high →
@@ -84,6 +96,9 @@ search_right prefixes name low high middle turns ordered s lt is below not_begun
       apart = λ h. subst (λ n. is_prefix (prefix_at prefixes n) name ≡ false) (omega arith) not_begun;
       left = rw (power_more turns) (halved (2 ^ turns) (high - low) (high - (middle + 1)) (length prefixes) s.left half);
       work = rw (power_more turns) (doubled (2 ^ turns) (high - low) (length prefixes) s.left (omega (arith, lt)));
+      raised = λ h. omega arith;
+      lowered = λ h. omega arith;
+      both = λ h l. omega (arith, s.lowered l);
     }
 
 -- what a turn that finds the owner has taken
@@ -137,6 +152,74 @@ search_ends prefixes name low high turns ordered s h =
       behind = λ k l m. s.behind k (omega (arith, same, l)) m;
     } in
     (owner_missing prefixes name low ordered behind s.apart, behind)
+
+-- ---- how many comparisons it takes at least
+
+-- a name that passes a test stands at some place
+somewhere : (test : List ℕ → Bool) (prefixes : List (List ℕ)) → list_any test prefixes ≡ true → (k : ℕ) × (k < length prefixes) × (test (prefix_at prefixes k) ≡ true)
+somewhere test prefixes h =
+    let found = Any-from_list_any test prefixes h in
+    (found.0, found.2, ap test (sym (get_or_read_under prefixes found.0 (length prefixes) found.1 [] (sym found.3) found.2 refl)) ∙ found.4)
+
+pub least_found : (prefixes : List (List ℕ)) (name : List ℕ) (place : ℕ) → place < length prefixes → is_prefix (prefix_at prefixes place) name ≡ true → least_comparisons prefixes name ≡ 1
+least_found prefixes name place within begun = rw (list_any_at (λ p. is_prefix p name) prefixes place [] within begun) refl
+
+-- by what the three tests say
+at_most : (begun lesser greater : Bool) (turns : ℕ) → (begun ≡ true → ⊥) → (lesser ≡ true → 1 ≤ turns) → (greater ≡ true → 1 ≤ turns) → (lesser ≡ true → greater ≡ true → 2 ≤ turns) →
+    (if begun then 1 else ((if lesser then 1 else 0) + (if greater then 1 else 0))) ≤ turns
+at_most true lesser greater turns none low high both = absurd (none refl)
+at_most false true true turns none low high both = both refl refl
+at_most false true false turns none low high both = low refl
+at_most false false true turns none low high both = high refl
+at_most false false false turns none low high both = omega arith
+
+pub least_missing : (prefixes : List (List ℕ)) (name : List ℕ) (low high turns : ℕ) → AreOrdered prefixes → IsSearched prefixes name low high turns → high ≤ low → least_comparisons prefixes name ≤ turns
+least_missing prefixes name low high turns ordered s h =
+    at_most _ _ _ turns none (λ e. s.raised (front e)) (λ e. s.lowered (rear e)) (λ e f. s.both (front e) (rear f))
+  where
+    place : IsPlace prefixes name (Err low)
+    place = search_ends prefixes name low high turns ordered s h
+
+    none : list_any (λ p. is_prefix p name) prefixes ≡ true → ⊥
+    none e =
+        let at = somewhere (λ p. is_prefix p name) prefixes e in
+        let apart = place.0 at.0 at.1 in
+        let is = at.2 in
+        cc
+
+    front : list_any (λ p. not (name_lt name p)) prefixes ≡ true → 0 < low
+    front e =
+        let at = somewhere (λ p. not (name_lt name p)) prefixes e in
+        elim (leb_tells 1 low) [
+          | inl l ↦ l.1
+          | inr l ↦
+              let below = place.1.behind at.0 (omega (arith, l.1)) at.1 in
+              let is : not true ≡ true = ap not (sym below) ∙ at.2 in
+              absurd (cc)
+        ]
+
+    rear : list_any (λ p. name_lt name p) prefixes ≡ true → high < length prefixes
+    rear e =
+        let at = somewhere (λ p. name_lt name p) prefixes e in
+        elim (leb_tells (suc high) (length prefixes)) [
+          | inl l ↦ l.1
+          | inr l ↦
+              let above = place.1.before at.0 (omega (arith, l.1, at.1, h)) in
+              let is = at.2 in
+              absurd (cc)
+        ]
+
+-- the first name is greater, or it is not
+pub least_some : (prefixes : List (List ℕ)) (name : List ℕ) → 0 < length prefixes → 1 ≤ least_comparisons prefixes name
+least_some [] name h = absurd (omega (arith, h))
+least_some (prefix ∷ prefixes) name h = by_first (list_any (λ p. is_prefix p name) (prefix ∷ prefixes)) (name_lt name prefix) (list_any (λ p. not (name_lt name p)) prefixes) (list_any (λ p. name_lt name p) prefixes)
+  where
+    by_first : (begun first lesser greater : Bool) → 1 ≤ (if begun then 1 else ((if not first || lesser then 1 else 0) + (if first || greater then 1 else 0)))
+    by_first true first lesser greater = omega arith
+    by_first false true true greater = omega arith
+    by_first false true false greater = omega arith
+    by_first false false lesser true = omega arith
+    by_first false false lesser false = omega arith
 
 -- ---- the objects in front of it have nothing behind the name
 

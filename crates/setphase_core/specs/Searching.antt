@@ -1,5 +1,6 @@
 -- Where a name stands among the names of objects.
-use Rattle.std.specs.Prelude.{◌≡◌, ◌≢◌, ℕ, ◌<◌, ◌≤◌, Bool, ◌||◌, true, false, List, [], length, slice_index_or, Option, Some, None, Result, Ok, Err}
+use Rattle.std.specs.Prelude.{◌≡◌, ◌≢◌, ℕ, ◌+◌, ◌<◌, ◌≤◌, Bool, not, ◌||◌, true, false, if◌then◌else◌, List, [], length, slice_index_or, Option, Some, None, Result, Ok, Err}
+use Rattle.std.specs.List.{list_any}
 use Rattle.std.specs.declared.cmp.Ordering.{Ordering}
 use Rattle.std.specs.declared.cmp.Ordering.TheVariants.{Less, Equal, Greater}
 use Rattle.oid_core.specs.Order.{name_lt, is_prefix}
@@ -48,3 +49,12 @@ pub record IsStart (prefixes : List (List ℕ)) (name : List ℕ) (place : ℕ) 
   pub apart : (k : ℕ) → k < place → is_prefix (prefix_at prefixes k) name ≡ false
   pub behind : (k : ℕ) → place ≤ k → k < length prefixes
       → may_follow name (prefix_at prefixes k) ≡ true
+
+-- The comparisons with objects' names without which the object of a name cannot be known: one with
+-- the name that begins it; or, where none does, one with a name that is not greater, and one with a
+-- greater name, where there are such.
+abbrev pub least_comparisons : List (List ℕ) → List ℕ → ℕ
+least_comparisons prefixes name =
+    if list_any (λ prefix. is_prefix prefix name) prefixes then 1
+    else ((if list_any (λ prefix. not (name_lt name prefix)) prefixes then 1 else 0)
+    + (if list_any (λ prefix. name_lt name prefix) prefixes then 1 else 0))

@@ -1,6 +1,6 @@
 //! Laws of worlds, of what they show, and of lists of objects. Each function does nothing: its
 //! contract is the law.
-ghost use Rattle.std.specs.Prelude.{◌≡◌, ◌≢◌, ◌↔◌, ◌≤◌, ℕ, Bool, if◌then◌else◌, List, length, filter, None, IsTrue};
+ghost use Rattle.std.specs.Prelude.{◌≡◌, ◌≢◌, ◌↔◌, ◌≤◌, ◌<◌, ℕ, Bool, if◌then◌else◌, List, length, filter, None, IsTrue};
 ghost use Rattle.std.specs.List.{count_by};
 ghost use Rattle.community_core.specs.Communities.{PolicyTables};
 ghost use Rattle.fdb_core.specs.Rows.{IsRising as AreRising};
@@ -14,6 +14,7 @@ ghost use Rattle.setphase_core.specs.Objects.{ObjectRow};
 ghost use Rattle.setphase_core.specs.Names.{bridge_rows};
 ghost use Rattle.setphase_core.specs.Registry.{first_fault, prefixes_of, AreApart, AreNamed, instances};
 ghost use Rattle.setphase_core.specs.Passing.{open_instances, passed_after, PassesHidden};
+ghost use Rattle.setphase_core.specs.Searching.{least_comparisons};
 ghost use Rattle.setphase_core.specs.Opening.{opening_world, opening_instances};
 ghost use Rattle.setphase_core.specs.InUse.{world_in_use, instances_in_use};
 
@@ -91,6 +92,12 @@ pub fn nothing_shown_is_missed()
 pub fn no_more_are_passed_after_a_name()
     ensures { (passes : List ℕ → Bool) (rows : List ObjectRow) (name : List ℕ)
         → passed_after passes rows name ≤ count_by (λ row. passes row.prefix) rows }
+{}
+
+/// Where there are objects, the object of a name is not known without a comparison.
+pub fn an_object_takes_a_comparison()
+    ensures { (prefixes : List (List ℕ)) (name : List ℕ) → 0 < length prefixes
+        → 1 ≤ least_comparisons prefixes name }
 {}
 
 /// The 51 objects of RFC 4188 and RFC 4318 in the order of their names make a registry.

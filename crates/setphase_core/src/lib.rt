@@ -33,7 +33,8 @@
 //! `specs/Variables.antt`, `specs/Together.antt`: why a Set is refused, by its variables one by one
 //! and together; `specs/Outcomes.antt`: how it ends; `specs/Staging.antt`, `specs/Tested.antt`:
 //! what stands between its steps; `specs/Searching.antt`: where a name stands among those of
-//! objects; `specs/Passing.antt`: the objects that a walk does not pass over, and how many it does;
+//! objects, and how many comparisons it takes at least to know that; `specs/Passing.antt`: the
+//! objects that a walk does not pass over, and how many it does;
 //! `specs/Opening.antt`: all that a bridge of two ports shows as it opens; `specs/InUse.antt`: all
 //! that a bridge of four ports shows, made by hand as if in use.
 //!
@@ -42,9 +43,10 @@
 //! begins another; the names of all instances rise, whatever the objects are, where the learned
 //! rows of the bridge are by rising address, as those of every `Bridge` are; a walk that passes
 //! over only objects none of whose names is shown misses nothing that is shown, and passes over no
-//! more of them after a name than there are; the 51 objects make a registry; they show 75 instances
-//! of a bridge of two ports as it opens, and 135 of a bridge of four ports, made by hand as if in
-//! use, most of whose facts differ from one another.
+//! more of them after a name than there are; where there are objects, the object of a name is not
+//! known without a comparison; the 51 objects make a registry; they show 75 instances of a bridge
+//! of two ports as it opens, and 135 of a bridge of four ports, made by hand as if in use, most of
+//! whose facts differ from one another.
 //!
 //! # Not claimed
 //! That changed settings are in force: `Bridge::settle` comes behind them. Which of several

@@ -4,6 +4,7 @@ ghost use Rattle.std.specs.Option.{option_copied};
 ghost use Rattle.message_core.specs.Instances.{next_of, value_of, IsServable};
 ghost use Rattle.setphase_core.specs.Registry.{rows_of, prefixes_of, first_fault, AreApart, AreNamed, HasShortName, owner_of, instances};
 ghost use Rattle.setphase_core.specs.Passing.{open_instances, passed_after, passed_ahead};
+ghost use Rattle.setphase_core.specs.Searching.{least_comparisons};
 
 use crate::object::MibObject;
 use crate::passing::{Passing, next_open_from};
@@ -131,11 +132,13 @@ impl<O: MibObject> Registry<O> {
         owner_name(objects, name, place)
     }
 
-    /// The same by a search, and one step for each of its turns: of n objects no more than s steps
-    /// with 2^s <= 2n + 1.
+    /// The same by a search, of which each comparison with an object's name is a step: of n objects
+    /// no more than s steps with 2^s <= 2n + 1, and no fewer than the comparisons without which the
+    /// object cannot be known.
     pub fn owner_steps<L: Ledger>(&self, name: &[u32], steps: &mut Steps<L>) -> Option<&[u32]>
         ensures owner { option_copied result ≡ owner_of (rows_of self.now) name.now }
-        ensures forward { steps.old ≤ steps.new }
+        ensures least { steps.old + least_comparisons (prefixes_of (rows_of self.now)) name.now
+            ≤ steps.new }
         ensures work { 2 ^ (steps.new - steps.old) ≤ 2 * length self.now + 1 }
     {
         let objects = self.objects.as_slice();

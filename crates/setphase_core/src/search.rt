@@ -4,7 +4,7 @@ ghost use Rattle.std.specs.Option.{option_copied};
 ghost use Rattle.oid_core.specs.Order.{is_prefix};
 ghost use Rattle.message_core.specs.Instances.{value_of};
 ghost use Rattle.setphase_core.specs.Registry.{rows_of, prefixes_of, first_fault, owner_of, instances, instances_under};
-ghost use Rattle.setphase_core.specs.Searching.{prefix_at, IsSide, IsPlace, IsStart};
+ghost use Rattle.setphase_core.specs.Searching.{prefix_at, IsSide, IsPlace, IsStart, least_comparisons};
 
 use crate::object::MibObject;
 use crate::world::World;
@@ -49,7 +49,9 @@ pub fn place_of<O: MibObject, L: Ledger>(
 ) -> Result<usize, usize>
     requires { first_fault (rows_of (map O.state objects.now)) ≡ None }
     ensures place { IsPlace (prefixes_of (rows_of (map O.state objects.now))) name.now result }
-    ensures forward { steps.old ≤ steps.new }
+    ensures least { steps.old
+        + least_comparisons (prefixes_of (rows_of (map O.state objects.now))) name.now
+        ≤ steps.new }
     ensures work { 2 ^ (steps.new - steps.old) ≤ 2 * length objects.now + 1 }
 {
     let mut low = 0;
