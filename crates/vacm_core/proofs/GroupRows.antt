@@ -1,5 +1,5 @@
 -- The group row of a key among the rows whose numbers are found.
-use Rattle.std.proofs.Common.{◌≡◌, ℕ, zero, suc, ◌<◌, ◌≤◌, Bool, true, false, List, [], ◌∷◌, length, get_or, find, bytes_eq, All, Contains, Option, Some, None, refl, sym, ap, subst, ◌∙◌, ◌==◌, ◌&&◌, arith, inl, inr, eq-eqb}
+use Rattle.std.proofs.Common.{◌≡◌, ℕ, zero, suc, ◌<◌, Bool, true, false, List, [], ◌∷◌, length, get_or, find, bytes_eq, All, Contains, Some, None, refl, sym, ap, subst, ◌∙◌, ◌==◌, arith, inl, inr, eq-eqb}
 use Rattle.std.specs.Cmp.Lexicographic.{same_text}
 use Rattle.std.specs.List.{slice_get}
 use Rattle.std.proofs.lemmas.Bool.{cases_Bool, both_ways, and_from, eqb-true}

@@ -1,5 +1,5 @@
 -- What lies in an index of rows, and what is found in it.
-use Rattle.std.proofs.Common.{◌≡◌, ℕ, zero, suc, ◌+◌, ◌-◌, ◌<◌, ◌≤◌, Bool, true, false, List, [], ◌∷◌, ◌++◌, length, take, drop, get_or, All, Contains, refl, sym, ap, subst, ◌∙◌, arith, inl, inr}
+use Rattle.std.proofs.Common.{◌≡◌, ℕ, ◌+◌, ◌-◌, ◌<◌, ◌≤◌, true, false, List, [], ◌∷◌, ◌++◌, length, take, drop, get_or, All, Contains, refl, sym, ap, subst, ◌∙◌, arith, inl, inr}
 use Rattle.std.specs.Cmp.{IsTotalOrder, IsStrictWeakOrder}
 use Rattle.std.specs.Cmp.Lexicographic.{slice_cmp}
 use Rattle.std.specs.FinMap.{nat_cmp-IsAntisymmetric}
@@ -7,13 +7,13 @@ use Rattle.std.specs.List.Sorted.{IsSortedBy, IsNonDecreasingBy, IsPartitionedBy
 use Rattle.std.specs.Ordering.{nat_cmp, is_lt, is_le, ordering_index}
 use Rattle.std.specs.declared.cmp.Ordering.{Ordering}
 use Rattle.std.specs.declared.cmp.Ordering.TheVariants.{Less, Equal, Greater}
-use Rattle.std.proofs.lemmas.Bool.{cases_lt, cases_eq, both_ways}
+use Rattle.std.proofs.lemmas.Bool.{cases_lt, both_ways}
 use Rattle.std.proofs.lemmas.Cmp.{then_total, on_total, nat_cmp_total, nat_list_cmp_total, tied_itself}
 use Rattle.std.proofs.lemmas.List.{get_or-take, get_or-drop, length-take, length-take-le, length-drop}
 use Rattle.std.proofs.lemmas.List.Elements.{All-push, Contains-append_left, Contains-push}
 use Rattle.std.proofs.lemmas.List.Sorted.{ranks_by, searchable_from_sorted, IsNonDecreasingBy-take, IsNonDecreasingBy-drop}
 use Rattle.oid_core.proofs.OrderLaws.{cmp_equal}
-use Rattle.vacm_core.specs.Keys.{key_cmp, key_at, key_before, IsIndex}
+use Rattle.vacm_core.specs.Keys.{key_cmp, key_at, key_before}
 use Rattle.vacm_core.proofs.Ties.{then_equal}
 
 pub one_more_in : (n : ℕ) (numbers after : List ℕ) → ((k : ℕ) → k < n → Contains numbers k) → after ≡ numbers ++ n ∷ [] → (k : ℕ) → k < n + 1 → Contains after k

@@ -11,3 +11,4 @@ pub mod FamilyWays
 pub mod Unbeaten
 pub mod Indexes
 pub mod GroupRows
+pub mod ViewRows

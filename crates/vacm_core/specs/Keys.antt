@@ -6,6 +6,7 @@ use Rattle.std.specs.List.Sorted.{IsSortedBy}
 use Rattle.std.specs.declared.cmp.Ordering.{Ordering}
 use Rattle.vacm_core.specs.declared.tables.GroupRow.{GroupRow}
 use Rattle.vacm_core.specs.declared.tables.AccessRow.{AccessRow}
+use Rattle.vacm_core.specs.declared.tables.FamilyRow.{FamilyRow}
 
 -- by the number, and then by the name
 abbrev pub key_cmp : ℕ × List ℕ → ℕ × List ℕ → Ordering
@@ -35,3 +36,7 @@ group_key row = (row.model, row.name)
 -- an access row by its group alone
 abbrev pub access_key : AccessRow → ℕ × List ℕ
 access_key row = (0, row.group)
+
+-- a family row by its view alone
+abbrev pub view_key : FamilyRow → ℕ × List ℕ
+view_key row = (0, row.view)

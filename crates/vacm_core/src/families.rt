@@ -6,11 +6,13 @@ ghost use Rattle.vacm_core.specs.Rows.{same_family};
 ghost use Rattle.vacm_core.specs.Tables.{KeysDiffer};
 ghost use Rattle.vacm_core.specs.Access.{has_view};
 ghost use Rattle.vacm_core.specs.Families.{deciding_family};
+ghost use Rattle.vacm_core.specs.Keys.{IsIndex, view_key};
 ghost use Rattle.vacm_core.specs.Trees.{leads, reaches, counting_part, way_of, IsPlaced, IsTreeOf};
 ghost use Rattle.vacm_core.specs.declared.tables.FamilyRow.{FamilyRow};
 
 use crate::copying::copied_rows;
 use crate::deciding::{FamilyContest, mask_bit};
+use crate::index::{Keyed, index_of, with_key};
 use crate::limits::MAX_NAME;
 use crate::name::Name;
 use crate::radix::{Radix, packed};
@@ -27,14 +29,30 @@ use std::marker::Model;
 // those, and the numbers of a name.
 const MOST_NUMBERS: usize = 1 + MAX_NAME + MAX_NUMBERS;
 
-/// The family rows, seen as their list, and the tree of them. No two rows have one key.
+impl Keyed for FamilyRow {
+    ghost key = { view_key };
+
+    fn key_number(&self) -> u32 {
+        0
+    }
+
+    fn key_name(&self) -> &Name {
+        &self.view
+    }
+}
+
+/// The family rows, seen as their list, with the tree of them and their index by view. No two rows
+/// have one key.
 pub struct Families {
     rows: Rows<FamilyRow>,
     tree: Radix,
+    // By view.
+    view_index: Rows<usize>,
 }
 
 impl Model for Families {
     ghost use Rattle.std.specs.Prelude.{List};
+    ghost use Rattle.vacm_core.specs.Keys.{IsIndex, view_key};
     ghost use Rattle.vacm_core.specs.Trees.{AreWithTree};
     ghost use Rattle.vacm_core.specs.declared.tables.FamilyRow.{FamilyRow};
 
@@ -42,7 +60,7 @@ impl Model for Families {
 
     ghost view = { λ f. f.rows };
 
-    ghost invariant = { λ f. AreWithTree f.rows f.tree };
+    ghost invariant = { λ f. AreWithTree f.rows f.tree × IsIndex view_key f.rows f.view_index };
 }
 
 // By hand, so that who lets go of the rows knows nothing of the tree.
@@ -51,26 +69,32 @@ impl Drop for Families {
         let Families {
             rows: _rows,
             tree: _tree,
+            view_index: _view_index,
         } = self;
     }
 }
 
 impl Families {
-    /// The rows with their tree.
+    /// The rows with their tree and their index.
     ///
     /// # Errors
     ///
-    /// Where there is no memory for the tree; there is then a row.
+    /// Where there is no memory for these; there is then a row.
     pub fn new(alloc: Global, rows: Rows<FamilyRow>) -> Result<Families, AllocError>
         requires { KeysDiffer same_family rows }
         ensures rows { IfOk result (λ families. families ≡ rows) }
         ensures memory { OnErr result (0 < length rows) }
     {
         let tree = tree_of(alloc, rows.as_slice())?;
-        Ok(Families { rows, tree })
+        let view_index = index_of(alloc, rows.as_slice())?;
+        Ok(Families {
+            rows,
+            tree,
+            view_index,
+        })
     }
 
-    /// The same rows, with a tree of their own.
+    /// The same rows, with a tree and an index of their own.
     ///
     /// # Errors
     ///
@@ -97,38 +121,25 @@ impl Families {
         deciding_family(&self.tree, self.rows.as_slice(), view, name)
     }
 
-    /// Whether a view has a name and a family. It takes no memory. The tree is looked at first, so
-    /// only a view without a family costs a look at every row.
+    /// Whether a view has a name and a family, found by halves. It takes no memory.
     pub fn has_view(&self, view: &Name) -> bool
         ensures { result ≡ has_view self.now view.now }
     {
-        let rows = self.rows.as_slice();
-        !view.is_empty() && (is_of_view(rows, self.first_of(view), view) || has_family(rows, view))
-    }
-
-    // The number of a row that the tree has for a view.
-    fn first_of(&self, view: &Name) -> Option<usize> {
-        let mut numbers = ArrayVec::new();
-        put_numbers(&mut numbers, view, &[]);
-        self.tree.row_behind(numbers.as_slice())
+        !view.is_empty()
+            && has_row_of(
+                self.rows.as_slice(),
+                self.view_index.as_slice(),
+                view.as_bytes(),
+            )
     }
 }
 
-// Whether there is a row of this number, and it is of the view.
-fn is_of_view(rows: &[FamilyRow], n: Option<usize>, view: &Name) -> bool
-    ensures { result ≡ true → list_any (λ row. bytes_eq row.view view.now) rows.now ≡ true }
-{
-    match n.and_then(|n| rows.get(n)) {
-        Some(row) => row.view.is(view),
-        None => false,
-    }
-}
-
-// Whether some row is of the view.
-fn has_family(rows: &[FamilyRow], view: &Name) -> bool
+// Whether some row is of the view of this name.
+fn has_row_of(rows: &[FamilyRow], index: &[usize], view: &[u8]) -> bool
+    requires { IsIndex view_key rows.now index.now }
     ensures { result ≡ list_any (λ row. bytes_eq row.view view.now) rows.now }
 {
-    rows.iter().any(|row| row.view.is(view))
+    !with_key(rows, index, 0, view).is_empty()
 }
 
 // A step that counts.

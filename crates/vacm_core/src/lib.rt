@@ -24,8 +24,8 @@
 //! `specs/Trees.antt`, inside the crate: which family rows a tree leads to, by which numbers. A
 //! `Vacm` keeps a radix tree of its family rows, and `Vacm::in_view` goes by it: the row that it
 //! finds is the one that decides among all of them. `specs/Keys.antt`, inside the crate too: the
-//! order of rows by their keys, by which a `Vacm` finds a group row, and the access rows of a
-//! group. `specs/Tables.antt`, `specs/Rows.antt`: the tables as they are kept, and the rows that
+//! order of rows by their keys, by which a `Vacm` finds a group row, the access rows of a group, and
+//! whether a view has a family. `specs/Tables.antt`, `specs/Rows.antt`: the tables as they are kept, and the rows that
 //! written ones stand for; `specs/Levels.antt`: the numbers of the security levels;
 //! `specs/Texts.antt`: the texts of the tables.
 //!
@@ -37,10 +37,9 @@
 //!
 //! # Not claimed
 //! How long a decision takes: `Vacm::decide` finds the group row by halves, and looks at the access
-//! rows of the group, and at the contexts up to the one asked for. For the view it follows one way
-//! in the tree to a family row; only where that finds no row of the view does it go over the family
-//! rows, up to the first of the view, if there is one. `Vacm::hides_all` looks at each family row,
-//! `Vacm::in_view` at those that its tree leads to.
+//! rows of the group, and at the contexts up to the one asked for. It looks by halves whether the
+//! view has a family. `Vacm::hides_all` looks at each family row, `Vacm::in_view` at those that its
+//! tree leads to.
 #![tactic(auto)]
 
 mod checking;

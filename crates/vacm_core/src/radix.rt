@@ -47,28 +47,6 @@ pub struct Run {
     pub below: Radix,
 }
 
-impl Radix {
-    /// The number of a row, if there is one, that is found by going on by these numbers as far as
-    /// they lead, and then after the first step, and after the next.
-    pub fn row_behind(&self, numbers: &[u32]) -> Option<usize> {
-        let node = match self {
-            Radix::Empty => return None,
-            Radix::Run(run) => {
-                let rest = behind(numbers, run.parts.as_slice());
-                return run.below.row_behind(rest.unwrap_or(&[]));
-            }
-            Radix::Fork(node) => node,
-        };
-        match numbers {
-            [] if node.row.is_some() => node.row,
-            [] => node.equal.row_behind(numbers),
-            [first, ..] if *first < node.part => node.less.row_behind(numbers),
-            [first, ..] if node.part < *first => node.greater.row_behind(numbers),
-            [_, rest @ ..] => node.equal.row_behind(rest),
-        }
-    }
-}
-
 /// What follows these numbers in a list that begins with them.
 pub fn behind<'a>(list: &'a [u32], numbers: &[u32]) -> Option<&'a [u32]>
     ensures { MatchOption result ((rest : List ℕ) → list.now ≢ numbers.now ++ rest)

@@ -1,8 +1,7 @@
-use Rattle.std.proofs.Common.{◌≡◌, ℕ, List, sym, ap, ◌∙◌}
-use Rattle.std.specs.Cmp.Lexicographic.{same_text}
+use Rattle.std.proofs.Common.{ℕ, List, sym, ap, ◌∙◌}
 use Rattle.std.proofs.lemmas.Option.{slice_get_within}
 use Rattle.vacm_core.specs.Access.{candidate, access_beats}
-use Rattle.vacm_core.specs.Keys.{access_key, key_at, key_or}
+use Rattle.vacm_core.specs.Keys.{access_key, key_or}
 use Rattle.vacm_core.specs.Orders.{access_order}
 use Rattle.vacm_core.specs.Rows.{same_access}
 use Rattle.vacm_core.specs.Trees.{Covers}
