@@ -69,7 +69,7 @@ idle_driven {L} o d e = ap (λ (x : Driven L). x.reserved) e
 
 pub driven_stands : {L : Type 0} (objects : List (Object L)) (i : ℕ) (o : Driven L) (d : L) → i ≡ 51 →
     map column_of objects ≡ take i columns → o ≡ record { driver = d; reserved = [] } →
-    slice_get (slice_set objects 25 (object.PortEnable o)) 25 ≡ Some (object.PortEnable (record { driver = d; reserved = [] }))
+    slice_get (slice_set objects 25 (object.Enable o)) 25 ≡ Some (object.Enable (record { driver = d; reserved = [] }))
 driven_stands {L} objects i o d e h same =
-    stands objects 25 (object.PortEnable o) (many objects i e h)
-    ∙ ap (λ (x : Driven L). Some (object.PortEnable x)) same
+    stands objects 25 (object.Enable o) (many objects i e h)
+    ∙ ap (λ (x : Driven L). Some (object.Enable x)) same

@@ -11,33 +11,17 @@ use Rattle.object_list.specs.declared.object.Object.TheVariants as object
 
 -- The column that an object shows.
 abbrev pub column_of : {L : Type 0} → Object L → Column
-column_of (object.Base o) = column.Base o.which
-column_of (object.BasePort o) = column.BasePort o.which
-column_of (object.Stp o) = column.Stp o.which
-column_of (object.StpPort o) = column.StpPort o.which
-column_of (object.PortEnable o) = column.StpPort stp_port.Enable
-column_of (object.Rapid o) = column.Rapid o.which.0
-column_of (object.ExtPort o) = column.ExtPort o.which.0
-column_of (object.Tp o) = column.Tp o.which
-column_of (object.TpFdb o) = column.TpFdb o.which
-column_of (object.TpPort o) = column.TpPort o.which
+column_of (object.Plain o) = o.which.0
+column_of (object.Enable o) = column.StpPort stp_port.Enable
 
 -- What it has reserved.
 abbrev pub reserved_of : {L : Type 0} → Object L → List Reservation
-reserved_of (object.Base o) = o.reserved
-reserved_of (object.BasePort o) = o.reserved
-reserved_of (object.Stp o) = o.reserved
-reserved_of (object.StpPort o) = o.reserved
-reserved_of (object.PortEnable o) = o.reserved
-reserved_of (object.Rapid o) = o.reserved
-reserved_of (object.ExtPort o) = o.reserved
-reserved_of (object.Tp o) = o.reserved
-reserved_of (object.TpFdb o) = o.reserved
-reserved_of (object.TpPort o) = o.reserved
+reserved_of (object.Plain o) = o.reserved
+reserved_of (object.Enable o) = o.reserved
 
 -- How often its driver has failed, where it has one.
 abbrev pub failures_of : {L : Type 0} → (L → ℕ) → Object L → ℕ
-failures_of failures (object.PortEnable o) = failures o.driver
+failures_of failures (object.Enable o) = failures o.driver
 failures_of failures other = 0
 
 abbrev pub state_of : {L : Type 0} → (L → ℕ) → Object L → ObjectState

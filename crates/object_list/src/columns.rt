@@ -77,7 +77,7 @@ pub fn objects<L: LineDriver>(alloc: Global, driver: L) -> Result<Vec<Object<L>>
         rows_of (states_of L.failures objects.items) ≡ bridge_rows) }
     ensures idle { IfOk result (λ objects. held_count (states_of L.failures objects.items) ≡ 0) }
     ensures driven { IfOk result (λ objects. slice_get objects.items ENABLE
-        ≡ Some (Object.PortEnable (record { driver = driver; reserved = [] }))) }
+        ≡ Some (Object.Enable (record { driver = driver; reserved = [] }))) }
     // So they make a registry.
     ensures named { IfOk result (λ objects.
         AreNamed (rows_of (states_of L.failures objects.items))) }
@@ -88,7 +88,7 @@ pub fn objects<L: LineDriver>(alloc: Global, driver: L) -> Result<Vec<Object<L>>
     for column in COLUMNS {
         objects.push(Object::of(column))?;
     }
-    objects[ENABLE] = Object::PortEnable(PortEnable::new(driver));
+    objects[ENABLE] = Object::Enable(PortEnable::new(driver));
     objects_are_accepted();
     Ok(objects)
 }

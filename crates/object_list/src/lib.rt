@@ -2,11 +2,12 @@
 //! all of them.
 //!
 //! # Entry points
-//! [`Object`]: a managed object of any of the ten kinds, by `of` a column, or by `over` a column
-//! and a driver, which dot1dStpPortEnable takes. [`COLUMNS`]: the columns of the 51 objects in the
-//! order of their names; [`objects`]: the objects themselves, dot1dStpPortEnable over a driver, of
-//! which `Registry::new` makes a registry. [`ENABLE`] is the place of dot1dStpPortEnable among
-//! them, counted from 0.
+//! [`ColumnDescriptor`]: the descriptor of any column, which does what that of the column's module
+//! does; [`PlainObject`]: the managed object of it, without a device. [`Object`]: a plain object, or
+//! dot1dStpPortEnable over a driver, by `of` a column, or by `over` a column and a driver, which
+//! dot1dStpPortEnable takes. [`COLUMNS`]: the columns of the 51 objects in the order of their names;
+//! [`objects`]: the objects themselves, dot1dStpPortEnable over a driver, of which `Registry::new`
+//! makes a registry. [`ENABLE`] is the place of dot1dStpPortEnable among them, counted from 0.
 //!
 //! # Definitions
 //! `specs/Objects.antt`: the column of an object, and what it is to a registry.
@@ -20,7 +21,9 @@
 #![tactic(auto)]
 
 mod columns;
+mod descriptor;
 mod object;
 
 pub use columns::{COLUMNS, ENABLE, objects};
+pub use descriptor::{ColumnDescriptor, PlainObject};
 pub use object::Object;

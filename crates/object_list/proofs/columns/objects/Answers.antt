@@ -16,16 +16,16 @@ loop-column-preserved g c = record {
 }
 
 pub returns-clause-all : goal.returns-clause-all
-returns-clause-all g c = rows_with g.L.LineDriver.failures c.loop-column.objects.items (object.PortEnable c.new.result) c.loop-column.column-index (omega (arith, c.loop-column-test.false, c.loop-column.auto.column-index-end)) c.loop-column.invariant.columns refl
+returns-clause-all g c = rows_with g.L.LineDriver.failures c.loop-column.objects.items (object.Enable c.new.result) c.loop-column.column-index (omega (arith, c.loop-column-test.false, c.loop-column.auto.column-index-end)) c.loop-column.invariant.columns refl
 
 pub returns-clause-idle : goal.returns-clause-idle
-returns-clause-idle g c = idle_with g.L.LineDriver.failures c.loop-column.objects.items 25 (object.PortEnable c.new.result) c.loop-column.invariant.idle (idle_driven c.new.result c.args.driver c.new.ensures)
+returns-clause-idle g c = idle_with g.L.LineDriver.failures c.loop-column.objects.items 25 (object.Enable c.new.result) c.loop-column.invariant.idle (idle_driven c.new.result c.args.driver c.new.ensures)
 
 pub returns-clause-driven : goal.returns-clause-driven
 returns-clause-driven g c = driven_stands c.loop-column.objects.items c.loop-column.column-index c.new.result c.args.driver (omega (arith, c.loop-column-test.false, c.loop-column.auto.column-index-end)) c.loop-column.invariant.columns c.new.ensures
 
 pub returns-clause-named : goal.returns-clause-named
-returns-clause-named g c = subst AreNamed (sym (rows_with g.L.LineDriver.failures c.loop-column.objects.items (object.PortEnable c.new.result) c.loop-column.column-index (omega (arith, c.loop-column-test.false, c.loop-column.auto.column-index-end)) c.loop-column.invariant.columns refl)) c.objects_are_accepted.ensures.named
+returns-clause-named g c = subst AreNamed (sym (rows_with g.L.LineDriver.failures c.loop-column.objects.items (object.Enable c.new.result) c.loop-column.column-index (omega (arith, c.loop-column-test.false, c.loop-column.auto.column-index-end)) c.loop-column.invariant.columns refl)) c.objects_are_accepted.ensures.named
 
 pub returns-clause-accepted : goal.returns-clause-accepted
-returns-clause-accepted g c = ap first_fault (rows_with g.L.LineDriver.failures c.loop-column.objects.items (object.PortEnable c.new.result) c.loop-column.column-index (omega (arith, c.loop-column-test.false, c.loop-column.auto.column-index-end)) c.loop-column.invariant.columns refl) ∙ c.objects_are_accepted.ensures.accepted
+returns-clause-accepted g c = ap first_fault (rows_with g.L.LineDriver.failures c.loop-column.objects.items (object.Enable c.new.result) c.loop-column.column-index (omega (arith, c.loop-column-test.false, c.loop-column.auto.column-index-end)) c.loop-column.invariant.columns refl) ∙ c.objects_are_accepted.ensures.accepted

@@ -1,0 +1,75 @@
+//! One descriptor for the columns of all modules.
+ghost use Rattle.std.specs.Prelude.{◌≡◌};
+
+use bridge_mib::{Described, Descriptor};
+use message_core::Value;
+use rstp_mib::{ExtPortDescriptor, RapidDescriptor};
+use setphase_core::{Column, Index, World, Writable};
+use std::alloc::Global;
+
+/// A column of any module, by its descriptor.
+#[derive(Clone, Copy, Debug)]
+pub struct ColumnDescriptor(pub Column);
+
+/// The managed object of a column, without a device.
+pub type PlainObject = Described<ColumnDescriptor>;
+
+impl Descriptor for ColumnDescriptor {
+    ghost column = { λ d. d.0 };
+
+    fn prefix(self) -> &'static [u32] {
+        match self.0 {
+            Column::Base(which) => which.prefix(),
+            Column::BasePort(which) => which.prefix(),
+            Column::Stp(which) => which.prefix(),
+            Column::StpPort(which) => which.prefix(),
+            Column::Rapid(which) => RapidDescriptor(which).prefix(),
+            Column::ExtPort(which) => ExtPortDescriptor(which).prefix(),
+            Column::Tp(which) => which.prefix(),
+            Column::TpFdb(which) => which.prefix(),
+            Column::TpPort(which) => which.prefix(),
+        }
+    }
+
+    fn read(self, alloc: Global, world: &World, at: &[u32]) -> Option<Value> {
+        match self.0 {
+            Column::Base(which) => which.read(alloc, world, at),
+            Column::BasePort(which) => which.read(alloc, world, at),
+            Column::Stp(which) => which.read(alloc, world, at),
+            Column::StpPort(which) => which.read(alloc, world, at),
+            Column::Rapid(which) => RapidDescriptor(which).read(alloc, world, at),
+            Column::ExtPort(which) => ExtPortDescriptor(which).read(alloc, world, at),
+            Column::Tp(which) => which.read(alloc, world, at),
+            Column::TpFdb(which) => which.read(alloc, world, at),
+            Column::TpPort(which) => which.read(alloc, world, at),
+        }
+    }
+
+    fn next(self, world: &World, after: Option<&[u32]>) -> Option<Index> {
+        match self.0 {
+            Column::Base(which) => which.next(world, after),
+            Column::BasePort(which) => which.next(world, after),
+            Column::Stp(which) => which.next(world, after),
+            Column::StpPort(which) => which.next(world, after),
+            Column::Rapid(which) => RapidDescriptor(which).next(world, after),
+            Column::ExtPort(which) => ExtPortDescriptor(which).next(world, after),
+            Column::Tp(which) => which.next(world, after),
+            Column::TpFdb(which) => which.next(world, after),
+            Column::TpPort(which) => which.next(world, after),
+        }
+    }
+
+    fn writable(self) -> Option<Writable> {
+        match self.0 {
+            Column::Base(which) => which.writable(),
+            Column::BasePort(which) => which.writable(),
+            Column::Stp(which) => which.writable(),
+            Column::StpPort(which) => which.writable(),
+            Column::Rapid(which) => RapidDescriptor(which).writable(),
+            Column::ExtPort(which) => ExtPortDescriptor(which).writable(),
+            Column::Tp(which) => which.writable(),
+            Column::TpFdb(which) => which.writable(),
+            Column::TpPort(which) => which.writable(),
+        }
+    }
+}
