@@ -18,6 +18,8 @@ mod failing;
 #[cfg(test)]
 mod gated;
 #[cfg(test)]
+mod lending;
+#[cfg(test)]
 mod policies;
 #[cfg(test)]
 mod replayed;
