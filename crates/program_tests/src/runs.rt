@@ -1,7 +1,8 @@
 //! Runs of the script by a configuration, and checks of one.
 use crate::serving::{SETUP, SETUPS};
 use crate::support::{
-    Case, FILE, Full, GET, Names, REFUSED, REPLY, SILENT, assert_runs, ran_over, ran_with, words_of,
+    Case, FILE, Full, GET, Idle, Names, REFUSED, REPLY, SILENT, assert_runs, ran_over, ran_with,
+    words_of,
 };
 use agent_program::{Failure, NotRead, SystemFiles, check_read, run_words};
 use bridge_mib::Planned;
@@ -71,11 +72,11 @@ fn fails_with_its_input_or_its_output(rt: HostRuntime) -> Result<(), Fail> {
         (status, out.as_slice(), errors.as_slice()),
         (1, REPLY, b"agentd: input failed\n".as_slice())
     );
+    let output_failed = (1, b"agentd: output failed\n".as_slice());
     let (status, errors) = ended(&rt, &mut { GET }, &mut Full)?;
-    assert_eq!(rt;
-        (status, errors.as_slice()),
-        (1, b"agentd: output failed\n".as_slice())
-    );
+    assert_eq!(rt; (status, errors.as_slice()), output_failed);
+    let (status, errors) = ended(&rt, &mut { GET }, &mut Idle)?;
+    assert_eq!(rt; (status, errors.as_slice()), output_failed);
     Ok(())
 }
 

@@ -23,13 +23,27 @@ pub const REPLY: &[u8] =
 /// What is told where a configuration is refused.
 pub const REFUSED: &[u8] = b"agentd: configuration refused\n";
 
-/// Takes nothing.
+/// Fails at each write.
 #[derive(Drop)]
 pub struct Full;
 
 impl Write for Full {
     fn write(&mut self, _buf: &[u8]) -> io::Result<usize> {
         Err(Error::from(ErrorKind::Other))
+    }
+
+    fn flush(&mut self) -> io::Result<()> {
+        Ok(())
+    }
+}
+
+/// Takes nothing, and does not fail.
+#[derive(Drop)]
+pub struct Idle;
+
+impl Write for Idle {
+    fn write(&mut self, _buf: &[u8]) -> io::Result<usize> {
+        Ok(0)
     }
 
     fn flush(&mut self) -> io::Result<()> {
