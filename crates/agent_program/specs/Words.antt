@@ -1,5 +1,5 @@
 -- What the words of a command line ask for.
-use Rattle.std.specs.Prelude.{ℕ, ◌==◌, ◌||◌, Bool, false, codes, if◌then◌else◌, eqb, List, [], ◌∷◌, length, drop, Option, Some, None, Result, Ok, Err}
+use Rattle.std.specs.Prelude.{ℕ, ◌==◌, ◌||◌, Bool, true, false, codes, if◌then◌else◌, eqb, List, [], ◌∷◌, length, drop, Option, Some, None, Result, Ok, Err}
 use Rattle.std.specs.List.{starts_with}
 use Rattle.std.specs.Str.{bytes_eq}
 use Rattle.agent_program.specs.declared.words.Asked.{Asked}
@@ -109,6 +109,11 @@ abbrev pub asking_of : List (List ℕ) → Result Asking Mistake
 asking_of [] = Ok built_in
 asking_of (name ∷ []) = Ok built_in
 asking_of (name ∷ (word ∷ more)) = asking_with word more
+
+-- What is asked for is to serve an agent.
+abbrev pub is_serving : Result Asking Mistake → Bool
+is_serving (Ok (serve file lasting)) = true
+is_serving asked = false
 
 -- ---- what the code's answers stand for
 

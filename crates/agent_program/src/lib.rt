@@ -11,9 +11,9 @@
 //! [`NotRun`] says why there was no run to the end. [`check_octets`] tells whether octets are one,
 //! [`check_read`] whether what was read of a file is. [`open_service`] gives what octets say is to
 //! be served, [`serve_opened`] serves it for its rounds, and [`serve_opened_forever`] without an
-//! end. [`collect_words`] has the words of a command line as a list. [`report`] writes the line of
-//! a [`Failure`], or a front of it, which is [`NotTaken`] whole; [`Wrong`] says why words are no
-//! command.
+//! end. [`collect_words`] has the words of a command line as a list, [`asks_to_serve`] says whether
+//! they ask to serve an agent, before any file is read. [`report`] writes the line of a [`Failure`],
+//! or a front of it, which is [`NotTaken`] whole; [`Wrong`] says why words are no command.
 //!
 //! # Definitions
 //! `specs/Words.antt`: what words ask for; `specs/Files.antt`: what a read of a file gave;
@@ -51,4 +51,4 @@ pub use run::run_words;
 pub use running::run_octets;
 pub use serving::{Opened, open_service, serve_opened, serve_opened_forever};
 pub use telling::NotTaken;
-pub use words::{Lasting, Wrong};
+pub use words::{Lasting, Wrong, asks_to_serve};

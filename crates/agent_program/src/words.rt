@@ -1,6 +1,6 @@
 //! What the words of the command line ask for.
 ghost use Rattle.std.specs.Prelude.{◌≡◌, map, option_map, codes, string_bytes};
-ghost use Rattle.agent_program.specs.Words.{asking_with_file, may_last, file_in, behind_file, alone, behind, is_forever, asking_in_word, file_asking, serve_asking, asking_with, asking_of, asked_view, asking_view};
+ghost use Rattle.agent_program.specs.Words.{asking_with_file, may_last, file_in, behind_file, alone, behind, is_forever, asking_in_word, file_asking, serve_asking, asking_with, asking_of, is_serving, asked_view, asking_view};
 
 /// What `agentd --help` tells.
 pub const HELP: &str = "An SNMPv2c agent of a bridge, driven by a script or served over UDP
@@ -94,6 +94,13 @@ pub fn asked_by(words: &[String]) -> Result<Asked<'_>, Wrong<'_>>
         return Ok(Asked::BuiltIn);
     }
     asked_with(words[1].as_str(), &words[2..])
+}
+
+/// Whether the words of a command line, its name first, ask to serve an agent. Takes no memory.
+pub fn asks_to_serve(words: &[String]) -> bool
+    ensures { result ≡ is_serving (asking_of (map string_bytes words.now)) }
+{
+    matches!(asked_by(words), Ok(Asked::Serve(..)))
 }
 
 // What a first word asks for with those behind it.

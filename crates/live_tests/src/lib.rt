@@ -1,4 +1,5 @@
-//! Tests of whole runs over wires in memory, and of a policy that comes to a history.
+//! Tests of whole runs over wires in memory, of the objects that come back from them, and of a policy
+//! that comes to a history.
 //!
 //! # Entry points
 //! None.
@@ -13,6 +14,8 @@
 //! Anything: it only tests.
 #![tactic(auto)]
 
+#[cfg(test)]
+mod counted;
 #[cfg(test)]
 mod failing;
 #[cfg(test)]

@@ -9,7 +9,7 @@ use live_agent::{Gate, Plan};
 use live_run::{Lines, Report, RunFault, serve_run};
 use object_list::{Object, objects};
 use rstp_core::{BridgeKey, IfIndex, Key};
-use setphase_core::{Registry, are_named};
+use setphase_core::{MibObject, Registry, are_named};
 use std::alloc::Global;
 use std::net::{IpAddr, Ipv4Addr, SocketAddr};
 use std::sync::Wait;
@@ -39,15 +39,23 @@ pub const FLOODED: [u8; 14] = [
     0xFF, 0xFF, 0xFF, 0xFF, 0xFF, 0xFF, 0x02, 0x00, 0x00, 0x00, 0x01, 0x01, 0x08, 0x00,
 ];
 
-// A history over what is served, in which nothing has happened.
-fn history_of(alloc: Global, served: Served) -> Result<Kept<Shown>, Fail> {
+/// A history of these objects over what is served, in which nothing has happened.
+pub fn history_over<O: MibObject>(
+    alloc: Global,
+    objects: Vec<O>,
+    served: Served,
+) -> Result<Kept<O>, Fail> {
     let Served { world, .. } = served;
-    let all = objects(alloc, Planned::new())?;
-    if !are_named(all.as_slice()) {
+    if !are_named(objects.as_slice()) {
         return Err(Fail::from("names of objects"));
     }
-    let registry = Registry::new(all).ok().ok_or("a registry")?;
+    let registry = Registry::new(objects).ok().ok_or("a registry")?;
     Ok(Kept::new(alloc, registry, world).ok().ok_or("room")?)
+}
+
+// A history over what is served, in which nothing has happened.
+fn history_of(alloc: Global, served: Served) -> Result<Kept<Shown>, Fail> {
+    history_over(alloc, objects(alloc, Planned::new())?, served)
 }
 
 /// The history of a bridge of two ports under this policy.
@@ -89,14 +97,14 @@ fn plan_of(alloc: Global, rounds: u64) -> Result<Plan, Fail> {
 }
 
 /// What a run of so many rounds leaves under a gate, and its report.
-pub fn run<W: Wire + Send, G: Gate + Sync, R: Threads + Wait + Sync>(
+pub fn run<O: MibObject + Send, W: Wire + Send, G: Gate + Sync, R: Threads + Wait + Sync>(
     rt: &R,
     alloc: Global,
     rounds: u64,
     gate: &G,
-    history: Kept<Shown>,
+    history: Kept<O>,
     lines: Lines<W, CountPace>,
-) -> Result<(Lines<W, CountPace>, Kept<Shown>, Result<Report, RunFault>), Fail> {
+) -> Result<(Lines<W, CountPace>, Kept<O>, Result<Report, RunFault>), Fail> {
     let plan = plan_of(alloc, rounds)?;
     if lines.workers.len() > 8 || lines.ports.len() > 2 {
         return Err(Fail::from("few lines"));

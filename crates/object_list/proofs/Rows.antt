@@ -1,62 +1,66 @@
--- The rows of objects by their columns, and what they have reserved.
+-- The rows of objects, and what they have reserved, while they are made one by one, whatever type
+-- the objects have.
 use Rattle.std.proofs.Common.{◌≡◌, ℕ, ◌+◌, ◌<◌, List, [], ◌∷◌, ◌++◌, map, take, length, get_or, slice_get, slice_set, Some, zero, suc, refl, sym, ap, ap₂, ◌∙◌, arith}
 use Rattle.std.proofs.lemmas.List.{take_more, map-append, map-set, length-map}
 use Rattle.setphase_core.specs.declared.column.Column.{Column}
 use Rattle.setphase_core.specs.declared.column.Column.TheVariants as column
 use Rattle.setphase_core.specs.declared.column.StpPort.TheVariants as stp_port
 use Rattle.setphase_core.specs.Names.{columns, row_of, bridge_rows}
+use Rattle.setphase_core.specs.Objects.{ObjectRow, ObjectState}
 use Rattle.setphase_core.specs.Registry.{rows_of, held_count}
 use Rattle.bridge_mib.specs.Line.{Driven}
-use Rattle.object_list.specs.declared.object.Object.{Object}
-use Rattle.object_list.specs.declared.object.Object.TheVariants as object
-use Rattle.object_list.specs.Objects.{column_of, reserved_of, states_of}
 
-pub rows_are : {L : Type 0} (f : L → ℕ) (objects : List (Object L)) → rows_of (states_of f objects) ≡ map row_of (map column_of objects)
-rows_are f [] = refl
-rows_are f (o ∷ objects) = ap (λ rows. row_of (column_of o) ∷ rows) (rows_are f objects)
+-- The row of the object that writes the device of a port.
+abbrev pub enable_row : ObjectRow
+enable_row = row_of (column.StpPort stp_port.Enable)
 
-pub one_more : {L : Type 0} (objects : List (Object L)) (o : Object L) (cs : List Column) (i : ℕ) (d : Column) → i < length cs → map column_of objects ≡ take i cs → column_of o ≡ get_or cs i d → map column_of (objects ++ o ∷ []) ≡ take (i + 1) cs
-one_more objects o cs i d within e f =
-    map-append column_of objects (o ∷ []) ∙ ap₂ (λ (xs ys : List Column). xs ++ ys) e (ap (λ (c : Column). c ∷ []) f) ∙ sym (take_more cs i d within)
+pub one_more : {O : Type 0} (state : O → ObjectState) (objects : List O) (o : O) (cs : List Column) (i : ℕ) (d : Column) →
+    i < length cs → rows_of (map state objects) ≡ map row_of (take i cs) → (state o).row ≡ row_of (get_or cs i d) →
+    rows_of (map state (objects ++ o ∷ [])) ≡ map row_of (take (i + 1) cs)
+one_more state objects o cs i d within e f =
+    ap rows_of (map-append state objects (o ∷ []))
+    ∙ map-append (λ (s : ObjectState). s.row) (map state objects) (state o ∷ [])
+    ∙ ap₂ (λ (xs ys : List ObjectRow). xs ++ ys) e (ap (λ (row : ObjectRow). row ∷ []) f)
+    ∙ sym (map-append row_of (take i cs) (get_or cs i d ∷ []))
+    ∙ ap (map row_of) (sym (take_more cs i d within))
 
-pub all_rows : {L : Type 0} (f : L → ℕ) (objects : List (Object L)) (i : ℕ) → i ≡ 51 → map column_of objects ≡ take i columns → rows_of (states_of f objects) ≡ bridge_rows
-unfolding bridge_rows
-all_rows f objects i e h = rows_are f objects ∙ ap (map row_of) (h ∙ ap (λ (k : ℕ). take k columns) e)
-
-pub one_more_idle : {L : Type 0} (f : L → ℕ) (objects : List (Object L)) (o : Object L) → held_count (states_of f objects) ≡ 0 → reserved_of o ≡ [] → held_count (states_of f (objects ++ o ∷ [])) ≡ 0
-one_more_idle f [] o idle e =
-    let none : length (reserved_of o) ≡ 0 = ap length e in
+pub one_more_idle : {O : Type 0} (state : O → ObjectState) (objects : List O) (o : O) →
+    held_count (map state objects) ≡ 0 → (state o).reserved ≡ [] → held_count (map state (objects ++ o ∷ [])) ≡ 0
+one_more_idle state [] o idle e =
+    let none : length (state o).reserved ≡ 0 = ap length e in
     omega (arith, none)
-one_more_idle f (x ∷ objects) o idle e =
-    let others : held_count (states_of f objects) ≡ 0 = omega (arith, idle) in
-    omega (arith, idle, one_more_idle f objects o others e)
+one_more_idle state (x ∷ objects) o idle e =
+    let others : held_count (map state objects) ≡ 0 = omega (arith, idle) in
+    omega (arith, idle, one_more_idle state objects o others e)
 
--- The object at the place of dot1dStpPortEnable is replaced by one of the same column.
-pub rows_with : {L : Type 0} (f : L → ℕ) (objects : List (Object L)) (o : Object L) (i : ℕ) → i ≡ 51 →
-    map column_of objects ≡ take i columns → column_of o ≡ column.StpPort stp_port.Enable →
-    rows_of (states_of f (slice_set objects 25 o)) ≡ bridge_rows
-rows_with f objects o i e h enable =
-    let all : map column_of objects ≡ take 51 columns = h ∙ ap (λ (k : ℕ). take k columns) e in
-    let put : map column_of (slice_set objects 25 o) ≡ slice_set (take 51 columns) 25 (column.StpPort stp_port.Enable)
-    = map-set column_of objects 25 o ∙ ap₂ (λ (cs : List Column) (c : Column). slice_set cs 25 c) all enable in
-    all_rows f (slice_set objects 25 o) 51 refl put
+-- The object at the place of dot1dStpPortEnable is replaced by one of the same row.
+pub rows_with : {O : Type 0} (state : O → ObjectState) (objects : List O) (o : O) (i : ℕ) → i ≡ 51 →
+    rows_of (map state objects) ≡ map row_of (take i columns) → (state o).row ≡ enable_row →
+    rows_of (map state (slice_set objects 25 o)) ≡ bridge_rows
+unfolding bridge_rows
+rows_with state objects o i e h enable =
+    let all : rows_of (map state objects) ≡ map row_of columns = h ∙ ap (λ (k : ℕ). map row_of (take k columns)) e in
+    ap rows_of (map-set state objects 25 o)
+    ∙ map-set (λ (s : ObjectState). s.row) (map state objects) 25 (state o)
+    ∙ ap₂ (λ (rows : List ObjectRow) (row : ObjectRow). slice_set rows 25 row) all enable
 
-pub idle_with : {L : Type 0} (f : L → ℕ) (objects : List (Object L)) (i : ℕ) (o : Object L) →
-    held_count (states_of f objects) ≡ 0 → reserved_of o ≡ [] →
-    held_count (states_of f (slice_set objects i o)) ≡ 0
-idle_with f [] i o idle e = idle
-idle_with f (x ∷ objects) zero o idle e =
-    let none : length (reserved_of o) ≡ 0 = ap length e in
+pub idle_with : {O : Type 0} (state : O → ObjectState) (objects : List O) (i : ℕ) (o : O) →
+    held_count (map state objects) ≡ 0 → (state o).reserved ≡ [] →
+    held_count (map state (slice_set objects i o)) ≡ 0
+idle_with state [] i o idle e = idle
+idle_with state (x ∷ objects) zero o idle e =
+    let none : length (state o).reserved ≡ 0 = ap length e in
     omega (arith, idle, none)
-idle_with f (x ∷ objects) (suc i) o idle e =
-    let others : held_count (states_of f objects) ≡ 0 = omega (arith, idle) in
-    omega (arith, idle, idle_with f objects i o others e)
+idle_with state (x ∷ objects) (suc i) o idle e =
+    let others : held_count (map state objects) ≡ 0 = omega (arith, idle) in
+    omega (arith, idle, idle_with state objects i o others e)
 
-pub many : {L : Type 0} (objects : List (Object L)) (i : ℕ) → i ≡ 51 → map column_of objects ≡ take i columns →
-    25 < length objects
-many objects i e h =
+pub many : {O : Type 0} (state : O → ObjectState) (objects : List O) (i : ℕ) → i ≡ 51 →
+    rows_of (map state objects) ≡ map row_of (take i columns) → 25 < length objects
+many state objects i e h =
     let all : length objects ≡ 51
-    = sym (length-map objects column_of) ∙ ap length (h ∙ ap (λ (k : ℕ). take k columns) e) in
+    = sym (length-map objects state) ∙ sym (length-map (map state objects) (λ (s : ObjectState). s.row))
+    ∙ ap length (h ∙ ap (λ (k : ℕ). map row_of (take k columns)) e) in
     omega (arith, all)
 
 pub stands : {X : Type 0} (xs : List X) (i : ℕ) (y : X) → i < length xs → slice_get (slice_set xs i y) i ≡ Some y
@@ -66,10 +70,3 @@ stands (x ∷ xs) (suc i) y h = stands xs i y (omega arith)
 
 pub idle_driven : {L : Type 0} (o : Driven L) (d : L) → o ≡ record { driver = d; reserved = [] } → o.reserved ≡ []
 idle_driven {L} o d e = ap (λ (x : Driven L). x.reserved) e
-
-pub driven_stands : {L : Type 0} (objects : List (Object L)) (i : ℕ) (o : Driven L) (d : L) → i ≡ 51 →
-    map column_of objects ≡ take i columns → o ≡ record { driver = d; reserved = [] } →
-    slice_get (slice_set objects 25 (object.Enable o)) 25 ≡ Some (object.Enable (record { driver = d; reserved = [] }))
-driven_stands {L} objects i o d e h same =
-    stands objects 25 (object.Enable o) (many objects i e h)
-    ∙ ap (λ (x : Driven L). Some (object.Enable x)) same
