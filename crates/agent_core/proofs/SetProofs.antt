@@ -14,7 +14,8 @@ use Rattle.setphase_core.specs.declared.sets.SetOutcome.TheVariants as ended
 use Rattle.setphase_core.specs.declared.world.World.{World}
 use Rattle.setphase_core.specs.Objects.{ObjectRow, ObjectState, object_after_release}
 use Rattle.setphase_core.specs.Variables.{Written}
-use Rattle.setphase_core.specs.Outcomes.{SetNotes, CanFail, refusal_in, notes_in, world_after_set, failed_names, object_after}
+use Rattle.setphase_core.specs.Outcomes.{SetNotes, CanFail, refusal_in, notes_in, world_after_set}
+use Rattle.setphase_core.specs.Calls.{calls_of, object_after_set}
 use Rattle.agent_core.specs.Sets.{greatest_index, longest_response, is_too_long, no_notes, IsDenied, MayFail, MayFailWhere}
 use Rattle.agent_core.specs.Answers.{MayHave, MayFailBy, MayFailInView}
 use Rattle.agent_core.proofs.LawProofs.{total_some}
@@ -46,14 +47,12 @@ denied_world (ended.Refused refusal) ws w h = refl
 denied_world (ended.CommitFailed i) ws w h = absurd h
 denied_world (ended.UndoFailed i keys) ws w h = absurd h
 
-released_each : (objects : List ObjectState) → map (object_after []) objects ≡ map object_after_release objects
+released_each : (objects : List ObjectState) → map (object_after_set []) objects ≡ map object_after_release objects
 released_each [] = refl
-released_each (o ∷ os) =
-    let more : o.failures + 0 ≡ o.failures = omega arith in
-    ap (λ (n : ℕ). record o { reserved = []; failures = n } ∷ map (object_after []) os) more ∙ ap (λ (xs : List ObjectState). object_after_release o ∷ xs) (released_each os)
+released_each (o ∷ os) = ap (λ (xs : List ObjectState). object_after_release o ∷ xs) (released_each os)
 
 pub denied_objects : (outcome : SetOutcome) (ws : List Written) (objects : List ObjectState) → IsDenied (refusal_in outcome)
-    → map (object_after (failed_names ws (notes_in outcome))) objects ≡ map object_after_release objects
+    → map (object_after_set (calls_of (refusal_in outcome) ws (notes_in outcome))) objects ≡ map object_after_release objects
 denied_objects ended.Done ws objects h = absurd h
 denied_objects (ended.Refused refusal) ws objects h = released_each objects
 denied_objects (ended.CommitFailed i) ws objects h = absurd h

@@ -27,12 +27,14 @@ use Rattle.setphase_core.specs.Objects.{ObjectRow, ObjectState, object_after_rel
 use Rattle.setphase_core.specs.Registry.{rows_of, prefixes_of, instances}
 use Rattle.setphase_core.specs.Variables.{Written, writings}
 use Rattle.setphase_core.specs.Together.{refusal_of}
-use Rattle.setphase_core.specs.Outcomes.{SetNotes, refusal_in, notes_in, world_after_set, failed_names, object_after}
+use Rattle.setphase_core.specs.Outcomes.{SetNotes, refusal_in, notes_in, world_after_set}
+use Rattle.setphase_core.specs.Calls.{Call, calls_of, object_after_set, FollowPlans}
+use Rattle.setphase_core.proofs.Called.{no_plans}
 use Rattle.agent_core.specs.Buffered.{Buffered}
 use Rattle.agent_core.specs.Denying.{denied_in}
 use Rattle.agent_core.specs.Replies.{reply_within_limit, refusal_reply, kind_reply}
-use Rattle.agent_core.specs.Sets.{SetStep, SetAnswer, is_too_long, too_long_reply, no_notes, set_answer, set_reply, set_step, settled_world, settling_bpdus, untested_step, tested_step, tested_step_by, IsToldOf, IsDeniedSet, MayFailInSet}
-use Rattle.agent_core.specs.Answers.{replied, Step, shown_of, outcome_by, outcome_of, world_by, world_after, with_count_of, drop_audit, reply_audit, step_of, step_by, reading_step, allowed_step, writing_step, IsSent, IsAnswered, IsReply, IsDone, IsTold, IsShort, IsStep, MayHave, MayFailBy, MayFailInView, TakesInView, notes_told, without_answer}
+use Rattle.agent_core.specs.Sets.{SetStep, SetAnswer, is_too_long, too_long_reply, no_notes, set_answer, set_reply, set_step, settled_world, settling_bpdus, untested_step, tested_step, tested_step_by, IsToldOf, IsDeniedSet, MayFailInSet, set_calls}
+use Rattle.agent_core.specs.Answers.{calls_by, calls_in_view, request_calls, replied, Step, shown_of, outcome_by, outcome_of, world_by, world_after, with_count_of, drop_audit, reply_audit, step_of, step_by, reading_step, allowed_step, writing_step, IsSent, IsAnswered, IsReply, IsDone, IsTold, IsShort, IsStep, MayHave, MayFailBy, MayFailInView, TakesInView, notes_told, without_answer}
 use Rattle.agent_core.specs.declared.answered.Answered.{Answered}
 use Rattle.agent_core.specs.declared.answered.Answered.TheVariants as answered
 use Rattle.agent_core.specs.declared.sent_reply.SentReply.{SentReply}
@@ -80,6 +82,18 @@ fitting_step : (objects : List ObjectState) (world : World) (view : List ℕ) (r
 unfolding set_step
 fitting_step objects world view request notes e = rw e refl
 
+pub too_long_plans : (objects : List ObjectState) (world : World) (view : List ℕ) (request : Request) (notes : SetNotes) → is_too_long request ≡ true
+    → FollowPlans (set_calls (rows_of objects) world view request notes) objects
+unfolding set_calls
+too_long_plans objects world view request notes e = rw e (no_plans objects)
+
+pub fitting_plans : (objects : List ObjectState) (world : World) (view : List ℕ) (request : Request) (notes told : SetNotes) → is_too_long request ≡ false → told ≡ notes
+    → FollowPlans (calls_of (refusal_of (rows_of objects) world view request.bindings) (writings (rows_of objects) world request.bindings) notes) objects
+    → FollowPlans (set_calls (rows_of objects) world view request told) objects
+unfolding set_calls
+fitting_plans objects world view request notes told e t p =
+    rw e (subst (λ (ns : SetNotes). FollowPlans (calls_of (refusal_of (rows_of objects) world view request.bindings) (writings (rows_of objects) world request.bindings) ns) objects) (sym t) p)
+
 pub too_long_done : (objects : List ObjectState) (world : World) (request : Request) (row : AccessKey) (view : List ℕ) (sent : SentReply) (told : Answered) (buffer : Buffered)
     → is_too_long request ≡ true → IsSent (too_long_reply request) sent buffer.reply → buffer.bpdus ≡ []
     → told ≡ answered.Reply sent.length (told_audit request row view sent [] []) None
@@ -110,14 +124,14 @@ pub set_done : (objects : List ObjectState) (world : World) (request : Request) 
     → later ≡ settled_world world.bridge.settings after
     → buffer.bpdus ≡ settling_bpdus world.bridge.settings after
     → IsSent (reply_within_limit (answer_to request answer.status answer.index request.bindings)) sent buffer.reply
-    → objects_later ≡ map (object_after (failed_names (writings (rows_of objects) world request.bindings) (notes_in outcome))) objects
+    → objects_later ≡ map (object_after_set (calls_of (refusal_in outcome) (writings (rows_of objects) world request.bindings) (notes_in outcome))) objects
     → told ≡ answered.Reply sent.length (told_audit request row view sent answer.denied answer.unrestored) answer.failed
     → IsDone (writing_step request row view (set_step objects world view request (notes_told told))) told buffer later objects_later
 set_done objects world request row view outcome answer sent buffer after later objects_later told families fits refusal after_is families_are t later_is bpdus_are s objects_are told_is =
     let ws : List Written = writings (rows_of objects) world request.bindings in
     let kept : List FamilyRow = world.policy.vacm.families in
     let notes : SetNotes = notes_in outcome in
-    let by : Option Refusal → SetStep = λ (r : Option Refusal). tested_step_by objects world request notes (set_answer kept r notes) (world_after_set r ws world notes) in
+    let by : Option Refusal → SetStep = λ (r : Option Refusal). tested_step_by objects world request notes (set_answer kept r notes) (world_after_set r ws world notes) (calls_of r ws notes) in
     let is : IsToldOf kept outcome answer = subst (λ (rows : List FamilyRow). IsToldOf rows outcome answer) families_are t in
     let main : IsDone (writing_step request row view (by (refusal_in outcome))) told buffer later objects_later =
     done_of request row view (by (refusal_in outcome)) sent answer.denied answer.unrestored answer.failed told buffer later objects_later told_is
@@ -143,11 +157,13 @@ module _ (objects : List ObjectState) (world : World) (request : Request) (decis
   }
 
   told_by : (later_objects : List ObjectState) (told : Answered) (buffer : Buffered) (later : World) → MayFailBy (rows_of objects) world request (notes_told told) decision
+      → FollowPlans (calls_by (rows_of objects) world request (notes_told told) decision) objects
       → IsDone (step_by objects world request (notes_told told) decision) told buffer later later_objects
       → IsTold objects world request told buffer later later_objects
-  unfolding MayHave step_of
-  told_by later_objects told buffer later m e = record {
+  unfolding MayHave step_of request_calls
+  told_by later_objects told buffer later m p e = record {
     may = subst (λ (x : Decision). MayFailBy (rows_of objects) world request (notes_told told) x) (sym d) m;
+    by_plan = subst (λ (x : Decision). FollowPlans (calls_by (rows_of objects) world request (notes_told told) x) objects) (sym d) p;
     done = subst (λ (x : Decision). IsDone (step_by objects world request (notes_told told) x) told buffer later later_objects) (sym d) e;
   }
 
@@ -157,7 +173,7 @@ pub dropped_step : (objects : List ObjectState) (world later : World) (request :
 dropped_step objects world later request cause told buffer d t e b l =
     let is : Answered = answered.NoReply (drop_audit request cause) in
     subst (λ (x : Answered). IsTold objects world request x buffer later objects) (sym t)
-    (told_by objects world request (Drop cause) d objects is buffer later refl (read_by objects world request (Drop cause) d is buffer later (e, refl) l b))
+    (told_by objects world request (Drop cause) d objects is buffer later refl (no_plans objects) (read_by objects world request (Drop cause) d is buffer later (e, refl) l b))
 
 -- what is told of a request that reads
 abbrev plain_told : Request → Decision → SentReply → Answered
@@ -175,7 +191,7 @@ pub empty_step : (objects : List ObjectState) (world : World) (request : Request
 empty_step objects world request sent told buffer d s b t =
     let is : Answered = plain_told request Empty sent in
     subst (λ (x : Answered). IsTold objects world request x buffer world objects) (sym t)
-    (told_by objects world request Empty d objects is buffer world refl (read_by objects world request Empty d is buffer world (sent_step request Empty _ sent buffer s) refl b))
+    (told_by objects world request Empty d objects is buffer world refl (no_plans objects) (read_by objects world request Empty d is buffer world (sent_step request Empty _ sent buffer s) refl b))
 
 pub refused_step : (objects : List ObjectState) (world : World) (request : Request) (why : Why) (sent : SentReply) (told : Answered) (buffer : Buffered)
     → decision_on world.policy request ≡ Refused why → IsSent (refusal_reply request) sent buffer.reply → buffer.bpdus ≡ []
@@ -183,16 +199,18 @@ pub refused_step : (objects : List ObjectState) (world : World) (request : Reque
 refused_step objects world request why sent told buffer d s b t =
     let is : Answered = plain_told request (Refused why) sent in
     subst (λ (x : Answered). IsTold objects world request x buffer world objects) (sym t)
-    (told_by objects world request (Refused why) d objects is buffer world refl (read_by objects world request (Refused why) d is buffer world (sent_step request (Refused why) _ sent buffer s) refl b))
+    (told_by objects world request (Refused why) d objects is buffer world refl (no_plans objects) (read_by objects world request (Refused why) d is buffer world (sent_step request (Refused why) _ sent buffer s) refl b))
 
 pub set_told : (objects later_objects : List ObjectState) (world later : World) (request : Request) (row : AccessKey) (view : List ℕ) (told : Answered) (buffer : Buffered)
     → decision_on world.policy request ≡ Allowed row view → request.kind ≡ Set
     → MayFailInSet (rows_of objects) world view request (notes_told told)
+    → FollowPlans (set_calls (rows_of objects) world view request (notes_told told)) objects
     → IsDone (writing_step request row view (set_step objects world view request (notes_told told))) told buffer later later_objects
     → IsTold objects world request told buffer later later_objects
-set_told objects later_objects world later request row view told buffer d k m e =
+set_told objects later_objects world later request row view told buffer d k m p e =
     told_by objects world request (Allowed row view) d later_objects told buffer later
     (subst (λ (kind : Kind). MayFailInView (rows_of objects) world view request (notes_told told) kind) (sym k) m)
+    (subst (λ (kind : Kind). FollowPlans (calls_in_view (rows_of objects) world view request (notes_told told) kind) objects) (sym k) p)
     (subst (λ (kind : Kind). IsDone (allowed_step objects world request (notes_told told) row view kind) told buffer later later_objects) (sym k) e)
 
 pub set_short : (objects later_objects : List ObjectState) (world later : World) (request : Request) (row : AccessKey) (view : List ℕ) (buffer : Buffered)
@@ -212,13 +230,14 @@ set_short objects later_objects world later request row view buffer d k c t e b 
 pub set_stepped : (objects later_objects : List ObjectState) (world later : World) (request : Request) (row : AccessKey) (view : List ℕ) (r : Result Answered AllocError) (buffer : Buffered)
     → decision_on world.policy request ≡ Allowed row view → request.kind ≡ Set → length request.community ≤ MAX_COMMUNITY
     → IfOk r (λ told. MayFailInSet (rows_of objects) world view request (notes_told told))
+    → IfOk r (λ told. FollowPlans (set_calls (rows_of objects) world view request (notes_told told)) objects)
     → IfOk r (λ told. IsDone (writing_step request row view (set_step objects world view request (notes_told told))) told buffer later later_objects)
     → OnErr r (IsDeniedSet (rows_of objects) world view request) → OnErr r (buffer.reply ≡ []) → OnErr r (buffer.bpdus ≡ [])
     → OnErr r (later ≡ world) → OnErr r (later_objects ≡ map object_after_release objects)
     → IsStep objects world request r buffer later later_objects
-set_stepped objects later_objects world later request row view (Ok told) buffer d k c m e t x b w o =
-    set_told objects later_objects world later request row view told buffer d k m e
-set_stepped objects later_objects world later request row view (Err err) buffer d k c m e t x b w o =
+set_stepped objects later_objects world later request row view (Ok told) buffer d k c m p e t x b w o =
+    set_told objects later_objects world later request row view told buffer d k m p e
+set_stepped objects later_objects world later request row view (Err err) buffer d k c m p e t x b w o =
     set_short objects later_objects world later request row view buffer d k c t x b w o
 
 -- a request that reads
@@ -235,6 +254,13 @@ read_may rows world request row view notes Get h e = e
 read_may rows world request row view notes GetNext h e = e
 read_may rows world request row view notes GetBulk h e = e
 read_may rows world request row view notes Set h e = absurd (h refl)
+
+read_plans : (objects : List ObjectState) (world : World) (request : Request) (view : List ℕ) (notes : SetNotes) (kind : Kind) → kind ≢ Set
+    → FollowPlans (calls_in_view (rows_of objects) world view request notes kind) objects
+read_plans objects world request view notes Get h = no_plans objects
+read_plans objects world request view notes GetNext h = no_plans objects
+read_plans objects world request view notes GetBulk h = no_plans objects
+read_plans objects world request view notes Set h = absurd (h refl)
 
 read_takes : (rows : List ObjectRow) (world : World) (view : List ℕ) (request : Request) (kind : Kind) → kind ≢ Set → TakesInView rows world view request kind
 read_takes rows world view request Get h = tt
@@ -269,6 +295,7 @@ module _ (objects : List ObjectState) (world : World) (request : Request) (row :
   read_told told h =
       told_by objects world request (Allowed row view) d objects told buffer world
       (read_may (rows_of objects) world request row view (notes_told told) request.kind k (no_note told h))
+      (read_plans objects world request view (notes_told told) request.kind k)
       (subst (λ (step : Step). IsDone step told buffer world objects) (reads objects world request (notes_told told) row view request.kind k) (read_done told h))
 
   pub read_stepped : (r : Result Answered AllocError) → length request.community ≤ MAX_COMMUNITY

@@ -25,11 +25,12 @@ use Rattle.frame_core.specs.declared.bpdu.Bpdu.{Bpdu}
 use Rattle.setting_keys.specs.declared.SettingKey.{SettingKey}
 use Rattle.setphase_core.specs.Objects.{ObjectRow, ObjectState, object_after_release}
 use Rattle.setphase_core.specs.Outcomes.{SetNotes}
+use Rattle.setphase_core.specs.Calls.{Call, FollowPlans}
 use Rattle.setphase_core.specs.Registry.{rows_of, prefixes_of, instances}
 use Rattle.agent_core.specs.Buffered.{Buffered}
 use Rattle.agent_core.specs.Denying.{denied_in}
 use Rattle.agent_core.specs.Replies.{reply_within_limit, refusal_reply, kind_reply}
-use Rattle.agent_core.specs.Sets.{SetStep, set_step, no_notes, MayFailInSet, IsDeniedSet}
+use Rattle.agent_core.specs.Sets.{SetStep, set_step, set_calls, no_notes, MayFailInSet, IsDeniedSet}
 use Rattle.agent_core.specs.declared.answered.Answered.{Answered}
 use Rattle.agent_core.specs.declared.answered.Answered.TheVariants as answered
 use Rattle.agent_core.specs.declared.sent_reply.SentReply.{SentReply}
@@ -229,6 +230,25 @@ unfoldable pub MayHave : List ObjectRow → World → Request → SetNotes → T
 MayHave rows world request notes =
     MayFailBy rows world request notes (decision_on world.policy request)
 
+-- The calls of devices that a request makes, where they failed so: those of a Set alone, and of one
+-- that is let in to a view.
+abbrev pub calls_in_view : List ObjectRow → World → List ℕ → Request → SetNotes → Kind → List Call
+calls_in_view rows world view request notes Get = []
+calls_in_view rows world view request notes GetNext = []
+calls_in_view rows world view request notes GetBulk = []
+calls_in_view rows world view request notes Set = set_calls rows world view request notes
+
+abbrev pub calls_by : List ObjectRow → World → Request → SetNotes → Decision → List Call
+calls_by rows world request notes (Drop cause) = []
+calls_by rows world request notes Empty = []
+calls_by rows world request notes (Refused why) = []
+calls_by rows world request notes (Allowed row view) =
+    calls_in_view rows world view request notes request.kind
+
+unfoldable pub request_calls : List ObjectRow → World → Request → SetNotes → List Call
+request_calls rows world request notes =
+    calls_by rows world request notes (decision_on world.policy request)
+
 -- these octets are a reply in its minimal encoding, and this is told of it
 pub record IsSent (reply : Reply) (sent : SentReply) (sent_octets : List ℕ) : Type 0 where
   pub octets : sent_octets ≡ canon_reply reply
@@ -287,11 +307,14 @@ pub record IsShort (objects : List ObjectState) (before : World) (request : Requ
   pub takes : TakesMemory (rows_of objects) before request
   pub community : length request.community ≤ MAX_COMMUNITY
 
--- The step that is told, with calls of devices that may have failed so.
+-- The step that is told, with calls of devices that may have failed so, each exactly where the plan
+-- of its object said so, if that has one.
 pub record IsTold (objects : List ObjectState) (before : World) (request : Request)
     (told : Answered) (buffer : Buffered) (later : World) (objects_later : List ObjectState) :
     Type 0 where
   pub may : MayHave (rows_of objects) before request (notes_told told)
+  pub by_plan : FollowPlans (request_calls (rows_of objects) before request (notes_told told))
+      objects
   pub done : IsDone (step_of objects before request (notes_told told)) told buffer later
       objects_later
 

@@ -22,7 +22,8 @@ use Rattle.setphase_core.specs.Objects.{ObjectRow, ObjectState}
 use Rattle.setphase_core.specs.Registry.{rows_of}
 use Rattle.setphase_core.specs.Variables.{Written, writings}
 use Rattle.setphase_core.specs.Together.{refusal_of}
-use Rattle.setphase_core.specs.Outcomes.{SetNotes, AreNotes, refusal_in, notes_in, world_after_set, failed_names, object_after}
+use Rattle.setphase_core.specs.Outcomes.{SetNotes, AreNotes, refusal_in, notes_in, world_after_set}
+use Rattle.setphase_core.specs.Calls.{Call, calls_of, object_after_set}
 use Rattle.agent_core.specs.Denying.{denied_variable}
 use Rattle.agent_core.specs.Replies.{reply_within_limit}
 use Rattle.agent_core.specs.declared.sets.SetTold.{SetTold}
@@ -142,16 +143,16 @@ untested_step objects world request = record {
   bpdus = [];
 }
 
--- The other ones, by what they are refused for, and by what they leave before it is settled.
+-- The other ones, by what they are refused for, by what they leave before it is settled, and by the
+-- calls of devices that they make.
 abbrev pub tested_step_by : List ObjectState → World → Request → SetNotes → SetAnswer → World →
-    SetStep
-tested_step_by objects world request notes answer after = record {
+    List Call → SetStep
+tested_step_by objects world request notes answer after calls = record {
   reply = set_reply request answer;
   denied = answer.denied;
   unrestored = notes.undos;
   world = settled_world world.bridge.settings after;
-  objects = map (object_after (failed_names
-      (writings (rows_of objects) world request.bindings) notes)) objects;
+  objects = map (object_after_set calls) objects;
   bpdus = settling_bpdus world.bridge.settings after;
 }
 
@@ -162,12 +163,22 @@ tested_step objects world view request notes =
     (refusal_of (rows_of objects) world view request.bindings) notes)
     (world_after_set (refusal_of (rows_of objects) world view request.bindings)
     (writings (rows_of objects) world request.bindings) world notes)
+    (calls_of (refusal_of (rows_of objects) world view request.bindings)
+    (writings (rows_of objects) world request.bindings) notes)
 
 -- A Set in a view, where its calls of devices failed so.
 unfoldable pub set_step : List ObjectState → World → List ℕ → Request → SetNotes → SetStep
 set_step objects world view request notes =
     if is_too_long request then untested_step objects world request
     else tested_step objects world view request notes
+
+-- The calls of devices that a Set in a view makes, where they failed so: none where nothing is
+-- tested.
+unfoldable pub set_calls : List ObjectRow → World → List ℕ → Request → SetNotes → List Call
+set_calls rows world view request notes =
+    if is_too_long request then []
+    else calls_of (refusal_of rows world view request.bindings)
+    (writings rows world request.bindings) notes
 
 -- ---- what it may meet
 

@@ -28,9 +28,9 @@
 //! one look where nothing is hidden.
 //!
 //! # Not claimed
-//! That memory was refused where want of it is answered; which calls a device fails, and which of
-//! several variables of one object is told as failed; what is passed over, and how often `answer`
-//! looks.
+//! That memory was refused where want of it is answered; of objects whose devices take no plans,
+//! which calls of a Set failed, and so which variable is told as failed; what is passed over, and
+//! how often `answer` looks.
 #![tactic(auto)]
 
 mod answered;

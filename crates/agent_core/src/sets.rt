@@ -6,7 +6,8 @@ ghost use Rattle.vacm_core.specs.Families.{NamesFamilyOf};
 ghost use Rattle.setphase_core.specs.Objects.{object_after_release};
 ghost use Rattle.setphase_core.specs.Registry.{rows_of};
 ghost use Rattle.setphase_core.specs.Outcomes.{refusal_in, notes_in, NamesASetting};
-ghost use Rattle.agent_core.specs.Sets.{greatest_index, set_step, settled_world, settling_bpdus, IsDenied, IsDeniedSet, IsToldOf, MayFailInSet};
+ghost use Rattle.setphase_core.specs.Calls.{FollowPlans};
+ghost use Rattle.agent_core.specs.Sets.{greatest_index, set_step, set_calls, settled_world, settling_bpdus, IsDenied, IsDeniedSet, IsToldOf, MayFailInSet};
 ghost use Rattle.agent_core.specs.Answers.{IsDone, notes_told, writing_step};
 
 use crate::answered::Answered;
@@ -180,6 +181,8 @@ pub(crate) fn answer_set<O: MibObject>(
     requires silent { buffer.old.bpdus ≡ [] }
     ensures may { IfOk result (λ told. MayFailInSet (rows_of registry.old) world.old view
         request.now (notes_told told)) }
+    ensures by_plan { IfOk result (λ told. FollowPlans (set_calls (rows_of registry.old) world.old
+        view request.now (notes_told told)) registry.old) }
     ensures done { IfOk result (λ told. IsDone (writing_step request.now row view
         (set_step registry.old world.old view request.now (notes_told told)))
         told buffer.new world.new registry.new) }

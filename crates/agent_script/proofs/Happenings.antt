@@ -52,7 +52,7 @@ module _ (a : Agent) (e : Event) (receipt : Receipt) (audit : Option Audit) (lat
   entered_by cause said room c text had = record {
     mets = entered p.notes ∷ [];
     count = refl;
-    may = (p.may, tt);
+    may = ((p.may, p.by_plan), tt);
     text = text
         ∙ ap (λ (x : Option Cause). step_text a.is_auditing (address_of a.history.world.bridge) x e step) (sym c)
         ∙ sym (append-nil (event_text a.is_auditing a.history e (entered p.notes)));

@@ -15,6 +15,7 @@ use Rattle.community_core.specs.Communities.{PolicyTables}
 use Rattle.policy_text.specs.Texts.{policy_in}
 use Rattle.setphase_core.specs.declared.world.World.{World}
 use Rattle.agent_core.specs.Answers.{one_more}
+use Rattle.history_core.specs.History.{history_after_arm}
 use Rattle.history_core.specs.declared.event.Event.{Event}
 use Rattle.history_core.specs.declared.event.Event.TheVariants as event
 use Rattle.agent_script.specs.Commands.{Command, request, frame, tick, link, policy, audit, counts, driver, command_of}
@@ -167,5 +168,5 @@ after_action agent (accept happenings) =
 after_action agent refuse = record agent { policy_lines = None }
 after_action agent (switch on) = record agent { is_auditing = on }
 after_action agent tell = agent
--- a plan is the devices' own, and nothing that is shown
-after_action agent (arm plan) = agent
+after_action agent (arm plan) =
+    record agent { history = history_after_arm plan agent.history }

@@ -1,8 +1,9 @@
 -- What an event of a script may meet, and what it makes of the history that is kept.
 use Rattle.std.specs.Prelude.{◌≡◌, ◌⊎◌, Bool, false, not, length, List, [], ◌∷◌, map}
+use Rattle.setphase_core.specs.Calls.{FollowPlans}
 use Rattle.setphase_core.specs.Registry.{rows_of}
 use Rattle.history_core.specs.History.{History, after}
-use Rattle.history_core.specs.Steps.{Notes, MayNote, MayTakeMemory}
+use Rattle.history_core.specs.Steps.{Notes, MayNote, MayTakeMemory, event_calls}
 use Rattle.history_core.specs.declared.event.Event.{Event}
 use Rattle.history_core.specs.declared.limits.TheConstants.{MAX_ENTRIES}
 
@@ -13,10 +14,12 @@ pub data Met : Type 0 where
   -- there was no memory, and it was not entered
   short : Met
 
--- An event may meet this: what its step may, or want of memory, where it takes some or the base is
--- to move.
+-- An event may meet this: what its step may, each call of a device failing exactly where the plan of
+-- its object says so, if that has one; or want of memory, where it takes some or the base is to move.
 abbrev pub MayMeetEvent : History → Event → Met → Type 0
-MayMeetEvent h e (entered notes) = MayNote (rows_of h.objects) h.world e notes
+MayMeetEvent h e (entered notes) =
+    MayNote (rows_of h.objects) h.world e notes
+    × FollowPlans (event_calls (rows_of h.objects) h.world e notes) h.objects
 MayMeetEvent h e short = (length h.entries ≡ MAX_ENTRIES) ⊎ MayTakeMemory e
 
 -- the history after an event that met this

@@ -21,9 +21,9 @@
 //! # Not claimed
 //! That a want of memory came only where memory was refused, and that a read failed where the
 //! answer is `Input`: that answer may come before anything is read. How much of what was said is
-//! written where a write failed. That a device really failed where a Set is answered so. That a
-//! device fails by the plan of a `driver` line, or is handed it at all: what is shown of the
-//! objects has no plan.
+//! written where a write failed. That a device really failed where a Set is answered so: of an
+//! object whose device takes plans, it is answered exactly where the plan of the last `driver` line
+//! says so.
 #![tactic(auto)]
 
 mod agent;

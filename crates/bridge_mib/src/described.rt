@@ -71,12 +71,14 @@ impl<D: Descriptor> Described<D> {
 }
 
 impl<D: Descriptor> MibObject for Described<D> {
+    ghost use Rattle.std.specs.Prelude.{None};
     ghost use Rattle.setphase_core.specs.Names.{row_of};
 
     ghost state = { λ o. record {
       row = row_of (D.column o.which);
       reserved = o.reserved;
       failures = 0;
+      plan = None;
     } };
 
     fn prefix(&self) -> &[u32] {
@@ -113,4 +115,6 @@ impl<D: Descriptor> MibObject for Described<D> {
     fn held(&self) -> usize {
         self.slots.len()
     }
+
+    fn arm(&mut self, _plan: u64) {}
 }

@@ -7,7 +7,7 @@
 //! `PortEnable` are [`Described`] by a [`Descriptor`], which says what the object is called, what
 //! it shows and how it is written. `PortEnable` is made of a [`LineDriver`] in place of a
 //! descriptor, and tells it what the line of a port is to be before it writes the setting, whatever
-//! the line is already; [`Steady`] never fails, and [`Planned`] fails by plan.
+//! the line is already; [`Steady`] never fails and takes no plans, and [`Planned`] fails by plan.
 //!
 //! # Definitions
 //! What each object shows stands in `setphase_core`: `specs/Columns.antt`, the objects' names in
@@ -17,7 +17,8 @@
 //! [`written`] the rows of their tables of settings, as `rstp_mib` uses them too.
 //!
 //! # Laws
-//! None: each object is its row, what it has reserved, and how often its driver has failed.
+//! None: each object is its row, what it has reserved, how often its driver has failed, and what is
+//! left of its driver's plan.
 //!
 //! # Not claimed
 //! That a world's settings are in force. That a driver switches a line.

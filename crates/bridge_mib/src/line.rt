@@ -6,31 +6,36 @@ use std::marker::Model;
 
 /// Switches the lines of ports on and off.
 pub trait LineDriver: Drop {
-    ghost use Rattle.std.specs.Prelude.{◌≡◌, ℕ, ◌+◌, Bool, Result, OnOk, OnErr};
+    ghost use Rattle.std.specs.Prelude.{◌≡◌, ℕ, ◌+◌, Bool, true, false, Option, Result, OnOk, OnErr};
     ghost use Rattle.setphase_core.specs.declared.object.DeviceFault.{DeviceFault as Fault};
+    ghost use Rattle.setphase_core.specs.Plans.{plan_after_call, plan_after_arm, FollowsPlan};
 
     // How often it has failed.
     ghost failures: { Self → ℕ };
 
+    // What is left of its plan, where it takes plans: bit k - 1 says that the k-th call of
+    // `set_enabled` from now fails.
+    ghost plan_left: { Self → Option ℕ };
+
     // Told that the line of a port is to be on, or off, it may answer so and become that.
     ghost told: { Self → ℕ → Bool → Result Unit Fault → Self → Type 0 };
-
-    // Handed a plan, it may become that.
-    ghost armed: { Self → ℕ → Self → Type 0 };
 
     /// Switches the line of a port on or off, whatever it is already. It takes no memory.
     ///
     /// # Errors
-    /// The line stays as it was.
+    /// The line stays as it was. Where it takes plans, it fails exactly where its plan says so.
     fn set_enabled(&mut self, port: u16, enabled: bool) -> Result<(), DeviceFault>
         ensures told { told self.old port enabled result self.new }
         ensures done { OnOk result (failures self.new ≡ failures self.old) }
-        ensures failed { OnErr result (failures self.new ≡ failures self.old + 1) };
+        ensures failed { OnErr result (failures self.new ≡ failures self.old + 1) }
+        ensures spent { plan_left self.new ≡ plan_after_call (plan_left self.old) }
+        ensures passes { OnOk result (FollowsPlan (plan_left self.old) (failures self.old) false) }
+        ensures fails { OnErr result (FollowsPlan (plan_left self.old) (failures self.old) true) };
 
     /// Takes a plan of the calls of `set_enabled` that fail, in place of the one before: bit k - 1
     /// says that the k-th from now does. A driver without plans does nothing. It takes no memory.
     fn arm(&mut self, plan: u64)
-        ensures armed { armed self.old plan self.new }
+        ensures armed { plan_left self.new ≡ plan_after_arm (plan_left self.old) plan }
         ensures failed { failures self.new ≡ failures self.old };
 }
 
@@ -39,13 +44,13 @@ pub trait LineDriver: Drop {
 pub struct Steady;
 
 impl LineDriver for Steady {
-    ghost use Rattle.std.specs.Prelude.{◌≡◌, Ok};
+    ghost use Rattle.std.specs.Prelude.{◌≡◌, Ok, None};
 
     ghost failures = { λ _. 0 };
 
-    ghost told = { λ _ _ _ answer _. answer ≡ Ok tt };
+    ghost plan_left = { λ _. None };
 
-    ghost armed = { λ _ _ _. Unit };
+    ghost told = { λ _ _ _ answer _. answer ≡ Ok tt };
 
     fn set_enabled(&mut self, _port: u16, _enabled: bool) -> Result<(), DeviceFault> {
         Ok(())
@@ -83,14 +88,14 @@ impl Planned {
 }
 
 impl LineDriver for Planned {
-    ghost use Rattle.std.specs.Prelude.{◌≡◌};
-    ghost use Rattle.bridge_mib.specs.Line.{IsCall};
+    ghost use Rattle.std.specs.Prelude.{Some};
 
     ghost failures = { λ p. p.failed };
 
-    ghost told = { λ p _ _ answer q. IsCall p answer q };
+    ghost plan_left = { λ p. Some p.calls };
 
-    ghost armed = { λ _ plan q. q.calls ≡ plan };
+    // It switches no line.
+    ghost told = { λ _ _ _ _ _. Unit };
 
     fn set_enabled(&mut self, _port: u16, _enabled: bool) -> Result<(), DeviceFault> {
         let fails = self.plan % 2 == 1 && self.failures < u64::MAX;

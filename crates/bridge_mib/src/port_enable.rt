@@ -1,9 +1,10 @@
 //! dot1dStpPortEnable over a device that switches lines (RFC 4188).
-ghost use Rattle.std.specs.Prelude.{◌≡◌, ◌+◌, ℕ, [], slice_get, Some, OnOk, OnErr};
+ghost use Rattle.std.specs.Prelude.{◌≡◌, ◌+◌, ℕ, true, false, [], slice_get, Some, OnOk, OnErr};
 ghost use Rattle.setting_keys.specs.declared.SettingValue.{SettingValue as AnySetting};
-ghost use Rattle.setphase_core.specs.Objects.{IsReserved, IsCommitted, object_after_commit, object_after_failure, committed_reservation};
+ghost use Rattle.setphase_core.specs.Objects.{IsReserved, IsCommitted, IsByPlan, after_call, object_after_arm, object_after_commit, object_after_failure, committed_reservation};
+ghost use Rattle.setphase_core.specs.Plans.{plan_after_call, FollowsPlan};
 ghost use Rattle.setphase_core.specs.Settings.{setting, put, IsSettingInRange};
-ghost use Rattle.bridge_mib.specs.Line.{state_of, port_enable, is_enabled};
+ghost use Rattle.bridge_mib.specs.Line.{state_of, port_enable, is_port_enable, is_enabled};
 
 use crate::described::Descriptor;
 use crate::line::LineDriver;
@@ -17,7 +18,7 @@ use std::alloc::Global;
 use std::marker::Model;
 
 /// dot1dStpPortEnable, whose writes switch lines first. It is seen as its driver, and what it has
-/// reserved.
+/// reserved, which are settings of its own alone.
 #[derive(Drop)]
 pub struct PortEnable<L: LineDriver> {
     driver: L,
@@ -25,11 +26,13 @@ pub struct PortEnable<L: LineDriver> {
 }
 
 impl<L: LineDriver> Model for PortEnable<L> {
-    ghost use Rattle.bridge_mib.specs.Line.{Driven};
+    ghost use Rattle.bridge_mib.specs.Line.{Driven, AreEnables};
 
     ghost Value = { Driven L };
 
     ghost view = { λ o. record { driver = o.driver; reserved = o.slots } };
+
+    ghost invariant = { λ o. AreEnables o.slots };
 }
 
 impl<L: LineDriver> PortEnable<L> {
@@ -42,23 +45,30 @@ impl<L: LineDriver> PortEnable<L> {
             slots: Slots::new(),
         }
     }
+}
 
-    // Tells the driver what the line of the port whose setting this is is to be. No other setting
-    // is ever reserved.
-    fn tell(&mut self, key: SettingKey, value: SettingValue) -> Result<(), DeviceFault>
-        ensures reserved { self.new.reserved ≡ self.old.reserved }
-        ensures told { (port : ℕ) → key ≡ port_enable port
-            → L.told self.old.driver port (is_enabled value) result self.new.driver }
-        ensures done { OnOk result (L.failures self.new.driver ≡ L.failures self.old.driver) }
-        ensures failed { OnErr result
-            (L.failures self.new.driver ≡ L.failures self.old.driver + 1) }
-    {
-        match key {
-            SettingKey::Bridge(Key::Port(port, PortKey::Enable)) => {
-                self.driver.set_enabled(port, is_enabled(value))
-            }
-            _ => Ok(()),
+// Tells a driver what the line of the port whose setting this is is to be.
+fn tell<L: LineDriver>(
+    driver: &mut L,
+    key: SettingKey,
+    value: SettingValue,
+) -> Result<(), DeviceFault>
+    requires { is_port_enable key ≡ true }
+    ensures told { (port : ℕ) → key ≡ port_enable port
+        → L.told driver.old port (is_enabled value) result driver.new }
+    ensures done { OnOk result (L.failures driver.new ≡ L.failures driver.old) }
+    ensures failed { OnErr result (L.failures driver.new ≡ L.failures driver.old + 1) }
+    ensures spent { L.plan_left driver.new ≡ plan_after_call (L.plan_left driver.old) }
+    ensures passes { OnOk result
+        (FollowsPlan (L.plan_left driver.old) (L.failures driver.old) false) }
+    ensures fails { OnErr result
+        (FollowsPlan (L.plan_left driver.old) (L.failures driver.old) true) }
+{
+    match key {
+        SettingKey::Bridge(Key::Port(port, PortKey::Enable)) => {
+            driver.set_enabled(port, is_enabled(value))
         }
+        _ => Ok(()),
     }
 }
 
@@ -72,7 +82,7 @@ fn is_enabled(value: SettingValue) -> bool
 impl<L: LineDriver> MibObject for PortEnable<L> {
     ghost use Rattle.bridge_mib.specs.Line.{state_of};
 
-    ghost state = { state_of L.failures };
+    ghost state = { state_of L.failures L.plan_left };
 
     fn prefix(&self) -> &[u32] {
         StpPort::Enable.prefix()
@@ -93,35 +103,41 @@ impl<L: LineDriver> MibObject for PortEnable<L> {
     }
 
     fn commit(&mut self, world: &mut World, slot: Slot) -> Result<(), DeviceFault>
-        requires { IsReserved world.old (state_of L.failures self.old) slot }
+        requires { IsReserved world.old (state_of L.failures L.plan_left self.old) slot }
         ensures put { OnOk result (world.new ≡ put world.old slot.key slot.value) }
-        ensures kept { OnOk result (state_of L.failures self.new
-            ≡ object_after_commit (state_of L.failures self.old) slot
+        ensures kept { OnOk result (state_of L.failures L.plan_left self.new
+            ≡ object_after_commit (state_of L.failures L.plan_left self.old) slot
             (setting world.old slot.key)) }
         ensures before { OnOk result (IsSettingInRange slot.key (setting world.old slot.key)) }
         ensures unchanged { OnErr result (world.new ≡ world.old) }
-        ensures failed { OnErr result
-            (state_of L.failures self.new ≡ object_after_failure (state_of L.failures self.old)) }
+        ensures failed { OnErr result (state_of L.failures L.plan_left self.new
+            ≡ object_after_failure (state_of L.failures L.plan_left self.old)) }
+        ensures passes { OnOk result
+            (IsByPlan (state_of L.failures L.plan_left self.old) false) }
+        ensures fails { OnErr result (IsByPlan (state_of L.failures L.plan_left self.old) true) }
         // The driver is told, whatever the line is already.
         ensures told { (port : ℕ) → slot.key ≡ port_enable port
             → L.told self.old.driver port (is_enabled slot.value) result self.new.driver }
     {
-        self.tell(slot.key, slot.value)?;
+        tell(&mut self.driver, slot.key, slot.value)?;
         self.slots.commit(world, slot);
         Ok(())
     }
 
     fn undo(&mut self, world: &mut World, slot: Slot) -> Result<(), DeviceFault>
         requires { (before : AnySetting)
-            × IsCommitted world.old (state_of L.failures self.old) slot before }
+            × IsCommitted world.old (state_of L.failures L.plan_left self.old) slot before }
         ensures put { OnOk result ((before : AnySetting)
             → slice_get self.old.reserved slot.place ≡ Some (committed_reservation slot before)
             → world.new ≡ put world.old slot.key before) }
-        ensures kept { OnOk result
-            (state_of L.failures self.new ≡ state_of L.failures self.old) }
+        ensures kept { OnOk result (state_of L.failures L.plan_left self.new
+            ≡ after_call (state_of L.failures L.plan_left self.old)) }
         ensures unchanged { OnErr result (world.new ≡ world.old) }
-        ensures failed { OnErr result
-            (state_of L.failures self.new ≡ object_after_failure (state_of L.failures self.old)) }
+        ensures failed { OnErr result (state_of L.failures L.plan_left self.new
+            ≡ object_after_failure (state_of L.failures L.plan_left self.old)) }
+        ensures passes { OnOk result
+            (IsByPlan (state_of L.failures L.plan_left self.old) false) }
+        ensures fails { OnErr result (IsByPlan (state_of L.failures L.plan_left self.old) true) }
         // The driver is told, whatever the line is already.
         ensures told { (before : AnySetting) (port : ℕ)
             → slice_get self.old.reserved slot.place ≡ Some (committed_reservation slot before)
@@ -129,7 +145,7 @@ impl<L: LineDriver> MibObject for PortEnable<L> {
             → L.told self.old.driver port (is_enabled before) result self.new.driver }
     {
         let before = self.slots.before(slot);
-        self.tell(slot.key, before)?;
+        tell(&mut self.driver, slot.key, before)?;
         world.put_setting(slot.key, before);
         Ok(())
     }
@@ -142,10 +158,7 @@ impl<L: LineDriver> MibObject for PortEnable<L> {
         self.slots.len()
     }
 
-    fn arm(&mut self, plan: u64)
-        ensures kept { state_of L.failures self.new ≡ state_of L.failures self.old }
-        ensures armed { L.armed self.old.driver plan self.new.driver }
-    {
+    fn arm(&mut self, plan: u64) {
         self.driver.arm(plan)
     }
 }

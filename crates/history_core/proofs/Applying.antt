@@ -86,6 +86,7 @@ entered_is h e x world objects b receipt audit later happens same_receipt same_a
     record {
       notes = notes_in x;
       may = happens.may;
+      by_plan = happens.by_plan;
       same_undos = ap undos_in (told ∙ sym happens.audit);
       after_is = same_later;
       receipt_is = same_receipt;

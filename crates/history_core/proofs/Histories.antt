@@ -1,12 +1,13 @@
 -- One entry more keeps a history legal.
-use Rattle.std.proofs.Common.{◌≡◌, ◌≢◌, ◌∙◌, ℕ, ◌+◌, ◌*◌, ◌^◌, ◌<◌, Bool, true, false, List, [], ◌∷◌, ◌++◌, length, Option, Some, None, ap, refl, sym, subst, arith, length-append}
+use Rattle.std.proofs.Common.{◌≡◌, ◌≢◌, ◌∙◌, ℕ, ◌+◌, ◌*◌, ◌^◌, ◌<◌, Bool, true, false, List, [], ◌∷◌, ◌++◌, length, map, Option, Some, None, ap, refl, sym, subst, arith, length-append}
 use Rattle.std.specs.Prelude.{◌==◌, if◌then◌else◌}
 use Rattle.std.proofs.lemmas.Bool.Decides.{nat_tests}
 use Rattle.setphase_core.specs.declared.world.World.{World}
-use Rattle.setphase_core.specs.Objects.{ObjectRow, ObjectState}
+use Rattle.setphase_core.specs.Objects.{ObjectRow, ObjectState, object_after_arm}
+use Rattle.setphase_core.proofs.Released.{rows_of-armed}
 use Rattle.setphase_core.specs.Registry.{rows_of}
 use Rattle.history_core.specs.Steps.{Notes, Step, step_of, MayNote, AreAtRest}
-use Rattle.history_core.specs.History.{History, undos_in, notes_of, resting, step_at, EventMet, event_met, events_met, replay, IsEntry, IsLegal, next_of, IsHistory, fresh, history_at_new_base, next_step, next_entry, with_entry, after, last_number}
+use Rattle.history_core.specs.History.{History, undos_in, notes_of, resting, step_at, EventMet, event_met, events_met, replay, IsEntry, IsLegal, next_of, IsHistory, fresh, history_after_arm, history_at_new_base, next_step, next_entry, with_entry, after, last_number}
 use Rattle.history_core.specs.Keeping.{Enters}
 use Rattle.history_core.specs.declared.entry.Entry.{Entry}
 use Rattle.history_core.specs.declared.event.Event.{Event}
@@ -190,3 +191,25 @@ one_history rows w (a ∷ xs) (b ∷ ys) legal other e =
     let first = entry_same rows w a b legal.0 other.0 both.0 in
     let rest = subst (λ (x : Entry). IsLegal rows (step_at rows w x).world ys) (sym first) other.1 in
     λ i. first i ∷ one_history rows (step_at rows w a).world xs ys legal.1 rest both.1 i
+
+-- ---- a plan
+
+at_rest-armed : (plan : ℕ) (os : List ObjectState) → AreAtRest os
+    → AreAtRest (map (object_after_arm plan) os)
+at_rest-armed plan [] h = tt
+at_rest-armed plan (o ∷ os) h = (h.0, at_rest-armed plan os h.1)
+
+-- Devices that are armed keep a history legal.
+pub armed-ok : (h : History) (plan : ℕ) → IsHistory h → IsHistory (history_after_arm plan h)
+armed-ok h plan ok =
+    let same : rows_of h.objects ≡ rows_of (map (object_after_arm plan) h.objects)
+    = sym (rows_of-armed plan h.objects) in
+    record {
+      legal = subst (λ (rows : List ObjectRow). IsLegal rows h.base h.entries) same ok.legal;
+      world_is = ok.world_is ∙ ap (λ (rows : List ObjectRow). replay rows h.base h.entries) same;
+      at_rest = at_rest-armed plan h.objects ok.at_rest;
+      at_most = ok.at_most;
+      fits = ok.fits;
+      blocks = ok.blocks;
+      one_kept = ok.one_kept;
+    }

@@ -145,6 +145,7 @@ told_happens_by os w r told b later os_later h =
     let t = comes_of _ told b h.done.answer in
     record {
       may = (refl, h.may);
+      by_plan = h.by_plan;
       world = h.done.world;
       objects_after = h.done.objects_after;
       egress = t.egress;

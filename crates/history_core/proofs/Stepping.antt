@@ -1,5 +1,5 @@
 -- What a step hangs on, what it leaves, and what its audit says.
-use Rattle.std.proofs.Common.{◌≡◌, ◌≢◌, ◌∙◌, ◌+◌, arith, ℕ, Bool, true, false, if◌then◌else◌, List, [], ◌∷◌, map, Option, Some, None, ap, refl, sym}
+use Rattle.std.proofs.Common.{◌≡◌, ◌≢◌, ◌∙◌, ℕ, Bool, true, false, if◌then◌else◌, List, [], ◌∷◌, map, Option, Some, None, ap, refl, sym}
 use Rattle.std.specs.Prelude.{unwrap_or}
 use Rattle.message_core.specs.declared.request.Kind.{Kind}
 use Rattle.message_core.specs.declared.request.Kind.TheVariants.{Get, GetNext, GetBulk, Set}
@@ -16,7 +16,9 @@ use Rattle.setphase_core.specs.Objects.{ObjectRow, ObjectState, object_after_rel
 use Rattle.setphase_core.specs.Registry.{rows_of}
 use Rattle.setphase_core.specs.Together.{refusal_of}
 use Rattle.setphase_core.specs.Variables.{writings}
-use Rattle.setphase_core.specs.Outcomes.{SetNotes, world_after_set, failed_names, object_after}
+use Rattle.setphase_core.specs.Outcomes.{SetNotes, world_after_set}
+use Rattle.setphase_core.specs.Calls.{Call, calls_of, object_after_set}
+use Rattle.setphase_core.proofs.Called.{reserved_after_calls}
 use Rattle.setphase_core.proofs.Kept.{rows_of-after}
 use Rattle.bridge_core.specs.Events.{frame_result, link_of, after_link}
 use Rattle.agent_core.specs.Sets.{SetStep, SetAnswer, answer_of_failure, answer_of_notes, is_too_long, set_answer, set_reply, set_step, settled_world, settling_bpdus, untested_step, tested_step, MayFail, MayFailWhere, MayFailInSet}
@@ -153,9 +155,9 @@ pub record Rests (before after : List ObjectState) : Type 0 where
   pub rows : rows_of after ≡ rows_of before
   pub at_rest : AreAtRest after
 
-at_rest-after : (names : List (List ℕ)) (os : List ObjectState) → AreAtRest (map (object_after names) os)
-at_rest-after names [] = tt
-at_rest-after names (o ∷ os) = (refl, at_rest-after names os)
+at_rest-after : (calls : List Call) (os : List ObjectState) → AreAtRest (map (object_after_set calls) os)
+at_rest-after calls [] = tt
+at_rest-after calls (o ∷ os) = (reserved_after_calls calls (object_after_release o), at_rest-after calls os)
 
 at_rest-released : (os : List ObjectState) → AreAtRest (map object_after_release os)
 at_rest-released [] = tt
@@ -177,8 +179,8 @@ set_rests_by : (os : List ObjectState) (w : World) (view : List ℕ) (r : Reques
     → Rests os (if too_long then untested_step os w r else tested_step os w view r n).objects
 set_rests_by os w view r n true h = kept os h
 set_rests_by os w view r n false h =
-    let names = failed_names (writings (rows_of os) w r.bindings) n in
-    record { rows = rows_of-after names os; at_rest = at_rest-after names os }
+    let calls = calls_of (refusal_of (rows_of os) w view r.bindings) (writings (rows_of os) w r.bindings) n in
+    record { rows = rows_of-after calls os; at_rest = at_rest-after calls os }
 
 set_rests : (os : List ObjectState) (w : World) (view : List ℕ) (r : Request) (n : SetNotes) → AreAtRest os
     → Rests os (set_step os w view r n).objects
@@ -275,11 +277,10 @@ reading_stays : (os : List ObjectState) (w : World) (r : Request) → ((audit_in
 unfolding outcome_of world_after
 reading_stays os w r h = record { world = reading_world (shown_of (rows_of os) w) w r (decision_on w.policy r) h; objects = refl }
 
-same_after : (os : List ObjectState) → AreAtRest os → map (object_after []) os ≡ os
+same_after : (os : List ObjectState) → AreAtRest os → map (object_after_set []) os ≡ os
 same_after [] h = refl
 same_after (o ∷ os) h =
-    let more : o.failures + 0 ≡ o.failures = omega arith in
-    λ i. record o { reserved = sym h.0 i; failures = more i } ∷ same_after os h.1 i
+    λ i. record o { reserved = sym h.0 i } ∷ same_after os h.1 i
 
 failure_denies_none : (i : ℕ) (undos : List SettingKey) → (answer_of_failure i undos).denied ≡ []
 failure_denies_none i [] = refl
@@ -293,11 +294,11 @@ tested_stays_by : (os : List ObjectState) (w : World) (view : List ℕ) (r : Req
     → AreAtRest os → MayFail refusal (writings (rows_of os) w r.bindings) n
     → ((set_answer w.policy.vacm.families refusal n).denied ≢ [])
     → (settled_world w.bridge.settings (world_after_set refusal (writings (rows_of os) w r.bindings) w n) ≡ w)
-    × (map (object_after (failed_names (writings (rows_of os) w r.bindings) n)) os ≡ os)
+    × (map (object_after_set (calls_of refusal (writings (rows_of os) w r.bindings) n)) os ≡ os)
 tested_stays_by os w view r n None rest may h = absurd (h (notes_deny_none n.commit n.undos))
 tested_stays_by os w view r n (Some refusal) rest may h = (
   sym (unsettled w.bridge.settings w true ((λ t. refl), (λ e. refl)) refl).0,
-  ap (λ (m : SetNotes). map (object_after (failed_names (writings (rows_of os) w r.bindings) m)) os) may ∙ same_after os rest,
+  same_after os rest,
 )
 
 set_stays_by : (os : List ObjectState) (w : World) (view : List ℕ) (r : Request) (n : SetNotes) (too_long : Bool)

@@ -2,12 +2,13 @@
 use Rattle.std.specs.Prelude.{◌≡◌, ℕ, false, List, [], Some, None, unwrap_or}
 use Rattle.audit_core.specs.declared.audit.Audit.{Audit}
 use Rattle.setphase_core.specs.Objects.{ObjectState}
+use Rattle.setphase_core.specs.Calls.{FollowPlans}
 use Rattle.setphase_core.specs.Registry.{rows_of}
 use Rattle.setphase_core.specs.declared.world.World.{World}
 use Rattle.agent_core.specs.Buffered.{Buffered}
 use Rattle.agent_core.specs.declared.answered.Answered.{Answered}
 use Rattle.agent_core.specs.declared.answered.Answered.TheVariants as answered
-use Rattle.history_core.specs.Steps.{Notes, step_of, MayNote}
+use Rattle.history_core.specs.Steps.{Notes, step_of, event_calls, MayNote}
 use Rattle.history_core.specs.History.{undos_in}
 use Rattle.history_core.specs.declared.event.Event.{Event}
 use Rattle.history_core.specs.declared.happening.Happened.{Happened}
@@ -52,6 +53,7 @@ pub record HappensBy (objects : List ObjectState) (w : World) (e : Event) (notes
     (h : Happened) (objects_later : List ObjectState) (later : World) (buffer : Buffered) :
     Type 0 where
   pub may : MayNote (rows_of objects) w e notes
+  pub by_plan : FollowPlans (event_calls (rows_of objects) w e notes) objects
   pub world : later ≡ (step_of objects w e notes).world
   pub objects_after : objects_later ≡ (step_of objects w e notes).objects
   pub egress : h.egress ≡ (step_of objects w e notes).egress

@@ -2,12 +2,13 @@
 use Rattle.std.specs.Prelude.{◌≡◌, ◌⊎◌, ℕ, ◌+◌, ◌*◌, ◌^◌, ◌<◌, ◌≤◌, ◌==◌, List, [], ◌∷◌, ◌++◌, length, map, Option, Some, None, if◌then◌else◌, unwrap_or}
 use Rattle.audit_core.specs.declared.audit.Audit.{Audit}
 use Rattle.setting_keys.specs.declared.SettingKey.{SettingKey}
-use Rattle.setphase_core.specs.Objects.{ObjectRow, ObjectState, object_after_release}
+use Rattle.setphase_core.specs.Objects.{ObjectRow, ObjectState, object_after_arm, object_after_release}
+use Rattle.setphase_core.specs.Calls.{FollowPlans}
 use Rattle.setphase_core.specs.Registry.{rows_of}
 use Rattle.setphase_core.specs.declared.world.World.{World}
 use Rattle.agent_core.specs.Buffered.{Buffered}
 use Rattle.history_core.specs.Receipts.{told_of}
-use Rattle.history_core.specs.Steps.{Notes, Step, step_of, MayNote, AreAtRest, cause_of, MayTakeMemory, failure_octets}
+use Rattle.history_core.specs.Steps.{Notes, Step, step_of, event_calls, MayNote, AreAtRest, cause_of, MayTakeMemory, failure_octets}
 use Rattle.history_core.specs.declared.applied.Applied.{Applied}
 use Rattle.history_core.specs.declared.applied.Applied.TheVariants.{Done, Dropped, Short, HistoryFull}
 use Rattle.history_core.specs.declared.entry.Entry.{Entry}
@@ -42,7 +43,7 @@ notes_of e = record {
 -- Objects of these rows that have nothing reserved. What an event makes of a world hangs on their
 -- rows alone.
 abbrev pub resting : List ObjectRow → List ObjectState
-resting rows = map (λ row. record { row = row; reserved = []; failures = 0 }) rows
+resting rows = map (λ row. record { row = row; reserved = []; failures = 0; plan = None }) rows
 
 -- what an entry's event makes of a world
 abbrev pub step_at : List ObjectRow → World → Entry → Step
@@ -105,6 +106,10 @@ fresh objects w n = record {
   objects = map object_after_release objects;
 }
 
+-- the history whose objects' devices were armed with a plan
+abbrev pub history_after_arm : ℕ → History → History
+history_after_arm plan h = record h { objects = map (object_after_arm plan) h.objects }
+
 -- the history with its base moved to the present world
 abbrev pub history_at_new_base : History → History
 history_at_new_base h = record h { base_number = next_of h; base = h.world; entries = [] }
@@ -150,12 +155,14 @@ next_receipt h e notes = record {
 }
 
 -- An event was entered: one entry more, at the next number, by the step of the event at the present
--- world, with what it may have met; the receipt and the audit are the step's, and the buffer holds
--- the reply, if any, and what the ports send.
+-- world, with what it may have met, where each call of a device failed exactly where the plan of its
+-- object said so, if that has one; the receipt and the audit are the step's, and the buffer holds the
+-- reply, if any, and what the ports send.
 pub record IsEntered (h : History) (e : Event) (receipt : Receipt) (audit : Option Audit)
     (later : History) (buffer : Buffered) : Type 0 where
   pub notes : Notes
   pub may : MayNote (rows_of h.objects) h.world e notes
+  pub by_plan : FollowPlans (event_calls (rows_of h.objects) h.world e notes) h.objects
   pub same_undos : undos_in audit ≡ notes.devices.undos
   pub after_is : later ≡ after h e notes
   pub receipt_is : receipt ≡ next_receipt h e notes

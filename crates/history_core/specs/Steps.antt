@@ -17,9 +17,10 @@ use Rattle.bridge_core.specs.Events.{Framed, frame_result, tick_of, after_tick, 
 use Rattle.bridge_core.specs.Forwarding.{MayLackMemory}
 use Rattle.setphase_core.specs.Objects.{ObjectRow, ObjectState}
 use Rattle.setphase_core.specs.Outcomes.{SetNotes}
+use Rattle.setphase_core.specs.Calls.{Call}
 use Rattle.setphase_core.specs.declared.world.World.{World}
 use Rattle.agent_core.specs.Answers as answers
-use Rattle.agent_core.specs.Answers.{Outcome, dropped, replied, audit_in, MayHave}
+use Rattle.agent_core.specs.Answers.{Outcome, dropped, replied, audit_in, MayHave, request_calls}
 use Rattle.agent_core.specs.Replies.{failure_reply}
 use Rattle.agent_core.specs.Sets.{no_notes}
 use Rattle.history_core.specs.declared.event.Event.{Event}
@@ -117,6 +118,14 @@ step_of objects w (event.Link port up) notes = link_step objects w port up
 step_of objects w (event.Policy tables) notes = policy_step objects w tables
 step_of objects w (event.Request request) notes =
     request_step (answers.step_of objects w request notes.devices)
+
+-- The calls of devices that an event makes, where they failed so: those of a request alone.
+abbrev pub event_calls : List ObjectRow → World → Event → Notes → List Call
+event_calls rows w (event.Frame port frame) notes = []
+event_calls rows w event.Tick notes = []
+event_calls rows w (event.Link port up) notes = []
+event_calls rows w (event.Policy tables) notes = []
+event_calls rows w (event.Request request) notes = request_calls rows w request notes.devices
 
 -- What may be noted of an event: no memory for a learned row only of a frame at a port that is there
 -- whose source is to have a row of its own, and failed calls of devices only of a Set that makes

@@ -79,7 +79,7 @@ impl<O: MibObject> Kept<O> {
     ghost use Rattle.history_core.specs.Receipts.{told_of, TakesMemory};
     ghost use Rattle.std.specs.Prelude.{MatchResult};
     ghost use Rattle.history_core.specs.Comparing.{IsTallied, BreaksFirst};
-    ghost use Rattle.history_core.specs.History.{IsHistory, Applies, fresh, next_of};
+    ghost use Rattle.history_core.specs.History.{IsHistory, Applies, fresh, history_after_arm, next_of};
 
     /// The history of this world and these objects, in which nothing has happened and the first
     /// entry is to have the number 0. Every object is released.
@@ -186,10 +186,10 @@ impl<O: MibObject> Kept<O> {
         let _ = &self.first;
     }
 
-    /// Hands a plan down to the objects' devices ([`MibObject::arm`]); which calls then fail is the
-    /// devices' own, and no clause says it. It changes nothing that is shown, and takes no memory.
+    /// Arms the objects' devices with a plan, each with all of it ([`MibObject::arm`]). Nothing else
+    /// changes. It takes no memory.
     pub fn arm(&mut self, plan: u64)
-        ensures { self.new ≡ self.old }
+        ensures { self.new ≡ history_after_arm plan self.old }
     {
         self.registry.arm(plan);
     }

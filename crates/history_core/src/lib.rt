@@ -30,8 +30,8 @@
 //! number is left there is no reply.
 //!
 //! # Not claimed
-//! That memory was refused where want of it is told, or that there is some; which calls a device
-//! fails, which of several variables of one object is told as failed, and that `arm` arms.
+//! That memory was refused where want of it is told, or that there is some; of objects whose devices
+//! take no plans, which calls of a Set failed, and so which variable is told as failed.
 #![tactic(auto)]
 
 mod applied;

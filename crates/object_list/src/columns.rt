@@ -74,15 +74,16 @@ pub const ENABLE: usize = 25;
 /// `AllocError` where there is no memory for the list.
 pub fn objects<L: LineDriver>(alloc: Global, driver: L) -> Result<Vec<Object<L>>, AllocError>
     ensures all { IfOk result (λ objects.
-        rows_of (states_of L.failures objects.items) ≡ bridge_rows) }
-    ensures idle { IfOk result (λ objects. held_count (states_of L.failures objects.items) ≡ 0) }
+        rows_of (states_of L.failures L.plan_left objects.items) ≡ bridge_rows) }
+    ensures idle { IfOk result (λ objects.
+        held_count (states_of L.failures L.plan_left objects.items) ≡ 0) }
     ensures driven { IfOk result (λ objects. slice_get objects.items ENABLE
         ≡ Some (Object.Enable (record { driver = driver; reserved = [] }))) }
     // So they make a registry.
     ensures named { IfOk result (λ objects.
-        AreNamed (rows_of (states_of L.failures objects.items))) }
+        AreNamed (rows_of (states_of L.failures L.plan_left objects.items))) }
     ensures accepted { IfOk result (λ objects.
-        first_fault (rows_of (states_of L.failures objects.items)) ≡ None) }
+        first_fault (rows_of (states_of L.failures L.plan_left objects.items)) ≡ None) }
 {
     let mut objects = Vec::new(alloc);
     for column in COLUMNS {

@@ -47,7 +47,7 @@ impl<L: LineDriver> Object<L> {
 impl<L: LineDriver> MibObject for Object<L> {
     ghost use Rattle.object_list.specs.Objects.{state_of};
 
-    ghost state = { state_of L.failures };
+    ghost state = { state_of L.failures L.plan_left };
 
     fn prefix(&self) -> &[u32] {
         match self {

@@ -21,7 +21,7 @@ pub struct Plain {
 }
 
 impl MibObject for Plain {
-    ghost use Rattle.std.specs.Prelude.{if◌then◌else◌};
+    ghost use Rattle.std.specs.Prelude.{if◌then◌else◌, None};
     ghost use Rattle.setphase_core.specs.declared.column.Base.TheVariants as base;
     ghost use Rattle.setphase_core.specs.declared.column.BasePort.TheVariants as base_port;
     ghost use Rattle.setphase_core.specs.declared.column.Column.TheVariants as column;
@@ -33,6 +33,7 @@ impl MibObject for Plain {
       };
       reserved = o.slots;
       failures = 0;
+      plan = None;
     } };
 
     fn prefix(&self) -> &[u32] {
@@ -79,6 +80,8 @@ impl MibObject for Plain {
     fn held(&self) -> usize {
         self.slots.len()
     }
+
+    fn arm(&mut self, _plan: u64) {}
 }
 
 // What dot1dBaseType shows at an index.

@@ -1,17 +1,18 @@
 -- The slots of a Set that stand while one after the other is committed.
-use Rattle.std.proofs.Common.{◌≡◌, ◌≢◌, ℕ, ◌+◌, ◌<◌, ◌≤◌, ◌∙◌, sym, ap, subst, List, length, map, take, slice_set, arith, inl, inr}
+use Rattle.std.proofs.Common.{◌≡◌, ◌≢◌, ℕ, ◌+◌, ◌<◌, ◌≤◌, ◌∙◌, sym, ap, subst, refl, Bool, true, false, List, [], ◌∷◌, ◌++◌, length, map, take, slice_set, arith, inl, inr}
 use Rattle.std.proofs.lemmas.List.{length-set}
 use Rattle.std.proofs.lemmas.Bool.Decides.{eqb_tells}
 use Rattle.setphase_core.specs.declared.object.Assignment.{Assignment}
 use Rattle.setphase_core.specs.declared.staging.Staged.{Staged}
 use Rattle.setphase_core.specs.declared.world.World.{World}
-use Rattle.setphase_core.specs.Objects.{ObjectState, IsCommitted, pending_reservation, committed_reservation, object_after_commit, object_after_release, object_after_failure}
+use Rattle.setphase_core.specs.Objects.{ObjectState, IsCommitted, pending_reservation, committed_reservation, object_after_commit, object_after_release, object_called, IsByPlan}
 use Rattle.setphase_core.specs.Settings.{setting, put, HasSetting, IsSettingInRange}
-use Rattle.setphase_core.specs.Staging.{object_at, entry_at, assignments_of, IsDistinct, StandsReserved, StandsCommitted, ArePending, AreCommitted}
+use Rattle.setphase_core.specs.Staging.{object_at, entry_at, assignments_of, IsDistinct, StandsReserved, StandsCommitted, ArePending, AreCommitted, CallAt, AreCalled, commit_at}
 use Rattle.setphase_core.specs.Together.{assign}
 use Rattle.setphase_core.proofs.Puts.{keys-kept}
 use Rattle.setphase_core.proofs.Assigns.{HasAll, has_before, has_all-taken, setting-assign, assign_more, distinct_below, without_before}
-use Rattle.setphase_core.proofs.Holding.{Holds, holds_reserved, holds_committed, holds_others, holds_made, holds_after_failure, released-committed, released-failed}
+use Rattle.setphase_core.proofs.Holding.{Holds, holds_reserved, holds_committed, holds_others, holds_made, holds_after_call}
+use Rattle.setphase_core.proofs.Called.{called_more}
 
 -- The objects after the commit of an entry.
 abbrev pub after_commit : List ObjectState → World → Staged → List ObjectState
@@ -21,9 +22,10 @@ after_commit os w e =
 abbrev pub put_entry : World → Staged → World
 put_entry w e = put w e.slot.key e.slot.value
 
--- The objects after the device of an entry's object failed.
-abbrev pub after_failure : List ObjectState → Staged → List ObjectState
-after_failure os e = slice_set os e.object (object_after_failure (object_at os e.object))
+-- The objects after a call of the device of an entry's object that put nothing.
+abbrev pub after_called : Bool → List ObjectState → Staged → List ObjectState
+after_called fails os e =
+    slice_set os e.object (object_called fails (object_at os e.object))
 
 -- The settings of the committed entries were there before.
 pub had_key : (before w : World) (os : List ObjectState) (es : List Staged) (n : ℕ)
@@ -144,17 +146,17 @@ commit_step before w v os ns es ds i n e f d h commits puts sets range =
       done = subst (λ u. AreCommitted before u ns es (i + 1)) (sym world) (subst (λ xs. AreCommitted before (put_entry w (entry_at es i)) xs es (i + 1)) (sym after) (committed_more before w os es i d h commits in_range));
     }
 
--- The committed entries after a failure.
-pub committed_after_failure : (before w v : World) (os ns : List ObjectState) (es : List Staged)
-    (n : ℕ) (e : Staged) → e.object < length os → v ≡ w → ns ≡ after_failure os e →
+-- The committed entries after a call that put nothing.
+pub committed_after_call : (fails : Bool) (before w v : World) (os ns : List ObjectState) (es : List Staged)
+    (n : ℕ) (e : Staged) → e.object < length os → v ≡ w → ns ≡ after_called fails os e →
     AreCommitted before w os es n → AreCommitted before v ns es n
-committed_after_failure before w v os ns es n e h world objects done =
+committed_after_call fails before w v os ns es n e h world objects done =
     subst (λ u. AreCommitted before u ns es n) (sym world) (subst (λ xs. AreCommitted before w xs es n) (sym objects) (record {
       stands = λ k low.
           let f = entry_at es k in
           let there : StandsCommitted before w os (entry_at es k) = done.stands k low in
-          let after : Holds (object_at (after_failure os e) (entry_at es k).object) (entry_at es k).slot.place (committed_reservation (entry_at es k).slot (setting before (entry_at es k).slot.key))
-          = holds_after_failure os e.object f.object f.slot.place (committed_reservation f.slot (setting before f.slot.key)) h (holds_committed w (object_at os f.object) f.slot (setting before f.slot.key) there.committed) in
+          let after : Holds (object_at (after_called fails os e) (entry_at es k).object) (entry_at es k).slot.place (committed_reservation (entry_at es k).slot (setting before (entry_at es k).slot.key))
+          = holds_after_call fails os e.object f.object f.slot.place (committed_reservation f.slot (setting before f.slot.key)) h (holds_committed w (object_at os f.object) f.slot (setting before f.slot.key) there.committed) in
           record {
             within = omega (arith, there.within, length-set {A = ObjectState});
             committed = record {
@@ -172,18 +174,21 @@ pub next_pending : (w : World) (os : List ObjectState) (es ds : List Staged) (i 
 next_pending w os es ds i n e f h pends =
     subst (StandsReserved w os) (sym (entry_is es ds i n e f)) (pends.stands i (omega arith) h)
 
--- What all objects are, once all is dropped, after a commit and after a failure.
-pub released_after_commit : (w : World) (os ns zs : List ObjectState) (e : Staged) →
-    ns ≡ after_commit os w e → map object_after_release os ≡ zs → map object_after_release ns ≡ zs
-released_after_commit w os ns zs e after same =
-    ap (map object_after_release) after
-    ∙ released-committed os e.object e.slot (setting w e.slot.key)
-    ∙ same
+-- What all objects are, once all is dropped, after one more commit, and after one that failed.
+pub called_after_commit : (w : World) (os ns zs : List ObjectState) (cs : List CallAt)
+    (e : Staged) → ns ≡ after_commit os w e → IsByPlan (object_at os e.object) false →
+    AreCalled cs zs (map object_after_release os) →
+    AreCalled (cs ++ commit_at false e ∷ []) zs (map object_after_release ns)
+called_after_commit w os ns zs cs e after planned h =
+    called_more cs zs os ns e.object false (object_after_commit (object_at os e.object) e.slot (setting w e.slot.key)) after refl planned h
 
-pub released_after_failure : (os ns zs : List ObjectState) (e : Staged) →
-    ns ≡ after_failure os e → map object_after_release os ≡ zs →
-    map object_after_release ns ≡ slice_set zs e.object (object_after_failure (object_at zs e.object))
-released_after_failure os ns zs e after same =
-    ap (map object_after_release) after
-    ∙ released-failed os e.object
-    ∙ ap (λ ys. slice_set ys e.object (object_after_failure (object_at ys e.object))) same
+pub called_after_call : (fails : Bool) (os ns zs : List ObjectState) (cs : List CallAt)
+    (e : Staged) → ns ≡ after_called fails os e → IsByPlan (object_at os e.object) fails →
+    AreCalled cs zs (map object_after_release os) →
+    AreCalled (cs ++ commit_at fails e ∷ []) zs (map object_after_release ns)
+called_after_call fails os ns zs cs e after planned h =
+    called_more cs zs os ns e.object fails (object_called fails (object_at os e.object)) after (released fails (object_at os e.object)) planned h
+  where
+    released : (b : Bool) (o : ObjectState) → object_after_release (object_called b o) ≡ object_called b (object_after_release o)
+    released true o = refl
+    released false o = refl

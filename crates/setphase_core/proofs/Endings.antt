@@ -1,23 +1,24 @@
 -- What a Set leaves, told by its variables in place of its entries.
-use Rattle.std.proofs.Common.{◌≡◌, ℕ, zero, suc, ◌+◌, ◌-◌, ◌<◌, ◌∙◌, sym, ap, subst, refl, Bool, true, false, ◌||◌, cond, if◌then◌else◌, List, [], ◌∷◌, ◌++◌, length, map, take, drop, slice_get, slice_set, count_by, Option, Some, arith}
-use Rattle.std.proofs.lemmas.List.{length-map, map-append, take-map}
-use Rattle.std.proofs.lemmas.List.Sums.{sum_by-cons}
-use Rattle.oid_core.specs.Order.{is_prefix}
+use Rattle.std.proofs.Common.{◌≡◌, ℕ, zero, suc, ◌+◌, ◌-◌, ◌<◌, ◌∙◌, sym, ap, subst, refl, Bool, true, false, ◌||◌, cond, if◌then◌else◌, List, [], ◌∷◌, ◌++◌, length, map, take, drop, reverse, slice_get, Option, Some, None, arith}
+use Rattle.std.proofs.lemmas.List.{length-map, take-map}
 use Rattle.setting_keys.specs.declared.SettingKey.{SettingKey}
 use Rattle.setphase_core.specs.declared.object.Assignment.{Assignment}
 use Rattle.setphase_core.specs.declared.staging.Staged.{Staged}
 use Rattle.setphase_core.specs.declared.world.World.{World}
-use Rattle.setphase_core.specs.Objects.{ObjectRow, ObjectState, object_after_release, object_after_failure}
+use Rattle.setphase_core.specs.Calls.{Call, commit_call, undo_call, calls_by, object_after_calls, object_after_set, FollowPlans}
+use Rattle.setphase_core.specs.Objects.{ObjectRow, ObjectState, object_after_release}
 use Rattle.setphase_core.specs.Registry.{rows_of, prefixes_of}
-use Rattle.setphase_core.specs.Searching.{prefix_at, IsOwnerPlace}
+use Rattle.setphase_core.specs.Searching.{IsOwnerPlace}
 use Rattle.setphase_core.specs.Settings.{same_setting}
 use Rattle.setphase_core.specs.Variables.{Written}
 use Rattle.setphase_core.specs.Together.{assign, assignments}
-use Rattle.setphase_core.specs.Outcomes.{has_key, keys_of, firsts, committed_of, writers_of, stuck, CanFail, failed_by, object_after}
-use Rattle.setphase_core.specs.Staging.{object_at, entry_at, assignment_of_entry, assignments_of, Without, IsDistinct, AreCommitted, HasFailed, failed_at, failing_place, entries_of, places_of}
+use Rattle.setphase_core.specs.Outcomes.{has_key, keys_of, firsts, committed_of, writers_of, stuck, CanFail}
+use Rattle.setphase_core.specs.Staging.{CallAt, entry_at, assignment_of_entry, assignments_of, Without, IsDistinct, AreCommitted, HasFailed, AreCalled, commit_at, commits_at, undo_at, undos_at, entries_of}
 use Rattle.setphase_core.specs.Tested.{AreStaged, IsNumber}
 use Rattle.setphase_core.proofs.Puts.{same-exact}
 use Rattle.setphase_core.proofs.Assigns.{without_before}
+use Rattle.setphase_core.proofs.Called.{CallsFor, calls_for-append, called_for, called-append, undos-cons, undo_calls-cons, set_released, plans_released}
+use Rattle.setphase_core.proofs.Released.{rows_of-released}
 use Rattle.setphase_core.proofs.Stuck.{entry_keys, absent}
 
 -- ---- entries and their variables
@@ -94,71 +95,50 @@ key_for rows (e ∷ es) (y ∷ xs) zero x h at =
     ap (λ (a : Assignment). a.key) h.0 ∙ ap (λ (z : Written). z.assignment.key) same
 key_for rows (e ∷ es) (y ∷ xs) (suc k) x h at = key_for rows es xs k x h.2 at
 
--- ---- the failures of objects, told by names
+-- ---- the calls of entries, by the names of their variables
 
-none_failed : (o : ObjectState) → object_after_release o ≡ object_after [] o
-none_failed o =
-    let same : o.failures ≡ o.failures + 0 = omega arith in
-    ap (λ n. record o { reserved = []; failures = n }) same
+commits_for : (rows : List ObjectRow) (fails : Bool) (es : List Staged) (xs : List Written) →
+    AreFor rows es xs → CallsFor rows (map (commit_at fails) es) (map (commit_call fails) xs)
+commits_for rows fails [] [] h = tt
+commits_for rows fails [] (x ∷ xs) h = absurd h
+commits_for rows fails (e ∷ es) [] h = absurd h
+commits_for rows fails (e ∷ es) (x ∷ xs) h = (refl, h.1, commits_for rows fails es xs h.2)
 
-pub none_failed_all : (os : List ObjectState) → map object_after_release os ≡ map (object_after []) os
-none_failed_all [] = refl
-none_failed_all (o ∷ os) =
-    ap (λ z. z ∷ map object_after_release os) (none_failed o)
-    ∙ ap (λ zs. object_after [] o ∷ zs) (none_failed_all os)
+undos_for : (rows : List ObjectRow) (keys : List SettingKey) (es : List Staged)
+    (xs : List Written) → AreFor rows es xs →
+    CallsFor rows (undos_at keys es) (map (undo_call keys) (reverse xs))
+undos_for rows keys [] [] h = tt
+undos_for rows keys [] (x ∷ xs) h = absurd h
+undos_for rows keys (e ∷ es) [] h = absurd h
+undos_for rows keys (e ∷ es) (x ∷ xs) h =
+    subst (λ ps. CallsFor rows ps (map (undo_call keys) (reverse (x ∷ xs)))) (sym (undos-cons keys e es))
+    (subst (CallsFor rows (undos_at keys es ++ undo_at keys e ∷ [])) (sym (undo_calls-cons keys x xs))
+    (calls_for-append rows (undos_at keys es) (undo_at keys e ∷ []) (map (undo_call keys) (reverse xs)) (undo_call keys x ∷ []) (undos_for rows keys es xs h.2) (ap (λ (a : Assignment). has_key keys a.key) h.0, h.1, tt)))
 
-abbrev is_own : ObjectState → List ℕ → Bool
-is_own o name = is_prefix o.row.prefix name
+-- The objects after a Set whose calls were these.
+after_set : (os ns : List ObjectState) (ps : List CallAt) (cs : List Call) →
+    CallsFor (rows_of os) ps cs → AreCalled ps (map object_after_release os) ns →
+    (ns ≡ map (object_after_set cs) os) × FollowPlans cs os
+after_set os ns ps cs h called =
+    let by_names : (ns ≡ map (object_after_calls cs) (map object_after_release os)) × FollowPlans cs (map object_after_release os)
+    = called_for (map object_after_release os) ns ps cs (subst (λ rows. CallsFor rows ps cs) (sym (rows_of-released os)) h) called in
+    (by_names.0 ∙ set_released cs os, plans_released cs os by_names.1)
 
-failed_own : (o : ObjectState) (name : List ℕ) (names : List (List ℕ)) → is_own o name ≡ true →
-    object_after_failure (object_after names o) ≡ object_after (name ∷ names) o
-failed_own o name names own =
-    let more : count_by (is_own o) (name ∷ names) ≡ 1 + count_by (is_own o) names
-    = sum_by-cons (λ n. cond (is_own o n) 1 0) name names ∙ ap (λ b. cond b 1 0 + count_by (is_own o) names) own in
-    let rose : (o.failures + count_by (is_own o) names) + 1 ≡ o.failures + count_by (is_own o) (name ∷ names) = omega (arith, more) in
-    ap (λ n. record o { reserved = []; failures = n }) rose
+-- A refused Set.
+pub refused_objects : (os : List ObjectState) → map object_after_release os ≡ map (object_after_set []) os
+refused_objects [] = refl
+refused_objects (o ∷ os) = ap (λ zs. object_after_release o ∷ zs) (refused_objects os)
 
-failed_other : (o : ObjectState) (name : List ℕ) (names : List (List ℕ)) → is_own o name ≡ false →
-    object_after names o ≡ object_after (name ∷ names) o
-failed_other o name names own =
-    let more : count_by (is_own o) (name ∷ names) ≡ 0 + count_by (is_own o) names
-    = sum_by-cons (λ n. cond (is_own o n) 1 0) name names ∙ ap (λ b. cond b 1 0 + count_by (is_own o) names) own in
-    let same : o.failures + count_by (is_own o) names ≡ o.failures + count_by (is_own o) (name ∷ names) = omega (arith, more) in
-    ap (λ n. record o { reserved = []; failures = n }) same
-
-abbrev names_in : List ObjectState → List (List ℕ)
-names_in os = prefixes_of (rows_of os)
-
-failed_others : (os : List ObjectState) (name : List ℕ) (names : List (List ℕ)) →
-    ((k : ℕ) → k < length (names_in os) → is_prefix (prefix_at (names_in os) k) name ≡ false) →
-    map (object_after names) os ≡ map (object_after (name ∷ names)) os
-failed_others [] name names h = refl
-failed_others (o ∷ os) name names h =
-    ap (λ z. z ∷ map (object_after names) os) (failed_other o name names (h 0 (omega arith)))
-    ∙ ap (λ zs. object_after (name ∷ names) o ∷ zs) (failed_others os name names (λ k low. h (suc k) (omega arith)))
-
-failed_more : (os : List ObjectState) (p : ℕ) (name : List ℕ) (names : List (List ℕ)) →
-    IsOwnerPlace (names_in os) name (Some p) →
-    slice_set (map (object_after names) os) p (object_after_failure (object_at (map (object_after names) os) p))
-    ≡ map (object_after (name ∷ names)) os
-failed_more [] p name names h = absurd (omega (arith, h.0))
-failed_more (o ∷ os) zero name names h =
-    ap (λ z. z ∷ map (object_after names) os) (failed_own o name names h.1)
-    ∙ ap (λ zs. object_after (name ∷ names) o ∷ zs) (failed_others os name names (λ k low. h.2 (suc k) (omega arith) (omega arith)))
-failed_more (o ∷ os) (suc p) name names h =
-    ap (λ z. z ∷ slice_set (map (object_after names) os) p (object_after_failure (object_at (map (object_after names) os) p))) (failed_other o name names (h.2 0 (omega arith) (omega arith)))
-    ∙ ap (λ zs. object_after (name ∷ names) o ∷ zs) (failed_more os p name names (omega (arith, h.0), h.1, λ k low ne. h.2 (suc k) (omega arith) (omega arith)))
-
--- The devices of the objects of entries failed, after others.
-failed_for : (os zs : List ObjectState) (names : List (List ℕ)) (es : List Staged)
-    (xs : List Written) → zs ≡ map (object_after names) os → AreFor (rows_of os) es xs →
-    failed_at (places_of es) zs ≡ map (object_after (map (λ x. x.name) xs ++ names)) os
-failed_for os zs names [] [] before h = before
-failed_for os zs names [] (x ∷ xs) before h = absurd h
-failed_for os zs names (e ∷ es) [] before h = absurd h
-failed_for os zs names (e ∷ es) (x ∷ xs) before h =
-    ap (λ ys. slice_set ys e.object (object_after_failure (object_at ys e.object))) (failed_for os zs names es xs before h.2)
-    ∙ failed_more os e.object x.name (map (λ x. x.name) xs ++ names) h.1
+-- A Set of whose commits none failed.
+pub done_objects : (os ns : List ObjectState) (ws : List Written) (es : List Staged) →
+    AreStaged (rows_of os) ws es →
+    AreCalled (commits_at es None) (map object_after_release os) (map object_after_release ns) →
+    (map object_after_release ns ≡ map (object_after_set (calls_by ws None [])) os)
+    × FollowPlans (calls_by ws None []) os
+done_objects os ns ws es staged called =
+    after_set os (map object_after_release ns) (commits_at es None) (calls_by ws None [])
+    (commits_for (rows_of os) false es (committed_of ws) (are_for (rows_of os) es (committed_of ws) staged.written staged.placed))
+    called
 
 -- ---- the settings that variables write, and those of them that are committed
 
@@ -279,17 +259,27 @@ module _ (os : List ObjectState) (ws : List Written) (es : List Staged) (i : ℕ
       same_value : (o : Option Written) (x y : Written) → o ≡ Some x → o ≡ Some y → x ≡ y
       same_value o x y p q = cc
 
-  -- What the objects are: the failed commit and the failed undos are counted by their names.
-  pub failures_told : failed_at (places_of (entries_of keys (take i es))) (failed_at (failing_place es (Some i)) (map object_after_release os))
-      ≡ map (object_after (failed_by ws (Some (entry_at es i).number) keys)) os
-  failures_told =
-      let x = at.0 in
-      let commit : failed_at (failing_place es (Some i)) (map object_after_release os) ≡ map (object_after (at.0.name ∷ [])) os
-      = ap (λ zs. slice_set zs (entry_at es i).object (object_after_failure (object_at zs (entry_at es i).object))) (none_failed_all os)
-      ∙ failed_more os (entry_at es i).object at.0.name [] (staged.placed i at.0 at.1) in
-      failed_for os (failed_at (failing_place es (Some i)) (map object_after_release os)) (x.name ∷ []) (entries_of keys (take i es)) (stuck ws (entry_at es i).number keys) commit stuck_for
-      ∙ ap (λ names. map (object_after names) os) (ap (λ ys. map (λ (y : Written). y.name) (stuck ws (entry_at es i).number keys) ++ map (λ (y : Written). y.name) ys) (sym (one_at ws ((entry_at es i).number - 1) x number_is.there))
-      ∙ sym (map-append (λ (y : Written). y.name) (stuck ws (entry_at es i).number keys) (take 1 (drop ((entry_at es i).number - 1) ws))))
+  calls_are : CallsFor (rows_of os) (commits_at es (Some i) ++ undos_at keys (take i es)) (calls_by ws (Some (entry_at es i).number) keys)
+  calls_are =
+      let rows = rows_of os in
+      let front : List Written = committed_of (take ((entry_at es i).number - 1) ws) in
+      let for_front : AreFor (rows_of os) (take i es) (committed_of (take ((entry_at es i).number - 1) ws))
+      = subst (AreFor (rows_of os) (take i es)) (sym number_is.before) (are_for-take (rows_of os) i es (committed_of ws) all_for) in
+      let failing : CallsFor (rows_of os) (commit_at true (entry_at es i) ∷ []) (map (commit_call true) (take 1 (drop ((entry_at es i).number - 1) ws)))
+      = subst (λ xs. CallsFor (rows_of os) (commit_at true (entry_at es i) ∷ []) (map (commit_call true) xs)) (sym (one_at ws ((entry_at es i).number - 1) at.0 number_is.there)) (refl, staged.placed i at.0 at.1, tt) in
+      calls_for-append rows (commits_at es (Some i)) (undos_at keys (take i es)) (map (commit_call false) front ++ map (commit_call true) (take 1 (drop ((entry_at es i).number - 1) ws))) (map (undo_call keys) (reverse front))
+      (calls_for-append rows (map (commit_at false) (take i es)) (commit_at true (entry_at es i) ∷ []) (map (commit_call false) front) (map (commit_call true) (take 1 (drop ((entry_at es i).number - 1) ws))) (commits_for rows false (take i es) front for_front) failing)
+      (undos_for rows keys (take i es) front for_front)
+
+  -- What the objects are, by the calls of their devices.
+  pub calls_told : (made undone : List ObjectState) →
+      AreCalled (commits_at es (Some i)) (map object_after_release os) made →
+      AreCalled (undos_at keys (take i es)) made undone →
+      (undone ≡ map (object_after_set (calls_by ws (Some (entry_at es i).number) keys)) os)
+      × FollowPlans (calls_by ws (Some (entry_at es i).number) keys) os
+  calls_told made undone commits undos =
+      after_set os undone (commits_at es (Some i) ++ undos_at keys (take i es)) (calls_by ws (Some (entry_at es i).number) keys) calls_are
+      (called-append (commits_at es (Some i)) (undos_at keys (take i es)) (map object_after_release os) made undone commits undos)
 
   -- What the world is: the settings that could not be undone keep their new values.
   pub world_told : (w v u : World) (rs : List ObjectState) → HasFailed w v rs es i →
@@ -299,16 +289,3 @@ module _ (os : List ObjectState) (ws : List Written) (es : List Staged) (i : ℕ
       u ≡ assign (assignments (stuck ws (entry_at es i).number keys)) w
   world_told w v u rs failed undone =
       undone w failed.stands failed.world ∙ ap (λ ps. assign ps w) stuck_assignments
-
-  -- What the objects are, by what they were before the tests, after them, after the commits and
-  -- after the undos.
-  pub objects_told : (tested made undone : List ObjectState) →
-      map object_after_release tested ≡ map object_after_release os →
-      map object_after_release made ≡ failed_at (failing_place es (Some i)) (map object_after_release tested) →
-      map object_after_release undone
-      ≡ failed_at (places_of (entries_of keys (take i es))) (map object_after_release made) →
-      map object_after_release undone ≡ map (object_after (failed_by ws (Some (entry_at es i).number) keys)) os
-  objects_told tested made undone same commit undo =
-      undo
-      ∙ ap (failed_at (places_of (entries_of keys (take i es)))) (commit ∙ ap (failed_at (failing_place es (Some i))) same)
-      ∙ failures_told

@@ -1,14 +1,12 @@
--- What objects hold for a Set while others of its slots are committed, or a device fails.
-use Rattle.std.proofs.Common.{◌≡◌, ◌≢◌, ℕ, zero, suc, ◌<◌, ◌∙◌, sym, ap, subst, refl, List, [], ◌∷◌, length, map, slice_get, slice_set, Some, arith, inl, inr}
+-- What objects hold for a Set while others of its slots are committed, or devices are called.
+use Rattle.std.proofs.Common.{◌≡◌, ◌≢◌, ℕ, zero, suc, ◌<◌, ◌∙◌, sym, ap, subst, refl, Bool, true, false, List, [], ◌∷◌, length, map, slice_get, slice_set, Some, arith, inl, inr}
 use Rattle.std.proofs.lemmas.List.{length-set, get_or-set_same, get_or-set_other}
 use Rattle.std.proofs.lemmas.Bool.Decides.{eqb_tells}
-use Rattle.std.proofs.Math.Seq.{map-set_same}
-use Rattle.std.proofs.lemmas.List.{map-set}
 use Rattle.setting_keys.specs.declared.SettingValue.{SettingValue}
 use Rattle.setphase_core.specs.declared.object.Reservation.{Reservation}
 use Rattle.setphase_core.specs.declared.object.Slot.{Slot}
 use Rattle.setphase_core.specs.declared.world.World.{World}
-use Rattle.setphase_core.specs.Objects.{ObjectState, IsReserved, IsCommitted, pending_reservation, committed_reservation, object_after_commit, object_after_release, object_after_failure}
+use Rattle.setphase_core.specs.Objects.{ObjectState, IsReserved, IsCommitted, pending_reservation, committed_reservation, object_after_commit, object_after_release, object_called}
 use Rattle.setphase_core.specs.Staging.{object_at, no_object}
 
 slice_get-set_other : {X : Type 0} (xs : List X) (i j : ℕ) (y : X) → i ≢ j →
@@ -77,38 +75,32 @@ holds_made os i slot old h place =
       stands = slice_get-set_same (object_at os i).reserved slot.place (committed_reservation slot old) place;
     })
 
--- A failure of a device changes nothing that is held.
-pub holds_after_failure : (os : List ObjectState) (i j p : ℕ) (t : Reservation) →
+-- A call of a device changes nothing that is held.
+reserved_called : (fails : Bool) (o : ObjectState) → o.reserved ≡ (object_called fails o).reserved
+reserved_called true o = refl
+reserved_called false o = refl
+
+pub holds_after_call : (fails : Bool) (os : List ObjectState) (i j p : ℕ) (t : Reservation) →
     i < length os → Holds (object_at os j) p t →
-    Holds (object_at (slice_set os i (object_after_failure (object_at os i))) j) p t
-holds_after_failure os i j p t h there =
-    let o : ObjectState = object_after_failure (object_at os i) in
+    Holds (object_at (slice_set os i (object_called fails (object_at os i))) j) p t
+holds_after_call fails os i j p t h there =
+    let o : ObjectState = object_called fails (object_at os i) in
     elim (eqb_tells j i) [
       | inl e ↦
           let same : object_at (slice_set os i o) j ≡ o = ap (object_at (slice_set os i o)) e.1 ∙ get_or-set_same os i o no_object h in
           let there-i : Holds (object_at os i) p t = subst (λ n. Holds (object_at os n) p t) e.1 there in
-          subst (λ z. Holds z p t) (sym same) (record { within = there-i.within; stands = there-i.stands })
+          let kept : (object_at os i).reserved ≡ o.reserved = reserved_called fails (object_at os i) in
+          subst (λ z. Holds z p t) (sym same) (record {
+            within = subst (λ (rs : List Reservation). p < length rs) kept there-i.within;
+            stands = subst (λ (rs : List Reservation). slice_get rs p ≡ Some t) kept there-i.stands;
+          })
       | inr e ↦ subst (λ z. Holds z p t) (sym (get_or-set_other os i j o no_object e.1)) there
     ]
 
 -- ---- objects of which all is dropped
 
-object_at-released : (os : List ObjectState) (i : ℕ) →
+pub object_at-released : (os : List ObjectState) (i : ℕ) →
     object_at (map object_after_release os) i ≡ object_after_release (object_at os i)
 object_at-released [] i = refl
 object_at-released (o ∷ os) zero = refl
 object_at-released (o ∷ os) (suc i) = object_at-released os i
-
--- A commit changes only what is reserved.
-pub released-committed : (os : List ObjectState) (i : ℕ) (slot : Slot) (old : SettingValue) →
-    map object_after_release (slice_set os i (object_after_commit (object_at os i) slot old)) ≡ map object_after_release os
-released-committed os i slot old =
-    map-set_same object_after_release os i (object_after_commit (object_at os i) slot old) no_object refl
-
--- A failure counts also where all is dropped.
-pub released-failed : (os : List ObjectState) (i : ℕ) →
-    map object_after_release (slice_set os i (object_after_failure (object_at os i)))
-    ≡ slice_set (map object_after_release os) i (object_after_failure (object_at (map object_after_release os) i))
-released-failed os i =
-    map-set object_after_release os i (object_after_failure (object_at os i))
-    ∙ ap (λ (z : ObjectState). slice_set (map object_after_release os) i (object_after_failure z)) (sym (object_at-released os i))

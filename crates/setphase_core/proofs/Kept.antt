@@ -1,6 +1,6 @@
 -- What a Set keeps: of the world all but its settings, and of the objects their rows; and it leaves
 -- nothing reserved.
-use Rattle.std.proofs.Common.{◌≡◌, ℕ, ◌∙◌, refl, sym, ap, arith, List, [], ◌∷◌, map, Option, Some, None}
+use Rattle.std.proofs.Common.{◌≡◌, ℕ, ◌∙◌, refl, sym, ap, arith, List, [], ◌∷◌, length, map, Option, Some, None}
 use Rattle.setting_keys.specs.declared.SettingKey.{SettingKey}
 use Rattle.setting_keys.specs.declared.SettingKey.TheVariants.{Bridge}
 use Rattle.setting_keys.specs.declared.SettingValue.{SettingValue}
@@ -9,12 +9,15 @@ use Rattle.rstp_settings.specs.Table.{Table}
 use Rattle.setphase_core.specs.declared.object.Assignment.{Assignment}
 use Rattle.setphase_core.specs.declared.sets.Refusal.{Refusal}
 use Rattle.setphase_core.specs.declared.world.World.{World}
-use Rattle.setphase_core.specs.Objects.{ObjectState}
+use Rattle.setphase_core.specs.declared.object.Reservation.{Reservation}
+use Rattle.setphase_core.specs.Objects.{ObjectState, object_after_release}
 use Rattle.setphase_core.specs.Registry.{rows_of, held_count}
 use Rattle.setphase_core.specs.Settings.{put, with_settings}
 use Rattle.setphase_core.specs.Together.{assign, assignments}
 use Rattle.setphase_core.specs.Variables.{Written}
-use Rattle.setphase_core.specs.Outcomes.{SetNotes, world_by, world_after_set, stuck, object_after}
+use Rattle.setphase_core.specs.Outcomes.{SetNotes, world_by, world_after_set, stuck}
+use Rattle.setphase_core.specs.Calls.{Call, object_after_set}
+use Rattle.setphase_core.proofs.Called.{row_after_calls, reserved_after_calls}
 
 put_keeps : (w : World) (k : SettingKey) (v : SettingValue) (t : Table) →
     with_settings (put w k v) t ≡ with_settings w t
@@ -47,12 +50,15 @@ set_keeps refusal ws w new notes e =
     ∙ ap (λ (x : World). with_settings w x.bridge.settings) (sym e)
 
 -- The rows of objects after a Set, and the slots that they have reserved.
-pub rows_of-after : (names : List (List ℕ)) (os : List ObjectState) →
-    rows_of (map (object_after names) os) ≡ rows_of os
-rows_of-after names [] = refl
-rows_of-after names (o ∷ os) = ap (λ rows. o.row ∷ rows) (rows_of-after names os)
+pub rows_of-after : (calls : List Call) (os : List ObjectState) →
+    rows_of (map (object_after_set calls) os) ≡ rows_of os
+rows_of-after calls [] = refl
+rows_of-after calls (o ∷ os) =
+    ap (λ row. row ∷ rows_of (map (object_after_set calls) os)) (row_after_calls calls (object_after_release o))
+    ∙ ap (λ rows. o.row ∷ rows) (rows_of-after calls os)
 
-pub held_count-after : (names : List (List ℕ)) (os : List ObjectState) →
-    held_count (map (object_after names) os) ≡ 0
-held_count-after names [] = refl
-held_count-after names (o ∷ os) = omega (arith, held_count-after names os)
+pub held_count-after : (calls : List Call) (os : List ObjectState) →
+    held_count (map (object_after_set calls) os) ≡ 0
+held_count-after calls [] = refl
+held_count-after calls (o ∷ os) =
+    omega (arith, held_count-after calls os, ap (length {A = Reservation}) (reserved_after_calls calls (object_after_release o)))

@@ -21,6 +21,7 @@ pub mod Slotted
 pub mod Stages
 pub mod Assigns
 pub mod Holding
+pub mod Called
 pub mod Commits
 pub mod Stuck
 pub mod Undoes

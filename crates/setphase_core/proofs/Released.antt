@@ -1,38 +1,41 @@
--- Lists of objects by their states, of which one more was released, or counted.
+-- Lists of objects by their states, of which one more took a step, or was counted.
 use Rattle.std.proofs.Common.{◌≡◌, ℕ, zero, suc, ◌+◌, ◌<◌, ◌≤◌, ◌∙◌, sym, ap, subst, refl, List, [], ◌∷◌, ◌++◌, length, map, take, drop, get_or, slice_set, None, arith, add-one}
 use Rattle.std.proofs.lemmas.List.{map-set, length-map, get_or-map}
 use Rattle.std.proofs.lemmas.List.Edits.{map_over_more}
-use Rattle.std.proofs.Math.Seq.{map-set_same}
 use Rattle.std.proofs.lemmas.Grind.{common_steps}
-use Rattle.setphase_core.specs.Objects.{ObjectState, object_after_release}
+use Rattle.setphase_core.specs.Objects.{ObjectState, object_after_arm, object_after_release}
 use Rattle.setphase_core.specs.Registry.{rows_of, first_fault, AreNamed, held_count}
 
 pub rows_of-released : (os : List ObjectState) → rows_of (map object_after_release os) ≡ rows_of os
 rows_of-released [] = refl
 rows_of-released (o ∷ os) = ap (λ rows. o.row ∷ rows) (rows_of-released os)
 
+pub rows_of-armed : (plan : ℕ) (os : List ObjectState) →
+    rows_of (map (object_after_arm plan) os) ≡ rows_of os
+rows_of-armed plan [] = refl
+rows_of-armed plan (o ∷ os) = ap (λ rows. o.row ∷ rows) (rows_of-armed plan os)
+
 pub state_at : {X Y : Type 0} (f : X → Y) (xs : List X) (i : ℕ) (x : X) → i < length xs →
     x ≡ get_or xs i x → f x ≡ get_or (map f xs) i (f x)
 state_at f xs i x h e = ap f e ∙ sym (get_or-map f xs i x (f x) h)
 
--- One more object is released.
-pub release_more : {O : Type 0} (state : O → ObjectState) (objects : List O)
-    (os : List ObjectState) (i : ℕ) (x y : O) → i < length os → length objects ≡ length os →
-    map state objects ≡ map object_after_release (take i os) ++ drop i os → x ≡ get_or objects i x →
-    state y ≡ object_after_release (state (get_or objects i x)) →
-    map state (slice_set objects i y) ≡ map object_after_release (take (i + 1) os) ++ drop (i + 1) os
-release_more state objects os i x y h len inv at is =
+-- One more object took a step.
+pub step_more : {O : Type 0} (state : O → ObjectState) (step : ObjectState → ObjectState)
+    (objects : List O) (os : List ObjectState) (i : ℕ) (x y : O) → i < length os →
+    length objects ≡ length os → map state objects ≡ map step (take i os) ++ drop i os →
+    x ≡ get_or objects i x → state y ≡ step (state (get_or objects i x)) →
+    map state (slice_set objects i y) ≡ map step (take (i + 1) os) ++ drop (i + 1) os
+step_more state step objects os i x y h len inv at is =
     map-set state objects i y
-    ∙ ap (λ z. slice_set (map state objects) i z) (is ∙ ap (λ z. object_after_release (state z)) (sym at))
-    ∙ map_over_more object_after_release os (map state objects) i (state x) h inv
+    ∙ ap (λ z. slice_set (map state objects) i z) (is ∙ ap (λ z. step (state z)) (sym at))
+    ∙ map_over_more step os (map state objects) i (state x) h inv
     (state_at state objects i x (omega arith) at)
 
--- All objects are released.
-pub release_end : {O : Type 0} (state : O → ObjectState) (objects : List O)
-    (os : List ObjectState) (i : ℕ) → length os ≤ i →
-    map state objects ≡ map object_after_release (take i os) ++ drop i os →
-    map state objects ≡ map object_after_release os
-release_end state objects os i h inv = grind (arith, common_steps, inv)
+-- All objects took it.
+pub step_end : {O : Type 0} (state : O → ObjectState) (step : ObjectState → ObjectState)
+    (objects : List O) (os : List ObjectState) (i : ℕ) → length os ≤ i →
+    map state objects ≡ map step (take i os) ++ drop i os → map state objects ≡ map step os
+step_end state step objects os i h inv = grind (arith, common_steps, inv)
 
 -- What a registry knows of its objects, by their rows.
 pub right_by_rows : (os ns : List ObjectState) → rows_of ns ≡ rows_of os →
@@ -40,12 +43,6 @@ pub right_by_rows : (os ns : List ObjectState) → rows_of ns ≡ rows_of os →
     (first_fault (rows_of ns) ≡ None) × AreNamed (rows_of ns)
 right_by_rows os ns e right =
     subst (λ rows. (first_fault rows ≡ None) × AreNamed rows) (sym e) right
-
--- An object that keeps its state may take its own place.
-pub keep_more : {O : Type 0} (state : O → ObjectState) (objects : List O) (os : List ObjectState)
-    (i : ℕ) (x y : O) → map state objects ≡ os → state y ≡ state (get_or objects i x) →
-    map state (slice_set objects i y) ≡ os
-keep_more state objects os i x y inv is = map-set_same state objects i y x is ∙ inv
 
 held_suc : (os : List ObjectState) (i : ℕ) (o : ObjectState) → i < length os →
     o ≡ get_or os i o →

@@ -9,10 +9,12 @@ use Rattle.setphase_core.specs.Objects.{ObjectRow, ObjectState, object_after_rel
 use Rattle.setphase_core.specs.Registry.{rows_of}
 use Rattle.setphase_core.specs.Variables.{Written, writings}
 use Rattle.setphase_core.specs.Together.{assign, assignments, contradicting, timer_numbers, timers_agree, disagreeing, inconsistent, joint_refusals, refusal_of}
-use Rattle.setphase_core.specs.Outcomes.{CanFail, failed_by, stuck, object_after}
-use Rattle.setphase_core.specs.Staging.{assignments_of, entry_at, entries_of, places_of, failed_at, failing_place, AreCommitted, HasFailed, IsDistinct}
+use Rattle.setphase_core.specs.Outcomes.{CanFail, stuck}
+use Rattle.setphase_core.specs.Calls.{Call, calls_by, object_after_set, FollowPlans}
+use Rattle.setphase_core.specs.Staging.{assignments_of, entry_at, entries_of, AreCommitted, HasFailed, AreCalled, commits_at, undos_at, IsDistinct}
 use Rattle.setphase_core.specs.Tested.{first_in, inconsistency, AreStaged, ArePassed}
-use Rattle.setphase_core.proofs.Endings.{stuck_assignments, can_fail, failures_told}
+use Rattle.setphase_core.proofs.Endings.{stuck_assignments, can_fail, calls_told}
+use Rattle.setphase_core.proofs.Called.{plans_released}
 use Rattle.setphase_core.proofs.Stuck.{entry_keys}
 
 -- ---- the refusal
@@ -74,12 +76,12 @@ module _ (os os₁ os₂ : List ObjectState) (w v u : World) (ws : List Written)
     (es fs gs : List Staged) (i n : ℕ) (keys : List SettingKey)
     (staged : AreStaged (rows_of os) ws es) (distinct : IsDistinct (assignments_of es))
     (kept : fs ≡ es) (looked : gs ≡ fs) (at : n ≡ i) (failed : HasFailed w v os₁ es i)
-    (commits : map object_after_release os₁ ≡ failed_at (failing_place es (Some i)) (map object_after_release os))
+    (commits : AreCalled (commits_at es (Some i)) (map object_after_release os) (map object_after_release os₁))
     (told : keys ≡ entry_keys (entries_of keys (take n fs)))
     (undone : (before : World) → AreCommitted before v os₁ fs n →
     v ≡ assign (take n (assignments_of fs)) before →
     u ≡ assign (assignments_of (entries_of keys (take n fs))) before)
-    (undos : map object_after_release os₂ ≡ failed_at (places_of (entries_of keys (take n fs))) (map object_after_release os₁)) where
+    (undos : AreCalled (undos_at keys (take n fs)) (map object_after_release os₁) (map object_after_release os₂)) where
   front : take n fs ≡ take i es
   front = ap (λ m. take m fs) at ∙ ap (take i) kept
 
@@ -102,13 +104,18 @@ module _ (os os₁ os₂ : List ObjectState) (w v u : World) (ws : List Written)
       ∙ ap (λ ps. assign ps w) (stuck_assignments os ws es i keys staged failed.within distinct)
       ∙ ap (λ m. assign (assignments (stuck ws m keys)) w) (sym number)
 
-  pub ended_objects : map object_after_release os₂ ≡ map (object_after (failed_by ws (Some (entry_at gs i).number) keys)) os
-  ended_objects =
-      undos
-      ∙ ap (λ xs. failed_at (places_of (entries_of keys xs)) (map object_after_release os₁)) front
-      ∙ ap (failed_at (places_of (entries_of keys (take i es)))) commits
-      ∙ failures_told os ws es i keys staged failed.within distinct
-      ∙ ap (λ m. map (object_after (failed_by ws (Some m) keys)) os) (sym number)
+  ended_calls : (map object_after_release os₂ ≡ map (object_after_set (calls_by ws (Some (entry_at gs i).number) keys)) os)
+      × FollowPlans (calls_by ws (Some (entry_at gs i).number) keys) os
+  ended_calls =
+      subst (λ m. (map object_after_release os₂ ≡ map (object_after_set (calls_by ws (Some m) keys)) os) × FollowPlans (calls_by ws (Some m) keys) os) (sym number)
+      (calls_told os ws es i keys staged failed.within distinct (map object_after_release os₁) (map object_after_release os₂) commits
+      (subst (λ xs. AreCalled (undos_at keys xs) (map object_after_release os₁) (map object_after_release os₂)) front undos))
+
+  pub ended_objects : map object_after_release os₂ ≡ map (object_after_set (calls_by ws (Some (entry_at gs i).number) keys)) os
+  ended_objects = ended_calls.0
+
+  pub ended_by_plan : FollowPlans (calls_by ws (Some (entry_at gs i).number) keys) os
+  ended_by_plan = ended_calls.1
 
 -- ---- a registry that was released
 
@@ -119,14 +126,19 @@ released-twice (o ∷ os) = ap (λ zs. object_after_release o ∷ zs) (released-
 pub fresh : (os ns : List ObjectState) → ns ≡ map object_after_release os → ns ≡ map object_after_release ns
 fresh os ns e = e ∙ sym (released-twice os) ∙ ap (map object_after_release) (sym e)
 
-pub after-released : (names : List (List ℕ)) (os : List ObjectState) →
-    map (object_after names) (map object_after_release os) ≡ map (object_after names) os
-after-released names [] = refl
-after-released names (o ∷ os) = ap (λ zs. object_after names o ∷ zs) (after-released names os)
+after-released : (calls : List Call) (os : List ObjectState) →
+    map (object_after_set calls) (map object_after_release os) ≡ map (object_after_set calls) os
+after-released calls [] = refl
+after-released calls (o ∷ os) = ap (λ zs. object_after_set calls o ∷ zs) (after-released calls os)
 
 -- The registry of a Set, once its staging is dropped.
-pub dropped : (os now ns before : List ObjectState) (names : List (List ℕ)) →
-    ns ≡ map object_after_release now → map object_after_release now ≡ map (object_after names) before →
-    before ≡ map object_after_release os → ns ≡ map (object_after names) os
-dropped os now ns before names e done released =
-    e ∙ done ∙ ap (map (object_after names)) released ∙ after-released names os
+pub dropped : (os now ns before : List ObjectState) (calls : List Call) →
+    ns ≡ map object_after_release now → map object_after_release now ≡ map (object_after_set calls) before →
+    before ≡ map object_after_release os → ns ≡ map (object_after_set calls) os
+dropped os now ns before calls e done released =
+    e ∙ done ∙ ap (map (object_after_set calls)) released ∙ after-released calls os
+
+pub dropped_plans : (os before : List ObjectState) (calls : List Call) → FollowPlans calls before →
+    before ≡ map object_after_release os → FollowPlans calls os
+dropped_plans os before calls planned released =
+    plans_released calls os (subst (FollowPlans calls) released planned)

@@ -5,7 +5,7 @@ use Rattle.std.proofs.Math.Seq.{map-set_same}
 use Rattle.setting_keys.specs.declared.SettingValue.{SettingValue}
 use Rattle.setphase_core.specs.declared.object.SetFault.{SetFault}
 use Rattle.setphase_core.specs.declared.object.Slot.{Slot}
-use Rattle.setphase_core.specs.Objects.{ObjectState, reserve, object_after_release, object_after_commit, object_after_failure}
+use Rattle.setphase_core.specs.Objects.{ObjectState, reserve, after_call, object_after_release, object_after_commit, object_after_failure}
 use Rattle.setphase_core.specs.Registry.{rows_of, prefixes_of, first_fault, AreNamed}
 use Rattle.setphase_core.specs.Searching.{prefix_at}
 use Rattle.setphase_core.specs.Staging.{object_at, no_object}
@@ -22,7 +22,7 @@ pub row_after_commit : {T E : Type 0} (r : Result T E) (o n : ObjectState) (slot
 row_after_commit (Ok v) o n slot before kept failed = ap (λ (z : ObjectState). z.row) kept
 row_after_commit (Err e) o n slot before kept failed = ap (λ (z : ObjectState). z.row) failed
 
-pub row_after_undo : {T E : Type 0} (r : Result T E) (o n : ObjectState) → OnOk r (n ≡ o) →
+pub row_after_undo : {T E : Type 0} (r : Result T E) (o n : ObjectState) → OnOk r (n ≡ after_call o) →
     OnErr r (n ≡ object_after_failure o) → n.row ≡ o.row
 row_after_undo (Ok v) o n kept failed = ap (λ (z : ObjectState). z.row) kept
 row_after_undo (Err e) o n kept failed = ap (λ (z : ObjectState). z.row) failed

@@ -1,15 +1,16 @@
 -- Of the entries of a Set those whose settings could not be undone, told by their keys.
-use Rattle.std.proofs.Common.{◌≡◌, ◌≢◌, ℕ, suc, ◌+◌, ◌<◌, ◌≤◌, ◌∙◌, sym, ap, subst, refl, Bool, true, false, ◌||◌, cond, List, [], ◌∷◌, length, map, take, drop, arith, add-one, length-take}
+use Rattle.std.proofs.Common.{◌≡◌, ◌≢◌, ℕ, suc, ◌+◌, ◌<◌, ◌≤◌, ◌∙◌, sym, ap, subst, refl, Bool, true, false, ◌||◌, cond, List, [], ◌∷◌, ◌++◌, length, map, take, drop, arith, add-one, length-take}
 use Rattle.std.proofs.lemmas.List.{get_or-take}
 use Rattle.std.proofs.Math.Seq.{drop-cons}
 use Rattle.setting_keys.specs.declared.SettingKey.{SettingKey}
 use Rattle.setphase_core.specs.declared.staging.Staged.{Staged}
 use Rattle.setphase_core.specs.declared.world.World.{World}
 use Rattle.setphase_core.specs.Settings.{HasSetting}
-use Rattle.setphase_core.specs.Staging.{assignments_of, entry_at, no_entry, Without, IsDistinct, entries_of}
+use Rattle.setphase_core.specs.Staging.{assignments_of, entry_at, no_entry, Without, IsDistinct, CallAt, commit_at, undo_at, undos_at, entries_of}
 use Rattle.setphase_core.specs.Outcomes.{has_key}
 use Rattle.setphase_core.proofs.Puts.{same-exact}
 use Rattle.setphase_core.proofs.Assigns.{HasAll, different, without_behind}
+use Rattle.setphase_core.proofs.Called.{undos-cons, undos-more}
 
 -- The settings of entries.
 abbrev pub entry_keys : List Staged → List SettingKey
@@ -97,3 +98,27 @@ module _ (es : List Staged) (k m n : ℕ) (one : k + 1 ≡ m) (low : m ≤ n) (h
       ap (entries_of (key ∷ keys)) drop_at
       ∙ ap (λ b. cond (b || has_key keys key) (entry_at es k ∷ entries_of (key ∷ keys) rest) (entries_of (key ∷ keys) rest)) ((same-exact key key).1 refl)
       ∙ ap (λ xs. entry_at es k ∷ xs) (entries_more keys key rest behind)
+
+  -- The undos of the entries from k on, where that of the entry at k went well, and where it failed.
+  pub undos_same : (keys : List SettingKey) →
+      keys ≡ entry_keys (entries_of keys (drop m (take n es))) →
+      undos_at keys (drop m (take n es)) ++ commit_at false (entry_at es k) ∷ []
+      ≡ undos_at keys (drop k (take n es))
+  undos_same keys are =
+      let rest = drop m (take n es) in
+      let e = entry_at es k in
+      sym (ap (undos_at keys) drop_at
+      ∙ undos-cons keys e rest
+      ∙ ap (λ b. undos_at keys rest ++ (record { place = e.object; fails = b }) ∷ []) (ap (λ ks. has_key ks e.slot.key) are ∙ absent (entries_of keys rest) e.slot.key (without_entries keys rest e.slot.key behind)))
+
+  pub undos_failed : (keys : List SettingKey) →
+      undos_at keys (drop m (take n es)) ++ commit_at true (entry_at es k) ∷ []
+      ≡ undos_at ((entry_at es k).slot.key ∷ keys) (drop k (take n es))
+  undos_failed keys =
+      let rest = drop m (take n es) in
+      let e = entry_at es k in
+      let key = (entry_at es k).slot.key in
+      sym (ap (undos_at (key ∷ keys)) drop_at
+      ∙ undos-cons (key ∷ keys) e rest
+      ∙ ap (λ (cs : List CallAt). cs ++ undo_at (key ∷ keys) e ∷ []) (undos-more keys key rest behind)
+      ∙ ap (λ b. undos_at keys rest ++ (record { place = e.object; fails = b || has_key keys key }) ∷ []) ((same-exact key key).1 refl))

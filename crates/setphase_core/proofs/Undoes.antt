@@ -1,17 +1,18 @@
 -- The slots of a Set while their commits are undone, the last one first.
-use Rattle.std.proofs.Common.{◌≡◌, ℕ, ◌+◌, ◌-◌, ◌<◌, ◌≤◌, ◌∙◌, sym, ap, subst, List, [], ◌∷◌, ◌++◌, length, map, take, drop, slice_get, slice_set, Some, arith, append-nil}
+use Rattle.std.proofs.Common.{◌≡◌, ℕ, ◌+◌, ◌-◌, ◌<◌, ◌≤◌, ◌∙◌, sym, ap, subst, refl, zero, suc, false, true, List, [], ◌∷◌, ◌++◌, length, map, take, drop, slice_get, slice_set, Some, arith, append-nil}
 use Rattle.setting_keys.specs.declared.SettingKey.{SettingKey}
 use Rattle.setting_keys.specs.declared.SettingValue.{SettingValue}
 use Rattle.setphase_core.specs.declared.staging.Staged.{Staged}
 use Rattle.setphase_core.specs.declared.world.World.{World}
-use Rattle.setphase_core.specs.Objects.{ObjectState, committed_reservation, object_after_release, object_after_failure}
+use Rattle.setphase_core.specs.Objects.{ObjectState, committed_reservation, object_after_release, IsByPlan}
 use Rattle.setphase_core.specs.Settings.{setting, put, HasSetting}
-use Rattle.setphase_core.specs.Staging.{object_at, entry_at, assignment_of_entry, assignments_of, IsDistinct, StandsCommitted, AreCommitted, failed_at, entries_of, places_of}
+use Rattle.setphase_core.specs.Staging.{object_at, entry_at, assignment_of_entry, assignments_of, IsDistinct, StandsCommitted, AreCommitted, AreCalled, commit_at, undos_at, entries_of}
 use Rattle.setphase_core.specs.Together.{assign}
 use Rattle.setphase_core.proofs.Puts.{keys-kept}
 use Rattle.setphase_core.proofs.Assigns.{has_all-taken, has_all-between, put_back, take_last, without_before}
-use Rattle.setphase_core.proofs.Commits.{after_failure, had_key, committed_after_failure, released_after_failure}
-use Rattle.setphase_core.proofs.Stuck.{entry_keys, entries_none, without_entries, has_all-entries, behind, stay_same, stay_more}
+use Rattle.setphase_core.proofs.Called.{called_none}
+use Rattle.setphase_core.proofs.Commits.{after_called, had_key, committed_after_call, called_after_call}
+use Rattle.setphase_core.proofs.Stuck.{entry_keys, entries_none, without_entries, has_all-entries, behind, stay_same, stay_more, undos_same, undos_failed}
 
 -- What stands while commits are undone: of a world and objects where n entries were committed there
 -- are now others, where m are, and the settings that could not be undone have these keys.
@@ -23,8 +24,13 @@ pub record Undoes (w₁ : World) (os₁ : List ObjectState) (es : List Staged) (
       w₁ ≡ assign (take n (assignments_of es)) before →
       w ≡ assign (take m (assignments_of es)
       ++ assignments_of (entries_of keys (drop m (take n es)))) before
-  pub objects : map object_after_release os
-      ≡ failed_at (places_of (entries_of keys (drop m (take n es)))) (map object_after_release os₁)
+  pub called : AreCalled (undos_at keys (drop m (take n es))) (map object_after_release os₁)
+      (map object_after_release os)
+
+drop-taken : {X : Type 0} (n : ℕ) (xs : List X) → drop n (take n xs) ≡ []
+drop-taken zero xs = refl
+drop-taken (suc n) [] = refl
+drop-taken (suc n) (x ∷ xs) = drop-taken n xs
 
 pub undo_start : (w : World) (os : List ObjectState) (es : List Staged) (n : ℕ) →
     Undoes w os es n w os n []
@@ -36,7 +42,7 @@ undo_start w os es n =
       world = λ before done was.
           was
           ∙ ap (λ ps. assign ps before) (sym (ap (λ xs. take n (assignments_of es) ++ assignments_of xs) none ∙ append-nil (take n (assignments_of es))));
-      objects = sym (ap (λ xs. failed_at (places_of xs) (map object_after_release os)) none);
+      called = subst (λ xs. AreCalled (undos_at [] xs) (map object_after_release os) (map object_after_release os)) (sym (drop-taken n es)) (called_none (map object_after_release os));
     }
 
 pub undo_end : (w₁ w : World) (os₁ os : List ObjectState) (es : List Staged) (n m : ℕ)
@@ -45,11 +51,11 @@ pub undo_end : (w₁ w : World) (os₁ os : List ObjectState) (es : List Staged)
 undo_end w₁ w os₁ os es n m keys e undoes = subst (λ j. Undoes w₁ os₁ es n w os j keys) e undoes
 
 -- The entries below a place, of those that are committed, where one setting was given a value.
-committed_after_put : (before w v : World) (os ns : List ObjectState) (es : List Staged)
+committed_after_put : (before w v : World) (os : List ObjectState) (es : List Staged)
     (m k : ℕ) (key : SettingKey) (value : SettingValue) → k ≤ m → v ≡ put w key value →
-    ns ≡ os → AreCommitted before w os es m → AreCommitted before v ns es k
-committed_after_put before w v os ns es m k key value h world objects done =
-    subst (λ u. AreCommitted before u ns es k) (sym world) (subst (λ xs. AreCommitted before (put w key value) xs es k) (sym objects) (record {
+    AreCommitted before w os es m → AreCommitted before v os es k
+committed_after_put before w v os es m k key value h world done =
+    subst (λ u. AreCommitted before u os es k) (sym world) (record {
       stands = λ j low.
           let there : StandsCommitted before w os (entry_at es j) = done.stands j (omega arith) in
           record {
@@ -61,7 +67,7 @@ committed_after_put before w v os ns es m k key value h world objects done =
               stands = there.committed.stands;
             };
           };
-    }))
+    })
 
 fewer : (before w : World) (os : List ObjectState) (es : List Staged) (m k : ℕ) → k ≤ m →
     AreCommitted before w os es m → AreCommitted before w os es k
@@ -83,12 +89,14 @@ module _ (w₁ w v : World) (os₁ os ns : List ObjectState) (es ds : List Stage
     (high : n ≤ length es) (low : m ≤ n) (one : k + 1 ≡ m)
     (undoes : Undoes w₁ os₁ es n w os m keys) where
   -- The last commit was undone.
-  pub undo_step : ns ≡ os →
+  pub undo_step : (entry_at ds (m - 1)).object < length os →
+      ns ≡ after_called false os (entry_at ds (m - 1)) →
+      IsByPlan (object_at os (entry_at ds (m - 1)).object) false →
       ((value : SettingValue) → slice_get (object_at os (entry_at ds (m - 1)).object).reserved (entry_at ds (m - 1)).slot.place
       ≡ Some (committed_reservation (entry_at ds (m - 1)).slot value) →
       v ≡ put w (entry_at ds (m - 1)).slot.key value) →
       Undoes w₁ os₁ es n v ns k keys
-  undo_step objects puts =
+  undo_step within objects planned puts =
       let e = entry_at es k in
       let at : entry_at ds (m - 1) ≡ entry_at es k = last_is es ds m k same one in
       let stay : entries_of keys (drop k (take n es)) ≡ entries_of keys (drop m (take n es))
@@ -97,7 +105,7 @@ module _ (w₁ w v : World) (os₁ os ns : List ObjectState) (es ds : List Stage
       = λ before done.
       subst (λ (z : Staged). slice_get (object_at os z.object).reserved z.slot.place ≡ Some (committed_reservation z.slot (setting before e.slot.key)) → v ≡ put w z.slot.key (setting before e.slot.key)) at (puts (setting before e.slot.key)) ((undoes.stands before done).stands k (omega arith)).committed.stands in
       record {
-        stands = λ before done. committed_after_put before w v os ns es m k e.slot.key (setting before e.slot.key) (omega arith) (put_old before done) objects (undoes.stands before done);
+        stands = λ before done. committed_after_put before w v ns es m k e.slot.key (setting before e.slot.key) (omega arith) (put_old before done) (committed_after_call false before w w os ns es m (entry_at ds (m - 1)) within refl objects (undoes.stands before done));
         told = undoes.told ∙ ap entry_keys (sym stay);
         world = λ before done was.
             let had : (j : ℕ) → j < n → HasSetting before (entry_at es j).slot.key = had_key before w₁ os₁ es n (take n (assignments_of es)) done was in
@@ -110,29 +118,27 @@ module _ (w₁ w v : World) (os₁ os ns : List ObjectState) (es ds : List Stage
             (has_all-entries keys (drop m (take n es)) before (has_all-between es m n before (has_all-taken es n before high had)))
             (had k (omega arith))
             ∙ ap (λ xs. assign (take k (assignments_of es) ++ assignments_of xs) before) (sym stay);
-        objects = ap (map object_after_release) objects ∙ undoes.objects ∙ ap (λ xs. failed_at (places_of xs) (map object_after_release os₁)) (sym stay);
+        called = subst (λ cs. AreCalled cs (map object_after_release os₁) (map object_after_release ns)) (ap (λ (z : Staged). undos_at keys (drop m (take n es)) ++ commit_at false z ∷ []) at ∙ undos_same es k m n one low high distinct keys undoes.told) (called_after_call false os ns (map object_after_release os₁) (undos_at keys (drop m (take n es))) (entry_at ds (m - 1)) objects planned undoes.called);
       }
 
   -- The device failed that was to undo the last commit.
   pub undo_failed : (key : SettingKey) → key ≡ (entry_at ds (m - 1)).slot.key →
       (entry_at ds (m - 1)).object < length os → v ≡ w →
-      ns ≡ after_failure os (entry_at ds (m - 1)) →
+      ns ≡ after_called true os (entry_at ds (m - 1)) →
+      IsByPlan (object_at os (entry_at ds (m - 1)).object) true →
       Undoes w₁ os₁ es n v ns k (key ∷ keys)
-  undo_failed key is within world objects =
+  undo_failed key is within world objects planned =
       let e = entry_at es k in
       let at : entry_at ds (m - 1) ≡ entry_at es k = last_is es ds m k same one in
       let stay : entries_of ((entry_at es k).slot.key ∷ keys) (drop k (take n es)) ≡ entry_at es k ∷ entries_of keys (drop m (take n es))
       = stay_more es k m n one low high distinct keys in
       subst (λ z. Undoes w₁ os₁ es n v ns k (z ∷ keys)) (sym (is ∙ ap (λ (z : Staged). z.slot.key) at)) (record {
-        stands = λ before done. committed_after_failure before w v os ns es k (entry_at ds (m - 1)) within world objects (fewer before w os es m k (omega arith) (undoes.stands before done));
+        stands = λ before done. committed_after_call true before w v os ns es k (entry_at ds (m - 1)) within world objects (fewer before w os es m k (omega arith) (undoes.stands before done));
         told = ap (λ ks. e.slot.key ∷ ks) undoes.told ∙ ap entry_keys (sym stay);
         world = λ before done was.
             world
             ∙ undoes.world before done was
             ∙ ap (λ ps. assign ps before) (take_last es m k (assignments_of (entries_of keys (drop m (take n es)))) one (omega arith))
             ∙ ap (λ xs. assign (take k (assignments_of es) ++ assignments_of xs) before) (sym stay);
-        objects =
-            released_after_failure os ns (failed_at (places_of (entries_of keys (drop m (take n es)))) (map object_after_release os₁)) (entry_at ds (m - 1)) objects undoes.objects
-            ∙ ap (λ (z : Staged). slice_set (failed_at (places_of (entries_of keys (drop m (take n es)))) (map object_after_release os₁)) z.object (object_after_failure (object_at (failed_at (places_of (entries_of keys (drop m (take n es)))) (map object_after_release os₁)) z.object))) at
-            ∙ ap (λ xs. failed_at (places_of xs) (map object_after_release os₁)) (sym stay);
+        called = subst (λ cs. AreCalled cs (map object_after_release os₁) (map object_after_release ns)) (ap (λ (z : Staged). undos_at keys (drop m (take n es)) ++ commit_at true z ∷ []) at ∙ undos_failed es k m n one low high distinct keys) (called_after_call true os ns (map object_after_release os₁) (undos_at keys (drop m (take n es))) (entry_at ds (m - 1)) objects planned undoes.called);
       })

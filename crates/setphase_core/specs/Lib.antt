@@ -2,6 +2,7 @@ pub mod Settings
 pub mod Flat
 pub mod Values
 pub mod Columns
+pub mod Plans
 pub mod Objects
 pub mod Writing
 pub mod Names
@@ -13,5 +14,6 @@ pub mod InUse
 pub mod Variables
 pub mod Together
 pub mod Outcomes
+pub mod Calls
 pub mod Staging
 pub mod Tested

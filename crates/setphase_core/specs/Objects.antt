@@ -1,10 +1,11 @@
 -- What a managed object is, as plain data, and what a Set does to it (RFC 3416, 4.2.5).
-use Rattle.std.specs.Prelude.{◌≡◌, ℕ, ◌+◌, ◌<◌, List, [], ◌∷◌, ◌++◌, length, slice_get, slice_set, Some, None}
+use Rattle.std.specs.Prelude.{◌≡◌, ℕ, ◌+◌, ◌<◌, Bool, true, false, List, [], ◌∷◌, ◌++◌, length, slice_get, slice_set, Option, Some, None}
 use Rattle.setting_keys.specs.declared.SettingValue.{SettingValue}
 use Rattle.setphase_core.specs.declared.column.Column.{Column}
 use Rattle.setphase_core.specs.declared.object.Reservation.{Reservation}
 use Rattle.setphase_core.specs.declared.object.Slot.{Slot}
 use Rattle.setphase_core.specs.declared.world.World.{World}
+use Rattle.setphase_core.specs.Plans.{plan_after_call, plan_after_arm, FollowsPlan}
 use Rattle.setphase_core.specs.Settings.{HasSetting, IsSettingInRange}
 
 -- An object's row: its name, and what it shows.
@@ -12,12 +13,13 @@ pub record ObjectRow : Type 0 where
   pub prefix : List ℕ
   pub column : Column
 
--- Its row, what it has reserved for the Set that is being made, by place, and how often its device
--- has failed.
+-- Its row, what it has reserved for the Set that is being made, by place, how often its device has
+-- failed, and what is left of the plan of its device, where it has one that takes plans.
 pub record ObjectState : Type 0 where
   pub row : ObjectRow
   pub reserved : List Reservation
   pub failures : ℕ
+  pub plan : Option ℕ
 
 -- What stands at the place of a slot before its commit, and after it.
 abbrev pub pending_reservation : Slot → Reservation
@@ -30,18 +32,38 @@ committed_reservation slot old = record { key = slot.key; value = slot.value; ol
 abbrev pub reserve : ObjectState → Slot → ObjectState
 reserve o slot = record o { reserved = o.reserved ++ pending_reservation slot ∷ [] }
 
+-- The object whose device was called once more, and did not fail.
+abbrev pub after_call : ObjectState → ObjectState
+after_call o = record o { plan = plan_after_call o.plan }
+
 -- The object whose slot was committed over an old value.
 abbrev pub object_after_commit : ObjectState → Slot → SettingValue → ObjectState
-object_after_commit o slot old =
-    record o { reserved = slice_set o.reserved slot.place (committed_reservation slot old) }
+object_after_commit o slot old = record o {
+  reserved = slice_set o.reserved slot.place (committed_reservation slot old);
+  plan = plan_after_call o.plan;
+}
 
 -- The object with nothing reserved.
 abbrev pub object_after_release : ObjectState → ObjectState
 object_after_release o = record o { reserved = [] }
 
--- The object whose device failed once more.
+-- The object whose device was called once more, and failed.
 abbrev pub object_after_failure : ObjectState → ObjectState
-object_after_failure o = record o { failures = o.failures + 1 }
+object_after_failure o =
+    record o { failures = o.failures + 1; plan = plan_after_call o.plan }
+
+-- The object whose device was called once more, and failed or not.
+abbrev pub object_called : Bool → ObjectState → ObjectState
+object_called false o = after_call o
+object_called true o = object_after_failure o
+
+-- Whether the next call of the device fails is what its plan says, where it has one.
+abbrev pub IsByPlan : ObjectState → Bool → Type 0
+IsByPlan o fails = FollowsPlan o.plan o.failures fails
+
+-- The object whose device was armed with a plan.
+abbrev pub object_after_arm : ℕ → ObjectState → ObjectState
+object_after_arm plan o = record o { plan = plan_after_arm o.plan plan }
 
 -- The slot is reserved and not committed, and its setting may get its value.
 pub record IsReserved (w : World) (o : ObjectState) (slot : Slot) : Type 0 where

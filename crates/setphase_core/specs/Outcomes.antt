@@ -1,14 +1,11 @@
--- How a Set ends: what it leaves of the world and of the objects, and what it tells (RFC 3416,
--- 4.2.5).
-use Rattle.std.specs.Prelude.{◌≡◌, ℕ, ◌+◌, ◌-◌, ◌≤◌, Bool, false, if◌then◌else◌, List, [], ◌∷◌, ◌++◌, length, map, take, drop, filter, slice_get, count_by, Option, Some, None}
+-- How a Set ends: what it leaves of the world, and what it tells (RFC 3416, 4.2.5).
+use Rattle.std.specs.Prelude.{◌≡◌, ℕ, ◌-◌, ◌≤◌, Bool, false, if◌then◌else◌, List, [], ◌∷◌, ◌++◌, length, map, take, filter, slice_get, Option, Some, None}
 use Rattle.std.specs.List.{list_any}
-use Rattle.oid_core.specs.Order.{is_prefix}
 use Rattle.setting_keys.specs.declared.SettingKey.{SettingKey}
 use Rattle.setphase_core.specs.declared.world.World.{World}
 use Rattle.setphase_core.specs.declared.sets.Refusal.{Refusal}
 use Rattle.setphase_core.specs.declared.sets.SetOutcome.{SetOutcome}
 use Rattle.setphase_core.specs.declared.sets.SetOutcome.TheVariants.{Done, Refused, CommitFailed, UndoFailed}
-use Rattle.setphase_core.specs.Objects.{ObjectState}
 use Rattle.setphase_core.specs.Settings.{same_setting}
 use Rattle.setphase_core.specs.Variables.{Written}
 use Rattle.setphase_core.specs.Together.{assign, assignments}
@@ -68,22 +65,6 @@ world_by ws w (Some i) undos = assign (assignments (stuck ws i undos)) w
 abbrev pub world_after_set : Option Refusal → List Written → World → SetNotes → World
 world_after_set (Some refusal) ws w notes = w
 world_after_set None ws w notes = world_by ws w notes.commit notes.undos
-
--- The names of the variables whose devices failed.
-abbrev pub failed_by : List Written → Option ℕ → List SettingKey → List (List ℕ)
-failed_by ws None undos = []
-failed_by ws (Some i) undos =
-    map (λ x. x.name) (stuck ws i undos ++ take 1 (drop (i - 1) ws))
-
-abbrev pub failed_names : List Written → SetNotes → List (List ℕ)
-failed_names ws notes = failed_by ws notes.commit notes.undos
-
--- An object after a Set: nothing is reserved, and its failures rose by those of its own variables.
-abbrev pub object_after : List (List ℕ) → ObjectState → ObjectState
-object_after names o = record o {
-  reserved = [];
-  failures = o.failures + count_by (λ name. is_prefix o.row.prefix name) names;
-}
 
 -- What an outcome tells: the refusal, and the failed calls.
 abbrev pub refusal_in : SetOutcome → Option Refusal

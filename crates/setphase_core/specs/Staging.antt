@@ -1,5 +1,5 @@
 -- One Set while it is being made: what is staged, and what stands between the calls.
-use Rattle.std.specs.Prelude.{◌≡◌, ℕ, ◌<◌, ◌≤◌, ◌≢◌, List, [], ◌∷◌, map, filter, length, slice_index_or, slice_set, take, Option, Some, None}
+use Rattle.std.specs.Prelude.{◌≡◌, ℕ, ◌<◌, ◌≤◌, ◌≢◌, Bool, true, false, List, [], ◌∷◌, ◌++◌, map, filter, length, reverse, slice_index_or, slice_set, take, Option, Some, None}
 use Rattle.rstp_settings.specs.declared.key.Key.TheVariants as key
 use Rattle.rstp_settings.specs.declared.key.BridgeKey.TheVariants as bridge
 use Rattle.setting_keys.specs.declared.SettingKey.{SettingKey}
@@ -11,7 +11,7 @@ use Rattle.setphase_core.specs.declared.column.Column.TheVariants as column
 use Rattle.setphase_core.specs.declared.object.Assignment.{Assignment}
 use Rattle.setphase_core.specs.declared.staging.Staged.{Staged}
 use Rattle.setphase_core.specs.Settings.{setting, HasSetting}
-use Rattle.setphase_core.specs.Objects.{ObjectState, IsReserved, IsCommitted, object_after_failure}
+use Rattle.setphase_core.specs.Objects.{ObjectState, IsReserved, IsCommitted, object_called, IsByPlan}
 use Rattle.setphase_core.specs.Together.{assign}
 use Rattle.setphase_core.specs.Outcomes.{has_key}
 
@@ -21,6 +21,7 @@ no_object = record {
   row = record { prefix = []; column = column.Base base.BridgeAddress };
   reserved = [];
   failures = 0;
+  plan = None;
 }
 
 -- The object at a place.
@@ -81,24 +82,50 @@ pub record AreCommitted (before w : World) (os : List ObjectState) (es : List St
     Type 0 where
   pub stands : (k : ℕ) → k < n → StandsCommitted before w os (entry_at es k)
 
--- The objects after the devices of those at these places failed, one after the other from the last
--- to the first.
-abbrev pub failed_at : List ℕ → List ObjectState → List ObjectState
-failed_at [] os = os
-failed_at (p ∷ ps) os =
-    slice_set (failed_at ps os) p (object_after_failure (object_at (failed_at ps os) p))
+-- A call of the device of the object at a place, and whether it failed.
+pub record CallAt : Type 0 where
+  pub place : ℕ
+  pub fails : Bool
 
--- The place of the object of the commit that failed, if one did.
-abbrev pub failing_place : List Staged → Option ℕ → List ℕ
-failing_place es None = []
-failing_place es (Some i) = (entry_at es i).object ∷ []
+-- The objects after one call, and after several.
+abbrev pub after_call_at : CallAt → List ObjectState → List ObjectState
+after_call_at call os =
+    slice_set os call.place (object_called call.fails (object_at os call.place))
+
+abbrev pub after_calls_at : List CallAt → List ObjectState → List ObjectState
+after_calls_at [] os = os
+after_calls_at (call ∷ calls) os = after_calls_at calls (after_call_at call os)
+
+-- Each failed exactly where the plan of its object said so.
+abbrev pub AreByPlanAt : List CallAt → List ObjectState → Type 0
+AreByPlanAt [] os = Unit {0}
+AreByPlanAt (call ∷ calls) os =
+    IsByPlan (object_at os call.place) call.fails × AreByPlanAt calls (after_call_at call os)
+
+-- After these calls the objects are others.
+pub record AreCalled (calls : List CallAt) (os ns : List ObjectState) : Type 0 where
+  pub objects : ns ≡ after_calls_at calls os
+  pub by_plan : AreByPlanAt calls os
+
+abbrev pub commit_at : Bool → Staged → CallAt
+commit_at fails e = record { place = e.object; fails = fails }
+
+-- The commits of all entries; where that of the entry at place i failed, of those before it, and that
+-- one.
+abbrev pub commits_at : List Staged → Option ℕ → List CallAt
+commits_at es None = map (commit_at false) es
+commits_at es (Some i) = map (commit_at false) (take i es) ++ commit_at true (entry_at es i) ∷ []
+
+abbrev pub undo_at : List SettingKey → Staged → CallAt
+undo_at keys e = record { place = e.object; fails = has_key keys e.slot.key }
+
+-- The undos of all entries, from the last to the first, of which those of these settings failed.
+abbrev pub undos_at : List SettingKey → List Staged → List CallAt
+undos_at keys es = map (undo_at keys) (reverse es)
 
 -- The entries whose settings are among these.
 abbrev pub entries_of : List SettingKey → List Staged → List Staged
 entries_of keys es = filter (λ e. has_key keys e.slot.key) es
-
-abbrev pub places_of : List Staged → List ℕ
-places_of es = map (λ e. e.object) es
 
 -- What is known where the commit of the entry at place i failed: those before it are committed.
 pub record HasFailed (before w : World) (os : List ObjectState) (es : List Staged) (i : ℕ) :

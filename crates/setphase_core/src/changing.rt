@@ -1,7 +1,7 @@
 //! Commits and their undoing by the objects of a registry.
-ghost use Rattle.std.specs.Prelude.{◌≡◌, ◌<◌, length, slice_get, slice_set, Some, OnOk, OnErr};
+ghost use Rattle.std.specs.Prelude.{◌≡◌, ◌<◌, true, false, length, slice_get, slice_set, Some, OnOk, OnErr};
 ghost use Rattle.setting_keys.specs.declared.SettingValue.{SettingValue as AnySetting};
-ghost use Rattle.setphase_core.specs.Objects.{object_after_commit, committed_reservation, object_after_failure, IsReserved, IsCommitted};
+ghost use Rattle.setphase_core.specs.Objects.{after_call, object_after_commit, committed_reservation, object_after_failure, IsReserved, IsCommitted, IsByPlan};
 ghost use Rattle.setphase_core.specs.Settings.{put, setting, IsSettingInRange};
 ghost use Rattle.setphase_core.specs.Staging.{object_at};
 
@@ -26,6 +26,8 @@ impl<O: MibObject> Registry<O> {
         ensures unchanged { OnErr result (world.new ≡ world.old) }
         ensures failed { OnErr result (self.new
             ≡ slice_set self.old place (object_after_failure (object_at self.old place))) }
+        ensures passes { OnOk result (IsByPlan (object_at self.old place) false) }
+        ensures fails { OnErr result (IsByPlan (object_at self.old place) true) }
     {
         self.objects[place].commit(world, slot)
     }
@@ -44,10 +46,13 @@ impl<O: MibObject> Registry<O> {
             → slice_get (object_at self.old place).reserved slot.place
             ≡ Some (committed_reservation slot before)
             → world.new ≡ put world.old slot.key before) }
-        ensures kept { OnOk result (self.new ≡ self.old) }
+        ensures kept { OnOk result (self.new
+            ≡ slice_set self.old place (after_call (object_at self.old place))) }
         ensures unchanged { OnErr result (world.new ≡ world.old) }
         ensures failed { OnErr result (self.new
             ≡ slice_set self.old place (object_after_failure (object_at self.old place))) }
+        ensures passes { OnOk result (IsByPlan (object_at self.old place) false) }
+        ensures fails { OnErr result (IsByPlan (object_at self.old place) true) }
     {
         self.objects[place].undo(world, slot)
     }

@@ -3,7 +3,7 @@ ghost use Rattle.std.specs.Prelude.{◌≡◌, ℕ, ◌≤◌, length, map, take
 ghost use Rattle.setphase_core.specs.declared.world.World.{World as AnyWorld};
 ghost use Rattle.setphase_core.specs.Objects.{object_after_release};
 ghost use Rattle.setphase_core.specs.Together.{assign};
-ghost use Rattle.setphase_core.specs.Staging.{failing_place, assignments_of, IsDistinct, ArePending, AreCommitted, HasFailed, failed_at, entries_of, places_of};
+ghost use Rattle.setphase_core.specs.Staging.{assignments_of, IsDistinct, ArePending, AreCommitted, HasFailed, AreCalled, commits_at, undos_at, entries_of};
 
 use crate::object::MibObject;
 use crate::staging::Staging;
@@ -25,9 +25,9 @@ pub(crate) fn commit_all<O: MibObject>(
     ensures failed { IfSome result (HasFailed world.old world.new staging.new.registry.now
         staging.old.staged.items) }
     ensures committed { IfSome result (λ i. staging.new.committed ≡ i) }
-    ensures objects { map object_after_release staging.new.registry.now
-        ≡ failed_at (failing_place staging.old.staged.items result)
-        (map object_after_release staging.old.registry.now) }
+    ensures called { AreCalled (commits_at staging.old.staged.items result)
+        (map object_after_release staging.old.registry.now)
+        (map object_after_release staging.new.registry.now) }
 {
     for i in 0..staging.staged.len() {
         let Ok(()) = staging.commit_next(world) else {
@@ -55,10 +55,10 @@ pub(crate) fn undo_all<O: MibObject>(staging: &mut Staging<'_, O>, world: &mut W
         (assignments_of staging.old.staged.items)) before
         → world.new ≡ assign (assignments_of
         (entries_of result (take staging.old.committed staging.old.staged.items))) before }
-    ensures objects { map object_after_release staging.new.registry.now
-        ≡ failed_at (places_of
-        (entries_of result (take staging.old.committed staging.old.staged.items)))
-        (map object_after_release staging.old.registry.now) }
+    ensures called { AreCalled
+        (undos_at result (take staging.old.committed staging.old.staged.items))
+        (map object_after_release staging.old.registry.now)
+        (map object_after_release staging.new.registry.now) }
 {
     let mut stuck = SettingKeys::new();
     while staging.committed > 0 {

@@ -1,6 +1,6 @@
 //! What the objects of a registry have reserved.
 ghost use Rattle.std.specs.Prelude.{◌≡◌, ◌-◌, ◌^◌, map, min};
-ghost use Rattle.setphase_core.specs.Objects.{object_after_release};
+ghost use Rattle.setphase_core.specs.Objects.{object_after_arm, object_after_release};
 ghost use Rattle.setphase_core.specs.Registry.{held_count};
 
 use crate::object::MibObject;
@@ -27,9 +27,9 @@ impl<O: MibObject> Registry<O> {
         }
     }
 
-    /// Hands a plan down to the objects' devices ([`MibObject::arm`]).
+    /// Arms the objects' devices with a plan, each with all of it ([`MibObject::arm`]).
     pub fn arm(&mut self, plan: u64)
-        ensures { self.new ≡ self.old }
+        ensures { self.new ≡ map (object_after_arm plan) self.old }
     {
         for object in self.objects.iter_mut() {
             object.arm(plan);

@@ -28,13 +28,15 @@
 //! `specs/Settings.antt`: the settings of a world as a finite map; `specs/Flat.antt`: a policy as
 //! its rows; `specs/Columns.antt`: what each object shows, row by row; `specs/Writing.antt`: how
 //! each is written; `specs/Names.antt`: the objects' names; `specs/Values.antt`: values by index;
-//! `specs/Objects.antt`: an object as plain data; `specs/Registry.antt`: the order of objects, and
-//! all their instances;
+//! `specs/Objects.antt`: an object as plain data; `specs/Plans.antt`: which of the next calls of its
+//! device fail; `specs/Registry.antt`: the order of objects, and all their instances;
 //! `specs/Variables.antt`, `specs/Together.antt`: why a Set is refused, by its variables one by one
-//! and together; `specs/Outcomes.antt`: how it ends; `specs/Staging.antt`, `specs/Tested.antt`:
-//! what stands between its steps; `specs/Searching.antt`: where a name stands among those of
-//! objects, and how many comparisons it takes at least to know that; `specs/Passing.antt`: the
-//! objects that a walk does not pass over, and how many it does;
+//! and together; `specs/Outcomes.antt`: how it ends; `specs/Calls.antt`, `specs/Plans.antt`: the
+//! calls of devices that it makes, in their order, what they leave of the objects, and which of them
+//! a plan says fail; `specs/Staging.antt`, `specs/Tested.antt`: what stands between its steps;
+//! `specs/Searching.antt`: where a name stands among those of objects, and how many comparisons it
+//! takes at least to know that; `specs/Passing.antt`: the objects that a walk does not pass over, and
+//! how many it does;
 //! `specs/Opening.antt`: all that a bridge of two ports shows as it opens; `specs/InUse.antt`: all
 //! that a bridge of four ports shows, made by hand as if in use.
 //!
@@ -49,9 +51,9 @@
 //! whose facts differ from one another.
 //!
 //! # Not claimed
-//! That changed settings are in force: `Bridge::settle` comes behind them. Which of several
-//! variables of one object is told where one of its calls failed. That a plan reaches a device.
-//! That the objects of a program are the 51. dot1dStaticTable (RFC 4188, 1.3.6.1.2.1.17.5.1) is
+//! That changed settings are in force: `Bridge::settle` comes behind them. Of objects whose devices
+//! take no plans: which of their calls failed, and so in which order they were made. That the
+//! objects of a program are the 51. dot1dStaticTable (RFC 4188, 1.3.6.1.2.1.17.5.1) is
 //! left out: no address is configured, so it would have no rows.
 #![tactic(auto)]
 

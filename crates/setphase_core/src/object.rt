@@ -1,5 +1,5 @@
 //! A managed object, as the registry sees each of them.
-ghost use Rattle.std.specs.Prelude.{◌≡◌, length, slice_get, Some, IfOk, OnOk, OnErr};
+ghost use Rattle.std.specs.Prelude.{◌≡◌, true, false, length, slice_get, Some, IfOk, OnOk, OnErr};
 ghost use Rattle.std.specs.Option.{option_copied, option_map};
 
 use crate::limits::MAX_INDEX;
@@ -85,13 +85,14 @@ pub struct DeviceFault;
 /// for the Set that is being made. None of its calls changes what it shows of a given world.
 pub trait MibObject: Drop {
     ghost use Rattle.setting_keys.specs.declared.SettingValue.{SettingValue as AnySetting};
-    ghost use Rattle.setphase_core.specs.Objects.{ObjectState, IsReserved, IsCommitted, reserve, object_after_commit, object_after_release, object_after_failure, committed_reservation};
+    ghost use Rattle.setphase_core.specs.Objects.{ObjectState, IsReserved, IsCommitted, IsByPlan, reserve, after_call, object_after_arm, object_after_commit, object_after_release, object_after_failure, committed_reservation};
     ghost use Rattle.setphase_core.specs.Settings.{setting, put, IsSettingInRange};
     ghost use Rattle.setphase_core.specs.Columns.{shown_by};
     ghost use Rattle.setphase_core.specs.Values.{value_at, index_after};
     ghost use Rattle.setphase_core.specs.Writing.{test_answer};
 
-    // Its name and what it shows, what it has reserved, and how often its device has failed.
+    // Its name and what it shows, what it has reserved, how often its device has failed, and what is
+    // left of its device's plan.
     ghost state: { Self → ObjectState };
 
     /// Its name.
@@ -121,10 +122,11 @@ pub trait MibObject: Drop {
         ensures refused { OnErr result (state self.new ≡ state self.old) };
 
     /// Gives the setting of a reserved slot its value, and keeps the one before. It takes no
-    /// memory.
+    /// memory. It is one call of the object's device, if it has one.
     ///
     /// # Errors
-    /// The object's device did not take it: its failures are one more, and nothing else changed.
+    /// The object's device did not take it: its failures are one more, and nothing else changed but
+    /// its plan. Where it has a plan, it fails exactly where that says so.
     fn commit(&mut self, world: &mut World, slot: Slot) -> Result<(), DeviceFault>
         requires { IsReserved world.old (state self.old) slot }
         ensures put { OnOk result (world.new ≡ put world.old slot.key slot.value) }
@@ -133,22 +135,27 @@ pub trait MibObject: Drop {
             (setting world.old slot.key)) }
         ensures before { OnOk result (IsSettingInRange slot.key (setting world.old slot.key)) }
         ensures unchanged { OnErr result (world.new ≡ world.old) }
-        ensures failed { OnErr result (state self.new ≡ object_after_failure (state self.old)) };
+        ensures failed { OnErr result (state self.new ≡ object_after_failure (state self.old)) }
+        ensures passes { OnOk result (IsByPlan (state self.old) false) }
+        ensures fails { OnErr result (IsByPlan (state self.old) true) };
 
     /// Gives the setting of a committed slot back what it had before the commit, whatever became of
-    /// other settings since. It takes no memory.
+    /// other settings since. It takes no memory. It is one call of the object's device, if it has
+    /// one.
     ///
     /// # Errors
-    /// The object's device did not take it: its failures are one more, and nothing else changed.
+    /// As of `commit`.
     fn undo(&mut self, world: &mut World, slot: Slot) -> Result<(), DeviceFault>
         requires { (before : AnySetting) × IsCommitted world.old (state self.old) slot before }
         ensures put { OnOk result ((before : AnySetting)
             → slice_get (state self.old).reserved slot.place
             ≡ Some (committed_reservation slot before)
             → world.new ≡ put world.old slot.key before) }
-        ensures kept { OnOk result (state self.new ≡ state self.old) }
+        ensures kept { OnOk result (state self.new ≡ after_call (state self.old)) }
         ensures unchanged { OnErr result (world.new ≡ world.old) }
-        ensures failed { OnErr result (state self.new ≡ object_after_failure (state self.old)) };
+        ensures failed { OnErr result (state self.new ≡ object_after_failure (state self.old)) }
+        ensures passes { OnOk result (IsByPlan (state self.old) false) }
+        ensures fails { OnErr result (IsByPlan (state self.old) true) };
 
     /// Drops all slots.
     fn release(&mut self)
@@ -158,9 +165,9 @@ pub trait MibObject: Drop {
     fn held(&self) -> usize
         ensures { result ≡ length (state self.now).reserved };
 
-    /// Hands a plan down to the object's device: bit k - 1 says that its k-th call from now fails.
-    /// An object without a device does nothing. It takes no memory.
-    fn arm(&mut self, _plan: u64)
-        ensures { state self.new ≡ state self.old }
-    {}
+    /// Arms the object's device with a plan, in place of the one before: bit k - 1 says that its
+    /// k-th call from now fails. Where the object has no device that takes plans, it does nothing.
+    /// It takes no memory.
+    fn arm(&mut self, plan: u64)
+        ensures { state self.new ≡ object_after_arm plan (state self.old) };
 }

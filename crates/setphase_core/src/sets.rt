@@ -7,7 +7,8 @@ ghost use Rattle.setphase_core.specs.Registry.{rows_of, held_count};
 ghost use Rattle.setphase_core.specs.Settings.{setting, HasSetting, with_settings};
 ghost use Rattle.setphase_core.specs.Variables.{status_of, refusal_for, single_refusals, writings};
 ghost use Rattle.setphase_core.specs.Together.{assign, is_timer, timer, timers_agree, refusal_of};
-ghost use Rattle.setphase_core.specs.Outcomes.{refusal_in, notes_in, world_after_set, AreNotes, NamesASetting, failed_names, object_after};
+ghost use Rattle.setphase_core.specs.Outcomes.{refusal_in, notes_in, world_after_set, AreNotes, NamesASetting};
+ghost use Rattle.setphase_core.specs.Calls.{calls_of, object_after_set, FollowPlans};
 ghost use Rattle.setphase_core.specs.Staging.{assignments_of, IsDistinct, HaveSettings};
 ghost use Rattle.setphase_core.specs.Tested.{first_in, is_contradicting, inconsistency, ArePassed, AreReady};
 
@@ -275,8 +276,11 @@ fn run_staged<O: MibObject>(
         (writings (rows_of staging.old.registry.now) world.old bindings.now) world.old
         (notes_in result) }
     ensures objects { map object_after_release staging.new.registry.now
-        ≡ map (object_after (failed_names
+        ≡ map (object_after_set (calls_of (refusal_in result)
         (writings (rows_of staging.old.registry.now) world.old bindings.now) (notes_in result)))
+        staging.old.registry.now }
+    ensures by_plan { FollowPlans (calls_of (refusal_in result)
+        (writings (rows_of staging.old.registry.now) world.old bindings.now) (notes_in result))
         staging.old.registry.now }
 {
     if let Some(refusal) = refused(staging, world, view, bindings) {
@@ -310,8 +314,11 @@ pub fn run_set<O: MibObject>(
     ensures undos { NamesASetting result }
     ensures world { world.new ≡ world_after_set (refusal_in result)
         (writings (rows_of registry.old) world.old bindings.now) world.old (notes_in result) }
-    ensures objects { registry.new ≡ map (object_after
-        (failed_names (writings (rows_of registry.old) world.old bindings.now) (notes_in result)))
+    ensures objects { registry.new ≡ map (object_after_set (calls_of (refusal_in result)
+        (writings (rows_of registry.old) world.old bindings.now) (notes_in result)))
+        registry.old }
+    ensures by_plan { FollowPlans (calls_of (refusal_in result)
+        (writings (rows_of registry.old) world.old bindings.now) (notes_in result))
         registry.old }
     ensures refused_index { IfSome (refusal_in result)
         (λ r. (1 ≤ r.index) × (r.index ≤ length bindings.now)) }

@@ -1,8 +1,8 @@
 //! One Set over a registry: the slots that it has reserved, and how many of them are committed (RFC
 //! 3416, 4.2.5).
-ghost use Rattle.std.specs.Prelude.{◌≡◌, ◌+◌, ◌-◌, ◌≤◌, ◌<◌, [], length, map, slice_get, slice_set, Some, OnOk, OnErr, IfOk, IfErr};
+ghost use Rattle.std.specs.Prelude.{◌≡◌, ◌+◌, ◌-◌, ◌≤◌, ◌<◌, true, false, [], length, map, slice_get, slice_set, Some, OnOk, OnErr, IfOk, IfErr};
 ghost use Rattle.setting_keys.specs.declared.SettingValue.{SettingValue as AnySetting};
-ghost use Rattle.setphase_core.specs.Objects.{object_after_release, object_after_commit, committed_reservation, object_after_failure, IsReserved, IsCommitted};
+ghost use Rattle.setphase_core.specs.Objects.{after_call, object_after_release, object_after_commit, committed_reservation, object_after_failure, IsReserved, IsCommitted, IsByPlan};
 ghost use Rattle.setphase_core.specs.Settings.{put, setting, IsSettingInRange};
 ghost use Rattle.setphase_core.specs.declared.object.SetFault.TheVariants.{ResourceUnavailable};
 ghost use Rattle.setphase_core.specs.Staging.{object_at, entry_at, assignments_of};
@@ -219,6 +219,10 @@ impl<'a, O: MibObject> Staging<'a, O> {
         ensures failed { OnErr result (let e = entry_at self.old.staged.items self.old.committed in
             self.new.registry.now ≡ slice_set self.old.registry.now e.object
             (object_after_failure (object_at self.old.registry.now e.object))) }
+        ensures passes { OnOk result (let e = entry_at self.old.staged.items self.old.committed in
+            IsByPlan (object_at self.old.registry.now e.object) false) }
+        ensures fails { OnErr result (let e = entry_at self.old.staged.items self.old.committed in
+            IsByPlan (object_at self.old.registry.now e.object) true) }
     {
         let entry = self.staged.as_slice()[self.committed];
         self.registry.commit(entry.object, world, entry.slot)?;
@@ -248,12 +252,21 @@ impl<'a, O: MibObject> Staging<'a, O> {
             → slice_get (object_at self.old.registry.now e.object).reserved e.slot.place
             ≡ Some (committed_reservation e.slot before)
             → world.new ≡ put world.old e.slot.key before) }
-        ensures kept { OnOk result (self.new.registry.now ≡ self.old.registry.now) }
+        ensures kept { OnOk result
+            (let e = entry_at self.old.staged.items (self.old.committed - 1) in
+            self.new.registry.now ≡ slice_set self.old.registry.now e.object
+            (after_call (object_at self.old.registry.now e.object))) }
         ensures unchanged { OnErr result (world.new ≡ world.old) }
         ensures failed { OnErr result
             (let e = entry_at self.old.staged.items (self.old.committed - 1) in
             self.new.registry.now ≡ slice_set self.old.registry.now e.object
             (object_after_failure (object_at self.old.registry.now e.object))) }
+        ensures passes { OnOk result
+            (let e = entry_at self.old.staged.items (self.old.committed - 1) in
+            IsByPlan (object_at self.old.registry.now e.object) false) }
+        ensures fails { OnErr result
+            (let e = entry_at self.old.staged.items (self.old.committed - 1) in
+            IsByPlan (object_at self.old.registry.now e.object) true) }
     {
         self.committed -= 1;
         let entry = self.staged.as_slice()[self.committed];

@@ -13,16 +13,17 @@ use Rattle.setphase_core.specs.Objects.{ObjectRow, ObjectState}
 use Rattle.setphase_core.specs.Registry.{rows_of}
 use Rattle.setphase_core.specs.Variables.{writings}
 use Rattle.setphase_core.specs.Together.{refusal_of}
-use Rattle.setphase_core.specs.Outcomes.{SetNotes, AreNotes, refusal_in, notes_in, world_after_set, failed_names, object_after}
+use Rattle.setphase_core.specs.Outcomes.{SetNotes, AreNotes, refusal_in, notes_in, world_after_set}
+use Rattle.setphase_core.specs.Calls.{Call, calls_of, object_after_set, FollowPlans}
 use Rattle.agent_core.specs.Replies.{reply_within_limit}
-use Rattle.agent_core.specs.Sets.{settled_world, settling_bpdus, MayFailInSet}
+use Rattle.agent_core.specs.Sets.{settled_world, settling_bpdus, MayFailInSet, set_calls}
 use Rattle.agent_core.specs.Answers.{IsSent}
 use Rattle.agent_core.specs.declared.answered.Answered.{Answered}
 use Rattle.agent_core.specs.declared.answered.Answered.TheVariants as answered
 use Rattle.agent_core.specs.declared.sent_reply.SentReply.{SentReply}
 use Rattle.agent_core.specs.declared.sets.SetTold.{SetTold}
 use Rattle.agent_core.proofs.SetProofs.{index_within, number_within, may_fail}
-use Rattle.agent_core.proofs.SetSteps.{told_audit, too_long_done, set_done, notes_told_of}
+use Rattle.agent_core.proofs.SetSteps.{told_audit, too_long_done, too_long_plans, fitting_plans, set_done, notes_told_of}
 use Rattle.agent_core.proofs.sets.answer_set.Goals as goal
 
 pub returns-then-is_too_long-clause-done : goal.returns-then-is_too_long-clause-done
@@ -75,8 +76,8 @@ returns-clause-done g c =
     subst (λ (bs : List Binding). refusal_in outcome ≡ refusal_of rows world c.args.view bs) same c.run_set-outcome.ensures.refusal in
     let after_is : after ≡ world_after_set (refusal_in outcome) (writings rows world request.bindings) world (notes_in outcome) =
     subst (λ (bs : List Binding). after ≡ world_after_set (refusal_in outcome) (writings rows world bs) world (notes_in outcome)) same c.run_set-outcome.ensures.world in
-    let objects_are : c.run_set-outcome.new.registry ≡ map (object_after (failed_names (writings rows world request.bindings) (notes_in outcome))) objects =
-    subst (λ (bs : List Binding). c.run_set-outcome.new.registry ≡ map (object_after (failed_names (writings rows world bs) (notes_in outcome))) objects) same c.run_set-outcome.ensures.objects in
+    let objects_are : c.run_set-outcome.new.registry ≡ map (object_after_set (calls_of (refusal_in outcome) (writings rows world request.bindings) (notes_in outcome))) objects =
+    subst (λ (bs : List Binding). c.run_set-outcome.new.registry ≡ map (object_after_set (calls_of (refusal_in outcome) (writings rows world bs) (notes_in outcome))) objects) same c.run_set-outcome.ensures.objects in
     let index_fits : FitsSigned w32 answer.index = search rules in
     let put : IsSent (reply_within_limit (answer_to request answer.status answer.index request.bindings)) c.put-sent.result c.put-sent.new.self.reply =
     subst (λ (bs : List Binding). IsSent (reply_within_limit (answer_to request answer.status answer.index bs)) c.put-sent.result c.put-sent.new.self.reply) same (rw (to_z-of_z w32 answer.index index_fits) at c.put-sent.ensures.sent) in
@@ -88,3 +89,23 @@ returns-clause-done g c =
     (c.settle_changed.ensures.world ∙ ap (λ (t : Table). settled_world t after) c.copied_settings-before.ensures)
     (c.put-sent.ensures.bpdus ∙ c.settle_changed.ensures.bpdus ∙ ap (λ (t : Table). settling_bpdus t after) c.copied_settings-before.ensures)
     put objects_are c.told-2.ensures
+
+pub returns-then-is_too_long-clause-by_plan : goal.returns-then-is_too_long-clause-by_plan
+returns-then-is_too_long-clause-by_plan g c =
+    too_long_plans c.args.registry.now c.args.world.now c.args.view c.args.request.now _ (sym c.is_too_long.ensures.too_long ∙ c.if-is_too_long.true)
+
+pub returns-clause-by_plan : goal.returns-clause-by_plan
+returns-clause-by_plan g c =
+    let request : Request = c.args.request.now in
+    let world : World = c.args.world.now in
+    let objects : List ObjectState = c.args.registry.now in
+    let rows : List ObjectRow = rows_of objects in
+    let outcome : SetOutcome = c.run_set-outcome.result in
+    let same = c.as_slice-bindings.ensures in
+    let refusal : refusal_in outcome ≡ refusal_of rows world c.args.view request.bindings =
+    subst (λ (bs : List Binding). refusal_in outcome ≡ refusal_of rows world c.args.view bs) same c.run_set-outcome.ensures.refusal in
+    let by_plan : FollowPlans (calls_of (refusal_in outcome) (writings rows world request.bindings) (notes_in outcome)) objects =
+    subst (λ (bs : List Binding). FollowPlans (calls_of (refusal_in outcome) (writings rows world bs) (notes_in outcome)) objects) same c.run_set-outcome.ensures.by_plan in
+    fitting_plans objects world c.args.view request (notes_in outcome) _ (sym c.is_too_long.ensures.too_long ∙ c.if-is_too_long.false)
+    (notes_told_of c.vacm.result.now.families outcome c.in_ok-answer.answer c.told-2.result request c.args.row c.args.view c.put-sent.result c.in_ok-answer.ensures.told c.told-2.ensures)
+    (subst (λ r. FollowPlans (calls_of r (writings rows world request.bindings) (notes_in outcome)) objects) refusal by_plan)

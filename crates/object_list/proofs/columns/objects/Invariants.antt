@@ -7,6 +7,6 @@ use Rattle.object_list.proofs.columns.objects.Given as goal
 abbrev pub invariant-loop-column : goal.invariant-loop-column
 invariant-loop-column g l = record {
   items : l.column-items ≡ columns;
-  rows : rows_of (states_of g.L.LineDriver.failures l.objects.items) ≡ map row_of (take l.column-index l.column-items);
-  idle : held_count (states_of g.L.LineDriver.failures l.objects.items) ≡ 0;
+  rows : rows_of (states_of g.L.LineDriver.failures g.L.LineDriver.plan_left l.objects.items) ≡ map row_of (take l.column-index l.column-items);
+  idle : held_count (states_of g.L.LineDriver.failures g.L.LineDriver.plan_left l.objects.items) ≡ 0;
 }

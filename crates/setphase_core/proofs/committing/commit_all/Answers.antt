@@ -1,8 +1,9 @@
-use Rattle.std.proofs.Common.{◌∙◌, ◌+◌, ap, arith, map, slice_set}
+use Rattle.std.proofs.Common.{◌∙◌, ◌+◌, sym, ap, subst, arith, true, false, [], ◌∷◌, ◌++◌, map, take}
 use Rattle.setphase_core.specs.declared.staging.Staged.{Staged}
-use Rattle.setphase_core.specs.Objects.{object_after_release, object_after_failure}
-use Rattle.setphase_core.specs.Staging.{entry_at, object_at}
-use Rattle.setphase_core.proofs.Commits.{Commits, commit_step, entry_is, next_pending, released_after_commit, released_after_failure}
+use Rattle.setphase_core.specs.Objects.{object_after_release}
+use Rattle.setphase_core.specs.Staging.{entry_at, AreCalled, commit_at}
+use Rattle.setphase_core.proofs.Called.{commits_more}
+use Rattle.setphase_core.proofs.Commits.{Commits, commit_step, entry_is, next_pending, called_after_commit, called_after_call}
 use Rattle.setphase_core.proofs.committing.commit_all.Goals as goal
 
 pub commit_next-requires-clause-reserved : goal.commit_next-requires-clause-reserved
@@ -22,11 +23,14 @@ loop-i-preserved g c =
       world = after.world;
       pending = after.pending;
       done = after.done;
-      objects = released_after_commit c.loop-i.world c.loop-i.staging.registry.now _ _ (entry_at c.loop-i.staging.staged.items c.loop-i.staging.committed) c.in-Ok.ensures.kept i.objects;
+      called = subst (λ cs. AreCalled cs (map object_after_release c.args.staging.now.registry.now) (map object_after_release c.commit_next.new.self.registry.now))
+          (ap (λ (z : Staged). map (commit_at false) (take c.loop-i.i c.args.staging.now.staged.items) ++ commit_at false z ∷ []) (entry_is c.args.staging.now.staged.items c.loop-i.staging.staged.items c.loop-i.i c.loop-i.staging.committed i.staged i.counted) ∙ sym (commits_more c.args.staging.now.staged.items c.loop-i.i (omega arith)))
+          (called_after_commit c.loop-i.world c.loop-i.staging.registry.now _ _ _ (entry_at c.loop-i.staging.staged.items c.loop-i.staging.committed) c.in-Ok.ensures.kept c.in-Ok.ensures.passes i.called);
     }
 
-pub returns-in_default-clause-objects : goal.returns-in_default-clause-objects
-returns-in_default-clause-objects g c =
+pub returns-in_default-clause-called : goal.returns-in_default-clause-called
+returns-in_default-clause-called g c =
     let i = c.loop-i.invariant in
-    released_after_failure c.loop-i.staging.registry.now _ (map object_after_release c.args.staging.now.registry.now) (entry_at c.loop-i.staging.staged.items c.loop-i.staging.committed) c.in_default.ensures.failed i.objects
-    ∙ ap (λ (z : Staged). slice_set (map object_after_release c.args.staging.now.registry.now) z.object (object_after_failure (object_at (map object_after_release c.args.staging.now.registry.now) z.object))) (entry_is c.args.staging.now.staged.items c.loop-i.staging.staged.items c.loop-i.i c.loop-i.staging.committed i.staged i.counted)
+    subst (λ (z : Staged). AreCalled (map (commit_at false) (take c.loop-i.i c.args.staging.now.staged.items) ++ commit_at true z ∷ []) (map object_after_release c.args.staging.now.registry.now) (map object_after_release c.commit_next.new.self.registry.now))
+    (entry_is c.args.staging.now.staged.items c.loop-i.staging.staged.items c.loop-i.i c.loop-i.staging.committed i.staged i.counted)
+    (called_after_call true c.loop-i.staging.registry.now _ _ _ (entry_at c.loop-i.staging.staged.items c.loop-i.staging.committed) c.in_default.ensures.failed c.in_default.ensures.fails i.called)

@@ -1,6 +1,6 @@
-use Rattle.std.proofs.Common.{◌≡◌, take, map}
+use Rattle.std.proofs.Common.{◌≡◌, false, take, map}
 use Rattle.setphase_core.specs.Objects.{object_after_release}
-use Rattle.setphase_core.specs.Staging.{assignments_of, ArePending, AreCommitted}
+use Rattle.setphase_core.specs.Staging.{assignments_of, ArePending, AreCommitted, AreCalled, commit_at}
 use Rattle.setphase_core.specs.Together.{assign}
 use Rattle.setphase_core.proofs.committing.commit_all.Given as goal
 
@@ -12,5 +12,5 @@ invariant-loop-i g l = record {
   world : l.world ≡ assign (take l.i (assignments_of l.fn.staging.staged.items)) l.fn.world;
   pending : ArePending l.world l.staging.registry.now l.fn.staging.staged.items l.i;
   done : AreCommitted l.fn.world l.world l.staging.registry.now l.fn.staging.staged.items l.i;
-  objects : map object_after_release l.staging.registry.now ≡ map object_after_release l.fn.staging.registry.now;
+  called : AreCalled (map (commit_at false) (take l.i l.fn.staging.staged.items)) (map object_after_release l.fn.staging.registry.now) (map object_after_release l.staging.registry.now);
 }

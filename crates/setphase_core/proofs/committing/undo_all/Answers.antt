@@ -32,7 +32,9 @@ loop-staging-preserved g c =
       same_reference = c.undo_last.ensures.same_reference ∙ i.same_reference;
       staged = c.undo_last.ensures.staged ∙ i.staged;
       counted = omega (arith, c.undo_last.ensures.committed, i.counted);
-      undoes = undo_step c.args.world.now c.loop-staging.world _ c.args.staging.now.registry.now c.loop-staging.staging.registry.now _ c.args.staging.now.staged.items c.loop-staging.staging.staged.items c.args.staging.now.committed c.loop-staging.staging.committed c.undo_last.new.self.committed c.loop-staging.stuck i.staged c.requires.distinct c.requires.counted (omega arith) c.undo_last.ensures.committed i.undoes c.in-Ok.ensures.kept c.in-Ok.ensures.put;
+      undoes = undo_step c.args.world.now c.loop-staging.world _ c.args.staging.now.registry.now c.loop-staging.staging.registry.now _ c.args.staging.now.staged.items c.loop-staging.staging.staged.items c.args.staging.now.committed c.loop-staging.staging.committed c.undo_last.new.self.committed c.loop-staging.stuck i.staged c.requires.distinct c.requires.counted (omega arith) c.undo_last.ensures.committed i.undoes
+          (last_stands c.requires.committed.0 c.loop-staging.world c.loop-staging.staging.registry.now c.args.staging.now.staged.items c.loop-staging.staging.staged.items c.loop-staging.staging.committed i.staged (omega arith) (i.undoes.stands c.requires.committed.0 c.requires.committed.1)).within
+          c.in-Ok.ensures.kept c.in-Ok.ensures.passes c.in-Ok.ensures.put;
     }
 
 pub loop-staging-preserved-in_default : goal.loop-staging-preserved-in_default
@@ -43,7 +45,7 @@ loop-staging-preserved-in_default g c =
     = undo_failed c.args.world.now c.loop-staging.world _ c.args.staging.now.registry.now c.loop-staging.staging.registry.now _ c.args.staging.now.staged.items c.loop-staging.staging.staged.items c.args.staging.now.committed c.loop-staging.staging.committed c.undo_last.new.self.committed c.loop-staging.stuck i.staged c.requires.distinct c.requires.counted (omega arith) c.undo_last.ensures.committed i.undoes
     key (ap (λ xs. (slice_index_or xs (c.loop-staging.staging.committed - 1) no_entry).slot.key) c.as_slice.ensures.value)
     (last_stands c.requires.committed.0 c.loop-staging.world c.loop-staging.staging.registry.now c.args.staging.now.staged.items c.loop-staging.staging.staged.items c.loop-staging.staging.committed i.staged (omega arith) (i.undoes.stands c.requires.committed.0 c.requires.committed.1)).within
-    c.in_default.ensures.unchanged c.in_default.ensures.failed in
+    c.in_default.ensures.unchanged c.in_default.ensures.failed c.in_default.ensures.fails in
     record {
       same_reference = c.undo_last.ensures.same_reference ∙ i.same_reference;
       staged = c.undo_last.ensures.staged ∙ i.staged;

@@ -5,9 +5,10 @@ use Rattle.setphase_core.specs.declared.sets.Refusal.{Refusal}
 use Rattle.setphase_core.specs.Registry.{rows_of, held_count}
 use Rattle.setphase_core.specs.Variables.{writings}
 use Rattle.setphase_core.specs.Together.{refusal_of}
-use Rattle.setphase_core.specs.Outcomes.{AreNotes, notes_in, refusal_in, world_after_set, failed_names, object_after}
+use Rattle.setphase_core.specs.Calls.{calls_of, object_after_set, FollowPlans}
+use Rattle.setphase_core.specs.Outcomes.{AreNotes, notes_in, refusal_in, world_after_set}
 use Rattle.setphase_core.proofs.Released.{rows_of-released}
-use Rattle.setphase_core.proofs.Runs.{fresh, dropped}
+use Rattle.setphase_core.proofs.Runs.{fresh, dropped, dropped_plans}
 use Rattle.setphase_core.proofs.Told.{refusal_numbered, failed_numbered, refusal_family, refusal_no_access}
 use Rattle.setphase_core.proofs.Kept.{set_keeps, rows_of-after, held_count-after}
 use Rattle.setphase_core.proofs.sets.run_set.Goals as goal
@@ -32,8 +33,14 @@ returns-clause-world g c =
 
 pub returns-clause-objects : goal.returns-clause-objects
 returns-clause-objects g c =
-    dropped c.args.registry.now c.run_staged.new.staging.registry.now _ c.new-staging.result.registry.now (failed_names (writings (rows_of c.args.registry.now) c.args.world.now c.args.bindings.now) (notes_in c.run_staged.result)) (search rules)
-    (c.run_staged.ensures.objects ∙ ap (λ rows. map (object_after (failed_names (writings rows c.args.world.now c.args.bindings.now) (notes_in c.run_staged.result))) c.new-staging.result.registry.now) (ap rows_of c.new-staging.ensures.registry ∙ rows_of-released c.args.registry.now))
+    dropped c.args.registry.now c.run_staged.new.staging.registry.now _ c.new-staging.result.registry.now (calls_of (refusal_in c.run_staged.result) (writings (rows_of c.args.registry.now) c.args.world.now c.args.bindings.now) (notes_in c.run_staged.result)) (search rules)
+    (c.run_staged.ensures.objects ∙ ap (λ rows. map (object_after_set (calls_of (refusal_in c.run_staged.result) (writings rows c.args.world.now c.args.bindings.now) (notes_in c.run_staged.result))) c.new-staging.result.registry.now) (ap rows_of c.new-staging.ensures.registry ∙ rows_of-released c.args.registry.now))
+    c.new-staging.ensures.registry
+
+pub returns-clause-by_plan : goal.returns-clause-by_plan
+returns-clause-by_plan g c =
+    dropped_plans c.args.registry.now c.new-staging.result.registry.now (calls_of (refusal_in c.run_staged.result) (writings (rows_of c.args.registry.now) c.args.world.now c.args.bindings.now) (notes_in c.run_staged.result))
+    (subst (λ rows. FollowPlans (calls_of (refusal_in c.run_staged.result) (writings rows c.args.world.now c.args.bindings.now) (notes_in c.run_staged.result)) c.new-staging.result.registry.now) (ap rows_of c.new-staging.ensures.registry ∙ rows_of-released c.args.registry.now) c.run_staged.ensures.by_plan)
     c.new-staging.ensures.registry
 
 pub returns-clause-refused_index : goal.returns-clause-refused_index
@@ -63,9 +70,9 @@ returns-clause-settings g c =
 pub returns-clause-rows : goal.returns-clause-rows
 returns-clause-rows g c =
     ap rows_of (returns-clause-objects g c)
-    ∙ rows_of-after (failed_names (writings (rows_of c.args.registry.now) c.args.world.now c.args.bindings.now) (notes_in c.run_staged.result)) c.args.registry.now
+    ∙ rows_of-after (calls_of (refusal_in c.run_staged.result) (writings (rows_of c.args.registry.now) c.args.world.now c.args.bindings.now) (notes_in c.run_staged.result)) c.args.registry.now
 
 pub returns-clause-held : goal.returns-clause-held
 returns-clause-held g c =
     ap held_count (returns-clause-objects g c)
-    ∙ held_count-after (failed_names (writings (rows_of c.args.registry.now) c.args.world.now c.args.bindings.now) (notes_in c.run_staged.result)) c.args.registry.now
+    ∙ held_count-after (calls_of (refusal_in c.run_staged.result) (writings (rows_of c.args.registry.now) c.args.world.now c.args.bindings.now) (notes_in c.run_staged.result)) c.args.registry.now

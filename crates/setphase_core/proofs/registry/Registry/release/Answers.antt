@@ -1,12 +1,13 @@
 use Rattle.std.proofs.Common.{arith, ◌∙◌, ap, sym, map}
 use Rattle.std.proofs.lemmas.List.{length-set, with_items_is}
+use Rattle.setphase_core.specs.Objects.{object_after_release}
 use Rattle.setphase_core.specs.Registry.{rows_of}
-use Rattle.setphase_core.proofs.Released.{release_more, release_end, right_by_rows, rows_of-released}
+use Rattle.setphase_core.proofs.Released.{step_more, step_end, right_by_rows, rows_of-released}
 use Rattle.setphase_core.proofs.registry.Registry.release.Goals as goal
 
 pub loop-object-preserved : goal.loop-object-preserved
 loop-object-preserved g c = record {
-  states = release_more g.O.MibObject.state c.loop-object.object-items c.args.self.now c.loop-object.object-index c.object-item.result c.release.new.self (omega arith) c.loop-object.invariant.len c.loop-object.invariant.states c.object-item.is c.release.ensures;
+  states = step_more g.O.MibObject.state object_after_release c.loop-object.object-items c.args.self.now c.loop-object.object-index c.object-item.result c.release.new.self (omega arith) c.loop-object.invariant.len c.loop-object.invariant.states c.object-item.is c.release.ensures;
   len = length-set _ _ _ ∙ c.loop-object.invariant.len;
 }
 
@@ -14,7 +15,7 @@ pub invariant_of-self : goal.invariant_of-self
 invariant_of-self g c =
     right_by_rows (map g.O.MibObject.state c.self.inside.objects.items) _
     (ap (λ zs. rows_of (map g.O.MibObject.state zs)) (with_items_is c.self.inside.objects c.loop-object.object-items (omega arith))
-    ∙ ap rows_of (release_end g.O.MibObject.state c.loop-object.object-items c.args.self.now c.loop-object.object-index (omega arith) c.loop-object.invariant.states)
+    ∙ ap rows_of (step_end g.O.MibObject.state object_after_release c.loop-object.object-items c.args.self.now c.loop-object.object-index (omega arith) c.loop-object.invariant.states)
     ∙ rows_of-released c.args.self.now
     ∙ ap rows_of (sym c.self.view_is))
     c.self.invariant

@@ -1,6 +1,7 @@
 use Rattle.std.proofs.lemmas.Result.{on_ok_weaker, on_err_weaker}
-use Rattle.setphase_core.specs.Objects.{object_after_failure}
-use Rattle.setphase_core.proofs.States.{row_after_undo, right-set, states-same, states-step}
+use Rattle.std.proofs.Common.{subst, true, false}
+use Rattle.setphase_core.specs.Objects.{after_call, object_after_failure, IsByPlan}
+use Rattle.setphase_core.proofs.States.{row_after_undo, right-set, state_is, states-step}
 use Rattle.setphase_core.proofs.registry.Registry.undo.Goals as goal
 
 pub invariant_of-self : goal.invariant_of-self
@@ -11,8 +12,16 @@ invariant_of-self g c =
 
 pub returns-clause-kept : goal.returns-clause-kept
 returns-clause-kept g c =
-    on_ok_weaker c.undo.result (λ h. states-same g.O.MibObject.state c.self.inside.objects.items c.args.self.now c.args.place c.index_mut.result.now c.undo.new.self c.self.view_is c.requires.within c.index_mut.ensures.value h) c.undo.ensures.kept
+    on_ok_weaker c.undo.result (λ h. states-step g.O.MibObject.state c.self.inside.objects.items c.args.self.now c.args.place c.index_mut.result.now c.undo.new.self c.self.view_is c.requires.within c.index_mut.ensures.value after_call h) c.undo.ensures.kept
 
 pub returns-clause-failed : goal.returns-clause-failed
 returns-clause-failed g c =
     on_err_weaker c.undo.result (λ h. states-step g.O.MibObject.state c.self.inside.objects.items c.args.self.now c.args.place c.index_mut.result.now c.undo.new.self c.self.view_is c.requires.within c.index_mut.ensures.value object_after_failure h) c.undo.ensures.failed
+
+pub returns-clause-passes : goal.returns-clause-passes
+returns-clause-passes g c =
+    on_ok_weaker c.undo.result (λ h. subst (λ z. IsByPlan z false) (state_is g.O.MibObject.state c.self.inside.objects.items c.args.self.now c.args.place c.index_mut.result.now c.undo.new.self c.self.view_is c.requires.within c.index_mut.ensures.value) h) c.undo.ensures.passes
+
+pub returns-clause-fails : goal.returns-clause-fails
+returns-clause-fails g c =
+    on_err_weaker c.undo.result (λ h. subst (λ z. IsByPlan z true) (state_is g.O.MibObject.state c.self.inside.objects.items c.args.self.now c.args.place c.index_mut.result.now c.undo.new.self c.self.view_is c.requires.within c.index_mut.ensures.value) h) c.undo.ensures.fails
