@@ -31,12 +31,11 @@
 //! `specs/Objects.antt`: an object as plain data; `specs/Plans.antt`: which of the next calls of its
 //! device fail; `specs/Registry.antt`: the order of objects, and all their instances;
 //! `specs/Variables.antt`, `specs/Together.antt`: why a Set is refused, by its variables one by one
-//! and together; `specs/Outcomes.antt`: how it ends; `specs/Calls.antt`, `specs/Plans.antt`: the
-//! calls of devices that it makes, in their order, what they leave of the objects, and which of them
-//! a plan says fail; `specs/Staging.antt`, `specs/Tested.antt`: what stands between its steps;
-//! `specs/Searching.antt`: where a name stands among those of objects, and how many comparisons it
-//! takes at least to know that; `specs/Passing.antt`: the objects that a walk does not pass over, and
-//! how many it does;
+//! and together; `specs/Outcomes.antt`: how it ends; `specs/Calls.antt`: the calls of devices that
+//! it makes, in their order, and what they leave of the objects; `specs/Staging.antt`,
+//! `specs/Tested.antt`: what stands between its steps; `specs/Searching.antt`: where a name stands
+//! among those of objects, and how many comparisons it takes at least to know that;
+//! `specs/Passing.antt`: the objects that a walk does not pass over, and how many it does;
 //! `specs/Opening.antt`: all that a bridge of two ports shows as it opens; `specs/InUse.antt`: all
 //! that a bridge of four ports shows, made by hand as if in use.
 //!
