@@ -16,7 +16,8 @@
 //! `specs/Replies.antt`: what a datagram says to a request; `specs/Asks.antt`: the tries of an ask,
 //! what each did on the wire, and how the ask ends; `specs/Walks.antt`: the asks of a walk, and its
 //! result; `specs/Lines.antt`: the lines that are written; `specs/Runs.antt`: what a run asks and
-//! writes; `specs/Words.antt`: which words of a command line ask for which command.
+//! writes; `specs/Words.antt`: which words of a command line ask for which command, and where
+//! reading them can take memory.
 //!
 //! # Laws
 //! In [`laws`]: the limits and the exit statuses, as numbers.
