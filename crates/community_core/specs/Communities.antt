@@ -2,6 +2,7 @@
 use Rattle.std.specs.Prelude.{ℕ, Bool, ◌&&◌, List, slice_get, bytes_eq, Option, Some, None}
 use Rattle.std.specs.Cmp.Lexicographic.{slice_cmp}
 use Rattle.std.specs.Ordering.{nat_cmp, is_lt}
+use Rattle.std.specs.declared.cmp.Ordering.{Ordering}
 use Rattle.vacm_core.specs.declared.limits.TheConstants.{MAX_NAME}
 use Rattle.vacm_core.specs.Best.{unbeaten}
 use Rattle.vacm_core.specs.Rules.{Rules, rules_of}
@@ -27,6 +28,10 @@ community_row w =
 abbrev pub same_index : CommunityRow → CommunityRow → Bool
 same_index a b = bytes_eq a.index b.index
 
+-- by the octets of the indexes, a proper prefix first
+abbrev pub index_cmp : CommunityRow → CommunityRow → Ordering
+index_cmp a b = slice_cmp nat_cmp a.index b.index
+
 abbrev pub community_rules : Rules WrittenCommunity CommunityRow
 community_rules = rules_of community_lengths community_fields community_row same_index
 
@@ -48,9 +53,8 @@ pub record PolicyTables : Type 0 where
 abbrev pub has_name : List ℕ → CommunityRow → Bool
 has_name name row = bytes_eq row.name name
 
--- by the octets of the indexes, a proper prefix first
 abbrev pub index_before : CommunityRow → CommunityRow → Bool
-index_before a b = is_lt (slice_cmp nat_cmp a.index b.index)
+index_before a b = is_lt (index_cmp a b)
 
 -- the place of the row of the name before which no other of the name comes
 abbrev pub deciding_community : List CommunityRow → List ℕ → Option ℕ

@@ -1,9 +1,11 @@
 //! Communities, and who they stand for (RFC 3584, section 5: snmpCommunityTable).
-ghost use Rattle.std.specs.Prelude.{◌≡◌, ◌<◌, length};
+ghost use Rattle.std.specs.Prelude.{◌≡◌, ◌<◌, true, length};
 ghost use Rattle.std.specs.Option.{ForSome};
-ghost use Rattle.community_core.specs.Communities.{community_lengths, community_fields, community_row, written_community, same_index, has_name, index_before, deciding_community};
+ghost use Rattle.community_core.specs.Communities.{community_lengths, community_fields, community_row, written_community, same_index, index_cmp, has_name, index_before, deciding_community};
+ghost use Rattle.community_core.specs.Orders.{index_total, index_ties};
 
 use std::alloc::{AllocError, Global};
+use std::cmp::Ordering;
 use vacm_core::{Contest, CopiedAs, MAX_NAME, Name, Same, Text, Written, deciding_row};
 
 /// The longest name that a community of a policy may have, in octets: 255.
@@ -55,6 +57,14 @@ impl Written for WrittenCommunity {
 
     ghost same_key = { same_index };
 
+    ghost has_keys = { true };
+
+    ghost key_cmp = { index_cmp };
+
+    ghost keys_are_ordered = { index_total };
+
+    ghost same_where_equal = { index_ties };
+
     fn has_right_lengths(&self) -> bool {
         self.index.has_length(1, MAX_NAME)
             && self.name.has_length(1, MAX_COMMUNITY_NAME)
@@ -75,8 +85,12 @@ impl Written for WrittenCommunity {
         }
     }
 
-    fn is_same_key(one: &CommunityRow, other: &CommunityRow) -> bool {
-        one.index.is(&other.index)
+    fn has_keys() -> bool {
+        true
+    }
+
+    fn cmp_key(one: &CommunityRow, other: &CommunityRow) -> Ordering {
+        one.index.as_bytes().cmp(other.index.as_bytes())
     }
 }
 

@@ -1,15 +1,16 @@
 -- The ways of family rows.
-use Rattle.std.proofs.Common.{◌≡◌, ℕ, zero, suc, ◌+◌, ◌<◌, ◌≤◌, ◌==◌, Bool, true, false, not, ◌&&◌, ◌||◌, List, [], ◌∷◌, ◌++◌, map, length, get_or, take, refl, sym, ap, subst, ◌∙◌, arith, inl, inr, add-zero, zero-add, append_assoc, Result, Ok, Err}
-use Rattle.std.specs.Result.{OnOk}
+use Rattle.std.proofs.Common.{◌≡◌, ℕ, zero, suc, ◌+◌, ◌<◌, ◌≤◌, ◌==◌, Bool, true, false, not, ◌&&◌, ◌||◌, List, [], ◌∷◌, ◌++◌, map, length, get_or, take, Contains, refl, sym, ap, subst, ◌∙◌, arith, inl, inr, add-zero, zero-add, append_assoc, Result, Ok, Err}
+use Rattle.std.specs.Result.{OnOk, IfOk}
 use Rattle.std.proofs.lemmas.List.{get_or_default}
 use Rattle.std.proofs.lemmas.Bool.{cases_Bool, cases_lt, cases_eq, both_ways, eqb-true, eq-eqb, and_from}
 use Rattle.vacm_core.specs.declared.tree.Step.{Step}
 use Rattle.vacm_core.specs.declared.tree.Tree.{Tree}
+use Rattle.vacm_core.specs.declared.radix.Radix.{Radix}
 use Rattle.vacm_core.specs.declared.tables.FamilyRow.{FamilyRow}
 use Rattle.vacm_core.specs.Families.{mask_bit, agrees_from}
 use Rattle.vacm_core.specs.Rows.{same_family}
 use Rattle.vacm_core.specs.Tables.{KeysDiffer}
-use Rattle.vacm_core.specs.Trees.{leads, fits, same_parts, counting_part, view_way, subtree_way, way_of, IsPlaced}
+use Rattle.vacm_core.specs.Trees.{leads, fits, same_parts, counting_part, view_way, subtree_way, way_of, reaches, IsPlaced, IsTreeOf}
 use Rattle.vacm_core.proofs.Agrees.{and_true}
 use Rattle.vacm_core.proofs.Ties.{bytes_same}
 
@@ -164,3 +165,23 @@ place_keeps old new rows differ n row way within is same some (Err e) there kept
 place_keeps old new rows differ n row way within is same some (Ok u) there kept =
     placed_or_kept old new rows differ n within (row_placed new rows n row way within is same some there)
     (λ d other m apart. kept other m (subst (λ (l : List Step). same_parts other l ≡ false) (ap way_of (sym (is ∙ get_or_default rows n row d within)) ∙ sym same) apart))
+
+-- where the row of each number is placed, and each row has a number, ways lead to all rows
+pub all_placed : (tree : Tree) (rows : List FamilyRow) (numbers : List ℕ) → ((n : ℕ) → n < length rows → Contains numbers n)
+    → ((k : ℕ) (d : FamilyRow) → 0 ≤ k → k < length numbers → IsPlaced (leads tree) (get_or rows (get_or numbers k 0) d) (get_or numbers k 0)) → IsTreeOf (leads tree) rows
+all_placed tree rows numbers all placed =
+    λ n d lt.
+    let found = all n lt in
+    let k = found.0 in
+    let here : get_or numbers k 0 ≡ n = sym (get_or_default numbers k n 0 found.1) ∙ found.2 in
+    subst (λ (m : ℕ). IsPlaced (leads tree) (get_or rows m d) m) here (placed k d (omega arith) found.1)
+
+-- and so they do in the radix tree
+pub packed_tree : (tree : Tree) (rows : List FamilyRow) {E : Type 0} (r : Result Radix E)
+    → IfOk r (λ radix. (way : List Step) (n : ℕ) → leads tree way n ≡ true → reaches radix way n ≡ true)
+    → IsTreeOf (leads tree) rows → IfOk r (λ radix. IsTreeOf (reaches radix) rows)
+packed_tree tree rows (Err e) more placed = tt
+packed_tree tree rows (Ok radix) more placed =
+    λ n d lt.
+    let p = placed n d lt in
+    record { leads = more (way_of (get_or rows n d)) n p.leads; some = p.some }

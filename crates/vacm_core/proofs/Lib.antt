@@ -12,3 +12,4 @@ pub mod Unbeaten
 pub mod Indexes
 pub mod GroupRows
 pub mod ViewRows
+pub mod Tied

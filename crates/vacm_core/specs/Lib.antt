@@ -11,3 +11,4 @@ pub mod Access
 pub mod Orders
 pub mod Trees
 pub mod Keys
+pub mod Repeats

@@ -1,7 +1,9 @@
 -- The rows of the tables of RFC 3415 (section 4): the lengths and fields that a written row may
 -- have, the row that it stands for, and its key.
 use Rattle.std.specs.Prelude.{ℕ, ℤ, pos, negsuc, ◌+◌, ◌==◌, Bool, false, ◌&&◌, if◌then◌else◌, List, length, nat_le, nat_eq, bytes_eq}
-use Rattle.std.specs.Cmp.Lexicographic.{pointwise}
+use Rattle.std.specs.Cmp.Lexicographic.{pointwise, slice_cmp}
+use Rattle.std.specs.Ordering.{nat_cmp, ordering_then}
+use Rattle.std.specs.declared.cmp.Ordering.{Ordering}
 use Rattle.vacm_core.specs.declared.limits.TheConstants.{MAX_NAME, MAX_MASK, MAX_FAMILY, MAX_MODEL}
 use Rattle.vacm_core.specs.declared.tables.GroupRow.{GroupRow}
 use Rattle.vacm_core.specs.declared.tables.AccessRow.{AccessRow}
@@ -41,6 +43,9 @@ group_row w = record { model = natural w.model; name = w.name; group = w.group }
 abbrev pub same_group : GroupRow → GroupRow → Bool
 same_group a b = (a.model == b.model) && bytes_eq a.name b.name
 
+abbrev pub group_key_cmp : GroupRow → GroupRow → Ordering
+group_key_cmp a b = ordering_then (nat_cmp a.model b.model) (slice_cmp nat_cmp a.name b.name)
+
 -- ---- vacmAccessTable, under (group, context prefix, model, level)
 
 abbrev pub access_lengths : WrittenAccess → Bool
@@ -70,6 +75,14 @@ same_access a b =
     bytes_eq a.group b.group && bytes_eq a.prefix b.prefix && (a.model == b.model)
     && (level_number a.level == level_number b.level)
 
+abbrev pub access_key_cmp : AccessRow → AccessRow → Ordering
+access_key_cmp a b =
+    let group = slice_cmp nat_cmp a.group b.group in
+    let prefix = slice_cmp nat_cmp a.prefix b.prefix in
+    let model = nat_cmp a.model b.model in
+    let level = nat_cmp (level_number a.level) (level_number b.level) in
+    ordering_then (ordering_then (ordering_then group prefix) model) level
+
 -- ---- vacmViewTreeFamilyTable, under (view, subtree)
 
 abbrev pub family_lengths : WrittenFamily → Bool
@@ -85,6 +98,14 @@ family_row w = record { view = w.view; subtree = w.subtree; mask = w.mask; inclu
 
 abbrev pub same_family : FamilyRow → FamilyRow → Bool
 same_family a b = bytes_eq a.view b.view && pointwise nat_eq a.subtree b.subtree
+
+-- in the order of the tree: how many octets the view has, those, and the subtree
+abbrev pub family_key_cmp : FamilyRow → FamilyRow → Ordering
+family_key_cmp a b =
+    let long = nat_cmp (length a.view) (length b.view) in
+    let view = slice_cmp nat_cmp a.view b.view in
+    let subtree = slice_cmp nat_cmp a.subtree b.subtree in
+    ordering_then (ordering_then long view) subtree
 
 -- ---- vacmContextTable; contexts may be equal
 

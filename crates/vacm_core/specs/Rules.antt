@@ -1,5 +1,5 @@
 -- What is wrong with the rows of a table, and which row is the first at fault.
-use Rattle.std.specs.Prelude.{◌≡◌, ℕ, ◌<◌, Bool, if◌then◌else◌, List, [], ◌∷◌, take, Option, Some, None, slice_get, option_and_then, Result, Ok, Err}
+use Rattle.std.specs.Prelude.{◌≡◌, ℕ, ◌<◌, Bool, if◌then◌else◌, List, [], ◌∷◌, ◌++◌, map, take, All, Option, Some, None, slice_get, option_and_then, Result, Ok, Err}
 use Rattle.std.specs.List.{list_any}
 use Rattle.vacm_core.specs.declared.fault.TableFault.{TableFault}
 use Rattle.vacm_core.specs.declared.fault.TableFault.TheVariants.{Row}
@@ -61,11 +61,19 @@ pub record IsFirstFault {W R T : Type 0} (rules : Rules W R) (table : T) (rows :
 abbrev pub by_itself : {W R : Type 0} → Rules W R → W → Result R Wrong
 by_itself rules w = if rules.lengths w then (if rules.fields w then Ok (rules.row_of w) else Err Field) else Err Length
 
--- the same, behind rows of which none may have its key
-abbrev pub unless_known : {W R : Type 0} → Rules W R → List R → Result R Wrong → Result R Wrong
-unless_known rules rows (Ok row) =
-    if list_any (λ r. rules.same_key r row) rows then Err Duplicate else Ok row
-unless_known rules rows (Err wrong) = Err wrong
+-- where the reading of written rows stops: at their end, or at a row with which this is wrong by
+-- itself
+abbrev pub StopsAt : {W R : Type 0} → Rules W R → Option Wrong → List W → Type 0
+StopsAt rules None rest = rest ≡ []
+StopsAt rules (Some wrong) [] = ⊥
+StopsAt rules (Some wrong) (w ∷ ws) = by_itself rules w ≡ Err wrong
 
-abbrev pub row_behind : {W R : Type 0} → Rules W R → List R → W → Result R Wrong
-row_behind rules rows w = unless_known rules rows (by_itself rules w)
+-- these rows are what written rows stand for up to the first with which something is wrong by
+-- itself
+pub record AreRead {W R : Type 0} (rules : Rules W R) (written : List W) (rows : List R) (wrong : Option Wrong) : Type 0 where
+  pub front : List W
+  pub rest : List W
+  pub all : written ≡ front ++ rest
+  pub rows_are : rows ≡ map rules.row_of front
+  pub right : All (λ w. by_itself rules w ≡ Ok (rules.row_of w)) front
+  pub stops : StopsAt rules wrong rest

@@ -1,12 +1,15 @@
 //! Written rows are read into rows, or the first of them at fault is named.
-ghost use Rattle.std.specs.Prelude.{◌≡◌, ◌≢◌, ℕ, Bool, true, List, map, Result, IfOk, IfErr, OnOk, if◌then◌else◌};
-ghost use Rattle.std.specs.List.{list_any};
-ghost use Rattle.vacm_core.specs.declared.fault.Wrong.{Wrong};
-ghost use Rattle.vacm_core.specs.Rules.{rules_of, by_itself, row_behind, AreRight, IsFirstFault, BeginsRight};
+ghost use Rattle.std.specs.Prelude.{◌≡◌, ◌≢◌, ◌&&◌, Bool, true, map, IfOk, IfErr, OnOk, OnErr};
+ghost use Rattle.std.specs.Cmp.{IsTotalOrder};
+ghost use Rattle.std.specs.Ordering.{is_eq};
+ghost use Rattle.std.specs.declared.cmp.Ordering.{Ordering};
+ghost use Rattle.vacm_core.specs.Rules.{rules_of, by_itself, AreRead, AreRight, IsFirstFault, BeginsRight};
 
 use crate::fault::{TableFault, Wrong};
+use crate::repeats::first_repeat;
 use crate::rows::Rows;
-use std::alloc::Global;
+use std::alloc::{AllocError, Global};
+use std::cmp::Ordering;
 
 /// A row as it is written, which stands for a row where its lengths and fields are right.
 pub trait Written: Sized + Drop {
@@ -24,6 +27,12 @@ pub trait Written: Sized + Drop {
     // Whether two rows have one key.
     ghost same_key: { Self.Row → Self.Row → Bool };
 
+    // Whether rows have keys at all.
+    ghost has_keys: { Bool };
+
+    // The order of rows by their keys.
+    ghost key_cmp: { Self.Row → Self.Row → Ordering };
+
     /// Whether each text, mask and name has a length that it may have.
     fn has_right_lengths(&self) -> bool
         ensures { result ≡ lengths self.now };
@@ -38,9 +47,20 @@ pub trait Written: Sized + Drop {
         requires fields { fields self ≡ true }
         ensures { result ≡ row_of self };
 
-    /// Whether two rows have one key.
-    fn is_same_key(one: &Self::Row, other: &Self::Row) -> bool
-        ensures { result ≡ same_key one.now other.now };
+    /// Whether rows have keys at all, so that two may have one.
+    fn has_keys() -> bool
+        ensures { result ≡ has_keys };
+
+    /// Which of two rows comes first by their keys.
+    fn cmp_key(one: &Self::Row, other: &Self::Row) -> Ordering
+        ensures { result ≡ key_cmp one.now other.now };
+
+    // To come first is an order.
+    ghost keys_are_ordered: { IsTotalOrder key_cmp };
+
+    // Two rows have one key where there are keys and neither comes first.
+    ghost same_where_equal: { (one other : Self.Row) →
+        same_key one other ≡ (has_keys && is_eq (key_cmp one other)) };
 }
 
 // The row that a written row stands for, or what is wrong with it by itself.
@@ -56,23 +76,25 @@ fn read_row<W: Written>(written: W) -> Result<W::Row, Wrong>
     Ok(written.into_row())
 }
 
-// Whether one of the rows has the key of this row.
-fn has_key<W: Written>(rows: &[W::Row], row: &W::Row) -> bool
-    ensures { result ≡ list_any (λ r. W.same_key r row.now) rows.now }
+// The rows that written rows stand for up to the first that is at fault by itself, and what is wrong
+// with that one, if there is one.
+fn read_rows<W: Written>(
+    alloc: Global,
+    written: Rows<W>,
+) -> Result<(Rows<W::Row>, Option<Wrong>), AllocError>
+    ensures read { IfOk result (λ read. AreRead
+        (rules_of W.lengths W.fields W.row_of W.same_key) written read.0 read.1) }
+    ensures memory { OnErr result (BeginsRight
+        (rules_of W.lengths W.fields W.row_of W.same_key) written) }
 {
-    rows.iter().any(|earlier| W::is_same_key(earlier, row))
-}
-
-// The row that a written row behind these rows stands for, or what is wrong with it.
-fn read_behind<W: Written>(rows: &[W::Row], written: W) -> Result<W::Row, Wrong>
-    ensures { result ≡ row_behind
-        (rules_of W.lengths W.fields W.row_of W.same_key) rows.now written }
-{
-    let row = read_row(written)?;
-    if has_key::<W>(rows, &row) {
-        return Err(Wrong::Duplicate);
+    let mut rows = Vec::new(alloc);
+    for row in written.into_vec() {
+        match read_row(row) {
+            Ok(row) => rows.push(row)?,
+            Err(wrong) => return Ok((Rows::new(rows), Some(wrong))),
+        }
     }
-    Ok(row)
+    Ok((Rows::new(rows), None))
 }
 
 /// The rows that the written rows of a table stand for, or the fault of the first that is at fault.
@@ -80,8 +102,8 @@ fn read_behind<W: Written>(rows: &[W::Row], written: W) -> Result<W::Row, Wrong>
 /// # Errors
 ///
 /// `Row` with the table, the number of the row, counted from 0, and what is wrong with it; `Memory`
-/// where a growth was refused: each row that is kept takes memory, so there is a first row and
-/// nothing is wrong with it.
+/// where a growth was refused: the rows that are kept and their numbers take memory, so there is a
+/// first row and nothing is wrong with it.
 pub fn checked_rows<W: Written, T: Copy>(
     alloc: Global,
     table: T,
@@ -95,12 +117,12 @@ pub fn checked_rows<W: Written, T: Copy>(
     ensures memory { IfErr result (λ e. e ≡ TableFault.Memory →
         BeginsRight (rules_of W.lengths W.fields W.row_of W.same_key) written) }
 {
-    let mut rows = Vec::new(alloc);
-    for row in written.into_vec() {
-        match read_behind::<W>(rows.as_slice(), row) {
-            Ok(row) => rows.push(row)?,
-            Err(wrong) => return Err(TableFault::Row(table, rows.len(), wrong)),
-        }
+    let (rows, wrong) = read_rows(alloc, written)?;
+    if let Some(n) = first_repeat::<W>(alloc, rows.as_slice())? {
+        return Err(TableFault::Row(table, n, Wrong::Duplicate));
     }
-    Ok(Rows::new(rows))
+    match wrong {
+        Some(wrong) => Err(TableFault::Row(table, rows.as_slice().len(), wrong)),
+        None => Ok(rows),
+    }
 }

@@ -1,5 +1,5 @@
 //! The family rows with their tree, and the row of a view that decides on a name.
-ghost use Rattle.std.specs.Prelude.{◌≡◌, ◌≤◌, ◌<◌, ℕ, true, [], ◌∷◌, ◌++◌, length, IfOk, OnOk, OnErr, bytes_eq, slice_index_or};
+ghost use Rattle.std.specs.Prelude.{◌≡◌, ◌≤◌, ◌<◌, ℕ, [], ◌∷◌, ◌++◌, length, All, IfOk, OnOk, OnErr, bytes_eq, slice_index, slice_index_or};
 ghost use Rattle.std.specs.List.{list_any};
 ghost use Rattle.std.specs.Option.{ForSome};
 ghost use Rattle.vacm_core.specs.Rows.{same_family};
@@ -16,10 +16,12 @@ use crate::index::{Keyed, index_of, with_key};
 use crate::limits::MAX_NAME;
 use crate::name::Name;
 use crate::radix::{Radix, packed};
+use crate::repeats::numbers_by_key;
 use crate::rows::Rows;
 use crate::tables::FamilyRow;
 use crate::tree::{Step, Tree};
 use crate::walk::best_below;
+use crate::written::WrittenFamily;
 use arrayvec::ArrayVec;
 use oid_core::{MAX_NUMBERS, Oid};
 use std::alloc::{AllocError, Global};
@@ -125,12 +127,8 @@ impl Families {
     pub fn has_view(&self, view: &Name) -> bool
         ensures { result ≡ has_view self.now view.now }
     {
-        !view.is_empty()
-            && has_row_of(
-                self.rows.as_slice(),
-                self.view_index.as_slice(),
-                view.as_bytes(),
-            )
+        let index = self.view_index.as_slice();
+        !view.is_empty() && has_row_of(self.rows.as_slice(), index, view.as_bytes())
     }
 }
 
@@ -185,19 +183,22 @@ fn place(tree: &mut Tree, alloc: Global, rows: &[FamilyRow], n: usize) -> Result
     tree.insert(alloc, way.as_slice(), n)
 }
 
-// Puts the rows of these numbers at their places, the middle one first, so that a tree of rows in
-// order is balanced.
+// Puts the rows of some of these numbers at their places, the middle one first, so that a tree of
+// rows in the order of their ways is balanced.
 fn place_between(
     tree: &mut Tree,
     alloc: Global,
     rows: &[FamilyRow],
+    numbers: &[usize],
     from: usize,
     to: usize,
 ) -> Result<(), AllocError>
-    requires within { to ≤ length rows.now }
+    requires within { All (λ n. n < length rows.now) numbers.now }
+    requires range { to ≤ length numbers.now }
     requires differ { KeysDiffer same_family rows.now }
-    ensures placed { OnOk result ((m : ℕ) (d : FamilyRow) → from ≤ m → m < to
-        → IsPlaced (leads tree.new) (slice_index_or rows.now m d) m) }
+    ensures placed { OnOk result ((k : ℕ) (d : FamilyRow) → from ≤ k → k < to
+        → let n = slice_index numbers.now k in
+        IsPlaced (leads tree.new) (slice_index_or rows.now n d) n) }
     ensures kept { OnOk result ((m : ℕ) (d : FamilyRow) → m < length rows.now
         → IsPlaced (leads tree.old) (slice_index_or rows.now m d) m
         → IsPlaced (leads tree.new) (slice_index_or rows.now m d) m) }
@@ -207,9 +208,9 @@ fn place_between(
         return Ok(());
     }
     let middle = from + (to - from) / 2;
-    place(tree, alloc, rows, middle)?;
-    place_between(tree, alloc, rows, from, middle)?;
-    place_between(tree, alloc, rows, middle + 1, to)
+    place(tree, alloc, rows, numbers[middle])?;
+    place_between(tree, alloc, rows, numbers, from, middle)?;
+    place_between(tree, alloc, rows, numbers, middle + 1, to)
 }
 
 // The tree of the family rows. Where there is no memory there is a row.
@@ -221,8 +222,9 @@ fn tree_of(alloc: Global, rows: &[FamilyRow]) -> Result<Radix, AllocError>
     if rows.is_empty() {
         return Ok(Radix::Empty);
     }
+    let numbers = numbers_by_key::<WrittenFamily>(alloc, rows)?;
     let mut tree = Tree::Empty;
-    place_between(&mut tree, alloc, rows, 0, rows.len())?;
+    place_between(&mut tree, alloc, rows, numbers.as_slice(), 0, numbers.len())?;
     packed(alloc, &tree)
 }
 

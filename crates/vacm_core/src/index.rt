@@ -1,5 +1,6 @@
 //! The numbers of a table's rows in the order of their keys, so that rows are found by halves.
-ghost use Rattle.std.specs.Prelude.{◌≡◌, ◌<◌, ℕ, All, Contains, length, IfOk, OnErr};
+ghost use Rattle.std.specs.Prelude.{◌≡◌, ◌<◌, ℕ, nat_eq, All, Contains, length, IfOk, OnErr};
+ghost use Rattle.std.specs.List.{IsDistinct};
 ghost use Rattle.vacm_core.specs.Keys.{key_cmp, key_at, IsIndex};
 
 use crate::name::Name;
@@ -50,10 +51,15 @@ fn cmp_at<R: Keyed>(rows: &[R], n: usize, number: u32, name: &[u8]) -> Ordering
         .then(name_at(rows, n).cmp(name))
 }
 
-// The numbers from 0 up to this one, which is not among them.
-fn numbers_below(alloc: Global, end: usize) -> Result<Vec<usize>, AllocError>
+/// The numbers from 0 up to this one, which is not among them.
+///
+/// # Errors
+///
+/// Where there is no memory for the numbers; there is then one.
+pub fn numbers_below(alloc: Global, end: usize) -> Result<Vec<usize>, AllocError>
     ensures below { IfOk result (λ numbers. All (λ n. n < end) numbers.items) }
     ensures all { IfOk result (λ numbers. (n : ℕ) → n < end → Contains numbers.items n) }
+    ensures once { IfOk result (λ numbers. IsDistinct nat_eq numbers.items) }
     ensures memory { OnErr result (0 < end) }
 {
     let mut numbers = Vec::new(alloc);

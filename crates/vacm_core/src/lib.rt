@@ -21,7 +21,8 @@
 //! begins with a prefix; `specs/Best.antt`,
 //! `specs/Orders.antt`: the row that no row beats; `specs/Faults.antt`, `specs/Rules.antt`:
 //! lengths, fields and keys of rows, the first fault, and where checking the rows takes memory.
-//! `specs/Trees.antt`, inside the crate: which family rows a tree leads to, by which numbers. A
+//! `specs/Repeats.antt`: the first row that has the key of an earlier one, and the numbers of rows
+//! in the order of their keys. `specs/Trees.antt`, inside the crate: which family rows a tree leads to, by which numbers. A
 //! `Vacm` keeps a radix tree of its family rows, and `Vacm::in_view` goes by it: the row that it
 //! finds is the one that decides among all of them. `specs/Keys.antt`, inside the crate too: the
 //! order of rows by their keys, by which a `Vacm` finds a group row, the access rows of a group, and
@@ -36,6 +37,13 @@
 //! `Vacm::rows_are_right`, kept rows break no rule.
 //!
 //! # Not claimed
+//! How deep the calls go that build a tree of family rows, follow it and let go of it, since no
+//! clause speaks of a stack: the rows are put in by the order of their ways, the middle one first
+//! and then each half so. On a way each step to a smaller or greater number then leads from a row
+//! to one within a half of its rows, so there are at most as many as the rows have halvings, and
+//! with them at most [`MAX_FAMILY`] and one numbers of the way, in whatever order the rows are
+//! written. Nor how long rows take to be checked: duplicates are looked for by a sort.
+//!
 //! How long a decision takes: `Vacm::decide` finds the group row by halves, and looks at the access
 //! rows of the group, and at the contexts up to the one asked for. It looks by halves whether the
 //! view has a family. `Vacm::hides_all` looks at each family row, `Vacm::in_view` at those that its
@@ -55,6 +63,7 @@ mod limits;
 mod name;
 mod radix;
 mod reading;
+mod repeats;
 mod rows;
 mod same;
 mod tables;

@@ -1,8 +1,12 @@
 //! Which lengths and fields the written rows may have, and the rows that they stand for.
 ghost use Rattle.std.specs.Prelude.{◌≡◌, ◌≤◌, ◌≤ℤ◌, ◌&&◌, pos, true, false, length, bytes_eq, nat_le, nat_eq};
-ghost use Rattle.std.specs.Cmp.Lexicographic.{pointwise};
+ghost use Rattle.std.specs.Cmp.Lexicographic.{pointwise, slice_cmp};
+ghost use Rattle.std.specs.Ordering.{nat_cmp};
+ghost use Rattle.std.proofs.Common.{refl};
+ghost use Rattle.std.proofs.lemmas.Cmp.{nat_list_cmp_total};
+ghost use Rattle.vacm_core.specs.Orders.{group_key_total, group_key_ties, access_key_total, access_key_ties, family_key_total, family_key_ties};
 ghost use Rattle.vacm_core.specs.Texts.{has_length, is_plain};
-ghost use Rattle.vacm_core.specs.Rows.{natural, is_between, level_of, group_lengths, group_fields, group_row, same_group, access_lengths, access_fields, access_row, same_access, family_lengths, family_fields, family_row, same_family, context_lengths};
+ghost use Rattle.vacm_core.specs.Rows.{natural, is_between, level_of, group_lengths, group_fields, group_row, same_group, group_key_cmp, access_lengths, access_fields, access_row, same_access, access_key_cmp, family_lengths, family_fields, family_row, same_family, family_key_cmp, context_lengths};
 
 use crate::checking::Written;
 use crate::limits::{MAX_FAMILY, MAX_MASK, MAX_MODEL, MAX_NAME};
@@ -10,6 +14,7 @@ use crate::name::{Mask, Name};
 use crate::tables::{AccessRow, FamilyRow, GroupRow, Level};
 use crate::text::Text;
 use crate::written::{WrittenAccess, WrittenFamily, WrittenGroup};
+use std::cmp::Ordering;
 
 /// Whether a number is at least and at most these.
 fn is_between(least: u32, most: u32, number: i64) -> bool
@@ -48,6 +53,14 @@ impl Written for WrittenGroup {
 
     ghost same_key = { same_group };
 
+    ghost has_keys = { true };
+
+    ghost key_cmp = { group_key_cmp };
+
+    ghost keys_are_ordered = { group_key_total };
+
+    ghost same_where_equal = { group_key_ties };
+
     fn has_right_lengths(&self) -> bool {
         self.name.has_length(1, MAX_NAME) && self.group.has_length(1, MAX_NAME)
     }
@@ -64,8 +77,14 @@ impl Written for WrittenGroup {
         }
     }
 
-    fn is_same_key(one: &GroupRow, other: &GroupRow) -> bool {
-        one.model == other.model && one.name.is(&other.name)
+    fn has_keys() -> bool {
+        true
+    }
+
+    fn cmp_key(one: &GroupRow, other: &GroupRow) -> Ordering {
+        one.model
+            .cmp(&other.model)
+            .then(one.name.as_bytes().cmp(other.name.as_bytes()))
     }
 }
 
@@ -79,6 +98,14 @@ impl Written for WrittenAccess {
     ghost row_of = { access_row };
 
     ghost same_key = { same_access };
+
+    ghost has_keys = { true };
+
+    ghost key_cmp = { access_key_cmp };
+
+    ghost keys_are_ordered = { access_key_total };
+
+    ghost same_where_equal = { access_key_ties };
 
     fn has_right_lengths(&self) -> bool {
         self.group.has_length(1, MAX_NAME)
@@ -111,11 +138,16 @@ impl Written for WrittenAccess {
         }
     }
 
-    fn is_same_key(one: &AccessRow, other: &AccessRow) -> bool {
-        one.group.is(&other.group)
-            && one.prefix.is(&other.prefix)
-            && one.model == other.model
-            && one.level.number() == other.level.number()
+    fn has_keys() -> bool {
+        true
+    }
+
+    fn cmp_key(one: &AccessRow, other: &AccessRow) -> Ordering {
+        let group = one.group.as_bytes().cmp(other.group.as_bytes());
+        let prefix = one.prefix.as_bytes().cmp(other.prefix.as_bytes());
+        let model = one.model.cmp(&other.model);
+        let level = one.level.number().cmp(&other.level.number());
+        group.then(prefix).then(model).then(level)
     }
 }
 
@@ -129,6 +161,14 @@ impl Written for WrittenFamily {
     ghost row_of = { family_row };
 
     ghost same_key = { same_family };
+
+    ghost has_keys = { true };
+
+    ghost key_cmp = { family_key_cmp };
+
+    ghost keys_are_ordered = { family_key_total };
+
+    ghost same_where_equal = { family_key_ties };
 
     fn has_right_lengths(&self) -> bool {
         self.view.has_length(1, MAX_NAME)
@@ -149,8 +189,16 @@ impl Written for WrittenFamily {
         }
     }
 
-    fn is_same_key(one: &FamilyRow, other: &FamilyRow) -> bool {
-        one.view.is(&other.view) && one.subtree.as_slice() == other.subtree.as_slice()
+    fn has_keys() -> bool {
+        true
+    }
+
+    fn cmp_key(one: &FamilyRow, other: &FamilyRow) -> Ordering {
+        let view = one.view.as_bytes();
+        let other_view = other.view.as_bytes();
+        let long = view.len().cmp(&other_view.len());
+        let subtree = one.subtree.as_slice().cmp(other.subtree.as_slice());
+        long.then(view.cmp(other_view)).then(subtree)
     }
 }
 
@@ -165,6 +213,14 @@ impl Written for Text {
 
     ghost same_key = { λ a b. false };
 
+    ghost has_keys = { false };
+
+    ghost key_cmp = { slice_cmp nat_cmp };
+
+    ghost keys_are_ordered = { nat_list_cmp_total };
+
+    ghost same_where_equal = { λ a b. refl };
+
     fn has_right_lengths(&self) -> bool {
         self.has_length(0, MAX_NAME)
     }
@@ -177,7 +233,11 @@ impl Written for Text {
         Name::of(self.as_str())
     }
 
-    fn is_same_key(_one: &Name, _other: &Name) -> bool {
+    fn has_keys() -> bool {
         false
+    }
+
+    fn cmp_key(one: &Name, other: &Name) -> Ordering {
+        one.as_bytes().cmp(other.as_bytes())
     }
 }
