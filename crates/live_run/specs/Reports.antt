@@ -1,5 +1,6 @@
 -- What a report says of the lines of a run, and why there is none.
 use Rattle.std.specs.Prelude.{◌≡◌, ◌⊎◌, ℕ, ◌+◌, List, [], ◌∷◌, ◌++◌, Option, Some, None, All, IsPermutation, min}
+use Rattle.std.specs.List.Sorted.{IsNonDecreasingBy}
 use Rattle.wire_core.specs.declared.wire.WireFault.{WireFault}
 use Rattle.history_core.specs.Comparing.{Rises, IsFitting, BreaksFirst, count_older}
 use Rattle.history_core.specs.History.{History}
@@ -103,10 +104,16 @@ pub record IsReport (h : History) (runs : Runs) (report : Report) : Type 0 where
   pub older_are : report.older ≡ count_older h.base_number sorted
   pub drops_are : report.drops ≡ count_up_to_max (refused_by runs.workers.items)
 
--- The receipts, sorted, do not agree with the history, and this is the first number at which.
+-- These receipts, by rising number. Two may have one number.
+pub record IsByNumber (receipts sorted : List Receipt) : Type 0 where
+  pub same : IsPermutation receipts sorted
+  pub rises : IsNonDecreasingBy (λ r. r.number) sorted
+
+-- The receipts, by rising number, do not agree with the history, and this is the first number at
+-- which: the least of a receipt that neither stands nor is older, or that two receipts have.
 pub record Disagrees (h : History) (receipts : List Receipt) (number : ℕ) : Type 0 where
   pub sorted : List Receipt
-  pub same : IsPermutation receipts sorted
+  pub by_number : IsByNumber receipts sorted
   pub mismatch : Mismatch
   pub number_is : mismatch.0 ≡ number
   pub breaks : BreaksFirst h.base_number h.entries sorted mismatch

@@ -59,9 +59,9 @@ fn agreement_of<O: MibObject>(
     else {
         return Ok(None);
     };
-    if receipts.sort_by_key(|receipt| receipt.number).is_err() {
+    let Ok(()) = receipts.sort_by_key(|receipt| receipt.number) else {
         return Ok(None);
-    }
+    };
     let entries = receipts.len() as u64;
     match kept.compare(receipts.as_slice()) {
         Ok(Tally { older, .. }) => Ok(Some(Agreement {
