@@ -1,7 +1,8 @@
-//! Tests of views of many families: what decides on a name, beside a plain scan of all families.
+//! Tests of views of many families: what decides on a name, beside a plain scan of all families;
+//! and of policies of many rows, in whatever order.
 //!
 //! # Entry points
-//! None: the tests call what `vacm_core` offers.
+//! None: the tests call what `vacm_core` and `community_core` offer.
 //!
 //! # Definitions
 //! None.
@@ -17,5 +18,7 @@
 mod drawn;
 #[cfg(test)]
 mod many_families;
+#[cfg(test)]
+mod many_rows;
 #[cfg(test)]
 mod scan;
