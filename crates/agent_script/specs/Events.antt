@@ -14,8 +14,9 @@ pub data Met : Type 0 where
   -- there was no memory, and it was not entered
   short : Met
 
--- An event may meet this: what its step may, each call of a device failing exactly where the plan of
--- its object says so, if that has one; or want of memory, where it takes some or the base is to move.
+-- An event may meet this: what its step may, each call of a device failing exactly where the plan
+-- of its object says so, if that has one; or want of memory, where it takes some or the base is to
+-- move.
 abbrev pub MayMeetEvent : History → Event → Met → Type 0
 MayMeetEvent h e (entered notes) =
     MayNote (rows_of h.objects) h.world e notes
