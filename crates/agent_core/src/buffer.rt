@@ -1,12 +1,14 @@
 //! What an event gives to send: the room for one reply, and what is put into it (RFC 3416, 4.2:
 //! tooBig), and the BPDUs of the ports.
 ghost use Rattle.std.specs.Prelude.{◌≡◌, ◌≤◌, ℤ, [], length, pos, take};
+ghost use Rattle.std.specs.Option.{option_copied};
 ghost use Rattle.message_core.specs.Canon.{canon_reply, answer_to};
 ghost use Rattle.message_core.specs.Encodable.{AreEncodable};
 ghost use Rattle.message_core.specs.declared.limits.TheConstants.{MAX_COMMUNITY};
 ghost use Rattle.agent_core.specs.Replies.{reply_within_limit};
 ghost use Rattle.agent_core.specs.Sets.{is_too_long, too_long_reply};
 ghost use Rattle.agent_core.specs.Answers.{IsSent};
+ghost use Rattle.agent_core.specs.Buffered.{bpdu_of};
 
 use crate::sent_reply::SentReply;
 use arrayvec::ArrayVec;
@@ -66,6 +68,14 @@ impl Buffer {
         ensures most { length result.now ≤ MAX_REPLY }
     {
         &self.octets[..self.length]
+    }
+
+    /// What a port sends, if it sends something. Ports count from 1.
+    pub fn bpdu(&self, port: u16) -> Option<&Bpdu>
+        ensures { option_copied result ≡ bpdu_of self.now.bpdus port }
+    {
+        let place = usize::from(port).checked_sub(1)?;
+        self.bpdus.as_slice().get(place)?.as_ref()
     }
 
     /// What the ports send, from port 1 on; none where a Set settled nothing (IEEE 802.1D-2004,

@@ -10,8 +10,9 @@
 //! [`short_reply`] writes the reply for a want of memory, and takes none. Under any [`View`]
 //! [`get`] answers from any [`Source`], and [`get_next`] and [`get_bulk`] from any [`Successors`],
 //! of which they can ask nothing but the next instance: each such look is a step. [`Answered`] is
-//! what `answer` gives, [`PolicyView`] the [`View`] of the tables of access control, [`NOWHERE`]
-//! the note of a walk that has found nothing yet.
+//! what `answer` gives, with an [`Audit`], whose line [`audit_line`] writes; [`PolicyView`] the
+//! [`View`] of the tables of access control, [`NOWHERE`] the note of a walk that has found nothing
+//! yet.
 //!
 //! # Definitions
 //! `specs/Answers.antt`: what objects show of a world, and the step; `specs/Replies.antt`: replies
@@ -52,6 +53,7 @@ mod whole;
 
 pub use answered::Answered;
 pub use answering::{answer, short_reply};
+pub use audit_core::{Audit, audit_line};
 pub use buffer::Buffer;
 pub use bulk::get_bulk;
 pub use getting::get;

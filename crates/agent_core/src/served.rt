@@ -56,8 +56,7 @@ pub(crate) fn object_in<O: MibObject>(
     ensures apart { AreApart (prefixes_of (rows_of registry.now)) }
 {
     registry.known(world);
-    let mut near = NOWHERE;
-    match registry.owner(name.as_slice(), &mut near) {
+    match registry.owner(name.as_slice()) {
         None => Ok(None),
         Some(prefix) => Ok(Some(object_name(alloc, prefix)?)),
     }
@@ -134,12 +133,12 @@ impl<O: MibObject, L: Ledger> Source<L> for Served<'_, O> {
         self.registry.known(self.world);
         let name = name.as_slice();
         let mut near = NOWHERE;
-        let Some(prefix) = self.registry.owner(name, &mut near) else {
+        let Some(prefix) = self.registry.owner_near(name, &mut near) else {
             return Ok(None);
         };
         if self.passes_over(prefix) {
             return Ok(None);
         }
-        Ok(self.registry.read(alloc, self.world, name, near))
+        Ok(self.registry.read_near(alloc, self.world, name, near))
     }
 }

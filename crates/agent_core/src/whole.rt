@@ -3,7 +3,7 @@
 ghost use Rattle.std.specs.Prelude.{◌≡◌};
 
 use crate::served::object_in;
-use crate::source::{NOWHERE, Source, Successors};
+use crate::source::{Source, Successors};
 use message_core::{Binding, Value};
 use oid_core::Oid;
 use setphase_core::{MibObject, Registry, World};
@@ -53,9 +53,6 @@ impl<O: MibObject, L: Ledger> Source<L> for Whole<'_, O> {
     }
 
     fn get(&self, alloc: Global, name: &Oid) -> Result<Option<Value>, AllocError> {
-        Ok(
-            self.registry
-                .read(alloc, self.world, name.as_slice(), NOWHERE),
-        )
+        Ok(self.registry.read(alloc, self.world, name.as_slice()))
     }
 }

@@ -1,6 +1,6 @@
 //! Tests of answers over managed objects and the world of a bridge: whole requests, what is read
-//! under a view, also one that hides whole objects, walks over successors alone, and the reply for
-//! a want of memory.
+//! under a view, also one that hides whole objects, walks over successors alone, the reply for a
+//! want of memory, and what a buffer lends of what the ports send.
 //!
 //! # Entry points
 //! None: the tests call what `agent_core` offers.
@@ -15,6 +15,8 @@
 //! Anything but what each test compares.
 #![tactic(auto)]
 
+#[cfg(test)]
+mod buffers;
 #[cfg(test)]
 mod hiding;
 #[cfg(test)]

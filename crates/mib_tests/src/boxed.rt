@@ -7,8 +7,8 @@ use setphase_core::{Column, MibObject, Registry, RegistryFault, are_named};
 use std::alloc::Global;
 use std::test::Fail;
 
-// The objects' names behind dot1dBridge (RFC 4188, RFC 4318).
-const NAMES: [&str; 51] = [
+/// The objects' names behind dot1dBridge (RFC 4188, RFC 4318).
+pub const NAMES: [&str; 51] = [
     "1.1",
     "1.2",
     "1.3",

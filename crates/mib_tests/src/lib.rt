@@ -1,6 +1,6 @@
 //! Tests of the 51 objects of a bridge: what a walk over all of them shows, what a registry makes
-//! of them as boxed ones, what each of them reserves for a Set, and Sets of one of them whose
-//! device fails.
+//! of them as boxed ones, in how many comparisons it finds the object of a name, what each of them
+//! reserves for a Set, and Sets of one of them whose device fails.
 //!
 //! # Entry points
 //! None: the tests call what `object_list` and `setphase_core` offer.
@@ -22,6 +22,8 @@ mod boxed;
 mod in_use;
 #[cfg(test)]
 mod opening;
+#[cfg(test)]
+mod owners;
 #[cfg(test)]
 mod places;
 #[cfg(test)]

@@ -91,7 +91,7 @@ pub fn walk_all(alloc: Global, world: &World) -> Result<Vec<u8>, Fail> {
 /// Appends what an object shows under a name: a space, the letter of the type, a space and the
 /// value, or nothing.
 pub fn say_at(alloc: Global, world: &World, name: &[u32], text: &mut Vec<u8>) -> Result<(), Fail> {
-    match registry(alloc)?.read(alloc, world, name, 0) {
+    match registry(alloc)?.read(alloc, world, name) {
         Some(value) => say_value(&value, text),
         None => Ok(()),
     }

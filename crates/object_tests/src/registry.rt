@@ -8,6 +8,14 @@ use std::alloc::Global;
 use std::process::Abort;
 use std::test::Fail;
 
+// The number of a value, or 0.
+fn number_in(value: Option<Value>) -> i32 {
+    match value {
+        Some(Value::Integer(number)) => number,
+        _ => 0,
+    }
+}
+
 /// The number that stands under a name, or 0.
 pub fn number_at<O: MibObject>(
     alloc: Global,
@@ -15,10 +23,7 @@ pub fn number_at<O: MibObject>(
     world: &World,
     name: &[u32],
 ) -> i32 {
-    match registry.read(alloc, world, name, usize::MAX) {
-        Some(Value::Integer(number)) => number,
-        _ => 0,
-    }
+    number_in(registry.read(alloc, world, name))
 }
 
 // The last two numbers of the name that follows a name, or two zeros.
@@ -47,6 +52,21 @@ fn reads<O: MibObject>(alloc: Global, registry: &Registry<O>, world: &World) -> 
     ]
 }
 
+// The same, by a place near which the objects may stand.
+fn reads_near<O: MibObject>(
+    alloc: Global,
+    registry: &Registry<O>,
+    world: &World,
+    near: usize,
+) -> [i32; 4] {
+    [
+        number_in(registry.read_near(alloc, world, &[1, 3, 1, 0], near)),
+        number_in(registry.read_near(alloc, world, &[1, 3, 2, 2], near)),
+        number_in(registry.read_near(alloc, world, &[1, 3, 2, 3], near)),
+        number_in(registry.read_near(alloc, world, &[1, 3, 3, 0], near)),
+    ]
+}
+
 // What follows four names.
 fn follows<O: MibObject>(
     alloc: Global,
@@ -69,6 +89,9 @@ pub fn walks<O: MibObject>(rt: &impl Abort, alloc: Global, objects: Vec<O>) -> R
     registry.known(&world);
     assert_eq!(rt; registry.len(), 3);
     assert_eq!(rt; reads(alloc, &registry, &world), [2, 2, 0, 0]);
+    for near in [0, 1, 3, usize::MAX] {
+        assert_eq!(rt; reads_near(alloc, &registry, &world, near), [2, 2, 0, 0]);
+    }
     assert_eq!(rt;
         follows(alloc, &registry, &world)?,
         [(1, 0), (2, 1), (4, 0), (0, 0)]
@@ -101,14 +124,29 @@ fn refuses_objects_out_of_order(rt: HostRuntime) -> Result<(), Fail> {
     Ok(())
 }
 
-// The last number of the owner's name, or 0 where there is no owner, looked for near this place; and
-// the place that is left.
-fn owner_of<O: MibObject>(registry: &Registry<O>, name: &[u32], near: usize) -> (u32, usize) {
-    let mut place = near;
-    match registry.owner(name, &mut place) {
-        Some([_, _, last]) => (*last, place),
-        _ => (0, place),
+// The last number of an owner's name, or 0 where there is no owner.
+fn last_of(owner: Option<&[u32]>) -> u32 {
+    match owner {
+        Some([_, _, last]) => *last,
+        _ => 0,
     }
+}
+
+// The same of the owner of a name near this place, and the place that is left.
+fn owner_near<O: MibObject>(registry: &Registry<O>, name: &[u32], near: usize) -> (u32, usize) {
+    let mut place = near;
+    let owner = last_of(registry.owner_near(name, &mut place));
+    (owner, place)
+}
+
+// The owners of four names, near this place, and the places that are left.
+fn owners_near<O: MibObject>(registry: &Registry<O>, near: usize) -> [(u32, usize); 4] {
+    [
+        owner_near(registry, &[1, 3, 2, 7], near),
+        owner_near(registry, &[1, 3, 1], near),
+        owner_near(registry, &[1, 3, 3], near),
+        owner_near(registry, &[1, 3], near),
+    ]
 }
 
 #[test]
@@ -117,14 +155,14 @@ fn finds_the_owner_of_a_name(rt: HostRuntime) -> Result<(), Fail> {
     objects.push(make_plain(rt.alloc(), 1, false)?)?;
     objects.push(make_plain(rt.alloc(), 2, true)?)?;
     let registry = Registry::new(objects).ok().ok_or("a registry")?;
+    assert_eq!(rt; last_of(registry.owner(&[1, 3, 2, 7])), 2);
+    assert_eq!(rt; last_of(registry.owner(&[1, 3, 1])), 1);
+    assert_eq!(rt; last_of(registry.owner(&[1, 3, 3])), 0);
     for near in [0, 1, 2, usize::MAX] {
-        let owners = [
-            owner_of(&registry, &[1, 3, 2, 7], near),
-            owner_of(&registry, &[1, 3, 1], near),
-            owner_of(&registry, &[1, 3, 3], near),
-            owner_of(&registry, &[1, 3], near),
-        ];
-        assert_eq!(rt; owners, [(2, 1), (1, 0), (0, 2), (0, 0)]);
+        assert_eq!(rt;
+            owners_near(&registry, near),
+            [(2, 1), (1, 0), (0, 2), (0, 0)]
+        );
     }
     Ok(())
 }

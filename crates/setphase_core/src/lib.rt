@@ -6,7 +6,8 @@
 //! key; `try_copy`, and `flat`, which gives a [`FlatWorld`] with `same`, to be kept and compared.
 //! [`MibObject`]: a managed object: what it shows, by `prefix`, `read` and `next`; and what a Set
 //! does to it, by `test`, `commit`, `undo`, `release`, `held` and `arm`; a boxed one is one too.
-//! [`Registry`]: objects by rising name, with `owner`, `owner_steps`, `read`, `next`, and
+//! [`Registry`]: objects by rising name, with `owner`, `read`, `next`; `owner_near`, `read_near`,
+//! by a place near which the object may stand; `owner_steps`, which counts its comparisons; and
 //! `next_open`, which passes over objects as a whole by a test of their names, a [`Passing`];
 //! `known` hands on that no object's name begins another's and that what they show can be served;
 //! `held`, `release` and `arm` of all objects. [`are_named`]: whether objects have names that a

@@ -8,14 +8,14 @@ ghost use Rattle.setphase_core.specs.Searching.{least_comparisons};
 
 use crate::object::MibObject;
 use crate::passing::{Passing, next_open_from};
-use crate::search::{owner_name, place_near, place_of, place_uncounted, start_of, value_there};
+use crate::search::{owner_name, place_by_search, place_near, place_of, start_of, value_there};
 use crate::walk::next_from;
 use crate::world::World;
 use message_core::{Binding, Value};
 use oid_core::{begins, precedes};
 use std::alloc::{AllocError, Global};
-use std::marker::{Brand, Model};
-use std::sync::ledger::{Blank, Ledger};
+use std::marker::Model;
+use std::sync::ledger::Ledger;
 use steps::Steps;
 use thiserror::Error;
 
@@ -118,12 +118,20 @@ impl<O: MibObject> Registry<O> {
     }
 
     /// The name of the object whose name begins a name, where there is one. It takes no memory.
+    pub fn owner(&self, name: &[u32]) -> Option<&[u32]>
+        ensures { option_copied result ≡ owner_of (rows_of self.now) name.now }
+    {
+        let objects = self.objects.as_slice();
+        owner_name(objects, name, place_by_search(objects, name))
+    }
+
+    /// The same, by a place near which the object may stand. It takes no memory.
     ///
     /// `near` may be any number, and only time hangs on it: where it is the place of that object,
     /// or the one before, no search is made. A number is left there for the next call, on which
     /// only time hangs as well. It is meant to be the object's place, or where no object has the
     /// name, the place of the first one behind it. No clause holds it; a test does.
-    pub fn owner(&self, name: &[u32], near: &mut usize) -> Option<&[u32]>
+    pub fn owner_near(&self, name: &[u32], near: &mut usize) -> Option<&[u32]>
         ensures { option_copied result ≡ owner_of (rows_of self.now) name.now }
     {
         let objects = self.objects.as_slice();
@@ -132,9 +140,9 @@ impl<O: MibObject> Registry<O> {
         owner_name(objects, name, place)
     }
 
-    /// The same by a search, of which each comparison with an object's name is a step: of n objects
-    /// no more than s steps with 2^s <= 2n + 1, and no fewer than the comparisons without which the
-    /// object cannot be known.
+    /// The same as `owner`, where each comparison with an object's name is a step: of n objects no more
+    /// than s steps with 2^s <= 2n + 1, and no fewer than the comparisons without which the object
+    /// cannot be known.
     pub fn owner_steps<L: Ledger>(&self, name: &[u32], steps: &mut Steps<L>) -> Option<&[u32]>
         ensures owner { option_copied result ≡ owner_of (rows_of self.now) name.now }
         ensures least { steps.old + least_comparisons (prefixes_of (rows_of self.now)) name.now
@@ -147,11 +155,25 @@ impl<O: MibObject> Registry<O> {
     }
 
     /// The value of the instance of that name, where there is one. It takes no memory.
+    pub fn read(&self, alloc: Global, world: &World, name: &[u32]) -> Option<Value>
+        ensures { result ≡ value_of (instances (rows_of self.now) world.now) name.now }
+    {
+        let objects = self.objects.as_slice();
+        value_there(alloc, objects, world, name, place_by_search(objects, name))
+    }
+
+    /// The same, by a place near which the object may stand. It takes no memory.
     ///
     /// `near` may be any number, and only time hangs on it: where it is the place of the object
-    /// whose name begins this one, or the one before, no search is made. The number that `owner`
-    /// leaves for the same name is that place.
-    pub fn read(&self, alloc: Global, world: &World, name: &[u32], near: usize) -> Option<Value>
+    /// whose name begins this one, or the one before, no search is made. The number that
+    /// `owner_near` leaves for the same name is that place.
+    pub fn read_near(
+        &self,
+        alloc: Global,
+        world: &World,
+        name: &[u32],
+        near: usize,
+    ) -> Option<Value>
         ensures { result ≡ value_of (instances (rows_of self.now) world.now) name.now }
     {
         let objects = self.objects.as_slice();
@@ -174,7 +196,7 @@ impl<O: MibObject> Registry<O> {
             → IsOk result }
     {
         let objects = self.objects.as_slice();
-        let place = place_uncounted::<O, Brand>(objects, name, Blank::new(1));
+        let place = place_by_search(objects, name);
         next_from(alloc, objects, world, name, start_of(objects, name, place))
     }
 
@@ -185,7 +207,7 @@ impl<O: MibObject> Registry<O> {
     ///
     /// `near` may be any number, and only time hangs on it: where it is the place of the object
     /// whose name begins this one, or the one before, no search is made. A number is left there as
-    /// by `owner`: the object's place, or where no object has the name, the place of the first one
+    /// by `owner_near`: the object's place, or where no object has the name, the place of the first one
     /// behind it. A walk hands it on to its next call.
     pub fn next_open<P: Passing, L: Ledger>(
         &self,

@@ -67,7 +67,7 @@ pub fn place_of<O: MibObject, L: Ledger>(
     Err(low)
 }
 
-/// The same, where nobody counts: the ledger is a new one.
+/// The same, where nobody counts: the ledger is that of the blank.
 pub fn place_uncounted<O: MibObject, L: Ledger>(
     objects: &[O],
     name: &[u32],
@@ -81,6 +81,14 @@ pub fn place_uncounted<O: MibObject, L: Ledger>(
 {
     let mut steps: Steps<L> = Steps::new(blank);
     place_of(objects, name, &mut steps)
+}
+
+/// The same, where nobody counts: the ledger is a new one.
+pub fn place_by_search<O: MibObject>(objects: &[O], name: &[u32]) -> Result<usize, usize>
+    requires { first_fault (rows_of (map O.state objects.now)) ≡ None }
+    ensures { IsPlace (prefixes_of (rows_of (map O.state objects.now))) name.now result }
+{
+    place_uncounted::<O, Brand>(objects, name, Blank::new(1))
 }
 
 // Whether the object at this place has a name that begins a name: so that is the name's place.
@@ -107,7 +115,7 @@ pub fn place_near<O: MibObject>(objects: &[O], name: &[u32], near: usize) -> Res
     if behind < objects.len() && is_owner(objects, name, behind) {
         return Ok(behind);
     }
-    place_uncounted::<O, Brand>(objects, name, Blank::new(1))
+    place_by_search(objects, name)
 }
 
 /// The name of the object at the place of a name.

@@ -1,4 +1,0 @@
-use Rattle.setphase_core.proofs.registry.Registry.next.Given as goal
-
-abbrev pub ghosts-place_uncounted : goal.ghosts-place_uncounted
-ghosts-place_uncounted g a = record { name = a.blank.name; parts = a.blank.parts }
