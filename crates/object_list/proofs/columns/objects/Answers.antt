@@ -1,4 +1,4 @@
-use Rattle.std.proofs.Common.{◌∙◌, Some, map, refl, sym, ap, subst, arith}
+use Rattle.std.proofs.Common.{◌∙◌, Some, refl, sym, ap, subst, arith}
 use Rattle.setphase_core.specs.declared.column.Column.TheVariants as column
 use Rattle.setphase_core.specs.declared.column.Base.TheVariants as base
 use Rattle.object_list.specs.declared.object.Object.TheVariants as object
