@@ -186,8 +186,8 @@ impl<O: MibObject> Kept<O> {
         let _ = &self.first;
     }
 
-    /// Arms the objects' devices with a plan, each with all of it ([`MibObject::arm`]). Nothing else
-    /// changes. It takes no memory.
+    /// Arms the objects' devices with a plan, each with all of it ([`MibObject::arm`]). Nothing
+    /// else changes. It takes no memory.
     pub fn arm(&mut self, plan: u64)
         ensures { self.new ≡ history_after_arm plan self.old }
     {

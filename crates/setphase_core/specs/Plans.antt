@@ -2,8 +2,8 @@
 use Rattle.std.specs.Prelude.{◌≡◌, ℕ, ◌/◌, ◌%◌, ◌^◌, ◌-◌, ◌==◌, ◌&&◌, nat_lt, Bool, Option, IfSome}
 use Rattle.std.specs.Option.{option_map}
 
--- Bit k - 1 of a plan says that the k-th call from now fails: behind one call, half of it is left. A
--- device without plans has none.
+-- Bit k - 1 of a plan says that the k-th call from now fails: behind one call, half of it is left.
+-- A device without plans has none.
 abbrev pub plan_after_call : Option ℕ → Option ℕ
 plan_after_call plan = option_map (λ p. p / 2) plan
 
@@ -11,8 +11,8 @@ plan_after_call plan = option_map (λ p. p / 2) plan
 abbrev pub plan_after_arm : Option ℕ → ℕ → Option ℕ
 plan_after_arm plan next = option_map (λ p. next) plan
 
--- By this plan the next call of a device that has failed so often fails: the lowest bit says so, and
--- the count of failures has room for one more.
+-- By this plan the next call of a device that has failed so often fails: the lowest bit says so,
+-- and the count of failures has room for one more.
 abbrev pub fails_next : ℕ → ℕ → Bool
 fails_next plan failures = (plan % 2 == 1) && nat_lt failures (2 ^ 64 - 1)
 

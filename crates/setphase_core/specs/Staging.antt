@@ -110,8 +110,8 @@ pub record AreCalled (calls : List CallAt) (os ns : List ObjectState) : Type 0 w
 abbrev pub commit_at : Bool → Staged → CallAt
 commit_at fails e = record { place = e.object; fails = fails }
 
--- The commits of all entries; where that of the entry at place i failed, of those before it, and that
--- one.
+-- The commits of all entries; where that of the entry at place i failed, of those before it, and
+-- that one.
 abbrev pub commits_at : List Staged → Option ℕ → List CallAt
 commits_at es None = map (commit_at false) es
 commits_at es (Some i) = map (commit_at false) (take i es) ++ commit_at true (entry_at es i) ∷ []

@@ -91,8 +91,8 @@ pub trait MibObject: Drop {
     ghost use Rattle.setphase_core.specs.Values.{value_at, index_after};
     ghost use Rattle.setphase_core.specs.Writing.{test_answer};
 
-    // Its name and what it shows, what it has reserved, how often its device has failed, and what is
-    // left of its device's plan.
+    // Its name and what it shows, what it has reserved, how often its device has failed, and what
+    // is left of its device's plan.
     ghost state: { Self → ObjectState };
 
     /// Its name.
