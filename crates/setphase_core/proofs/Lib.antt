@@ -27,6 +27,7 @@ pub mod Stuck
 pub mod Undoes
 pub mod Timers
 pub mod Endings
+pub mod Faults
 pub mod Runs
 pub mod Told
 pub mod Kept

@@ -226,3 +226,8 @@ short_here row rows w n most h = pick (next_of (instances_under row w) n) (next_
 
 pub next-nil : (w : World) (n : List ℕ) → next_of (instances [] w) n ≡ None
 next-nil w n = ap (λ xs. next_of xs n) (instances-nil w)
+
+-- an option that is no Some
+pub none_of : {X : Type 0} (o : Option X) → ((x : X) → o ≡ Some x → ⊥) → None ≡ o
+none_of None h = refl
+none_of (Some x) h = absurd (h x refl)

@@ -287,6 +287,30 @@ module _ (passes : List ℕ → Bool) where
         let ordered : first_fault (row ∷ rest) ≡ None = subst (λ (rs : List ObjectRow). first_fault rs ≡ None) parts e in
         subst (λ (rs : List ObjectRow). Walked rs w n old new) (sym parts) (steps_later row rest w n old new h is (more (ordered_tail row rest ordered)))
 
+  -- What a walk over objects keeps: what is found is what the objects that are left show, and the
+  -- steps that these take complete those of all.
+  pub record IsWalked (rows left : List ObjectRow) (w : World) (n : List ℕ) (old now : ℕ) : Type 0 where
+    pub found : found_open left w n ≡ found_open rows w n
+    pub work : (new : ℕ) → (first_fault left ≡ None → Walked left w n now new) → first_fault rows ≡ None → Walked rows w n old new
+
+  module _ (rows left : List ObjectRow) (row : ObjectRow) (rest : List ObjectRow) (w : World) (n : List ℕ) (parts : left ≡ row ∷ rest) (old now later : ℕ) (walked : IsWalked rows left w n old now) where
+    pub walk_passed : passes row.prefix ≡ true → later ≡ now + 1 → IsWalked rows rest w n old later
+    walk_passed h tick = record {
+      found = sym (ap (λ (rs : List ObjectRow). found_open rs w n) parts ∙ found_passed row rest w n h) ∙ walked.found;
+      work = λ new more e. walked.work new (λ o. walked_passed left row rest w n parts now later new o h tick more) e;
+    }
+
+    pub walk_later : passes row.prefix ≡ false → None ≡ next_of (instances_under row w) n → later ≡ now → IsWalked rows rest w n old later
+    walk_later h is same = record {
+      found = open_later left row rest w n parts h is ∙ walked.found;
+      work = λ new more e. walked.work new (λ o. walked_later left row rest w n parts now new o h is
+          (λ f. subst (λ (s : ℕ). Walked rest w n s new) same (more f))) e;
+    }
+
+  -- behind all objects nothing is found, and no step is left
+  pub walked_end : (left : List ObjectRow) (w : World) (n : List ℕ) (steps : ℕ) → left ≡ [] → Walked left w n steps steps
+  walked_end left w n steps e = subst (λ (rs : List ObjectRow). Walked rs w n steps steps) (sym e) (ap (λ (o : Option Binding). steps + passed_ahead passes [] o) (sym (found_end w n)))
+
   -- ---- the objects in front of the start
 
   abbrev Starts : List ℕ → ℕ → List ObjectRow → Type 0

@@ -1,8 +1,9 @@
 -- Objects at places, by their names.
-use Rattle.std.proofs.Common.{◌≡◌, ℕ, zero, suc, ◌<◌, List, [], ◌∷◌, map, length, take, drop, ◌-◌, length-drop, get_or, refl, sym, ap, ◌∙◌, arith}
+use Rattle.std.proofs.Common.{◌≡◌, ℕ, zero, suc, ◌+◌, ◌<◌, ◌≤◌, List, [], ◌∷◌, map, length, take, drop, ◌-◌, length-drop, get_or, refl, sym, ap, subst, ◌∙◌, arith, add-one, drop-cons}
+use Rattle.std.specs.List.{All}
 use Rattle.std.proofs.Math.Seq.{take-length}
 use Rattle.setphase_core.specs.Objects.{ObjectRow, ObjectState}
-use Rattle.setphase_core.specs.Registry.{rows_of, prefixes_of, AreNamed}
+use Rattle.setphase_core.specs.Registry.{rows_of, prefixes_of, IsNamed, AreNamed}
 use Rattle.setphase_core.specs.Searching.{prefix_at}
 
 module _ {O : Type 0} (state : O → ObjectState) where
@@ -28,6 +29,33 @@ module _ {O : Type 0} (state : O → ObjectState) where
   -- what a slice from a place on has
   pub rows_from : (s : ℕ) (objects : List O) → rows_of (map state (take (length objects - s) (drop s objects))) ≡ drop s (rows_of (map state objects))
   rows_from s objects = ap (λ xs. rows_of (map state xs)) (ap (λ k. take k (drop s objects)) (sym (length-drop s objects)) ∙ take-length (drop s objects)) ∙ rows_drop s objects
+
+  -- the object at a place, and those behind it
+  pub rows_split : (objects : List O) (i : ℕ) (x : O) → i < length objects → x ≡ get_or objects i x → rows_of (map state (drop i objects)) ≡ (state x).row ∷ rows_of (map state (drop (i + 1) objects))
+  rows_split objects i x h e =
+      ap (λ (xs : List O). rows_of (map state xs)) (drop-cons objects i x h ∙ ap (λ (y : O). y ∷ drop (suc i) objects) (sym e) ∙ ap (λ (k : ℕ). x ∷ drop k objects) (sym (add-one i)))
+
+  -- behind all of them there is none
+  pub rows_end : (objects : List O) (i : ℕ) → length objects ≤ i → rows_of (map state (drop i objects)) ≡ []
+  rows_end [] zero h = refl
+  rows_end [] (suc i) h = refl
+  rows_end (x ∷ objects) zero h = absurd (omega (arith, h))
+  rows_end (x ∷ objects) (suc i) h = rows_end objects i (omega (arith, h))
+
+  pub named_there : (objects : List O) (i : ℕ) (x : O) → AreNamed (rows_of (map state objects)) → i < length objects → x ≡ get_or objects i x → IsNamed (state x).row
+  named_there [] i x h l e = absurd (omega (arith, l))
+  named_there (y ∷ objects) zero x h l e = subst (λ (z : O). IsNamed (state z).row) (sym e) h.0
+  named_there (y ∷ objects) (suc i) x h l e = named_there objects i x h.1 (omega (arith, l)) e
+
+  -- each of the objects has a name that a registry asks for, by places and in turn
+  pub all_named : (objects : List O) → All (λ (o : O). IsNamed (state o).row) objects → AreNamed (rows_of (map state objects))
+  all_named [] h = tt
+  all_named (x ∷ objects) h = (h 0 x (omega arith), all_named objects (λ k d l. h (suc k) d (omega (arith, l))))
+
+  pub named_all : (objects : List O) → AreNamed (rows_of (map state objects)) → All (λ (o : O). IsNamed (state o).row) objects
+  named_all [] h k d l = absurd (omega (arith, l))
+  named_all (x ∷ objects) h zero d l = h.0
+  named_all (x ∷ objects) h (suc k) d l = named_all objects h.1 k d (omega (arith, l))
 
 pub named_drop : (s : ℕ) (rows : List ObjectRow) → AreNamed rows → AreNamed (drop s rows)
 named_drop zero rows h = h

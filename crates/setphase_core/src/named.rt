@@ -17,11 +17,9 @@ fn is_named<O: MibObject>(object: &O) -> bool
 /// Whether the name of each object is one that `Registry::new` asks for: it stands under 1.3, and
 /// leaves room for an index of [`MAX_INDEX`](crate::MAX_INDEX) numbers. It is for objects of which
 /// nothing else is known, as boxed ones, and takes no memory.
+#[tactic(auto, using(crate::proofs::Places::all_named, crate::proofs::Places::named_all))]
 pub fn are_named<O: MibObject>(objects: &[O]) -> bool
     ensures { IsTrue result ↔ AreNamed (rows_of (map O.state objects.now)) }
 {
-    match objects.split_first() {
-        None => true,
-        Some((object, others)) => is_named(object) && are_named(others),
-    }
+    objects.iter().all(|object| is_named(object))
 }

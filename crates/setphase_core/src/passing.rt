@@ -74,15 +74,12 @@ fn next_open_in<O: MibObject, P: Passing, L: Ledger>(
         (next_of (open_instances passes rows world.now) name.now)
         ≡ steps.old + count_by (λ row. passes row.prefix) rows }
 {
-    let Some((object, others)) = objects.split_first() else {
-        return Ok(None);
-    };
-    if passing.passes_over(object.prefix()) {
-        steps.tick();
-        return next_open_in(alloc, others, world, name, passing, steps);
+    for object in objects {
+        if passing.passes_over(object.prefix()) {
+            steps.tick();
+        } else if let Some(found) = next_under(alloc, object, world, name)? {
+            return Ok(Some(found));
+        }
     }
-    match next_under(alloc, object, world, name)? {
-        Some(found) => Ok(Some(found)),
-        None => next_open_in(alloc, others, world, name, passing, steps),
-    }
+    Ok(None)
 }

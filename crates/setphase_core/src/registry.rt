@@ -60,19 +60,16 @@ impl<O: MibObject> Model for Registry<O> {
 fn fault_of<O: MibObject>(objects: &[O]) -> Option<RegistryFault>
     ensures { result ≡ first_fault (rows_of (map O.state objects.now)) }
 {
-    let Some((object, others)) = objects.split_first() else {
-        return None;
-    };
-    let Some(next) = others.first() else {
-        return None;
-    };
-    if precedes(next.prefix(), object.prefix()) {
-        Some(RegistryFault::Unsorted)
-    } else if begins(object.prefix(), next.prefix()) {
-        Some(RegistryFault::Nested)
-    } else {
-        fault_of(others)
+    for place in 1..objects.len() {
+        let (object, next) = (&objects[place - 1], &objects[place]);
+        if precedes(next.prefix(), object.prefix()) {
+            return Some(RegistryFault::Unsorted);
+        }
+        if begins(object.prefix(), next.prefix()) {
+            return Some(RegistryFault::Nested);
+        }
     }
+    None
 }
 
 impl<O: MibObject> Registry<O> {

@@ -47,13 +47,12 @@ fn next_in<O: MibObject>(
     ensures inline { HasShortName (next_of (instances (rows_of (map O.state objects.now)) world.now)
         name.now) → IsOk result }
 {
-    let Some((object, others)) = objects.split_first() else {
-        return Ok(None);
-    };
-    match next_under(alloc, object, world, name)? {
-        Some(found) => Ok(Some(found)),
-        None => next_in(alloc, others, world, name),
+    for object in objects {
+        if let Some(found) = next_under(alloc, object, world, name)? {
+            return Ok(Some(found));
+        }
     }
+    Ok(None)
 }
 
 /// The first instance of an object behind a name.

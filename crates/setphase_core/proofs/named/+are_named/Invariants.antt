@@ -1,5 +1,0 @@
-use Rattle.std.proofs.Common.{length}
-use Rattle.setphase_core.proofs.named.+are_named.Given as goal
-
-abbrev pub decreases-are_named : goal.decreases-are_named
-decreases-are_named g l = length l.objects.now
