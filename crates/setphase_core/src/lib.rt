@@ -29,8 +29,8 @@
 //! `specs/Settings.antt`: the settings of a world as a finite map; `specs/Flat.antt`: a policy as
 //! its rows; `specs/Columns.antt`: what each object shows, row by row; `specs/Writing.antt`: how
 //! each is written; `specs/Names.antt`: the objects' names; `specs/Values.antt`: values by index;
-//! `specs/Objects.antt`: an object as plain data; `specs/Plans.antt`: which of the next calls of its
-//! device fail; `specs/Registry.antt`: the order of objects, and all their instances;
+//! `specs/Objects.antt`: an object as plain data; `specs/Plans.antt`: which of the next calls of
+//! its device fail; `specs/Registry.antt`: the order of objects, and all their instances;
 //! `specs/Variables.antt`, `specs/Together.antt`: why a Set is refused, by its variables one by one
 //! and together; `specs/Outcomes.antt`: how it ends; `specs/Calls.antt`: the calls of devices that
 //! it makes, in their order, and what they leave of the objects; `specs/Staging.antt`,
