@@ -1,9 +1,10 @@
 //! The agent, driven by a script from standard input, or served over UDP.
 //!
 //! # Entry points
-//! `main` hands the words of the command line, the 51 objects of `object_list`, the standard streams
-//! and the files of the system to `agent_program::run_words`; where that leaves something to be
-//! served, it serves it over UDP, for its rounds or without an end, and logs what was done.
+//! `main` puts the 51 objects of `object_list` into boxes, and hands them to `run_objects` with the
+//! words of the command line, the standard streams and the files of the system. That runs
+//! `agent_program::run_words`; where it leaves something to be served, it is served over UDP, for its
+//! rounds or without an end, and it is logged what was done.
 //!
 //! # Definitions
 //! None: what the words do stands in `agent_program`.
@@ -13,17 +14,18 @@
 //!
 //! # Not claimed
 //! That the words are those of the command line, that the objects that `main` makes are the 51 of
-//! `object_list`, that it serves what is left to be served, its status then, and what is logged. What
-//! a file of the system holds and a terminal shows.
+//! `object_list`, which driver stands under dot1dStpPortEnable, that what is left to be served is
+//! served, the status then, and what is logged. What a file of the system holds and a terminal
+//! shows.
 #![tactic(auto)]
 
 use agent_program::{
-    Failure, Lasting, Opened, SystemFiles, collect_words, report, run_words, serve_opened,
-    serve_opened_forever,
+    Failure, Lasting, Opened, ReadFile, SystemFiles, asks_to_serve, collect_words, report,
+    run_words, serve_opened, serve_opened_forever,
 };
-use bridge_mib::Planned;
+use bridge_mib::{Planned, PortEnable, Steady};
 use log::Log;
-use object_list::objects;
+use object_list::{COLUMNS, ColumnDescriptor, ENABLE, PlainObject};
 use setphase_core::{MibObject, Registry};
 use std::alloc::Global;
 use std::net::Net;
@@ -35,36 +37,79 @@ use std::{env, io};
 use udp_agent::{any_failed, tell_fault, tell_not_begun, tell_report};
 
 fn main(rt: HostRuntime) -> ExitCode {
-    let mut errors = rt.stderr();
+    let (mut reader, mut writer, mut errors) = (rt.reader(), io::writer(&rt), rt.stderr());
     let words = match read_words(&rt) {
         Ok(words) => words,
-        Err(error) => return ExitCode::from(report(&Failure::from(error), &mut errors).status),
+        Err(error) => return failed(&Failure::from(error), &mut errors),
     };
-    // dot1dStpPortEnable tells this driver. None of its calls fails until the script arms it.
-    let Ok(shown) = objects(rt.alloc(), Planned::new()) else {
-        return ExitCode::from(report(&Failure::Refused, &mut errors).status);
-    };
-    let files = SystemFiles(&rt);
-    let (mut reader, mut writer) = (rt.reader(), io::writer(&rt));
-    let (ended, left) = run_words(
+    let mut objects: Vec<Box<dyn MibObject + Send>> = Vec::new(rt.alloc());
+    for column in COLUMNS {
+        let Ok(object) = Box::new(rt.alloc(), PlainObject::new(ColumnDescriptor(column))) else {
+            return failed(&Failure::Refused, &mut errors);
+        };
+        let Ok(()) = objects.push(object) else {
+            return failed(&Failure::Refused, &mut errors);
+        };
+    }
+    // A served agent has no device that fails; a script has one, which fails where a line says so.
+    if asks_to_serve(&words) {
+        let Ok(object) = Box::new(rt.alloc(), PortEnable::new(Steady)) else {
+            return failed(&Failure::Refused, &mut errors);
+        };
+        objects[ENABLE] = object;
+    } else {
+        let Ok(object) = Box::new(rt.alloc(), PortEnable::new(Planned::new())) else {
+            return failed(&Failure::Refused, &mut errors);
+        };
+        objects[ENABLE] = object;
+    }
+    run_objects(
+        &rt,
         rt.alloc(),
-        &files,
-        shown,
+        &SystemFiles(&rt),
+        objects,
         &words,
         &mut reader,
         &mut writer,
         &mut errors,
-    );
+    )
+}
+
+// Tells of a failure, and gives its exit status.
+fn failed<E: io::Write>(failure: &Failure<'_>, errors: &mut E) -> ExitCode {
+    ExitCode::from(report(failure, errors).status)
+}
+
+// Runs the words over these objects, and serves what they leave to be served.
+fn run_objects<F, M, I, O, E, R>(
+    rt: &R,
+    alloc: Global,
+    files: &F,
+    objects: Vec<M>,
+    words: &[String],
+    reader: &mut I,
+    writer: &mut O,
+    errors: &mut E,
+) -> ExitCode
+where
+    F: ReadFile,
+    M: MibObject + Send,
+    I: io::Read,
+    O: io::Write,
+    E: io::Write,
+    R: Threads + Wait + Net + Clock + Log + Sync,
+{
+    let (ended, left) = run_words(alloc, files, objects, words, reader, writer, errors);
     let Some((registry, opened, lasting)) = left else {
         return ExitCode::from(ended.status);
     };
     let done = match lasting {
-        Lasting::Rounds => serve_rounds(&rt, rt.alloc(), registry, opened),
-        Lasting::Forever => serve_forever(&rt, rt.alloc(), registry, opened),
+        Lasting::Rounds => serve_rounds(rt, alloc, registry, opened),
+        Lasting::Forever => serve_forever(rt, alloc, registry, opened),
     };
     match done {
         Ok(()) => ExitCode::SUCCESS,
-        Err(failure) => ExitCode::from(report(&failure, &mut errors).status),
+        Err(failure) => failed(&failure, errors),
     }
 }
 
