@@ -24,13 +24,13 @@ struct Counting {
 }
 
 impl LineDriver for Counting {
-    ghost use Rattle.std.specs.Prelude.{◌≡◌, Ok};
+    ghost use Rattle.std.specs.Prelude.{◌≡◌, Ok, None};
 
     ghost failures = { λ _. 0 };
 
-    ghost told = { λ _ _ _ answer _. answer ≡ Ok tt };
+    ghost plan_left = { λ _. None };
 
-    ghost armed = { λ _ _ _. Unit };
+    ghost told = { λ _ _ _ answer _. answer ≡ Ok tt };
 
     fn set_enabled(&mut self, _port: u16, _enabled: bool) -> Result<(), DeviceFault> {
         self.calls.fetch_add(1, Ordering::SeqCst);
