@@ -16,14 +16,16 @@
 //! that of `history_core`.
 //!
 //! # Laws
-//! In [`laws`]: how many seconds one line lets pass at most, and how many calls it plans.
+//! In [`laws`]: how many seconds one line lets pass at most, and how many calls it plans. On a run:
+//! where the device of an object takes plans, its calls in Sets fail exactly where what is left of
+//! its plan says so, which each `driver` line puts anew; a device that has failed `u64::MAX` times
+//! fails no more.
 //!
 //! # Not claimed
 //! That a want of memory came only where memory was refused, and that a read failed where the
 //! answer is `Input`: that answer may come before anything is read. How much of what was said is
-//! written where a write failed. That a device really failed where a Set is answered so: of an
-//! object whose device takes plans, it is answered exactly where the plan of the last `driver` line
-//! says so.
+//! written where a write failed. That a device really failed where a Set is answered so, of an
+//! object without a device, or with one that takes no plans.
 #![tactic(auto)]
 
 mod agent;

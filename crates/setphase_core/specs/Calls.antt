@@ -58,7 +58,7 @@ AreByPlan (call ∷ calls) o =
     (is_prefix o.row.prefix call.name ≡ true → IsByPlan o call.fails)
     × AreByPlan calls (object_after_call call o)
 
--- Each call failed exactly where the plan of its object said so, if that has one. So where one
--- object has a plan, the order of its calls shows in which of them failed.
+-- Each call failed exactly where the plan of its object said so, if that has one. So the order of
+-- an object's calls shows wherever its plan says different things of them.
 abbrev pub FollowPlans : List Call → List ObjectState → Type 0
 FollowPlans calls os = AllByRecursion (AreByPlan calls) os

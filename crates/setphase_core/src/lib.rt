@@ -7,7 +7,7 @@
 //! [`MibObject`]: a managed object: what it shows, by `prefix`, `read` and `next`; and what a Set
 //! does to it, by `test`, `commit`, `undo`, `release`, `held` and `arm`; a boxed one is one too.
 //! [`Registry`]: objects by rising name, with `owner`, `read`, `next`; `owner_near`, `read_near`,
-//! by a place near which the object may stand; `owner_steps`, which counts its comparisons; and
+//! by a place near which the object may stand; `owner_steps`, which counts its steps; and
 //! `next_open`, which passes over objects as a whole by a test of their names, a [`Passing`];
 //! `known` hands on that no object's name begins another's and that what they show can be served;
 //! `held`, `release` and `arm` of all objects. [`are_named`]: whether objects have names that a
@@ -51,10 +51,13 @@
 //! whose facts differ from one another.
 //!
 //! # Not claimed
-//! That changed settings are in force: `Bridge::settle` comes behind them. Of objects whose devices
-//! take no plans: which of their calls failed, and so in which order they were made. That the
-//! objects of a program are the 51. dot1dStaticTable (RFC 4188, 1.3.6.1.2.1.17.5.1) is
-//! left out: no address is configured, so it would have no rows.
+//! That changed settings are in force: `Bridge::settle` comes behind them. That an object without a
+//! device, or with one that takes no plans, never fails, and which of its calls fail. In which order
+//! the devices are called, but where it shows in which calls of one plan failed: of two objects, and
+//! of calls of which the plan says the same, no clause tells. That a step of `owner_steps` is a
+//! comparison: the clauses say how many there are at least and at most. Which number a call leaves
+//! for the next one as `near`. That the objects of a program are the 51. dot1dStaticTable (RFC 4188,
+//! 1.3.6.1.2.1.17.5.1) is left out: no address is configured, so it would have no rows.
 #![tactic(auto)]
 
 mod boxed;

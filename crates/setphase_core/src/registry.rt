@@ -137,9 +137,9 @@ impl<O: MibObject> Registry<O> {
         owner_name(objects, name, place)
     }
 
-    /// The same as `owner`, where each comparison with an object's name is a step: of n objects no
-    /// more than s steps with 2^s <= 2n + 1, and no fewer than the comparisons without which the
-    /// object cannot be known.
+    /// The same as `owner`, by counted steps, one for each comparison with an object's name: of n
+    /// objects no more than s steps with 2^s <= 2n + 1, and no fewer than the comparisons without
+    /// which the object cannot be known.
     pub fn owner_steps<L: Ledger>(&self, name: &[u32], steps: &mut Steps<L>) -> Option<&[u32]>
         ensures owner { option_copied result ≡ owner_of (rows_of self.now) name.now }
         ensures least { steps.old + least_comparisons (prefixes_of (rows_of self.now)) name.now
@@ -163,7 +163,7 @@ impl<O: MibObject> Registry<O> {
     ///
     /// `near` may be any number, and only time hangs on it: where it is the place of the object
     /// whose name begins this one, or the one before, no search is made. The number that
-    /// `owner_near` leaves for the same name is that place.
+    /// `owner_near` leaves for the same name is meant to be that place.
     pub fn read_near(
         &self,
         alloc: Global,

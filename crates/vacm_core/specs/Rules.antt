@@ -44,8 +44,8 @@ pub record IsFirstWrong {W R : Type 0} (rules : Rules W R) (rows : List W) (n : 
 abbrev pub AreRight : {W R : Type 0} → Rules W R → List W → Type 0
 AreRight rules rows = (k : ℕ) → wrong_at rules rows k ≡ None
 
--- There is a first row, and nothing is wrong with it. A row is kept only where nothing is wrong
--- with it and with the rows before it, so only then does checking the rows take memory.
+-- There is a first row, and nothing is wrong with it. Rows are kept up to the first that is wrong by
+-- itself, so only then does checking the rows take memory.
 abbrev pub BeginsRight : {W R : Type 0} → Rules W R → List W → Type 0
 BeginsRight rules [] = ⊥
 BeginsRight rules (w ∷ ws) = wrong_of rules [] w ≡ None
