@@ -4,6 +4,7 @@ use Rattle.std.specs.Cmp.Lexicographic.{slice_cmp}
 use Rattle.std.specs.Ordering.{nat_cmp, is_lt}
 use Rattle.std.specs.declared.cmp.Ordering.{Ordering}
 use Rattle.vacm_core.specs.declared.limits.TheConstants.{MAX_NAME}
+use Rattle.vacm_core.specs.declared.tables.FamilyRow.{FamilyRow}
 use Rattle.vacm_core.specs.Best.{unbeaten}
 use Rattle.vacm_core.specs.Rules.{Rules, rules_of}
 use Rattle.vacm_core.specs.Tables.{Tables, KeysDiffer, AreWellFormed}
@@ -49,6 +50,10 @@ pub record AreSound (rows : List CommunityRow) : Type 0 where
 pub record PolicyTables : Type 0 where
   pub communities : List CommunityRow
   pub vacm : Tables
+
+-- the policy with these families
+abbrev pub with_families : PolicyTables → List FamilyRow → PolicyTables
+with_families p rows = record p { vacm = record (p.vacm) { families = rows } }
 
 abbrev pub has_name : List ℕ → CommunityRow → Bool
 has_name name row = bytes_eq row.name name

@@ -3,7 +3,8 @@
 //!
 //! # Entry points
 //! `Policy::caller` says whom a community stands for; `Policy::new` takes written communities or
-//! names the first fault. `Policy::try_copy` is a copy, and `Policy::rows` its rows as they are
+//! names the first fault; `Policy::put_mask` and `Policy::put_type` change a family row where it
+//! stands. `Policy::try_copy` is a copy, and `Policy::rows` its rows as they are
 //! written, of which `PolicyRows::same` tells whether two are the same. A [`Caller`] is whom a name
 //! stands for, by its [`CommunityRow`]; a [`WrittenCommunity`] is a row as it is written, whose
 //! name has at most [`MAX_COMMUNITY_NAME`] octets. A [`PolicyFault`] is want of memory, or the

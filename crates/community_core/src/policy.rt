@@ -1,5 +1,5 @@
 //! A policy: the communities, and the tables of access control.
-ghost use Rattle.std.specs.Prelude.{◌≡◌, ◌≢◌, ◌<◌, ◌≤◌, length, map, slice_get, Some, IfOk, IfErr, IfSome, OnOk};
+ghost use Rattle.std.specs.Prelude.{◌≡◌, ◌≢◌, ◌<◌, ◌≤◌, length, map, slice_get, option_map, Some, IfOk, IfErr, IfSome, OnOk};
 ghost use Rattle.vacm_core.specs.Rules.{AreRight, BeginsRight};
 ghost use Rattle.community_core.specs.Faults.{IsCommunityFault};
 ghost use Rattle.community_core.specs.Communities.{community_row, community_rules};
@@ -10,7 +10,7 @@ use crate::community::{
 use crate::fault::{PolicyFault, PolicyTable};
 use std::alloc::{AllocError, Global};
 use std::marker::Model;
-use vacm_core::{Rows, Same, Vacm, VacmRows, checked_rows, copied_rows};
+use vacm_core::{Mask, Rows, Same, Vacm, VacmRows, checked_rows, copied_rows};
 
 /// Who may read and write what, seen as five lists of rows. No two communities have one index, and
 /// each community's lengths and fields are right.
@@ -70,9 +70,10 @@ fn right_communities(
 
 impl Policy {
     ghost use Rattle.vacm_core.specs.Rules.{AreRight, BeginsRight};
+    ghost use Rattle.vacm_core.specs.Changes.{with_mask, with_type};
     ghost use Rattle.vacm_core.specs.Tables.{rows_of};
     ghost use Rattle.community_core.specs.Faults.{IsCommunityFault};
-    ghost use Rattle.community_core.specs.Communities.{community_row, written_community, community_rules, caller_of, caller_of_row};
+    ghost use Rattle.community_core.specs.Communities.{community_row, written_community, community_rules, with_families, caller_of, caller_of_row};
 
     /// The policy of these communities, as they are written, and these tables.
     ///
@@ -130,6 +131,30 @@ impl Policy {
             communities: copied_rows(alloc, self.communities.as_slice())?,
             vacm: self.vacm.rows(alloc)?,
         })
+    }
+
+    /// Puts the mask of the family row of this number, and gives the one that it had, as
+    /// [`Vacm::put_mask`] does. It takes no memory.
+    pub fn put_mask(&mut self, n: usize, mask: Mask) -> Mask
+        requires { n < length self.old.vacm.families }
+        ensures policy { self.new ≡ with_families self.old
+            (with_mask self.old.vacm.families n mask) }
+        ensures before { option_map (λ row. row.mask) (slice_get self.old.vacm.families n)
+            ≡ Some result }
+    {
+        self.vacm.put_mask(n, mask)
+    }
+
+    /// Puts the type of the family row of this number, and gives the one that it had, as
+    /// [`Vacm::put_type`] does. It takes no memory.
+    pub fn put_type(&mut self, n: usize, included: bool) -> bool
+        requires { n < length self.old.vacm.families }
+        ensures policy { self.new ≡ with_families self.old
+            (with_type self.old.vacm.families n included) }
+        ensures before { option_map (λ row. row.included) (slice_get self.old.vacm.families n)
+            ≡ Some result }
+    {
+        self.vacm.put_type(n, included)
     }
 
     /// The tables of access control.

@@ -10,7 +10,7 @@ use Rattle.vacm_core.specs.declared.tables.FamilyRow.{FamilyRow}
 use Rattle.vacm_core.specs.Families.{mask_bit, agrees_from}
 use Rattle.vacm_core.specs.Rows.{same_family}
 use Rattle.vacm_core.specs.Tables.{KeysDiffer}
-use Rattle.vacm_core.specs.Trees.{leads, fits, same_parts, counting_part, view_way, subtree_way, way_of, reaches, IsPlaced, IsTreeOf}
+use Rattle.vacm_core.specs.Trees.{leads, fits, same_parts, counting, counting_part, view_way, subtree_way, way_of, reaches, IsPlaced, IsNumbered, IsTreeOf, AreNumbered}
 use Rattle.vacm_core.proofs.Agrees.{and_true}
 use Rattle.vacm_core.proofs.Ties.{bytes_same}
 
@@ -87,7 +87,7 @@ numbers_of row =
     ap (λ (l : List ℕ). length row.view ∷ l)
     (numbers_view row.view (subtree_way 0 row.mask row.subtree) ∙ ap (λ (l : List ℕ). row.view ++ l) (numbers_subtree 0 row.mask row.subtree))
 
-split_same : (v w s t : List ℕ) → length v ≡ length w → v ++ s ≡ w ++ t → (v ≡ w) × (s ≡ t)
+pub split_same : (v w s t : List ℕ) → length v ≡ length w → v ++ s ≡ w ++ t → (v ≡ w) × (s ≡ t)
 split_same [] [] s t l e = (refl, e)
 split_same [] (y ∷ w) s t l e = absurd (omega arith)
 split_same (x ∷ v) [] s t l e = absurd (omega arith)
@@ -185,3 +185,93 @@ packed_tree tree rows (Ok radix) more placed =
     λ n d lt.
     let p = placed n d lt in
     record { leads = more (way_of (get_or rows n d)) n p.leads; some = p.some }
+
+-- ---- how long ways are
+
+map_long : (view : List ℕ) (rest : List Step) → length (map counting_part view ++ rest) ≡ length view + length rest
+map_long [] rest = omega arith
+map_long (v ∷ view) rest = let more = map_long view rest in omega arith
+
+subtree_long : (k : ℕ) (mask subtree : List ℕ) → length (subtree_way k mask subtree) ≡ length subtree
+subtree_long k mask [] = refl
+subtree_long k mask (s ∷ subtree) = let more = subtree_long (k + 1) mask subtree in omega arith
+
+pub way_long : (view mask subtree : List ℕ) → length (view_way view ++ subtree_way 0 mask subtree) ≡ 1 + length view + length subtree
+way_long view mask subtree = omega (arith, map_long view (subtree_way 0 mask subtree), subtree_long 0 mask subtree)
+
+-- ---- marks of rows
+
+same_itself : (way : List Step) → same_parts way way ≡ true
+same_itself [] = refl
+same_itself (s ∷ way) = and_from _ _ (eq-eqb s.part s.part refl) (same_itself way)
+
+same_counting : (a b : List Step) → same_parts a b ≡ true → same_parts (counting a) b ≡ true
+same_counting [] b e = e
+same_counting (x ∷ a) [] e = e
+same_counting (x ∷ a) (y ∷ b) e =
+    let parts = and_true (x.part == y.part) (same_parts a b) e in
+    and_from _ _ parts.0 (same_counting a b parts.1)
+
+-- the numbers of a subtree's way are the same by any mask
+same_subtree : (k : ℕ) (one other subtree : List ℕ) → same_parts (subtree_way k one subtree) (subtree_way k other subtree) ≡ true
+same_subtree k one other [] = refl
+same_subtree k one other (s ∷ subtree) = and_from _ _ (eq-eqb s s refl) (same_subtree (k + 1) one other subtree)
+
+same_behind : (view a b : List Step) → same_parts a b ≡ true → same_parts (view ++ a) (view ++ b) ≡ true
+same_behind [] a b e = e
+same_behind (s ∷ view) a b e = and_from _ _ (eq-eqb s.part s.part refl) (same_behind view a b e)
+
+same_ways : (a b : FamilyRow) → a.view ≡ b.view → a.subtree ≡ b.subtree → same_parts (way_of a) (way_of b) ≡ true
+same_ways a b view subtree =
+    subst (λ (l : List ℕ). same_parts (way_of a) (view_way l ++ subtree_way 0 b.mask b.subtree) ≡ true) view
+    (subst (λ (l : List ℕ). same_parts (way_of a) (view_way a.view ++ subtree_way 0 b.mask l) ≡ true) subtree
+    (same_behind (view_way a.view) (subtree_way 0 a.mask a.subtree) (subtree_way 0 b.mask a.subtree) (same_subtree 0 a.mask b.mask a.subtree)))
+
+-- a row of the same key is led to by a way of its numbers
+pub numbered_alike : (lead : List Step → ℕ → Bool) (a b : FamilyRow) (n : ℕ) → a.view ≡ b.view → a.subtree ≡ b.subtree → IsPlaced lead a n → IsNumbered lead b n
+numbered_alike lead a b n view subtree h = record { way = way_of a; same = same_ways a b view subtree; leads = h.leads; some = subst (λ (l : List ℕ). 1 ≤ length l) subtree h.some }
+
+pub numbered : (lead : List Step → ℕ → Bool) (row : FamilyRow) (n : ℕ) → IsPlaced lead row n → IsNumbered lead row n
+numbered lead row n h = numbered_alike lead row row n refl refl h
+
+pub numbered_still : (old new : List Step → ℕ → Bool) → ((way : List Step) (n : ℕ) → old way n ≡ true → new way n ≡ true) → (row : FamilyRow) (n : ℕ) → IsNumbered old row n → IsNumbered new row n
+numbered_still old new kept row n h = record { way = h.way; same = h.same; leads = kept h.way n h.leads; some = h.some }
+
+pub placed_yet : (old new : List Step → ℕ → Bool) → ((way : List Step) (n : ℕ) → old way n ≡ true → new way n ≡ true) → (row : FamilyRow) (n : ℕ) → IsPlaced old row n → IsPlaced new row n
+placed_yet old new kept row n h = record { leads = kept (way_of row) n h.leads; some = h.some }
+
+-- a tree without marks has a way of the same numbers
+pub numbered_clear : (old new : List Step → ℕ → Bool) → ((way : List Step) (n : ℕ) → old way n ≡ true → new (counting way) n ≡ true) → (row : FamilyRow) (n : ℕ) → IsNumbered old row n → IsNumbered new row n
+numbered_clear old new cleared row n h =
+    record { way = counting h.way; same = same_counting h.way (way_of row) h.same; leads = cleared h.way n h.leads; some = h.some }
+
+-- a row whose way is marked is placed
+pub marked_placed : (old new : List Step → ℕ → Bool) (row : FamilyRow) (way : List Step) → way ≡ way_of row
+    → ((other : List Step) (n : ℕ) → same_parts other way ≡ true → old other n ≡ true → new way n ≡ true) → (n : ℕ) → IsNumbered old row n → IsPlaced new row n
+marked_placed old new row way is marked n h =
+    record { leads = subst (λ (l : List Step). new l n ≡ true) is (marked h.way n (subst (λ (l : List Step). same_parts h.way l ≡ true) (sym is) h.same) h.leads); some = h.some }
+
+-- the first rows are placed, and all are numbered
+pub record MarkedSo (lead : List Step → ℕ → Bool) (rows : List FamilyRow) (i : ℕ) : Type 0 where
+  pub all : AreNumbered lead rows
+  pub first : (n : ℕ) (d : FamilyRow) → n < i → n < length rows → IsPlaced lead (get_or rows n d) n
+
+pub marked_none : (lead : List Step → ℕ → Bool) (rows : List FamilyRow) → AreNumbered lead rows → MarkedSo lead rows 0
+marked_none lead rows all = record { all = all; first = λ n d lt within. absurd (omega arith) }
+
+pub marked_more : (old new : List Step → ℕ → Bool) (rows : List FamilyRow) (i : ℕ) (row : FamilyRow) → i < length rows → row ≡ get_or rows i row
+    → ((way : List Step) (n : ℕ) → old way n ≡ true → new way n ≡ true) → ((n : ℕ) → IsNumbered old row n → IsPlaced new row n) → MarkedSo old rows i → MarkedSo new rows (i + 1)
+marked_more old new rows i row within is kept marked so = record {
+  all = λ n d lt. numbered_still old new kept (get_or rows n d) n (so.all n d lt);
+  first = λ n d lt inside. elim (cases_lt n i) [
+    | inl below ↦ placed_yet old new kept (get_or rows n d) n (so.first n d below inside)
+    | inr not ↦
+        let here : i ≡ n = omega arith in
+        let at : row ≡ get_or rows i d = is ∙ get_or_default rows i row d within in
+        subst (λ (k : ℕ). IsPlaced new (get_or rows k d) k) here
+        (subst (λ (r : FamilyRow). IsPlaced new r i) at (marked i (subst (λ (r : FamilyRow). IsNumbered old r i) (sym at) (so.all i d within))))
+  ];
+}
+
+pub marked_end : (lead : List Step → ℕ → Bool) (rows : List FamilyRow) (i : ℕ) → length rows ≤ i → MarkedSo lead rows i → IsTreeOf lead rows
+marked_end lead rows i le so = λ n d lt. so.first n d (omega arith) lt

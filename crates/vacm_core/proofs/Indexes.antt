@@ -91,6 +91,9 @@ module _ {R : Type 0} (key : R → ℕ × List ℕ) (rows : List R) (asked : ℕ
   pub parted_lt : (numbers : List ℕ) → IsSortedBy (key_before key rows) numbers → IsPartitionedBy (λ n. is_lt (at n)) numbers
   parted_lt numbers up i j d le lt e = lower_lt (at (get_or numbers i d)) (at (get_or numbers j d)) (rising numbers up i j d le lt) e
 
+  pub parted_upto : (numbers : List ℕ) → IsSortedBy (key_before key rows) numbers → IsPartitionedBy (λ n. is_le (at n)) numbers
+  parted_upto numbers up i j d le lt e = lower_le (at (get_or numbers i d)) (at (get_or numbers j d)) (rising numbers up i j d le lt) e
+
   pub parted_le : (numbers : List ℕ) (first : ℕ) → IsSortedBy (key_before key rows) numbers → IsPartitionedBy (λ n. is_le (at n)) (take (length numbers - first) (drop first numbers))
   parted_le numbers first up i j d le lt e =
       let rank : ℕ → ℕ = λ n. ordering_index (at n) in

@@ -13,3 +13,6 @@ pub mod Indexes
 pub mod GroupRows
 pub mod ViewRows
 pub mod Tied
+pub mod FamilyIndexes
+pub mod Marks
+pub mod Puts

@@ -1,15 +1,15 @@
 -- Where a way leads at a fork of the tree.
-use Rattle.std.proofs.Common.{◌≡◌, ℕ, ◌≤◌, ◌-◌, ◌==◌, Bool, true, false, not, ◌&&◌, ◌||◌, cond, List, [], ◌∷◌, ◌++◌, length, get_or, take, drop, Option, Some, None, Box, refl, sym, ap, subst, ◌∙◌, arith, ◌⊎◌, inl, inr, ltb}
+use Rattle.std.proofs.Common.{◌≡◌, ℕ, ◌≤◌, ◌-◌, ◌==◌, Bool, true, false, not, ◌&&◌, ◌||◌, cond, List, [], ◌∷◌, length, get_or, take, drop, Option, Some, None, Box, refl, sym, ap, subst, ◌∙◌, arith, ◌⊎◌, inl, inr, ltb, eq-eqb}
 use Rattle.std.specs.declared.alloc.Global.{Global}
-use Rattle.std.proofs.lemmas.List.{append_cancel_left}
 use Rattle.std.proofs.lemmas.Bool.{cases_Bool, both_ways, eqb-true, le-ltb}
+use Rattle.std.proofs.lemmas.Option.{same_Some, none-some}
 use Rattle.std.proofs.Math.Seq.{take-length}
 use Rattle.vacm_core.specs.declared.tree.Step.{Step}
 use Rattle.vacm_core.specs.declared.radix.Radix.{Radix}
 use Rattle.vacm_core.specs.declared.radix.Radix.TheVariants.{Fork, Run as RunOf}
 use Rattle.vacm_core.specs.declared.radix.Branch.{Branch}
 use Rattle.vacm_core.specs.declared.radix.Run.{Run}
-use Rattle.vacm_core.specs.Trees.{is_row, ends_or, runs, reaches, fits}
+use Rattle.vacm_core.specs.Trees.{is_row, ends_or, runs, after_run, reaches, fits}
 use Rattle.vacm_core.proofs.Agrees.{and_true, part_found}
 
 -- a way that leads on to a row, and that the rest of a name fits
@@ -39,7 +39,7 @@ loose_or true counts e f = absurd cc
 loose_or false counts e f = e
 
 straight : (node : Branch) (s : Step) (rest : List Step) (x : ℕ) (name : List ℕ) (n : ℕ)
-    → ((node.loose || s.counts) && (cond (ltb s.part node.part) (reaches node.less (s ∷ rest) n) (cond (ltb node.part s.part) (reaches node.greater (s ∷ rest) n) (ends_or node.row (reaches node.equal rest n) rest n)))) ≡ true
+    → ((node.loose || s.counts) && (cond (ltb s.part node.part) (reaches node.less (s ∷ rest) n) (cond (ltb node.part s.part) (reaches node.greater (s ∷ rest) n) ((node.loose_equal || s.counts) && ends_or node.row (reaches node.equal rest n) rest n)))) ≡ true
     → ((not s.counts || s.part == x) && fits rest name) ≡ true → node.loose ≡ false → x ≡ node.part → EndsOr node name n
 straight node s rest x name n e f tight same =
     let parts = and_true (node.loose || s.counts) _ e in
@@ -47,10 +47,11 @@ straight node s rest x name n e f tight same =
     let part : s.part ≡ x = eqb-true s.part x (part_found s.counts (s.part == x) fit.0 (loose_or node.loose s.counts parts.0 tight)) in
     let low : ltb s.part node.part ≡ false = le-ltb s.part node.part (omega arith) in
     let high : ltb node.part s.part ≡ false = le-ltb node.part s.part (omega arith) in
-    ends node rest name n (rw (low, high) at parts.1) fit.1
+    let on = and_true (node.loose_equal || s.counts) (ends_or node.row (reaches node.equal rest n) rest n) (rw (low, high) at parts.1) in
+    ends node rest name n on.1 fit.1
 
 turn : (node : Branch) (s : Step) (rest : List Step) (x : ℕ) (name : List ℕ) (n : ℕ)
-    → ((node.loose || s.counts) && (cond (ltb s.part node.part) (reaches node.less (s ∷ rest) n) (cond (ltb node.part s.part) (reaches node.greater (s ∷ rest) n) (ends_or node.row (reaches node.equal rest n) rest n)))) ≡ true
+    → ((node.loose || s.counts) && (cond (ltb s.part node.part) (reaches node.less (s ∷ rest) n) (cond (ltb node.part s.part) (reaches node.greater (s ∷ rest) n) ((node.loose_equal || s.counts) && ends_or node.row (reaches node.equal rest n) rest n)))) ≡ true
     → ((not s.counts || s.part == x) && fits rest name) ≡ true → Turns node (s ∷ rest) name n
 turn node s rest x name n e f =
     let parts = and_true (node.loose || s.counts) _ e in
@@ -59,7 +60,7 @@ turn node s rest x name n e f =
       | inl low ↦ inl (rw low at parts.1)
       | inr low ↦ elim (cases_Bool (ltb node.part s.part)) [
         | inl high ↦ inr (inl (rw (low, high) at parts.1))
-        | inr high ↦ inr (inr (ends node rest name n (rw (low, high) at parts.1) fit.1))
+        | inr high ↦ inr (inr (ends node rest name n (and_true (node.loose_equal || s.counts) (ends_or node.row (reaches node.equal rest n) rest n) (rw (low, high) at parts.1)).1 fit.1))
       ]
     ]
 
@@ -89,40 +90,45 @@ turns t b is (s ∷ rest) (x ∷ name) n e f some =
 
 -- ---- runs
 
--- a name that begins with the numbers of a run, and a way that goes on behind them
-record Along (parts : List ℕ) (deeper : List Step → Bool) (name : List ℕ) : Type 0 where
+-- a name that may go along a run, and a way that goes on behind it
+pub record Along (loose : Bool) (parts : List ℕ) (deeper : List Step → Bool) (name : List ℕ) : Type 0 where
   pub after : List ℕ
-  pub is : name ≡ parts ++ after
+  pub is : after_run loose parts name ≡ Some after
   pub rest : List Step
   pub leads : deeper rest ≡ true
   pub fits : fits rest after ≡ true
 
-along : (parts : List ℕ) (deeper : List Step → Bool) (way : List Step) (name : List ℕ) → runs parts deeper way ≡ true → fits way name ≡ true → Along parts deeper name
-along [] deeper way name e f = record { after = name; is = refl; rest = way; leads = e; fits = f }
-along (p ∷ parts) deeper [] name e f = absurd (both_ways false refl e)
-along (p ∷ parts) deeper (s ∷ rest) [] e f = absurd (both_ways false refl f)
-along (p ∷ parts) deeper (s ∷ rest) (x ∷ name) e f =
-    let on = and_true (s.counts && s.part == p) _ e in
-    let here = and_true s.counts (s.part == p) on.0 in
+passes : (loose counts : Bool) (s p x : ℕ) → (loose || counts) ≡ true → (s == p) ≡ true → (not counts || s == x) ≡ true → (loose || p == x) ≡ true
+passes true counts s p x e same fit = refl
+passes false counts s p x e same fit = eq-eqb p x (sym (eqb-true s p same) ∙ eqb-true s x (part_found counts (s == x) fit e))
+
+along : (loose : Bool) (parts : List ℕ) (deeper : List Step → Bool) (way : List Step) (name : List ℕ) → runs loose parts deeper way ≡ true → fits way name ≡ true → Along loose parts deeper name
+along loose [] deeper way name e f = record { after = name; is = refl; rest = way; leads = e; fits = f }
+along loose (p ∷ parts) deeper [] name e f = absurd (both_ways false refl e)
+along loose (p ∷ parts) deeper (s ∷ rest) [] e f = absurd (both_ways false refl f)
+along loose (p ∷ parts) deeper (s ∷ rest) (x ∷ name) e f =
+    let on = and_true ((loose || s.counts) && s.part == p) _ e in
+    let here = and_true (loose || s.counts) (s.part == p) on.0 in
     let fit = and_true (not s.counts || s.part == x) (fits rest name) f in
-    let same : x ≡ p = sym (eqb-true s.part x (part_found s.counts (s.part == x) fit.0 here.0)) ∙ eqb-true s.part p here.1 in
-    let further = along parts deeper rest name on.1 fit.1 in
-    record { after = further.after; is = (λ i. same i ∷ further.is i); rest = further.rest; leads = further.leads; fits = further.fits }
-
--- where the name goes on behind the numbers
-pub leads_behind : (parts : List ℕ) (below : Radix) (way : List Step) (name after : List ℕ) (n : ℕ) → runs parts (λ rest. reaches below rest n) way ≡ true → fits way name ≡ true → name ≡ parts ++ after → LeadsOn below after n
-leads_behind parts below way name after n e f is =
-    let on = along parts (λ rest. reaches below rest n) way name e f in
-    let same = append_cancel_left parts on.after after (sym on.is ∙ is) in
-    record { rest = on.rest; leads = on.leads; fits = subst (λ (l : List ℕ). fits on.rest l ≡ true) same on.fits }
-
--- a name that does not begin with the numbers fits no way
-pub leads_nowhere : (parts : List ℕ) (below : Radix) (way : List Step) (name : List ℕ) (n : ℕ) → runs parts (λ rest. reaches below rest n) way ≡ true → fits way name ≡ true → ((rest : List ℕ) → name ≡ parts ++ rest → ⊥)
-    → {A : Type 0} → A
-leads_nowhere parts below way name n e f never =
-    let on = along parts (λ rest. reaches below rest n) way name e f in
-    absurd (never on.after on.is)
+    let further = along loose parts deeper rest name on.1 fit.1 in
+    record {
+      after = further.after;
+      is = ap (λ (b : Bool). cond b (after_run loose parts name) None) (passes loose s.counts s.part p x here.0 here.1 fit.0) ∙ further.is;
+      rest = further.rest;
+      leads = further.leads;
+      fits = further.fits;
+    }
 
 -- what reaches a run goes along it
-pub along_run : (t : Radix) (b : Box Run Global) → t ≡ RunOf b → (parts : List ℕ) → parts ≡ b.value.parts.items → (way : List Step) (n : ℕ) → reaches t way n ≡ true → runs parts (λ rest. reaches b.value.below rest n) way ≡ true
-along_run t b is parts same way n e = subst (λ (l : List ℕ). runs l (λ rest. reaches b.value.below rest n) way ≡ true) (sym same) (rw is at e)
+pub along_run : (t : Radix) (b : Box Run Global) → t ≡ RunOf b → (way : List Step) (name : List ℕ) (n : ℕ) → reaches t way n ≡ true → fits way name ≡ true
+    → Along b.value.loose b.value.parts.items (λ rest. reaches b.value.below rest n) name
+along_run t b is way name n e f = along b.value.loose b.value.parts.items (λ rest. reaches b.value.below rest n) way name (rw is at e) f
+
+-- where the name goes on behind the run
+pub leads_behind : (loose : Bool) (parts : List ℕ) (below : Radix) (name after : List ℕ) (n : ℕ) → Along loose parts (λ rest. reaches below rest n) name → Some after ≡ after_run loose parts name → LeadsOn below after n
+leads_behind loose parts below name after n on found =
+    record { rest = on.rest; leads = on.leads; fits = subst (λ (l : List ℕ). fits on.rest l ≡ true) (same_Some on.after after (sym on.is ∙ sym found)) on.fits }
+
+-- a name that may not go along a run fits no way
+pub leads_nowhere : (loose : Bool) (parts : List ℕ) (below : Radix) (name : List ℕ) (n : ℕ) → Along loose parts (λ rest. reaches below rest n) name → None ≡ after_run loose parts name → {A : Type 0} → A
+leads_nowhere loose parts below name n on found = absurd (none-some on.after (found ∙ on.is))

@@ -7,6 +7,7 @@ use Rattle.std.specs.declared.cmp.Ordering.{Ordering}
 use Rattle.vacm_core.specs.declared.tables.GroupRow.{GroupRow}
 use Rattle.vacm_core.specs.declared.tables.AccessRow.{AccessRow}
 use Rattle.vacm_core.specs.declared.tables.FamilyRow.{FamilyRow}
+use Rattle.vacm_core.specs.FamilyIndex.{family_index}
 
 -- by the number, and then by the name
 abbrev pub key_cmp : ℕ × List ℕ → ℕ × List ℕ → Ordering
@@ -40,3 +41,7 @@ access_key row = (0, row.group)
 -- a family row by its view alone
 abbrev pub view_key : FamilyRow → ℕ × List ℕ
 view_key row = (0, row.view)
+
+-- and by its index
+abbrev pub index_key : FamilyRow → ℕ × List ℕ
+index_key row = (0, family_index row)

@@ -1,11 +1,14 @@
 pub mod Texts
 pub mod Levels
+pub mod Masks
 pub mod Rules
 pub mod Rows
 pub mod Faults
 pub mod Tables
 pub mod Best
+pub mod Changes
 pub mod Families
+pub mod FamilyIndex
 pub mod Hiding
 pub mod Access
 pub mod Orders

@@ -20,15 +20,16 @@ abbrev pub ends_or : Option ℕ → Bool → List Step → ℕ → Bool
 ends_or here deeper [] row = is_row here row
 ends_or here deeper (s ∷ rest) row = deeper
 
--- the way leads to the row of this number, and each place where it does not count is marked loose
+-- the way leads to the row of this number, and where it does not count, each number that it passes
+-- is marked loose, and each that it goes by loose there too
 abbrev pub leads : Tree → List Step → ℕ → Bool
 leads Empty way row = false
-leads (Fork' p part here loose less equal greater) [] row = false
-leads (Fork' p part here loose less equal greater) (s ∷ rest) row =
+leads (Fork' p part here loose loose_equal less equal greater) [] row = false
+leads (Fork' p part here loose loose_equal less equal greater) (s ∷ rest) row =
     (loose || s.counts)
     && (if nat_lt s.part part then leads less (s ∷ rest) row
     else (if nat_lt part s.part then leads greater (s ∷ rest) row
-    else ends_or here (leads equal rest row) rest row))
+    else (loose_equal || s.counts) && ends_or here (leads equal rest row) rest row))
 
 -- all ways go on alike from here, and none ends
 pub record IsAlone (node : Node) : Type 0 where
@@ -39,23 +40,25 @@ pub record IsAlone (node : Node) : Type 0 where
 
 -- ---- the radix tree
 
--- the way has these numbers first, in steps that count, and then goes on deeper
-abbrev pub runs : List ℕ → (List Step → Bool) → List Step → Bool
-runs [] deeper way = deeper way
-runs (p ∷ parts) deeper [] = false
-runs (p ∷ parts) deeper (s ∷ rest) = (s.counts && s.part == p) && runs parts deeper rest
+-- the way has these numbers first, in steps that count unless the run is loose, and then goes on
+-- deeper
+abbrev pub runs : Bool → List ℕ → (List Step → Bool) → List Step → Bool
+runs loose [] deeper way = deeper way
+runs loose (p ∷ parts) deeper [] = false
+runs loose (p ∷ parts) deeper (s ∷ rest) =
+    ((loose || s.counts) && s.part == p) && runs loose parts deeper rest
 
 -- the way leads to the row of this number, as in a tree of single steps
 abbrev pub reaches : Radix → List Step → ℕ → Bool
 reaches Radixes.Empty way row = false
-reaches (Radixes.Fork' p part here loose less equal greater) [] row = false
-reaches (Radixes.Fork' p part here loose less equal greater) (s ∷ rest) row =
+reaches (Radixes.Fork' p part here loose loose_equal less equal greater) [] row = false
+reaches (Radixes.Fork' p part here loose loose_equal less equal greater) (s ∷ rest) row =
     (loose || s.counts)
     && (if nat_lt s.part part then reaches less (s ∷ rest) row
     else (if nat_lt part s.part then reaches greater (s ∷ rest) row
-    else ends_or here (reaches equal rest row) rest row))
-reaches (Radixes.Run' p parts below) way row =
-    runs parts.items (λ rest. reaches below rest row) way
+    else (loose_equal || s.counts) && ends_or here (reaches equal rest row) rest row))
+reaches (Radixes.Run' p parts loose below) way row =
+    runs loose parts.items (λ rest. reaches below rest row) way
 
 -- ---- names
 
@@ -64,6 +67,13 @@ abbrev pub fits : List Step → List ℕ → Bool
 fits [] name = true
 fits (s ∷ rest) [] = false
 fits (s ∷ rest) (n ∷ name) = (not s.counts || s.part == n) && fits rest name
+
+-- what follows in a name behind a run: the name has its numbers, or as many where it is loose
+abbrev pub after_run : Bool → List ℕ → List ℕ → Option (List ℕ)
+after_run loose [] name = Some name
+after_run loose (p ∷ parts) [] = None
+after_run loose (p ∷ parts) (n ∷ name) =
+    if loose || p == n then after_run loose parts name else None
 
 -- two ways have the same numbers
 abbrev pub same_parts : List Step → List Step → Bool
@@ -102,6 +112,10 @@ pub record IsLater {R : Type 0} (passes : R → Bool) (beats : R → R → Bool)
 abbrev pub counting_part : ℕ → Step
 counting_part part = record { part = part; counts = true }
 
+-- the same way, in which each step counts
+abbrev pub counting : List Step → List Step
+counting way = map (λ s. counting_part s.part) way
+
 -- the way to the rows of a view: the length of its name and its octets
 abbrev pub view_way : List ℕ → List Step
 view_way view = counting_part (length view) ∷ map counting_part view
@@ -120,10 +134,27 @@ pub record IsPlaced (lead : List Step → ℕ → Bool) (row : FamilyRow) (n : �
   pub leads : lead (way_of row) n ≡ true
   pub some : 1 ≤ length row.subtree
 
+-- a way of the same numbers leads to the row of this number
+pub record IsNumbered (lead : List Step → ℕ → Bool) (row : FamilyRow) (n : ℕ) : Type 0 where
+  pub way : List Step
+  pub same : same_parts way (way_of row) ≡ true
+  pub leads : lead way n ≡ true
+  pub some : 1 ≤ length row.subtree
+
 -- ways lead to each of the rows
 abbrev pub IsTreeOf : (List Step → ℕ → Bool) → List FamilyRow → Type 0
 IsTreeOf lead rows =
     (n : ℕ) (d : FamilyRow) → n < length rows → IsPlaced lead (slice_index_or rows n d) n
+
+-- ways of their numbers lead to each of the rows
+abbrev pub AreNumbered : (List Step → ℕ → Bool) → List FamilyRow → Type 0
+AreNumbered lead rows =
+    (n : ℕ) (d : FamilyRow) → n < length rows → IsNumbered lead (slice_index_or rows n d) n
+
+-- ways lead to each of the rows but one, and a way of its numbers to that one
+pub record IsTreeBut (lead : List Step → ℕ → Bool) (rows : List FamilyRow) (n : ℕ) : Type 0 where
+  pub others : (k : ℕ) (d : FamilyRow) → k < length rows → (k ≡ n → ⊥) → IsPlaced lead (slice_index_or rows k d) k
+  pub all : AreNumbered lead rows
 
 -- no two rows have one key, and the tree leads to each of them
 pub record AreWithTree (rows : List FamilyRow) (tree : Radix) : Type 0 where

@@ -2,7 +2,7 @@
 ghost use Rattle.std.specs.Prelude.{◌≡◌, map, IfOk};
 ghost use Rattle.vacm_core.specs.Tables.{written_group, written_access, written_family};
 
-use crate::name::{Mask, Name};
+use crate::name::Name;
 use crate::rows::Rows;
 use crate::tables::{AccessRow, FamilyRow, GroupRow};
 use crate::text::{Octets, Text};
@@ -85,7 +85,7 @@ impl CopiedAs<FamilyRow> for FamilyRow {
         Ok(FamilyRow {
             view: self.view.copy(),
             subtree: self.subtree.try_copy(alloc)?,
-            mask: Mask::of(self.mask.as_slice()),
+            mask: self.mask,
             included: self.included,
         })
     }

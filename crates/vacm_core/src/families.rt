@@ -1,20 +1,26 @@
 //! The family rows with their tree, and the row of a view that decides on a name.
-ghost use Rattle.std.specs.Prelude.{◌≡◌, ◌≤◌, ◌<◌, ℕ, [], ◌∷◌, ◌++◌, length, All, IfOk, OnOk, OnErr, bytes_eq, slice_index, slice_index_or};
+ghost use Rattle.std.specs.Prelude.{◌≡◌, ◌≤◌, ◌<◌, ◌==◌, ℕ, List, [], Some, true, not, length, All, IfOk, OnOk, OnErr, bytes_eq, slice_get, slice_index, slice_index_or, option_map};
 ghost use Rattle.std.specs.List.{list_any};
 ghost use Rattle.std.specs.Option.{ForSome};
 ghost use Rattle.vacm_core.specs.Rows.{same_family};
 ghost use Rattle.vacm_core.specs.Tables.{KeysDiffer};
 ghost use Rattle.vacm_core.specs.Access.{has_view};
 ghost use Rattle.vacm_core.specs.Families.{deciding_family};
+ghost use Rattle.vacm_core.specs.FamilyIndex.{next_family, family_at};
 ghost use Rattle.vacm_core.specs.Keys.{IsIndex, view_key};
-ghost use Rattle.vacm_core.specs.Trees.{leads, reaches, counting_part, way_of, IsPlaced, IsTreeOf};
+ghost use Rattle.vacm_core.specs.Changes.{with_mask, with_type};
+ghost use Rattle.vacm_core.specs.Trees.{leads, reaches, counting_part, way_of, IsPlaced, IsNumbered, IsTreeOf, IsTreeBut, AreNumbered};
+ghost use Rattle.vacm_core.specs.declared.tree.Step.{Step};
+ghost use Rattle.vacm_core.specs.declared.limits.TheConstants.{MAX_MASK};
 ghost use Rattle.vacm_core.specs.declared.tables.FamilyRow.{FamilyRow};
 
+use crate::by_index::{self, numbers_by_index};
 use crate::copying::copied_rows;
 use crate::deciding::{FamilyContest, mask_bit};
 use crate::index::{Keyed, index_of, with_key};
 use crate::limits::MAX_NAME;
-use crate::name::Name;
+use crate::name::{Mask, Name};
+use crate::numbers::put_numbers;
 use crate::radix::{Radix, packed};
 use crate::repeats::numbers_by_key;
 use crate::rows::Rows;
@@ -27,9 +33,8 @@ use oid_core::{MAX_NUMBERS, Oid};
 use std::alloc::{AllocError, Global};
 use std::marker::Model;
 
-// How many numbers there are at most by which rows are found: how many octets a view's name has,
-// those, and the numbers of a name.
-const MOST_NUMBERS: usize = 1 + MAX_NAME + MAX_NUMBERS;
+// How many steps a way has at most: how many octets a view's name has, those, and a subtree.
+const MOST_STEPS: usize = 1 + MAX_NAME + MAX_NUMBERS;
 
 impl Keyed for FamilyRow {
     ghost key = { view_key };
@@ -43,26 +48,30 @@ impl Keyed for FamilyRow {
     }
 }
 
-/// The family rows, seen as their list, with the tree of them and their index by view. No two rows
-/// have one key.
+/// The family rows, seen as their list, with the tree of them and the numbers of the rows by
+/// view and by index. No two rows have one key.
 pub struct Families {
-    rows: Rows<FamilyRow>,
+    rows: Vec<FamilyRow>,
     tree: Radix,
     // By view.
     view_index: Rows<usize>,
+    // By the index of the table.
+    table_index: Rows<usize>,
 }
 
 impl Model for Families {
     ghost use Rattle.std.specs.Prelude.{List};
-    ghost use Rattle.vacm_core.specs.Keys.{IsIndex, view_key};
+    ghost use Rattle.vacm_core.specs.Keys.{IsIndex, view_key, index_key};
     ghost use Rattle.vacm_core.specs.Trees.{AreWithTree};
     ghost use Rattle.vacm_core.specs.declared.tables.FamilyRow.{FamilyRow};
 
     ghost Value = { List FamilyRow };
 
-    ghost view = { λ f. f.rows };
+    ghost view = { λ f. f.rows.items };
 
-    ghost invariant = { λ f. AreWithTree f.rows f.tree × IsIndex view_key f.rows f.view_index };
+    ghost invariant = { λ f. AreWithTree f.rows.items f.tree
+        × IsIndex view_key f.rows.items f.view_index
+        × IsIndex index_key f.rows.items f.table_index };
 }
 
 // By hand, so that who lets go of the rows knows nothing of the tree.
@@ -72,6 +81,7 @@ impl Drop for Families {
             rows: _rows,
             tree: _tree,
             view_index: _view_index,
+            table_index: _table_index,
         } = self;
     }
 }
@@ -89,10 +99,12 @@ impl Families {
     {
         let tree = tree_of(alloc, rows.as_slice())?;
         let view_index = index_of(alloc, rows.as_slice())?;
+        let table_index = numbers_by_index(alloc, rows.as_slice())?;
         Ok(Families {
-            rows,
+            rows: rows.into_vec(),
             tree,
             view_index,
+            table_index,
         })
     }
 
@@ -115,6 +127,29 @@ impl Families {
         self.rows.as_slice()
     }
 
+    /// Puts the mask of the row of this number, and gives the one that it had. It takes no memory. A
+    /// mask that had no 0 takes a walk along one way, any other one along the way of each row.
+    pub fn put_mask(&mut self, n: usize, mask: Mask) -> Mask
+        requires { n < length self.old }
+        ensures rows { self.new ≡ with_mask self.old n mask }
+        ensures before { option_map (λ row. row.mask) (slice_get self.old n) ≡ Some result }
+        ensures short { length mask ≤ MAX_MASK }
+    {
+        let before = put_mask(&mut self.rows, n, mask);
+        let was_open = has_zero(before.as_slice());
+        mark_changed(&mut self.tree, self.rows.as_slice(), n, was_open);
+        before
+    }
+
+    /// Puts the type of the row of this number, and gives the one that it had. It takes no memory.
+    pub fn put_type(&mut self, n: usize, included: bool) -> bool
+        requires { n < length self.old }
+        ensures rows { self.new ≡ with_type self.old n included }
+        ensures before { option_map (λ row. row.included) (slice_get self.old n) ≡ Some result }
+    {
+        put_type(&mut self.rows, n, included)
+    }
+
     /// The number of the row of a view that decides on a name. It takes no memory.
     pub fn deciding(&self, view: &Name, name: &Oid) -> Option<usize>
         ensures place { result ≡ deciding_family self.now view.now name.now }
@@ -123,12 +158,100 @@ impl Families {
         deciding_family(&self.tree, self.rows.as_slice(), view, name)
     }
 
+    /// The number of the row whose index is the first that is greater than these numbers.
+    pub fn next(&self, numbers: &[u32]) -> Option<usize>
+        ensures place { result ≡ next_family self.now numbers.now }
+        ensures within { ForSome result (λ n. n < length self.now) }
+    {
+        let index = self.table_index.as_slice();
+        by_index::next_family(self.rows.as_slice(), index, numbers)
+    }
+
+    /// The number of the row of this index.
+    pub fn at(&self, numbers: &[u32]) -> Option<usize>
+        ensures place { result ≡ family_at self.now numbers.now }
+        ensures within { ForSome result (λ n. n < length self.now) }
+    {
+        let index = self.table_index.as_slice();
+        by_index::family_at(self.rows.as_slice(), index, numbers)
+    }
+
     /// Whether a view has a name and a family, found by halves. It takes no memory.
     pub fn has_view(&self, view: &Name) -> bool
         ensures { result ≡ has_view self.now view.now }
     {
         let index = self.view_index.as_slice();
         !view.is_empty() && has_row_of(self.rows.as_slice(), index, view.as_bytes())
+    }
+}
+
+// Puts the mask of the row of this number.
+fn put_mask(rows: &mut Vec<FamilyRow>, n: usize, mask: Mask) -> Mask
+    requires { n < length rows.old.items }
+    ensures rows { rows.new.items ≡ with_mask rows.old.items n mask }
+    ensures before { option_map (λ row. row.mask) (slice_get rows.old.items n) ≡ Some result }
+    ensures short { length mask ≤ MAX_MASK }
+{
+    let _short = mask.as_slice();
+    let row = &mut rows[n];
+    let before = row.mask;
+    row.mask = mask;
+    before
+}
+
+// Puts the type of the row of this number.
+fn put_type(rows: &mut Vec<FamilyRow>, n: usize, included: bool) -> bool
+    requires { n < length rows.old.items }
+    ensures rows { rows.new.items ≡ with_type rows.old.items n included }
+    ensures before { option_map (λ row. row.included) (slice_get rows.old.items n) ≡ Some result }
+{
+    let row = &mut rows[n];
+    let before = row.included;
+    row.included = included;
+    before
+}
+
+// Whether some bit of a mask is 0.
+fn has_zero(mask: &[u8]) -> bool
+    ensures { result ≡ list_any (λ octet. not (octet == 255)) mask.now }
+{
+    mask.iter().any(|octet| *octet != 255)
+}
+
+// Marks where the steps of a row do not count.
+fn mark_row(tree: &mut Radix, row: &FamilyRow)
+    ensures kept { (way : List Step) (n : ℕ) → reaches tree.old way n ≡ true
+        → reaches tree.new way n ≡ true }
+    ensures marked { (n : ℕ) → IsNumbered (reaches tree.old) row.now n
+        → IsPlaced (reaches tree.new) row.now n }
+{
+    let mut way = ArrayVec::new();
+    put_way(&mut way, row);
+    tree.mark(way.as_slice());
+}
+
+// The same of all rows.
+fn mark_all(tree: &mut Radix, rows: &[FamilyRow])
+    requires { AreNumbered (reaches tree.old) rows.now }
+    ensures { IsTreeOf (reaches tree.new) rows.now }
+{
+    for row in rows {
+        mark_row(tree, row);
+    }
+}
+
+// Marks what the steps of a row, whose mask was changed, do not count. Where some did not count
+// before, marks may have gone, and all are made anew.
+fn mark_changed(tree: &mut Radix, rows: &[FamilyRow], n: usize, was_open: bool)
+    requires within { n < length rows.now }
+    requires tree { IsTreeBut (reaches tree.old) rows.now n }
+    ensures { IsTreeOf (reaches tree.new) rows.now }
+{
+    if was_open {
+        tree.clear();
+        mark_all(tree, rows);
+    } else {
+        mark_row(tree, &rows[n]);
     }
 }
 
@@ -147,26 +270,25 @@ fn fixed(part: u32) -> Step
     Step { part, counts: true }
 }
 
-// The way of a row: the length of its view's name, the octets of that name, and the subtree, whose
-// steps count where the mask's bit is 1.
-fn way_of(alloc: Global, row: &FamilyRow) -> Result<Vec<Step>, AllocError>
-    ensures way { IfOk result (λ way. way.items ≡ way_of row.now) }
-    ensures some { OnOk result (1 ≤ length row.now.subtree) }
+// Puts in the steps of the way of a row: the length of its view's name, the octets of that name, and
+// the subtree, whose steps count where the mask's bit is 1.
+fn put_way(way: &mut ArrayVec<Step, MOST_STEPS>, row: &FamilyRow)
+    requires empty { way.old.items ≡ [] }
+    ensures way { way.new.items ≡ way_of row.now }
+    ensures some { 1 ≤ length row.now.subtree }
 {
-    let mut way = Vec::new(alloc);
     let view = row.view.as_bytes();
-    way.push(fixed(view.len() as u32))?;
+    way.push(fixed(view.len() as u32));
     for octet in view {
-        way.push(fixed(u32::from(*octet)))?;
+        way.push(fixed(u32::from(*octet)));
     }
     let mask = row.mask.as_slice();
     for (k, part) in row.subtree.as_slice().iter().enumerate() {
         way.push(Step {
             part: *part,
             counts: mask_bit(mask, k),
-        })?;
+        });
     }
-    Ok(way)
 }
 
 // Puts a row at its place.
@@ -179,7 +301,8 @@ fn place(tree: &mut Tree, alloc: Global, rows: &[FamilyRow], n: usize) -> Result
         → IsPlaced (leads tree.old) (slice_index_or rows.now m d) m
         → IsPlaced (leads tree.new) (slice_index_or rows.now m d) m) }
 {
-    let way = way_of(alloc, &rows[n])?;
+    let mut way = ArrayVec::new();
+    put_way(&mut way, &rows[n]);
     tree.insert(alloc, way.as_slice(), n)
 }
 
@@ -226,24 +349,6 @@ fn tree_of(alloc: Global, rows: &[FamilyRow]) -> Result<Radix, AllocError>
     let mut tree = Tree::Empty;
     place_between(&mut tree, alloc, rows, numbers.as_slice(), 0, numbers.len())?;
     packed(alloc, &tree)
-}
-
-// Puts in the numbers by which the rows of a view that have a name are found: how many octets the
-// view's name has, those, and the numbers of the name.
-fn put_numbers(numbers: &mut ArrayVec<u32, MOST_NUMBERS>, view: &Name, name: &[u32])
-    requires empty { numbers.old.items ≡ [] }
-    requires short { length name.now ≤ MAX_NUMBERS }
-    ensures { numbers.new.items ≡ length view.now ∷ (view.now ++ name.now) }
-{
-    let octets = view.as_bytes();
-    numbers.push(octets.len() as u32);
-    for octet in octets {
-        numbers.push(u32::from(*octet));
-    }
-    match numbers.try_extend_from_slice(name) {
-        Ok(()) => {}
-        Err(_) => unreachable!(),
-    }
 }
 
 // The number of the family row of a view that decides on a name, of those in their tree.

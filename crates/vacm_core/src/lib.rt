@@ -4,7 +4,9 @@
 //! # Entry points
 //! `Vacm::new` takes the written rows or names the first fault; `Vacm::decide` is the verdict on a
 //! request up to its names, `Vacm::in_view` the answer on a name. Each names its row.
-//! `Vacm::hides_all` tells where a view is seen to hide every name that begins with a prefix. None
+//! `Vacm::next_family` and `Vacm::family_at` find a family row by its index in
+//! vacmViewTreeFamilyTable; `Vacm::put_mask` and `Vacm::put_type` change it where it stands, and give
+//! what it had. `Vacm::hides_all` tells where a view is seen to hide every name that begins with a prefix. None
 //! of these but `new` takes memory. `Vacm::try_copy` is a copy, and `Vacm::rows` the rows as they
 //! are written, of which [`Same`] tells whether two are the same. [`checked_rows`] checks a table
 //! of any rows that are [`Written`], [`copied_rows`] copies any that are [`CopiedAs`] others, and
@@ -17,7 +19,9 @@
 //!
 //! # Definitions
 //! `specs/Access.antt`: which access rows may decide and which beats which; `specs/Families.antt`:
-//! which families have a name; `specs/Hiding.antt`: when a view is seen to hide every name that
+//! which families have a name; `specs/FamilyIndex.antt`: the index of a family row, and which row
+//! comes behind some numbers; `specs/Changes.antt`: the rows with another mask or type;
+//! `specs/Hiding.antt`: when a view is seen to hide every name that
 //! begins with a prefix; `specs/Best.antt`,
 //! `specs/Orders.antt`: the row that no row beats; `specs/Faults.antt`, `specs/Rules.antt`:
 //! lengths, fields and keys of rows, the first fault, and where checking the rows takes memory.
@@ -25,8 +29,9 @@
 //! in the order of their keys. `specs/Trees.antt`, inside the crate: which family rows a tree leads to, by which numbers. A
 //! `Vacm` keeps a radix tree of its family rows, and `Vacm::in_view` goes by it: the row that it
 //! finds is the one that decides among all of them. `specs/Keys.antt`, inside the crate too: the
-//! order of rows by their keys, by which a `Vacm` finds a group row, the access rows of a group, and
-//! whether a view has a family. `specs/Tables.antt`, `specs/Rows.antt`: the tables as they are kept, and the rows that
+//! order of rows by their keys, by which a `Vacm` finds a group row, the access rows of a group,
+//! whether a view has a family, and a family row by its index. `specs/Masks.antt`: how a mask is
+//! kept. `specs/Tables.antt`, `specs/Rows.antt`: the tables as they are kept, and the rows that
 //! written ones stand for; `specs/Levels.antt`: the numbers of the security levels;
 //! `specs/Texts.antt`: the texts of the tables.
 //!
@@ -47,9 +52,13 @@
 //! How long a decision takes: `Vacm::decide` finds the group row by halves, and looks at the access
 //! rows of the group, and at the contexts up to the one asked for. It looks by halves whether the
 //! view has a family. `Vacm::hides_all` looks at each family row, `Vacm::in_view` at those that its
-//! tree leads to.
+//! tree leads to: few where masks leave little open, and all where they leave everything open, which
+//! takes some three times as long as to look at each row in turn. `Vacm::put_mask` goes along the way
+//! of its row where the mask before had no 0, else along that of each row, some 0.3 ms at 1,000 rows.
+//! A run of numbers of which a put mask leaves one open is passed whole, while any does.
 #![tactic(auto)]
 
+mod by_index;
 mod checking;
 mod contest;
 mod copying;
@@ -61,6 +70,7 @@ mod index;
 pub mod laws;
 mod limits;
 mod name;
+mod numbers;
 mod radix;
 mod reading;
 mod repeats;

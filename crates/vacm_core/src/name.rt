@@ -2,7 +2,7 @@
 ghost use Rattle.std.specs.Prelude.{◌≡◌, ◌≤◌, ◌==◌, ℕ, List, [], length, bytes_eq, if◌then◌else◌, nat_le};
 
 use crate::limits::{MAX_MASK, MAX_NAME};
-use arrayvec::{ArrayString, ArrayVec};
+use arrayvec::ArrayString;
 use std::marker::Model;
 
 /// A name of at most [`MAX_NAME`] octets, which lie in the value itself.
@@ -92,20 +92,34 @@ impl Name {
 }
 
 /// A mask of at most [`MAX_MASK`] octets, which lie in the value itself.
-#[derive(Drop)]
+#[derive(Clone, Copy, Debug, PartialEq, Eq)]
 pub struct Mask {
-    octets: ArrayVec<u8, MAX_MASK>,
+    // The octets of the mask, and zeros behind them.
+    octets: [u8; MAX_MASK],
+    len: usize,
 }
 
 impl Model for Mask {
-    ghost use Rattle.std.specs.Prelude.{◌≤◌, ℕ, List, length};
+    ghost use Rattle.std.specs.Prelude.{◌≡◌, ◌-◌, ◌≤◌, ℕ, List, length, take, drop, replicate};
     ghost use Rattle.vacm_core.specs.declared.limits.TheConstants.{MAX_MASK};
+    ghost use Rattle.vacm_core.specs.Masks.{with_zeros, octets_again, length_again};
 
     ghost Value = { List ℕ };
 
-    ghost view = { λ m. m.octets.items };
+    ghost view = { λ m. take m.len m.octets };
 
-    ghost invariant = { λ m. length m.octets.items ≤ MAX_MASK };
+    ghost invariant = { λ m. (m.len ≤ MAX_MASK) × (length m.octets ≡ MAX_MASK)
+        × (drop m.len m.octets ≡ replicate (MAX_MASK - m.len) 0) };
+
+    ghost inverse = { λ octets. record {
+      octets = with_zeros octets;
+      len = length octets;
+    } };
+
+    ghost inverse_ok = { λ m h i. record {
+      octets = octets_again m.octets m.len h.0 h.1 h.2 i;
+      len = length_again m.octets m.len h.0 h.1 i;
+    } };
 }
 
 impl Mask {
@@ -114,11 +128,14 @@ impl Mask {
         requires { length octets.now ≤ MAX_MASK }
         ensures { result ≡ octets.now }
     {
-        let mut mask = ArrayVec::new();
-        for octet in octets {
-            mask.push(*octet);
+        let mut kept = [0; MAX_MASK];
+        for (k, octet) in octets.iter().enumerate() {
+            kept[k] = *octet;
         }
-        Mask { octets: mask }
+        Mask {
+            octets: kept,
+            len: octets.len(),
+        }
     }
 
     /// The octets of the mask.
@@ -126,6 +143,6 @@ impl Mask {
         ensures value { result.now ≡ self.now }
         ensures short { length self.now ≤ MAX_MASK }
     {
-        self.octets.as_slice()
+        &self.octets[..self.len]
     }
 }

@@ -5,7 +5,7 @@ ghost use Rattle.vacm_core.specs.Trees.{leads, same_parts};
 use std::alloc::{AllocError, Global};
 
 /// One step of the way to a row.
-#[derive(Clone, Copy)]
+#[derive(Clone, Copy, Default)]
 pub struct Step {
     /// The number of the step.
     pub part: u32,
@@ -33,6 +33,8 @@ pub struct Node {
     pub row: Option<usize>,
     /// Whether the step of some row from here on does not count at this place.
     pub loose: bool,
+    /// Whether that of some row that goes on after this step, or ends with it, does not.
+    pub loose_equal: bool,
     /// The rows whose step here has a smaller number.
     pub less: Tree,
     /// The rows that go on after this step.
@@ -74,11 +76,14 @@ impl Tree {
                     node.less.insert(alloc, way, row)
                 } else if node.part < step.part {
                     node.greater.insert(alloc, way, row)
-                } else if rest.is_empty() {
-                    node.row = Some(row);
-                    Ok(())
                 } else {
-                    node.equal.insert(alloc, rest, row)
+                    node.loose_equal = node.loose_equal || !step.counts;
+                    if rest.is_empty() {
+                        node.row = Some(row);
+                        Ok(())
+                    } else {
+                        node.equal.insert(alloc, rest, row)
+                    }
                 }
             }
         }
@@ -96,6 +101,7 @@ fn chain(alloc: Global, way: &[Step], row: usize) -> Result<Tree, AllocError>
         part: step.part,
         row: if rest.is_empty() { Some(row) } else { None },
         loose: !step.counts,
+        loose_equal: !step.counts,
         less: Tree::Empty,
         equal: chain(alloc, rest, row)?,
         greater: Tree::Empty,

@@ -8,7 +8,7 @@ use crate::families::Families;
 use crate::fault::{TableFault, VacmTable};
 use crate::index::index_of;
 use crate::limits::MAX_FAMILY;
-use crate::name::Name;
+use crate::name::{Mask, Name};
 use crate::rows::Rows;
 use crate::tables::{AccessRow, FamilyRow, GroupRow};
 use crate::verdict::{Ask, FamilyAnswer, Verdict};
@@ -74,6 +74,8 @@ impl Vacm {
     ghost use Rattle.vacm_core.specs.Tables.{tables_of, rows_of};
     ghost use Rattle.vacm_core.specs.Faults.{AreAllRight, IsFault, TakesMemory};
     ghost use Rattle.vacm_core.specs.Families.{family_answer, in_view, by_type, matches, family_beats, NamesFamilyOf};
+    ghost use Rattle.vacm_core.specs.FamilyIndex.{next_family, family_at};
+    ghost use Rattle.vacm_core.specs.Changes.{with_mask, with_type};
     ghost use Rattle.vacm_core.specs.Hiding.{hides_all};
     ghost use Rattle.oid_core.specs.Order.{is_prefix};
     ghost use Rattle.vacm_core.specs.Access.{is_of, verdict_of, by_access, by_view, deciding_access, candidate, access_beats, NamesRowOf};
@@ -213,6 +215,53 @@ impl Vacm {
             Some(n) => self.answer_of(n),
             None => FamilyAnswer::NoRow,
         }
+    }
+
+    /// Puts the mask of the family row of this number, and gives the one that it had
+    /// (vacmViewTreeFamilyMask of RFC 3415). It takes no memory. Where the mask before had no 0 it
+    /// goes along that row alone, else once along each row.
+    pub fn put_mask(&mut self, n: usize, mask: Mask) -> Mask
+        requires { n < length self.old.families }
+        ensures tables { self.new ≡ record self.old {
+          families = with_mask self.old.families n mask;
+        } }
+        ensures before { option_map (λ row. row.mask) (slice_get self.old.families n)
+            ≡ Some result }
+    {
+        self.families.put_mask(n, mask)
+    }
+
+    /// Puts the type of the family row of this number, whether it is included, and gives the one
+    /// that it had (vacmViewTreeFamilyType of RFC 3415). It takes no memory.
+    pub fn put_type(&mut self, n: usize, included: bool) -> bool
+        requires { n < length self.old.families }
+        ensures tables { self.new ≡ record self.old {
+          families = with_type self.old.families n included;
+        } }
+        ensures before { option_map (λ row. row.included) (slice_get self.old.families n)
+            ≡ Some result }
+    {
+        self.families.put_type(n, included)
+    }
+
+    /// The number of the family row whose index is the first that is greater than these numbers (RFC
+    /// 3415, vacmViewTreeFamilyTable), if there is one. It is found by halves, without taking
+    /// memory.
+    pub fn next_family(&self, numbers: &[u32]) -> Option<usize>
+        ensures row { result ≡ next_family self.now.families numbers.now }
+        ensures within { ForSome result (λ n. n < length self.now.families) }
+    {
+        self.families.next(numbers)
+    }
+
+    /// The number of the family row of this index (RFC 3415, vacmViewTreeFamilyTable): how many
+    /// octets the view's name has, those, how many sub-identifiers the subtree has, those. It is
+    /// found by halves, without taking memory.
+    pub fn family_at(&self, index: &[u32]) -> Option<usize>
+        ensures row { result ≡ family_at self.now.families index.now }
+        ensures within { ForSome result (λ n. n < length self.now.families) }
+    {
+        self.families.at(index)
     }
 
     /// Whether a view is seen to hide every name that begins so: no included row of it may match

@@ -6,7 +6,7 @@ ghost use Rattle.vacm_core.specs.Trees.{reaches, fits, IsFit, Covers, IsLater};
 ghost use Rattle.vacm_core.specs.declared.tree.Step.{Step};
 
 use crate::contest::{Contest, takes_over};
-use crate::radix::{Radix, behind};
+use crate::radix::Radix;
 
 // Whether a row is better than the best so far, and passes.
 fn is_better<C: Contest>(contest: &C, rows: &[C::Row], best: Option<usize>, row: &C::Row) -> bool
@@ -66,7 +66,7 @@ pub fn best_below<C: Contest>(
     let node = match tree {
         Radix::Empty => return best,
         Radix::Run(run) => {
-            return match behind(name, run.parts.as_slice()) {
+            return match run.after(name) {
                 Some(after) => best_below(&run.below, contest, rows, after, best),
                 None => best,
             };
@@ -79,6 +79,9 @@ pub fn best_below<C: Contest>(
     if node.loose {
         let best = best_below(&node.less, contest, rows, name, best);
         let best = best_below(&node.greater, contest, rows, name, best);
+        if !node.loose_equal && *first != node.part {
+            return best;
+        }
         let best = best_below(&node.equal, contest, rows, after, best);
         return better(contest, rows, best, node.row);
     }

@@ -20,8 +20,8 @@ impl Draws {
         }
     }
 
-    // A number below a limit.
-    fn below(&mut self, limit: u32) -> u32
+    /// A number below a limit.
+    pub fn below(&mut self, limit: u32) -> u32
         requires { 0 < limit }
         ensures { result < limit }
     {
@@ -37,6 +37,16 @@ impl Draws {
     pub fn mask(&mut self, alloc: Global) -> Result<Vec<u8>, Fail> {
         let mut mask = Vec::new(alloc);
         for _ in 0..self.below(3) {
+            let [one, two, three, ..] = self.generator.next_u32().to_be_bytes();
+            mask.push(one | two | three)?;
+        }
+        Ok(mask)
+    }
+
+    /// A mask of 0 to 16 octets, in which one bit of eight is 0.
+    pub fn long_mask(&mut self, alloc: Global) -> Result<Vec<u8>, Fail> {
+        let mut mask = Vec::new(alloc);
+        for _ in 0..self.below(17) {
             let [one, two, three, ..] = self.generator.next_u32().to_be_bytes();
             mask.push(one | two | three)?;
         }

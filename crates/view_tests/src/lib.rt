@@ -1,5 +1,6 @@
-//! Tests of views of many families: what decides on a name, beside a plain scan of all families;
-//! and of policies of many rows, in whatever order.
+//! Tests of views of many families: what decides on a name, beside a plain scan of all families, also
+//! after masks and types were changed; the order of families by their indexes; and policies of many
+//! rows, in whatever order.
 //!
 //! # Entry points
 //! None: the tests call what `vacm_core` and `community_core` offer.
@@ -15,7 +16,11 @@
 #![tactic(auto)]
 
 #[cfg(test)]
+mod changes;
+#[cfg(test)]
 mod drawn;
+#[cfg(test)]
+mod indexes;
 #[cfg(test)]
 mod many_families;
 #[cfg(test)]

@@ -13,7 +13,7 @@ const SHORT: &str = "v";
 const LONG: &str = "vw";
 
 /// How many families each view has.
-const FAMILIES: usize = 1_000;
+pub const FAMILIES: usize = 1_000;
 
 /// How many names each view is asked for, by each seed.
 const NAMES: usize = 12_500;
@@ -23,15 +23,21 @@ const DRAWS: u32 = 100;
 
 /// A view, as the scan reads it.
 #[derive(Drop)]
-struct View {
-    name: &'static str,
-    families: Vec<Family>,
+pub struct View {
+    /// Its name.
+    pub name: &'static str,
+    // How each subtree begins.
+    front: &'static [u32],
+    /// Its families.
+    pub families: Vec<Family>,
 }
 
 impl View {
-    fn new(alloc: Global, name: &'static str) -> View {
+    /// A view without a family, whose subtrees begin so.
+    pub fn new(alloc: Global, name: &'static str, front: &'static [u32]) -> View {
         View {
             name,
+            front,
             families: Vec::new(alloc),
         }
     }
@@ -41,10 +47,17 @@ impl View {
         families.any(|known| known.subtree.as_slice() == subtree)
     }
 
+    // A name that begins as each subtree does.
+    fn name_below(&self, alloc: Global, draws: &mut Draws) -> Result<Vec<u32>, Fail> {
+        let mut name = self.front.to_vec(alloc)?;
+        name.extend_from_slice(draws.name(alloc)?.as_slice())?;
+        Ok(name)
+    }
+
     // A subtree that the view does not have.
     fn new_subtree(&self, alloc: Global, draws: &mut Draws) -> Result<Vec<u32>, Fail> {
         for _ in 0..DRAWS {
-            let subtree = draws.name(alloc)?;
+            let subtree = self.name_below(alloc, draws)?;
             if !self.has_subtree(subtree.as_slice()) {
                 return Ok(subtree);
             }
@@ -52,8 +65,8 @@ impl View {
         Err(Fail::from("no other subtree"))
     }
 
-    // Draws one more family, as the last of these rows.
-    fn add(
+    /// Draws one more family, as the last of these rows.
+    pub fn add(
         &mut self,
         alloc: Global,
         draws: &mut Draws,
@@ -77,13 +90,13 @@ impl View {
     fn drawn_name(&self, alloc: Global, draws: &mut Draws, turn: usize) -> Result<Vec<u32>, Fail> {
         match self.families.get(turn / 2 % FAMILIES) {
             Some(family) if turn % 2 == 0 => draws.name_near(alloc, family.subtree.as_slice()),
-            _ => draws.name(alloc),
+            _ => self.name_below(alloc, draws),
         }
     }
 }
 
-// The tables of these families.
-fn vacm_of(alloc: Global, families: Vec<WrittenFamily>) -> Result<Vacm, Fail> {
+/// The tables of these families.
+pub fn vacm_of(alloc: Global, families: Vec<WrittenFamily>) -> Result<Vacm, Fail> {
     let rows = VacmRows {
         groups: Rows::new(Vec::new(alloc)),
         access: Rows::new(Vec::new(alloc)),
@@ -125,8 +138,13 @@ impl Counts {
     }
 }
 
-// Whether each name that is drawn has the answer of the scan, and there are many of each answer.
-fn is_scanned(alloc: Global, draws: &mut Draws, view: &View, vacm: &Vacm) -> Result<bool, Fail> {
+/// Whether each name that is drawn has the answer of the scan, and there are many of each answer.
+pub fn is_scanned(
+    alloc: Global,
+    draws: &mut Draws,
+    view: &View,
+    vacm: &Vacm,
+) -> Result<bool, Fail> {
     let name_of_view = Name::from_str(view.name).ok_or("a name")?;
     let mut counts = Counts::new();
     for turn in 0..NAMES {
@@ -143,8 +161,8 @@ fn is_scanned(alloc: Global, draws: &mut Draws, view: &View, vacm: &Vacm) -> Res
 // The same of two views of one set of tables, whose rows are drawn in turn.
 fn are_scanned(alloc: Global, seed: u64) -> Result<bool, Fail> {
     let mut draws = Draws::new(seed);
-    let mut one = View::new(alloc, SHORT);
-    let mut other = View::new(alloc, LONG);
+    let mut one = View::new(alloc, SHORT, &[]);
+    let mut other = View::new(alloc, LONG, &[]);
     let mut rows = Vec::new(alloc);
     for _ in 0..FAMILIES {
         one.add(alloc, &mut draws, &mut rows)?;

@@ -20,7 +20,8 @@ pub struct Family {
     pub subtree: Vec<u32>,
     // The sub-identifiers of the subtree, by the mask.
     parts: Vec<Part>,
-    included: bool,
+    /// Whether the view includes the family.
+    pub included: bool,
 }
 
 // Whether a sub-identifier counts: the first bit of a mask is the highest of the first octet, and
@@ -59,6 +60,12 @@ impl Family {
             parts,
             included,
         })
+    }
+
+    /// Gives the family another mask.
+    pub fn put_mask(&mut self, alloc: Global, mask: &[u8]) -> Result<(), AllocError> {
+        self.parts = parts_of(alloc, self.subtree.as_slice(), mask)?;
+        Ok(())
     }
 
     // Whether the family has a name.

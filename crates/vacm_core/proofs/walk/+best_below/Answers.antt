@@ -1,7 +1,7 @@
-use Rattle.std.proofs.Common.{◌≡◌, true, sym, ap, subst, ◌∙◌, inl, inr, arith}
+use Rattle.std.proofs.Common.{◌≡◌, true, Some, None, option_map, sym, ap, subst, ◌∙◌, inl, inr, arith}
 use Rattle.vacm_core.specs.declared.radix.Branch.{Branch}
 use Rattle.vacm_core.specs.declared.radix.Run.{Run}
-use Rattle.vacm_core.specs.Trees.{reaches}
+use Rattle.vacm_core.specs.Trees.{reaches, after_run}
 use Rattle.vacm_core.proofs.Ways.{goes_straight, turns, leads_behind, leads_nowhere, along_run}
 use Rattle.vacm_core.proofs.walk.+best_below.Goals as goal
 
@@ -11,7 +11,7 @@ returns-clause-found g t c way n e f =
     let tight = ap (λ (m : Branch). m.loose) (sym c.deref-2.ensures) ∙ c.if-deref.false in
     let low = ap (λ (m : Branch). m.part) c.deref-3.ensures in
     let high = ap (λ (m : Branch). m.part) c.deref-4.ensures in
-    elim (goes_straight c.args.tree.now node c.in-Fork.is way c.args.name.now n e f (omega arith) tight (omega (arith, c.if-first-deref.false, c.if-deref-first.false))) [
+    elim (goes_straight c.args.tree.now node c.in-Fork.is way c.args.name.now n e f (omega arith) tight (omega (arith, c.if-first-deref-2.false, c.if-deref-first.false))) [
       | inl here ↦ c.better-2.ensures.here n (ap (λ (m : Branch). m.row) c.deref-7.ensures ∙ here)
       | inr on ↦ c.better-2.ensures.later.kept n
           (c.best_below-best-2.ensures.found on.rest n (subst (λ (m : Branch). reaches m.equal on.rest n ≡ true) (sym c.deref-6.ensures) on.leads) on.fits)
@@ -28,22 +28,24 @@ returns-then-deref-clause-found g t c way n e f =
           (c.best_below-best.ensures.found way n (subst (λ (m : Branch). reaches m.less way n ≡ true) (sym c.deref-then-deref.ensures) less) f)))
       | inr (inl more) ↦ last.later.kept n (equal.later.kept n
           (greater.found way n (subst (λ (m : Branch). reaches m.greater way n ≡ true) (sym c.deref-then-deref-2.ensures) more) f))
-      | inr (inr (inl here)) ↦ last.here n (ap (λ (m : Branch). m.row) c.deref-then-deref-4.ensures ∙ here)
+      | inr (inr (inl here)) ↦ last.here n (ap (λ (m : Branch). m.row) c.deref-then-deref-5.ensures ∙ here)
       | inr (inr (inr on)) ↦ last.later.kept n
-          (equal.found on.rest n (subst (λ (m : Branch). reaches m.equal on.rest n ≡ true) (sym c.deref-then-deref-3.ensures) on.leads) on.fits)
+          (equal.found on.rest n (subst (λ (m : Branch). reaches m.equal on.rest n ≡ true) (sym c.deref-then-deref-4.ensures) on.leads) on.fits)
     ]
 
 pub returns-in-Some-clause-found : goal.returns-in-Some-clause-found
 returns-in-Some-clause-found g t c way n e f =
     let run = c.in-Run.run' in
-    let parts = c.as_slice.ensures.value ∙ ap (λ (r : Run). r.parts.items) c.deref.ensures in
-    let on = leads_behind c.as_slice.result.now run.value.below way c.args.name.now c.in-Some.after.now n
-    (along_run c.args.tree.now run c.in-Run.is c.as_slice.result.now parts way n e) f c.in-Some.ensures in
+    let name = c.args.name.now in
+    let found : Some c.in-Some.after.now ≡ after_run run.value.loose run.value.parts.items name =
+    ap (option_map (λ rest. rest.now)) (sym c.in-Some.is) ∙ c.after.ensures ∙ ap (λ (r : Run). after_run r.loose r.parts.items name) c.deref.ensures in
+    let on = leads_behind run.value.loose run.value.parts.items run.value.below name c.in-Some.after.now n (along_run c.args.tree.now run c.in-Run.is way name n e f) found in
     c.best_below.ensures.found on.rest n (subst (λ (r : Run). reaches r.below on.rest n ≡ true) (sym c.deref-in-Some.ensures) on.leads) on.fits
 
 pub returns-in-None-clause-found : goal.returns-in-None-clause-found
 returns-in-None-clause-found g t c way n e f =
     let run = c.in-Run.run' in
-    let parts = c.as_slice.ensures.value ∙ ap (λ (r : Run). r.parts.items) c.deref.ensures in
-    leads_nowhere c.as_slice.result.now run.value.below way c.args.name.now n
-    (along_run c.args.tree.now run c.in-Run.is c.as_slice.result.now parts way n e) f c.in-None.ensures
+    let name = c.args.name.now in
+    let found : None ≡ after_run run.value.loose run.value.parts.items name =
+    ap (option_map (λ rest. rest.now)) (sym c.in-None.is) ∙ c.after.ensures ∙ ap (λ (r : Run). after_run r.loose r.parts.items name) c.deref.ensures in
+    leads_nowhere run.value.loose run.value.parts.items run.value.below name n (along_run c.args.tree.now run c.in-Run.is way name n e f) found

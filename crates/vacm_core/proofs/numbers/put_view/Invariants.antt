@@ -1,5 +1,5 @@
 use Rattle.std.proofs.Common.{◌≡◌, ◌∷◌, length, take}
-use Rattle.vacm_core.proofs.families.put_numbers.Given as goal
+use Rattle.vacm_core.proofs.numbers.put_view.Given as goal
 
 -- the octets so far
 abbrev pub invariant-loop-octet : goal.invariant-loop-octet

@@ -1,6 +1,6 @@
 use Rattle.std.proofs.Common.{◌≡◌, ◌∷◌, ◌++◌, length, map, take}
 use Rattle.vacm_core.specs.Trees.{counting_part, view_way, subtree_way}
-use Rattle.vacm_core.proofs.families.way_of.Given as goal
+use Rattle.vacm_core.proofs.families.put_way.Given as goal
 
 -- the steps of the view so far
 abbrev pub invariant-loop-octet : goal.invariant-loop-octet
