@@ -1,5 +1,6 @@
 //! Frames through a bridge, and its seconds, by 2 and 32 ports, among 10 and 1,024 addresses.
 use crate::print::print_turns;
+use crate::statics::measure_statics;
 use bridge_core::Bridge;
 use fdb_core::MAX_AGING_TIME;
 use frame_core::{FrameIn, Mac};
@@ -11,7 +12,7 @@ use std::io::{Error, ErrorKind};
 use std::time::Instant;
 
 /// How many frames go through.
-const FRAMES: u32 = 200_000;
+pub const FRAMES: u32 = 200_000;
 
 /// How many seconds pass in which no learned row is old enough to go.
 const SECONDS: u32 = 20_000;
@@ -52,8 +53,8 @@ fn link_up(bridge: &mut Bridge, port: u16) {
     }
 }
 
-// How many ports a frame goes out of.
-fn carry(bridge: &mut Bridge, port: u16, source: Mac, destination: Mac) -> usize {
+/// How many ports a frame goes out of.
+pub fn carry(bridge: &mut Bridge, port: u16, source: Mac, destination: Mac) -> usize {
     let frame = FrameIn {
         destination,
         source,
@@ -121,7 +122,7 @@ pub fn bridge_of(alloc: Global, ports: u16) -> io::Result<Bridge> {
 }
 
 /// Sends frames through bridges of 2 and 32 ports with 10 and 1,024 learned rows, and lets seconds
-/// pass.
+/// pass; and then through one with static rows.
 pub fn measure_forwarding(rt: &HostRuntime) -> io::Result<()> {
     for ports in PORTS {
         for rows in ROWS {
@@ -132,5 +133,5 @@ pub fn measure_forwarding(rt: &HostRuntime) -> io::Result<()> {
             measure_quiet_seconds(rt, &mut bridge)?;
         }
     }
-    Ok(())
+    measure_statics(rt)
 }

@@ -23,6 +23,7 @@ mod print;
 mod replies;
 mod requests;
 mod scenes;
+mod statics;
 mod tree;
 mod trials;
 

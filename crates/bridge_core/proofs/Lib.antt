@@ -6,4 +6,6 @@ pub mod Relayed
 pub mod Tallied
 pub mod Reserved
 pub mod RunLaws
+pub mod StaticKept
+pub mod StaticRows
 pub mod Same

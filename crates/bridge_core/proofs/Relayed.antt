@@ -12,11 +12,14 @@ use Rattle.frame_core.specs.declared.bpdu.Bpdu.{Bpdu}
 use Rattle.frame_core.specs.declared.frame.FrameIn.{FrameIn}
 use Rattle.frame_core.specs.Octets.{is_group, same_mac}
 use Rattle.fdb_core.specs.declared.row.Row.{Row}
+use Rattle.fdb_core.specs.declared.static_row.StaticRow.{StaticRow}
+use Rattle.fdb_core.specs.PortSets.{has_port}
 use Rattle.fdb_core.specs.Rows.{port_of as learned_port}
 use Rattle.bridge_core.specs.Bridge.{BridgeState, address_of, port_count}
-use Rattle.bridge_core.specs.Forwarding.{is_reserved, forwards, may_be_behind, ports_where, egress_of}
+use Rattle.bridge_core.specs.Statics.{listed}
+use Rattle.bridge_core.specs.Forwarding.{is_reserved, forwards, may_be_behind, may_go, ports_where, egress_of}
 use Rattle.bridge_core.specs.Events.{after_reception, after_learning, after_forwarding, data_result, reception_result, Framed, frame_result, no_bpdus, GoesBetween}
-use Rattle.bridge_core.specs.Relay.{IsReceived, IsRelayed, IsForAll, IsFor, destination_port}
+use Rattle.bridge_core.specs.Relay.{IsReceived, IsRelayed, IsListed, IsUnlisted, IsForAll, IsFor, destination_port}
 use Rattle.bridge_core.proofs.Changes.{framed_on}
 use Rattle.bridge_core.proofs.Ways.{framed_goes}
 
@@ -42,7 +45,7 @@ sends_none b p f no_room h = ap (λ (g : Framed). g.bpdus) (framed_passed b p f 
 abbrev pub leaves_by : BridgeState → ℕ → Mac → List Row → ℕ → Bool
 leaves_by b p d rows q =
     forwards b p && forwards b q && not (q == p) && not (is_reserved d) && not (same_mac d (address_of b))
-    && (is_group d || may_be_behind (learned_port rows d) q)
+    && may_go (listed b.statics.rows p d) rows d q
 
 pub egress_is : (b : BridgeState) (p : ℕ) (f : FrameIn) (no_room : Bool) → IsReceived b p f
     → (frame_result b p f no_room).egress ≡ ports_where (leaves_by b p f.destination (frame_result b p f no_room).bridge.learned) (port_count b)
@@ -68,9 +71,9 @@ differs_from d a true e h =
     absurd (h (ap of ((bytes_eq-Decides d.0 a.0).0 e)))
 
 pub leaves_relayed : (b : BridgeState) (p : ℕ) (f : FrameIn) (rows : List Row) → IsRelayed b p f
-    → leaves_by b p f.destination rows ≡ (λ (q : ℕ). forwards b q && not (q == p) && (is_group f.destination || may_be_behind (learned_port rows f.destination) q))
+    → leaves_by b p f.destination rows ≡ (λ (q : ℕ). forwards b q && not (q == p) && may_go (listed b.statics.rows p f.destination) rows f.destination q)
 leaves_relayed b p f rows h = λ i q.
-    relayed (forwards b p) (forwards b q) (not (q == p)) (is_reserved f.destination) (same_mac f.destination (address_of b)) (is_group f.destination || may_be_behind (learned_port rows f.destination) q) h.forwards h.unreserved (differs_from f.destination (address_of b) (same_mac f.destination (address_of b)) refl h.foreign) i
+    relayed (forwards b p) (forwards b q) (not (q == p)) (is_reserved f.destination) (same_mac f.destination (address_of b)) (may_go (listed b.statics.rows p f.destination) rows f.destination q) h.forwards h.unreserved (differs_from f.destination (address_of b) (same_mac f.destination (address_of b)) refl h.foreign) i
 
 -- the numbers of a list that pass a test are listed
 kept_behind : (test : ℕ → Bool) (x q : ℕ) (xs : List ℕ) (v : Bool) → test x ≡ v → Contains (filter test xs) q → Contains (filter test (x ∷ xs)) q
@@ -82,17 +85,17 @@ kept_at test [] q k h e f = absurd (omega arith)
 kept_at test (x ∷ xs) q zero h e f = rw (ap test e ∙ f) (0, omega arith, e)
 kept_at test (x ∷ xs) q (suc k) h e f = kept_behind test x q xs (test x) refl (kept_at test xs q k (omega arith) e f)
 
-pub listed : (test : ℕ → Bool) (n q : ℕ) → 1 ≤ q → q ≤ n → test q ≡ true → Contains (ports_where test n) q
+pub found_in : (test : ℕ → Bool) (n q : ℕ) → 1 ≤ q → q ≤ n → test q ≡ true → Contains (ports_where test n) q
 unfolding ports_where
-listed test n q first last e =
+found_in test n q first last e =
     let below : q - 1 < n = omega arith in
     let within : q - 1 < length (range_with_len 1 n) = omega (arith, length-range_with_len 1 n) in
     let same : 1 + (q - 1) ≡ q = omega arith in
     kept_at test (range_with_len 1 n) q (q - 1) within (get_or-range_with_len 1 n (q - 1) q below ∙ same) e
 
-pub listed_passes : (test : ℕ → Bool) (n q : ℕ) → Contains (ports_where test n) q → test q ≡ true
+pub passes_in : (test : ℕ → Bool) (n q : ℕ) → Contains (ports_where test n) q → test q ≡ true
 unfolding ports_where
-listed_passes test n q h =
+passes_in test n q h =
     All-contains (λ (k : ℕ). test k ≡ true) (filter test (range_with_len 1 n)) q (filter_passes test (range_with_len 1 n)) h
 
 -- where none passes, none is listed
@@ -134,6 +137,10 @@ pub both_true : (a b : Bool) → (a && b) ≡ true → (a ≡ true) × (b ≡ tr
 both_true true b e = (refl, e)
 both_true false b e = cc
 
+-- a frame for which no row is listed goes by its destination
+unlisted : (b : BridgeState) (p : ℕ) (f : FrameIn) (rows : List Row) (q : ℕ) → IsUnlisted b p f → may_go (listed b.statics.rows p f.destination) rows f.destination q ≡ (is_group f.destination || may_be_behind (learned_port rows f.destination) q)
+unlisted b p f rows q h = ap (λ (o : Option StaticRow). may_go o rows f.destination q) h
+
 -- a frame for all
 for_all : (b : BridgeState) (p : ℕ) (f : FrameIn) (no_room : Bool) (q : ℕ) → IsForAll b p f no_room → (is_group f.destination || may_be_behind (destination_port b p f no_room) q) ≡ true
 for_all b p f no_room q (inl e) = rw e
@@ -148,44 +155,61 @@ and_true true true c e = e
 and_true true false c e = refl
 and_true false b c e = refl
 
-pub flooded : (b : BridgeState) (p : ℕ) (f : FrameIn) (no_room : Bool) → IsRelayed b p f → IsForAll b p f no_room
+pub flooded : (b : BridgeState) (p : ℕ) (f : FrameIn) (no_room : Bool) → IsRelayed b p f → IsUnlisted b p f → IsForAll b p f no_room
     → (frame_result b p f no_room).egress ≡ ports_where (λ (q : ℕ). forwards b q && not (q == p)) (port_count b)
-flooded b p f no_room h all =
+flooded b p f no_room h none all =
     egress_is b p f no_room h.received
     ∙ ap (λ (t : ℕ → Bool). ports_where t (port_count b)) (leaves_relayed b p f (frame_result b p f no_room).bridge.learned h
-    ∙ λ i q. and_true (forwards b q) (not (q == p)) (is_group f.destination || may_be_behind (destination_port b p f no_room) q) (for_all b p f no_room q all) i)
+    ∙ λ i q. and_true (forwards b q) (not (q == p)) (may_go (listed b.statics.rows p f.destination) (frame_result b p f no_room).bridge.learned f.destination q) (unlisted b p f (frame_result b p f no_room).bridge.learned q none ∙ for_all b p f no_room q all) i)
 
-pub floods : (b : BridgeState) (p : ℕ) (f : FrameIn) (no_room : Bool) → IsRelayed b p f → IsForAll b p f no_room → (q : ℕ) → Contains (frame_result b p f no_room).egress q ↔ GoesBetween b p q
-floods b p f no_room h all q = (
+pub floods : (b : BridgeState) (p : ℕ) (f : FrameIn) (no_room : Bool) → IsRelayed b p f → IsUnlisted b p f → IsForAll b p f no_room → (q : ℕ) → Contains (frame_result b p f no_room).egress q ↔ GoesBetween b p q
+floods b p f no_room h none all q = (
   framed_goes b p f no_room q,
-  λ g. subst (λ (xs : List ℕ). Contains xs q) (sym (flooded b p f no_room h all)) (listed (λ (k : ℕ). forwards b k && not (k == p)) (port_count b) q g.has_port.0 g.has_port.1 (rw (g.to, another q p g.other))),
+  λ g. subst (λ (xs : List ℕ). Contains xs q) (sym (flooded b p f no_room h none all)) (found_in (λ (k : ℕ). forwards b k && not (k == p)) (port_count b) q g.has_port.0 g.has_port.1 (rw (g.to, another q p g.other))),
 )
 
 -- a frame for one station
 for_one : (b : BridgeState) (p : ℕ) (f : FrameIn) (no_room : Bool) (r q : ℕ) → IsFor b p f no_room r → (is_group f.destination || may_be_behind (destination_port b p f no_room) q) ≡ (r == q)
 for_one b p f no_room r q h = rw (h.single, h.at)
 
-pub directed : (b : BridgeState) (p : ℕ) (f : FrameIn) (no_room : Bool) (r : ℕ) → IsRelayed b p f → IsFor b p f no_room r
+pub directed : (b : BridgeState) (p : ℕ) (f : FrameIn) (no_room : Bool) (r : ℕ) → IsRelayed b p f → IsUnlisted b p f → IsFor b p f no_room r
     → (frame_result b p f no_room).egress ≡ ports_where (λ (q : ℕ). forwards b q && not (q == p) && r == q) (port_count b)
-directed b p f no_room r h one =
+directed b p f no_room r h none one =
     egress_is b p f no_room h.received
     ∙ ap (λ (t : ℕ → Bool). ports_where t (port_count b)) (leaves_relayed b p f (frame_result b p f no_room).bridge.learned h
-    ∙ λ i q. forwards b q && not (q == p) && for_one b p f no_room r q one i)
+    ∙ λ i q. forwards b q && not (q == p) && (unlisted b p f (frame_result b p f no_room).bridge.learned q none ∙ for_one b p f no_room r q one) i)
 
-pub goes_alone : (b : BridgeState) (p : ℕ) (f : FrameIn) (no_room : Bool) (r : ℕ) → IsRelayed b p f → IsFor b p f no_room r → GoesBetween b p r → (frame_result b p f no_room).egress ≡ r ∷ []
-goes_alone b p f no_room r h one g =
+pub goes_alone : (b : BridgeState) (p : ℕ) (f : FrameIn) (no_room : Bool) (r : ℕ) → IsRelayed b p f → IsUnlisted b p f → IsFor b p f no_room r → GoesBetween b p r → (frame_result b p f no_room).egress ≡ r ∷ []
+goes_alone b p f no_room r h none one g =
     let test : ℕ → Bool = λ q. forwards b q && not (q == p) && r == q in
     let only : (q : ℕ) → test q ≡ true → q ≡ r = λ q e. sym ((Decides-eqb r q).0 (both_true (forwards b q && not (q == p)) (r == q) e).1) in
-    directed b p f no_room r h one ∙ alone test r (port_count b) only g.has_port.0 g.has_port.1 (rw (g.to, another r p g.other, eq-eqb r r refl))
+    directed b p f no_room r h none one ∙ alone test r (port_count b) only g.has_port.0 g.has_port.1 (rw (g.to, another r p g.other, eq-eqb r r refl))
 
-pub goes_nowhere : (b : BridgeState) (p : ℕ) (f : FrameIn) (no_room : Bool) (r : ℕ) → IsRelayed b p f → IsFor b p f no_room r → (GoesBetween b p r → ⊥) → (frame_result b p f no_room).egress ≡ []
-goes_nowhere b p f no_room r h one g =
+pub goes_nowhere : (b : BridgeState) (p : ℕ) (f : FrameIn) (no_room : Bool) (r : ℕ) → IsRelayed b p f → IsUnlisted b p f → IsFor b p f no_room r → (GoesBetween b p r → ⊥) → (frame_result b p f no_room).egress ≡ []
+goes_nowhere b p f no_room r h none one g =
     let test : ℕ → Bool = λ q. forwards b q && not (q == p) && r == q in
-    directed b p f no_room r h one ∙ nowhere test (port_count b) (λ q first last. to_false (test q) (λ e.
+    directed b p f no_room r h none one ∙ nowhere test (port_count b) (λ q first last. to_false (test q) (λ e.
     let way = both_true (forwards b q && not (q == p)) (r == q) e in
     let ends = both_true (forwards b q) (not (q == p)) way.0 in
     let to : GoesBetween b p q = record { has_port = (first, last); other = is_another q p ends.1; from = h.forwards; to = ends.0 } in
     g (subst (GoesBetween b p) (sym ((Decides-eqb r q).0 way.1)) to)))
+
+-- a frame for which a row is listed
+pub goes_listed : (b : BridgeState) (p : ℕ) (f : FrameIn) (no_room : Bool) (row : StaticRow) → IsRelayed b p f → IsListed b p f row
+    → (frame_result b p f no_room).egress ≡ ports_where (λ (q : ℕ). forwards b q && not (q == p) && has_port row.ports q) (port_count b)
+goes_listed b p f no_room row h one =
+    let rows = (frame_result b p f no_room).bridge.learned in
+    egress_is b p f no_room h.received
+    ∙ ap (λ (t : ℕ → Bool). ports_where t (port_count b)) (leaves_relayed b p f rows h
+    ∙ λ i q. forwards b q && not (q == p) && ap (λ (o : Option StaticRow). may_go o rows f.destination q) one i)
+
+pub lists : (b : BridgeState) (p : ℕ) (f : FrameIn) (no_room : Bool) (row : StaticRow) → IsRelayed b p f → IsListed b p f row → (q : ℕ) → Contains (frame_result b p f no_room).egress q ↔ (GoesBetween b p q × (has_port row.ports q ≡ true))
+lists b p f no_room row h one q =
+    let test : ℕ → Bool = λ k. forwards b k && not (k == p) && has_port row.ports k in
+    let same = goes_listed b p f no_room row h one in (
+      λ e. (framed_goes b p f no_room q e, (both_true (forwards b q && not (q == p)) (has_port row.ports q) (passes_in test (port_count b) q (subst (λ (xs : List ℕ). Contains xs q) same e))).1),
+      λ g. subst (λ (xs : List ℕ). Contains xs q) (sym same) (found_in test (port_count b) q g.0.has_port.0 g.0.has_port.1 (rw (g.0.to, another q p g.0.other, g.1))),
+    )
 
 -- a frame that may not go out
 stays : (b : BridgeState) (p : ℕ) (f : FrameIn) (no_room : Bool) → IsReceived b p f → ((rows : List Row) (q : ℕ) → leaves_by b p f.destination rows q ≡ true → ⊥) → (frame_result b p f no_room).egress ≡ []

@@ -25,6 +25,8 @@ use Rattle.bridge_core.specs.Opening.{opening_bridge}
 use Rattle.bridge_core.specs.Events.{after_tree_step, tick_of, after_tick, link_of, after_link, settling_of, after_settling, set_bridge, after_reception, after_learning, after_forwarding, data_result, arrival_of, bpdu_result, reception_result, Framed, frame_result}
 use Rattle.bridge_core.specs.Runs.{Put, Event, with_puts, after, run, IsActive}
 use Rattle.bridge_core.specs.Runs.Event.{Tick, Link, Frame, Settle}
+use Rattle.bridge_core.specs.Runs.Put.{Setting, Made, Allowed}
+use Rattle.bridge_core.specs.Statics.{set_made, set_allowed}
 use Rattle.bridge_core.proofs.Changes.{framed_on, framed_off}
 use Rattle.bridge_core.proofs.Ways.{framed_goes}
 
@@ -54,7 +56,9 @@ link_led a cs n up b h = record {
 -- settings that are put change nothing of the spanning tree
 with_puts-tree : (puts : List Put) (b : BridgeState) → (with_puts puts b).tree ≡ b.tree
 with_puts-tree [] b = refl
-with_puts-tree (p ∷ puts) b = with_puts-tree puts (set_bridge p.key p.value b)
+with_puts-tree (Setting k v ∷ puts) b = with_puts-tree puts (set_bridge k v b)
+with_puts-tree (Made i v ∷ puts) b = with_puts-tree puts (set_made i v b)
+with_puts-tree (Allowed i v ∷ puts) b = with_puts-tree puts (set_allowed i v b)
 
 settled_led : (a : Mac) (cs : List PortConfig) (b set : BridgeState) → set.tree ≡ b.tree → Led a cs b → Led a cs (after_settling set)
 unfolding after_settling after_tree_step settling_of

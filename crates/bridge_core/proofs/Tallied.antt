@@ -19,7 +19,7 @@ use Rattle.bridge_core.specs.Counting.{with_frame_in, with_frame_out, with_disca
 use Rattle.bridge_core.specs.Forwarding.{learns, learnt_of, rows_after, egress_of}
 use Rattle.bridge_core.specs.Events.{after_reception, after_learning, after_forwarding, data_result, Framed, frame_result}
 use Rattle.bridge_core.specs.Relay.{IsReceived, HasPlace}
-use Rattle.bridge_core.proofs.Relayed.{framed_passed, leaves_by, egress_is, listed, listed_passes, to_false}
+use Rattle.bridge_core.proofs.Relayed.{framed_passed, leaves_by, egress_is, found_in, passes_in, to_false}
 use Rattle.bridge_core.proofs.Ways.{framed_goes}
 
 -- the counters after such a frame
@@ -65,7 +65,7 @@ not_back : (b : BridgeState) (p : ℕ) (f : FrameIn) (no_room : Bool) → IsRece
 not_back b p f no_room h =
     let test = leaves_by b p f.destination (frame_result b p f no_room).bridge.learned in
     to_false (test p) (λ e.
-    (framed_goes b p f no_room p (subst (λ (xs : List ℕ). Contains xs p) (sym (egress_is b p f no_room h)) (listed test (port_count b) p h.has_port.0 h.has_port.1 e))).other refl)
+    (framed_goes b p f no_room p (subst (λ (xs : List ℕ). Contains xs p) (sym (egress_is b p f no_room h)) (found_in test (port_count b) p h.has_port.0 h.has_port.1 e))).other refl)
 
 -- of the port by which it came
 pub counted_in : (b : BridgeState) (p : ℕ) (f : FrameIn) (no_room : Bool) → IsReceived b p f → p ≤ length b.counters.ports
@@ -100,14 +100,14 @@ pub counted_out : (b : BridgeState) (p : ℕ) (f : FrameIn) (no_room : Bool) (n 
 counted_out b p f no_room n h last goes =
     let test = leaves_by b p f.destination (frame_result b p f no_room).bridge.learned in
     let way = framed_goes b p f no_room n goes in
-    let passes : test n ≡ true = listed_passes test (port_count b) n (subst (λ (xs : List ℕ). Contains xs n) (egress_is b p f no_room h) goes) in
+    let passes : test n ≡ true = passes_in test (port_count b) n (subst (λ (xs : List ℕ). Contains xs n) (egress_is b p f no_room h) goes) in
     counted_other b p f no_room n h way.has_port.0 last way.other ∙ ap (λ (v : Bool). with_frame_out v (counters_of b n)) passes
 
 pub counted_rest : (b : BridgeState) (p : ℕ) (f : FrameIn) (no_room : Bool) (n : ℕ) → IsReceived b p f → HasPort b n → n ≤ length b.counters.ports → n ≢ p
     → (Contains (frame_result b p f no_room).egress n → ⊥) → counters_of (frame_result b p f no_room).bridge n ≡ counters_of b n
 counted_rest b p f no_room n h port last other stays =
     let test = leaves_by b p f.destination (frame_result b p f no_room).bridge.learned in
-    let fails : test n ≡ false = to_false (test n) (λ e. stays (subst (λ (xs : List ℕ). Contains xs n) (sym (egress_is b p f no_room h)) (listed test (port_count b) n port.0 port.1 e))) in
+    let fails : test n ≡ false = to_false (test n) (λ e. stays (subst (λ (xs : List ℕ). Contains xs n) (sym (egress_is b p f no_room h)) (found_in test (port_count b) n port.0 port.1 e))) in
     counted_other b p f no_room n h port.0 last other ∙ ap (λ (v : Bool). with_frame_out v (counters_of b n)) fails
 
 -- nothing went out, or something did

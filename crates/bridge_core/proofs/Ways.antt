@@ -1,5 +1,5 @@
 -- The ways of a frame as they are found, and as they are defined; and what every way has.
-use Rattle.std.proofs.Common.{◌≡◌, ◌≢◌, ℕ, ◌<◌, Bool, true, false, ◌&&◌, ◌||◌, not, [], length, filter, All, Contains, eq-eqb, refl, sym, ap, subst, ◌∙◌, arith}
+use Rattle.std.proofs.Common.{◌≡◌, ◌≢◌, ℕ, ◌<◌, Bool, true, false, ◌&&◌, not, [], length, filter, All, Contains, eq-eqb, refl, sym, ap, subst, ◌∙◌, arith}
 use Rattle.std.specs.Prelude.{◌==◌, Option, Some, None}
 use Rattle.std.specs.List.{range_with_len}
 use Rattle.std.proofs.lemmas.List.Elements.{All-contains, All-filter, filter_passes}
@@ -9,11 +9,11 @@ use Rattle.frame_core.specs.declared.mac.Mac.{Mac}
 use Rattle.frame_core.specs.declared.frame.FrameIn.{FrameIn}
 use Rattle.frame_core.specs.declared.bpdu.Bpdu.{Bpdu}
 use Rattle.rstp_rules.specs.declared.port.State.{State}
-use Rattle.frame_core.specs.Octets.{is_group, same_mac}
-use Rattle.fdb_core.specs.Rows.{port_of as learned_port}
+use Rattle.frame_core.specs.Octets.{same_mac}
 use Rattle.rstp_settings.specs.Table.{IsPortOf}
 use Rattle.bridge_core.specs.Bridge.{BridgeState, address_of, port_of, is_on}
-use Rattle.bridge_core.specs.Forwarding.{is_reserved, forwards, may_be_behind, goes_out, ports_where, egress_of}
+use Rattle.bridge_core.specs.Statics.{listed}
+use Rattle.bridge_core.specs.Forwarding.{is_reserved, forwards, may_go, goes_out, ports_where, egress_of}
 use Rattle.bridge_core.specs.ForwardingInside.{is_way, goes_by}
 use Rattle.bridge_core.specs.Events.{after_reception, after_learning, data_result, bpdu_result, reception_result, Framed, frame_result, GoesBetween}
 use Rattle.bridge_core.proofs.Changes.{framed_on, framed_off}
@@ -28,11 +28,11 @@ in_order false true false free own way = refl
 in_order false false other free own way = refl
 
 -- a way that leads where frames to this destination may go is by the ports by which they go out
-pub same_way : (b : BridgeState) (p : ℕ) (way : ℕ → Bool) (own : Mac) (at : State) (d : Mac) → ((q : ℕ) → way q ≡ is_way b.learned own at d q) → own ≡ address_of b → at ≡ (port_of b p).state → goes_by way p b.tree ≡ goes_out b p d
+pub same_way : (b : BridgeState) (p : ℕ) (way : ℕ → Bool) (own : Mac) (at : State) (d : Mac) → ((q : ℕ) → way q ≡ is_way b.learned b.statics.rows own at p d q) → own ≡ address_of b → at ≡ (port_of b p).state → goes_by way p b.tree ≡ goes_out b p d
 same_way b p way own at d h e g =
     ap (λ (w : ℕ → Bool). goes_by w p b.tree) (λ i q. h q i)
-    ∙ (ap (λ (a : Mac). goes_by (is_way b.learned a at d) p b.tree) e ∙ (ap (λ (x : State). goes_by (is_way b.learned (address_of b) x d) p b.tree) g
-    ∙ λ i q. in_order (forwards b p) (forwards b q) (not (q == p)) (not (is_reserved d)) (not (same_mac d (address_of b))) (is_group d || may_be_behind (learned_port b.learned d) q) i))
+    ∙ (ap (λ (a : Mac). goes_by (is_way b.learned b.statics.rows a at p d) p b.tree) e ∙ (ap (λ (x : State). goes_by (is_way b.learned b.statics.rows (address_of b) x p d) p b.tree) g
+    ∙ λ i q. in_order (forwards b p) (forwards b q) (not (q == p)) (not (is_reserved d)) (not (same_mac d (address_of b))) (may_go (listed b.statics.rows p d) b.learned d q) i))
 
 both_true : (a b : Bool) → (a && b) ≡ true → (a ≡ true) × (b ≡ true)
 both_true true b e = (refl, e)

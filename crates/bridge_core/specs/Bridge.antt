@@ -1,8 +1,9 @@
--- What a bridge is: its settings, its spanning tree, the addresses that it has learned, and its
--- counters.
+-- What a bridge is: its settings, its spanning tree, the addresses that it has learned, its static
+-- rows, and its counters.
 use Rattle.std.specs.Prelude.{ℕ, ◌-◌, Bool, List, length, slice_index_or}
 use Rattle.frame_core.specs.declared.mac.Mac.{Mac}
 use Rattle.fdb_core.specs.declared.row.Row.{Row}
+use Rattle.fdb_core.specs.Statics.{Statics, no_statics}
 use Rattle.rstp_settings.specs.Table.{Table, IsPortOf}
 use Rattle.rstp_settings.specs.declared.config.PortConfig.{PortConfig}
 use Rattle.rstp_rules.specs.declared.port.Port.{Port}
@@ -16,11 +17,12 @@ pub record Counters : Type 0 where
   pub ports : List PortCounters
 
 -- The spanning tree has the bridge's address, the ports' configurations, what was settled, and what
--- each port holds. The learned rows are by rising address.
+-- each port holds. The learned rows are by rising address, the static ones by rising index.
 pub record BridgeState : Type 0 where
   pub settings : Table
   pub tree : Tree
   pub learned : List Row
+  pub statics : Statics
   pub counters : Counters
 
 -- The bridge address, and how many ports there are.
@@ -33,6 +35,14 @@ port_count b = length b.tree.ports
 -- Whether it has a port: ports are numbered from 1.
 abbrev pub HasPort : BridgeState → ℕ → Type 0
 HasPort b port = IsPortOf (port_count b) port
+
+-- The same bridge, sure of memory for no static row: all that a bridge is besides that promise.
+abbrev pub without_places : BridgeState → BridgeState
+without_places b = record b { statics = record b.statics { places = 0 } }
+
+-- And without its static rows.
+abbrev pub without_statics : BridgeState → BridgeState
+without_statics b = record b { statics = no_statics }
 
 -- What is configured of a port; what its spanning tree holds; and its counters.
 abbrev pub no_counters : PortCounters

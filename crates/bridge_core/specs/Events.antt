@@ -4,6 +4,7 @@ use Rattle.frame_core.specs.declared.mac.Mac.{Mac}
 use Rattle.frame_core.specs.declared.bpdu.Bpdu.{Bpdu}
 use Rattle.frame_core.specs.declared.frame.FrameIn.{FrameIn}
 use Rattle.fdb_core.specs.Rows.{older_row, young_rows, other_rows}
+use Rattle.fdb_core.specs.Statics.{made_rows}
 use Rattle.rstp_settings.specs.Table.{get, put, without_migration_checks}
 use Rattle.rstp_settings.specs.declared.key.Key.{Key}
 use Rattle.rstp_settings.specs.declared.key.Key.TheVariants as key
@@ -41,13 +42,15 @@ link_of port up b = link_step b.settings port up b.tree
 unfoldable pub after_link : ℕ → Bool → BridgeState → BridgeState
 after_link port up b = after_tree_step (link_of port up b) b
 
--- The settings are settled, and the migrations spent.
+-- The settings are settled, the migrations spent, and the static rows that are not made dropped: so
+-- the ports that were set for such a row are all ports again.
 unfoldable pub settling_of : BridgeState → Step
 settling_of b = settling_step b.settings b.tree
 
 unfoldable pub after_settling : BridgeState → BridgeState
 after_settling b =
-    after_tree_step (settling_of b) (record b { settings = without_migration_checks b.settings })
+    after_tree_step (settling_of b)
+    (record b { settings = without_migration_checks b.settings; statics = record b.statics { rows = made_rows b.statics.rows } })
 
 -- A setting gets a value.
 abbrev pub set_bridge : Key → ℕ → BridgeState → BridgeState

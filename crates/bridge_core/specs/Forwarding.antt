@@ -1,5 +1,5 @@
 -- Which frames are learned from, and by which ports a frame goes out (IEEE 802.1D-2004 7.7, 7.8,
--- 7.12).
+-- 7.9, 7.12).
 use Rattle.std.specs.Prelude.{◌≡◌, ℕ, ◌<◌, Bool, true, false, ◌&&◌, ◌||◌, not, ◌==◌, nat_lt, if◌then◌else◌, List, length, filter, take, slice_index, Option, Some, None}
 use Rattle.std.specs.List.{range_with_len}
 use Rattle.std.specs.Str.{bytes_eq}
@@ -8,14 +8,17 @@ use Rattle.frame_core.specs.declared.mac.TheConstants.{BRIDGE_GROUP}
 use Rattle.frame_core.specs.declared.frame.FrameIn.{FrameIn}
 use Rattle.frame_core.specs.Octets.{is_group, same_mac}
 use Rattle.fdb_core.specs.declared.row.Row.{Row}
+use Rattle.fdb_core.specs.declared.static_row.StaticRow.{StaticRow}
 use Rattle.fdb_core.specs.declared.learnt.Learnt.{Learnt}
 use Rattle.fdb_core.specs.declared.learnt.Learnt.TheVariants.{New, Moved, Same, Full, Memory}
 use Rattle.fdb_core.specs.Rows.{port_of as learned_port}
 use Rattle.fdb_core.specs.Learning.{answer, learned_rows}
+use Rattle.fdb_core.specs.PortSets.{has_port}
 use Rattle.rstp_rules.specs.declared.port.State.{State}
 use Rattle.rstp_rules.specs.Ports.{is_discarding, is_forwarding}
 use Rattle.bridge_core.specs.declared.bridge.TheConstants.{MAX_LEARNED_ROWS}
 use Rattle.bridge_core.specs.Bridge.{BridgeState, address_of, port_count, port_of, is_on}
+use Rattle.bridge_core.specs.Statics.{listed}
 
 -- The addresses 0180C2000000 to 0180C200000F, which no bridge forwards (7.12.6).
 abbrev pub is_reserved : Mac → Bool
@@ -75,13 +78,20 @@ abbrev pub may_be_behind : Option ℕ → ℕ → Bool
 may_be_behind None out = true
 may_be_behind (Some r) out = r == out
 
+-- Whether a frame to this destination may go out by the port `out`: where a static row is listed for
+-- it, by the ports of that row (7.9.1); else where the destination is a group, or is learned there or
+-- nowhere.
+abbrev pub may_go : Option StaticRow → List Row → Mac → ℕ → Bool
+may_go (Some row) learned d out = has_port row.ports out
+may_go None learned d out = is_group d || may_be_behind (learned_port learned d) out
+
 -- Whether a frame to this destination that came by a port goes out by the port `out`: both forward
--- and they are two; and the destination is neither reserved nor the bridge itself, and it is a
--- group, or learned at q or nowhere.
+-- and they are two; and the destination is neither reserved nor the bridge itself, and the frame
+-- may go out by that port.
 abbrev pub goes_out : BridgeState → ℕ → Mac → ℕ → Bool
 goes_out b port d out =
     forwards b port && forwards b out && not (out == port) && not (is_reserved d) && not (same_mac d (address_of b))
-    && (is_group d || may_be_behind (learned_port b.learned d) out)
+    && may_go (listed b.statics.rows port d) b.learned d out
 
 -- The ports of so many that pass the test, rising.
 unfoldable pub ports_where : (ℕ → Bool) → ℕ → List ℕ

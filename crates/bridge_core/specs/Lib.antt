@@ -1,9 +1,11 @@
 pub mod Bridge
 pub mod BridgeInside
+pub mod Statics
 pub mod Counting
 pub mod Opening
 pub mod Forwarding
 pub mod ForwardingInside
+pub mod StaticIndexes
 pub mod Events
 pub mod Facts
 pub mod Runs

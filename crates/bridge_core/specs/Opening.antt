@@ -3,6 +3,7 @@ use Rattle.std.specs.Prelude.{ℕ, ◌==◌, ◌||◌, Bool, not, nat_lt, if◌t
 use Rattle.std.specs.List.{list_all}
 use Rattle.frame_core.specs.declared.mac.Mac.{Mac}
 use Rattle.frame_core.specs.Octets.{is_group}
+use Rattle.fdb_core.specs.Statics.{no_statics}
 use Rattle.rstp_settings.specs.Config.{is_speed}
 use Rattle.rstp_settings.specs.Table.{opening}
 use Rattle.rstp_settings.specs.declared.settings.TheConstants.{MAX_PORTS}
@@ -22,11 +23,12 @@ fault_of address ports =
     else None))
 
 -- At first all links are down, the settings are the opening ones and settled, no address is
--- learned, and each counter is 0.
+-- learned, there is no static row, and each counter is 0.
 unfoldable pub opening_bridge : Mac → List PortConfig → BridgeState
 opening_bridge address ports = record {
   settings = opening (length ports);
   tree = opening_tree address ports;
   learned = [];
+  statics = no_statics;
   counters = record { entry_discards = 0; ports = replicate (length ports) no_counters };
 }

@@ -1,12 +1,14 @@
--- What becomes of a frame that is no BPDU, in the standard's words (IEEE 802.1D-2004 7.5 to 7.8).
+-- What becomes of a frame that is no BPDU, in the standard's words (IEEE 802.1D-2004 7.5 to 7.9).
 use Rattle.std.specs.Prelude.{◌≡◌, ◌≢◌, ◌⊎◌, ℕ, ◌<◌, Bool, true, false, List, length, Option, Some, None}
 use Rattle.frame_core.specs.declared.mac.Mac.{Mac}
 use Rattle.frame_core.specs.declared.frame.FrameIn.{FrameIn}
 use Rattle.frame_core.specs.Octets.{is_group}
 use Rattle.fdb_core.specs.declared.row.Row.{Row}
+use Rattle.fdb_core.specs.declared.static_row.StaticRow.{StaticRow}
 use Rattle.fdb_core.specs.Rows.{port_of as learned_port}
 use Rattle.bridge_core.specs.declared.bridge.TheConstants.{MAX_LEARNED_ROWS}
 use Rattle.bridge_core.specs.Bridge.{BridgeState, HasPort, address_of, is_on}
+use Rattle.bridge_core.specs.Statics.{listed}
 use Rattle.bridge_core.specs.Forwarding.{is_reserved, forwards}
 use Rattle.bridge_core.specs.Events.{frame_result}
 
@@ -38,6 +40,13 @@ IsForAll b port f no_room =
 pub record IsFor (b : BridgeState) (port : ℕ) (f : FrameIn) (no_room : Bool) (r : ℕ) : Type 0 where
   pub single : is_group f.destination ≡ false
   pub at : destination_port b port f no_room ≡ Some r
+
+-- A static row is listed for the frame, or none is (7.9.1).
+abbrev pub IsListed : BridgeState → ℕ → FrameIn → StaticRow → Type 0
+IsListed b port f row = listed b.statics.rows port f.destination ≡ Some row
+
+abbrev pub IsUnlisted : BridgeState → ℕ → FrameIn → Type 0
+IsUnlisted b port f = listed b.statics.rows port f.destination ≡ None
 
 -- There is a row of the address, or a place for one.
 abbrev pub HasPlace : List Row → Mac → Type 0

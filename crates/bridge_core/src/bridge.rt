@@ -1,11 +1,15 @@
 //! The bridge: one event at a time.
-ghost use Rattle.std.specs.Prelude.{◌≡◌, ◌↔◌, ◌≤◌, length, true, Some, None, Ok, Err, IfOk, IsTrue};
+ghost use Rattle.std.specs.Prelude.{◌≡◌, ◌↔◌, ◌≤◌, ◌+◌, length, true, Some, None, Ok, Err, IfOk, OnOk, OnErr, IsOk, IsTrue};
 ghost use Rattle.rstp_settings.specs.Table.{get, HasKey, IsInRange};
 ghost use Rattle.bridge_core.specs.Bridge.{HasPort, port_count, is_on};
 ghost use Rattle.bridge_core.specs.Opening.{fault_of, opening_bridge};
 ghost use Rattle.bridge_core.specs.Forwarding.{AsksMemory, MayLackMemory, egress_of};
 ghost use Rattle.bridge_core.specs.Counting.{sent_where, has_bpdu};
 ghost use Rattle.fdb_core.specs.Rows.{other_rows};
+ghost use Rattle.fdb_core.specs.PortSets.{IsOfPorts};
+ghost use Rattle.fdb_core.specs.Statics.{with_places_for, next_made};
+ghost use Rattle.bridge_core.specs.Statics.{is_made, allowed, set_made, set_allowed, HasPlaceFrom, HasStatics};
+ghost use Rattle.bridge_core.specs.StaticIndexes.{IsStaticIndex};
 ghost use Rattle.bridge_core.specs.Events.{Gives, frame_result, reception_result, data_result, after_reception, after_learning, after_forwarding, after_tree_step, arrival_of, tick_of, after_tick, link_of, after_link, settling_of, after_settling, set_bridge};
 ghost use Rattle.bridge_core.specs.Facts.{facts_of, port_facts_of};
 
@@ -15,9 +19,9 @@ use crate::fault::{BridgeFault, find_fault};
 use crate::flat::FlatBridge;
 use crate::forwarding::{find_way, send_out};
 use crate::learning::{lacks_memory, learn_from};
-use crate::opening;
+use crate::{opening, statics};
 use arrayvec::ArrayVec;
-use fdb_core::Fdb;
+use fdb_core::{Fdb, PortSet, StaticIndex, StaticRow, StaticTable};
 use frame_core::{Bpdu, FrameIn, Mac};
 use rstp_core::{
     BridgeConfig, BridgeKey, Key, MAX_IFINDEX, MAX_PORTS, Outcome, PortConfig, PortKey, Rstp,
@@ -46,12 +50,13 @@ pub struct Forwarding {
 }
 
 /// A learning bridge that runs the Rapid Spanning Tree Protocol. It is seen as its settings, its
-/// spanning tree, its learned rows and its counters. Ports are numbered from 1. A change of
-/// settings is followed by `settle`.
+/// spanning tree, its learned and static rows and its counters. Ports are numbered from 1. A change
+/// of settings, static ones too, is followed by `settle`.
 pub struct Bridge {
     settings: Settings,
     tree: Rstp,
     fdb: Fdb,
+    statics: StaticTable,
     entry_discards: u32,
     counters: ArrayVec<PortCounters, MAX_PORTS>,
 }
@@ -63,6 +68,7 @@ impl Drop for Bridge {
             settings: _settings,
             tree: _tree,
             fdb: _fdb,
+            statics: _statics,
             entry_discards: _entry_discards,
             counters: _counters,
         } = self;
@@ -79,10 +85,11 @@ impl Model for Bridge {
       settings = b.settings;
       tree = b.tree;
       learned = b.fdb.rows;
+      statics = b.statics;
       counters = record { entry_discards = b.entry_discards; ports = b.counters.items };
     } };
 
-    ghost invariant = { λ b. IsBridge b.settings b.tree b.fdb b.counters.items };
+    ghost invariant = { λ b. IsBridge b.settings b.tree b.fdb b.statics.rows b.counters.items };
 }
 
 impl Bridge {
@@ -107,8 +114,8 @@ impl Bridge {
         }
     }
 
-    /// A copy: the same settings, spanning tree, learned rows with their ages, and counters. Only
-    /// the copied rows take memory.
+    /// A copy: the same settings, spanning tree, learned rows with their ages, static rows with as
+    /// many places, and counters. Only the copied rows take memory.
     ///
     /// # Errors
     ///
@@ -117,28 +124,33 @@ impl Bridge {
         ensures { IfOk result (λ copy. copy ≡ self.now) }
     {
         let fdb = self.fdb.try_copy()?;
+        let statics = self.statics.try_copy()?;
         Ok(Bridge {
             settings: self.copied_settings(),
             tree: self.tree.copy(),
             fdb,
+            statics,
             entry_discards: self.entry_discards,
             counters: copied(self.counters.as_slice()),
         })
     }
 
-    /// A flat copy, to be kept and compared. Only its learned rows take memory.
+    /// A flat copy, to be kept and compared. Only its learned and static rows take memory.
     ///
     /// # Errors
     ///
-    /// `AllocError` where there is no memory for the learned rows.
+    /// `AllocError` where there is no memory for the learned or the static rows.
     pub fn flat(&self, alloc: Global) -> Result<FlatBridge, AllocError>
         ensures { IfOk result (λ flat. flat ≡ self.now) }
     {
         let learned = self.fdb.try_rows(alloc)?;
+        let statics = self.statics.try_rows()?;
         Ok(FlatBridge::of(
             self.copied_settings(),
             self.tree.copy(),
             learned,
+            statics,
+            self.statics.places(),
             self.entry_discards,
             copied(self.counters.as_slice()),
         ))
@@ -251,14 +263,130 @@ impl Bridge {
         self.settings.put(key, value)
     }
 
+    /// Whether there may be a static row of the index: of one of the ports or of all, and of an
+    /// address that is neither the bridge's own nor one of 0180C2000000 to 0180C200000F.
+    pub fn is_static_index(&self, index: StaticIndex) -> bool
+        ensures { IsTrue result ↔ IsStaticIndex self.now index }
+    {
+        statics::is_index(index, self.tree.address(), self.tree.ports())
+    }
+
+    /// Whether the static row of the index is made (RFC 4188 dot1dStaticStatus).
+    pub fn is_made(&self, index: StaticIndex) -> bool
+        ensures { result ≡ is_made self.now index }
+    {
+        statics::is_made(&self.statics, index)
+    }
+
+    /// The ports that are allowed to frames of the index: all ports, where nothing else was set (RFC
+    /// 4188 dot1dStaticAllowedToGoTo).
+    pub fn allowed(&self, index: StaticIndex) -> PortSet
+        ensures value { result ≡ allowed self.now index }
+        ensures in_range { IsOfPorts (port_count self.now) result }
+    {
+        statics::allowed(&self.statics, index, self.tree.ports())
+    }
+
+    /// Makes the static row of the index, or makes it no more, and answers whether it was made. Its
+    /// ports stay as they are, until `settle` where it is not made. No memory is taken: where there
+    /// is to be a row and is none, a place must be left of those reserved. Frames go by the rows as
+    /// they are: call `settle` before any other event.
+    pub fn put_made(&mut self, index: StaticIndex, made: bool) -> bool
+        requires index { IsStaticIndex self.old index }
+        requires place { HasPlaceFrom self.old index made (allowed self.old index) }
+        ensures before { result ≡ is_made self.old index }
+        ensures after { self.new ≡ set_made index made self.old }
+        ensures ports { port_count self.new ≡ port_count self.old }
+    {
+        let before = statics::is_made(&self.statics, index);
+        let count = self.tree.ports();
+        let ports = statics::allowed(&self.statics, index, count);
+        statics::put(&mut self.statics, count, StaticRow { index, made, ports });
+        before
+    }
+
+    /// Sets the ports that are allowed to frames of the index, and answers those before. They count
+    /// where its row is made; where it is not, `settle` drops them. No memory is taken, as by
+    /// `put_made`. Frames go by the rows as they are: call `settle` before any other event.
+    pub fn put_allowed(&mut self, index: StaticIndex, ports: PortSet) -> PortSet
+        requires index { IsStaticIndex self.old index }
+        requires value { IsOfPorts (port_count self.old) ports }
+        requires place { HasPlaceFrom self.old index (is_made self.old index) ports }
+        ensures before { result ≡ allowed self.old index }
+        ensures after { self.new ≡ set_allowed index ports self.old }
+        ensures ports { port_count self.new ≡ port_count self.old }
+    {
+        let count = self.tree.ports();
+        let before = statics::allowed(&self.statics, index, count);
+        let made = statics::is_made(&self.statics, index);
+        statics::put(&mut self.statics, count, StaticRow { index, made, ports });
+        before
+    }
+
+    /// The first made static row whose seven numbers, the octets of its address and its port, are
+    /// greater than these, for the objects that show the rows. So the rows are walked from no numbers
+    /// on, each time from those of the row before.
+    pub fn next_static(&self, numbers: &[u32]) -> Option<StaticRow>
+        ensures { result ≡ next_made self.now.statics.rows numbers.now }
+    {
+        self.statics.next_made(numbers)
+    }
+
+    /// For how many static rows there is sure to be memory.
+    pub fn static_places(&self) -> usize
+        ensures { result ≡ self.now.statics.places }
+    {
+        self.statics.places()
+    }
+
+    /// Makes sure that there is memory for so many static rows more. Puts do not use up this promise:
+    /// it holds as long as the rows are no more.
+    ///
+    /// # Errors
+    ///
+    /// `AllocError` where there is no memory for them. Nothing changed. It comes neither where the
+    /// rows are none, nor where there was sure to be memory for them before.
+    pub fn reserve_static(&mut self, count: usize) -> Result<(), AllocError>
+        ensures ok { OnOk result (self.new
+            ≡ record self.old { statics = with_places_for count self.old.statics }) }
+        ensures err { OnErr result (self.new ≡ self.old) }
+        ensures none { count ≡ 0 → IsOk result }
+        ensures within { length self.old.statics.rows + count ≤ self.old.statics.places
+            → IsOk result }
+        ensures ports { port_count self.new ≡ port_count self.old }
+    {
+        self.statics.reserve(count)
+    }
+
+    /// Is sure of memory for so many static rows alone. The memory itself is not given back.
+    pub fn hold_static(&mut self, places: usize)
+        requires { places ≤ self.old.statics.places }
+        ensures held { self.new
+            ≡ record self.old { statics = record self.old.statics { places = places } } }
+        ensures ports { port_count self.new ≡ port_count self.old }
+    {
+        self.statics.hold(places);
+    }
+
+    /// Hands on what holds of the static rows of every bridge: they are by rising index, each of the
+    /// bridge's ports, and each is made or has not all ports. It does nothing.
+    pub fn known_statics(&self)
+        ensures { HasStatics self.now }
+    {
+        self.statics.known();
+        let _settings = &self.settings;
+    }
+
     /// A frame comes by port `port`. Where the port is off nothing changes and nothing goes out. A
     /// BPDU goes to the spanning tree only. The source of any other frame is learned where the port
     /// is learning or forwarding, the source is no group address, and there is room: it has a row,
     /// or there are fewer than [`MAX_LEARNED_ROWS`] (7.8); but, by a rule of this profile alone,
     /// not where the destination is reserved. Then, where the port forwards, the frame goes out by
-    /// the other forwarding ports (7.7): by the one at which its destination is learned, or by all
-    /// where it is a group address or not learned; but by none where it is the bridge's own address
-    /// or one of 0180C2000000 to 0180C200000F (7.12.6). Only the growth for a new learned row takes
+    /// the other forwarding ports (7.7): by those of the made static row of its destination and this
+    /// port, or else of its destination and all ports (7.9.1); where there is no such row by the one
+    /// at which its destination is learned, or by all where it is a group address or not learned;
+    /// but by none where it is the bridge's own address or one of 0180C2000000 to 0180C200000F
+    /// (7.12.6). Only the growth for a new learned row takes
     /// memory: where that is refused the frame is forwarded all the same, and noted in `no_room`.
     pub fn frame(&mut self, port: u16, frame: &FrameIn) -> Forwarding
         requires { HasPort self.old port }
@@ -295,14 +423,15 @@ impl Bridge {
         follow(&mut self.fdb, self.counters.as_mut_slice(), outcome)
     }
 
-    /// Settles changed settings, and spends protocol migration checks. It answers what each port
-    /// sends.
+    /// Settles changed settings, spends protocol migration checks, and drops the static rows that are
+    /// not made. It answers what each port sends.
     pub fn settle(&mut self) -> Bpdus
         ensures step { self.new ≡ after_settling self.old }
         ensures bpdus { result.items ≡ (settling_of self.old).bpdus }
         ensures ports { port_count self.new ≡ port_count self.old }
         ensures each { length result.items ≡ port_count self.old }
     {
+        statics::drop_unmade(&mut self.statics);
         let outcome = self.tree.settle(&mut self.settings);
         follow(&mut self.fdb, self.counters.as_mut_slice(), outcome)
     }
@@ -344,7 +473,14 @@ impl Bridge {
         ensures ports { port_count self.new ≡ port_count self.old }
     {
         let state = self.tree.state(port);
-        let way = find_way(&self.fdb, self.tree.address(), state, destination);
+        let way = find_way(
+            &self.fdb,
+            &self.statics,
+            self.tree.address(),
+            state,
+            port,
+            destination,
+        );
         let counters = self.counters.as_mut_slice();
         let egress = send_out(way, port, &self.tree, counters);
         counters[port as usize - 1].discard(egress.is_empty());
@@ -380,6 +516,7 @@ fn open(alloc: Global, address: Mac, ports: &[PortConfig]) -> Bridge
         settings: Settings::new(ports.len()),
         tree,
         fdb: Fdb::new(alloc, MAX_LEARNED_ROWS),
+        statics: StaticTable::new(alloc),
         entry_discards: 0,
         counters: opening::zero_counters(ports.len()),
     }

@@ -1,20 +1,23 @@
 //! A flat copy of a bridge, to be kept and compared.
 ghost use Rattle.std.specs.Prelude.{◌≡◌, ◌↔◌, IsTrue};
+ghost use Rattle.bridge_core.specs.Bridge.{without_places, without_statics};
 
 use crate::counters::PortCounters;
 use arrayvec::ArrayVec;
-use fdb_core::Row;
+use fdb_core::{Row, StaticRow};
 use rstp_core::{MAX_PORTS, Rstp, Settings};
 use std::marker::Model;
 
 /// A flat copy of a bridge, seen as the bridge is. The settings, the spanning tree (the address,
 /// the ports' configurations, what was settled, what each port holds, the times in force) and the
-/// counters stand in fixed arrays for [`MAX_PORTS`] ports; only the learned rows are in a vector,
-/// by rising address. No event changes it.
+/// counters stand in fixed arrays for [`MAX_PORTS`] ports; only the learned and the static rows are
+/// in vectors, in their order. No event changes it.
 pub struct FlatBridge {
     settings: Settings,
     tree: Rstp,
     learned: Vec<Row>,
+    statics: Vec<StaticRow>,
+    places: usize,
     entry_discards: u32,
     counters: ArrayVec<PortCounters, MAX_PORTS>,
 }
@@ -26,6 +29,8 @@ impl Drop for FlatBridge {
             settings: _settings,
             tree: _tree,
             learned: _learned,
+            statics: _statics,
+            places: _places,
             entry_discards: _entry_discards,
             counters: _counters,
         } = self;
@@ -41,6 +46,7 @@ impl Model for FlatBridge {
       settings = b.settings;
       tree = b.tree;
       learned = b.learned.items;
+      statics = record { rows = b.statics.items; places = b.places };
       counters = record { entry_discards = b.entry_discards; ports = b.counters.items };
     } };
 }
@@ -51,6 +57,8 @@ impl FlatBridge {
         settings: Settings,
         tree: Rstp,
         learned: Vec<Row>,
+        statics: Vec<StaticRow>,
+        places: usize,
         entry_discards: u32,
         counters: ArrayVec<PortCounters, MAX_PORTS>,
     ) -> FlatBridge
@@ -58,6 +66,7 @@ impl FlatBridge {
           settings = settings;
           tree = tree;
           learned = learned.items;
+          statics = record { rows = statics.items; places = places };
           counters = record { entry_discards = entry_discards; ports = counters.items };
         } }
     {
@@ -65,20 +74,30 @@ impl FlatBridge {
             settings,
             tree,
             learned,
+            statics,
+            places,
             entry_discards,
             counters,
         }
     }
 
-    /// Whether the two bridges are equal in all that they keep: settings, spanning tree, learned
-    /// rows with their ages, and counters. It takes no memory.
-    pub fn same(&self, other: &FlatBridge) -> bool
-        ensures { IsTrue result ↔ (self.now ≡ other.now) }
+    // Whether the two bridges are equal in all that they keep but their static rows.
+    fn same_but_statics(&self, other: &FlatBridge) -> bool
+        ensures { IsTrue result ↔ (without_statics self.now ≡ without_statics other.now) }
     {
         self.settings.is_same(&other.settings)
             && self.tree.is_same(&other.tree)
             && self.entry_discards == other.entry_discards
             && self.counters.as_slice() == other.counters.as_slice()
             && self.learned.as_slice() == other.learned.as_slice()
+    }
+
+    /// Whether the two bridges are equal in all that they keep: settings, spanning tree, learned
+    /// rows with their ages, static rows, and counters; for how many static rows they are sure of
+    /// memory is not looked at. It takes no memory.
+    pub fn same(&self, other: &FlatBridge) -> bool
+        ensures { IsTrue result ↔ (without_places self.now ≡ without_places other.now) }
+    {
+        self.same_but_statics(other) && self.statics.as_slice() == other.statics.as_slice()
     }
 }

@@ -1,13 +1,14 @@
-//! By which ports a frame goes out (IEEE 802.1D-2004 7.7, 7.12).
-ghost use Rattle.std.specs.Prelude.{◌≡◌, ◌≤◌, ◌<◌, ◌+◌, ℕ, length, [], ◌∷◌, ◌++◌, if◌then◌else◌};
+//! By which ports a frame goes out (IEEE 802.1D-2004 7.7, 7.9, 7.12).
+ghost use Rattle.std.specs.Prelude.{◌≡◌, ◌≤◌, ◌<◌, ◌+◌, ℕ, length, [], ◌∷◌, ◌++◌, if◌then◌else◌, None};
 ghost use Rattle.rstp_core.specs.Tree.{HasPort};
 ghost use Rattle.bridge_core.specs.Counting.{with_frame_out, sent_where};
-ghost use Rattle.bridge_core.specs.Forwarding.{is_reserved, ports_where};
+ghost use Rattle.bridge_core.specs.Forwarding.{is_reserved, may_go, ports_where};
 ghost use Rattle.bridge_core.specs.ForwardingInside.{is_way, leads, goes_by};
 
 use crate::counters::PortCounters;
+use crate::statics::find_listed;
 use arrayvec::ArrayVec;
-use fdb_core::Fdb;
+use fdb_core::{Fdb, PortSet, StaticTable};
 use frame_core::{BRIDGE_GROUP, Mac};
 use rstp_core::{MAX_PORTS, Rstp, State};
 
@@ -20,17 +21,21 @@ pub enum Way {
     Anywhere,
     /// By the port of this number.
     By(u16),
+    /// By the ports of a static row.
+    Listed(PortSet),
 }
 
 impl Way {
     /// Whether a frame may go by this port.
     fn leads(self, port: u16) -> bool
+        requires { 1 ≤ port }
         ensures { result ≡ leads self port }
     {
         match self {
             Way::Nowhere => false,
             Way::Anywhere => true,
             Way::By(one) => one == port,
+            Way::Listed(ports) => ports.has(port),
         }
     }
 }
@@ -42,18 +47,37 @@ pub fn is_reserved(address: Mac) -> bool
     address.0[..5] == BRIDGE_GROUP.0[..5] && address.0[5] < 16
 }
 
-/// By which ports a frame to this destination may go, where the port by which it came is of this
-/// state.
-pub fn find_way(fdb: &Fdb, own: Mac, state: State, destination: Mac) -> Way
-    ensures { (out : ℕ) →
-        leads result out ≡ is_way fdb.now.rows own state destination out }
+// The way of a frame to an address for which no static row is listed: to the port at which it is
+// learned, or anywhere.
+fn find_learned(fdb: &Fdb, destination: Mac) -> Way
+    ensures { (out : ℕ) → leads result out ≡ may_go None fdb.now.rows destination out }
 {
-    if !state.is_forwarding() || is_reserved(destination) || destination.is_same(own) {
-        Way::Nowhere
-    } else if destination.is_group() {
+    if destination.is_group() {
         Way::Anywhere
     } else {
         fdb.find(destination).map_or(Way::Anywhere, Way::By)
+    }
+}
+
+/// By which ports a frame to this destination may go, where it came by this port, of this state. An
+/// empty static table is not searched.
+pub fn find_way(
+    fdb: &Fdb,
+    statics: &StaticTable,
+    own: Mac,
+    state: State,
+    from: u16,
+    destination: Mac,
+) -> Way
+    ensures { (out : ℕ) → leads result out
+        ≡ is_way fdb.now.rows statics.now.rows own state from destination out }
+{
+    if !state.is_forwarding() || is_reserved(destination) || destination.is_same(own) {
+        return Way::Nowhere;
+    }
+    match find_listed(statics, from, destination) {
+        Some(row) => Way::Listed(row.ports),
+        None => find_learned(fdb, destination),
     }
 }
 

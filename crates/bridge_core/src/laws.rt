@@ -5,10 +5,15 @@
 //! Not true here, and not claimed: that no port forwards while it is disabled between `put_setting`
 //! and `settle`; nor after it where its link goes down in between, until it starts anew.
 ghost use Rattle.std.specs.Prelude.{◌≡◌, ◌≢◌, ◌≤◌, ◌<◌, ◌↔◌, ◌==◌, ◌&&◌, ℕ, Bool, true, false, not, List, [], ◌∷◌, length, Some, Contains};
+ghost use Rattle.std.specs.List.{AllByRecursion};
 ghost use Rattle.frame_core.specs.declared.mac.Mac.{Mac};
 ghost use Rattle.frame_core.specs.declared.frame.FrameIn.{FrameIn};
 ghost use Rattle.fdb_core.specs.Rows.{row_of, port_of as learned_port};
+ghost use Rattle.fdb_core.specs.declared.static_row.StaticIndex.{StaticIndex};
+ghost use Rattle.fdb_core.specs.declared.static_row.StaticRow.{StaticRow};
 ghost use Rattle.fdb_core.specs.Learning.{new_row};
+ghost use Rattle.fdb_core.specs.PortSets.{has_port};
+ghost use Rattle.fdb_core.specs.Statics.{Statics, IsRising, row_of as static_row};
 ghost use Rattle.rstp_settings.specs.Table.{IsInRange};
 ghost use Rattle.rstp_settings.specs.declared.config.PortConfig.{PortConfig};
 ghost use Rattle.rstp_rules.specs.Ports.{is_discarding};
@@ -17,21 +22,23 @@ ghost use Rattle.rstp_core.specs.Runs.{IsRootPort};
 ghost use Rattle.rstp_core.specs.Legal.{IsLegal};
 ghost use Rattle.bridge_core.specs.Bridge.{BridgeState, HasPort, address_of, port_count, port_of, counters_of, is_on};
 ghost use Rattle.bridge_core.specs.Counting.{next_count};
+ghost use Rattle.bridge_core.specs.Statics.{is_made, made_row};
 ghost use Rattle.bridge_core.specs.Forwarding.{is_reserved, forwards, learns, ports_where};
-ghost use Rattle.bridge_core.specs.Events.{frame_result, no_bpdus, GoesBetween};
-ghost use Rattle.bridge_core.specs.Relay.{IsReceived, IsRelayed, IsForAll, IsFor, HasPlace};
+ghost use Rattle.bridge_core.specs.Events.{frame_result, after_settling, no_bpdus, GoesBetween};
+ghost use Rattle.bridge_core.specs.Relay.{IsReceived, IsRelayed, IsListed, IsUnlisted, IsForAll, IsFor, HasPlace};
 ghost use Rattle.bridge_core.specs.Facts.{facts_of};
 ghost use Rattle.bridge_core.specs.Opening.{opening_bridge};
 ghost use Rattle.bridge_core.specs.Runs.{Event, after, run, IsActive};
 
 use crate::bridge::MAX_LEARNED_ROWS;
-use fdb_core::{MAX_AGING_TIME, MIN_AGING_TIME};
+use fdb_core::{MAX_AGING_TIME, MAX_SET_PORTS, MIN_AGING_TIME};
 use rstp_core::{BridgeKey, Key, MAX_IFINDEX, MAX_PORTS};
 
-/// A bridge has at most 32 ports and learns at most 1,024 addresses. Interface numbers are at most
-/// 2147483647 (RFC 2863, InterfaceIndex).
+/// A bridge has at most 32 ports, which a set of ports can have, and learns at most 1,024 addresses.
+/// Interface numbers are at most 2147483647 (RFC 2863, InterfaceIndex).
 pub fn limits_are_fixed()
     ensures ports { MAX_PORTS ≡ 32 }
+    ensures sets { MAX_SET_PORTS ≡ MAX_PORTS }
     ensures learned { MAX_LEARNED_ROWS ≡ 1024 }
     ensures ifindex { MAX_IFINDEX ≡ 2147483647 }
 {}
@@ -56,29 +63,61 @@ pub fn frames_go_between_forwarding_ports()
         → Contains (frame_result b port f no_room).egress out → GoesBetween b port out }
 {}
 
-/// A relayed frame to a group, or to an address that is learned nowhere once the source was, goes
-/// out by exactly the other forwarding ports (7.7), once by each.
+/// A relayed frame for which a static row is listed goes out by exactly the other forwarding ports
+/// that the row allows, once by each, whatever its destination is and wherever that is learned
+/// (7.9.1).
+pub fn listed_frames_go_out_by_their_ports()
+    ensures ports { (b : BridgeState) (port : ℕ) (f : FrameIn) (no_room : Bool) (row : StaticRow)
+        → IsRelayed b port f → IsListed b port f row
+        → (out : ℕ) → Contains (frame_result b port f no_room).egress out
+        ↔ (GoesBetween b port out × (has_port row.ports out ≡ true)) }
+    ensures list { (b : BridgeState) (port : ℕ) (f : FrameIn) (no_room : Bool) (row : StaticRow)
+        → IsRelayed b port f → IsListed b port f row
+        → (frame_result b port f no_room).egress ≡ ports_where (λ out.
+        forwards b out && not (out == port) && has_port row.ports out) (port_count b) }
+{}
+
+/// The row that is listed for a frame is made, and is that of its destination and the port by which
+/// it came, or, where that is not made, that of its destination and all ports.
+pub fn the_row_of_the_port_is_listed_first()
+    ensures of_port { (b : BridgeState) (port : ℕ) (f : FrameIn) (row : StaticRow) →
+        static_row b.statics.rows (record { address = f.destination; port = port }) ≡ Some row
+        → row.made ≡ true → IsListed b port f row }
+    ensures of_all { (b : BridgeState) (port : ℕ) (f : FrameIn) (row : StaticRow) →
+        is_made b (record { address = f.destination; port = port }) ≡ false
+        → static_row b.statics.rows (record { address = f.destination; port = 0 }) ≡ Some row
+        → row.made ≡ true → IsListed b port f row }
+    ensures none { (b : BridgeState) (port : ℕ) (f : FrameIn) →
+        is_made b (record { address = f.destination; port = port }) ≡ false
+        → is_made b (record { address = f.destination; port = 0 }) ≡ false
+        → IsUnlisted b port f }
+{}
+
+/// A relayed frame for which no static row is listed, and that is to a group, or to an address that
+/// is learned nowhere once the source was, goes out by exactly the other forwarding ports (7.7),
+/// once by each.
 pub fn frames_for_all_are_flooded()
     ensures ports { (b : BridgeState) (port : ℕ) (f : FrameIn) (no_room : Bool)
-        → IsRelayed b port f →
+        → IsRelayed b port f → IsUnlisted b port f →
         IsForAll b port f no_room
         → (out : ℕ) → Contains (frame_result b port f no_room).egress out ↔ GoesBetween b port out }
     ensures list { (b : BridgeState) (port : ℕ) (f : FrameIn) (no_room : Bool)
-        → IsRelayed b port f →
+        → IsRelayed b port f → IsUnlisted b port f →
         IsForAll b port f no_room
         → (frame_result b port f no_room).egress ≡ ports_where (λ out.
         forwards b out && not (out == port)) (port_count b) }
 {}
 
-/// A relayed frame to a station that is learned at port r, once the source was learned, goes out by
-/// that port alone where it is another forwarding port, and else by none (7.7).
+/// A relayed frame for which no static row is listed, to a station that is learned at port r, once
+/// the source was learned, goes out by that port alone where it is another forwarding port, and else
+/// by none (7.7).
 pub fn frames_for_a_learned_station_go_to_its_port()
     ensures alone { (b : BridgeState) (port : ℕ) (f : FrameIn) (no_room : Bool) (r : ℕ) →
-        IsRelayed b port f
+        IsRelayed b port f → IsUnlisted b port f
         → IsFor b port f no_room r → GoesBetween b port r
         → (frame_result b port f no_room).egress ≡ r ∷ [] }
     ensures nowhere { (b : BridgeState) (port : ℕ) (f : FrameIn) (no_room : Bool) (r : ℕ) →
-        IsRelayed b port f
+        IsRelayed b port f → IsUnlisted b port f
         → IsFor b port f no_room r → ¬ GoesBetween b port r
         → (frame_result b port f no_room).egress ≡ [] }
 {}
@@ -160,6 +199,25 @@ pub fn sources_are_learned()
     ensures none { (b : BridgeState) (port : ℕ) (f : FrameIn) (no_room : Bool) → IsReceived b port f
         → learns (port_of b port).state f ≡ false
         → (frame_result b port f no_room).bridge.learned ≡ b.learned }
+{}
+
+/// Static rows and learned ones do not meet: whatever static rows there are, the same is learned, and
+/// no frame changes a static row (7.8, 7.9).
+pub fn learning_sees_no_static_row()
+    ensures learned { (b : BridgeState) (t : Statics) (port : ℕ) (f : FrameIn) (no_room : Bool) →
+        (frame_result (record b { statics = t }) port f no_room).bridge.learned
+        ≡ (frame_result b port f no_room).bridge.learned }
+    ensures statics { (b : BridgeState) (port : ℕ) (f : FrameIn) (no_room : Bool) →
+        (frame_result b port f no_room).bridge.statics ≡ b.statics }
+{}
+
+/// After settling each static row is made. What was made of an index is as before, and so are the
+/// ports that are allowed to it where it is made; where it is not, they are all ports.
+pub fn settling_keeps_the_rows_that_are_made()
+    ensures made { (b : BridgeState) →
+        AllByRecursion (λ r. r.made ≡ true) (after_settling b).statics.rows }
+    ensures same { (b : BridgeState) → IsRising b.statics.rows → (i : StaticIndex) →
+        static_row (after_settling b).statics.rows i ≡ made_row b.statics.rows i }
 {}
 
 /// The settings and the spanning tree of a bridge are legal at its opening, and each event keeps

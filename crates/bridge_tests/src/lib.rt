@@ -1,4 +1,5 @@
-//! Tests of a bridge from outside: learned addresses, the spanning tree, and where frames go.
+//! Tests of a bridge from outside: learned addresses, the spanning tree, static rows, and where
+//! frames go.
 //!
 //! # Entry points
 //! None: the tests call what `fdb_core`, `rstp_core` and `bridge_core` offer.
@@ -17,5 +18,7 @@
 mod learned;
 #[cfg(test)]
 mod relay;
+#[cfg(test)]
+mod statics;
 #[cfg(test)]
 mod tree;

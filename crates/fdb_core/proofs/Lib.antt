@@ -4,3 +4,9 @@ pub mod Kept
 pub mod Found
 pub mod Addresses
 pub mod Moments
+pub mod StaticOrder
+pub mod StaticSplit
+pub mod StaticKept
+pub mod StaticFound
+pub mod StaticWalk
+pub mod PortSets

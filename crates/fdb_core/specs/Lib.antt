@@ -3,3 +3,7 @@ pub mod Places
 pub mod Learning
 pub mod Table
 pub mod Seen
+pub mod PortSets
+pub mod Statics
+pub mod StaticPlaces
+pub mod StaticsInside

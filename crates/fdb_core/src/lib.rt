@@ -1,5 +1,6 @@
-//! The addresses that a bridge has learned: where each was seen last, and how long ago (IEEE
-//! 802.1D-2004, 7.9).
+//! The filtering database of a bridge (IEEE 802.1D-2004, 7.9): the addresses that it has learned,
+//! where each was seen last, and how long ago; and static rows, which say by which ports frames to
+//! an address may go.
 //!
 //! # Entry points
 //! [`Fdb`] is seen as its rows by rising address and the most it may have: `learn`, `age`,
@@ -8,13 +9,23 @@
 //! [`Row`] is one row, [`Learnt`] what `learn` answers, and [`MIN_AGING_TIME`] to
 //! [`MAX_AGING_TIME`] the aging time in seconds.
 //!
+//! [`StaticTable`] is seen as its rows by rising index and for how many rows it is sure to have
+//! memory: `put`, `remove`, `keep_made`, `reserve`, `hold`, and without change `row`, `next_made`,
+//! `len`, `is_empty`, `places`, `known`, `try_copy` and `try_rows`. Only `reserve` and the two
+//! copies take memory. [`StaticRow`] is one row, of a [`StaticIndex`]. [`PortSet`] is a set of at
+//! most [`MAX_SET_PORTS`] ports: `first`, `has`, `has_all`, `read` and `octets`, which are a bit for
+//! each port in at most [`SET_OCTETS`] octets, and [`has_other_port`] finds a bit of no port.
+//!
 //! # Definitions
 //! `specs/Rows.antt`: filters of the whole list; `specs/Learning.antt`: what learning answers and
 //! leaves; `specs/Table.antt`: what holds of every table; `specs/Seen.antt`: how it is kept;
-//! `specs/Places.antt`: where an address stands among rows by rising address.
+//! `specs/Places.antt`: where an address stands among rows by rising address. `specs/Statics.antt`:
+//! static rows as a finite map, and the table; `specs/StaticPlaces.antt` and
+//! `specs/StaticsInside.antt`: how it is kept; `specs/PortSets.antt`: sets of ports, and octets.
 //!
 //! # Laws
-//! In [`laws`]: the bounds of the aging time. On `known` and `next_after`: the table rises, each
+//! In [`laws`]: the bounds of the aging time and of sets of ports; static rows are a finite map, and
+//! stay in order. On `known` and `next_after`: the table rises, each
 //! address is six octets, and the table is young and within its limit.
 //!
 //! # Not claimed
@@ -26,10 +37,17 @@
 mod fdb;
 pub mod laws;
 mod learnt;
+mod port_set;
 mod row;
 mod seen;
 mod sightings;
+mod static_row;
+mod static_rows;
+mod static_table;
 
 pub use fdb::Fdb;
 pub use learnt::Learnt;
+pub use port_set::{MAX_SET_PORTS, PortSet, SET_OCTETS, has_other_port};
 pub use row::{MAX_AGING_TIME, MIN_AGING_TIME, Row};
+pub use static_row::{StaticIndex, StaticRow};
+pub use static_table::StaticTable;

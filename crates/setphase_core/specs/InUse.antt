@@ -6,6 +6,7 @@ use Rattle.std.specs.Prelude.{ℕ, Bool, true, false, List, [], ◌∷◌, ◌++
 use Rattle.frame_core.specs.declared.mac.Mac.{Mac}
 use Rattle.frame_core.specs.declared.bpdu.Times.{Times}
 use Rattle.frame_core.specs.declared.bpdu.PriorityVector.{PriorityVector}
+use Rattle.fdb_core.specs.Statics.{no_statics}
 use Rattle.rstp_settings.specs.Table.{Table}
 use Rattle.rstp_settings.specs.declared.config.PortConfig.{PortConfig}
 use Rattle.rstp_rules.specs.declared.port.Port.{Port}
@@ -125,6 +126,7 @@ bridge_in_use = record {
   learned =
       record { address = record { 0 = 0 ∷ 16 ∷ 32 ∷ 48 ∷ 64 ∷ 80 ∷ [] }; port = 4; age = 5 }
       ∷ record { address = record { 0 = 2 ∷ 0 ∷ 0 ∷ 0 ∷ 0 ∷ 1 ∷ [] }; port = 1; age = 6 } ∷ [];
+  statics = no_statics;
   counters = counters_in_use;
 }
 

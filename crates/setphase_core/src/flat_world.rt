@@ -1,7 +1,7 @@
 //! A flat copy of a world, to be kept and compared.
 ghost use Rattle.std.specs.Prelude.{◌≡◌, ◌↔◌, IsTrue};
 ghost use Rattle.setphase_core.specs.declared.world.World.{World as TheWorld};
-ghost use Rattle.setphase_core.specs.Flat.{policy_of_rows, AreRowsOfTheirPolicy};
+ghost use Rattle.setphase_core.specs.Flat.{policy_of_rows, AreRowsOfTheirPolicy, without_promises};
 
 use bridge_core::FlatBridge;
 use community_core::PolicyRows;
@@ -9,8 +9,8 @@ use std::marker::Model;
 use vacm_core::Same;
 
 /// A flat copy of a world, seen as the world is. All that the bridge and its ports have stands in
-/// fixed arrays; only the learned rows are in a vector, by rising address, and the policy is its
-/// lists of rows as they are written. No event changes it.
+/// fixed arrays; only the learned and the static rows are in vectors, in their order, and the policy is
+/// its lists of rows as they are written. No event changes it.
 pub struct FlatWorld {
     bridge: FlatBridge,
     policy: PolicyRows,
@@ -68,10 +68,11 @@ impl FlatWorld {
     }
 
     /// Whether the two worlds are equal in all that they keep: the bridge with its settings, its
-    /// spanning tree, its learned rows and its counters, the policy row by row, and what was
-    /// dropped. It takes no memory.
+    /// spanning tree, its learned and static rows and its counters, the policy row by row, and what
+    /// was dropped; for how many static rows there is sure to be memory is not looked at. It takes no
+    /// memory.
     pub fn same(&self, other: &FlatWorld) -> bool
-        ensures { IsTrue result ↔ (self.now ≡ other.now) }
+        ensures { IsTrue result ↔ (without_promises self.now ≡ without_promises other.now) }
     {
         self.bad_communities == other.bad_communities
             && self.unknown_contexts == other.unknown_contexts

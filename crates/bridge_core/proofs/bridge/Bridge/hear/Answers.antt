@@ -7,7 +7,7 @@ use Rattle.bridge_core.proofs.bridge.Bridge.hear.Goals as goal
 
 pub returns-clause-step : goal.returns-clause-step
 unfolding arrival_of
-returns-clause-step c = rw (← c.self.view_is) (after_step _ _ _ _ _ _ _ _ _ c.on_bpdu-outcome.result _ (arrival_steps _ _ _ _ _ _ c.on_bpdu-outcome.ensures.event) refl (ap (λ (t : Table). t.rows) c.follow.ensures.fdb) (counted c.self.inside.counters.items _ _ _ c.follow.auto.counters c.as_mut_slice.ensures.value c.follow.ensures.counters))
+returns-clause-step c = rw (← c.self.view_is) (after_step _ _ _ _ _ _ _ _ _ _ c.on_bpdu-outcome.result _ (arrival_steps _ _ _ _ _ _ c.on_bpdu-outcome.ensures.event) refl (ap (λ (t : Table). t.rows) c.follow.ensures.fdb) (counted c.self.inside.counters.items _ _ _ c.follow.auto.counters c.as_mut_slice.ensures.value c.follow.ensures.counters))
 
 pub returns-clause-bpdus : goal.returns-clause-bpdus
 unfolding arrival_of

@@ -8,7 +8,7 @@ use Rattle.bridge_core.proofs.bridge.Bridge.tick.Goals as goal
 
 pub returns-clause-step : goal.returns-clause-step
 unfolding tick_of after_tick
-returns-clause-step c = rw (← c.self.view_is) (after_step _ _ _ _ _ _ _ _ _ c.tick-outcome.result _ (tick_steps _ _ _ _ c.tick-outcome.ensures.event) refl (ap (λ (t : Table). t.rows) c.follow.ensures.fdb ∙ (ap (λ (t : Table). other_rows c.tick-outcome.result.flushed.items t.rows) c.age.ensures ∙ ap (λ (n : ℕ). other_rows c.tick-outcome.result.flushed.items (young_rows n (map older_row c.self.inside.fdb.rows))) c.get.ensures.value)) (counted c.self.inside.counters.items _ _ _ c.follow.auto.counters c.as_mut_slice.ensures.value c.follow.ensures.counters))
+returns-clause-step c = rw (← c.self.view_is) (after_step _ _ _ _ _ _ _ _ _ _ c.tick-outcome.result _ (tick_steps _ _ _ _ c.tick-outcome.ensures.event) refl (ap (λ (t : Table). t.rows) c.follow.ensures.fdb ∙ (ap (λ (t : Table). other_rows c.tick-outcome.result.flushed.items t.rows) c.age.ensures ∙ ap (λ (n : ℕ). other_rows c.tick-outcome.result.flushed.items (young_rows n (map older_row c.self.inside.fdb.rows))) c.get.ensures.value)) (counted c.self.inside.counters.items _ _ _ c.follow.auto.counters c.as_mut_slice.ensures.value c.follow.ensures.counters))
 
 pub returns-clause-bpdus : goal.returns-clause-bpdus
 unfolding tick_of

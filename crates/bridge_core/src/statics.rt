@@ -1,0 +1,84 @@
+//! The static rows of a bridge, as a table (IEEE 802.1D-2004 7.9.1).
+ghost use Rattle.std.specs.Prelude.{◌≡◌, ◌≢◌, ◌↔◌, ◌≤◌, true, false, IsTrue};
+ghost use Rattle.fdb_core.specs.Statics.{row_of, made_rows, HasPlaceFor};
+ghost use Rattle.bridge_core.specs.Forwarding.{is_reserved};
+ghost use Rattle.bridge_core.specs.Statics.{is_made_in, ports_of, says, rows_with, made_row, listed};
+
+use crate::forwarding::is_reserved;
+use fdb_core::{MAX_SET_PORTS, PortSet, StaticIndex, StaticRow, StaticTable};
+use frame_core::Mac;
+
+/// Whether there may be a static row of the index at a bridge of this address and so many ports.
+pub fn is_index(index: StaticIndex, own: Mac, count: usize) -> bool
+    ensures { IsTrue result ↔ ((index.port ≤ count) × (index.address ≢ own)
+        × (is_reserved index.address ≡ false)) }
+{
+    index.port as usize <= count && !index.address.is_same(own) && !is_reserved(index.address)
+}
+
+/// Whether the row of the index is made.
+pub fn is_made(statics: &StaticTable, index: StaticIndex) -> bool
+    ensures { result ≡ is_made_in (row_of statics.now.rows index) }
+{
+    statics.row(index).is_some_and(|row| row.made)
+}
+
+/// The ports that are allowed to the index, of a bridge of so many ports: all, where no row says
+/// otherwise.
+pub fn allowed(statics: &StaticTable, index: StaticIndex, count: usize) -> PortSet
+    ensures { result ≡ ports_of count (row_of statics.now.rows index) }
+{
+    match statics.row(index) {
+        Some(row) => row.ports,
+        None => PortSet::first(count),
+    }
+}
+
+/// Puts a row at a bridge of so many ports, where it says something; else removes the one of its
+/// index.
+pub fn put(statics: &mut StaticTable, count: usize, row: StaticRow)
+    requires count { count ≤ MAX_SET_PORTS }
+    requires place { says count row.made row.ports ≡ true → HasPlaceFor statics.old row.index }
+    ensures { statics.new ≡ record statics.old { rows = rows_with count row statics.old.rows } }
+{
+    if row.made || !row.ports.has_all(count) {
+        statics.put(row);
+    } else {
+        statics.remove(row.index);
+    }
+}
+
+/// Drops the rows that are not made: the ports that were set for them are all ports again.
+pub fn drop_unmade(statics: &mut StaticTable)
+    ensures { statics.new ≡ record statics.old { rows = made_rows statics.old.rows } }
+{
+    statics.keep_made();
+}
+
+// The row of the index, where it is made.
+fn find_made(statics: &StaticTable, index: StaticIndex) -> Option<StaticRow>
+    ensures { result ≡ made_row statics.now.rows index }
+{
+    statics.row(index).filter(|row| row.made)
+}
+
+/// The row that decides about frames to an address that come by a port: the made row of that port,
+/// or else that of all ports. A table without rows is not searched.
+pub fn find_listed(statics: &StaticTable, from: u16, address: Mac) -> Option<StaticRow>
+    ensures { result ≡ listed statics.now.rows from address }
+{
+    if statics.is_empty() {
+        return None;
+    }
+    let by_port = find_made(
+        statics,
+        StaticIndex {
+            address,
+            port: from,
+        },
+    );
+    match by_port {
+        Some(row) => Some(row),
+        None => find_made(statics, StaticIndex { address, port: 0 }),
+    }
+}
