@@ -4,7 +4,7 @@ use audit_core::{Audit, Denied, UnrestoredRoom};
 use decision::Decision;
 use message_core::{ErrorStatus, Kind};
 use rstp_settings::key::{BridgeKey, Key, PortKey};
-use setting_keys::{MAX_KEYS, SettingKey, SettingKeys};
+use setting_keys::{MAX_KEYS, SettingKeys};
 use std::alloc::Global;
 use std::test::Fail;
 use vacm_core::Name;
@@ -14,7 +14,7 @@ fn settings(keys: &[Key]) -> SettingKeys {
     let mut settings = SettingKeys::new();
     for key in keys {
         if settings.as_slice().len() < MAX_KEYS {
-            settings.put_first(SettingKey::Bridge(*key));
+            settings.put_first(*key);
         }
     }
     settings

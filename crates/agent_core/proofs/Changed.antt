@@ -1,37 +1,31 @@
--- Whether settings are the same.
-use Rattle.std.proofs.Common.{◌≡◌, ◌∙◌, ◌↔◌, Bool, true, false, IsTrue, [], inl, inr, ap, sym, refl}
-use Rattle.std.specs.Bool.{Decides}
-use Rattle.std.specs.Cmp.Lexicographic.{pointwise}
+-- Whether settings are changed.
+use Rattle.std.proofs.Common.{◌≡◌, ◌∙◌, Bool, true, false, not, IsTrue, ◌↔◌, ap, sym, refl, inl, inr}
 use Rattle.std.proofs.lemmas.Bool.{cases_Bool}
-use Rattle.std.proofs.lemmas.Bool.Decides.{Decides-and, Decides-like}
-use Rattle.std.proofs.lemmas.Slice.Eq.{slice_eq-Decides}
 use Rattle.rstp_settings.specs.Table.{Table}
-use Rattle.rstp_settings.proofs.Same.{same_port-Decides, same_bridge-Decides}
-use Rattle.bridge_core.specs.Events.{settling_of, after_settling}
 use Rattle.setphase_core.specs.declared.world.World.{World}
-use Rattle.agent_core.specs.Sets.{same_settings, same_port_values, settled_world, settling_bpdus}
-
-pub same_settings-Decides : (t u : Table) → Decides (same_settings t u) (t ≡ u)
-same_settings-Decides t u =
-    Decides-like _ (λ h i. record { bridge = h.0 i; ports = h.1 i }) (λ e. (ap (λ (x : Table). x.bridge) e, ap (λ (x : Table). x.ports) e))
-    (Decides-and _ _ (same_bridge-Decides t.bridge u.bridge) (slice_eq-Decides {E = same_port_values} same_port-Decides t.ports u.ports (pointwise same_port_values t.ports u.ports) refl))
+use Rattle.setphase_core.specs.Settings.{same_settings, same_settings_of}
+use Rattle.setphase_core.proofs.Same.{same_settings-Decides}
+use Rattle.agent_core.specs.Sets.{settled, settled_bpdus, settled_world, settling_bpdus}
 
 -- what a test of the settings says
-same_is : (before : Table) (w : World) (b : Bool) → (IsTrue b ↔ (w.bridge.settings ≡ before)) → same_settings before w.bridge.settings ≡ b
-same_is before w true h = (same_settings-Decides before w.bridge.settings).1 (sym (h.0 refl))
-same_is before w false h =
-    elim (cases_Bool (same_settings before w.bridge.settings)) [
-      | inl e ↦ cc (h.1 (sym ((same_settings-Decides before w.bridge.settings).0 e)))
-      | inr e ↦ e
+pub same_is : (before now : Table) (b : Bool) → (IsTrue b ↔ (now ≡ before)) → not b ≡ not (same_settings before now)
+same_is before now true h = ap not (sym ((same_settings-Decides before now).1 (sym (h.0 refl))))
+same_is before now false h =
+    elim (cases_Bool (same_settings before now)) [
+      | inl e ↦ cc (h.1 (sym ((same_settings-Decides before now).0 e)))
+      | inr e ↦ ap not (sym e)
     ]
 
--- the same settings: nothing is settled
-pub unsettled : (before : Table) (w : World) (b : Bool) → (IsTrue b ↔ (w.bridge.settings ≡ before)) → b ≡ true → (w ≡ settled_world before w) × ([] ≡ settling_bpdus before w)
-unfolding settled_world settling_bpdus
-unsettled before w b h e = rw (same_is before w b h ∙ e) (refl, refl)
+-- what is settled by that
+pub settled_is : (before after later : World) (b : Bool) → b ≡ not (same_settings_of before after) → later ≡ settled b after → later ≡ settled_world before after
+unfolding settled_world
+settled_is before after later b e h = h ∙ ap (λ (c : Bool). settled c after) e
 
--- others: they are
-pub resettled : (before : Table) (w : World) (b : Bool) → (IsTrue b ↔ (w.bridge.settings ≡ before)) → b ≡ false
-    → (record w { bridge = after_settling w.bridge } ≡ settled_world before w) × ((settling_of w.bridge).bpdus ≡ settling_bpdus before w)
-unfolding settled_world settling_bpdus
-resettled before w b h e = rw (same_is before w b h ∙ e) (refl, refl)
+pub settled_bpdus_is : (before after : World) (b : Bool) → b ≡ not (same_settings_of before after) → settled_bpdus b after ≡ settling_bpdus before after
+unfolding settling_bpdus
+settled_bpdus_is before after b e = ap (λ (c : Bool). settled_bpdus c after) e
+
+-- a world whose settings are those of before
+pub unsettled : (w : World) → settled_world w w ≡ w
+unfolding settled_world
+unsettled w = ap (λ (c : Bool). settled (not c) w) ((same_settings-Decides w.bridge.settings w.bridge.settings).1 refl)

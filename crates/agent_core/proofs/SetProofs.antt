@@ -1,18 +1,22 @@
 -- What a Set that is answered can tell.
-use Rattle.std.proofs.Common.{◌≡◌, ◌∙◌, ℕ, ◌+◌, ◌≤◌, Bool, true, false, List, [], ◌∷◌, length, map, Option, Some, None, IfSome, ap, refl, sym, subst, arith}
+use Rattle.std.proofs.Common.{◌≡◌, ◌∙◌, ℕ, ◌≤◌, Bool, true, false, List, [], ◌∷◌, length, map, Option, Some, None, IfSome, ap, refl, sym, subst, arith}
 use Rattle.std.proofs.lemmas.Bool.{ltb-false}
 use Rattle.message_core.specs.declared.request.Kind.{Kind}
 use Rattle.message_core.specs.declared.request.Kind.TheVariants.{Get, GetNext, GetBulk, Set}
 use Rattle.message_core.specs.declared.request.Request.{Request}
 use Rattle.message_core.proofs.Smallest.{reply_some}
+use Rattle.rstp_settings.specs.declared.key.Key.{Key}
 use Rattle.decision.specs.Deciding.{decision_on}
 use Rattle.decision.specs.declared.choice.Decision.{Decision}
 use Rattle.decision.specs.declared.choice.Decision.TheVariants.{Drop, Empty, Refused, Allowed}
+use Rattle.vacm_core.specs.Families.{NamesFamilyOf}
+use Rattle.vacm_core.specs.declared.tables.FamilyRow.{FamilyRow}
 use Rattle.setphase_core.specs.declared.sets.Refusal.{Refusal}
 use Rattle.setphase_core.specs.declared.sets.SetOutcome.{SetOutcome}
 use Rattle.setphase_core.specs.declared.sets.SetOutcome.TheVariants as ended
 use Rattle.setphase_core.specs.declared.world.World.{World}
 use Rattle.setphase_core.specs.Objects.{ObjectRow, ObjectState, object_after_release}
+use Rattle.setphase_core.specs.Settings.{bridge_keys}
 use Rattle.setphase_core.specs.Variables.{Written}
 use Rattle.setphase_core.specs.Outcomes.{SetNotes, CanFail, refusal_in, notes_in, world_after_set}
 use Rattle.setphase_core.specs.Calls.{calls_of, object_after_set}
@@ -42,7 +46,7 @@ number_within request (Some n) fits h = omega (arith, h.1, few_variables request
 
 pub denied_world : (outcome : SetOutcome) (ws : List Written) (w : World) → IsDenied (refusal_in outcome)
     → world_after_set (refusal_in outcome) ws w (notes_in outcome) ≡ w
-denied_world ended.Done ws w h = absurd h
+denied_world (ended.Done changed) ws w h = absurd h
 denied_world (ended.Refused refusal) ws w h = refl
 denied_world (ended.CommitFailed i) ws w h = absurd h
 denied_world (ended.UndoFailed i keys) ws w h = absurd h
@@ -53,20 +57,44 @@ released_each (o ∷ os) = ap (λ (xs : List ObjectState). object_after_release 
 
 pub denied_objects : (outcome : SetOutcome) (ws : List Written) (objects : List ObjectState) → IsDenied (refusal_in outcome)
     → map (object_after_set (calls_of (refusal_in outcome) ws (notes_in outcome))) objects ≡ map object_after_release objects
-denied_objects ended.Done ws objects h = absurd h
+denied_objects (ended.Done changed) ws objects h = absurd h
 denied_objects (ended.Refused refusal) ws objects h = released_each objects
 denied_objects (ended.CommitFailed i) ws objects h = absurd h
 denied_objects (ended.UndoFailed i keys) ws objects h = absurd h
+
+-- ---- a Set that is refused
+
+-- A refusal leaves the world, so also the families.
+pub families_kept : (outcome : SetOutcome) (ws : List Written) (w after : World) → after ≡ world_after_set (refusal_in outcome) ws w (notes_in outcome)
+    → IfSome (refusal_in outcome) (λ r. after.policy.vacm.families ≡ w.policy.vacm.families)
+families_kept (ended.Refused refusal) ws w after e = ap (λ (x : World). x.policy.vacm.families) e
+families_kept (ended.Done changed) ws w after e = tt
+families_kept (ended.CommitFailed i) ws w after e = tt
+families_kept (ended.UndoFailed i keys) ws w after e = tt
+
+pub names_kept : (refusal : Option Refusal) (families kept : List FamilyRow) → IfSome refusal (λ r. kept ≡ families)
+    → IfSome refusal (λ r. IfSome r.family (λ answer. NamesFamilyOf families answer))
+    → IfSome refusal (λ r. IfSome r.family (λ answer. NamesFamilyOf kept answer))
+names_kept None families kept e h = tt
+names_kept (Some r) families kept e h = subst (λ (rows : List FamilyRow). IfSome r.family (λ answer. NamesFamilyOf rows answer)) (sym e) h
+
+pub families_are : (refusal : Option Refusal) (families after kept : List FamilyRow) → families ≡ after → IfSome refusal (λ r. after ≡ kept) → IfSome refusal (λ r. families ≡ kept)
+families_are None families after kept same h = tt
+families_are (Some r) families after kept same h = same ∙ h
 
 -- ---- notes
 
 same_notes : (notes : SetNotes) → notes.commit ≡ None → notes.undos ≡ [] → notes ≡ no_notes
 same_notes notes e f i = record { commit = e i; undos = f i }
 
+none_listed : (keys : List Key) → bridge_keys keys ≡ [] → keys ≡ []
+none_listed [] e = refl
+none_listed (key ∷ keys) e = absurd (cc)
+
 none_unrefused : (ws : List Written) (refusal : Option Refusal) (notes : SetNotes) → MayFail refusal ws notes → notes.commit ≡ None → notes ≡ no_notes
 none_unrefused ws (Some refusal) notes h e = h
 none_unrefused ws None notes h e =
-    same_notes notes e (subst (λ (commit : Option ℕ). CanFail ws commit notes.undos) e h)
+    same_notes notes e (none_listed notes.undos (subst (λ (commit : Option ℕ). CanFail ws commit (bridge_keys notes.undos)) e h))
 
 none_tested : (too_long : Bool) (refusal : Option Refusal) (ws : List Written) (notes : SetNotes) → MayFailWhere too_long refusal ws notes → notes.commit ≡ None → notes ≡ no_notes
 none_tested true refusal ws notes h e = h
@@ -91,12 +119,12 @@ none_failed rows w request notes h e = none_by rows w request notes (decision_on
 
 -- the notes of the run of a Set are those that it may have
 pub may_fail : (outcome : SetOutcome) (request : Request) (refusal : Option Refusal) (ws : List Written) → is_too_long request ≡ false → refusal_in outcome ≡ refusal
-    → CanFail ws (notes_in outcome).commit (notes_in outcome).undos → MayFailWhere (is_too_long request) refusal ws (notes_in outcome)
+    → CanFail ws (notes_in outcome).commit (bridge_keys (notes_in outcome).undos) → MayFailWhere (is_too_long request) refusal ws (notes_in outcome)
 may_fail outcome request refusal ws fits e h = subst (λ (b : Bool). MayFailWhere b refusal ws (notes_in outcome)) (sym fits) (by outcome refusal e h)
   where
-    by : (o : SetOutcome) (r : Option Refusal) → refusal_in o ≡ r → CanFail ws (notes_in o).commit (notes_in o).undos → MayFail r ws (notes_in o)
-    by ended.Done None e h = h
-    by ended.Done (Some refusal) e h = cc e
+    by : (o : SetOutcome) (r : Option Refusal) → refusal_in o ≡ r → CanFail ws (notes_in o).commit (bridge_keys (notes_in o).undos) → MayFail r ws (notes_in o)
+    by (ended.Done changed) None e h = h
+    by (ended.Done changed) (Some refusal) e h = cc e
     by (ended.Refused refusal) None e h = cc e
     by (ended.Refused refusal) (Some other) e h = refl
     by (ended.CommitFailed i) None e h = h

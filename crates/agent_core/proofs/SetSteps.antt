@@ -1,5 +1,5 @@
 -- The step of a Set, and the steps of other requests, from what was called.
-use Rattle.std.proofs.Common.{◌≡◌, ◌≢◌, ◌∙◌, ℕ, ℤ, pos, ◌≤◌, true, false, List, [], length, map, Option, None, Result, Ok, Err, IfOk, OnErr, ap, refl, sym, subst}
+use Rattle.std.proofs.Common.{◌≡◌, ◌≢◌, ◌∙◌, ℕ, ℤ, pos, ◌≤◌, true, false, List, [], length, map, Option, None, Result, Ok, Err, IfOk, IfSome, OnErr, ap, refl, sym, subst}
 use Rattle.std.specs.declared.alloc.AllocError.{AllocError}
 use Rattle.message_core.specs.Canon.{answer_to}
 use Rattle.message_core.specs.declared.limits.TheConstants.{MAX_COMMUNITY}
@@ -19,16 +19,17 @@ use Rattle.decision.specs.declared.choice.Cause.{Cause}
 use Rattle.decision.specs.declared.choice.Refusal.{Refusal as Why}
 use Rattle.decision.specs.declared.choice.Decision.{Decision}
 use Rattle.decision.specs.declared.choice.Decision.TheVariants.{Drop, Empty, Refused, Allowed}
-use Rattle.setting_keys.specs.declared.SettingKey.{SettingKey}
+use Rattle.rstp_settings.specs.declared.key.Key.{Key}
 use Rattle.setphase_core.specs.declared.sets.Refusal.{Refusal}
 use Rattle.setphase_core.specs.declared.sets.SetOutcome.{SetOutcome}
+use Rattle.setphase_core.specs.declared.sets.SetOutcome.TheVariants as ended
 use Rattle.setphase_core.specs.declared.world.World.{World}
 use Rattle.setphase_core.specs.Objects.{ObjectRow, ObjectState, object_after_release}
 use Rattle.setphase_core.specs.Registry.{rows_of, prefixes_of, instances}
 use Rattle.setphase_core.specs.Variables.{Written, writings}
 use Rattle.setphase_core.specs.Together.{refusal_of}
 use Rattle.setphase_core.specs.Outcomes.{SetNotes, refusal_in, notes_in, world_after_set}
-use Rattle.setphase_core.specs.Calls.{Call, calls_of, object_after_set, FollowPlans}
+use Rattle.setphase_core.specs.Calls.{calls_of, object_after_set, FollowPlans}
 use Rattle.setphase_core.proofs.Called.{no_plans}
 use Rattle.agent_core.specs.Buffered.{Buffered}
 use Rattle.agent_core.specs.Denying.{denied_in}
@@ -43,17 +44,17 @@ use Rattle.agent_core.specs.declared.sets.SetTold.{SetTold}
 -- ---- a Set
 
 -- the audit of a Set as it is told
-abbrev pub told_audit : Request → AccessKey → List ℕ → SentReply → List Denied → List SettingKey → Audit
+abbrev pub told_audit : Request → AccessKey → List ℕ → SentReply → List Denied → List Key → Audit
 told_audit request row view sent denied unrestored =
     record { kind = request.kind; status = sent.status; index = sent.index; decision = Allowed row view; denied = denied; unrestored = unrestored }
 
-audit_same : (request : Request) (row : AccessKey) (view : List ℕ) (set : SetStep) (sent : SentReply) (denied : List Denied) (unrestored : List SettingKey)
+audit_same : (request : Request) (row : AccessKey) (view : List ℕ) (set : SetStep) (sent : SentReply) (denied : List Denied) (unrestored : List Key)
     → sent.status ≡ set.reply.status → sent.index ≡ set.reply.index → denied ≡ set.denied → unrestored ≡ set.unrestored
     → told_audit request row view sent denied unrestored ≡ reply_audit request (Allowed row view) set.denied set.unrestored set.reply
 audit_same request row view set sent denied unrestored s n d u i =
     record { kind = request.kind; status = s i; index = n i; decision = Allowed row view; denied = d i; unrestored = u i }
 
-pub done_of : (request : Request) (row : AccessKey) (view : List ℕ) (set : SetStep) (sent : SentReply) (denied : List Denied) (unrestored : List SettingKey) (failed : Option ℕ)
+pub done_of : (request : Request) (row : AccessKey) (view : List ℕ) (set : SetStep) (sent : SentReply) (denied : List Denied) (unrestored : List Key) (failed : Option ℕ)
     (told : Answered) (buffer : Buffered) (later : World) (objects : List ObjectState)
     → told ≡ answered.Reply sent.length (told_audit request row view sent denied unrestored) failed
     → IsSent set.reply sent buffer.reply → denied ≡ set.denied → unrestored ≡ set.unrestored
@@ -114,15 +115,23 @@ pub notes_told_of : (families : List FamilyRow) (outcome : SetOutcome) (answer :
 notes_told_of families outcome answer told request row view sent t e =
     notes_are told sent.length (told_audit request row view sent answer.denied answer.unrestored) answer.failed (notes_in outcome) e t.failed_commit t.unrestored
 
+-- Only what is told of a refusal names families.
+told_before : (families kept : List FamilyRow) (outcome : SetOutcome) (answer : SetTold) → IfSome (refusal_in outcome) (λ r. families ≡ kept)
+    → IsToldOf families outcome answer → IsToldOf kept outcome answer
+told_before families kept (ended.Refused refusal) answer e t = subst (λ (rows : List FamilyRow). IsToldOf rows (ended.Refused refusal) answer) e t
+told_before families kept (ended.Done changed) answer e t = record { status = t.status; index = t.index; denied = t.denied; failed_commit = t.failed_commit; unrestored = t.unrestored }
+told_before families kept (ended.CommitFailed i) answer e t = record { status = t.status; index = t.index; denied = t.denied; failed_commit = t.failed_commit; unrestored = t.unrestored }
+told_before families kept (ended.UndoFailed i keys) answer e t = record { status = t.status; index = t.index; denied = t.denied; failed_commit = t.failed_commit; unrestored = t.unrestored }
+
 pub set_done : (objects : List ObjectState) (world : World) (request : Request) (row : AccessKey) (view : List ℕ) (outcome : SetOutcome) (answer : SetTold) (sent : SentReply)
     (buffer : Buffered) (after later : World) (objects_later : List ObjectState) (told : Answered) (families : List FamilyRow)
     → is_too_long request ≡ false
     → refusal_in outcome ≡ refusal_of (rows_of objects) world view request.bindings
     → after ≡ world_after_set (refusal_in outcome) (writings (rows_of objects) world request.bindings) world (notes_in outcome)
-    → families ≡ world.policy.vacm.families
+    → IfSome (refusal_in outcome) (λ r. families ≡ world.policy.vacm.families)
     → IsToldOf families outcome answer
-    → later ≡ settled_world world.bridge.settings after
-    → buffer.bpdus ≡ settling_bpdus world.bridge.settings after
+    → later ≡ settled_world world after
+    → buffer.bpdus ≡ settling_bpdus world after
     → IsSent (reply_within_limit (answer_to request answer.status answer.index request.bindings)) sent buffer.reply
     → objects_later ≡ map (object_after_set (calls_of (refusal_in outcome) (writings (rows_of objects) world request.bindings) (notes_in outcome))) objects
     → told ≡ answered.Reply sent.length (told_audit request row view sent answer.denied answer.unrestored) answer.failed
@@ -132,11 +141,11 @@ set_done objects world request row view outcome answer sent buffer after later o
     let kept : List FamilyRow = world.policy.vacm.families in
     let notes : SetNotes = notes_in outcome in
     let by : Option Refusal → SetStep = λ (r : Option Refusal). tested_step_by objects world request notes (set_answer kept r notes) (world_after_set r ws world notes) (calls_of r ws notes) in
-    let is : IsToldOf kept outcome answer = subst (λ (rows : List FamilyRow). IsToldOf rows outcome answer) families_are t in
+    let is : IsToldOf kept outcome answer = told_before families kept outcome answer families_are t in
     let main : IsDone (writing_step request row view (by (refusal_in outcome))) told buffer later objects_later =
     done_of request row view (by (refusal_in outcome)) sent answer.denied answer.unrestored answer.failed told buffer later objects_later told_is
     (sent_as request (set_answer kept (refusal_in outcome) notes) answer.status answer.index sent buffer.reply is.status is.index s) is.denied is.unrestored
-    (bpdus_are ∙ ap (settling_bpdus world.bridge.settings) after_is) (later_is ∙ ap (settled_world world.bridge.settings) after_is) objects_are in
+    (bpdus_are ∙ ap (settling_bpdus world) after_is) (later_is ∙ ap (settled_world world) after_is) objects_are in
     subst (λ (ns : SetNotes). IsDone (writing_step request row view (set_step objects world view request ns)) told buffer later objects_later)
     (sym (notes_told_of families outcome answer told request row view sent t told_is))
     (subst (λ (set : SetStep). IsDone (writing_step request row view set) told buffer later objects_later) (sym (fitting_step objects world view request notes fits))

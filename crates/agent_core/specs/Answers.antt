@@ -22,7 +22,7 @@ use Rattle.audit_core.specs.declared.audit.Audit.{Audit}
 use Rattle.audit_core.specs.declared.denied.Denied.{Denied}
 use Rattle.setphase_core.specs.declared.world.World.{World}
 use Rattle.frame_core.specs.declared.bpdu.Bpdu.{Bpdu}
-use Rattle.setting_keys.specs.declared.SettingKey.{SettingKey}
+use Rattle.rstp_settings.specs.declared.key.Key.{Key}
 use Rattle.setphase_core.specs.Objects.{ObjectRow, ObjectState, object_after_release}
 use Rattle.setphase_core.specs.Outcomes.{SetNotes}
 use Rattle.setphase_core.specs.Calls.{Call, FollowPlans}
@@ -74,7 +74,7 @@ drop_outcome request cause = dropped cause (drop_audit request cause)
 
 -- A request that has a reply is audited by its kind, the status and the index as they are sent, the
 -- decision, the denied bindings, and the settings that a Set could not undo.
-abbrev pub reply_audit : Request → Decision → List Denied → List SettingKey → Reply → Audit
+abbrev pub reply_audit : Request → Decision → List Denied → List Key → Reply → Audit
 reply_audit request decision denied unrestored reply = record {
   kind = request.kind;
   status = reply.status;

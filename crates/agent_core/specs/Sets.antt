@@ -1,6 +1,5 @@
 -- What answers a Set that is let in to a view, and what it leaves (RFC 3416, 4.2.5).
-use Rattle.std.specs.Prelude.{◌≡◌, ℕ, pos, Bool, true, false, ◌&&◌, ◌==◌, nat_lt, if◌then◌else◌, List, [], ◌∷◌, length, map, Option, Some, None, IsSome}
-use Rattle.std.specs.Cmp.Lexicographic.{pointwise}
+use Rattle.std.specs.Prelude.{◌≡◌, ℕ, pos, Bool, true, false, not, nat_lt, if◌then◌else◌, List, [], ◌∷◌, length, map, Option, Some, None, IsSome}
 use Rattle.message_core.specs.Canon.{canon_reply, answer_to}
 use Rattle.message_core.specs.declared.limits.TheConstants.{MAX_REPLY}
 use Rattle.message_core.specs.declared.reply.Reply.{Reply}
@@ -10,16 +9,14 @@ use Rattle.message_core.specs.declared.status.ErrorStatus.TheVariants.{NoError, 
 use Rattle.vacm_core.specs.declared.tables.FamilyRow.{FamilyRow}
 use Rattle.audit_core.specs.declared.denied.Denied.{Denied}
 use Rattle.frame_core.specs.declared.bpdu.Bpdu.{Bpdu}
-use Rattle.rstp_settings.specs.Table.{Table}
-use Rattle.rstp_settings.specs.declared.key.BridgeValues.{BridgeValues}
-use Rattle.rstp_settings.specs.declared.key.PortValues.{PortValues}
 use Rattle.bridge_core.specs.Events.{settling_of, after_settling}
-use Rattle.setting_keys.specs.declared.SettingKey.{SettingKey}
+use Rattle.rstp_settings.specs.declared.key.Key.{Key}
 use Rattle.setphase_core.specs.declared.sets.Refusal.{Refusal}
 use Rattle.setphase_core.specs.declared.sets.SetOutcome.{SetOutcome}
 use Rattle.setphase_core.specs.declared.world.World.{World}
 use Rattle.setphase_core.specs.Objects.{ObjectRow, ObjectState}
 use Rattle.setphase_core.specs.Registry.{rows_of}
+use Rattle.setphase_core.specs.Settings.{same_settings_of}
 use Rattle.setphase_core.specs.Variables.{Written, writings}
 use Rattle.setphase_core.specs.Together.{refusal_of}
 use Rattle.setphase_core.specs.Outcomes.{SetNotes, AreNotes, refusal_in, notes_in, world_after_set}
@@ -62,11 +59,11 @@ answer_of_refusal families refusal = record {
 }
 
 -- A commit failed: all was undone, or some could not be, which has index 0.
-abbrev pub answer_of_failure : ℕ → List SettingKey → SetAnswer
+abbrev pub answer_of_failure : ℕ → List Key → SetAnswer
 answer_of_failure i [] = record { status = CommitFailed; index = i; denied = [] }
 answer_of_failure i (key ∷ keys) = record { status = UndoFailed; index = 0; denied = [] }
 
-abbrev pub answer_of_notes : Option ℕ → List SettingKey → SetAnswer
+abbrev pub answer_of_notes : Option ℕ → List Key → SetAnswer
 answer_of_notes None undos = record { status = NoError; index = 0; denied = [] }
 answer_of_notes (Some i) undos = answer_of_failure i undos
 
@@ -93,32 +90,21 @@ pub record IsToldOf (families : List FamilyRow) (outcome : SetOutcome) (told : S
 
 -- ---- what it leaves
 
-abbrev pub same_bridge_values : BridgeValues → BridgeValues → Bool
-same_bridge_values a b =
-    a.priority == b.priority && (a.max_age == b.max_age && (a.hello == b.hello
-    && (a.forward_delay == b.forward_delay && (a.version == b.version
-    && (a.hold_count == b.hold_count && a.aging == b.aging)))))
+-- Settings are settled, once, where one changed.
+abbrev pub settled : Bool → World → World
+settled true after = record after { bridge = after_settling after.bridge }
+settled false after = after
 
-abbrev pub same_port_values : PortValues → PortValues → Bool
-same_port_values a b =
-    a.priority == b.priority && (a.enable == b.enable && (a.cost == b.cost
-    && (a.migrate == b.migrate && (a.edge == b.edge && a.point_to_point == b.point_to_point))))
+abbrev pub settled_bpdus : Bool → World → List (Option Bpdu)
+settled_bpdus true after = (settling_of after.bridge).bpdus
+settled_bpdus false after = []
 
--- Each setting has the same value.
-abbrev pub same_settings : Table → Table → Bool
-same_settings a b =
-    same_bridge_values a.bridge b.bridge && pointwise same_port_values a.ports b.ports
+-- Where one differs from before.
+unfoldable pub settled_world : World → World → World
+settled_world before after = settled (not (same_settings_of before after)) after
 
--- Settings that differ from those of before are settled, once.
-unfoldable pub settled_world : Table → World → World
-settled_world before after =
-    if same_settings before after.bridge.settings then after
-    else record after { bridge = after_settling after.bridge }
-
-unfoldable pub settling_bpdus : Table → World → List (Option Bpdu)
-settling_bpdus before after =
-    if same_settings before after.bridge.settings then []
-    else (settling_of after.bridge).bpdus
+unfoldable pub settling_bpdus : World → World → List (Option Bpdu)
+settling_bpdus before after = settled_bpdus (not (same_settings_of before after)) after
 
 -- ---- in all
 
@@ -126,7 +112,7 @@ settling_bpdus before after =
 pub record SetStep : Type 0 where
   pub reply : Reply
   pub denied : List Denied
-  pub unrestored : List SettingKey
+  pub unrestored : List Key
   pub world : World
   pub objects : List ObjectState
   -- what the ports send, from port 1 on
@@ -151,9 +137,9 @@ tested_step_by objects world request notes answer after calls = record {
   reply = set_reply request answer;
   denied = answer.denied;
   unrestored = notes.undos;
-  world = settled_world world.bridge.settings after;
+  world = settled_world world after;
   objects = map (object_after_set calls) objects;
-  bpdus = settling_bpdus world.bridge.settings after;
+  bpdus = settling_bpdus world after;
 }
 
 abbrev pub tested_step : List ObjectState → World → List ℕ → Request → SetNotes → SetStep

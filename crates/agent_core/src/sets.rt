@@ -1,13 +1,14 @@
 //! Answers a Set that is let in to a view (RFC 3416, 4.2.5).
-ghost use Rattle.std.specs.Prelude.{◌≡◌, ◌≤◌, ◌<◌, ◌^◌, [], true, IfOk, IfSome, OnErr, length, map, pos};
+ghost use Rattle.std.specs.Prelude.{◌≡◌, ◌≤◌, ◌<◌, ◌^◌, [], true, not, IfOk, IfSome, OnErr, length, map, pos};
 ghost use Rattle.message_core.specs.Encodable.{AreEncodable};
 ghost use Rattle.message_core.specs.declared.limits.TheConstants.{MAX_COMMUNITY};
 ghost use Rattle.vacm_core.specs.Families.{NamesFamilyOf};
 ghost use Rattle.setphase_core.specs.Objects.{object_after_release};
 ghost use Rattle.setphase_core.specs.Registry.{rows_of};
-ghost use Rattle.setphase_core.specs.Outcomes.{refusal_in, notes_in, NamesASetting};
+ghost use Rattle.setphase_core.specs.Outcomes.{refusal_in, notes_in, changed_in, NamesASetting};
+ghost use Rattle.setphase_core.specs.Settings.{same_settings};
 ghost use Rattle.setphase_core.specs.Calls.{FollowPlans};
-ghost use Rattle.agent_core.specs.Sets.{greatest_index, set_step, set_calls, settled_world, settling_bpdus, IsDenied, IsDeniedSet, IsToldOf, MayFailInSet};
+ghost use Rattle.agent_core.specs.Sets.{greatest_index, set_step, set_calls, settled, settled_bpdus, IsDenied, IsDeniedSet, IsToldOf, MayFailInSet};
 ghost use Rattle.agent_core.specs.Answers.{IsDone, notes_told, writing_step};
 
 use crate::answered::Answered;
@@ -88,7 +89,7 @@ fn set_answer(alloc: Global, vacm: &Vacm, outcome: SetOutcome) -> Result<SetTold
 {
     let none = SettingKeys::new();
     match outcome {
-        SetOutcome::Done => Ok(plain_answer(alloc, ErrorStatus::NoError, 0, None, none)),
+        SetOutcome::Done { changed: _ } => Ok(plain_answer(alloc, ErrorStatus::NoError, 0, None, none)),
         SetOutcome::Refused(refusal) => refusal_answer(alloc, vacm, refusal),
         SetOutcome::CommitFailed(number) => Ok(plain_answer(
             alloc,
@@ -107,14 +108,28 @@ fn set_answer(alloc: Global, vacm: &Vacm, outcome: SetOutcome) -> Result<SetTold
     }
 }
 
-// Settles settings that differ from those of before, and keeps what the ports send.
-fn settle_changed(before: &Settings, world: &mut World, buffer: &mut Buffer)
+// Whether a Set that ended so changed a setting: where undoing failed, by the settings of before.
+#[tactic(auto, using(crate::proofs::Changed::same_is))]
+fn changed(outcome: &SetOutcome, before: &Settings, world: &World) -> bool
+    requires { IfSome (changed_in outcome.now)
+        (λ changed. changed ≡ not (same_settings before.now world.now.bridge.settings)) }
+    ensures { result ≡ not (same_settings before.now world.now.bridge.settings) }
+{
+    match outcome {
+        SetOutcome::Done { changed } => *changed,
+        SetOutcome::Refused(_) | SetOutcome::CommitFailed(_) => false,
+        SetOutcome::UndoFailed(..) => !world.bridge.has_settings(before),
+    }
+}
+
+// Settles settings where one changed, and keeps what the ports send.
+fn settle(changed: bool, world: &mut World, buffer: &mut Buffer)
     requires { buffer.old.bpdus ≡ [] }
-    ensures world { world.new ≡ settled_world before.now world.old }
-    ensures bpdus { buffer.new.bpdus ≡ settling_bpdus before.now world.old }
+    ensures world { world.new ≡ settled changed world.old }
+    ensures bpdus { buffer.new.bpdus ≡ settled_bpdus changed world.old }
     ensures reply { buffer.new.reply ≡ buffer.old.reply }
 {
-    if !world.bridge.has_settings(before) {
+    if changed {
         let bpdus = world.bridge.settle();
         buffer.send(bpdus);
     }
@@ -200,8 +215,9 @@ pub(crate) fn answer_set<O: MibObject>(
     let bindings = request.bindings.as_slice();
     let before = world.bridge.copied_settings();
     let outcome = run_set(registry, world, bindings, &view);
+    let changed = changed(&outcome, &before, world);
     let answer = set_answer(alloc, world.policy.vacm(), outcome)?;
-    settle_changed(&before, world, buffer);
+    settle(changed, world, buffer);
     let sent = buffer.put(request, answer.status, answer.index, bindings);
     Ok(told(request, row, view, answer, sent, room))
 }

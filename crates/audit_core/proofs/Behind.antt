@@ -3,10 +3,10 @@ use Rattle.std.proofs.Common.{◌≡◌, ℕ, ◌+◌, ◌<◌, List, [], ◌∷
 use Rattle.std.specs.List.{flat_map}
 use Rattle.std.proofs.lemmas.List.{append-nil, take_more}
 use Rattle.std.proofs.lemmas.Grind.{flat_map-append}
-use Rattle.setting_keys.specs.declared.SettingKey.{SettingKey}
+use Rattle.rstp_settings.specs.declared.key.Key.{Key}
 use Rattle.audit_core.specs.Text.{unrestored_text}
 
-pub one_behind : (keys : List SettingKey) (i : ℕ) (d : SettingKey) → i < length keys
+pub one_behind : (keys : List Key) (i : ℕ) (d : Key) → i < length keys
     → flat_map unrestored_text (take i keys) ++ unrestored_text (get_or keys i d) ≡ flat_map unrestored_text (take (i + 1) keys)
 one_behind keys i d lt =
     let key = get_or keys i d in

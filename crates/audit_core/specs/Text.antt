@@ -21,9 +21,8 @@ use Rattle.rstp_settings.specs.declared.key.BridgeKey.{BridgeKey}
 use Rattle.rstp_settings.specs.declared.key.BridgeKey.TheVariants.{Priority, MaxAge, Hello, ForwardDelay, Version, HoldCount, Aging}
 use Rattle.rstp_settings.specs.declared.key.PortKey.{PortKey}
 use Rattle.rstp_settings.specs.declared.key.PortKey.TheVariants.{Priority as PortPriority, Enable, Cost, Migrate, Edge, PointToPoint}
+use Rattle.rstp_settings.specs.declared.key.Key.{Key}
 use Rattle.rstp_settings.specs.declared.key.Key.TheVariants.{Bridge, Port}
-use Rattle.setting_keys.specs.declared.SettingKey.{SettingKey}
-use Rattle.setting_keys.specs.declared.SettingKey.TheVariants.{Bridge as OfBridge}
 use Rattle.audit_core.specs.declared.keys.FamilyKey.{FamilyKey}
 use Rattle.audit_core.specs.declared.denied.Denied.{Denied}
 use Rattle.audit_core.specs.declared.audit.Audit.{Audit}
@@ -72,12 +71,12 @@ port_key_text Edge = codes "edge"
 port_key_text PointToPoint = codes "p2p"
 
 -- a setting by its name, a port's with the number of the port
-abbrev pub key_text : SettingKey → List ℕ
-key_text (OfBridge (Bridge key)) = bridge_key_text key
-key_text (OfBridge (Port port key)) = port_key_text key ++ codes "(" ++ decimal port ++ codes ")"
+abbrev pub key_text : Key → List ℕ
+key_text (Bridge key) = bridge_key_text key
+key_text (Port port key) = port_key_text key ++ codes "(" ++ decimal port ++ codes ")"
 
 -- a setting that a Set left at its new value, since undoing failed (RFC 3416, 4.2.5)
-abbrev pub unrestored_text : SettingKey → List ℕ
+abbrev pub unrestored_text : Key → List ℕ
 unrestored_text key = codes " unrestored " ++ key_text key
 
 -- a view that there is not: with no name, or of no family

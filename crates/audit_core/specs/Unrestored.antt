@@ -1,14 +1,14 @@
 -- The settings that a Set left at their new values, and room for them, as they lie in memory.
 use Rattle.std.specs.Prelude.{Box, Bool, true, false, List, [], Option, Some, None}
 use Rattle.std.specs.declared.alloc.Global.{Global}
-use Rattle.setting_keys.specs.declared.SettingKey.{SettingKey}
+use Rattle.rstp_settings.specs.declared.key.Key.{Key}
 
 -- the keys that lie there, none where nothing does
-abbrev pub keys_in : Option (Box (List SettingKey) Global) → List SettingKey
+abbrev pub keys_in : Option (Box (List Key) Global) → List Key
 keys_in None = []
 keys_in (Some keys) = keys.value
 
 -- whether there is room
-abbrev pub is_room : Option (Box (List SettingKey) Global) → Bool
+abbrev pub is_room : Option (Box (List Key) Global) → Bool
 is_room None = false
 is_room (Some keys) = true

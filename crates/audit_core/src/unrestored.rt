@@ -4,7 +4,7 @@ ghost use Rattle.std.specs.List.{flat_map};
 ghost use Rattle.audit_core.specs.Text.{bridge_key_text, port_key_text, key_text, unrestored_text};
 
 use rstp_settings::key::{BridgeKey, Key, PortKey};
-use setting_keys::{ListedKey, SettingKey, SettingKeys};
+use setting_keys::{ListedKey, SettingKeys};
 use std::alloc::{AllocError, Global};
 use std::fmt;
 use std::marker::Model;
@@ -25,7 +25,7 @@ impl Drop for Unrestored {
 
 impl Model for Unrestored {
     ghost use Rattle.std.specs.Prelude.{List};
-    ghost use Rattle.setting_keys.specs.declared.SettingKey.{SettingKey as AnyKey};
+    ghost use Rattle.rstp_settings.specs.declared.key.Key.{Key as AnyKey};
     ghost use Rattle.audit_core.specs.Unrestored.{keys_in};
 
     ghost Value = { List AnyKey };
@@ -152,15 +152,14 @@ fn port_word(key: PortKey) -> &'static str
 
 // The name of a setting.
 #[derive(Drop)]
-struct WrittenKey(SettingKey);
+struct WrittenKey(Key);
 
 /// As `aging` or `enable(1)`: the setting, and its port where it is one of a port.
 impl fmt::Display for WrittenKey {
     ghost output = { λ key. Some (key_text key.0) };
 
     fn fmt<W: fmt::Write>(&self, f: &mut fmt::Formatter<W>) -> fmt::Result {
-        let SettingKey::Bridge(key) = self.0;
-        match key {
+        match self.0 {
             Key::Bridge(key) => {
                 let word = bridge_word(key);
                 write!(f, "{word}")
@@ -175,7 +174,7 @@ impl fmt::Display for WrittenKey {
 
 // A setting that a Set left at its new value.
 #[derive(Drop)]
-struct WrittenOne(SettingKey);
+struct WrittenOne(Key);
 
 /// As ` unrestored enable(1)`.
 impl fmt::Display for WrittenOne {

@@ -1,5 +1,5 @@
 -- What contracts see of a driver that fails by plan, and of an object over a driver.
-use Rattle.std.specs.Prelude.{◌≡◌, ℕ, ◌==◌, Bool, true, false, List, Option}
+use Rattle.std.specs.Prelude.{ℕ, ◌==◌, Bool, List, Option}
 use Rattle.std.specs.List.{AllByRecursion}
 use Rattle.rstp_settings.specs.declared.key.Key.TheVariants as key
 use Rattle.rstp_settings.specs.declared.key.PortKey.TheVariants as port
@@ -12,6 +12,7 @@ use Rattle.setphase_core.specs.declared.column.Column.TheVariants as column
 use Rattle.setphase_core.specs.declared.column.StpPort.TheVariants as stp_port
 use Rattle.setphase_core.specs.Names.{row_of}
 use Rattle.setphase_core.specs.Objects.{ObjectState}
+use Rattle.setphase_core.specs.Settings.{IsLine}
 
 -- Its plan as a number, whose bit k - 1 says that the k-th call from now fails, and how often it
 -- has failed.
@@ -23,14 +24,9 @@ pub record Plan : Type 0 where
 abbrev pub port_enable : ℕ → SettingKey
 port_enable n = setting.Bridge (key.Port n port.Enable)
 
--- The setting is that of a port's dot1dStpPortEnable.
-abbrev pub is_port_enable : SettingKey → Bool
-is_port_enable (setting.Bridge (key.Port n port.Enable)) = true
-is_port_enable other = false
-
 -- All that is reserved are such settings.
 abbrev pub AreEnables : List Reservation → Type 0
-AreEnables rs = AllByRecursion (λ r. is_port_enable r.key ≡ true) rs
+AreEnables rs = AllByRecursion (λ r. IsLine r.key) rs
 
 -- A value of it says that the port is on: enabled (RFC 4188).
 abbrev pub is_enabled : SettingValue → Bool

@@ -1,5 +1,5 @@
 //! Managed objects without a device: each shows what its descriptor says.
-ghost use Rattle.std.specs.Prelude.{◌≡◌, ◌<◌, IfSome};
+ghost use Rattle.std.specs.Prelude.{◌≡◌, IfSome};
 ghost use Rattle.std.specs.Option.{option_copied, option_map};
 ghost use Rattle.bridge_mib.specs.Written.{idle};
 
@@ -17,7 +17,7 @@ pub trait Descriptor: Copy {
     ghost use Rattle.setphase_core.specs.Columns.{shown_by};
     ghost use Rattle.setphase_core.specs.Names.{row_of};
     ghost use Rattle.setphase_core.specs.Values.{value_at, index_after};
-    ghost use Rattle.setphase_core.specs.Writing.{writable_of};
+    ghost use Rattle.setphase_core.specs.Writing.{writable_of, HasStep};
 
     // The object's column among all objects.
     ghost column: { Self → Column };
@@ -35,11 +35,10 @@ pub trait Descriptor: Copy {
         ensures { option_map (λ index. index.items) result
             ≡ index_after (shown_by (column self) world.now) (option_copied after.entry) };
 
-    /// How the object is written: its setting, the least and the most that it takes, and the step.
-    /// None: it is never written.
+    /// How the object is written. None: it is never written.
     fn writable(self) -> Option<Writable>
         ensures writable { result ≡ writable_of (column self) }
-        ensures step { IfSome result (λ w. 0 < w.step) };
+        ensures step { IfSome result HasStep };
 }
 
 /// The managed object of a descriptor. It has no device, so that no commit and no undo fails. It is

@@ -3,8 +3,8 @@ ghost use Rattle.std.specs.Prelude.{◌≡◌, ◌+◌, ℕ, true, false, [], sl
 ghost use Rattle.setting_keys.specs.declared.SettingValue.{SettingValue as AnySetting};
 ghost use Rattle.setphase_core.specs.Objects.{IsReserved, IsCommitted, IsByPlan, after_call, object_after_arm, object_after_commit, object_after_failure, committed_reservation};
 ghost use Rattle.setphase_core.specs.Plans.{plan_after_call, FollowsPlan};
-ghost use Rattle.setphase_core.specs.Settings.{setting, put, IsSettingInRange};
-ghost use Rattle.bridge_mib.specs.Line.{state_of, port_enable, is_port_enable, is_enabled};
+ghost use Rattle.setphase_core.specs.Settings.{setting, put, IsSettingInRange, IsLine};
+ghost use Rattle.bridge_mib.specs.Line.{state_of, port_enable, is_enabled};
 
 use crate::described::Descriptor;
 use crate::line::LineDriver;
@@ -53,7 +53,7 @@ fn tell<L: LineDriver>(
     key: SettingKey,
     value: SettingValue,
 ) -> Result<(), DeviceFault>
-    requires { is_port_enable key ≡ true }
+    requires { IsLine key }
     ensures told { (port : ℕ) → key ≡ port_enable port
         → L.told driver.old port (is_enabled value) result driver.new }
     ensures done { OnOk result (L.failures driver.new ≡ L.failures driver.old) }
@@ -63,6 +63,7 @@ fn tell<L: LineDriver>(
         (FollowsPlan (L.plan_left driver.old) (L.failures driver.old) false) }
     ensures fails { OnErr result
         (FollowsPlan (L.plan_left driver.old) (L.failures driver.old) true) }
+    ensures line { OnErr result (IsLine key) }
 {
     match key {
         SettingKey::Bridge(Key::Port(port, PortKey::Enable)) => {
@@ -108,13 +109,15 @@ impl<L: LineDriver> MibObject for PortEnable<L> {
         ensures kept { OnOk result (state_of L.failures L.plan_left self.new
             ≡ object_after_commit (state_of L.failures L.plan_left self.old) slot
             (setting world.old slot.key)) }
-        ensures before { OnOk result (IsSettingInRange slot.key (setting world.old slot.key)) }
+        ensures before { OnOk result
+            (IsSettingInRange world.old slot.key (setting world.old slot.key)) }
         ensures unchanged { OnErr result (world.new ≡ world.old) }
         ensures failed { OnErr result (state_of L.failures L.plan_left self.new
             ≡ object_after_failure (state_of L.failures L.plan_left self.old)) }
         ensures passes { OnOk result
             (IsByPlan (state_of L.failures L.plan_left self.old) false) }
         ensures fails { OnErr result (IsByPlan (state_of L.failures L.plan_left self.old) true) }
+        ensures line { OnErr result (IsLine slot.key) }
         // The driver is told, whatever the line is already.
         ensures told { (port : ℕ) → slot.key ≡ port_enable port
             → L.told self.old.driver port (is_enabled slot.value) result self.new.driver }
@@ -138,6 +141,7 @@ impl<L: LineDriver> MibObject for PortEnable<L> {
         ensures passes { OnOk result
             (IsByPlan (state_of L.failures L.plan_left self.old) false) }
         ensures fails { OnErr result (IsByPlan (state_of L.failures L.plan_left self.old) true) }
+        ensures line { OnErr result (IsLine slot.key) }
         // The driver is told, whatever the line is already.
         ensures told { (before : AnySetting) (port : ℕ)
             → slice_get self.old.reserved slot.place ≡ Some (committed_reservation slot before)

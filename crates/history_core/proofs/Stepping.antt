@@ -1,5 +1,5 @@
 -- What a step hangs on, what it leaves, and what its audit says.
-use Rattle.std.proofs.Common.{◌≡◌, ◌≢◌, ◌∙◌, ℕ, Bool, true, false, if◌then◌else◌, List, [], ◌∷◌, map, Option, Some, None, ap, refl, sym}
+use Rattle.std.proofs.Common.{◌≡◌, ◌≢◌, ℕ, Bool, true, false, if◌then◌else◌, List, [], ◌∷◌, map, Option, Some, None, ap, refl, sym}
 use Rattle.std.specs.Prelude.{unwrap_or}
 use Rattle.message_core.specs.declared.request.Kind.{Kind}
 use Rattle.message_core.specs.declared.request.Kind.TheVariants.{Get, GetNext, GetBulk, Set}
@@ -9,7 +9,7 @@ use Rattle.decision.specs.declared.keys.AccessKey.{AccessKey}
 use Rattle.decision.specs.declared.choice.Decision.{Decision}
 use Rattle.decision.specs.declared.choice.Decision.TheVariants.{Drop, Empty, Refused, Allowed}
 use Rattle.frame_core.specs.declared.frame.FrameIn.{FrameIn}
-use Rattle.setting_keys.specs.declared.SettingKey.{SettingKey}
+use Rattle.rstp_settings.specs.declared.key.Key.{Key}
 use Rattle.setphase_core.specs.declared.sets.Refusal.{Refusal}
 use Rattle.setphase_core.specs.declared.world.World.{World}
 use Rattle.setphase_core.specs.Objects.{ObjectRow, ObjectState, object_after_release}
@@ -61,8 +61,8 @@ tested_over a b w view r n e =
       reply = ap (λ (x : SetAnswer). set_reply r x) answer;
       denied = ap (λ (x : SetAnswer). x.denied) answer;
       unrestored = refl;
-      world = ap (λ (x : World). settled_world w.bridge.settings x) after;
-      bpdus = ap (λ (x : World). settling_bpdus w.bridge.settings x) after;
+      world = ap (λ (x : World). settled_world w x) after;
+      bpdus = ap (λ (x : World). settling_bpdus w x) after;
     }
 
 set_over_by : (a b : List ObjectState) (w : World) (view : List ℕ) (r : Request) (n : SetNotes) (too_long : Bool)
@@ -282,22 +282,22 @@ same_after [] h = refl
 same_after (o ∷ os) h =
     λ i. record o { reserved = sym h.0 i } ∷ same_after os h.1 i
 
-failure_denies_none : (i : ℕ) (undos : List SettingKey) → (answer_of_failure i undos).denied ≡ []
+failure_denies_none : (i : ℕ) (undos : List Key) → (answer_of_failure i undos).denied ≡ []
 failure_denies_none i [] = refl
 failure_denies_none i (key ∷ keys) = refl
 
-notes_deny_none : (commit : Option ℕ) (undos : List SettingKey) → (answer_of_notes commit undos).denied ≡ []
+notes_deny_none : (commit : Option ℕ) (undos : List Key) → (answer_of_notes commit undos).denied ≡ []
 notes_deny_none None undos = refl
 notes_deny_none (Some i) undos = failure_denies_none i undos
 
 tested_stays_by : (os : List ObjectState) (w : World) (view : List ℕ) (r : Request) (n : SetNotes) (refusal : Option Refusal)
     → AreAtRest os → MayFail refusal (writings (rows_of os) w r.bindings) n
     → ((set_answer w.policy.vacm.families refusal n).denied ≢ [])
-    → (settled_world w.bridge.settings (world_after_set refusal (writings (rows_of os) w r.bindings) w n) ≡ w)
+    → (settled_world w (world_after_set refusal (writings (rows_of os) w r.bindings) w n) ≡ w)
     × (map (object_after_set (calls_of refusal (writings (rows_of os) w r.bindings) n)) os ≡ os)
 tested_stays_by os w view r n None rest may h = absurd (h (notes_deny_none n.commit n.undos))
 tested_stays_by os w view r n (Some refusal) rest may h = (
-  sym (unsettled w.bridge.settings w true ((λ t. refl), (λ e. refl)) refl).0,
+  unsettled w,
   same_after os rest,
 )
 

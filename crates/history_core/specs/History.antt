@@ -1,7 +1,7 @@
 -- A history: what is kept of it, when it is legal, and what an event adds to it.
 use Rattle.std.specs.Prelude.{◌≡◌, ◌⊎◌, ℕ, ◌+◌, ◌*◌, ◌^◌, ◌<◌, ◌≤◌, ◌==◌, List, [], ◌∷◌, ◌++◌, length, map, Option, Some, None, if◌then◌else◌, unwrap_or}
 use Rattle.audit_core.specs.declared.audit.Audit.{Audit}
-use Rattle.setting_keys.specs.declared.SettingKey.{SettingKey}
+use Rattle.rstp_settings.specs.declared.key.Key.{Key}
 use Rattle.setphase_core.specs.Objects.{ObjectRow, ObjectState, object_after_arm, object_after_release}
 use Rattle.setphase_core.specs.Calls.{FollowPlans}
 use Rattle.setphase_core.specs.Registry.{rows_of}
@@ -29,7 +29,7 @@ pub record History : Type 0 where
 -- ---- replay
 
 -- the settings that an audit says could not be undone
-abbrev pub undos_in : Option Audit → List SettingKey
+abbrev pub undos_in : Option Audit → List Key
 undos_in (Some audit) = audit.unrestored
 undos_in None = []
 

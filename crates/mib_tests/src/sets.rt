@@ -5,7 +5,6 @@ use message_core::{Binding, Value};
 use oid_core::Oid;
 use rstp_core::{Key, PortKey};
 use setphase_core::{Registry, SetOutcome, Staging, Standing, World, are_named, run_set};
-use setting_keys::SettingKey;
 use std::alloc::Global;
 use std::test::Fail;
 use vacm_core::Name;
@@ -68,13 +67,13 @@ fn enables_of(world: &World) -> [u32; 3] {
 enum End {
     Done,
     Undone(usize),
-    Stuck(usize, SettingKey),
+    Stuck(usize, Key),
     Another,
 }
 
 fn end_of(outcome: &SetOutcome) -> End {
     match outcome {
-        SetOutcome::Done => End::Done,
+        SetOutcome::Done { changed: _ } => End::Done,
         SetOutcome::CommitFailed(number) => End::Undone(*number),
         SetOutcome::UndoFailed(number, keys) => match keys.as_slice() {
             [key] => End::Stuck(*number, key.key()),
@@ -95,7 +94,7 @@ fn ended(alloc: Global, plan: u64, ports: &[u32]) -> Result<(End, [u32; 3], usiz
     Ok((end_of(&outcome), enables_of(&world), registry.held()))
 }
 
-const PORT_2: SettingKey = SettingKey::Bridge(Key::Port(2, PortKey::Enable));
+const PORT_2: Key = Key::Port(2, PortKey::Enable);
 
 // What fails, the plan of it, the ports that a Set disables, how it ends, and what is enabled then.
 // The first call is the commit for port 1. Calls 3 and 4 are the commit for port 3, and then the
@@ -147,7 +146,6 @@ fn undo_one_and_drop(
     first: &Binding,
     second: &Binding,
 ) -> bool {
-    let _ports = world.bridge.ports();
     let all = Name::of("all");
     let mut staging = Staging::new(registry);
     let Ok(_tested) = staging.stage(world, &all, first) else {

@@ -1,6 +1,6 @@
 -- The rows of objects, and what they have reserved, while they are made one by one, whatever type
 -- the objects have.
-use Rattle.std.proofs.Common.{◌≡◌, ℕ, ◌+◌, ◌<◌, List, [], ◌∷◌, ◌++◌, map, take, length, get_or, slice_get, slice_set, Some, zero, suc, refl, sym, ap, ap₂, ◌∙◌, arith}
+use Rattle.std.proofs.Common.{◌≡◌, ℕ, ◌+◌, ◌<◌, List, [], ◌∷◌, ◌++◌, map, take, length, get_or, slice_get, slice_set, Some, zero, suc, refl, sym, ap, ap₂, lit<, ◌∙◌, arith}
 use Rattle.std.proofs.lemmas.List.{take_more, map-append, map-set, length-map}
 use Rattle.setphase_core.specs.declared.column.Column.{Column}
 use Rattle.setphase_core.specs.declared.column.Column.TheVariants as column
@@ -34,7 +34,7 @@ one_more_idle state (x ∷ objects) o idle e =
     omega (arith, idle, one_more_idle state objects o others e)
 
 -- The object at the place of dot1dStpPortEnable is replaced by one of the same row.
-pub rows_with : {O : Type 0} (state : O → ObjectState) (objects : List O) (o : O) (i : ℕ) → i ≡ 51 →
+pub rows_with : {O : Type 0} (state : O → ObjectState) (objects : List O) (o : O) (i : ℕ) → i ≡ length columns →
     rows_of (map state objects) ≡ map row_of (take i columns) → (state o).row ≡ enable_row →
     rows_of (map state (slice_set objects 25 o)) ≡ bridge_rows
 unfolding bridge_rows
@@ -55,13 +55,14 @@ idle_with state (x ∷ objects) (suc i) o idle e =
     let others : held_count (map state objects) ≡ 0 = omega (arith, idle) in
     omega (arith, idle, idle_with state objects i o others e)
 
-pub many : {O : Type 0} (state : O → ObjectState) (objects : List O) (i : ℕ) → i ≡ 51 →
+pub many : {O : Type 0} (state : O → ObjectState) (objects : List O) (i : ℕ) → i ≡ length columns →
     rows_of (map state objects) ≡ map row_of (take i columns) → 25 < length objects
 many state objects i e h =
-    let all : length objects ≡ 51
+    let all : length objects ≡ length columns
     = sym (length-map objects state) ∙ sym (length-map (map state objects) (λ (s : ObjectState). s.row))
     ∙ ap length (h ∙ ap (λ (k : ℕ). map row_of (take k columns)) e) in
-    omega (arith, all)
+    let there : 25 < length columns = lit< tt in
+    omega (arith, all, there)
 
 pub stands : {X : Type 0} (xs : List X) (i : ℕ) (y : X) → i < length xs → slice_get (slice_set xs i y) i ≡ Some y
 stands [] i y h = absurd (omega arith)

@@ -1,5 +1,5 @@
 -- Settings that are given values one after the other, and one among them that is put back.
-use Rattle.std.proofs.Common.{◌≡◌, ◌≢◌, ℕ, zero, suc, ◌+◌, ◌<◌, ◌≤◌, ◌∙◌, sym, ap, subst, refl, Bool, true, false, cond, List, [], ◌∷◌, ◌++◌, length, take, drop, arith, add-one, append_assoc}
+use Rattle.std.proofs.Common.{◌≡◌, ◌≢◌, ℕ, zero, suc, ◌+◌, ◌<◌, ◌≤◌, ◌∙◌, sym, ap, subst, refl, Bool, true, false, List, [], ◌∷◌, ◌++◌, length, take, drop, arith, add-one, append_assoc}
 use Rattle.std.proofs.lemmas.List.{take-map}
 use Rattle.setting_keys.specs.declared.SettingKey.{SettingKey}
 use Rattle.setting_keys.specs.declared.SettingValue.{SettingValue}
@@ -9,7 +9,7 @@ use Rattle.setphase_core.specs.declared.world.World.{World}
 use Rattle.setphase_core.specs.Settings.{setting, put, HasSetting, same_setting}
 use Rattle.setphase_core.specs.Staging.{assignment_of_entry, assignments_of, entry_at, Without, IsDistinct}
 use Rattle.setphase_core.specs.Together.{assign}
-use Rattle.setphase_core.proofs.Puts.{setting-put, put-restored, puts-commuted, keys-kept, same-exact}
+use Rattle.setphase_core.proofs.Puts.{setting-put_other, put-restored, puts-commuted, keys-kept, same-exact}
 
 pub different : (k l : SettingKey) → k ≢ l → same_setting k l ≡ false
 different k l ne = off (same_setting k l) refl
@@ -17,11 +17,6 @@ different k l ne = off (same_setting k l) refl
     off : (b : Bool) → same_setting k l ≡ b → b ≡ false
     off true e = absurd (ne ((same-exact k l).0 e))
     off false e = refl
-
-setting-put_other : (w : World) (j k : SettingKey) (v : SettingValue) → j ≢ k →
-    HasSetting w j → HasSetting w k → setting (put w j v) k ≡ setting w k
-setting-put_other w j k v ne h i =
-    setting-put w j k v h i ∙ ap (λ b. cond b v (setting w k)) (different j k ne)
 
 -- ---- settings that are there
 
@@ -35,11 +30,6 @@ has_all-put : (ps : List Assignment) (w : World) (k : SettingKey) (v : SettingVa
 has_all-put [] w k v h = tt
 has_all-put (a ∷ ps) w k v h = ((keys-kept w k a.key v).1 h.0, has_all-put ps w k v h.1)
 
-pub has_before : (ps : List Assignment) (w : World) (k : SettingKey) →
-    HasSetting (assign ps w) k → HasSetting w k
-has_before [] w k h = h
-has_before (a ∷ ps) w k h = (keys-kept w a.key k a.value).0 (has_before ps (put w a.key a.value) k h)
-
 -- ---- the laws of several assignments
 
 pub setting-assign : (ps : List Assignment) (w : World) (k : SettingKey) → Without k ps →
@@ -47,7 +37,7 @@ pub setting-assign : (ps : List Assignment) (w : World) (k : SettingKey) → Wit
 setting-assign [] w k apart has h = refl
 setting-assign (a ∷ ps) w k apart has h =
     setting-assign ps (put w a.key a.value) k apart.1 (has_all-put ps w a.key a.value has.1) ((keys-kept w a.key k a.value).1 h)
-    ∙ setting-put_other w a.key k a.value apart.0 has.0 h
+    ∙ setting-put_other w a.key k a.value (different a.key k apart.0) has.0 h
 
 put-assign : (ps : List Assignment) (w : World) (k : SettingKey) (v : SettingValue) →
     Without k ps → HasAll w ps → HasSetting w k → put (assign ps w) k v ≡ assign ps (put w k v)
@@ -64,7 +54,7 @@ put_back [] qs w a before behind has there h =
     put-assign qs (put w a.key a.value) a.key (setting w a.key) behind (has_all-put qs w a.key a.value there) ((keys-kept w a.key a.key a.value).1 h)
     ∙ ap (assign qs) (put-restored w a.key a.value h)
 put_back (p ∷ ps) qs w a before behind has there h =
-    ap (λ v. put (assign (ps ++ a ∷ qs) (put w p.key p.value)) a.key v) (sym (setting-put_other w p.key a.key p.value before.0 has.0 h))
+    ap (λ v. put (assign (ps ++ a ∷ qs) (put w p.key p.value)) a.key v) (sym (setting-put_other w p.key a.key p.value (different p.key a.key before.0) has.0 h))
     ∙ put_back ps qs (put w p.key p.value) a before.1 behind (has_all-put ps w p.key p.value has.1) (has_all-put qs w p.key p.value there) ((keys-kept w p.key a.key p.value).1 h)
 
 assign-append : (ps qs : List Assignment) (w : World) →

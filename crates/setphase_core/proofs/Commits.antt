@@ -2,15 +2,14 @@
 use Rattle.std.proofs.Common.{◌≡◌, ◌≢◌, ℕ, ◌+◌, ◌<◌, ◌≤◌, ◌∙◌, sym, ap, subst, refl, Bool, true, false, List, [], ◌∷◌, ◌++◌, length, map, take, slice_set, arith, inl, inr}
 use Rattle.std.proofs.lemmas.List.{length-set}
 use Rattle.std.proofs.lemmas.Bool.Decides.{eqb_tells}
-use Rattle.setphase_core.specs.declared.object.Assignment.{Assignment}
 use Rattle.setphase_core.specs.declared.staging.Staged.{Staged}
 use Rattle.setphase_core.specs.declared.world.World.{World}
-use Rattle.setphase_core.specs.Objects.{ObjectState, IsCommitted, pending_reservation, committed_reservation, object_after_commit, object_after_release, object_called, IsByPlan}
+use Rattle.setphase_core.specs.Objects.{ObjectState, IsCommitted, reservation_of, committed_reservation, object_after_commit, object_after_release, object_called, IsByPlan}
 use Rattle.setphase_core.specs.Settings.{setting, put, HasSetting, IsSettingInRange}
-use Rattle.setphase_core.specs.Staging.{object_at, entry_at, assignments_of, IsDistinct, StandsReserved, StandsCommitted, ArePending, AreCommitted, CallAt, AreCalled, commit_at}
+use Rattle.setphase_core.specs.Staging.{object_at, entry_at, assignments_of, IsDistinct, StandsReserved, StandsCommitted, AreCommitted, CallAt, AreCalled, commit_at}
 use Rattle.setphase_core.specs.Together.{assign}
-use Rattle.setphase_core.proofs.Puts.{keys-kept}
-use Rattle.setphase_core.proofs.Assigns.{HasAll, has_before, has_all-taken, setting-assign, assign_more, distinct_below, without_before}
+use Rattle.setphase_core.proofs.Puts.{keys-kept, range-kept}
+use Rattle.setphase_core.proofs.Assigns.{HasAll, has_all-taken, setting-assign, assign_more, distinct_below, without_before}
 use Rattle.setphase_core.proofs.Holding.{Holds, holds_reserved, holds_committed, holds_others, holds_made, holds_after_call}
 use Rattle.setphase_core.proofs.Called.{called_more}
 
@@ -28,53 +27,29 @@ after_called fails os e =
     slice_set os e.object (object_called fails (object_at os e.object))
 
 -- The settings of the committed entries were there before.
-pub had_key : (before w : World) (os : List ObjectState) (es : List Staged) (n : ℕ)
-    (qs : List Assignment) → AreCommitted before w os es n → w ≡ assign qs before → (k : ℕ) →
-    k < n → HasSetting before (entry_at es k).slot.key
-had_key before w os es n qs done is k low =
-    has_before qs before (entry_at es k).slot.key (subst (λ v. HasSetting v (entry_at es k).slot.key) is (done.stands k low).committed.key)
+pub had_key : (before w : World) (os : List ObjectState) (es : List Staged) (n : ℕ) →
+    AreCommitted before w os es n → (k : ℕ) → k < n → HasSetting before (entry_at es k).slot.key
+had_key before w os es n done k low = (done.stands k low).had
 
-had_all : (before w : World) (os : List ObjectState) (es : List Staged) (n : ℕ)
-    (qs : List Assignment) → n ≤ length es → AreCommitted before w os es n →
-    w ≡ assign qs before → HasAll before (take n (assignments_of es))
-had_all before w os es n qs h done is =
-    has_all-taken es n before h (had_key before w os es n qs done is)
-
-pending_more : (w : World) (os : List ObjectState) (es : List Staged) (i : ℕ) →
-    IsDistinct (assignments_of es) → i < length es → ArePending w os es i →
-    ArePending (put_entry w (entry_at es i)) (after_commit os w (entry_at es i)) es (i + 1)
-pending_more w os es i d h pends = record {
-  stands = λ k low high.
-      let e = entry_at es i in
-      let f = entry_at es k in
-      let here : StandsReserved w os (entry_at es i) = pends.stands i (omega arith) h in
-      let there : StandsReserved w os (entry_at es k) = pends.stands k (omega arith) high in
-      let after : Holds (object_at (after_commit os w (entry_at es i)) (entry_at es k).object) (entry_at es k).slot.place (pending_reservation (entry_at es k).slot)
-      = holds_others os e.object e.slot (setting w e.slot.key) (pending_reservation e.slot) f.object f.slot.place (pending_reservation f.slot) here.within (holds_reserved w (object_at os e.object) e.slot here.reserved) (holds_reserved w (object_at os f.object) f.slot there.reserved) (distinct_below es i k d (omega arith) high) in
-      record {
-        within = omega (arith, there.within, length-set {A = ObjectState});
-        reserved = record {
-          key = (keys-kept w e.slot.key f.slot.key e.slot.value).1 there.reserved.key;
-          value = there.reserved.value;
-          place = after.within;
-          stands = after.stands;
-        };
-      };
-}
+had_all : (before w : World) (os : List ObjectState) (es : List Staged) (n : ℕ) →
+    n ≤ length es → AreCommitted before w os es n → HasAll before (take n (assignments_of es))
+had_all before w os es n h done = has_all-taken es n before h (had_key before w os es n done)
 
 -- The entry that was committed just now.
 just_committed : (before w : World) (os : List ObjectState) (e : Staged) →
-    StandsReserved w os e → setting w e.slot.key ≡ setting before e.slot.key →
-    IsSettingInRange e.slot.key (setting w e.slot.key) →
+    StandsReserved w os e → HasSetting before e.slot.key →
+    setting w e.slot.key ≡ setting before e.slot.key →
+    IsSettingInRange w e.slot.key (setting w e.slot.key) →
     StandsCommitted before (put_entry w e) (after_commit os w e) e
-just_committed before w os e here was range =
+just_committed before w os e here had was range =
     let after : Holds (object_at (after_commit os w e) e.object) e.slot.place (committed_reservation e.slot (setting w e.slot.key))
     = holds_made os e.object e.slot (setting w e.slot.key) here.within here.reserved.place in
     record {
+      had = had;
       within = omega (arith, here.within, length-set {A = ObjectState});
       committed = subst (λ v. IsCommitted (put_entry w e) (object_at (after_commit os w e) e.object) e.slot v) was (record {
         key = (keys-kept w e.slot.key e.slot.key e.slot.value).1 here.reserved.key;
-        value = range;
+        value = range-kept w e.slot.key e.slot.key e.slot.value (setting w e.slot.key) range;
         place = after.within;
         stands = after.stands;
       });
@@ -86,12 +61,13 @@ still_committed : (before w : World) (os : List ObjectState) (e f : Staged) →
     StandsCommitted before (put_entry w e) (after_commit os w e) f
 still_committed before w os e f here there ne =
     let after : Holds (object_at (after_commit os w e) f.object) f.slot.place (committed_reservation f.slot (setting before f.slot.key))
-    = holds_others os e.object e.slot (setting w e.slot.key) (pending_reservation e.slot) f.object f.slot.place (committed_reservation f.slot (setting before f.slot.key)) here.within (holds_reserved w (object_at os e.object) e.slot here.reserved) (holds_committed w (object_at os f.object) f.slot (setting before f.slot.key) there.committed) ne in
+    = holds_others os e.object e.slot (setting w e.slot.key) (reservation_of e.slot here.reserved.old) f.object f.slot.place (committed_reservation f.slot (setting before f.slot.key)) here.within (holds_reserved w (object_at os e.object) e.slot here.reserved) (holds_committed w (object_at os f.object) f.slot (setting before f.slot.key) there.committed) ne in
     record {
+      had = there.had;
       within = omega (arith, there.within, length-set {A = ObjectState});
       committed = record {
         key = (keys-kept w e.slot.key f.slot.key e.slot.value).1 there.committed.key;
-        value = there.committed.value;
+        value = range-kept w e.slot.key f.slot.key e.slot.value (setting before f.slot.key) there.committed.value;
         place = after.within;
         stands = after.stands;
       };
@@ -101,23 +77,20 @@ still_committed before w os e f here there ne =
 pub record Commits (before w : World) (os : List ObjectState) (es : List Staged) (i : ℕ) :
     Type 0 where
   pub world : w ≡ assign (take i (assignments_of es)) before
-  pub pending : ArePending w os es i
   pub done : AreCommitted before w os es i
 
 committed_more : (before w : World) (os : List ObjectState) (es : List Staged) (i : ℕ) →
-    IsDistinct (assignments_of es) → i < length es → Commits before w os es i →
-    IsSettingInRange (entry_at es i).slot.key (setting w (entry_at es i).slot.key) →
+    IsDistinct (assignments_of es) → i < length es → StandsReserved w os (entry_at es i) →
+    HasSetting before (entry_at es i).slot.key → Commits before w os es i →
+    IsSettingInRange w (entry_at es i).slot.key (setting w (entry_at es i).slot.key) →
     AreCommitted before (put_entry w (entry_at es i)) (after_commit os w (entry_at es i)) es (i + 1)
-committed_more before w os es i d h commits range =
-    let here : StandsReserved w os (entry_at es i) = commits.pending.stands i (omega arith) h in
-    let has : HasSetting before (entry_at es i).slot.key
-    = has_before (take i (assignments_of es)) before (entry_at es i).slot.key (subst (λ v. HasSetting v (entry_at es i).slot.key) commits.world here.reserved.key) in
+committed_more before w os es i d h here had commits range =
     let was : setting w (entry_at es i).slot.key ≡ setting before (entry_at es i).slot.key
     = ap (λ v. setting v (entry_at es i).slot.key) commits.world
-    ∙ setting-assign (take i (assignments_of es)) before (entry_at es i).slot.key (without_before es i d h) (had_all before w os es i (take i (assignments_of es)) (omega arith) commits.done commits.world) has in
+    ∙ setting-assign (take i (assignments_of es)) before (entry_at es i).slot.key (without_before es i d h) (had_all before w os es i (omega arith) commits.done) had in
     record {
       stands = λ k low. elim (eqb_tells k i) [
-        | inl e ↦ subst (λ n. StandsCommitted before (put_entry w (entry_at es i)) (after_commit os w (entry_at es i)) (entry_at es n)) (sym e.1) (just_committed before w os (entry_at es i) here was range)
+        | inl e ↦ subst (λ n. StandsCommitted before (put_entry w (entry_at es i)) (after_commit os w (entry_at es i)) (entry_at es n)) (sym e.1) (just_committed before w os (entry_at es i) here had was range)
         | inr e ↦
             let less : k < i = omega (arith, low, e.1) in
             still_committed before w os (entry_at es i) (entry_at es k) here (commits.done.stands k less) (λ q. distinct_below es k i d less h (sym q))
@@ -130,20 +103,21 @@ entry_is es ds i n e f = ap (λ xs. entry_at xs n) e ∙ ap (entry_at es) f
 -- One more entry is committed.
 pub commit_step : (before w v : World) (os ns : List ObjectState) (es ds : List Staged) (i n : ℕ) →
     ds ≡ es → n ≡ i → IsDistinct (assignments_of es) → i < length es →
+    StandsReserved w os (entry_at ds n) → HasSetting before (entry_at es i).slot.key →
     Commits before w os es i → v ≡ put_entry w (entry_at ds n) →
     ns ≡ after_commit os w (entry_at ds n) →
-    IsSettingInRange (entry_at ds n).slot.key (setting w (entry_at ds n).slot.key) →
+    IsSettingInRange w (entry_at ds n).slot.key (setting w (entry_at ds n).slot.key) →
     Commits before v ns es (i + 1)
-commit_step before w v os ns es ds i n e f d h commits puts sets range =
+commit_step before w v os ns es ds i n e f d h stands had commits puts sets range =
     let same : entry_at ds n ≡ entry_at es i = entry_is es ds i n e f in
     let world : v ≡ put_entry w (entry_at es i) = puts ∙ ap (put_entry w) same in
     let after : ns ≡ after_commit os w (entry_at es i) = sets ∙ ap (after_commit os w) same in
-    let in_range : IsSettingInRange (entry_at es i).slot.key (setting w (entry_at es i).slot.key)
-    = subst (λ (z : Staged). IsSettingInRange z.slot.key (setting w z.slot.key)) same range in
+    let here : StandsReserved w os (entry_at es i) = subst (StandsReserved w os) same stands in
+    let in_range : IsSettingInRange w (entry_at es i).slot.key (setting w (entry_at es i).slot.key)
+    = subst (λ (z : Staged). IsSettingInRange w z.slot.key (setting w z.slot.key)) same range in
     record {
       world = world ∙ assign_more before w es i h commits.world;
-      pending = subst (λ u. ArePending u ns es (i + 1)) (sym world) (subst (λ xs. ArePending (put_entry w (entry_at es i)) xs es (i + 1)) (sym after) (pending_more w os es i d h commits.pending));
-      done = subst (λ u. AreCommitted before u ns es (i + 1)) (sym world) (subst (λ xs. AreCommitted before (put_entry w (entry_at es i)) xs es (i + 1)) (sym after) (committed_more before w os es i d h commits in_range));
+      done = subst (λ u. AreCommitted before u ns es (i + 1)) (sym world) (subst (λ xs. AreCommitted before (put_entry w (entry_at es i)) xs es (i + 1)) (sym after) (committed_more before w os es i d h here had commits in_range));
     }
 
 -- The committed entries after a call that put nothing.
@@ -158,6 +132,7 @@ committed_after_call fails before w v os ns es n e h world objects done =
           let after : Holds (object_at (after_called fails os e) (entry_at es k).object) (entry_at es k).slot.place (committed_reservation (entry_at es k).slot (setting before (entry_at es k).slot.key))
           = holds_after_call fails os e.object f.object f.slot.place (committed_reservation f.slot (setting before f.slot.key)) h (holds_committed w (object_at os f.object) f.slot (setting before f.slot.key) there.committed) in
           record {
+            had = there.had;
             within = omega (arith, there.within, length-set {A = ObjectState});
             committed = record {
               key = there.committed.key;
@@ -167,12 +142,6 @@ committed_after_call fails before w v os ns es n e h world objects done =
             };
           };
     }))
-
--- What the next commit asks for.
-pub next_pending : (w : World) (os : List ObjectState) (es ds : List Staged) (i n : ℕ) → ds ≡ es →
-    n ≡ i → i < length es → ArePending w os es i → StandsReserved w os (entry_at ds n)
-next_pending w os es ds i n e f h pends =
-    subst (StandsReserved w os) (sym (entry_is es ds i n e f)) (pends.stands i (omega arith) h)
 
 -- What all objects are, once all is dropped, after one more commit, and after one that failed.
 pub called_after_commit : (w : World) (os ns zs : List ObjectState) (cs : List CallAt)

@@ -5,7 +5,7 @@ use Rattle.setphase_core.specs.declared.registry.RegistryFault.{RegistryFault}
 use Rattle.setphase_core.specs.declared.registry.RegistryFault.TheVariants.{Unsorted, Nested}
 use Rattle.setphase_core.specs.Objects.{ObjectRow, ObjectState}
 use Rattle.setphase_core.specs.Registry.{rows_of, first_fault}
-use Rattle.setphase_core.proofs.Places.{rows_split, rows_end}
+use Rattle.setphase_core.proofs.Places.{rows_split}
 
 unsorted_first : (row next : ObjectRow) (rows : List ObjectRow) → name_lt next.prefix row.prefix ≡ true → first_fault (row ∷ next ∷ rows) ≡ Some Unsorted
 unsorted_first row next rows h = rw h refl

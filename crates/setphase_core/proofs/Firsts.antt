@@ -11,9 +11,9 @@ use Rattle.setphase_core.specs.Settings.{put, HasSetting, same_setting, same_val
 use Rattle.setphase_core.specs.Variables.{Written}
 use Rattle.setphase_core.specs.Together.{assign, assignments, contradicts}
 use Rattle.setphase_core.specs.Outcomes.{has_key, keys_of, firsts, committed_of}
-use Rattle.setphase_core.specs.Staging.{Without, IsDistinct, HaveSettings}
+use Rattle.setphase_core.specs.Staging.{Without, IsDistinct, AreLegal}
 use Rattle.setphase_core.specs.Tested.{first_in, value_among, standing_by, is_contradicting}
-use Rattle.setphase_core.proofs.Puts.{put-put, puts-commuted, keys-kept, same-exact}
+use Rattle.setphase_core.proofs.Puts.{put-put, puts-commuted, keys-kept, range-kept, same-exact}
 
 -- ---- numbers
 
@@ -30,6 +30,13 @@ same_itself k = (same-exact k k).1 refl
 
 pub value-exact : (u v : SettingValue) → same_value u v ≡ true → u ≡ v
 value-exact (Number n) (Number m) e = let same : n ≡ m = grind (arith, nat_tests, e) in ap Number same
+
+pub value-other : (u v : SettingValue) → same_value u v ≡ false → u ≢ v
+value-other (Number n) (Number m) e same =
+    let other : n ≢ m = grind (arith, nat_tests, e) in other (same_number n m same)
+  where
+    same_number : (n m : ℕ) → Number n ≡ Number m → n ≡ m
+    same_number n m e = cc
 
 pub differ : (k l : SettingKey) → same_setting k l ≡ false → k ≢ l
 differ k l e same = absurd (let t : same_setting k l ≡ true = (same-exact k l).1 same in cc)
@@ -226,26 +233,27 @@ pub assign-append : (ps qs : List Assignment) (w : World) →
 assign-append [] qs w = refl
 assign-append (p ∷ ps) qs w = assign-append ps qs (put w p.key p.value)
 
-pub have_after : (w : World) (ps : List Assignment) (k : SettingKey) (v : SettingValue) →
-    HaveSettings w ps → HaveSettings (put w k v) ps
-have_after w [] k v h = tt
-have_after w (p ∷ ps) k v h = ((keys-kept w k p.key v).1 h.0, have_after w ps k v h.1)
+pub legal_after : (w : World) (ps : List Assignment) (k : SettingKey) (v : SettingValue) →
+    AreLegal w ps → AreLegal (put w k v) ps
+legal_after w [] k v h = tt
+legal_after w (p ∷ ps) k v h =
+    (record { key = (keys-kept w k p.key v).1 h.0.key; value = range-kept w k p.key v p.value h.0.value }, legal_after w ps k v h.1)
 
 put_past : (ps : List Assignment) (w : World) (k : SettingKey) (v : SettingValue) → Without k ps →
-    HasSetting w k → HaveSettings w ps → put (assign ps w) k v ≡ assign ps (put w k v)
+    HasSetting w k → AreLegal w ps → put (assign ps w) k v ≡ assign ps (put w k v)
 put_past [] w k v apart h all = refl
 put_past (p ∷ ps) w k v apart h all =
-    put_past ps (put w p.key p.value) k v apart.1 ((keys-kept w p.key k p.value).1 h) (have_after w ps p.key p.value all.1)
-    ∙ ap (assign ps) (puts-commuted w p.key k p.value v apart.0 all.0 h)
+    put_past ps (put w p.key p.value) k v apart.1 ((keys-kept w p.key k p.value).1 h) (legal_after w ps p.key p.value all.1)
+    ∙ ap (assign ps) (puts-commuted w p.key k p.value v apart.0 all.0.key h)
 
 -- A value that is among assignments changes nothing where it is put again.
 pub put_among : (ps : List Assignment) (w : World) (k : SettingKey) (v : SettingValue) →
-    IsDistinct ps → HaveSettings w ps → value_among ps k ≡ Some v →
+    IsDistinct ps → AreLegal w ps → value_among ps k ≡ Some v →
     put (assign ps w) k v ≡ assign ps w
 put_among [] w k v distinct all e = absurd (cc)
 put_among (p ∷ ps) w k v distinct all e =
     by_same (same_setting p.key k) refl
-    (λ h. put_among ps (put w p.key p.value) k v distinct.1 (have_after w ps p.key p.value all.1) h) e
+    (λ h. put_among ps (put w p.key p.value) k v distinct.1 (legal_after w ps p.key p.value all.1) h) e
   where
     one : {u x : SettingValue} → Some u ≡ Some x → u ≡ x
     one e = cc
@@ -257,8 +265,8 @@ put_among (p ∷ ps) w k v distinct all e =
     by_same true s rest e =
         ap (λ l. put (assign ps (put w p.key p.value)) l v) (sym ((same-exact p.key k).0 s))
         ∙ ap (put (assign ps (put w p.key p.value)) p.key) (sym (one e))
-        ∙ put_past ps (put w p.key p.value) p.key p.value distinct.0 ((keys-kept w p.key p.key p.value).1 all.0) (have_after w ps p.key p.value all.1)
-        ∙ ap (assign ps) (put-put w p.key p.value p.value all.0)
+        ∙ put_past ps (put w p.key p.value) p.key p.value distinct.0 ((keys-kept w p.key p.key p.value).1 all.0.key) (legal_after w ps p.key p.value all.1)
+        ∙ ap (assign ps) (put-put w p.key p.value p.value all.0.key all.0.value)
     by_same false s rest e = rest e
 
 -- ---- distinct settings

@@ -6,7 +6,7 @@ use Rattle.setting_keys.specs.declared.SettingValue.{SettingValue}
 use Rattle.setphase_core.specs.declared.object.Reservation.{Reservation}
 use Rattle.setphase_core.specs.declared.object.Slot.{Slot}
 use Rattle.setphase_core.specs.declared.world.World.{World}
-use Rattle.setphase_core.specs.Objects.{ObjectState, IsReserved, IsCommitted, pending_reservation, committed_reservation, object_after_commit, object_after_release, object_called}
+use Rattle.setphase_core.specs.Objects.{ObjectState, IsReserved, IsCommitted, reservation_of, committed_reservation, object_after_commit, object_after_release, object_called}
 use Rattle.setphase_core.specs.Staging.{object_at, no_object}
 
 slice_get-set_other : {X : Type 0} (xs : List X) (i j : ℕ) (y : X) → i ≢ j →
@@ -39,8 +39,8 @@ pub record Holds (o : ObjectState) (p : ℕ) (r : Reservation) : Type 0 where
   pub within : p < length o.reserved
   pub stands : slice_get o.reserved p ≡ Some r
 
-pub holds_reserved : (w : World) (o : ObjectState) (slot : Slot) → IsReserved w o slot →
-    Holds o slot.place (pending_reservation slot)
+pub holds_reserved : (w : World) (o : ObjectState) (slot : Slot) (h : IsReserved w o slot) →
+    Holds o slot.place (reservation_of slot h.old)
 holds_reserved w o slot h = record { within = h.place; stands = h.stands }
 
 pub holds_committed : (w : World) (o : ObjectState) (slot : Slot) (old : SettingValue) →

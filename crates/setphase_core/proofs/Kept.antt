@@ -12,7 +12,7 @@ use Rattle.setphase_core.specs.declared.world.World.{World}
 use Rattle.setphase_core.specs.declared.object.Reservation.{Reservation}
 use Rattle.setphase_core.specs.Objects.{ObjectState, object_after_release}
 use Rattle.setphase_core.specs.Registry.{rows_of, held_count}
-use Rattle.setphase_core.specs.Settings.{put, with_settings}
+use Rattle.setphase_core.specs.Settings.{put, bridge_keys, with_settings}
 use Rattle.setphase_core.specs.Together.{assign, assignments}
 use Rattle.setphase_core.specs.Variables.{Written}
 use Rattle.setphase_core.specs.Outcomes.{SetNotes, world_by, world_after_set, stuck}
@@ -39,7 +39,7 @@ after_set_keeps : (refusal : Option Refusal) (ws : List Written) (w : World) (no
     world_after_set refusal ws w notes
     ≡ with_settings w (world_after_set refusal ws w notes).bridge.settings
 after_set_keeps (Some refusal) ws w notes = refl
-after_set_keeps None ws w notes = by_keeps ws w notes.commit notes.undos
+after_set_keeps None ws w notes = by_keeps ws w notes.commit (bridge_keys notes.undos)
 
 -- A Set changes nothing but settings.
 pub set_keeps : (refusal : Option Refusal) (ws : List Written) (w new : World)

@@ -23,9 +23,11 @@ pub mod Assigns
 pub mod Holding
 pub mod Called
 pub mod Commits
+pub mod UnderWay
 pub mod Stuck
 pub mod Undoes
 pub mod Timers
+pub mod Same
 pub mod Endings
 pub mod Faults
 pub mod Runs

@@ -16,15 +16,27 @@ use Rattle.setting_keys.specs.declared.SettingKey.{SettingKey}
 use Rattle.setting_keys.specs.declared.SettingKey.TheVariants.{Bridge}
 use Rattle.setting_keys.specs.declared.SettingValue.{SettingValue}
 use Rattle.setting_keys.specs.declared.SettingValue.TheVariants.{Number}
-use Rattle.setphase_core.specs.Settings.{setting, put, HasSetting, same_setting, with_settings}
+use Rattle.setphase_core.specs.Settings.{setting, put, HasSetting, IsSettingInRange, same_setting, with_settings}
 use Rattle.setphase_core.specs.declared.world.World.{World}
 
 number-cond : (b : Bool) (m n : ℕ) → Number (cond b m n) ≡ cond b (Number m) (Number n)
 number-cond true m n = refl
 number-cond false m n = refl
 
-pub setting-put : (w : World) (k l : SettingKey) (v : SettingValue) → HasSetting w k → HasSetting w l → setting (put w k v) l ≡ cond (same_setting k l) v (setting w l)
-setting-put w (Bridge k) (Bridge l) (Number n) h i = ap Number (get-put w.bridge.settings k l n h i) ∙ number-cond (same_key k l) n (get w.bridge.settings l)
+-- What the bridge's settings have after a put.
+bridge-put : (w : World) (k l : Key) (n : ℕ) → HasKey w.bridge.settings k → HasKey w.bridge.settings l → setting (put w (Bridge k) (Number n)) (Bridge l) ≡ cond (same_key k l) (Number n) (setting w (Bridge l))
+bridge-put w k l n h i = ap Number (get-put w.bridge.settings k l n h i) ∙ number-cond (same_key k l) n (get w.bridge.settings l)
+
+pub setting-put : (w : World) (k l : SettingKey) (v : SettingValue) → HasSetting w k → HasSetting w l → IsSettingInRange w k v → setting (put w k v) l ≡ cond (same_setting k l) v (setting w l)
+setting-put w (Bridge k) (Bridge l) (Number n) h i range = bridge-put w k l n h i
+
+-- Whatever a setting is given, the others have what they had.
+pub setting-put_other : (w : World) (k l : SettingKey) (v : SettingValue) → same_setting k l ≡ false → HasSetting w k → HasSetting w l → setting (put w k v) l ≡ setting w l
+setting-put_other w (Bridge k) (Bridge l) (Number n) other h i = bridge-put w k l n h i ∙ ap (λ (b : Bool). cond b (Number n) (setting w (Bridge l))) other
+
+-- and each has its range.
+pub range-kept : (w : World) (k l : SettingKey) (v u : SettingValue) → IsSettingInRange w l u → IsSettingInRange (put w k v) l u
+range-kept w (Bridge k) (Bridge l) (Number n) (Number m) h = h
 
 pub put-restored : (w : World) (k : SettingKey) (v : SettingValue) → HasSetting w k → put (put w k v) k (setting w k) ≡ w
 put-restored w (Bridge k) (Number n) h = ap (with_settings w) (put-back w.bridge.settings k n h)
@@ -99,8 +111,8 @@ same_key-itself (key.Port n k) =
 
 -- ---- over the settings of a world
 
-pub put-put : (w : World) (k : SettingKey) (v u : SettingValue) → HasSetting w k → put (put w k v) k u ≡ put w k u
-put-put w (Bridge k) (Number m) (Number n) h = ap (with_settings w) (put_put w.bridge.settings k m n h)
+pub put-put : (w : World) (k : SettingKey) (v u : SettingValue) → HasSetting w k → IsSettingInRange w k u → put (put w k v) k u ≡ put w k u
+put-put w (Bridge k) (Number m) (Number n) h range = ap (with_settings w) (put_put w.bridge.settings k m n h)
 
 pub put-again : (w : World) (k : SettingKey) → HasSetting w k → put w k (setting w k) ≡ w
 put-again w (Bridge k) h = ap (with_settings w) (put_same w.bridge.settings k h)

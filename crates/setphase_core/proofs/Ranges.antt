@@ -17,7 +17,9 @@ use Rattle.setphase_core.specs.declared.object.Assignment.{Assignment}
 use Rattle.setphase_core.specs.declared.object.SetFault.TheVariants.{WrongValue}
 use Rattle.setphase_core.specs.declared.writable.Target.{Target}
 use Rattle.setphase_core.specs.declared.writable.Target.TheVariants as target
+use Rattle.setphase_core.specs.declared.writable.IntegerTarget.{IntegerTarget}
 use Rattle.setphase_core.specs.declared.writable.Writable.{Writable}
+use Rattle.setphase_core.specs.declared.writable.Writable.TheVariants.{Integer as Integers}
 use Rattle.setphase_core.specs.declared.column.Stp.{Stp}
 use Rattle.setphase_core.specs.declared.column.Stp.TheVariants as stp
 use Rattle.setphase_core.specs.declared.column.StpPort.{StpPort}
@@ -30,17 +32,17 @@ use Rattle.setphase_core.specs.declared.column.Tp.{Tp}
 use Rattle.setphase_core.specs.declared.column.Tp.TheVariants as tp
 use Rattle.setphase_core.specs.declared.column.Column.{Column}
 use Rattle.setphase_core.specs.declared.column.Column.TheVariants as column
-use Rattle.setphase_core.specs.Settings.{HasSetting, IsSettingInRange}
+use Rattle.setphase_core.specs.Staging.{IsLegal}
 use Rattle.setphase_core.specs.Values.{port_index}
 use Rattle.setphase_core.specs.Writing.{writable_of, takes, number_given, key_at, assignment_at, assignment_by, assignment_of, stp_writable, stp_port_writable, rapid_writable, ext_port_writable, tp_writable}
 
 -- A number that an object takes.
-record Taken (x : Writable) (n : ℕ) : Type 0 where
+record Taken (x : IntegerTarget) (n : ℕ) : Type 0 where
   pub least : x.least ≤ n
   pub most : n ≤ x.most
   pub step : n % x.step ≡ 0
 
-taken : (x : Writable) (n : ℕ) → takes x n ≡ true → Taken x n
+taken : (x : IntegerTarget) (n : ℕ) → takes x n ≡ true → Taken x n
 taken x n e = record {
   least = grind (arith, nat_tests, e);
   most = grind (arith, nat_tests, e);
@@ -55,7 +57,7 @@ IsTargetRange (target.Port k) v = IsPortRange k v
 -- What each object that is written gives is in the range of its setting.
 abbrev GivesRange : Option Writable → Type 0
 GivesRange None = Unit {0}
-GivesRange (Some x) = (n : ℕ) → Taken x n → IsTargetRange x.target (number_given x.target n)
+GivesRange (Some (Integers x)) = (n : ℕ) → Taken x n → IsTargetRange x.target (number_given x.target n)
 
 two_or_none : (n : ℕ) → n ≤ 2 → n % 2 ≡ 0 → (n ≡ 0) ⊎ (n ≡ 2)
 two_or_none zero h e = inl refl
@@ -123,11 +125,6 @@ gives (column.Tp c) = tp_gives c
 gives (column.TpFdb c) = tt
 gives (column.TpPort c) = tt
 
--- An assignment that a world can take.
-pub record IsLegal (w : World) (a : Assignment) : Type 0 where
-  pub key : HasSetting w a.key
-  pub value : IsSettingInRange a.key a.value
-
 within : (n m : ℕ) → (nat_le 1 n && nat_le n m) ≡ true → n ≤ m
 within n m is = grind (arith, nat_tests, is)
 
@@ -161,8 +158,8 @@ target_legal : (t : Target) (w : World) (at : List ℕ) (v : ℕ) (a : Assignmen
 target_legal (target.Bridge k) w at v a even range e = bridge_legal k w (name_eq (0 ∷ []) at) v a range e
 target_legal (target.Port k) w at v a even range e = port_legal k w at v a even range e
 
-integer_legal : (x : Writable) (w : World) (at : List ℕ) (n : ℕ) (a : Assignment) (b : Bool) →
-    port_count w.bridge ≡ length w.bridge.settings.ports → GivesRange (Some x) → takes x n ≡ b →
+integer_legal : (x : IntegerTarget) (w : World) (at : List ℕ) (n : ℕ) (a : Assignment) (b : Bool) →
+    port_count w.bridge ≡ length w.bridge.settings.ports → GivesRange (Some (Integers x)) → takes x n ≡ b →
     cond b (assignment_at (key_at x.target w at) (number_given x.target n)) (Err WrongValue) ≡ Ok a → IsLegal w a
 integer_legal x w at n a true even range is e =
     target_legal x.target w at (number_given x.target n) a even (range n (taken x n is)) e
@@ -171,21 +168,21 @@ integer_legal x w at n a false even range is e = absurd (cc)
 by_legal : (x : Option Writable) (w : World) (at : List ℕ) (v : Value) (a : Assignment) →
     port_count w.bridge ≡ length w.bridge.settings.ports → GivesRange x → assignment_by x w at v ≡ Ok a → IsLegal w a
 by_legal None w at v a even range e = absurd (cc)
-by_legal (Some x) w at (value.Integer (pos n)) a even range e =
+by_legal (Some (Integers x)) w at (value.Integer (pos n)) a even range e =
     integer_legal x w at n a (takes x n) even range refl e
-by_legal (Some x) w at (value.Integer (negsuc n)) a even range e = absurd (cc)
-by_legal (Some x) w at (value.OctetString v) a even range e = absurd (cc)
-by_legal (Some x) w at value.Null a even range e = absurd (cc)
-by_legal (Some x) w at (value.ObjectIdentifier v) a even range e = absurd (cc)
-by_legal (Some x) w at (value.IpAddress v) a even range e = absurd (cc)
-by_legal (Some x) w at (value.Counter32 v) a even range e = absurd (cc)
-by_legal (Some x) w at (value.Gauge32 v) a even range e = absurd (cc)
-by_legal (Some x) w at (value.TimeTicks v) a even range e = absurd (cc)
-by_legal (Some x) w at (value.Opaque v) a even range e = absurd (cc)
-by_legal (Some x) w at (value.Counter64 v) a even range e = absurd (cc)
-by_legal (Some x) w at value.NoSuchObject a even range e = absurd (cc)
-by_legal (Some x) w at value.NoSuchInstance a even range e = absurd (cc)
-by_legal (Some x) w at value.EndOfMibView a even range e = absurd (cc)
+by_legal (Some (Integers x)) w at (value.Integer (negsuc n)) a even range e = absurd (cc)
+by_legal (Some (Integers x)) w at (value.OctetString v) a even range e = absurd (cc)
+by_legal (Some (Integers x)) w at value.Null a even range e = absurd (cc)
+by_legal (Some (Integers x)) w at (value.ObjectIdentifier v) a even range e = absurd (cc)
+by_legal (Some (Integers x)) w at (value.IpAddress v) a even range e = absurd (cc)
+by_legal (Some (Integers x)) w at (value.Counter32 v) a even range e = absurd (cc)
+by_legal (Some (Integers x)) w at (value.Gauge32 v) a even range e = absurd (cc)
+by_legal (Some (Integers x)) w at (value.TimeTicks v) a even range e = absurd (cc)
+by_legal (Some (Integers x)) w at (value.Opaque v) a even range e = absurd (cc)
+by_legal (Some (Integers x)) w at (value.Counter64 v) a even range e = absurd (cc)
+by_legal (Some (Integers x)) w at value.NoSuchObject a even range e = absurd (cc)
+by_legal (Some (Integers x)) w at value.NoSuchInstance a even range e = absurd (cc)
+by_legal (Some (Integers x)) w at value.EndOfMibView a even range e = absurd (cc)
 
 -- What a variable of a column writes, a world can take.
 pub legal : (c : Column) (w : World) (at : List ℕ) (v : Value) (a : Assignment) →

@@ -33,11 +33,11 @@ first_if false ns = refl
 
 -- What keeps the variables from going together, where each passed its own tests, is the refusal.
 pub refused_together : (rows : List ObjectRow) (w : World) (view : List ℕ) (bs : List Binding)
-    (os : List ObjectState) (es : List Staged) (c t : Option ℕ) →
-    ArePassed rows w view bs os es c t →
+    (es : List Staged) (c t : Option ℕ) →
+    ArePassed rows w view bs es c t →
     option_map inconsistent (inconsistency c (timers_agree (assign (assignments_of es) w)) t)
     ≡ refusal_of rows w view bs
-refused_together rows w view bs os es c t h =
+refused_together rows w view bs es c t h =
     let ps = assignments (writings rows w bs) in
     ap (option_map inconsistent) (by_first c h.same
     ∙ ap (λ o. first_in o (disagreeing w ps)) h.contradictions
@@ -55,20 +55,20 @@ refused_together rows w view bs os es c t h =
     by_first (Some n) same = refl
 
 pub refused_for : (rows : List ObjectRow) (w : World) (view : List ℕ) (bs : List Binding)
-    (os : List ObjectState) (es : List Staged) (c t : Option ℕ) (n : ℕ) →
-    ArePassed rows w view bs os es c t →
+    (es : List Staged) (c t : Option ℕ) (n : ℕ) →
+    ArePassed rows w view bs es c t →
     inconsistency c (timers_agree (assign (assignments_of es) w)) t ≡ Some n →
     Some (inconsistent n) ≡ refusal_of rows w view bs
-refused_for rows w view bs os es c t n h e =
-    sym (ap (option_map inconsistent) e) ∙ refused_together rows w view bs os es c t h
+refused_for rows w view bs es c t n h e =
+    sym (ap (option_map inconsistent) e) ∙ refused_together rows w view bs es c t h
 
 pub not_refused : (rows : List ObjectRow) (w : World) (view : List ℕ) (bs : List Binding)
-    (os : List ObjectState) (es : List Staged) (c t : Option ℕ) →
-    ArePassed rows w view bs os es c t →
+    (es : List Staged) (c t : Option ℕ) →
+    ArePassed rows w view bs es c t →
     inconsistency c (timers_agree (assign (assignments_of es) w)) t ≡ None →
     None ≡ refusal_of rows w view bs
-not_refused rows w view bs os es c t h e =
-    sym (ap (option_map inconsistent) e) ∙ refused_together rows w view bs os es c t h
+not_refused rows w view bs es c t h e =
+    sym (ap (option_map inconsistent) e) ∙ refused_together rows w view bs es c t h
 
 -- ---- a commit that failed, and the undoing of those before it
 

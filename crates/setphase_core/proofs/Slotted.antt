@@ -1,31 +1,33 @@
 -- The entries that are staged, of the variables that were tested so far.
-use Rattle.std.proofs.Common.{◌≡◌, ℕ, zero, suc, ◌-◌, ◌<◌, ◌≤◌, ◌∙◌, sym, ap, subst, refl, true, false, cond, List, [], ◌∷◌, ◌++◌, length, take, slice_get, slice_set, Some, arith, ◌⊎◌, inl, inr, length-append}
+use Rattle.std.proofs.Common.{◌≡◌, ℕ, zero, suc, ◌-◌, ◌<◌, ◌≤◌, ◌∙◌, sym, ap, subst, refl, ◌≢◌, Bool, true, false, cond, List, [], ◌∷◌, ◌++◌, length, map, take, slice_get, slice_set, Some, None, arith, ◌⊎◌, inl, inr, length-append}
 use Rattle.std.proofs.lemmas.List.{length-set, length-map, get_or-set_same, get_or-set_other, map-append}
 use Rattle.std.proofs.lemmas.Bool.Decides.{eqb_tells}
 use Rattle.std.proofs.lemmas.Option.{slice_get_within}
-use Rattle.setphase_core.specs.declared.world.World.{World}
 use Rattle.setphase_core.specs.declared.object.Slot.{Slot}
 use Rattle.setphase_core.specs.declared.staging.Staged.{Staged}
-use Rattle.setphase_core.specs.Objects.{ObjectRow, ObjectState, IsReserved, reserve, pending_reservation}
-use Rattle.setphase_core.specs.Registry.{prefixes_of}
+use Rattle.setphase_core.specs.Objects.{ObjectRow, ObjectState, reserve, pending_reservation}
+use Rattle.oid_core.specs.Order.{is_prefix}
+use Rattle.setphase_core.specs.declared.object.Reservation.{Reservation}
+use Rattle.setphase_core.specs.Registry.{rows_of, prefixes_of}
 use Rattle.setphase_core.specs.Searching.{IsOwnerPlace}
-use Rattle.setphase_core.specs.Variables.{Written}
+use Rattle.setphase_core.specs.Variables.{Written, written_under}
 use Rattle.setphase_core.specs.Together.{assignments}
 use Rattle.setphase_core.specs.Outcomes.{has_key, keys_of, committed_of}
-use Rattle.setphase_core.specs.Staging.{object_at, no_object, entry_at, assignment_of_entry, StandsReserved, ArePending}
+use Rattle.setphase_core.specs.Staging.{object_at, no_object, entry_at, assignment_of_entry}
 use Rattle.setphase_core.specs.Tested.{AreStaged, IsNumber}
 use Rattle.setphase_core.proofs.Firsts.{committed-last}
-use Rattle.setphase_core.proofs.Ranges.{IsLegal}
+use Rattle.setphase_core.proofs.States.{prefix_of_object}
+use Rattle.setphase_core.proofs.Writings.{owner_within}
 
 -- ---- lists with one more at the end
 
-slice_get-append : {X : Type 0} (xs ys : List X) (i : ℕ) (r : X) → slice_get xs i ≡ Some r →
+pub slice_get-append : {X : Type 0} (xs ys : List X) (i : ℕ) (r : X) → slice_get xs i ≡ Some r →
     slice_get (xs ++ ys) i ≡ Some r
 slice_get-append [] ys i r e = absurd (cc)
 slice_get-append (x ∷ xs) ys zero r e = e
 slice_get-append (x ∷ xs) ys (suc i) r e = slice_get-append xs ys i r e
 
-slice_get-last : {X : Type 0} (xs : List X) (r : X) → slice_get (xs ++ r ∷ []) (length xs) ≡ Some r
+pub slice_get-last : {X : Type 0} (xs : List X) (r : X) → slice_get (xs ++ r ∷ []) (length xs) ≡ Some r
 slice_get-last [] r = refl
 slice_get-last (x ∷ xs) r = slice_get-last xs r
 
@@ -54,82 +56,105 @@ append_none : {X : Type 0} (xs : List X) → xs ++ [] ≡ xs
 append_none [] = refl
 append_none (x ∷ xs) = ap (λ ys. x ∷ ys) (append_none xs)
 
-entry_at-append : (es : List Staged) (e : Staged) (k : ℕ) → k < length es →
+pub entry_at-append : (es : List Staged) (e : Staged) (k : ℕ) → k < length es →
     entry_at (es ++ e ∷ []) k ≡ entry_at es k
 entry_at-append [] e k h = absurd (omega arith)
 entry_at-append (d ∷ es) e zero h = refl
 entry_at-append (d ∷ es) e (suc k) h = entry_at-append es e k (omega arith)
 
-entry_at-last : (es : List Staged) (e : Staged) → entry_at (es ++ e ∷ []) (length es) ≡ e
+pub entry_at-last : (es : List Staged) (e : Staged) → entry_at (es ++ e ∷ []) (length es) ≡ e
 entry_at-last [] e = refl
 entry_at-last (d ∷ es) e = entry_at-last es e
 
 less : (n : ℕ) → suc n - 1 ≡ n
 less n = omega arith
 
--- ---- slots that stand
+-- ---- slots that are reserved
 
-reserved_more : (w : World) (o : ObjectState) (s t : Slot) → IsReserved w o t →
-    IsReserved w (reserve o s) t
-reserved_more w o s t h = record {
-  key = h.key;
-  value = h.value;
-  place = omega (arith, h.place, length-append o.reserved (pending_reservation s ∷ []));
-  stands = slice_get-append o.reserved (pending_reservation s ∷ []) t.place _ h.stands;
-}
+-- What an object of this name has reserved: what the variables under it write, in their order.
+abbrev pub reserved_for : List ℕ → List Written → List Reservation
+reserved_for prefix ws =
+    map (λ x. record { key = x.assignment.key; value = x.assignment.value; old = None }) (written_under prefix ws)
 
-stands_more : (w : World) (os : List ObjectState) (p : ℕ) (s : Slot) (e : Staged) →
-    p < length os → StandsReserved w os e →
-    StandsReserved w (slice_set os p (reserve (object_at os p) s)) e
-stands_more w os p s e h there = record {
-  within = omega (arith, there.within, length-set {A = ObjectState});
-  reserved = elim (eqb_tells e.object p) [
-    | inl q ↦
-        subst (λ z. IsReserved w z e.slot) (sym (ap (object_at (slice_set os p (reserve (object_at os p) s))) q.1 ∙ get_or-set_same os p _ no_object h))
-        (reserved_more w (object_at os p) s e.slot (subst (λ n. IsReserved w (object_at os n) e.slot) q.1 there.reserved))
-    | inr q ↦ subst (λ z. IsReserved w z e.slot) (sym (get_or-set_other os p e.object _ no_object q.1)) there.reserved
-  ];
-}
+under-last : (prefix : List ℕ) (ws : List Written) (x : Written) →
+    reserved_for prefix (ws ++ x ∷ [])
+    ≡ reserved_for prefix ws
+    ++ cond (is_prefix prefix x.name) (record { key = x.assignment.key; value = x.assignment.value; old = None } ∷ []) []
+under-last prefix [] x = only (is_prefix prefix x.name)
+  where
+    only : (b : Bool) →
+        map {B = Reservation} (λ (y : Written). record { key = y.assignment.key; value = y.assignment.value; old = None }) (cond b (x ∷ []) [])
+        ≡ cond b (record { key = x.assignment.key; value = x.assignment.value; old = None } ∷ []) []
+    only true = refl
+    only false = refl
+under-last prefix (y ∷ ws) x = first (is_prefix prefix y.name) (under-last prefix ws x)
+  where
+    first : (b : Bool) →
+        reserved_for prefix (ws ++ x ∷ [])
+        ≡ reserved_for prefix ws
+        ++ cond (is_prefix prefix x.name) (record { key = x.assignment.key; value = x.assignment.value; old = None } ∷ []) [] →
+        map {B = Reservation} (λ (z : Written). record { key = z.assignment.key; value = z.assignment.value; old = None }) (cond b (y ∷ written_under prefix (ws ++ x ∷ [])) (written_under prefix (ws ++ x ∷ [])))
+        ≡ map {B = Reservation} (λ (z : Written). record { key = z.assignment.key; value = z.assignment.value; old = None }) (cond b (y ∷ written_under prefix ws) (written_under prefix ws))
+        ++ cond (is_prefix prefix x.name) (record { key = x.assignment.key; value = x.assignment.value; old = None } ∷ []) []
+    first true rest = ap (λ (zs : List Reservation). record { key = y.assignment.key; value = y.assignment.value; old = None } ∷ zs) rest
+    first false rest = rest
 
--- All entries stand when an object reserves one slot more.
-pub pending_again : (w : World) (os : List ObjectState) (es : List Staged) (p : ℕ) (s : Slot) →
-    p < length os → ArePending w os es 0 →
-    ArePending w (slice_set os p (reserve (object_at os p) s)) es 0
-pending_again w os es p s h all = record {
-  stands = λ k low high. stands_more w os p s (entry_at es k) h (all.stands k low high);
-}
+-- One slot more, of a variable whose object stands at a place.
+pub reserves_more : (os : List ObjectState) (p : ℕ) (s : Slot) (name : List ℕ) (ws : List Written) →
+    IsOwnerPlace (prefixes_of (rows_of os)) name (Some p) →
+    ((q : ℕ) → q < length os → (object_at os q).reserved ≡ reserved_for (object_at os q).row.prefix ws) →
+    (q : ℕ) → q < length (slice_set os p (reserve (object_at os p) s)) →
+    (object_at (slice_set os p (reserve (object_at os p) s)) q).reserved
+    ≡ reserved_for (object_at (slice_set os p (reserve (object_at os p) s)) q).row.prefix
+    (ws ++ record { name = name; assignment = record { key = s.key; value = s.value } } ∷ [])
+reserves_more os p s name ws owner all q h =
+    let within : p < length os = owner_within os name p owner in
+    let x : Written = record { name = name; assignment = record { key = s.key; value = s.value } } in
+    let there : q < length os = omega (arith, h, length-set {A = ObjectState}) in
+    elim (eqb_tells q p) [
+      | inl e ↦
+          subst (λ z. z.reserved ≡ reserved_for z.row.prefix (ws ++ record { name = name; assignment = record { key = s.key; value = s.value } } ∷ []))
+          (sym (ap (object_at (slice_set os p (reserve (object_at os p) s))) e.1 ∙ get_or-set_same os p (reserve (object_at os p) s) no_object within))
+          (ap (λ zs. zs ++ pending_reservation s ∷ []) (all p within)
+          ∙ ap (λ (b : Bool). reserved_for (object_at os p).row.prefix ws ++ cond b (pending_reservation s ∷ []) []) (sym (begins_here os name p owner))
+          ∙ sym (under-last (object_at os p).row.prefix ws x))
+      | inr e ↦
+          subst (λ z. z.reserved ≡ reserved_for z.row.prefix (ws ++ record { name = name; assignment = record { key = s.key; value = s.value } } ∷ []))
+          (sym (get_or-set_other os p q (reserve (object_at os p) s) no_object e.1))
+          (all q there
+          ∙ sym (append_none (reserved_for (object_at os q).row.prefix ws))
+          ∙ ap (λ (b : Bool). reserved_for (object_at os q).row.prefix ws ++ cond b (pending_reservation s ∷ []) []) (sym (begins_no_other os name p q owner there e.1))
+          ∙ sym (under-last (object_at os q).row.prefix ws x))
+    ]
+  where
+    begins_here : (os : List ObjectState) (name : List ℕ) (p : ℕ) → IsOwnerPlace (prefixes_of (rows_of os)) name (Some p) →
+        is_prefix (object_at os p).row.prefix name ≡ true
+    begins_here os name p owner = ap (λ prefix. is_prefix prefix name) (sym (prefix_of_object os p)) ∙ owner.1
 
--- And the entry of that slot stands too.
-pub pending_more : (w : World) (os : List ObjectState) (es : List Staged) (p : ℕ) (s : Slot)
-    (n : ℕ) → p < length os → s.place ≡ length (object_at os p).reserved →
-    IsLegal w (record { key = s.key; value = s.value }) → ArePending w os es 0 →
-    ArePending w (slice_set os p (reserve (object_at os p) s)) (es ++ record { object = p; slot = s; number = n } ∷ []) 0
-pending_more w os es p s n h place legal all = record {
-  stands = λ k low high. elim (eqb_tells k (length es)) [
-    | inl q ↦ subst (StandsReserved w (slice_set os p (reserve (object_at os p) s))) (sym (ap (entry_at (es ++ record { object = p; slot = s; number = n } ∷ [])) q.1 ∙ entry_at-last es _)) (record {
-      within = omega (arith, h, length-set {A = ObjectState});
-      reserved = subst (λ z. IsReserved w z s) (sym (get_or-set_same os p _ no_object h)) (record {
-        key = legal.key;
-        value = legal.value;
-        place = omega (arith, place, length-append (object_at os p).reserved (pending_reservation s ∷ []));
-        stands = ap (slice_get ((object_at os p).reserved ++ pending_reservation s ∷ [])) place ∙ slice_get-last (object_at os p).reserved _;
-      });
-    })
-    | inr q ↦
-        let below : k < length es = omega (arith, high, q.1, length-append es (record { object = p; slot = s; number = n } ∷ [])) in
-        subst (StandsReserved w (slice_set os p (reserve (object_at os p) s))) (sym (entry_at-append es _ k below)) (stands_more w os p s (entry_at es k) h (all.stands k low below))
-  ];
-}
+    begins_no_other : (os : List ObjectState) (name : List ℕ) (p q : ℕ) → IsOwnerPlace (prefixes_of (rows_of os)) name (Some p) →
+        q < length os → q ≢ p → is_prefix (object_at os q).row.prefix name ≡ false
+    begins_no_other os name p q owner h ne =
+        ap (λ prefix. is_prefix prefix name) (sym (prefix_of_object os q))
+        ∙ owner.2 q (omega (arith, h, places os)) ne
+      where
+        places : (os : List ObjectState) → length (prefixes_of (rows_of os)) ≡ length os
+        places [] = refl
+        places (o ∷ os) = ap suc (places os)
 
--- No object has reserved more than one slot for each test.
-pub few_more : (os : List ObjectState) (p : ℕ) (s : Slot) (i : ℕ) → p < length os →
-    ((q : ℕ) → length (object_at os q).reserved ≤ i) →
-    (q : ℕ) → length (object_at (slice_set os p (reserve (object_at os p) s)) q).reserved ≤ suc i
-few_more os p s i h few q = elim (eqb_tells q p) [
-  | inl e ↦ subst (λ z. length z.reserved ≤ suc i) (sym (ap (object_at (slice_set os p (reserve (object_at os p) s))) e.1 ∙ get_or-set_same os p _ no_object h))
-      (omega (arith, few p, length-append (object_at os p).reserved (pending_reservation s ∷ [])))
-  | inr e ↦ subst (λ z. length z.reserved ≤ suc i) (sym (get_or-set_other os p q _ no_object e.1)) (omega (arith, few q))
-]
+fewer_under : (prefix : List ℕ) (ws : List Written) → length (reserved_for prefix ws) ≤ length ws
+fewer_under prefix [] = omega arith
+fewer_under prefix (x ∷ ws) = first (is_prefix prefix x.name) (fewer_under prefix ws)
+  where
+    first : (b : Bool) → length (reserved_for prefix ws) ≤ length ws →
+        length {A = Reservation} (map {B = Reservation} (λ (z : Written). record { key = z.assignment.key; value = z.assignment.value; old = None }) (cond b (x ∷ written_under prefix ws) (written_under prefix ws))) ≤ suc (length ws)
+    first true rest = omega (arith, rest)
+    first false rest = omega (arith, rest)
+
+-- So no object has reserved more than there are variables.
+pub few : (os : List ObjectState) (ws : List Written) (p : ℕ) →
+    (object_at os p).reserved ≡ reserved_for (object_at os p).row.prefix ws →
+    length (object_at os p).reserved ≤ length ws
+few os ws p e = omega (arith, ap (length {A = Reservation}) e, fewer_under (object_at os p).row.prefix ws)
 
 -- ---- entries and variables
 

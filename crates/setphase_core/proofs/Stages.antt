@@ -1,5 +1,5 @@
 -- The tests of the variables of a Set, one after the other.
-use Rattle.std.proofs.Common.{◌≡◌, ℕ, zero, suc, ◌+◌, ◌<◌, ◌≤◌, ◌∙◌, sym, ap, subst, refl, Bool, true, false, cond, List, [], ◌∷◌, ◌++◌, length, map, drop, drop-cons, get_or, slice_get, slice_set, Option, Some, None, is_some, Ok, arith, add-one, length-append, append_assoc}
+use Rattle.std.proofs.Common.{◌≡◌, ℕ, zero, suc, ◌+◌, ◌<◌, ◌≤◌, ◌∙◌, sym, ap, subst, refl, Bool, true, false, cond, List, [], ◌∷◌, ◌++◌, length, map, drop, drop-cons, get_or, slice_get, Option, Some, None, is_some, Ok, arith, add-one, length-append, append_assoc}
 use Rattle.std.proofs.lemmas.List.{map-append}
 use Rattle.message_core.specs.declared.binding.Binding.{Binding}
 use Rattle.bridge_core.specs.Bridge.{port_count}
@@ -17,11 +17,11 @@ use Rattle.setphase_core.specs.Searching.{IsOwnerPlace}
 use Rattle.setphase_core.specs.Settings.{put}
 use Rattle.setphase_core.specs.Variables.{Written, writings_of, writings, variable, assignment_for, refusals_for, refusal_for, single_refusals}
 use Rattle.setphase_core.specs.Together.{assign, assignments, contradicts, contradicting, is_timer, timer_numbers}
-use Rattle.setphase_core.specs.Staging.{object_at, assignments_of, assignment_of_entry, ArePending, IsDistinct, HaveSettings}
+use Rattle.setphase_core.specs.Staging.{object_at, assignments_of, assignment_of_entry, IsDistinct, IsLegal, AreLegal}
 use Rattle.setphase_core.specs.Tested.{first_in, value_among, standing_by, is_contradicting, staged_by, IsPassed, IsFaulty, AreStaged, ArePassed}
 use Rattle.setphase_core.proofs.Firsts.{first_in-append, is_first, is_repeated, is_contradicted, IsKnown, known_first, known_again, Agrees, agrees_more, agrees_last, value_last, contradicts_is, assign-append, put_among, distinct_last}
-use Rattle.setphase_core.proofs.Ranges.{IsLegal, legal}
-use Rattle.setphase_core.proofs.Slotted.{pending_again, pending_more, few_more, staged_again, staged_first}
+use Rattle.setphase_core.proofs.Ranges.{legal}
+use Rattle.setphase_core.proofs.Slotted.{reserved_for, reserves_more, few, staged_again, staged_first}
 use Rattle.setphase_core.proofs.States.{rows_of-set}
 use Rattle.setphase_core.proofs.Writings.{placed_ok, assigned_ok, variable_ok, variable_err}
 
@@ -32,25 +32,25 @@ pub record Stages (rows : List ObjectRow) (w : World) (view : List ℕ) (bs : Li
   pub earlier : List Written
   pub all : writings rows w bs ≡ earlier ++ writings rows w (drop i bs)
   pub count : length earlier ≡ i
-  pub single : single_refusals rows w view i (drop i bs) ≡ single_refusals rows w view 0 bs
+  pub single : single_refusals rows w view i earlier (drop i bs)
+      ≡ single_refusals rows w view 0 [] bs
   pub contradictions : first_in contradiction (contradicting (assignments earlier) (assignments (writings rows w (drop i bs))))
       ≡ slice_get (contradicting [] (assignments (writings rows w bs))) 0
   pub timers : first_in timer (timer_numbers (suc i) (assignments (writings rows w (drop i bs))))
       ≡ slice_get (timer_numbers 1 (assignments (writings rows w bs))) 0
   pub kept : rows_of os ≡ rows
-  pub few : (p : ℕ) → length (object_at os p).reserved ≤ i
-  pub pending : ArePending w os es 0
-  pub have : HaveSettings w (assignments_of es)
+  pub reserves : (p : ℕ) → p < length os → (object_at os p).reserved ≡ reserved_for (object_at os p).row.prefix earlier
+  pub legal : AreLegal w (assignments_of es)
   pub staged : AreStaged rows earlier es
   pub distinct : IsDistinct (assignments_of es)
   pub known : IsKnown earlier (assignments_of es)
   pub agrees : contradiction ≡ None → Agrees (assignments_of es) earlier
   pub same : contradiction ≡ None → assign (assignments earlier) w ≡ assign (assignments_of es) w
 
-none_reserved : (os : List ObjectState) (p : ℕ) → length (object_at (map object_after_release os) p).reserved ≤ 0
-none_reserved [] p = omega arith
-none_reserved (o ∷ os) zero = omega arith
-none_reserved (o ∷ os) (suc p) = none_reserved os p
+none_reserved : (os : List ObjectState) (p : ℕ) → p < length (map object_after_release os) → (object_at (map object_after_release os) p).reserved ≡ []
+none_reserved [] p h = absurd (omega arith)
+none_reserved (o ∷ os) zero h = refl
+none_reserved (o ∷ os) (suc p) h = none_reserved os p (omega arith)
 
 -- Before the first test.
 pub stages_begin : (w : World) (view : List ℕ) (bs : List Binding) (os : List ObjectState) →
@@ -63,9 +63,10 @@ stages_begin w view bs os released = record {
   contradictions = refl;
   timers = refl;
   kept = refl;
-  few = λ p. subst (λ zs. length (object_at zs p).reserved ≤ 0) (sym released) (none_reserved os p);
-  pending = record { stands = λ k low high. absurd (omega (arith, high)) };
-  have = tt;
+  reserves = λ p h.
+      ap (λ zs. (object_at zs p).reserved) released
+      ∙ none_reserved os p (subst (λ zs. p < length zs) released h);
+  legal = tt;
   staged = record {
     written = refl;
     placed = λ k x at. absurd (nothing x at);
@@ -99,10 +100,8 @@ assignments-last ws x = map-append (λ y. y.assignment) ws (x ∷ [])
 
 module _ (rows : List ObjectRow) (w : World) (ws : List Written) (es : List Staged) where
   -- What is known of the entries alone.
-  pub record Entries (os : List ObjectState) (vs : List Written) (fs : List Staged)
-      (counts : Bool) : Type 0 where
-    pub pending : ArePending w os fs 0
-    pub have : HaveSettings w (assignments_of fs)
+  pub record Entries (vs : List Written) (fs : List Staged) (counts : Bool) : Type 0 where
+    pub legal : AreLegal w (assignments_of fs)
     pub staged : AreStaged rows vs fs
     pub distinct : IsDistinct (assignments_of fs)
     pub known : IsKnown vs (assignments_of fs)
@@ -110,17 +109,16 @@ module _ (rows : List ObjectRow) (w : World) (ws : List Written) (es : List Stag
     pub same : counts ≡ false → assign (assignments ws) w ≡ assign (assignments_of es) w →
         assign (assignments vs) w ≡ assign (assignments_of fs) w
 
-have_last : (w : World) (ps : List Assignment) (a : Assignment) → HaveSettings w ps →
-    IsLegal w a → HaveSettings w (ps ++ a ∷ [])
-have_last w [] a h legal = (legal.key, tt)
-have_last w (q ∷ ps) a h legal = (h.0, have_last w ps a h.1 legal)
+legal_last : (w : World) (ps : List Assignment) (a : Assignment) → AreLegal w ps →
+    IsLegal w a → AreLegal w (ps ++ a ∷ [])
+legal_last w [] a h new = (new, tt)
+legal_last w (q ∷ ps) a h new = (h.0, legal_last w ps a h.1 new)
 
-module _ (rows : List ObjectRow) (w : World) (os : List ObjectState) (ws : List Written)
-    (es : List Staged) (name : List ℕ) (p : ℕ) (slot : Slot)
-    (within : p < length os) (place : slot.place ≡ length (object_at os p).reserved)
+module _ (rows : List ObjectRow) (w : World) (ws : List Written) (es : List Staged)
+    (name : List ℕ) (p : ℕ) (slot : Slot)
     (owner : IsOwnerPlace (prefixes_of rows) name (Some p))
     (allowed : IsLegal w (record { key = slot.key; value = slot.value }))
-    (pending : ArePending w os es 0) (have : HaveSettings w (assignments_of es))
+    (takes : AreLegal w (assignments_of es))
     (staged : AreStaged rows ws es) (distinct : IsDistinct (assignments_of es))
     (known : IsKnown ws (assignments_of es)) where
   abbrev pub a : Assignment
@@ -132,17 +130,13 @@ module _ (rows : List ObjectRow) (w : World) (os : List ObjectState) (ws : List 
   abbrev pub e : Staged
   e = record { object = p; slot = slot; number = suc (length ws) }
 
-  abbrev pub ns : List ObjectState
-  ns = slice_set os p (reserve (object_at os p) slot)
-
   entries-last : assignments_of (es ++ e ∷ []) ≡ assignments_of es ++ a ∷ []
   entries-last = map-append assignment_of_entry es (e ∷ [])
 
   pub entries_first : value_among (assignments_of es) slot.key ≡ None →
-      Entries rows w ws es ns (ws ++ x ∷ []) (es ++ e ∷ []) false
+      Entries rows w ws es (ws ++ x ∷ []) (es ++ e ∷ []) false
   entries_first none = record {
-    pending = pending_more w os es p slot (suc (length ws)) within place allowed pending;
-    have = subst (HaveSettings w) (sym entries-last) (have_last w (assignments_of es) a have allowed);
+    legal = subst (AreLegal w) (sym entries-last) (legal_last w (assignments_of es) a takes allowed);
     staged = staged_first rows ws es x staged e (known slot.key ∙ ap is_some none) refl refl owner;
     distinct = subst IsDistinct (sym entries-last) (distinct_last (assignments_of es) a distinct none);
     known = subst (IsKnown (ws ++ x ∷ [])) (sym entries-last) (known_first ws (assignments_of es) x known);
@@ -159,10 +153,9 @@ module _ (rows : List ObjectRow) (w : World) (os : List ObjectState) (ws : List 
   pub entries_again : (counts : Bool) →
       is_some (value_among (assignments_of es) slot.key) ≡ true →
       (counts ≡ false → value_among (assignments_of es) slot.key ≡ Some slot.value) →
-      Entries rows w ws es ns (ws ++ x ∷ []) es counts
+      Entries rows w ws es (ws ++ x ∷ []) es counts
   entries_again counts there gives = record {
-    pending = pending_again w os es p slot within pending;
-    have = have;
+    legal = takes;
     staged = staged_again rows ws es x staged (known slot.key ∙ there);
     distinct = distinct;
     known = known_again ws (assignments_of es) x known there;
@@ -171,12 +164,12 @@ module _ (rows : List ObjectRow) (w : World) (os : List ObjectState) (ws : List 
         ap (λ ps. assign ps w) (assignments-last ws x)
         ∙ assign-append (assignments ws) (a ∷ []) w
         ∙ ap (λ v. put v slot.key slot.value) before
-        ∙ put_among (assignments_of es) w slot.key slot.value distinct have (gives none);
+        ∙ put_among (assignments_of es) w slot.key slot.value distinct takes (gives none);
   }
 
   pub entries_by : (st : Standing) →
       st ≡ standing_by (value_among (assignments_of es) slot.key) slot.value →
-      Entries rows w ws es ns (ws ++ x ∷ []) (staged_by st es e) (is_contradicting st)
+      Entries rows w ws es (ws ++ x ∷ []) (staged_by st es e) (is_contradicting st)
   entries_by First is = entries_first (is_first (value_among (assignments_of es) slot.key) slot.value (sym is))
   entries_by Repeats is =
       let gives = is_repeated (value_among (assignments_of es) slot.key) slot.value (sym is) in
@@ -204,35 +197,26 @@ module _ (rows : List ObjectRow) (w : World) (view : List ℕ) (bs : List Bindin
   assigned : assignment_for rows w b ≡ Ok written_now.assignment
   assigned =
       sym (of_rows (λ rs. assignment_for rs w b))
-      ∙ assigned_ok os w view i b passed.place passed.slot passed.at.owner passed.at.answer
+      ∙ assigned_ok os w view before.earlier b passed.place passed.slot passed.at.owner passed.at.answer
 
-  fine : variable rows w view i b ≡ Ok written_now.assignment
+  fine : variable rows w view before.earlier b ≡ Ok written_now.assignment
   fine =
-      sym (of_rows (λ rs. variable rs w view i b))
-      ∙ variable_ok os w view i b passed.place passed.slot passed.seen passed.room passed.at.owner passed.at.answer
+      sym (of_rows (λ rs. variable rs w view before.earlier b))
+      ∙ variable_ok os w view before.earlier b passed.place passed.slot passed.seen (omega (arith, passed.room, before.count)) passed.at.owner passed.at.answer
 
   writings-rest : writings rows w (drop i bs) ≡ written_now ∷ writings rows w (drop (suc i) bs)
   writings-rest =
       ap (writings rows w) rest
       ∙ ap (λ r. writings_of b.name r ++ writings rows w (drop (suc i) bs)) assigned
 
-  within : passed.place < length os
-  within = omega (arith, passed.at.owner.0, places os)
-    where
-      places : (os : List ObjectState) → length (prefixes_of (rows_of os)) ≡ length os
-      places [] = refl
-      places (o ∷ os) = ap suc (places os)
-
-  entries : Entries rows w before.earlier es ns (before.earlier ++ written_now ∷ []) fs (is_contradicting v.standing)
+  entries : Entries rows w before.earlier es (before.earlier ++ written_now ∷ []) fs (is_contradicting v.standing)
   entries =
-      subst (λ zs. Entries rows w before.earlier es ns (before.earlier ++ written_now ∷ []) zs (is_contradicting v.standing)) (sym (passed.at.staged ∙ ap (λ n. staged_by v.standing es (record { object = passed.place; slot = passed.slot; number = n })) number))
-      (subst (λ zs. Entries rows w before.earlier es zs (before.earlier ++ written_now ∷ []) (staged_by v.standing es (record { object = passed.place; slot = passed.slot; number = suc (length before.earlier) })) (is_contradicting v.standing)) (sym passed.at.reserved)
-      (entries_by rows w os before.earlier es b.name passed.place passed.slot within
-      (placed_ok _ (object_at os passed.place).reserved passed.slot passed.at.answer).place
+      subst (λ zs. Entries rows w before.earlier es (before.earlier ++ written_now ∷ []) zs (is_contradicting v.standing)) (sym (passed.at.staged ∙ ap (λ n. staged_by v.standing es (record { object = passed.place; slot = passed.slot; number = n })) number))
+      (entries_by rows w before.earlier es b.name passed.place passed.slot
       (subst (λ rs. IsOwnerPlace (prefixes_of rs) b.name (Some passed.place)) before.kept passed.at.owner)
       (legal (object_at os passed.place).row.column w (drop (length (object_at os passed.place).row.prefix) b.name) b.value _ even (placed_ok _ (object_at os passed.place).reserved passed.slot passed.at.answer).assigned)
-      before.pending before.have before.staged before.distinct before.known
-      v.standing passed.at.standing))
+      before.legal before.staged before.distinct before.known
+      v.standing passed.at.standing)
     where
       number : i + 1 ≡ suc (length before.earlier)
       number = omega (arith, before.count)
@@ -252,9 +236,10 @@ module _ (rows : List ObjectRow) (w : World) (view : List ℕ) (bs : List Bindin
         ∙ sym (append_assoc before.earlier (written_now ∷ []) (writings rows w (drop (suc i) bs)));
     count = omega (arith, before.count, length-append before.earlier (written_now ∷ []));
     single =
-        sym (ap (single_refusals rows w view i) rest
-        ∙ ap (λ r. refusals_for (i + 1) r ++ single_refusals rows w view (i + 1) (drop (suc i) bs)) fine
-        ∙ ap (λ n. single_refusals rows w view n (drop (suc i) bs)) (add-one i))
+        sym (ap (single_refusals rows w view i before.earlier) rest
+        ∙ ap (λ r. refusals_for (i + 1) r ++ single_refusals rows w view (i + 1) (before.earlier ++ writings_of b.name (assignment_for rows w b)) (drop (suc i) bs)) fine
+        ∙ ap (λ r. single_refusals rows w view (i + 1) (before.earlier ++ writings_of b.name r) (drop (suc i) bs)) assigned
+        ∙ ap (λ n. single_refusals rows w view n (before.earlier ++ written_now ∷ []) (drop (suc i) bs)) (add-one i))
         ∙ before.single;
     contradictions =
         first_in-append c (cond (is_contradicting v.standing) (suc i ∷ []) []) _
@@ -271,9 +256,11 @@ module _ (rows : List ObjectRow) (w : World) (view : List ℕ) (bs : List Bindin
         ∙ ap (λ zs. first_in t (timer_numbers (suc i) (assignments zs))) (sym writings-rest)
         ∙ before.timers;
     kept = ap rows_of passed.at.reserved ∙ rows_of-set os passed.place (reserve (object_at os passed.place) passed.slot) refl ∙ before.kept;
-    few = λ q. subst (λ zs. length (object_at zs q).reserved ≤ suc i) (sym passed.at.reserved) (few_more os passed.place passed.slot i within before.few q);
-    pending = entries.pending;
-    have = entries.have;
+    reserves = λ q h.
+        ap (λ zs. (object_at zs q).reserved) passed.at.reserved
+        ∙ reserves_more os passed.place passed.slot b.name before.earlier passed.at.owner before.reserves q (subst (λ zs. q < length zs) passed.at.reserved h)
+        ∙ ap (λ zs. reserved_for (object_at zs q).row.prefix (before.earlier ++ written_now ∷ [])) (sym passed.at.reserved);
+    legal = entries.legal;
     staged = entries.staged;
     distinct = entries.distinct;
     known = entries.known;
@@ -293,24 +280,25 @@ pub stage_refused : (rows : List ObjectRow) (w : World) (view : List ℕ) (bs : 
     (os : List ObjectState) (es : List Staged) (c t : Option ℕ) (i : ℕ) (d : Binding)
     (fault : VariableFault) → i < length bs → Stages rows w view bs os es c t i →
     IsFaulty os w view i (get_or bs i d) fault →
-    Some (refusal_for (i + 1) fault) ≡ slice_get (single_refusals rows w view 0 bs) 0
+    Some (refusal_for (i + 1) fault) ≡ slice_get (single_refusals rows w view 0 [] bs) 0
 stage_refused rows w view bs os es c t i d fault below before faulty =
     sym (ap (λ zs. slice_get zs 0) (sym before.single
-    ∙ ap (single_refusals rows w view i) (drop-cons bs i d below)
-    ∙ ap (λ r. refusals_for (i + 1) r ++ single_refusals rows w view (i + 1) (drop (suc i) bs))
-    (sym (ap (λ rs. variable rs w view i (get_or bs i d)) before.kept) ∙ variable_err os w view i (get_or bs i d) fault before.few faulty)))
+    ∙ ap (single_refusals rows w view i before.earlier) (drop-cons bs i d below)
+    ∙ ap (λ r. refusals_for (i + 1) r ++ single_refusals rows w view (i + 1) (before.earlier ++ writings_of (get_or bs i d).name (assignment_for rows w (get_or bs i d))) (drop (suc i) bs))
+    (sym (ap (λ rs. variable rs w view before.earlier (get_or bs i d)) before.kept)
+    ∙ variable_err os w view before.earlier (get_or bs i d) fault (λ p h. few os before.earlier p (before.reserves p h))
+    (subst (λ n. IsFaulty os w view n (get_or bs i d) fault) (sym before.count) faulty))))
 
 -- All variables passed.
 pub stages_end : (rows : List ObjectRow) (w : World) (view : List ℕ) (bs : List Binding)
     (os : List ObjectState) (es : List Staged) (c t : Option ℕ) (i : ℕ) → length bs ≤ i →
-    Stages rows w view bs os es c t i → ArePassed rows w view bs os es c t
+    Stages rows w view bs os es c t i → ArePassed rows w view bs es c t
 stages_end rows w view bs os es c t i done h = record {
-  single = sym h.single ∙ ap (single_refusals rows w view i) none;
+  single = sym h.single ∙ ap (single_refusals rows w view i h.earlier) none;
   contradictions = found c ∙ ap (λ zs. first_in c (contradicting (assignments h.earlier) (assignments (writings rows w zs)))) (sym none) ∙ h.contradictions;
   timers = found t ∙ ap (λ zs. first_in t (timer_numbers (suc i) (assignments (writings rows w zs)))) (sym none) ∙ h.timers;
-  pending = h.pending;
   distinct = h.distinct;
-  have = h.have;
+  legal = h.legal;
   staged = subst (λ ws. AreStaged rows ws es) (sym everything) h.staged;
   same = λ free. ap (λ ws. assign (assignments ws) w) everything ∙ h.same free;
 }

@@ -6,9 +6,9 @@ use Rattle.setphase_core.specs.declared.world.World.{World}
 use Rattle.setphase_core.specs.declared.object.Assignment.{Assignment}
 use Rattle.setphase_core.specs.Settings.{setting, put, HasSetting, same_setting}
 use Rattle.setphase_core.specs.Together.{assign}
-use Rattle.setphase_core.specs.Staging.{Without, IsDistinct, HaveSettings}
+use Rattle.setphase_core.specs.Staging.{Without, IsDistinct, AreLegal}
 use Rattle.setphase_core.specs.Tested.{value_among}
-use Rattle.setphase_core.proofs.Firsts.{have_after}
+use Rattle.setphase_core.proofs.Firsts.{legal_after}
 use Rattle.setphase_core.proofs.Puts.{setting-put, keys-kept, same-exact}
 
 without_none : (k : SettingKey) (ps : List Assignment) → Without k ps → value_among ps k ≡ None
@@ -22,12 +22,12 @@ without_none k (p ∷ ps) h = by_same (same_setting p.key k) refl (without_none 
 
 -- A setting has the value that it was assigned, or the one that it had.
 pub setting_assigned : (ps : List Assignment) (w : World) (k : SettingKey) → IsDistinct ps →
-    HaveSettings w ps → HasSetting w k →
+    AreLegal w ps → HasSetting w k →
     setting (assign ps w) k ≡ unwrap_or (value_among ps k) (setting w k)
-setting_assigned [] w k distinct have has = refl
-setting_assigned (p ∷ ps) w k distinct have has =
-    setting_assigned ps (put w p.key p.value) k distinct.1 (have_after w ps p.key p.value have.1) ((keys-kept w p.key k p.value).1 has)
-    ∙ ap (unwrap_or (value_among ps k)) (setting-put w p.key k p.value have.0 has)
+setting_assigned [] w k distinct legal has = refl
+setting_assigned (p ∷ ps) w k distinct legal has =
+    setting_assigned ps (put w p.key p.value) k distinct.1 (legal_after w ps p.key p.value legal.1) ((keys-kept w p.key k p.value).1 has)
+    ∙ ap (unwrap_or (value_among ps k)) (setting-put w p.key k p.value legal.0.key has legal.0.value)
     ∙ by_same (same_setting p.key k) refl
   where
     by_same : (b : Bool) → same_setting p.key k ≡ b →
@@ -39,13 +39,13 @@ setting_assigned (p ∷ ps) w k distinct have has =
     by_same false s = refl
 
 pub given_value : (ps : List Assignment) (w : World) (k : SettingKey) (v : SettingValue) →
-    IsDistinct ps → HaveSettings w ps → HasSetting w k → value_among ps k ≡ Some v →
+    IsDistinct ps → AreLegal w ps → HasSetting w k → value_among ps k ≡ Some v →
     v ≡ setting (assign ps w) k
-given_value ps w k v distinct have has e =
-    sym (setting_assigned ps w k distinct have has ∙ ap (λ o. unwrap_or o (setting w k)) e)
+given_value ps w k v distinct legal has e =
+    sym (setting_assigned ps w k distinct legal has ∙ ap (λ o. unwrap_or o (setting w k)) e)
 
 pub kept_value : (ps : List Assignment) (w : World) (k : SettingKey) → IsDistinct ps →
-    HaveSettings w ps → HasSetting w k → value_among ps k ≡ None →
+    AreLegal w ps → HasSetting w k → value_among ps k ≡ None →
     setting w k ≡ setting (assign ps w) k
-kept_value ps w k distinct have has e =
-    sym (setting_assigned ps w k distinct have has ∙ ap (λ o. unwrap_or o (setting w k)) e)
+kept_value ps w k distinct legal has e =
+    sym (setting_assigned ps w k distinct legal has ∙ ap (λ o. unwrap_or o (setting w k)) e)

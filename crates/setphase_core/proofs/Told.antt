@@ -11,6 +11,7 @@ use Rattle.vacm_core.specs.declared.verdict.FamilyAnswer.{FamilyAnswer}
 use Rattle.vacm_core.specs.declared.verdict.FamilyAnswer.TheVariants.{Included, Excluded}
 use Rattle.vacm_core.specs.Families.{by_type, by_family, family_answer, deciding_family, is_included, NamesFamilyOf}
 use Rattle.setting_keys.specs.declared.SettingKey.{SettingKey}
+use Rattle.setphase_core.specs.Settings.{bridge_keys}
 use Rattle.setphase_core.specs.declared.limits.TheConstants.{MAX_VARIABLES}
 use Rattle.setphase_core.specs.declared.object.Assignment.{Assignment}
 use Rattle.setphase_core.specs.declared.object.SetFault.{SetFault}
@@ -94,13 +95,14 @@ single_numbered n i (Err (NoAccess answer)) h = (h, tt)
 single_numbered n i (Err (Refused f)) h = (h, tt)
 
 singles_numbered : (rows : List ObjectRow) (w : World) (view : List ℕ) (before : ℕ)
-    (bs : List Binding) (n : ℕ) → before + length bs ≤ n →
-    AllByRecursion (λ (r : Refusal). IsNumberOf n r.index) (single_refusals rows w view before bs)
-singles_numbered rows w view before [] n h = tt
-singles_numbered rows w view before (b ∷ bs) n h =
-    all_append (λ (r : Refusal). IsNumberOf n r.index) (refusals_for (before + 1) (variable rows w view before b)) (single_refusals rows w view (before + 1) bs)
-    (single_numbered n (before + 1) (variable rows w view before b) (omega arith, omega (arith, h)))
-    (singles_numbered rows w view (before + 1) bs n (omega (arith, h)))
+    (earlier : List Written) (bs : List Binding) (n : ℕ) → before + length bs ≤ n →
+    AllByRecursion (λ (r : Refusal). IsNumberOf n r.index) (single_refusals rows w view before earlier bs)
+singles_numbered rows w view before earlier [] n h = tt
+singles_numbered rows w view before earlier (b ∷ bs) n h =
+    let more : List Written = earlier ++ writings_of b.name (assignment_for rows w b) in
+    all_append (λ (r : Refusal). IsNumberOf n r.index) (refusals_for (before + 1) (variable rows w view earlier b)) (single_refusals rows w view (before + 1) more bs)
+    (single_numbered n (before + 1) (variable rows w view earlier b) (omega arith, omega (arith, h)))
+    (singles_numbered rows w view (before + 1) more bs n (omega (arith, h)))
 
 joints_numbered : (w : World) (ps : List Assignment) (n : ℕ) → length ps ≤ n →
     AllByRecursion (λ (r : Refusal). IsNumberOf n r.index) (joint_refusals w ps)
@@ -114,9 +116,9 @@ joints_numbered w ps n h =
 pub refusal_numbered : (rows : List ObjectRow) (w : World) (view : List ℕ) (bs : List Binding) →
     IfSome (refusal_of rows w view bs) (λ (r : Refusal). (1 ≤ r.index) × (r.index ≤ length bs))
 refusal_numbered rows w view bs =
-    all_first (λ (r : Refusal). IsNumberOf (length bs) r.index) (single_refusals rows w view 0 bs ++ joint_refusals w (assignments (writings rows w bs)))
-    (all_append (λ (r : Refusal). IsNumberOf (length bs) r.index) (single_refusals rows w view 0 bs) (joint_refusals w (assignments (writings rows w bs)))
-    (singles_numbered rows w view 0 bs (length bs) (omega arith))
+    all_first (λ (r : Refusal). IsNumberOf (length bs) r.index) (single_refusals rows w view 0 [] bs ++ joint_refusals w (assignments (writings rows w bs)))
+    (all_append (λ (r : Refusal). IsNumberOf (length bs) r.index) (single_refusals rows w view 0 [] bs) (joint_refusals w (assignments (writings rows w bs)))
+    (singles_numbered rows w view 0 [] bs (length bs) (omega arith))
     (joints_numbered w (assignments (writings rows w bs)) (length bs) (omega (arith, length-map (writings rows w bs) (λ (x : Written). x.assignment), writings_most rows w bs))))
 
 -- ---- the failed commit
@@ -130,7 +132,7 @@ can_fail_within ws (Some i) undos n h can = (can.0, omega (arith, h, can.1))
 pub failed_numbered : (rows : List ObjectRow) (w : World) (bs : List Binding) (notes : SetNotes) →
     AreNotes (writings rows w bs) notes → IfSome notes.commit (λ i. (1 ≤ i) × (i ≤ length bs))
 failed_numbered rows w bs notes are =
-    can_fail_within (writings rows w bs) notes.commit notes.undos (length bs) (writings_most rows w bs) are
+    can_fail_within (writings rows w bs) notes.commit (bridge_keys notes.undos) (length bs) (writings_most rows w bs) are
 
 -- ---- the family row
 
@@ -175,17 +177,17 @@ faulty_tells : (families : List FamilyRow) (i : ℕ) (f : SetFault) →
 faulty_tells families i f =
     record { row = tt; told = λ e. absurd (other_status f e); alone = λ h. absurd (no_some h) }
 
-with_room_tells : (families : List FamilyRow) (i before : ℕ) (r : Result Assignment SetFault) →
+with_room_tells : (families : List FamilyRow) (i : ℕ) (before : List Written) (r : Result Assignment SetFault) →
     AllByRecursion (TellsFamily families) (refusals_for i (with_room before r))
 with_room_tells families i before (Err f) = (faulty_tells families i f, tt)
-with_room_tells families i before (Ok a) = roomy (nat_lt before MAX_VARIABLES) where
+with_room_tells families i before (Ok a) = roomy (nat_lt (length before) MAX_VARIABLES) where
   roomy : (b : Bool) → AllByRecursion (TellsFamily families)
       (refusals_for i (cond b (Ok a) (Err (Refused fault.ResourceUnavailable))))
   roomy true = tt
   roomy false = (faulty_tells families i fault.ResourceUnavailable, tt)
 
-answer_tells : (families : List FamilyRow) (i before : ℕ) (r : Result Assignment SetFault)
-    (b : Bool) (answer : FamilyAnswer) → NamesFamilyOf families answer →
+answer_tells : (families : List FamilyRow) (i : ℕ) (before : List Written)
+    (r : Result Assignment SetFault) (b : Bool) (answer : FamilyAnswer) → NamesFamilyOf families answer →
     AllByRecursion (TellsFamily families)
     (refusals_for i (cond b (with_room before r) (Err (NoAccess answer))))
 answer_tells families i before r true answer named = with_room_tells families i before r
@@ -193,15 +195,16 @@ answer_tells families i before r false answer named =
     (record { row = named; told = λ e. refl; alone = λ h. refl }, tt)
 
 singles_tell : (rows : List ObjectRow) (w : World) (view : List ℕ) (before : ℕ)
-    (bs : List Binding) → AllByRecursion (TellsFamily w.policy.vacm.families)
-    (single_refusals rows w view before bs)
-singles_tell rows w view before [] = tt
-singles_tell rows w view before (b ∷ bs) =
+    (earlier : List Written) (bs : List Binding) → AllByRecursion (TellsFamily w.policy.vacm.families)
+    (single_refusals rows w view before earlier bs)
+singles_tell rows w view before earlier [] = tt
+singles_tell rows w view before earlier (b ∷ bs) =
+    let more : List Written = earlier ++ writings_of b.name (assignment_for rows w b) in
     let families = w.policy.vacm.families in
     let answer = family_answer families view b.name in
-    all_append (TellsFamily families) (refusals_for (before + 1) (variable rows w view before b)) (single_refusals rows w view (before + 1) bs)
-    (answer_tells families (before + 1) before (assignment_for rows w b) (is_included answer) answer (family_named families (deciding_family families view b.name)))
-    (singles_tell rows w view (before + 1) bs)
+    all_append (TellsFamily families) (refusals_for (before + 1) (variable rows w view earlier b)) (single_refusals rows w view (before + 1) more bs)
+    (answer_tells families (before + 1) earlier (assignment_for rows w b) (is_included answer) answer (family_named families (deciding_family families view b.name)))
+    (singles_tell rows w view (before + 1) more bs)
 
 joints_tell : (families : List FamilyRow) (numbers : List ℕ) →
     AllByRecursion (TellsFamily families) (map inconsistent numbers)
@@ -214,9 +217,9 @@ refusal_tells : (rows : List ObjectRow) (w : World) (view : List ℕ) (bs : List
 refusal_tells rows w view bs =
     let families = w.policy.vacm.families in
     let ps = assignments (writings rows w bs) in
-    all_first (TellsFamily families) (single_refusals rows w view 0 bs ++ joint_refusals w ps)
-    (all_append (TellsFamily families) (single_refusals rows w view 0 bs) (joint_refusals w ps)
-    (singles_tell rows w view 0 bs)
+    all_first (TellsFamily families) (single_refusals rows w view 0 [] bs ++ joint_refusals w ps)
+    (all_append (TellsFamily families) (single_refusals rows w view 0 [] bs) (joint_refusals w ps)
+    (singles_tell rows w view 0 [] bs)
     (joints_tell families (contradicting [] ps ++ disagreeing w ps)))
 
 if_some : {X : Type 0} (P Q : X → Type 0) (o : Option X) → ((x : X) → P x → Q x) → IfSome o P → IfSome o Q

@@ -1,5 +1,5 @@
 -- The slots of a Set while their commits are undone, the last one first.
-use Rattle.std.proofs.Common.{◌≡◌, ℕ, ◌+◌, ◌-◌, ◌<◌, ◌≤◌, ◌∙◌, sym, ap, subst, refl, zero, suc, false, true, List, [], ◌∷◌, ◌++◌, length, map, take, drop, slice_get, slice_set, Some, arith, append-nil}
+use Rattle.std.proofs.Common.{◌≡◌, ℕ, ◌+◌, ◌-◌, ◌<◌, ◌≤◌, ◌∙◌, sym, ap, subst, refl, zero, suc, false, true, List, [], ◌∷◌, ◌++◌, length, map, take, drop, slice_get, Some, arith, append-nil}
 use Rattle.setting_keys.specs.declared.SettingKey.{SettingKey}
 use Rattle.setting_keys.specs.declared.SettingValue.{SettingValue}
 use Rattle.setphase_core.specs.declared.staging.Staged.{Staged}
@@ -8,7 +8,7 @@ use Rattle.setphase_core.specs.Objects.{ObjectState, committed_reservation, obje
 use Rattle.setphase_core.specs.Settings.{setting, put, HasSetting}
 use Rattle.setphase_core.specs.Staging.{object_at, entry_at, assignment_of_entry, assignments_of, IsDistinct, StandsCommitted, AreCommitted, AreCalled, commit_at, undos_at, entries_of}
 use Rattle.setphase_core.specs.Together.{assign}
-use Rattle.setphase_core.proofs.Puts.{keys-kept}
+use Rattle.setphase_core.proofs.Puts.{keys-kept, range-kept}
 use Rattle.setphase_core.proofs.Assigns.{has_all-taken, has_all-between, put_back, take_last, without_before}
 use Rattle.setphase_core.proofs.Called.{called_none}
 use Rattle.setphase_core.proofs.Commits.{after_called, had_key, committed_after_call, called_after_call}
@@ -59,10 +59,11 @@ committed_after_put before w v os es m k key value h world done =
       stands = λ j low.
           let there : StandsCommitted before w os (entry_at es j) = done.stands j (omega arith) in
           record {
+            had = there.had;
             within = there.within;
             committed = record {
               key = (keys-kept w key (entry_at es j).slot.key value).1 there.committed.key;
-              value = there.committed.value;
+              value = range-kept w key (entry_at es j).slot.key value (setting before (entry_at es j).slot.key) there.committed.value;
               place = there.committed.place;
               stands = there.committed.stands;
             };
@@ -77,12 +78,6 @@ fewer before w os es m k h done = record { stands = λ j low. done.stands j (ome
 last_is : (es ds : List Staged) (m k : ℕ) → ds ≡ es → k + 1 ≡ m →
     entry_at ds (m - 1) ≡ entry_at es k
 last_is es ds m k e one = ap (λ xs. entry_at xs (m - 1)) e ∙ ap (entry_at es) (omega arith)
-
-pub last_stands : (before w : World) (os : List ObjectState) (es ds : List Staged) (m : ℕ) →
-    ds ≡ es → 0 < m → AreCommitted before w os es m →
-    StandsCommitted before w os (entry_at ds (m - 1))
-last_stands before w os es ds m e h done =
-    subst (λ xs. StandsCommitted before w os (entry_at xs (m - 1))) (sym e) (done.stands (m - 1) (omega arith))
 
 module _ (w₁ w v : World) (os₁ os ns : List ObjectState) (es ds : List Staged) (n m k : ℕ)
     (keys : List SettingKey) (same : ds ≡ es) (distinct : IsDistinct (assignments_of es))
@@ -108,7 +103,7 @@ module _ (w₁ w v : World) (os₁ os ns : List ObjectState) (es ds : List Stage
         stands = λ before done. committed_after_put before w v ns es m k e.slot.key (setting before e.slot.key) (omega arith) (put_old before done) (committed_after_call false before w w os ns es m (entry_at ds (m - 1)) within refl objects (undoes.stands before done));
         told = undoes.told ∙ ap entry_keys (sym stay);
         world = λ before done was.
-            let had : (j : ℕ) → j < n → HasSetting before (entry_at es j).slot.key = had_key before w₁ os₁ es n (take n (assignments_of es)) done was in
+            let had : (j : ℕ) → j < n → HasSetting before (entry_at es j).slot.key = had_key before w₁ os₁ es n done in
             put_old before done
             ∙ ap (λ u. put u e.slot.key (setting before e.slot.key)) (undoes.world before done was ∙ ap (λ ps. assign ps before) (take_last es m k (assignments_of (entries_of keys (drop m (take n es)))) one (omega arith)))
             ∙ put_back (take k (assignments_of es)) (assignments_of (entries_of keys (drop m (take n es)))) before (assignment_of_entry e)

@@ -18,7 +18,7 @@ use Rattle.setphase_core.specs.Registry.{rows_of, prefixes_of}
 use Rattle.setphase_core.specs.Searching.{IsOwnerPlace}
 use Rattle.setphase_core.specs.Staging.{object_at}
 use Rattle.setphase_core.specs.Tested.{answer_at, IsFaulty}
-use Rattle.setphase_core.specs.Variables.{object_of, assignment_in, assignment_for, with_room, in_answer, variable}
+use Rattle.setphase_core.specs.Variables.{Written, object_of, assignment_in, assignment_for, with_room, in_answer, variable}
 use Rattle.setphase_core.specs.Writing.{assignment_of, next_slot}
 
 -- ---- the object of a name
@@ -37,6 +37,15 @@ pub no_owner_row : (os : List ObjectState) (name : List ℕ) →
 no_owner_row [] name none = refl
 no_owner_row (o ∷ os) name none =
     rw (none 0 (omega arith)) (no_owner_row os name (λ k below. none (suc k) (omega (arith, below))))
+
+-- The place of the object of a name is one of theirs.
+pub owner_within : (os : List ObjectState) (name : List ℕ) (p : ℕ) →
+    IsOwnerPlace (prefixes_of (rows_of os)) name (Some p) → p < length os
+owner_within os name p owner = omega (arith, owner.0, places os)
+  where
+    places : (os : List ObjectState) → length (prefixes_of (rows_of os)) ≡ length os
+    places [] = refl
+    places (o ∷ os) = ap suc (places os)
 
 -- ---- places
 
@@ -70,18 +79,18 @@ full_or_not : (a : Assignment) (reserved : List Reservation) (f : SetFault) (b :
 full_or_not a reserved f true is e = absurd (cc)
 full_or_not a reserved f false is e = (cc, grind (arith, nat_tests, is))
 
-with_none_left : (a : Assignment) (before : ℕ) → MAX_VARIABLES ≤ before →
+with_none_left : (a : Assignment) (before : List Written) → MAX_VARIABLES ≤ length before →
     with_room before (Ok a) ≡ Err (Refused ResourceUnavailable)
 with_none_left a before full =
-    let none : nat_lt before MAX_VARIABLES ≡ false = grind (arith, nat_tests, full) in rw none refl
+    let none : nat_lt (length before) MAX_VARIABLES ≡ false = grind (arith, nat_tests, full) in rw none refl
 
-with_some_left : (a : Assignment) (before : ℕ) → before < MAX_VARIABLES →
+with_some_left : (a : Assignment) (before : List Written) → length before < MAX_VARIABLES →
     with_room before (Ok a) ≡ Ok a
 with_some_left a before room =
-    let some : nat_lt before MAX_VARIABLES ≡ true = grind (arith, nat_tests, room) in rw some refl
+    let some : nat_lt (length before) MAX_VARIABLES ≡ true = grind (arith, nat_tests, room) in rw some refl
 
-refused_by : (r : Result Assignment SetFault) (reserved : List Reservation) (before : ℕ)
-    (f : SetFault) → length reserved ≤ before → next_slot reserved r ≡ Err f →
+refused_by : (r : Result Assignment SetFault) (reserved : List Reservation) (before : List Written)
+    (f : SetFault) → length reserved ≤ length before → next_slot reserved r ≡ Err f →
     with_room before r ≡ Err (Refused f)
 refused_by (Err g) reserved before f few e = ap (λ (h : SetFault). Err (Refused h)) (same e)
   where
@@ -93,7 +102,7 @@ refused_by (Ok a) reserved before f few e =
 
 -- ---- variables
 
-module _ (os : List ObjectState) (w : World) (view : List ℕ) (before : ℕ) (b : Binding) where
+module _ (os : List ObjectState) (w : World) (view : List ℕ) (before : List Written) (b : Binding) where
   -- What the object at the place of a variable's name writes is what the variable writes.
   at_owner : (p : ℕ) → IsOwnerPlace (prefixes_of (rows_of os)) b.name (Some p) →
       assignment_for (rows_of os) w b
@@ -112,7 +121,7 @@ module _ (os : List ObjectState) (w : World) (view : List ℕ) (before : ℕ) (b
   seen_through r seen = rw seen refl
 
   pub variable_ok : (p : ℕ) (slot : Slot) → in_view w.policy.vacm.families view b.name ≡ true →
-      before < MAX_VARIABLES → IsOwnerPlace (prefixes_of (rows_of os)) b.name (Some p) →
+      length before < MAX_VARIABLES → IsOwnerPlace (prefixes_of (rows_of os)) b.name (Some p) →
       answer_at os p w b ≡ Ok slot →
       variable (rows_of os) w view before b ≡ Ok (record { key = slot.key; value = slot.value })
   variable_ok p slot seen room owner answer =
@@ -121,8 +130,8 @@ module _ (os : List ObjectState) (w : World) (view : List ℕ) (before : ℕ) (b
       ∙ with_some_left _ before room
 
   pub variable_err : (fault : VariableFault) →
-      ((p : ℕ) → length (object_at os p).reserved ≤ before) →
-      IsFaulty os w view before b fault → variable (rows_of os) w view before b ≡ Err fault
+      ((p : ℕ) → p < length os → length (object_at os p).reserved ≤ length before) →
+      IsFaulty os w view (length before) b fault → variable (rows_of os) w view before b ≡ Err fault
   variable_err (NoAccess answer) few (is, hidden) =
       rw (ap is_included (sym is) ∙ hidden) (ap (λ (a : FamilyAnswer). Err (NoAccess a)) (sym is))
   variable_err (Refused f) few (seen, why) = seen_through _ seen ∙ because why
@@ -130,7 +139,7 @@ module _ (os : List ObjectState) (w : World) (view : List ℕ) (before : ℕ) (b
       because : ((f ≡ NotWritable) × IsOwnerPlace (prefixes_of (rows_of os)) b.name None)
           ⊎ ((p : ℕ) × IsOwnerPlace (prefixes_of (rows_of os)) b.name (Some p)
           × ((answer_at os p w b ≡ Err f)
-          ⊎ ((f ≡ ResourceUnavailable) × (MAX_VARIABLES ≤ before)
+          ⊎ ((f ≡ ResourceUnavailable) × (MAX_VARIABLES ≤ length before)
           × ((slot : Slot) × (answer_at os p w b ≡ Ok slot))))) →
           with_room before (assignment_for (rows_of os) w b) ≡ Err (Refused f)
       because (inl (is, none)) =
@@ -138,7 +147,7 @@ module _ (os : List ObjectState) (w : World) (view : List ℕ) (before : ℕ) (b
           ∙ ap (λ (h : SetFault). Err (Refused h)) (sym is)
       because (inr (p, owner, inl answer)) =
           ap (with_room before) (at_owner p owner)
-          ∙ refused_by _ (object_at os p).reserved before f (few p) answer
+          ∙ refused_by _ (object_at os p).reserved before f (few p (owner_within os b.name p owner)) answer
       because (inr (p, owner, inr (is, full, (slot, answer)))) =
           ap (with_room before) (assigned_ok p slot owner answer)
           ∙ with_none_left _ before full

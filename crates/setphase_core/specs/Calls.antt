@@ -7,6 +7,7 @@ use Rattle.setting_keys.specs.declared.SettingKey.{SettingKey}
 use Rattle.setphase_core.specs.declared.sets.Refusal.{Refusal}
 use Rattle.setphase_core.specs.Objects.{ObjectState, object_after_release, object_called, IsByPlan}
 use Rattle.setphase_core.specs.Outcomes.{SetNotes, has_key, committed_of}
+use Rattle.setphase_core.specs.Settings.{bridge_keys}
 use Rattle.setphase_core.specs.Variables.{Written}
 
 -- One call of a device: the name of the variable for which its object is called, and whether it
@@ -35,7 +36,7 @@ calls_by ws (Some i) undos =
 -- A refused Set makes none.
 abbrev pub calls_of : Option Refusal → List Written → SetNotes → List Call
 calls_of (Some refusal) ws notes = []
-calls_of None ws notes = calls_by ws notes.commit notes.undos
+calls_of None ws notes = calls_by ws notes.commit (bridge_keys notes.undos)
 
 -- An object after a call: its own are those of names that its name begins.
 abbrev pub object_after_call : Call → ObjectState → ObjectState

@@ -28,6 +28,10 @@ pending_reservation slot = record { key = slot.key; value = slot.value; old = No
 abbrev pub committed_reservation : Slot → SettingValue → Reservation
 committed_reservation slot old = record { key = slot.key; value = slot.value; old = Some old }
 
+-- The same, before or after.
+abbrev pub reservation_of : Slot → Option SettingValue → Reservation
+reservation_of slot old = record { key = slot.key; value = slot.value; old = old }
+
 -- The object with a slot more.
 abbrev pub reserve : ObjectState → Slot → ObjectState
 reserve o slot = record o { reserved = o.reserved ++ pending_reservation slot ∷ [] }
@@ -65,17 +69,19 @@ IsByPlan o fails = FollowsPlan o.plan o.failures fails
 abbrev pub object_after_arm : ℕ → ObjectState → ObjectState
 object_after_arm plan o = record o { plan = plan_after_arm o.plan plan }
 
--- The slot is reserved and not committed, and its setting may get its value.
+-- The slot is reserved, and its setting may get its value. A slot whose commit was undone is
+-- reserved still.
 pub record IsReserved (w : World) (o : ObjectState) (slot : Slot) : Type 0 where
   pub key : HasSetting w slot.key
-  pub value : IsSettingInRange slot.key slot.value
+  pub value : IsSettingInRange w slot.key slot.value
   pub place : slot.place < length o.reserved
-  pub stands : slice_get o.reserved slot.place ≡ Some (pending_reservation slot)
+  pub old : Option SettingValue
+  pub stands : slice_get o.reserved slot.place ≡ Some (reservation_of slot old)
 
 -- The slot was committed over an old value, which its setting may get again.
 pub record IsCommitted (w : World) (o : ObjectState) (slot : Slot) (old : SettingValue) :
     Type 0 where
   pub key : HasSetting w slot.key
-  pub value : IsSettingInRange slot.key old
+  pub value : IsSettingInRange w slot.key old
   pub place : slot.place < length o.reserved
   pub stands : slice_get o.reserved slot.place ≡ Some (committed_reservation slot old)

@@ -1,20 +1,21 @@
 -- How a Set ends: what it leaves of the world, and what it tells (RFC 3416, 4.2.5).
 use Rattle.std.specs.Prelude.{◌≡◌, ℕ, ◌-◌, ◌≤◌, Bool, false, if◌then◌else◌, List, [], ◌∷◌, ◌++◌, length, map, take, filter, slice_get, Option, Some, None}
 use Rattle.std.specs.List.{list_any}
+use Rattle.rstp_settings.specs.declared.key.Key.{Key}
 use Rattle.setting_keys.specs.declared.SettingKey.{SettingKey}
 use Rattle.setphase_core.specs.declared.world.World.{World}
 use Rattle.setphase_core.specs.declared.sets.Refusal.{Refusal}
 use Rattle.setphase_core.specs.declared.sets.SetOutcome.{SetOutcome}
 use Rattle.setphase_core.specs.declared.sets.SetOutcome.TheVariants.{Done, Refused, CommitFailed, UndoFailed}
-use Rattle.setphase_core.specs.Settings.{same_setting}
+use Rattle.setphase_core.specs.Settings.{same_setting, bridge_keys}
 use Rattle.setphase_core.specs.Variables.{Written}
 use Rattle.setphase_core.specs.Together.{assign, assignments}
 
 -- Which calls of devices failed in a Set: the commit of the variable of this number, counted from
--- 1, and the undoing of these settings.
+-- 1, and the undoing of these settings, which are all of the bridge.
 pub record SetNotes : Type 0 where
   pub commit : Option ℕ
-  pub undos : List SettingKey
+  pub undos : List Key
 
 abbrev pub has_key : List SettingKey → SettingKey → Bool
 has_key keys k = list_any (λ other. same_setting other k) keys
@@ -53,7 +54,7 @@ CanFail ws (Some i) undos =
     × (undos ≡ keys_of (stuck ws i undos))
 
 abbrev pub AreNotes : List Written → SetNotes → Type 0
-AreNotes ws notes = CanFail ws notes.commit notes.undos
+AreNotes ws notes = CanFail ws notes.commit (bridge_keys notes.undos)
 
 -- The world after the commits: all settings that the variables name have their values; where a
 -- commit failed, those alone that could not be undone.
@@ -64,20 +65,28 @@ world_by ws w (Some i) undos = assign (assignments (stuck ws i undos)) w
 -- The world after a Set: a refusal changes nothing.
 abbrev pub world_after_set : Option Refusal → List Written → World → SetNotes → World
 world_after_set (Some refusal) ws w notes = w
-world_after_set None ws w notes = world_by ws w notes.commit notes.undos
+world_after_set None ws w notes = world_by ws w notes.commit (bridge_keys notes.undos)
 
 -- What an outcome tells: the refusal, and the failed calls.
 abbrev pub refusal_in : SetOutcome → Option Refusal
-refusal_in Done = None
+refusal_in (Done changed) = None
 refusal_in (Refused refusal) = Some refusal
 refusal_in (CommitFailed i) = None
 refusal_in (UndoFailed i keys) = None
 
 abbrev pub notes_in : SetOutcome → SetNotes
-notes_in Done = record { commit = None; undos = [] }
+notes_in (Done changed) = record { commit = None; undos = [] }
 notes_in (Refused refusal) = record { commit = None; undos = [] }
 notes_in (CommitFailed i) = record { commit = Some i; undos = [] }
 notes_in (UndoFailed i keys) = record { commit = Some i; undos = keys }
+
+-- Whether a setting has another value than before, as an outcome tells it; where undoing failed, it
+-- does not.
+abbrev pub changed_in : SetOutcome → Option Bool
+changed_in (Done changed) = Some changed
+changed_in (Refused refusal) = Some false
+changed_in (CommitFailed i) = Some false
+changed_in (UndoFailed i keys) = None
 
 -- An outcome that says that undoing failed names a setting at least.
 abbrev pub NamesASetting : SetOutcome → Type 0

@@ -4,13 +4,14 @@ use Rattle.rstp_settings.specs.declared.key.Key.TheVariants as key
 use Rattle.rstp_settings.specs.declared.key.BridgeKey.TheVariants as bridge
 use Rattle.setting_keys.specs.declared.SettingKey.{SettingKey}
 use Rattle.setting_keys.specs.declared.SettingKey.TheVariants.{Bridge}
+use Rattle.setting_keys.specs.declared.SettingValue.{SettingValue}
 use Rattle.setting_keys.specs.declared.SettingValue.TheVariants.{Number}
 use Rattle.setphase_core.specs.declared.world.World.{World}
 use Rattle.setphase_core.specs.declared.column.Base.TheVariants as base
 use Rattle.setphase_core.specs.declared.column.Column.TheVariants as column
 use Rattle.setphase_core.specs.declared.object.Assignment.{Assignment}
 use Rattle.setphase_core.specs.declared.staging.Staged.{Staged}
-use Rattle.setphase_core.specs.Settings.{setting, HasSetting}
+use Rattle.setphase_core.specs.Settings.{setting, HasSetting, IsSettingInRange}
 use Rattle.setphase_core.specs.Objects.{ObjectState, IsReserved, IsCommitted, object_called, IsByPlan}
 use Rattle.setphase_core.specs.Together.{assign}
 use Rattle.setphase_core.specs.Outcomes.{has_key}
@@ -55,27 +56,44 @@ abbrev pub IsDistinct : List Assignment → Type 0
 IsDistinct [] = Unit {0}
 IsDistinct (a ∷ ps) = Without a.key ps × IsDistinct ps
 
--- The world has the settings of all assignments.
-abbrev pub HaveSettings : World → List Assignment → Type 0
-HaveSettings w [] = Unit {0}
-HaveSettings w (p ∷ ps) = HasSetting w p.key × HaveSettings w ps
+-- The world has the setting of an assignment, which may have the value there.
+pub record IsLegal (w : World) (a : Assignment) : Type 0 where
+  pub key : HasSetting w a.key
+  pub value : IsSettingInRange w a.key a.value
 
--- The slot of an entry is reserved at its object, and not committed.
+-- The same of all of them.
+abbrev pub AreLegal : World → List Assignment → Type 0
+AreLegal w [] = Unit {0}
+AreLegal w (a ∷ ps) = IsLegal w a × AreLegal w ps
+
+-- The slot of an entry is reserved at its object.
 pub record StandsReserved (w : World) (os : List ObjectState) (e : Staged) : Type 0 where
   pub within : e.object < length os
   pub reserved : IsReserved w (object_at os e.object) e.slot
 
--- The slot of an entry was committed at its object, over the value that its setting has in a world
--- of before.
+-- The slot of an entry was committed at its object, over a value that its setting may get again.
+pub record StandsUndoable (w : World) (os : List ObjectState) (e : Staged) : Type 0 where
+  pub within : e.object < length os
+  pub before : SettingValue
+  pub committed : IsCommitted w (object_at os e.object) e.slot before
+
+-- The same, over the value that its setting has in a world of before, which has that setting.
 pub record StandsCommitted (before w : World) (os : List ObjectState) (e : Staged) :
     Type 0 where
+  pub had : HasSetting before e.slot.key
   pub within : e.object < length os
   pub committed : IsCommitted w (object_at os e.object) e.slot (setting before e.slot.key)
 
--- The entries from a place on are reserved.
-pub record ArePending (w : World) (os : List ObjectState) (es : List Staged) (n : ℕ) :
-    Type 0 where
-  pub stands : (k : ℕ) → n ≤ k → k < length es → StandsReserved w os (entry_at es k)
+-- A Set is under way: so many variables passed their tests, and so many entries are committed, the
+-- first ones. No two entries write one setting, each is reserved at its object, and each that is
+-- committed can be undone.
+pub record IsUnderWay (w : World) (os : List ObjectState) (es : List Staged)
+    (tested committed : ℕ) : Type 0 where
+  pub few : length es ≤ tested
+  pub counted : committed ≤ length es
+  pub distinct : IsDistinct (assignments_of es)
+  pub reserved : (k : ℕ) → k < length es → StandsReserved w os (entry_at es k)
+  pub undoable : (k : ℕ) → k < committed → StandsUndoable w os (entry_at es k)
 
 -- The entries below a place were committed over the settings of a world of before.
 pub record AreCommitted (before w : World) (os : List ObjectState) (es : List Staged) (n : ℕ) :

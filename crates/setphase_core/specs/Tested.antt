@@ -24,7 +24,7 @@ use Rattle.setphase_core.specs.Writing.{test_answer}
 use Rattle.setphase_core.specs.Variables.{Written, writings, single_refusals}
 use Rattle.setphase_core.specs.Together.{assignments, assign, contradicting, timer_numbers}
 use Rattle.setphase_core.specs.Outcomes.{committed_of}
-use Rattle.setphase_core.specs.Staging.{object_at, entry_at, assignments_of, ArePending, IsDistinct, HaveSettings}
+use Rattle.setphase_core.specs.Staging.{object_at, entry_at, assignments_of, IsDistinct, AreLegal}
 
 -- The number that was found, or else the first of these.
 abbrev pub first_in : Option ℕ → List ℕ → Option ℕ
@@ -112,18 +112,16 @@ pub record AreStaged (rows : List ObjectRow) (ws : List Written) (es : List Stag
       IsNumber ws (committed_of ws) k (entry_at es k).number x
 
 -- The variables of a Set passed their tests: none has a fault of its own; the first that
--- contradicts an earlier one and the first that writes a timer are these; and the entries are
--- reserved, write no setting twice, and write together what all variables do, where none
--- contradicts another.
+-- contradicts an earlier one and the first that writes a timer are these; and the entries write no
+-- setting twice, and together what all variables do, where none contradicts another.
 pub record ArePassed (rows : List ObjectRow) (w : World) (view : List ℕ) (bs : List Binding)
-    (os : List ObjectState) (es : List Staged) (contradiction timer : Option ℕ) : Type 0 where
-  pub single : single_refusals rows w view 0 bs ≡ []
+    (es : List Staged) (contradiction timer : Option ℕ) : Type 0 where
+  pub single : single_refusals rows w view 0 [] bs ≡ []
   pub contradictions : contradiction
       ≡ slice_get (contradicting [] (assignments (writings rows w bs))) 0
   pub timers : timer ≡ slice_get (timer_numbers 1 (assignments (writings rows w bs))) 0
-  pub pending : ArePending w os es 0
   pub distinct : IsDistinct (assignments_of es)
-  pub have : HaveSettings w (assignments_of es)
+  pub legal : AreLegal w (assignments_of es)
   pub staged : AreStaged rows (writings rows w bs) es
   pub same : contradiction ≡ None
       → assign (assignments (writings rows w bs)) w ≡ assign (assignments_of es) w
@@ -134,11 +132,11 @@ abbrev pub inconsistency : Option ℕ → Bool → Option ℕ → Option ℕ
 inconsistency (Some n) agree timer = Some n
 inconsistency None agree timer = if agree then None else timer
 
--- A Set that is not refused: its entries are reserved, write no setting twice, and write together
--- what its variables do.
-pub record AreReady (rows : List ObjectRow) (w : World) (bs : List Binding)
-    (os : List ObjectState) (es : List Staged) : Type 0 where
-  pub pending : ArePending w os es 0
+-- A Set that is not refused: its entries write no setting twice, each a value that it may have, and
+-- together what its variables do.
+pub record AreReady (rows : List ObjectRow) (w : World) (bs : List Binding) (es : List Staged) :
+    Type 0 where
   pub distinct : IsDistinct (assignments_of es)
+  pub legal : AreLegal w (assignments_of es)
   pub staged : AreStaged rows (writings rows w bs) es
   pub same : assign (assignments (writings rows w bs)) w ≡ assign (assignments_of es) w

@@ -79,5 +79,5 @@ joint_refusals w ps = map inconsistent (contradicting [] ps ++ disagreeing w ps)
 -- first timer, where the timers do not agree.
 abbrev pub refusal_of : List ObjectRow → World → List ℕ → List Binding → Option Refusal
 refusal_of rows w view bs =
-    slice_get (single_refusals rows w view 0 bs
+    slice_get (single_refusals rows w view 0 [] bs
     ++ joint_refusals w (assignments (writings rows w bs))) 0

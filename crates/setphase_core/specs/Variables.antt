@@ -1,5 +1,5 @@
 -- The variables of a Set one by one: what each writes, or its first fault (RFC 3416, 4.2.5).
-use Rattle.std.specs.Prelude.{ℕ, ◌+◌, nat_lt, if◌then◌else◌, List, [], ◌∷◌, ◌++◌, length, drop, find, Option, Some, None, Result, Ok, Err}
+use Rattle.std.specs.Prelude.{ℕ, ◌+◌, nat_lt, if◌then◌else◌, List, [], ◌∷◌, ◌++◌, length, drop, filter, find, Option, Some, None, Result, Ok, Err}
 use Rattle.std.specs.List.{flat_map}
 use Rattle.oid_core.specs.Order.{is_prefix}
 use Rattle.message_core.specs.declared.binding.Binding.{Binding}
@@ -30,24 +30,36 @@ assignment_in (Some row) w b = assignment_of row.column w (drop (length row.pref
 abbrev pub assignment_for : List ObjectRow → World → Binding → Result Assignment SetFault
 assignment_for rows w b = assignment_in (object_of rows b.name) w b
 
--- A Set has room for so many variables: one behind so many others, that passed the rest, has none
--- where they are as many.
-abbrev pub with_room : ℕ → Result Assignment SetFault → Result Assignment VariableFault
-with_room before (Err f) = Err (Refused f)
-with_room before (Ok a) =
-    if nat_lt before MAX_VARIABLES then Ok a else Err (Refused fault.ResourceUnavailable)
+-- What the variable of a name writes.
+pub record Written : Type 0 where
+  pub name : List ℕ
+  pub assignment : Assignment
+
+abbrev pub writings_of : List ℕ → Result Assignment SetFault → List Written
+writings_of name (Ok a) = record { name = name; assignment = a } ∷ []
+writings_of name (Err f) = []
+
+-- Of these those of the variables of one object: its name begins theirs.
+abbrev pub written_under : List ℕ → List Written → List Written
+written_under prefix ws = filter (λ x. is_prefix prefix x.name) ws
+
+-- A Set has room for so many variables: one behind as many others, that passed the rest, has none.
+abbrev pub with_room : List Written → Result Assignment SetFault → Result Assignment VariableFault
+with_room earlier (Err f) = Err (Refused f)
+with_room earlier (Ok a) =
+    if nat_lt (length earlier) MAX_VARIABLES then Ok a else Err (Refused fault.ResourceUnavailable)
 
 -- A variable whose name is not in the view is not looked at.
 abbrev pub in_answer : FamilyAnswer → Result Assignment VariableFault →
     Result Assignment VariableFault
 in_answer answer seen = if is_included answer then seen else Err (NoAccess answer)
 
--- What a variable behind so many others writes, or its first fault.
-abbrev pub variable : List ObjectRow → World → List ℕ → ℕ → Binding →
+-- What a variable writes behind others that write this, or its first fault.
+abbrev pub variable : List ObjectRow → World → List ℕ → List Written → Binding →
     Result Assignment VariableFault
-variable rows w view before b =
+variable rows w view earlier b =
     in_answer (family_answer w.policy.vacm.families view b.name)
-    (with_room before (assignment_for rows w b))
+    (with_room earlier (assignment_for rows w b))
 
 -- The error-status of a fault (RFC 3416, section 3).
 abbrev pub status_of : SetFault → ErrorStatus
@@ -70,21 +82,15 @@ abbrev pub refusals_for : ℕ → Result Assignment VariableFault → List Refus
 refusals_for i (Ok a) = []
 refusals_for i (Err f) = refusal_for i f ∷ []
 
--- The refusals for the faults of variables that stand behind so many others, by rising number.
-abbrev pub single_refusals : List ObjectRow → World → List ℕ → ℕ → List Binding → List Refusal
-single_refusals rows w view before [] = []
-single_refusals rows w view before (b ∷ bs) =
-    refusals_for (before + 1) (variable rows w view before b)
-    ++ single_refusals rows w view (before + 1) bs
-
--- What the variable of a name writes.
-pub record Written : Type 0 where
-  pub name : List ℕ
-  pub assignment : Assignment
-
-abbrev pub writings_of : List ℕ → Result Assignment SetFault → List Written
-writings_of name (Ok a) = record { name = name; assignment = a } ∷ []
-writings_of name (Err f) = []
+-- The refusals for the faults of variables that stand behind so many others, which write this, by
+-- rising number.
+abbrev pub single_refusals : List ObjectRow → World → List ℕ → ℕ → List Written →
+    List Binding → List Refusal
+single_refusals rows w view before earlier [] = []
+single_refusals rows w view before earlier (b ∷ bs) =
+    refusals_for (before + 1) (variable rows w view earlier b)
+    ++ single_refusals rows w view (before + 1)
+    (earlier ++ writings_of b.name (assignment_for rows w b)) bs
 
 -- What the variables of a Set write, in their order.
 abbrev pub writings : List ObjectRow → World → List Binding → List Written

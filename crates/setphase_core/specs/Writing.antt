@@ -1,7 +1,7 @@
 -- How a Set writes each object, as RFC 4188 (BRIDGE-MIB) and RFC 4318 (RSTP-MIB) have it: which
 -- setting, which INTEGERs, and what the test of a variable answers (RFC 3416, 4.2.5). Above each
 -- row stand its name under 1.3.6.1.2.1.17 and its descriptor; all other objects are read-only.
-use Rattle.std.specs.Prelude.{ℕ, ◌%◌, ◌==◌, ◌&&◌, nat_le, nat_lt, ℤ, pos, negsuc, Bool, if◌then◌else◌, List, [], ◌∷◌, length, Option, Some, None, Result, Ok, Err}
+use Rattle.std.specs.Prelude.{ℕ, ◌%◌, ◌==◌, ◌&&◌, ◌<◌, nat_le, nat_lt, ℤ, pos, negsuc, Bool, if◌then◌else◌, List, [], ◌∷◌, length, Option, Some, None, Result, Ok, Err}
 use Rattle.std.specs.Option.{option_map}
 use Rattle.oid_core.specs.Order.{name_eq}
 use Rattle.message_core.specs.declared.value.Value.{Value}
@@ -25,7 +25,9 @@ use Rattle.setphase_core.specs.declared.object.SetFault.TheVariants.{NotWritable
 use Rattle.setphase_core.specs.declared.object.Slot.{Slot}
 use Rattle.setphase_core.specs.declared.writable.Target.{Target}
 use Rattle.setphase_core.specs.declared.writable.Target.TheVariants as target
+use Rattle.setphase_core.specs.declared.writable.IntegerTarget.{IntegerTarget}
 use Rattle.setphase_core.specs.declared.writable.Writable.{Writable}
+use Rattle.setphase_core.specs.declared.writable.Writable.TheVariants.{Integer as Integers}
 use Rattle.setphase_core.specs.Values.{port_index}
 use Rattle.setphase_core.specs.declared.column.Stp.{Stp}
 use Rattle.setphase_core.specs.declared.column.Stp.TheVariants as stp
@@ -44,11 +46,11 @@ use Rattle.setphase_core.specs.declared.column.Column.TheVariants as column
 
 abbrev pub scalar_of : BridgeKey → ℕ → ℕ → ℕ → Option Writable
 scalar_of k least most step =
-    Some (record { target = target.Bridge k; least = least; most = most; step = step })
+    Some (Integers (record { target = target.Bridge k; least = least; most = most; step = step }))
 
 abbrev pub column_of : PortKey → ℕ → ℕ → ℕ → Option Writable
 column_of k least most step =
-    Some (record { target = target.Port k; least = least; most = most; step = step })
+    Some (Integers (record { target = target.Port k; least = least; most = most; step = step }))
 
 abbrev pub stp_writable : Stp → Option Writable
 -- 2.2 dot1dStpPriority
@@ -108,8 +110,12 @@ writable_of (column.TpPort c) = None
 
 -- ---- what a variable writes
 
+-- The step of an object that takes INTEGERs is above 0.
+abbrev pub HasStep : Writable → Type 0
+HasStep (Integers x) = 0 < x.step
+
 -- The object takes this number.
-abbrev pub takes : Writable → ℕ → Bool
+abbrev pub takes : IntegerTarget → ℕ → Bool
 takes w n = nat_le w.least n && nat_le n w.most && (n % w.step == 0)
 
 -- What its setting gets for it. A protocol migration check is asked for by true; false asks for
@@ -131,16 +137,17 @@ abbrev pub assignment_at : Option SettingKey → ℕ → Result Assignment SetFa
 assignment_at None n = Err NoCreation
 assignment_at (Some k) n = Ok (record { key = k; value = Number n })
 
-abbrev pub integer_assignment : Writable → World → List ℕ → ℤ → Result Assignment SetFault
-integer_assignment writable w at (pos n) =
-    if takes writable n
-    then assignment_at (key_at writable.target w at) (number_given writable.target n)
+abbrev pub integer_assignment : IntegerTarget → World → List ℕ → ℤ →
+    Result Assignment SetFault
+integer_assignment x w at (pos n) =
+    if takes x n
+    then assignment_at (key_at x.target w at) (number_given x.target n)
     else Err WrongValue
-integer_assignment writable w at (negsuc n) = Err WrongValue
+integer_assignment x w at (negsuc n) = Err WrongValue
 
 abbrev pub typed_assignment : Writable → World → List ℕ → Value → Result Assignment SetFault
-typed_assignment writable w at (Integer i) = integer_assignment writable w at i
-typed_assignment writable w at other = Err WrongType
+typed_assignment (Integers x) w at (Integer i) = integer_assignment x w at i
+typed_assignment (Integers x) w at other = Err WrongType
 
 abbrev pub assignment_by : Option Writable → World → List ℕ → Value → Result Assignment SetFault
 assignment_by None w at v = Err NotWritable

@@ -2,7 +2,7 @@
 ghost use Rattle.std.specs.Prelude.{◌≡◌, ◌<◌, true, false, length, slice_get, slice_set, Some, OnOk, OnErr};
 ghost use Rattle.setting_keys.specs.declared.SettingValue.{SettingValue as AnySetting};
 ghost use Rattle.setphase_core.specs.Objects.{after_call, object_after_commit, committed_reservation, object_after_failure, IsReserved, IsCommitted, IsByPlan};
-ghost use Rattle.setphase_core.specs.Settings.{put, setting, IsSettingInRange};
+ghost use Rattle.setphase_core.specs.Settings.{put, setting, IsSettingInRange, IsLine};
 ghost use Rattle.setphase_core.specs.Staging.{object_at};
 
 use crate::object::{DeviceFault, MibObject, Slot};
@@ -22,12 +22,14 @@ impl<O: MibObject> Registry<O> {
         ensures put { OnOk result (world.new ≡ put world.old slot.key slot.value) }
         ensures kept { OnOk result (self.new ≡ slice_set self.old place
             (object_after_commit (object_at self.old place) slot (setting world.old slot.key))) }
-        ensures before { OnOk result (IsSettingInRange slot.key (setting world.old slot.key)) }
+        ensures before { OnOk result
+            (IsSettingInRange world.old slot.key (setting world.old slot.key)) }
         ensures unchanged { OnErr result (world.new ≡ world.old) }
         ensures failed { OnErr result (self.new
             ≡ slice_set self.old place (object_after_failure (object_at self.old place))) }
         ensures passes { OnOk result (IsByPlan (object_at self.old place) false) }
         ensures fails { OnErr result (IsByPlan (object_at self.old place) true) }
+        ensures line { OnErr result (IsLine slot.key) }
     {
         self.objects[place].commit(world, slot)
     }
@@ -53,6 +55,7 @@ impl<O: MibObject> Registry<O> {
             ≡ slice_set self.old place (object_after_failure (object_at self.old place))) }
         ensures passes { OnOk result (IsByPlan (object_at self.old place) false) }
         ensures fails { OnErr result (IsByPlan (object_at self.old place) true) }
+        ensures line { OnErr result (IsLine slot.key) }
     {
         self.objects[place].undo(world, slot)
     }

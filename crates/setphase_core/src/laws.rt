@@ -3,16 +3,15 @@
 ghost use Rattle.std.specs.Prelude.{◌≡◌, ◌≢◌, ◌↔◌, ◌≤◌, ◌<◌, ℕ, Bool, if◌then◌else◌, List, length, filter, None, IsTrue};
 ghost use Rattle.std.specs.List.{count_by};
 ghost use Rattle.community_core.specs.Communities.{PolicyTables};
-ghost use Rattle.fdb_core.specs.Rows.{IsRising as AreRising};
 ghost use Rattle.message_core.specs.Instances.{IsRising};
 ghost use Rattle.rstp_settings.specs.Table.{Table};
 ghost use Rattle.setting_keys.specs.declared.SettingKey.{SettingKey};
 ghost use Rattle.setting_keys.specs.declared.SettingValue.{SettingValue};
-ghost use Rattle.setphase_core.specs.Settings.{setting, put, HasSetting, same_setting, with_settings};
+ghost use Rattle.setphase_core.specs.Settings.{setting, put, HasSetting, IsSettingInRange, same_setting, with_settings};
 ghost use Rattle.setphase_core.specs.declared.world.World.{World};
 ghost use Rattle.setphase_core.specs.Objects.{ObjectRow};
 ghost use Rattle.setphase_core.specs.Names.{bridge_rows};
-ghost use Rattle.setphase_core.specs.Registry.{first_fault, prefixes_of, AreApart, AreNamed, instances};
+ghost use Rattle.setphase_core.specs.Registry.{first_fault, prefixes_of, AreApart, AreNamed, IsKept, instances};
 ghost use Rattle.setphase_core.specs.Passing.{open_instances, passed_after, PassesHidden};
 ghost use Rattle.setphase_core.specs.Searching.{least_comparisons};
 ghost use Rattle.setphase_core.specs.Opening.{opening_world, opening_instances};
@@ -20,16 +19,17 @@ ghost use Rattle.setphase_core.specs.InUse.{world_in_use, instances_in_use};
 
 use crate::limits::{MAX_COST, MAX_INDEX, MAX_INFO, MAX_PATH_COST, MAX_SLOTS, MAX_VARIABLES};
 
-/// A setting has the value that it was last given, and each other setting the one it had.
+/// A setting has the value that it was last given, where that is in its range, and each other setting
+/// the one it had.
 pub fn setting_after_put()
     ensures { (w : World) (k l : SettingKey) (v : SettingValue) → HasSetting w k → HasSetting w l
-        → setting (put w k v) l ≡ (if same_setting k l then v else setting w l) }
+        → IsSettingInRange w k v → setting (put w k v) l ≡ (if same_setting k l then v else setting w l) }
 {}
 
-/// Of two values put under one key the later one stands.
+/// Of two values put under one key the later one stands, where it is in its range.
 pub fn put_twice()
     ensures { (w : World) (k : SettingKey) (v u : SettingValue) → HasSetting w k
-        → put (put w k v) k u ≡ put w k u }
+        → IsSettingInRange w k u → put (put w k v) k u ≡ put w k u }
 {}
 
 /// The value that a setting has changes nothing where it is put again.
@@ -72,11 +72,11 @@ pub fn names_are_apart()
     ensures { (rows : List ObjectRow) → first_fault rows ≡ None → AreApart (prefixes_of rows) }
 {}
 
-/// The names of the instances that objects show rise, for every list of objects that makes a
-/// registry.
+/// The names of the instances that objects show of a world that is kept rise, for every list of
+/// objects that makes a registry.
 pub fn instances_rise()
     ensures { (rows : List ObjectRow) (w : World) → first_fault rows ≡ None
-        → AreRising w.bridge.learned → IsRising (instances rows w) }
+        → IsKept w → IsRising (instances rows w) }
 {}
 
 /// Where a test passes over only objects none of whose names is shown, nothing that is shown is

@@ -19,7 +19,7 @@
 //! writes, and what it reserved; for those who write objects.
 //! [`Column`] is what an object shows: [`Base`], [`BasePort`], [`Stp`], [`StpPort`], [`Rapid`],
 //! [`ExtPort`], [`Tp`], [`TpFdb`], [`TpPort`], by an [`Index`]. [`Target`] is the setting that an
-//! object writes, [`Assignment`] what a variable writes, [`Slot`] what a test reserves,
+//! object writes, [`IntegerTarget`] with the INTEGERs that it takes, [`Assignment`] what a variable writes, [`Slot`] what a test reserves,
 //! [`Reservation`] what stands at a place; [`TestedVariable`], [`Standing`] and [`Staged`] are
 //! those of `Staging`. What is wrong is a [`SetFault`], [`VariableFault`], [`DeviceFault`] or
 //! [`RegistryFault`]. Bounds: [`MAX_INDEX`], [`MAX_SLOTS`], [`MAX_VARIABLES`], [`MAX_COST`],
@@ -39,6 +39,17 @@
 //! `specs/Passing.antt`: the objects that a walk does not pass over, and how many it does;
 //! `specs/Opening.antt`: all that a bridge of two ports shows as it opens; `specs/InUse.antt`: all
 //! that a bridge of four ports shows, made by hand as if in use.
+//!
+//! # Where a new kind of setting goes
+//! A kind of key, or of value: `SettingKey` or `SettingValue` of `setting_keys`; `specs/Settings.antt`,
+//! each definition of which goes by those kinds; `World::get_setting` and `put_setting`. A range:
+//! `IsSettingInRange` there, which may depend on the world. A type of variable: [`Writable`],
+//! [`assignment_by`], and `specs/Writing.antt`. The laws of settings are proved by kind in
+//! `proofs/Puts.antt`, that what is tested is legal in `proofs/Ranges.antt`, and that the same
+//! settings are equal in `proofs/Same.antt`. A setting that a device holds: `is_line` of
+//! `specs/Settings.antt`. Beside these the timers (`specs/Together.antt`, `src/sets.rt`) and what
+//! could not be undone (`src/committing.rt`) go by kinds of keys, and say of a new one that it is
+//! none of theirs.
 //!
 //! # Laws
 //! In [`laws`]: the settings of a world are a finite map; of the names of a registry's objects none
@@ -94,4 +105,4 @@ pub use sets::{Refusal, SetOutcome, run_set};
 pub use slots::Slots;
 pub use staging::{Staged, Staging, Standing, TestedVariable, VariableFault};
 pub use world::World;
-pub use writable::{Target, Writable, assignment_by};
+pub use writable::{IntegerTarget, Target, Writable, assignment_by};

@@ -86,7 +86,7 @@ pub struct DeviceFault;
 pub trait MibObject: Drop {
     ghost use Rattle.setting_keys.specs.declared.SettingValue.{SettingValue as AnySetting};
     ghost use Rattle.setphase_core.specs.Objects.{ObjectState, IsReserved, IsCommitted, IsByPlan, reserve, after_call, object_after_arm, object_after_commit, object_after_release, object_after_failure, committed_reservation};
-    ghost use Rattle.setphase_core.specs.Settings.{setting, put, IsSettingInRange};
+    ghost use Rattle.setphase_core.specs.Settings.{setting, put, IsSettingInRange, IsLine};
     ghost use Rattle.setphase_core.specs.Columns.{shown_by};
     ghost use Rattle.setphase_core.specs.Values.{value_at, index_after};
     ghost use Rattle.setphase_core.specs.Writing.{test_answer};
@@ -126,18 +126,21 @@ pub trait MibObject: Drop {
     ///
     /// # Errors
     /// The object's device did not take it: its failures are one more, and nothing else changed but
-    /// its plan. Where it has a plan, it fails exactly where that says so.
+    /// its plan. Where it has a plan, it fails exactly where that says so. Only a setting that a
+    /// device holds can fail.
     fn commit(&mut self, world: &mut World, slot: Slot) -> Result<(), DeviceFault>
         requires { IsReserved world.old (state self.old) slot }
         ensures put { OnOk result (world.new ≡ put world.old slot.key slot.value) }
         ensures kept { OnOk result
             (state self.new ≡ object_after_commit (state self.old) slot
             (setting world.old slot.key)) }
-        ensures before { OnOk result (IsSettingInRange slot.key (setting world.old slot.key)) }
+        ensures before { OnOk result
+            (IsSettingInRange world.old slot.key (setting world.old slot.key)) }
         ensures unchanged { OnErr result (world.new ≡ world.old) }
         ensures failed { OnErr result (state self.new ≡ object_after_failure (state self.old)) }
         ensures passes { OnOk result (IsByPlan (state self.old) false) }
-        ensures fails { OnErr result (IsByPlan (state self.old) true) };
+        ensures fails { OnErr result (IsByPlan (state self.old) true) }
+        ensures line { OnErr result (IsLine slot.key) };
 
     /// Gives the setting of a committed slot back what it had before the commit, whatever became of
     /// other settings since. It takes no memory. It is one call of the object's device, if it has
@@ -155,7 +158,8 @@ pub trait MibObject: Drop {
         ensures unchanged { OnErr result (world.new ≡ world.old) }
         ensures failed { OnErr result (state self.new ≡ object_after_failure (state self.old)) }
         ensures passes { OnOk result (IsByPlan (state self.old) false) }
-        ensures fails { OnErr result (IsByPlan (state self.old) true) };
+        ensures fails { OnErr result (IsByPlan (state self.old) true) }
+        ensures line { OnErr result (IsLine slot.key) };
 
     /// Drops all slots.
     fn release(&mut self)

@@ -1,15 +1,15 @@
 //! A Set: all variables are tested, then all are committed, and where a device fails the earlier
 //! ones are undone (RFC 3416, 4.2.5).
-ghost use Rattle.std.specs.Prelude.{◌≡◌, ◌↔◌, ◌<◌, ◌≤◌, ◌^◌, [], ◌∷◌, if◌then◌else◌, length, map, slice_get, Some, IfOk, IfErr, IfNone, IfSome, IsSome};
+ghost use Rattle.std.specs.Prelude.{◌≡◌, ◌↔◌, ◌<◌, ◌≤◌, ◌^◌, [], ◌∷◌, if◌then◌else◌, not, length, map, slice_get, Some, IfOk, IfErr, IfNone, IfSome, IsSome};
 ghost use Rattle.vacm_core.specs.Families.{NamesFamilyOf};
 ghost use Rattle.setphase_core.specs.Objects.{object_after_release};
 ghost use Rattle.setphase_core.specs.Registry.{rows_of, held_count};
-ghost use Rattle.setphase_core.specs.Settings.{setting, HasSetting, with_settings};
+ghost use Rattle.setphase_core.specs.Settings.{setting, HasSetting, same_settings_of, with_settings_of};
 ghost use Rattle.setphase_core.specs.Variables.{status_of, refusal_for, single_refusals, writings};
 ghost use Rattle.setphase_core.specs.Together.{assign, is_timer, timer, timers_agree, refusal_of};
-ghost use Rattle.setphase_core.specs.Outcomes.{refusal_in, notes_in, world_after_set, AreNotes, NamesASetting};
+ghost use Rattle.setphase_core.specs.Outcomes.{refusal_in, notes_in, changed_in, world_after_set, AreNotes, NamesASetting};
 ghost use Rattle.setphase_core.specs.Calls.{calls_of, object_after_set, FollowPlans};
-ghost use Rattle.setphase_core.specs.Staging.{assignments_of, IsDistinct, HaveSettings};
+ghost use Rattle.setphase_core.specs.Staging.{assignments_of, IsDistinct, AreLegal, IsUnderWay};
 ghost use Rattle.setphase_core.specs.Tested.{first_in, is_contradicting, inconsistency, ArePassed, AreReady};
 
 use crate::committing::{commit_all, undo_all};
@@ -40,7 +40,10 @@ pub struct Refusal {
 #[derive(Drop)]
 pub enum SetOutcome {
     /// All variables have their values.
-    Done,
+    Done {
+        /// Whether a setting has another value than before.
+        changed: bool,
+    },
     /// Nothing was changed.
     Refused(Refusal),
     /// The commit of the variable of this number, counted from 1, failed, and those committed
@@ -148,15 +151,18 @@ fn stage_all<O: MibObject>(
     requires fresh { staging.old.registry.now ≡ map object_after_release staging.old.registry.now }
     requires staged { staging.old.staged.items ≡ [] }
     requires tested { staging.old.tested ≡ 0 }
+    requires under_way { IsUnderWay world.now staging.old.registry.now staging.old.staged.items
+        staging.old.tested staging.old.committed }
+    ensures under_way { IsUnderWay world.now staging.new.registry.now staging.new.staged.items
+        staging.new.tested staging.new.committed }
     ensures same_reference { staging.new.registry.ghost_name ≡ staging.old.registry.ghost_name }
     ensures committed { staging.new.committed ≡ staging.old.committed }
     ensures released { map object_after_release staging.new.registry.now
         ≡ map object_after_release staging.old.registry.now }
     ensures refused { IfErr result (λ refusal. Some refusal ≡ slice_get (single_refusals
-        (rows_of staging.old.registry.now) world.now view.now 0 bindings.now) 0) }
+        (rows_of staging.old.registry.now) world.now view.now 0 [] bindings.now) 0) }
     ensures passed { IfOk result (λ joint. ArePassed (rows_of staging.old.registry.now) world.now
-        view.now bindings.now staging.new.registry.now staging.new.staged.items
-        joint.contradiction joint.timer) }
+        view.now bindings.now staging.new.staged.items joint.contradiction joint.timer) }
 {
     let _ports = world.bridge.ports();
     let mut joint = Joint {
@@ -176,7 +182,7 @@ fn stage_all<O: MibObject>(
 fn value_after(world: &World, staged: &[Staged], key: SettingKey) -> SettingValue
     requires has { HasSetting world.now key }
     requires distinct { IsDistinct (assignments_of staged.now) }
-    requires have { HaveSettings world.now (assignments_of staged.now) }
+    requires legal { AreLegal world.now (assignments_of staged.now) }
     ensures { result ≡ setting (assign (assignments_of staged.now) world.now) key }
 {
     match value_among(staged, key) {
@@ -188,7 +194,7 @@ fn value_after(world: &World, staged: &[Staged], key: SettingKey) -> SettingValu
 // A timer of the bridge once all that is staged is assigned, in hundredths of a second.
 fn timer_after(world: &World, staged: &[Staged], key: BridgeKey) -> u64
     requires distinct { IsDistinct (assignments_of staged.now) }
-    requires have { HaveSettings world.now (assignments_of staged.now) }
+    requires legal { AreLegal world.now (assignments_of staged.now) }
     ensures value { result ≡ timer (assign (assignments_of staged.now) world.now) key }
     ensures most { result < 2 ^ 32 }
 {
@@ -200,7 +206,7 @@ fn timer_after(world: &World, staged: &[Staged], key: BridgeKey) -> u64
 // Whether the timers agree once all that is staged is assigned (IEEE 802.1D-2004 17.14).
 fn timers_agree(world: &World, staged: &[Staged]) -> bool
     requires distinct { IsDistinct (assignments_of staged.now) }
-    requires have { HaveSettings world.now (assignments_of staged.now) }
+    requires legal { AreLegal world.now (assignments_of staged.now) }
     ensures { result ≡ timers_agree (assign (assignments_of staged.now) world.now) }
 {
     let max_age = timer_after(world, staged, BridgeKey::MaxAge);
@@ -212,7 +218,7 @@ fn timers_agree(world: &World, staged: &[Staged]) -> bool
 // The number of the variable that keeps all from going together, where one does.
 fn inconsistency(world: &World, staged: &[Staged], joint: Joint) -> Option<usize>
     requires distinct { IsDistinct (assignments_of staged.now) }
-    requires have { HaveSettings world.now (assignments_of staged.now) }
+    requires legal { AreLegal world.now (assignments_of staged.now) }
     ensures { result ≡ inconsistency joint.contradiction
         (timers_agree (assign (assignments_of staged.now) world.now)) joint.timer }
 {
@@ -233,6 +239,10 @@ fn refused<O: MibObject>(
     requires fresh { staging.old.registry.now ≡ map object_after_release staging.old.registry.now }
     requires staged { staging.old.staged.items ≡ [] }
     requires tested { staging.old.tested ≡ 0 }
+    requires under_way { IsUnderWay world.now staging.old.registry.now staging.old.staged.items
+        staging.old.tested staging.old.committed }
+    ensures under_way { IsUnderWay world.now staging.new.registry.now staging.new.staged.items
+        staging.new.tested staging.new.committed }
     ensures same_reference { staging.new.registry.ghost_name ≡ staging.old.registry.ghost_name }
     ensures committed { staging.new.committed ≡ staging.old.committed }
     ensures released { map object_after_release staging.new.registry.now
@@ -240,7 +250,7 @@ fn refused<O: MibObject>(
     ensures refusal { result ≡ refusal_of (rows_of staging.old.registry.now) world.now view.now
         bindings.now }
     ensures ready { IfNone result (AreReady (rows_of staging.old.registry.now) world.now
-        bindings.now staging.new.registry.now staging.new.staged.items) }
+        bindings.now staging.new.staged.items) }
 {
     match stage_all(staging, world, view, bindings) {
         Err(refusal) => Some(refusal),
@@ -255,6 +265,21 @@ fn refused<O: MibObject>(
     }
 }
 
+// Whether a setting gets another value than it has from what is staged.
+fn changes(world: &World, staged: &[Staged]) -> bool
+    requires distinct { IsDistinct (assignments_of staged.now) }
+    requires legal { AreLegal world.now (assignments_of staged.now) }
+    ensures { result ≡ not (same_settings_of world.now
+        (assign (assignments_of staged.now) world.now)) }
+{
+    for entry in staged {
+        if world.get_setting(entry.slot.key) != entry.slot.value {
+            return true;
+        }
+    }
+    false
+}
+
 // Makes the Set that a staging is for.
 fn run_staged<O: MibObject>(
     staging: &mut Staging<'_, O>,
@@ -266,12 +291,16 @@ fn run_staged<O: MibObject>(
     requires staged { staging.old.staged.items ≡ [] }
     requires tested { staging.old.tested ≡ 0 }
     requires committed { staging.old.committed ≡ 0 }
+    requires under_way { IsUnderWay world.old staging.old.registry.now staging.old.staged.items
+        staging.old.tested staging.old.committed }
     ensures same_reference { staging.new.registry.ghost_name ≡ staging.old.registry.ghost_name }
     ensures refusal { refusal_in result ≡ refusal_of (rows_of staging.old.registry.now) world.old
         view.now bindings.now }
     ensures notes { AreNotes (writings (rows_of staging.old.registry.now) world.old bindings.now)
         (notes_in result) }
     ensures undos { NamesASetting result }
+    ensures changed { IfSome (changed_in result)
+        (λ changed. changed ≡ not (same_settings_of world.old world.new)) }
     ensures world { world.new ≡ world_after_set (refusal_in result)
         (writings (rows_of staging.old.registry.now) world.old bindings.now) world.old
         (notes_in result) }
@@ -286,8 +315,9 @@ fn run_staged<O: MibObject>(
     if let Some(refusal) = refused(staging, world, view, bindings) {
         return SetOutcome::Refused(refusal);
     }
+    let changed = changes(world, staging.staged.as_slice());
     let Some(failed) = commit_all(staging, world) else {
-        return SetOutcome::Done;
+        return SetOutcome::Done { changed };
     };
     let number = staging.staged.as_slice()[failed].number;
     let keys = undo_all(staging, world);
@@ -312,6 +342,8 @@ pub fn run_set<O: MibObject>(
     ensures notes { AreNotes (writings (rows_of registry.old) world.old bindings.now)
         (notes_in result) }
     ensures undos { NamesASetting result }
+    ensures changed { IfSome (changed_in result)
+        (λ changed. changed ≡ not (same_settings_of world.old world.new)) }
     ensures world { world.new ≡ world_after_set (refusal_in result)
         (writings (rows_of registry.old) world.old bindings.now) world.old (notes_in result) }
     ensures objects { registry.new ≡ map (object_after_set (calls_of (refusal_in result)
@@ -328,7 +360,7 @@ pub fn run_set<O: MibObject>(
         (λ answer. NamesFamilyOf world.old.policy.vacm.families answer)) }
     ensures no_access { IfSome (refusal_in result)
         (λ r. (r.status ≡ ErrorStatus.NoAccess) ↔ IsSome r.family) }
-    ensures settings { world.new ≡ with_settings world.old world.new.bridge.settings }
+    ensures settings { world.new ≡ with_settings_of world.new world.old }
     ensures rows { rows_of registry.new ≡ rows_of registry.old }
     ensures held { held_count registry.new ≡ 0 }
 {

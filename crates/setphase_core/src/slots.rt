@@ -70,13 +70,13 @@ impl Slots {
     /// Gives the setting of a reserved slot its value, and keeps the one before.
     pub fn commit(&mut self, world: &mut World, slot: Slot)
         requires key { HasSetting world.old slot.key }
-        requires value { IsSettingInRange slot.key slot.value }
+        requires value { IsSettingInRange world.old slot.key slot.value }
         requires place { slot.place < length self.old }
         ensures put { world.new ≡ put world.old slot.key slot.value }
         ensures kept { self.new
             ≡ slice_set self.old slot.place
             (committed_reservation slot (setting world.old slot.key)) }
-        ensures before { IsSettingInRange slot.key (setting world.old slot.key) }
+        ensures before { IsSettingInRange world.old slot.key (setting world.old slot.key) }
     {
         let before = world.get_setting(slot.key);
         world.put_setting(slot.key, slot.value);

@@ -2,10 +2,11 @@
 //! 3416, 4.2.5).
 ghost use Rattle.std.specs.Prelude.{◌≡◌, ◌+◌, ◌-◌, ◌≤◌, ◌<◌, true, false, [], length, map, slice_get, slice_set, Some, OnOk, OnErr, IfOk, IfErr};
 ghost use Rattle.setting_keys.specs.declared.SettingValue.{SettingValue as AnySetting};
-ghost use Rattle.setphase_core.specs.Objects.{after_call, object_after_release, object_after_commit, committed_reservation, object_after_failure, IsReserved, IsCommitted, IsByPlan};
-ghost use Rattle.setphase_core.specs.Settings.{put, setting, IsSettingInRange};
+ghost use Rattle.setphase_core.specs.declared.world.World.{World as AnyWorld};
+ghost use Rattle.setphase_core.specs.Objects.{after_call, object_after_release, object_after_commit, committed_reservation, object_after_failure, IsByPlan};
+ghost use Rattle.setphase_core.specs.Settings.{put, setting, IsSettingInRange, IsLine};
 ghost use Rattle.setphase_core.specs.declared.object.SetFault.TheVariants.{ResourceUnavailable};
-ghost use Rattle.setphase_core.specs.Staging.{object_at, entry_at, assignments_of};
+ghost use Rattle.setphase_core.specs.Staging.{object_at, entry_at, assignments_of, IsUnderWay};
 ghost use Rattle.setphase_core.specs.Tested.{value_among, standing_by, staged_by, IsPassed, IsFaulty};
 
 use crate::limits::MAX_VARIABLES;
@@ -59,6 +60,10 @@ pub struct Staged {
 
 /// A Set that is being made. When it is dropped every reservation is released; what is committed
 /// stays committed.
+///
+/// What its calls need of it beside what they name is one condition, `IsUnderWay`, of a Set and of
+/// the world that it is made in: it holds of a new one in every world, each call keeps it, and who
+/// calls hands it on.
 pub struct Staging<'a, O: MibObject> {
     pub(crate) registry: &'a mut Registry<O>,
     pub(crate) staged: ArrayVec<Staged, MAX_VARIABLES>,
@@ -98,6 +103,8 @@ impl<'a, O: MibObject> Staging<'a, O> {
         ensures staged { result.staged.items ≡ [] }
         ensures tested { result.tested ≡ 0 }
         ensures committed { result.committed ≡ 0 }
+        ensures under_way { (w : AnyWorld) → IsUnderWay w result.registry.now result.staged.items
+            result.tested result.committed }
     {
         registry.release();
         Staging {
@@ -120,11 +127,13 @@ impl<'a, O: MibObject> Staging<'a, O> {
         view: &Name,
         binding: &Binding,
     ) -> Result<TestedVariable, VariableFault>
-        requires { length self.old.staged.items ≤ self.old.tested }
+        requires { IsUnderWay world.now self.old.registry.now self.old.staged.items
+            self.old.tested self.old.committed }
+        ensures under_way { IsUnderWay world.now self.new.registry.now self.new.staged.items
+            self.new.tested self.new.committed }
         ensures same_reference { self.new.registry.ghost_name ≡ self.old.registry.ghost_name }
         ensures committed { self.new.committed ≡ self.old.committed }
         ensures tested { OnOk result (self.new.tested ≡ self.old.tested + 1) }
-        ensures counted { OnOk result (length self.new.staged.items ≤ self.new.tested) }
         ensures passed { IfOk result (λ passed. IsPassed self.old.registry.now
             self.new.registry.now world.now view.now self.old.tested binding.now
             self.old.staged.items self.new.staged.items passed) }
@@ -139,6 +148,7 @@ impl<'a, O: MibObject> Staging<'a, O> {
         ensures same_staged { OnErr result (self.new.staged.items ≡ self.old.staged.items) }
         ensures same_tested { OnErr result (self.new.tested ≡ self.old.tested) }
     {
+        let _ports = world.bridge.ports();
         let answer = world.policy.vacm().in_view(view, &binding.name);
         if !answer.is_included() {
             return Err(VariableFault::NoAccess(answer));
@@ -161,7 +171,6 @@ impl<'a, O: MibObject> Staging<'a, O> {
         ensures committed { self.new.committed ≡ self.old.committed }
         ensures room { OnOk result (self.old.tested < MAX_VARIABLES) }
         ensures tested { OnOk result (self.new.tested ≡ self.old.tested + 1) }
-        ensures counted { OnOk result (length self.new.staged.items ≤ self.new.tested) }
         ensures standing { IfOk result (λ passed. passed ≡ record {
           key = slot.key;
           standing = standing_by
@@ -198,10 +207,10 @@ impl<'a, O: MibObject> Staging<'a, O> {
     /// The device of its object failed: it stays uncommitted, and no setting changed.
     pub fn commit_next(&mut self, world: &mut World) -> Result<(), DeviceFault>
         requires pending { self.old.committed < length self.old.staged.items }
-        requires within { (entry_at self.old.staged.items self.old.committed).object
-            < length self.old.registry.now }
-        requires reserved { let e = entry_at self.old.staged.items self.old.committed in
-            IsReserved world.old (object_at self.old.registry.now e.object) e.slot }
+        requires under_way { IsUnderWay world.old self.old.registry.now self.old.staged.items
+            self.old.tested self.old.committed }
+        ensures under_way { IsUnderWay world.new self.new.registry.now self.new.staged.items
+            self.new.tested self.new.committed }
         ensures same_reference { self.new.registry.ghost_name ≡ self.old.registry.ghost_name }
         ensures staged { self.new.staged.items ≡ self.old.staged.items }
         ensures tested { self.new.tested ≡ self.old.tested }
@@ -213,7 +222,7 @@ impl<'a, O: MibObject> Staging<'a, O> {
             (object_after_commit (object_at self.old.registry.now e.object) e.slot
             (setting world.old e.slot.key))) }
         ensures before { OnOk result (let e = entry_at self.old.staged.items self.old.committed in
-            IsSettingInRange e.slot.key (setting world.old e.slot.key)) }
+            IsSettingInRange world.old e.slot.key (setting world.old e.slot.key)) }
         ensures not_committed { OnErr result (self.new.committed ≡ self.old.committed) }
         ensures unchanged { OnErr result (world.new ≡ world.old) }
         ensures failed { OnErr result (let e = entry_at self.old.staged.items self.old.committed in
@@ -223,6 +232,8 @@ impl<'a, O: MibObject> Staging<'a, O> {
             IsByPlan (object_at self.old.registry.now e.object) false) }
         ensures fails { OnErr result (let e = entry_at self.old.staged.items self.old.committed in
             IsByPlan (object_at self.old.registry.now e.object) true) }
+        ensures line { OnErr result
+            (IsLine (entry_at self.old.staged.items self.old.committed).slot.key) }
     {
         let entry = self.staged.as_slice()[self.committed];
         self.registry.commit(entry.object, world, entry.slot)?;
@@ -236,12 +247,10 @@ impl<'a, O: MibObject> Staging<'a, O> {
     /// The device of its object failed: the setting keeps its new value.
     pub fn undo_last(&mut self, world: &mut World) -> Result<(), DeviceFault>
         requires pending { 0 < self.old.committed }
-        requires counted { self.old.committed ≤ length self.old.staged.items }
-        requires within { (entry_at self.old.staged.items (self.old.committed - 1)).object
-            < length self.old.registry.now }
-        requires committed { let e = entry_at self.old.staged.items (self.old.committed - 1) in
-            (before : AnySetting)
-            × IsCommitted world.old (object_at self.old.registry.now e.object) e.slot before }
+        requires under_way { IsUnderWay world.old self.old.registry.now self.old.staged.items
+            self.old.tested self.old.committed }
+        ensures under_way { IsUnderWay world.new self.new.registry.now self.new.staged.items
+            self.new.tested self.new.committed }
         ensures same_reference { self.new.registry.ghost_name ≡ self.old.registry.ghost_name }
         ensures staged { self.new.staged.items ≡ self.old.staged.items }
         ensures tested { self.new.tested ≡ self.old.tested }
@@ -267,6 +276,8 @@ impl<'a, O: MibObject> Staging<'a, O> {
         ensures fails { OnErr result
             (let e = entry_at self.old.staged.items (self.old.committed - 1) in
             IsByPlan (object_at self.old.registry.now e.object) true) }
+        ensures line { OnErr result
+            (IsLine (entry_at self.old.staged.items (self.old.committed - 1)).slot.key) }
     {
         self.committed -= 1;
         let entry = self.staged.as_slice()[self.committed];

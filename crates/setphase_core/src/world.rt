@@ -73,7 +73,7 @@ impl World {
     pub fn get_setting(&self, key: SettingKey) -> SettingValue
         requires { HasSetting self.now key }
         ensures value { result ≡ setting self.now key }
-        ensures in_range { IsSettingInRange key result }
+        ensures in_range { IsSettingInRange self.now key result }
     {
         match key {
             SettingKey::Bridge(key) => SettingValue::Number(self.bridge.get_setting(key)),
@@ -84,7 +84,7 @@ impl World {
     /// changes: the bridge is to be settled behind the last of several (`Bridge::settle`).
     pub fn put_setting(&mut self, key: SettingKey, value: SettingValue) -> SettingValue
         requires key { HasSetting self.old key }
-        requires value { IsSettingInRange key value }
+        requires value { IsSettingInRange self.old key value }
         ensures before { result ≡ setting self.old key }
         ensures after { self.new ≡ put self.old key value }
     {

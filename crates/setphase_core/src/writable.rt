@@ -1,6 +1,6 @@
 //! How a Set writes an object, and what one of its variables writes.
 ghost use Rattle.std.specs.Prelude.{◌≡◌, ◌<◌, IfSome};
-ghost use Rattle.setphase_core.specs.Writing.{takes, number_given, key_at, integer_assignment, assignment_by};
+ghost use Rattle.setphase_core.specs.Writing.{takes, number_given, key_at, integer_assignment, assignment_by, HasStep};
 
 use crate::index::{is_scalar, port_at};
 use crate::object::{Assignment, SetFault};
@@ -43,10 +43,18 @@ impl Target {
     }
 }
 
-/// How the instances of an object are written: the setting, and the INTEGERs from the least to the
-/// most that are multiples of the step, which is above 0.
+/// How the instances of an object are written, by the type of what they take. Each type has a case
+/// here, in [`assignment_by`], and in `typed_assignment` of `specs/Writing.antt`.
 #[derive(Clone, Copy, Debug, PartialEq, Eq)]
-pub struct Writable {
+pub enum Writable {
+    /// By an INTEGER.
+    Integer(IntegerTarget),
+}
+
+/// Which setting an INTEGER writes, and which INTEGERs are taken: from the least to the most those
+/// that are multiples of the step, which is above 0.
+#[derive(Clone, Copy, Debug, PartialEq, Eq)]
+pub struct IntegerTarget {
     /// The setting.
     pub target: Target,
     /// The least that it takes.
@@ -57,7 +65,7 @@ pub struct Writable {
     pub step: u32,
 }
 
-impl Writable {
+impl IntegerTarget {
     // Whether the object takes this number.
     fn takes(self, number: u32) -> bool
         requires { 0 < self.step }
@@ -94,12 +102,13 @@ pub fn assignment_by(
     at: &[u32],
     value: &Value,
 ) -> Result<Assignment, SetFault>
-    requires step { IfSome writable (λ w. 0 < w.step) }
+    requires step { IfSome writable HasStep }
     ensures { result ≡ assignment_by writable world.now at.now value.now }
 {
-    let writable = writable.ok_or(SetFault::NotWritable)?;
-    match value {
-        Value::Integer(integer) => writable.integer_assignment(world, at, *integer),
-        _ => Err(SetFault::WrongType),
+    match (writable.ok_or(SetFault::NotWritable)?, value) {
+        (Writable::Integer(target), Value::Integer(integer)) => {
+            target.integer_assignment(world, at, *integer)
+        }
+        (Writable::Integer(_), _) => Err(SetFault::WrongType),
     }
 }

@@ -2,9 +2,10 @@
 //! those of a bridge.
 //!
 //! # Entry points
-//! [`SettingKey`], [`SettingValue`]: plain data. Of what stands above, the world of `setphase_core`
-//! alone tells their kinds apart. [`SettingKeys`]: a list of keys, each of which stands there as a
-//! [`ListedKey`]. A list has [`MAX_KEYS`] keys at most.
+//! [`SettingKey`], [`SettingValue`]: plain data. Of what stands above, `setphase_core` alone tells
+//! their kinds apart. [`SettingKeys`]: a list of keys of a bridge's settings, which are those that a
+//! Set may fail to put back; each stands there as a [`ListedKey`]. A list has [`MAX_KEYS`] keys at
+//! most.
 //!
 //! # Definitions
 //! `specs/Listed.antt`: which key the parts of a listed key are.
@@ -57,7 +58,7 @@ impl Default for SettingValue {
 /// The most keys that a list of them has: as many as a Set has variables.
 pub const MAX_KEYS: usize = 64;
 
-// The parts of a key, in an order in which they take four octets and not eight: a list of 64 is moved
+// The parts of a bridge's key, in an order in which they take four octets and not eight: a list of 64 is moved
 // about while a Set is made, and room for two is reserved for each.
 #[derive(Clone, Copy)]
 enum Parts {
@@ -65,14 +66,14 @@ enum Parts {
     Port(PortKey, u16),
 }
 
-/// A key as it stands in a list, seen as the key.
+/// The key of a bridge's setting as it stands in a list, seen as the key.
 #[derive(Clone, Copy)]
 pub struct ListedKey {
     parts: Parts,
 }
 
 impl Model for ListedKey {
-    ghost use Rattle.setting_keys.specs.declared.SettingKey.{SettingKey as AnyKey};
+    ghost use Rattle.rstp_settings.specs.declared.key.Key.{Key as AnyKey};
     ghost use Rattle.setting_keys.specs.Listed.{key_of, parts_of};
 
     ghost Value = { AnyKey };
@@ -83,9 +84,9 @@ impl Model for ListedKey {
 }
 
 impl Default for ListedKey {
-    /// The bridge priority, which every world has.
+    /// The bridge priority, which every bridge has.
     fn default() -> ListedKey
-        ensures { result ≡ SettingKey.Bridge (Key.Bridge BridgeKey.Priority) }
+        ensures { result ≡ Key.Bridge BridgeKey.Priority }
     {
         ListedKey {
             parts: Parts::Bridge(BridgeKey::Priority),
@@ -95,10 +96,9 @@ impl Default for ListedKey {
 
 impl ListedKey {
     /// A key, as it stands in a list.
-    fn of(key: SettingKey) -> ListedKey
+    fn of(key: Key) -> ListedKey
         ensures { result ≡ key }
     {
-        let SettingKey::Bridge(key) = key;
         let parts = match key {
             Key::Bridge(key) => Parts::Bridge(key),
             Key::Port(port, key) => Parts::Port(key, port),
@@ -107,17 +107,17 @@ impl ListedKey {
     }
 
     /// The key.
-    pub fn key(self) -> SettingKey
+    pub fn key(self) -> Key
         ensures { result ≡ self }
     {
-        SettingKey::Bridge(match self.parts {
+        match self.parts {
             Parts::Bridge(key) => Key::Bridge(key),
             Parts::Port(key, port) => Key::Port(port, key),
-        })
+        }
     }
 }
 
-/// At most `MAX_KEYS` keys of settings, seen as their list.
+/// At most `MAX_KEYS` keys of a bridge's settings, seen as their list.
 #[derive(Drop)]
 pub struct SettingKeys {
     keys: ArrayVec<ListedKey, MAX_KEYS>,
@@ -125,7 +125,7 @@ pub struct SettingKeys {
 
 impl Model for SettingKeys {
     ghost use Rattle.std.specs.Prelude.{List};
-    ghost use Rattle.setting_keys.specs.declared.SettingKey.{SettingKey as AnyKey};
+    ghost use Rattle.rstp_settings.specs.declared.key.Key.{Key as AnyKey};
 
     ghost Value = { List AnyKey };
 
@@ -168,7 +168,7 @@ impl SettingKeys {
     }
 
     /// Puts a key in front, where there is room for it.
-    pub fn put_first(&mut self, key: SettingKey)
+    pub fn put_first(&mut self, key: Key)
         requires { length self.old < MAX_KEYS }
         ensures { self.new ≡ key ∷ self.old }
     {

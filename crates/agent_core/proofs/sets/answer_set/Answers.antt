@@ -1,4 +1,4 @@
-use Rattle.std.proofs.Common.{◌≡◌, ◌∙◌, ℕ, ◌≤◌, [], List, length, map, Option, None, IfSome, FitsSigned, w32, rules, ap, sym, subst}
+use Rattle.std.proofs.Common.{◌≡◌, ◌∙◌, ℕ, ◌≤◌, [], List, length, map, Option, None, IfSome, not, FitsSigned, w32, rules, ap, sym, subst}
 use Rattle.std.proofs.lemmas.Int.{to_z-of_z}
 use Rattle.message_core.specs.Canon.{answer_to}
 use Rattle.message_core.specs.declared.binding.Binding.{Binding}
@@ -6,23 +6,25 @@ use Rattle.message_core.specs.declared.request.Request.{Request}
 use Rattle.vacm_core.specs.Tables.{Tables}
 use Rattle.audit_core.specs.declared.denied.Denied.{Denied}
 use Rattle.rstp_settings.specs.Table.{Table}
-use Rattle.setting_keys.specs.declared.SettingKey.{SettingKey}
+use Rattle.rstp_settings.specs.declared.key.Key.{Key}
 use Rattle.setphase_core.specs.declared.sets.SetOutcome.{SetOutcome}
 use Rattle.setphase_core.specs.declared.world.World.{World}
 use Rattle.setphase_core.specs.Objects.{ObjectRow, ObjectState}
 use Rattle.setphase_core.specs.Registry.{rows_of}
+use Rattle.setphase_core.specs.Settings.{same_settings, same_settings_of}
 use Rattle.setphase_core.specs.Variables.{writings}
 use Rattle.setphase_core.specs.Together.{refusal_of}
 use Rattle.setphase_core.specs.Outcomes.{SetNotes, AreNotes, refusal_in, notes_in, world_after_set}
-use Rattle.setphase_core.specs.Calls.{Call, calls_of, object_after_set, FollowPlans}
+use Rattle.setphase_core.specs.Calls.{calls_of, object_after_set, FollowPlans}
 use Rattle.agent_core.specs.Replies.{reply_within_limit}
-use Rattle.agent_core.specs.Sets.{settled_world, settling_bpdus, MayFailInSet, set_calls}
+use Rattle.agent_core.specs.Sets.{MayFailInSet}
 use Rattle.agent_core.specs.Answers.{IsSent}
 use Rattle.agent_core.specs.declared.answered.Answered.{Answered}
 use Rattle.agent_core.specs.declared.answered.Answered.TheVariants as answered
 use Rattle.agent_core.specs.declared.sent_reply.SentReply.{SentReply}
 use Rattle.agent_core.specs.declared.sets.SetTold.{SetTold}
-use Rattle.agent_core.proofs.SetProofs.{index_within, number_within, may_fail}
+use Rattle.agent_core.proofs.SetProofs.{index_within, number_within, may_fail, families_kept, names_kept, families_are}
+use Rattle.agent_core.proofs.Changed.{settled_is, settled_bpdus_is}
 use Rattle.agent_core.proofs.SetSteps.{told_audit, too_long_done, too_long_plans, fitting_plans, set_done, notes_told_of}
 use Rattle.agent_core.proofs.sets.answer_set.Goals as goal
 
@@ -30,12 +32,12 @@ pub returns-then-is_too_long-clause-done : goal.returns-then-is_too_long-clause-
 returns-then-is_too_long-clause-done g c =
     let request : Request = c.args.request.now in
     let sent : SentReply = c.put_too_long-sent.result in
-    let told_as : List Denied → List SettingKey → Option ℕ → Answered =
-    λ (denied : List Denied) (keys : List SettingKey) (failed : Option ℕ). answered.Reply sent.length (told_audit request c.args.row c.args.view sent denied keys) failed in
+    let told_as : List Denied → List Key → Option ℕ → Answered =
+    λ (denied : List Denied) (keys : List Key) (failed : Option ℕ). answered.Reply sent.length (told_audit request c.args.row c.args.view sent denied keys) failed in
     too_long_done c.args.registry.now c.args.world.now request c.args.row c.args.view sent c.told.result c.put_too_long-sent.new.self
     (sym c.is_too_long.ensures.too_long ∙ c.if-is_too_long.true) c.put_too_long-sent.ensures.sent
     (c.put_too_long-sent.ensures.bpdus ∙ c.is_too_long.ensures.bpdus ∙ c.requires.silent)
-    (c.told.ensures ∙ ap (λ (a : SetTold). told_as a.denied a.unrestored a.failed) c.plain_answer-none.ensures ∙ ap (λ (keys : List SettingKey). told_as [] keys None) c.new.ensures)
+    (c.told.ensures ∙ ap (λ (a : SetTold). told_as a.denied a.unrestored a.failed) c.plain_answer-none.ensures ∙ ap (λ (keys : List Key). told_as [] keys None) c.new.ensures)
 
 pub set_answer-requires-clause-refused : goal.set_answer-requires-clause-refused
 set_answer-requires-clause-refused g c =
@@ -46,6 +48,16 @@ pub set_answer-requires-clause-failed : goal.set_answer-requires-clause-failed
 set_answer-requires-clause-failed g c =
     number_within c.args.request.now (notes_in c.run_set-outcome.result).commit (sym c.is_too_long.ensures.too_long ∙ c.if-is_too_long.false)
     (subst (λ (bs : List Binding). IfSome (notes_in c.run_set-outcome.result).commit (λ n. (1 ≤ n) × (n ≤ length bs))) c.as_slice-bindings.ensures c.run_set-outcome.ensures.failed_index)
+
+pub set_answer-requires-clause-family : goal.set_answer-requires-clause-family
+set_answer-requires-clause-family g c =
+    let outcome : SetOutcome = c.run_set-outcome.result in
+    let world : World = c.args.world.now in
+    let after : World = c.run_set-outcome.new.world in
+    names_kept (refusal_in outcome) world.policy.vacm.families c.vacm.result.now.families
+    (families_are (refusal_in outcome) c.vacm.result.now.families after.policy.vacm.families world.policy.vacm.families (ap (λ (t : Tables). t.families) c.vacm.ensures)
+    (families_kept outcome (writings (rows_of c.args.registry.now) world c.as_slice-bindings.result.now) world after c.run_set-outcome.ensures.world))
+    c.run_set-outcome.ensures.family
 
 pub returns-clause-may : goal.returns-clause-may
 returns-clause-may g c =
@@ -78,16 +90,19 @@ returns-clause-done g c =
     subst (λ (bs : List Binding). after ≡ world_after_set (refusal_in outcome) (writings rows world bs) world (notes_in outcome)) same c.run_set-outcome.ensures.world in
     let objects_are : c.run_set-outcome.new.registry ≡ map (object_after_set (calls_of (refusal_in outcome) (writings rows world request.bindings) (notes_in outcome))) objects =
     subst (λ (bs : List Binding). c.run_set-outcome.new.registry ≡ map (object_after_set (calls_of (refusal_in outcome) (writings rows world bs) (notes_in outcome))) objects) same c.run_set-outcome.ensures.objects in
+    let changed_is : c.changed-changed.result ≡ not (same_settings_of world after) =
+    c.changed-changed.ensures ∙ ap (λ (t : Table). not (same_settings t after.bridge.settings)) c.copied_settings-before.ensures in
     let index_fits : FitsSigned w32 answer.index = search rules in
     let put : IsSent (reply_within_limit (answer_to request answer.status answer.index request.bindings)) c.put-sent.result c.put-sent.new.self.reply =
     subst (λ (bs : List Binding). IsSent (reply_within_limit (answer_to request answer.status answer.index bs)) c.put-sent.result c.put-sent.new.self.reply) same (rw (to_z-of_z w32 answer.index index_fits) at c.put-sent.ensures.sent) in
-    set_done objects world request c.args.row c.args.view outcome answer c.put-sent.result c.put-sent.new.self after c.settle_changed.new.world c.run_set-outcome.new.registry
+    set_done objects world request c.args.row c.args.view outcome answer c.put-sent.result c.put-sent.new.self after c.settle.new.world c.run_set-outcome.new.registry
     c.told-2.result c.vacm.result.now.families
     (sym c.is_too_long.ensures.too_long ∙ c.if-is_too_long.false) refusal after_is
-    (ap (λ (t : Tables). t.families) c.vacm.ensures ∙ ap (λ (w : World). w.policy.vacm.families) c.run_set-outcome.ensures.settings)
+    (families_are (refusal_in outcome) c.vacm.result.now.families after.policy.vacm.families world.policy.vacm.families (ap (λ (t : Tables). t.families) c.vacm.ensures)
+    (families_kept outcome (writings rows world request.bindings) world after after_is))
     c.in_ok-answer.ensures.told
-    (c.settle_changed.ensures.world ∙ ap (λ (t : Table). settled_world t after) c.copied_settings-before.ensures)
-    (c.put-sent.ensures.bpdus ∙ c.settle_changed.ensures.bpdus ∙ ap (λ (t : Table). settling_bpdus t after) c.copied_settings-before.ensures)
+    (settled_is world after c.settle.new.world c.changed-changed.result changed_is c.settle.ensures.world)
+    (c.put-sent.ensures.bpdus ∙ c.settle.ensures.bpdus ∙ settled_bpdus_is world after c.changed-changed.result changed_is)
     put objects_are c.told-2.ensures
 
 pub returns-then-is_too_long-clause-by_plan : goal.returns-then-is_too_long-clause-by_plan

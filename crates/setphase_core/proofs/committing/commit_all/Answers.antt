@@ -1,27 +1,22 @@
-use Rattle.std.proofs.Common.{◌∙◌, ◌+◌, sym, ap, subst, arith, true, false, [], ◌∷◌, ◌++◌, map, take}
+use Rattle.std.proofs.Common.{◌∙◌, ◌+◌, sym, ap, subst, arith, true, false, [], ◌∷◌, ◌++◌, length, map, take}
 use Rattle.setphase_core.specs.declared.staging.Staged.{Staged}
 use Rattle.setphase_core.specs.Objects.{object_after_release}
 use Rattle.setphase_core.specs.Staging.{entry_at, AreCalled, commit_at}
 use Rattle.setphase_core.proofs.Called.{commits_more}
-use Rattle.setphase_core.proofs.Commits.{Commits, commit_step, entry_is, next_pending, called_after_commit, called_after_call}
+use Rattle.setphase_core.proofs.Commits.{Commits, commit_step, entry_is, called_after_commit, called_after_call}
 use Rattle.setphase_core.proofs.committing.commit_all.Goals as goal
-
-pub commit_next-requires-clause-reserved : goal.commit_next-requires-clause-reserved
-commit_next-requires-clause-reserved g c =
-    let i = c.loop-i.invariant in
-    (next_pending c.loop-i.world c.loop-i.staging.registry.now c.args.staging.now.staged.items c.loop-i.staging.staged.items c.loop-i.i c.loop-i.staging.committed i.staged i.counted (omega arith) i.pending).reserved
 
 pub loop-i-preserved : goal.loop-i-preserved
 loop-i-preserved g c =
     let i = c.loop-i.invariant in
     let after : Commits c.args.world.now c.commit_next.new.world c.commit_next.new.self.registry.now c.args.staging.now.staged.items (c.loop-i.i + 1)
-    = commit_step c.args.world.now c.loop-i.world _ c.loop-i.staging.registry.now _ c.args.staging.now.staged.items c.loop-i.staging.staged.items c.loop-i.i c.loop-i.staging.committed i.staged i.counted c.requires.distinct (omega arith) (record { world = i.world; pending = i.pending; done = i.done }) c.in-Ok.ensures.put c.in-Ok.ensures.kept c.in-Ok.ensures.before in
+    = commit_step c.args.world.now c.loop-i.world _ c.loop-i.staging.registry.now _ c.args.staging.now.staged.items c.loop-i.staging.staged.items c.loop-i.i c.loop-i.staging.committed i.staged i.counted c.requires.under_way.distinct (omega arith) (i.under_way.reserved c.loop-i.staging.committed (omega (arith, ap (length {A = Staged}) i.staged, i.counted))) (c.requires.under_way.reserved c.loop-i.i (omega arith)).reserved.key (record { world = i.world; done = i.done }) c.in-Ok.ensures.put c.in-Ok.ensures.kept c.in-Ok.ensures.before in
     record {
+      under_way = c.commit_next.ensures.under_way;
       same_reference = c.commit_next.ensures.same_reference ∙ i.same_reference;
       staged = c.commit_next.ensures.staged ∙ i.staged;
       counted = c.in-Ok.ensures.committed ∙ ap (λ n. n + 1) i.counted;
       world = after.world;
-      pending = after.pending;
       done = after.done;
       called = subst (λ cs. AreCalled cs (map object_after_release c.args.staging.now.registry.now) (map object_after_release c.commit_next.new.self.registry.now))
           (ap (λ (z : Staged). map (commit_at false) (take c.loop-i.i c.args.staging.now.staged.items) ++ commit_at false z ∷ []) (entry_is c.args.staging.now.staged.items c.loop-i.staging.staged.items c.loop-i.i c.loop-i.staging.committed i.staged i.counted) ∙ sym (commits_more c.args.staging.now.staged.items c.loop-i.i (omega arith)))

@@ -1,39 +1,30 @@
 use Rattle.std.proofs.Common.{◌∙◌, ◌-◌, ap, sym, subst, refl, arith, length, ◌∷◌, slice_index_or}
+use Rattle.rstp_settings.specs.declared.key.Key.{Key}
 use Rattle.setting_keys.specs.declared.SettingKey.{SettingKey}
-use Rattle.setphase_core.specs.Settings.{setting}
-use Rattle.setphase_core.specs.Staging.{entry_at, no_entry}
-use Rattle.setphase_core.proofs.Undoes.{Undoes, undo_start, undo_step, undo_failed, last_stands}
+use Rattle.setphase_core.specs.Settings.{bridge_keys}
+use Rattle.setphase_core.specs.Staging.{no_entry}
+use Rattle.setphase_core.proofs.Undoes.{Undoes, undo_start, undo_step, undo_failed}
 use Rattle.setphase_core.proofs.committing.undo_all.Goals as goal
 
 pub loop-staging-init : goal.loop-staging-init
 loop-staging-init g c = record {
+  under_way = c.requires;
   same_reference = refl;
   staged = refl;
-  counted = omega (arith, ap (length {A = SettingKey}) c.new-stuck.ensures);
-  undoes = subst (λ keys. Undoes c.args.world.now c.args.staging.now.registry.now c.args.staging.now.staged.items c.args.staging.now.committed c.args.world.now c.args.staging.now.registry.now c.args.staging.now.committed keys) (sym c.new-stuck.ensures) (undo_start c.args.world.now c.args.staging.now.registry.now c.args.staging.now.staged.items c.args.staging.now.committed);
+  counted = omega (arith, ap (length {A = Key}) c.new-stuck.ensures);
+  undoes = subst (λ keys. Undoes c.args.world.now c.args.staging.now.registry.now c.args.staging.now.staged.items c.args.staging.now.committed c.args.world.now c.args.staging.now.registry.now c.args.staging.now.committed keys) (sym (ap bridge_keys c.new-stuck.ensures)) (undo_start c.args.world.now c.args.staging.now.registry.now c.args.staging.now.staged.items c.args.staging.now.committed);
 }
-
-pub undo_last-requires-clause-within : goal.undo_last-requires-clause-within
-undo_last-requires-clause-within g c =
-    let i = c.loop-staging.invariant in
-    (last_stands c.requires.committed.0 c.loop-staging.world c.loop-staging.staging.registry.now c.args.staging.now.staged.items c.loop-staging.staging.staged.items c.loop-staging.staging.committed i.staged (omega arith) (i.undoes.stands c.requires.committed.0 c.requires.committed.1)).within
-
-pub undo_last-requires-clause-committed : goal.undo_last-requires-clause-committed
-undo_last-requires-clause-committed g c =
-    let i = c.loop-staging.invariant in (
-      setting c.requires.committed.0 (entry_at c.loop-staging.staging.staged.items (c.loop-staging.staging.committed - 1)).slot.key,
-      (last_stands c.requires.committed.0 c.loop-staging.world c.loop-staging.staging.registry.now c.args.staging.now.staged.items c.loop-staging.staging.staged.items c.loop-staging.staging.committed i.staged (omega arith) (i.undoes.stands c.requires.committed.0 c.requires.committed.1)).committed,
-    )
 
 pub loop-staging-preserved : goal.loop-staging-preserved
 loop-staging-preserved g c =
     let i = c.loop-staging.invariant in
     record {
+      under_way = c.undo_last.ensures.under_way;
       same_reference = c.undo_last.ensures.same_reference ∙ i.same_reference;
       staged = c.undo_last.ensures.staged ∙ i.staged;
       counted = omega (arith, c.undo_last.ensures.committed, i.counted);
-      undoes = undo_step c.args.world.now c.loop-staging.world _ c.args.staging.now.registry.now c.loop-staging.staging.registry.now _ c.args.staging.now.staged.items c.loop-staging.staging.staged.items c.args.staging.now.committed c.loop-staging.staging.committed c.undo_last.new.self.committed c.loop-staging.stuck i.staged c.requires.distinct c.requires.counted (omega arith) c.undo_last.ensures.committed i.undoes
-          (last_stands c.requires.committed.0 c.loop-staging.world c.loop-staging.staging.registry.now c.args.staging.now.staged.items c.loop-staging.staging.staged.items c.loop-staging.staging.committed i.staged (omega arith) (i.undoes.stands c.requires.committed.0 c.requires.committed.1)).within
+      undoes = undo_step c.args.world.now c.loop-staging.world _ c.args.staging.now.registry.now c.loop-staging.staging.registry.now _ c.args.staging.now.staged.items c.loop-staging.staging.staged.items c.args.staging.now.committed c.loop-staging.staging.committed c.undo_last.new.self.committed (bridge_keys c.loop-staging.stuck) i.staged c.requires.distinct c.requires.counted (omega (arith, i.counted)) c.undo_last.ensures.committed i.undoes
+          (i.under_way.undoable (c.loop-staging.staging.committed - 1) (omega arith)).within
           c.in-Ok.ensures.kept c.in-Ok.ensures.passes c.in-Ok.ensures.put;
     }
 
@@ -41,14 +32,15 @@ pub loop-staging-preserved-in_default : goal.loop-staging-preserved-in_default
 loop-staging-preserved-in_default g c =
     let i = c.loop-staging.invariant in
     let key : SettingKey = (slice_index_or c.as_slice.result.now (c.loop-staging.staging.committed - 1) no_entry).slot.key in
-    let after : Undoes c.args.world.now c.args.staging.now.registry.now c.args.staging.now.staged.items c.args.staging.now.committed c.undo_last.new.world c.undo_last.new.self.registry.now c.undo_last.new.self.committed (key ∷ c.loop-staging.stuck)
-    = undo_failed c.args.world.now c.loop-staging.world _ c.args.staging.now.registry.now c.loop-staging.staging.registry.now _ c.args.staging.now.staged.items c.loop-staging.staging.staged.items c.args.staging.now.committed c.loop-staging.staging.committed c.undo_last.new.self.committed c.loop-staging.stuck i.staged c.requires.distinct c.requires.counted (omega arith) c.undo_last.ensures.committed i.undoes
+    let after : Undoes c.args.world.now c.args.staging.now.registry.now c.args.staging.now.staged.items c.args.staging.now.committed c.undo_last.new.world c.undo_last.new.self.registry.now c.undo_last.new.self.committed (key ∷ bridge_keys c.loop-staging.stuck)
+    = undo_failed c.args.world.now c.loop-staging.world _ c.args.staging.now.registry.now c.loop-staging.staging.registry.now _ c.args.staging.now.staged.items c.loop-staging.staging.staged.items c.args.staging.now.committed c.loop-staging.staging.committed c.undo_last.new.self.committed (bridge_keys c.loop-staging.stuck) i.staged c.requires.distinct c.requires.counted (omega (arith, i.counted)) c.undo_last.ensures.committed i.undoes
     key (ap (λ xs. (slice_index_or xs (c.loop-staging.staging.committed - 1) no_entry).slot.key) c.as_slice.ensures.value)
-    (last_stands c.requires.committed.0 c.loop-staging.world c.loop-staging.staging.registry.now c.args.staging.now.staged.items c.loop-staging.staging.staged.items c.loop-staging.staging.committed i.staged (omega arith) (i.undoes.stands c.requires.committed.0 c.requires.committed.1)).within
+    (i.under_way.undoable (c.loop-staging.staging.committed - 1) (omega arith)).within
     c.in_default.ensures.unchanged c.in_default.ensures.failed c.in_default.ensures.fails in
     record {
+      under_way = c.undo_last.ensures.under_way;
       same_reference = c.undo_last.ensures.same_reference ∙ i.same_reference;
       staged = c.undo_last.ensures.staged ∙ i.staged;
-      counted = omega (arith, c.undo_last.ensures.committed, i.counted, ap (length {A = SettingKey}) c.put_first.ensures);
-      undoes = subst (λ ks. Undoes c.args.world.now c.args.staging.now.registry.now c.args.staging.now.staged.items c.args.staging.now.committed c.undo_last.new.world c.undo_last.new.self.registry.now c.undo_last.new.self.committed ks) (sym c.put_first.ensures) after;
+      counted = omega (arith, c.undo_last.ensures.committed, i.counted, c.put_line.ensures.count);
+      undoes = subst (λ ks. Undoes c.args.world.now c.args.staging.now.registry.now c.args.staging.now.staged.items c.args.staging.now.committed c.undo_last.new.world c.undo_last.new.self.registry.now c.undo_last.new.self.committed ks) (sym c.put_line.ensures.keys) after;
     }

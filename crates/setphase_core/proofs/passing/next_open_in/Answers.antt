@@ -1,4 +1,4 @@
-use Rattle.std.proofs.Common.{◌≡◌, ◌≤◌, ◌+◌, List, [], ◌∷◌, Bool, ℕ, Option, IfSome, true, false, map, drop, length, sym, ap, subst, ◌∙◌, arith}
+use Rattle.std.proofs.Common.{◌≡◌, ◌≤◌, ◌+◌, List, ◌∷◌, Bool, ℕ, Option, IfSome, false, map, drop, length, sym, ap, subst, ◌∙◌, arith}
 use Rattle.std.proofs.lemmas.Bool.{false≢true}
 use Rattle.oid_core.specs.declared.limits.TheConstants.{INLINE_NUMBERS}
 use Rattle.message_core.specs.declared.binding.Binding.{Binding}

@@ -1,4 +1,4 @@
-use Rattle.std.proofs.Common.{◌∙◌, refl, sym, ap, subst, arith, add-one, cond, length, map, [], ◌∷◌, Some, None, ◌+◌, ℕ}
+use Rattle.std.proofs.Common.{◌∙◌, refl, sym, ap, subst, arith, add-one, cond, map, [], ◌∷◌, Some, None, ◌+◌, ℕ}
 use Rattle.setphase_core.specs.Objects.{object_after_release}
 use Rattle.setphase_core.specs.Registry.{rows_of}
 use Rattle.setphase_core.specs.Together.{is_timer}
@@ -9,10 +9,10 @@ use Rattle.setphase_core.proofs.sets.stage_all.Goals as goal
 
 pub loop-i-init : goal.loop-i-init
 loop-i-init g c = record {
+  under_way = c.requires.under_way;
   same_reference = refl;
   committed = refl;
   tested = c.requires.tested;
-  counted = omega (arith, ap length c.requires.staged, c.requires.tested);
   released = refl;
   stages = subst (λ es. Stages (rows_of c.args.staging.now.registry.now) c.args.world.now c.args.view.now c.args.bindings.now c.args.staging.now.registry.now es None None 0) (sym c.requires.staged)
       (stages_begin c.args.world.now c.args.view.now c.args.bindings.now c.args.staging.now.registry.now c.requires.fresh);
@@ -34,10 +34,10 @@ loop-i-preserved g c =
     let after = stage_step (rows_of c.args.staging.now.registry.now) c.args.world.now c.args.view.now c.args.bindings.now c.loop-i.staging.registry.now c.stage.new.self.registry.now c.loop-i.staging.staged.items c.stage.new.self.staged.items c.loop-i.joint.contradiction c.loop-i.joint.timer c.loop-i.i c.index-bindings-i.result c.in-Ok.variable
     (omega (arith, c.ports-ports.ensures.count, c.ports-ports.ensures.set)) c.loop-i-test.true i.stages passed in
     record {
+      under_way = c.stage.ensures.under_way;
       same_reference = c.stage.ensures.same_reference ∙ i.same_reference;
       committed = c.stage.ensures.committed ∙ i.committed;
       tested = c.in-Ok.ensures.tested ∙ ap (λ n. n + 1) i.tested;
-      counted = c.in-Ok.ensures.counted;
       released = ap (map object_after_release) passed.at.reserved ∙ reserved-released c.loop-i.staging.registry.now passed.place passed.slot ∙ i.released;
       stages =
           subst (λ k. Stages (rows_of c.args.staging.now.registry.now) c.args.world.now c.args.view.now c.args.bindings.now c.stage.new.self.registry.now c.stage.new.self.staged.items k c.noted-joint.result.timer (c.loop-i.i + 1)) (sym c.noted-joint.ensures.contradiction)

@@ -1,0 +1,97 @@
+-- Whether the settings of two worlds are the same.
+use Rattle.std.proofs.Common.{◌≡◌, ◌≢◌, ◌∙◌, ℕ, zero, suc, ◌<◌, ◌+◌, Bool, true, false, not, cond, List, [], ◌∷◌, length, take, Some, ap, sym, refl, arith}
+use Rattle.std.specs.Bool.{Decides}
+use Rattle.std.specs.Cmp.Lexicographic.{pointwise}
+use Rattle.std.proofs.lemmas.Bool.Decides.{Decides-and, Decides-like}
+use Rattle.std.proofs.lemmas.Slice.Eq.{slice_eq-Decides}
+use Rattle.rstp_settings.specs.Table.{Table, get}
+use Rattle.rstp_settings.proofs.Same.{same_port-Decides, same_bridge-Decides}
+use Rattle.setting_keys.specs.declared.SettingKey.{SettingKey}
+use Rattle.setting_keys.specs.declared.SettingKey.TheVariants.{Bridge}
+use Rattle.setting_keys.specs.declared.SettingValue.TheVariants.{Number}
+use Rattle.setphase_core.specs.declared.staging.Staged.{Staged}
+use Rattle.setphase_core.specs.declared.world.World.{World}
+use Rattle.setphase_core.specs.Outcomes.{writers_of}
+use Rattle.setphase_core.specs.Settings.{setting, put, same_settings, same_port_values, same_settings_of}
+use Rattle.setphase_core.specs.Staging.{entry_at, assignment_of_entry, assignments_of, IsDistinct, IsLegal, AreLegal}
+use Rattle.setphase_core.specs.Tested.{value_among}
+use Rattle.setphase_core.specs.Together.{assign}
+use Rattle.setphase_core.specs.Variables.{Written}
+use Rattle.setphase_core.proofs.Assigns.{different, distinct_below, assign_more}
+use Rattle.setphase_core.proofs.Firsts.{same_itself}
+use Rattle.setphase_core.proofs.Puts.{put-again}
+use Rattle.setphase_core.proofs.Timers.{given_value}
+
+pub same_settings-Decides : (t u : Table) → Decides (same_settings t u) (t ≡ u)
+same_settings-Decides t u =
+    Decides-like _ (λ h i. record { bridge = h.0 i; ports = h.1 i }) (λ e. (ap (λ (x : Table). x.bridge) e, ap (λ (x : Table). x.ports) e))
+    (Decides-and _ _ (same_bridge-Decides t.bridge u.bridge) (slice_eq-Decides {E = same_port_values} same_port-Decides t.ports u.ports (pointwise same_port_values t.ports u.ports) refl))
+
+-- A world and itself.
+pub same_itself_of : (w v : World) → v ≡ w → false ≡ not (same_settings_of w v)
+same_itself_of w v e =
+    ap not (sym ((same_settings-Decides w.bridge.settings v.bridge.settings).1 (ap (λ (x : World). x.bridge.settings) (sym e))))
+
+same_each : (w v : World) (k : SettingKey) → same_settings_of w v ≡ true → setting w k ≡ setting v k
+same_each w v (Bridge k) e =
+    ap (λ (t : Table). Number (get t k)) ((same_settings-Decides w.bridge.settings v.bridge.settings).0 e)
+
+-- A setting that has another value in the other world.
+pub other_of : (w v : World) (k : SettingKey) → setting w k ≢ setting v k → true ≡ not (same_settings_of w v)
+other_of w v k ne = by_same (same_settings_of w v) refl
+  where
+    by_same : (b : Bool) → same_settings_of w v ≡ b → true ≡ not b
+    by_same true e = absurd (ne (same_each w v k e))
+    by_same false e = refl
+
+-- ---- what is staged
+
+pub legal_at : (es : List Staged) (w : World) (k : ℕ) → AreLegal w (assignments_of es) → k < length es →
+    IsLegal w (assignment_of_entry (entry_at es k))
+legal_at [] w k all h = absurd (omega arith)
+legal_at (e ∷ es) w zero all h = all.0
+legal_at (e ∷ es) w (suc k) all h = legal_at es w k all.1 (omega arith)
+
+value_at : (es : List Staged) (k : ℕ) → IsDistinct (assignments_of es) → k < length es →
+    value_among (assignments_of es) (entry_at es k).slot.key ≡ Some (entry_at es k).slot.value
+value_at [] k distinct h = absurd (omega arith)
+value_at (e ∷ es) zero distinct h = ap (λ (b : Bool). cond b (Some e.slot.value) (value_among (assignments_of es) e.slot.key)) (same_itself e.slot.key)
+value_at (e ∷ es) (suc k) distinct h =
+    ap (λ (b : Bool). cond b (Some e.slot.value) (value_among (assignments_of es) (entry_at es k).slot.key))
+    (different e.slot.key (entry_at es k).slot.key (λ q. distinct_below (e ∷ es) 0 (suc k) distinct (omega arith) h (sym q)))
+    ∙ value_at es k distinct.1 (omega arith)
+
+-- One that gives its setting another value than it has.
+pub other_staged : (es : List Staged) (w : World) (k : ℕ) → IsDistinct (assignments_of es) →
+    AreLegal w (assignments_of es) → k < length es →
+    setting w (entry_at es k).slot.key ≢ (entry_at es k).slot.value →
+    true ≡ not (same_settings_of w (assign (assignments_of es) w))
+other_staged es w k distinct legal h ne =
+    other_of w (assign (assignments_of es) w) (entry_at es k).slot.key
+    (λ e. ne (e ∙ sym (given_value (assignments_of es) w (entry_at es k).slot.key (entry_at es k).slot.value distinct legal (legal_at es w k legal h).key (value_at es k distinct h))))
+
+-- One more that gives its setting the value that it has.
+pub same_staged : (es : List Staged) (w : World) (k : ℕ) → AreLegal w (assignments_of es) → k < length es →
+    setting w (entry_at es k).slot.key ≡ (entry_at es k).slot.value →
+    w ≡ assign (take k (assignments_of es)) w → w ≡ assign (take (k + 1) (assignments_of es)) w
+same_staged es w k legal h same before =
+    sym (ap (put w (entry_at es k).slot.key) (sym same) ∙ put-again w (entry_at es k).slot.key (legal_at es w k legal h).key)
+    ∙ assign_more w w es k h before
+
+taken_all : (es : List Staged) (n : ℕ) → length es ≡ n → take n (assignments_of es) ≡ assignments_of es
+taken_all [] zero e = refl
+taken_all [] (suc n) e = absurd (omega (arith, e))
+taken_all (e ∷ es) zero f = absurd (omega (arith, f))
+taken_all (e ∷ es) (suc n) f = ap (λ xs. assignment_of_entry e ∷ xs) (taken_all es n (omega (arith, f)))
+
+pub none_staged : (es : List Staged) (w : World) (n : ℕ) → length es ≡ n →
+    w ≡ assign (take n (assignments_of es)) w →
+    false ≡ not (same_settings_of w (assign (assignments_of es) w))
+none_staged es w n all same =
+    same_itself_of w (assign (assignments_of es) w) (sym (same ∙ ap (λ ps. assign ps w) (taken_all es n all)))
+
+-- ---- what could not be undone
+
+pub writers_none : (ws : List Written) → writers_of [] ws ≡ []
+writers_none [] = refl
+writers_none (x ∷ ws) = writers_none ws
