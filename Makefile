@@ -1,15 +1,17 @@
-.PHONY: run test bench growths udp-session wrong-bodies
+.PHONY: run test bench growths scripts udp-session wrong-bodies
 
 # Answers some worked lines. It compiles and runs, and proves nothing.
 run:
 	cd crates/agentd && rt try < stdin
 
 # Proves every crate, but for what an earlier run on this machine proved and kept, tries the must-fail edits, runs the tests
-# and the programs; then serves the agent so built over UDP, which the manager and, where it is there, Net-SNMP ask. As many
-# checks run at a time as there are processors, each in one job, since a check in two takes some half more processor time
+# and the programs; then runs the agent so built over the stored scripts and over a random one, and serves it over UDP, where the
+# manager and, if it is there, Net-SNMP ask it. As many checks run at a time as there are processors, each in one job, since a check in two takes some half more processor time
 # (docs/PROOFS.md, Times). rt then looks at no free memory: have some 4 GB for each processor, or give a smaller RT_JOBS.
 test:
 	RT_JOBS=$${RT_JOBS:-$$(nproc)} rt ci
+	tools/stored-scripts
+	tools/random-script
 	tools/udp-session
 
 # Tries further wrong bodies, which the gate leaves out: of all crates, or of CRATES="NAME ..".
@@ -22,7 +24,13 @@ growths:
 	cd crates/manager && (rt run 2> /dev/null || test $$? -eq 2)
 	tools/refused-growths
 
-# Builds the same programs, proved, and the last of these alone.
+# Builds agentd, proved, and runs it over the stored scripts and a random one alone.
+scripts:
+	cd crates/agentd && rt run < stdin > /dev/null
+	tools/stored-scripts
+	tools/random-script
+
+# Builds both programs, proved, and serves over UDP alone.
 udp-session:
 	cd crates/agentd && rt run < stdin > /dev/null
 	cd crates/manager && (rt run 2> /dev/null || test $$? -eq 2)

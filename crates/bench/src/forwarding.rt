@@ -1,10 +1,9 @@
-//! Frames through a bridge, and its seconds, by 2 and 32 ports, among 10 and 1,024 addresses.
+//! Frames through a bridge, by 2 and 32 ports, among 10 and 1,024 addresses.
 use crate::print::print_turns;
 use crate::statics::measure_statics;
 use bridge_core::Bridge;
-use fdb_core::MAX_AGING_TIME;
 use frame_core::{FrameIn, Mac};
-use rstp_core::{BridgeKey, IfIndex, Key, PortConfig, PortKey};
+use rstp_core::{IfIndex, Key, PortConfig, PortKey};
 use std::alloc::Global;
 use std::hint::black_box;
 use std::io;
@@ -14,14 +13,11 @@ use std::time::Instant;
 /// How many frames go through.
 pub const FRAMES: u32 = 200_000;
 
-/// How many seconds pass in which no learned row is old enough to go.
-const SECONDS: u32 = 20_000;
-
 /// How many ports the bridges have.
-pub const PORTS: [u16; 2] = [2, 32];
+const PORTS: [u16; 2] = [2, 32];
 
 /// How many addresses they have learned.
-pub const ROWS: [u32; 2] = [10, 1_024];
+const ROWS: [u32; 2] = [10, 1_024];
 
 const OWN: Mac = Mac([0x02, 0x00, 0x00, 0x00, 0x00, 0x0A]);
 
@@ -99,18 +95,6 @@ fn measure_bridge(rt: &HostRuntime, bridge: &mut Bridge, rows: u32) -> io::Resul
     print_turns(rt, "frames to everybody", FRAMES, &start)
 }
 
-// Lets seconds pass, in each of which the learned rows grow older and the spanning tree ticks.
-fn measure_quiet_seconds(rt: &HostRuntime, bridge: &mut Bridge) -> io::Result<()> {
-    bridge.put_setting(Key::Bridge(BridgeKey::Aging), MAX_AGING_TIME);
-    black_box(bridge.settle());
-    let start = Instant::now(rt)?;
-    for _ in 0..SECONDS {
-        black_box(bridge.tick());
-    }
-    print_turns(rt, "seconds in which none goes", SECONDS, &start)?;
-    println!(rt; "{} are left", bridge.fdb().len())
-}
-
 /// A bridge of so many ports, at most 32.
 pub fn bridge_of(alloc: Global, ports: u16) -> io::Result<Bridge> {
     let list = [port(); 32];
@@ -121,8 +105,7 @@ pub fn bridge_of(alloc: Global, ports: u16) -> io::Result<Bridge> {
     }
 }
 
-/// Sends frames through bridges of 2 and 32 ports with 10 and 1,024 learned rows, and lets seconds
-/// pass; and then through one with static rows.
+/// Sends frames through bridges of 2 and 32 ports with 10 and 1,024 learned rows.
 pub fn measure_forwarding(rt: &HostRuntime) -> io::Result<()> {
     for ports in PORTS {
         for rows in ROWS {
@@ -130,7 +113,6 @@ pub fn measure_forwarding(rt: &HostRuntime) -> io::Result<()> {
             let mut bridge = bridge_of(rt.alloc(), ports)?;
             prepare(&mut bridge, ports, rows);
             measure_bridge(rt, &mut bridge, rows)?;
-            measure_quiet_seconds(rt, &mut bridge)?;
         }
     }
     measure_statics(rt)

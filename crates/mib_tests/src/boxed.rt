@@ -1,10 +1,10 @@
 //! The 51 objects as boxed ones: a registry takes them in the order of their names, and hands each
 //! of them back where it refuses them.
-use crate::walks::say_numbers;
 use bridge_mib::Steady;
 use object_list::{COLUMNS, Object};
 use setphase_core::{Column, MibObject, Registry, RegistryFault, are_named};
 use std::alloc::Global;
+use std::io::Write;
 use std::test::Fail;
 
 /// The objects' names behind dot1dBridge (RFC 4188, RFC 4318).
@@ -61,6 +61,17 @@ pub const NAMES: [&str; 51] = [
     "4.4.1.4",
     "4.4.1.5",
 ];
+
+/// Appends numbers, each behind a dot but the first.
+pub fn say_numbers(numbers: &[u32], text: &mut Vec<u8>) -> Result<(), Fail> {
+    for (place, number) in numbers.iter().enumerate() {
+        if place > 0 {
+            text.push(b'.')?;
+        }
+        write!(text, "{number}")?;
+    }
+    Ok(())
+}
 
 type AnyObject = Box<dyn MibObject + Send>;
 

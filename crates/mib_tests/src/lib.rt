@@ -1,6 +1,6 @@
-//! Tests of the 51 objects of a bridge: what a walk over all of them shows, what a registry makes
-//! of them as boxed ones, in how many comparisons it finds the object of a name, what each of them
-//! reserves for a Set, and Sets of one of them whose device fails.
+//! Tests of the 51 objects of a bridge: what a registry makes of them as boxed ones, in how many
+//! comparisons it finds the object of a name, what each of them reserves for a Set, and Sets of one
+//! of them whose device fails.
 //!
 //! # Entry points
 //! None: the tests call what `object_list` and `setphase_core` offer.
@@ -12,23 +12,16 @@
 //! None.
 //!
 //! # Not claimed
-//! Anything but what each test compares. The lists were made by an account of the profile and of
-//! the objects that shares nothing with the crates.
+//! Anything but what each test compares.
 #![tactic(auto)]
 
 #[cfg(test)]
 mod boxed;
-#[cfg(test)]
-mod in_use;
-#[cfg(test)]
-mod opening;
 #[cfg(test)]
 mod owners;
 #[cfg(test)]
 mod places;
 #[cfg(test)]
 mod sets;
-#[cfg(test)]
-mod walks;
 #[cfg(test)]
 mod worlds;

@@ -3,8 +3,7 @@ ghost use Rattle.std.specs.Prelude.{◌≡◌, ◌+◌, ◌<◌, ◌≤◌, IfOk
 ghost use Rattle.setphase_core.specs.Registry.{rows_of};
 ghost use Rattle.setphase_core.specs.Names.{bridge_rows};
 
-use crate::boxed::NAMES;
-use crate::walks::say_numbers;
+use crate::boxed::{NAMES, say_numbers};
 use bridge_mib::Steady;
 use object_list::{Object, objects};
 use setphase_core::laws::{an_object_takes_a_comparison, objects_are_accepted};

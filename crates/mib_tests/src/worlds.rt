@@ -1,11 +1,10 @@
-//! Worlds made by hand, and what happens to them.
+//! Worlds made by hand.
 ghost use Rattle.std.specs.Prelude.{◌≤◌};
-ghost use Rattle.rstp_settings.specs.Values.{IsBridgeRange, IsPortRange};
 
 use bridge_core::Bridge;
-use frame_core::{Mac, read_frame};
+use frame_core::Mac;
 use policy_text::policy_in;
-use rstp_core::{BridgeKey, IfIndex, Key, PortConfig, PortKey};
+use rstp_core::{IfIndex, PortConfig};
 use setphase_core::World;
 use std::alloc::Global;
 use std::test::Fail;
@@ -44,11 +43,6 @@ pub fn world_of(alloc: Global, ports: &[PortConfig]) -> Result<World, Fail> {
     world_under(alloc, ports, NO_POLICY)
 }
 
-/// The same of two ports of 1 Gb/s.
-pub fn two_ports(alloc: Global) -> Result<World, Fail> {
-    world_of(alloc, &[port(1, 1_000, true), port(2, 1_000, true)])
-}
-
 /// The same of these ports under a policy of one view, `all`, in which all of the bridge is.
 pub fn seen_world_of(alloc: Global, ports: &[PortConfig]) -> Result<World, Fail> {
     world_under(alloc, ports, ALL_SEEN)
@@ -64,44 +58,4 @@ fn world_under(alloc: Global, ports: &[PortConfig], policy: &str) -> Result<Worl
         bad_communities: 0,
         unknown_contexts: 0,
     })
-}
-
-/// Gives a setting of the bridge a value.
-pub fn put(world: &mut World, key: BridgeKey, value: u32)
-    requires { IsBridgeRange key value }
-{
-    let _before = world.bridge.put_setting(Key::Bridge(key), value);
-}
-
-/// Gives a setting of a port a value, where there is that port.
-pub fn put_at(world: &mut World, port: u16, key: PortKey, value: u32)
-    requires { IsPortRange key value }
-{
-    if port >= 1 && usize::from(port) <= world.bridge.ports() {
-        let _before = world.bridge.put_setting(Key::Port(port, key), value);
-    }
-}
-
-/// The link of a port goes up, where there is that port.
-pub fn raise(world: &mut World, port: u16) {
-    if port >= 1 && usize::from(port) <= world.bridge.ports() {
-        let _sent = world.bridge.link(port, true);
-    }
-}
-
-/// A frame comes in by a port.
-pub fn hear(world: &mut World, port: u16, octets: &[u8]) -> Result<(), Fail> {
-    if port < 1 || usize::from(port) > world.bridge.ports() {
-        return Err(Fail::from("a port"));
-    }
-    let frame = read_frame(octets).ok().ok_or("a frame")?;
-    let _sent = world.bridge.frame(port, &frame);
-    Ok(())
-}
-
-/// So many seconds pass.
-pub fn pass(world: &mut World, seconds: u32) {
-    for _ in 0..seconds {
-        let _sent = world.bridge.tick();
-    }
 }

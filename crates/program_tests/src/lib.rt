@@ -1,5 +1,5 @@
-//! Tests of the agent's program by its words: scripts, checks of configurations, what is to be
-//! served, and what is told of failures.
+//! Tests of the agent's program by its words, over streams, files and objects in memory: what is to
+//! be served, and what is told of failures.
 //!
 //! # Entry points
 //! None: the tests call what `agent_program` offers.
@@ -18,8 +18,6 @@
 mod asked;
 #[cfg(test)]
 mod runs;
-#[cfg(test)]
-mod serving;
 #[cfg(test)]
 mod support;
 #[cfg(test)]

@@ -1,12 +1,7 @@
-//! Runs of the script by a configuration, and checks of one.
-use crate::serving::{SETUP, SETUPS};
-use crate::support::{
-    Case, FILE, Full, GET, Idle, Names, REFUSED, REPLY, SILENT, assert_runs, ran_over, ran_with,
-    words_of,
-};
+//! Runs over streams that fail, files that are given, and objects that are handed in.
+use crate::support::{Full, GET, Idle, Names, REFUSED, REPLY, ran_over, ran_with, words_of};
 use agent_program::{Failure, NotRead, SystemFiles, check_read, run_words};
 use bridge_mib::Planned;
-use configuration::BUILT_IN;
 use object_list::{Object, objects};
 use setphase_core::{Base, Column};
 use std::alloc::{AllocGlobal, Global};
@@ -80,277 +75,52 @@ fn fails_with_its_input_or_its_output(rt: HostRuntime) -> Result<(), Fail> {
     Ok(())
 }
 
-/// Another community, view, address and port than the built-in configuration has.
-const OTHER: &str = "address = \"02AABBCCDDEE\"
-contexts = []
-[[port]]
-ifindex = 7
-speed = 1000
-full = true
-[[community]]
-index = \"s\"
-name = \"sesame\"
-security = \"gate\"
-context = \"\"
-[[group]]
-model = 2
-name = \"gate\"
-group = \"visitors\"
-[[access]]
-group = \"visitors\"
-prefix = \"\"
-model = 2
-level = 1
-exact = true
-read = \"part\"
-write = \"\"
-notify = \"\"
-[[family]]
-view = \"part\"
-subtree = \"1.3.6.1.2.1.17\"
-mask = \"\"
-included = true
-[[family]]
-view = \"part\"
-subtree = \"1.3.6.1.2.1.17.1.2\"
-mask = \"\"
-included = false
-";
-
-/// Asks as `public` and as `sesame` for 1.3.6.1.2.1.17.1.2.0, and lets two links go up.
-const OTHER_SCRIPT: &[u8] =
-    b"request 302702010104067075626C6963A01A020101020100020100300F300D06092B06010201110102000500
-audit on
-request 30270201010406736573616D65A01A020101020100020100300F300D06092B06010201110102000500
-link 1 up
-link 2 up
-";
-
-/// What is said to it.
-const OTHER_TEXT: &[u8] = b"drop UnknownCommunity
-reply 30270201010406736573616D65A21A020101020100020100300F300D06092B06010201110102008000
-audit get 0 0 ok access(visitors,,2,1) view part denied 1 family(part,1.3.6.1.2.1.17.1.2)
-bpdu 1 0180C200000002AABBCCDDEE0027424203000002020E800002AABBCCDDEE00000000800002AABBCCDDEE80010000140002000F000000000000000000
-badline
-";
-
-/// What is told of a group address.
-const TOLD: &[u8] =
-    b"top level: address is to be a string of 12 hexadecimal digits, and no group address: \
-      its first octet is even\n";
-
 /// What is told where there is no memory for the configuration.
 const NO_MEMORY: &[u8] =
     b"there was no memory to read the configuration; whether it is right is not known\n";
 
-/// What is told of a configuration that is right.
-const RIGHT: &[u8] = b"configuration ok\n";
+/// A file to serve by.
+const SETUP: &str = "address = \"02AABBCCDDEE\"
+contexts = []
+community = []
+group = []
+access = []
+family = []
+[serve]
+snmp = \"127.0.0.1:16161\"
+workers = 3
+rounds = 40
+[[port]]
+ifindex = 7
+speed = 1000
+full = true
+listen = \"127.0.0.1:20007\"
+peer = \"127.0.0.1:20008\"
+";
 
-// A script by a file, and a check of one.
-const SCRIPT: Case<'static> = Case {
-    words: &["agentd", "script", "--config", FILE],
-    ..SILENT
-};
-
-const CHECK: Case<'static> = Case {
-    words: &["agentd", "check", "--config", FILE],
-    ..SILENT
-};
-
-// A script by a file that is no configuration.
-const REFUSES: Case<'static> = Case {
-    status: 2,
-    errors: REFUSED,
-    ..SCRIPT
-};
-
-const VERSION: Case<'static> = Case {
-    out: b"agentd 0.1\n",
-    ..SILENT
-};
-
-const RUNS: &[Case<'static>] = &[
-    Case {
-        what: "a script by no file",
-        out: REPLY,
-        ..SILENT
-    },
-    Case {
-        what: "a script by the built-in configuration",
-        parts: &[BUILT_IN],
-        out: REPLY,
-        ..SCRIPT
-    },
-    // The policy, the address and the ports are the file's.
-    Case {
-        what: "a script by another",
-        parts: &[OTHER],
-        script: OTHER_SCRIPT,
-        out: OTHER_TEXT,
-        ..SCRIPT
-    },
-    Case {
-        what: "a script by a file in one word",
-        words: &["agentd", "script", "--config=given.toml"],
-        parts: &[OTHER],
-        script: OTHER_SCRIPT,
-        out: OTHER_TEXT,
-        ..SILENT
-    },
-    Case {
-        what: "the ports of the configuration",
-        parts: &[
-            BUILT_IN,
-            "[[port]]\nifindex = 3\nspeed = 10\nfull = false\n",
-        ],
-        script: b"frame 3 0200\nframe 4 0200\n",
-        out: b"badframe Short\nbadline\n",
-        ..SCRIPT
-    },
-    Case {
-        what: "no file",
-        words: &["agentd", "script", "--config", "none.toml"],
-        status: 2,
-        errors: b"agentd: cannot read none.toml\n",
-        ..SILENT
-    },
-    Case {
-        what: "an empty file",
-        ..REFUSES
-    },
-    Case {
-        what: "a key of no value",
-        octets: b"address = \n",
-        ..REFUSES
-    },
-    Case {
-        what: "octets that are no text",
-        octets: b"# \xFF\n",
-        ..REFUSES
-    },
-    Case {
-        what: "a group address",
-        octets: b"address = \"01000000000A\"\n",
-        ..REFUSES
-    },
-    Case {
-        what: "a check of a right file",
-        parts: &[BUILT_IN],
-        out: RIGHT,
-        ..CHECK
-    },
-    Case {
-        what: "a check of a file in one word",
-        words: &["agentd", "check", "--config=given.toml"],
-        parts: &[OTHER],
-        out: RIGHT,
-        ..SILENT
-    },
-    Case {
-        what: "a check of a wrong file",
-        octets: b"address = \"01000000000A\"\n",
-        status: 2,
-        out: TOLD,
-        errors: REFUSED,
-        ..CHECK
-    },
-    Case {
-        what: "the version",
-        words: &["agentd", "--version"],
-        ..VERSION
-    },
-    Case {
-        what: "the version in short",
-        words: &["agentd", "-V"],
-        ..VERSION
-    },
-];
-
-#[test]
-fn runs_by_a_file(rt: HostRuntime) -> Result<(), Fail> {
-    assert_runs(&rt, RUNS)?;
-    assert_runs(&rt, SETUPS)
-}
-
-// A text of these parts.
-fn text_of(alloc: Global, parts: &[&str]) -> Result<String, Fail> {
-    let mut text = String::new(alloc);
-    for part in parts {
-        text.push_str(part)?;
-    }
-    Ok(text)
-}
-
-// What a run that ends so writes of its failure.
-fn errors_of(status: u8) -> &'static [u8] {
-    if status == 0 { b"" } else { REFUSED }
-}
-
-// A run over files of which each holds its own name.
-fn assert_given<R: AllocGlobal + Abort>(
-    rt: &R,
-    what: &str,
-    words: &[&str],
-    script: &[u8],
-    status: u8,
-    out: &[u8],
-) -> Result<(), Fail> {
+// These words leave something to be served, over files of which each holds its own name: they
+// write nothing.
+fn assert_serves<R: AllocGlobal + Abort>(rt: &R, what: &str, words: &[&str]) -> Result<(), Fail> {
     let files = Names { alloc: rt.alloc() };
-    let run = ran_over(rt.alloc(), &files, words, script)?;
-    assert_eq!(rt; (run.status, run.out.as_slice()), (status, out), "{what}");
-    assert_eq!(rt; run.errors.as_slice(), errors_of(status), "{what}");
-    Ok(())
-}
-
-// What it is, its words, its script, its status, and what it writes.
-const GIVEN: [(&str, &[&str], &[u8], u8, &[u8]); 3] = [
-    (
-        "a script",
-        &["agentd", "script", "--config", OTHER],
-        OTHER_SCRIPT,
-        0,
-        OTHER_TEXT,
-    ),
-    (
-        "a check of a wrong one",
-        &[
-            "agentd",
-            "check",
-            "--config",
-            "address = \"01000000000A\"\n",
-        ],
-        GET,
-        2,
-        TOLD,
-    ),
-    (
-        "a check",
-        &["agentd", "check", "--config", OTHER],
-        GET,
-        0,
-        RIGHT,
-    ),
-];
-
-#[test]
-fn runs_by_what_is_given_for_a_file(rt: HostRuntime) -> Result<(), Fail> {
-    for (what, words, script, status, out) in GIVEN {
-        assert_given(&rt, what, words, script, status, out)?;
-    }
+    let run = ran_over(rt.alloc(), &files, words, GET)?;
+    assert_eq!(rt;
+        (run.status, run.out.is_empty(), run.errors.is_empty()),
+        (0, true, true),
+        "{what}"
+    );
     Ok(())
 }
 
 #[test]
 fn serves_what_is_given_for_a_file(rt: HostRuntime) -> Result<(), Fail> {
-    let setup = text_of(rt.alloc(), SETUP)?;
-    let setup = setup.as_str();
-    let word = text_of(rt.alloc(), &["--config=", setup])?;
+    let mut word = String::from_str(rt.alloc(), "--config=")?;
+    word.push_str(SETUP)?;
     let one = ["agentd", "serve", word.as_str()];
-    assert_given(&rt, "in one word", &one, GET, 0, b"")?;
-    let first = ["agentd", "serve", "--forever", "--config", setup];
-    assert_given(&rt, "without an end", &first, GET, 0, b"")?;
-    let last = ["agentd", "serve", "--config", setup, "--forever"];
-    assert_given(&rt, "the same word last", &last, GET, 0, b"")
+    assert_serves(&rt, "in one word", &one)?;
+    let first = ["agentd", "serve", "--forever", "--config", SETUP];
+    assert_serves(&rt, "without an end", &first)?;
+    let last = ["agentd", "serve", "--config", SETUP, "--forever"];
+    assert_serves(&rt, "the same word last", &last)
 }
 
 // The objects of these columns, in this order.

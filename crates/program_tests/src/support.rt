@@ -6,11 +6,10 @@ use bridge_mib::Planned;
 use object_list::objects;
 use setphase_core::MibObject;
 use std::alloc::{AllocGlobal, Global};
+use std::io;
 use std::io::{Error, ErrorKind, Write};
-use std::process::Abort;
 use std::rt::Files;
 use std::test::Fail;
-use std::{fs, io};
 
 /// A line that asks for 1.3.6.1.2.1.17.1.2.0.
 pub const GET: &[u8] =
@@ -132,61 +131,4 @@ pub fn ran<R: Files + AllocGlobal>(
     script: &[u8],
 ) -> Result<Finished, Fail> {
     ran_over(rt.alloc(), &SystemFiles(rt), texts, script)
-}
-
-/// The file that a run finds.
-pub const FILE: &str = "given.toml";
-
-/// A run over the files of the system, and what is awaited of it.
-#[derive(Clone, Copy)]
-pub struct Case<'a> {
-    pub what: &'a str,
-    /// Its words, which may name [`FILE`].
-    pub words: &'a [&'a str],
-    /// What stands in that file: these octets, and behind them these parts.
-    pub octets: &'a [u8],
-    pub parts: &'a [&'a str],
-    /// What it reads.
-    pub script: &'a [u8],
-    /// What it ends with and writes.
-    pub status: u8,
-    pub out: &'a [u8],
-    pub errors: &'a [u8],
-}
-
-/// A run of no words over an empty file that asks for one number, and writes nothing.
-pub const SILENT: Case<'static> = Case {
-    what: "",
-    words: &["agentd"],
-    octets: b"",
-    parts: &[],
-    script: GET,
-    status: 0,
-    out: b"",
-    errors: b"",
-};
-
-// The octets of a case's file.
-fn octets_of(alloc: Global, case: &Case) -> Result<Vec<u8>, Fail> {
-    let mut octets = Vec::from_slice(alloc, case.octets)?;
-    for part in case.parts {
-        octets.extend_from_slice(part.as_bytes())?;
-    }
-    Ok(octets)
-}
-
-/// Each run ends and writes as is awaited.
-pub fn assert_runs<R: Files + AllocGlobal + Abort>(rt: &R, cases: &[Case]) -> Result<(), Fail> {
-    for case in cases {
-        fs::write(rt, FILE, octets_of(rt.alloc(), case)?.as_slice())?;
-        let run = ran(rt, case.words, case.script)?;
-        fs::remove_file(rt, FILE)?;
-        let what = case.what;
-        assert_eq!(rt;
-            (run.status, run.out.as_slice(), run.errors.as_slice()),
-            (case.status, case.out, case.errors),
-            "{what}"
-        );
-    }
-    Ok(())
 }
