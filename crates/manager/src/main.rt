@@ -1,11 +1,11 @@
 //! A manager of SNMP version 2c: `manager WORD ADDRESS COMMUNITY REST`.
 //!
 //! # Entry points
-//! `main` hands the words of the command line to `manager_core::run_manager`, over a UDP socket
+//! `main` hands the words of the command line to `manager_words::run_manager`, over a UDP socket
 //! that is bound at the first send.
 //!
 //! # Definitions
-//! None: what the words do stands in `manager_core`.
+//! None: what the words do stands in `manager_words`.
 //!
 //! # Laws
 //! None.
@@ -16,7 +16,8 @@
 
 mod socket;
 
-use manager_core::{FAILED, Failure, ManagerFault, report, run_manager};
+use manager_core::{FAILED, Failure, ManagerFault, report};
+use manager_words::run_manager;
 use socket::LateWire;
 use std::io::ErrorKind;
 use std::process::ExitCode;

@@ -3,4 +3,3 @@ pub mod Asks
 pub mod Walks
 pub mod Lines
 pub mod Runs
-pub mod Words

@@ -1,5 +1,5 @@
 -- What a run of a manager asks and writes.
-use Rattle.std.specs.Prelude.{◌≡◌, ◌≢◌, ℕ, ◌≤◌, ◌⊎◌, codes, List, [], ◌++◌, length, Option, Result, Ok, Err}
+use Rattle.std.specs.Prelude.{◌≡◌, ◌≢◌, ℕ, ◌≤◌, codes, List, [], ◌++◌, length, Option, Result, Ok, Err}
 use Rattle.std.specs.Io.KnownBytes.{Appends}
 use Rattle.std.specs.declared.net.socket_addr.SocketAddr.{SocketAddr}
 use Rattle.oid_core.specs.Name.{HasRoot}
@@ -14,9 +14,7 @@ use Rattle.manager_core.specs.declared.run.Errand.{Errand}
 use Rattle.manager_core.specs.declared.run.Errand.TheVariants.{Ask, Walk}
 use Rattle.manager_core.specs.declared.run.Failure.{Failure}
 use Rattle.manager_core.specs.declared.run.Failure.TheVariants.{Fault, Output}
-use Rattle.manager_core.specs.declared.words.Command.{Command}
-use Rattle.manager_core.specs.declared.program.TheConstants.{USAGE, FAILED}
-use Rattle.manager_core.specs.Words.{IsCommand, TakesMemory}
+use Rattle.manager_core.specs.declared.command.Command.{Command}
 use Rattle.manager_core.specs.Asks.{HasAsked}
 use Rattle.manager_core.specs.Walks.{HasWalked}
 use Rattle.manager_core.specs.Lines.{lines_of, fault_text}
@@ -68,9 +66,3 @@ status_of (Err failure) = 1
 abbrev pub HasRun : {W O : Type 0} → (W → List Act → W → Type 0) → (O → Option (List ℕ)) → Command → W → O → ℕ → W → O → Type 0
 HasRun went contents c a old status b new =
     (end : Result (List Binding) ManagerFault) × (ran : Result (Unit {0}) Failure) × HasFound went c.agent c.errand c.tries a end b × IsRun contents end old ran new × (status ≡ status_of ran)
-
--- The same by the words of a command line: the command that they ask for was done; or they ask for
--- none, or reading them takes memory and there was none, and then nothing was asked or written.
-abbrev pub HasDone : {W O : Type 0} → (W → List Act → W → Type 0) → (O → Option (List ℕ)) → List (List ℕ) → W → O → ℕ → W → O → Type 0
-HasDone went contents words a old status b new =
-    ((c : Command) × IsCommand words c × HasRun went contents c a old status b new) ⊎ ((((status ≡ USAGE) × ((c : Command) → ¬ IsCommand words c)) ⊎ ((status ≡ FAILED) × TakesMemory words)) × (b ≡ a) × (new ≡ old))

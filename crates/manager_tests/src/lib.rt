@@ -1,7 +1,7 @@
 //! Tests of asks and walks over a wire in memory, and of the program that does them.
 //!
 //! # Entry points
-//! None: the tests call what `manager_core` offers.
+//! None: the tests call what `manager_core` and `manager_words` offer.
 //!
 //! # Definitions
 //! None.
@@ -27,5 +27,7 @@ mod refusals;
 mod requests;
 #[cfg(test)]
 mod running;
+#[cfg(test)]
+mod texts;
 #[cfg(test)]
 mod walks;

@@ -1,7 +1,7 @@
 //! Outputs that take some octets and then fail, and what is flushed.
 use crate::datagrams::{TWO_PORTS, agent};
 use crate::running::{AGENT, PORTS, words_of};
-use manager_core::run_manager;
+use manager_words::run_manager;
 use std::alloc::Global;
 use std::io::{self, Error, ErrorKind, Write};
 use std::test::*;

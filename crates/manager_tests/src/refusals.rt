@@ -1,6 +1,6 @@
 //! Words that are no command, by their reason.
 use crate::running::{AGENT, PORTS, is_usage, sent_by};
-use manager_core::run_manager;
+use manager_words::run_manager;
 use std::alloc::Global;
 use std::test::*;
 use wire_core::MemoryWire;
@@ -33,7 +33,7 @@ const REFUSED: [&[&str]; 24] = [
     &["set", AGENT, "public", "1.3.6=i:1=i:1"],
     // an option that cannot be read
     &["--tries", "0", "get", AGENT, "public", PORTS],
-    &["get", "--tries", "2", AGENT, "public", PORTS],
+    &["get", AGENT, "-public", PORTS],
     &[
         "--tries", "2", "get", AGENT, "public", PORTS, "--tries", "2",
     ],

@@ -1,6 +1,6 @@
 //! Runs of the program by words, over wires in memory.
 use crate::datagrams::agent;
-use manager_core::run_manager;
+use manager_words::run_manager;
 use std::alloc::Global;
 use std::test::*;
 use wire_core::MemoryWire;
@@ -54,13 +54,13 @@ pub fn ends_so(
     Ok(status == end.0 && out.as_slice() == end.1 && errors.as_slice() == end.2)
 }
 
-/// Whether words are no command: status 2 and a line of what words there are, nothing sent and
-/// nothing written to the output.
+/// Whether words are no command: status 2 and what is wrong with them, nothing sent and nothing
+/// written to the output.
 pub fn is_usage(alloc: Global, texts: &[&str]) -> Result<bool, Fail> {
     let mut wire = MemoryWire::new(alloc);
     let (status, out, errors) = run(alloc, texts, &mut wire)?;
-    let told = errors.as_slice().starts_with(b"manager: usage: ");
-    Ok(status == 2 && told && out.is_empty() && wire.sent().is_empty())
+    let is_said = errors.as_slice().starts_with(b"manager: error: ");
+    Ok(status == 2 && is_said && out.is_empty() && wire.sent().is_empty())
 }
 
 /// Whether a run over a closed wire sends these octets three times, and no others.

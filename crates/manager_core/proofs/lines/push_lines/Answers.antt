@@ -1,5 +1,5 @@
 use Rattle.std.proofs.Common.{arith}
-use Rattle.manager_core.proofs.Wanting.{lines_some, on_err}
+use Rattle.manager_core.proofs.Written.{lines_some, on_err}
 use Rattle.manager_core.proofs.lines.push_lines.Goals as goal
 
 pub returns-in_err-push_line-clause-some : goal.returns-in_err-push_line-clause-some

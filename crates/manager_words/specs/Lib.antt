@@ -1,0 +1,5 @@
+pub mod Options
+pub mod Built
+pub mod Bindings
+pub mod Requests
+pub mod Runs
