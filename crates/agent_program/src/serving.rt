@@ -8,7 +8,8 @@ ghost use Rattle.agent_program.specs.Services.{IsOpened, IsNotSetUp, IsServiceBy
 
 use crate::opening::{NotRun, open_bridge, read_configuration, registry_of, undropped};
 use history_core::Kept;
-use live_agent::End;
+use live_agent::{End, GatedWire, PacedWire};
+use live_laps::Watch;
 use live_run::Report;
 use log::Log;
 use setphase_core::{MibObject, Registry, World};
@@ -18,8 +19,8 @@ use std::net::Net;
 use std::sync::Wait;
 use std::thread::Threads;
 use std::time::Clock;
-use udp_agent::{ServeFault, Setup, setup_of};
-use wire_core::{Pace, SecondPace, UdpWire, Wire};
+use udp_agent::{ServeFault, Setup, Teller, UdpTicker, UdpWorker, setup_of};
+use wire_core::{UdpWire, Wire};
 
 /// What a configuration opens to be served.
 #[derive(Drop)]
@@ -97,8 +98,10 @@ pub fn serve_opened<'r, M: MibObject + Send, R: Threads + Wait + Net + Clock + S
     registry: Registry<M>,
     opened: Opened,
 ) -> Result<Report, ServeFault>
-    ensures { IsServed ⟦<UdpWire as Wire>⟧.went ⟦<UdpWire as Wire>⟧.failures
-        ⟦<SecondPace<&'r R> as Pace>⟧.went opened.setup (fresh registry opened.world 0) result }
+    ensures { IsServed ⟦<UdpWorker as GatedWire>⟧.did ⟦<UdpWorker as Wire>⟧.failures
+        ⟦<UdpWire as Wire>⟧.went ⟦<UdpWire as Wire>⟧.failures
+        ⟦<UdpTicker<&'r R> as PacedWire>⟧.did ⟦<UdpTicker<&'r R> as Wire>⟧.failures
+        opened.setup (fresh registry opened.world 0) result }
 {
     let kept = begin(alloc, registry, opened.world)?;
     udp_agent::serve(rt, alloc, &opened.setup, kept)
@@ -115,8 +118,10 @@ pub fn serve_opened_forever<'r, M: MibObject + Send, R: Threads + Wait + Net + C
     registry: Registry<M>,
     opened: Opened,
 ) -> io::Result<Vec<End>>
-    ensures { IsServedForever ⟦<UdpWire as Wire>⟧.went ⟦<UdpWire as Wire>⟧.failures
-        ⟦<SecondPace<&'r R> as Pace>⟧.went opened.setup (fresh registry opened.world 0) result }
+    ensures { IsServedForever ⟦<UdpWorker as GatedWire>⟧.did ⟦<UdpWorker as Wire>⟧.failures
+        ⟦<UdpWire as Wire>⟧.went ⟦<UdpWire as Wire>⟧.failures
+        ⟦<UdpTicker<&'r R> as PacedWire>⟧.did ⟦<UdpTicker<&'r R> as Wire>⟧.failures
+        ⟦<Teller<'r, R> as Watch>⟧.went opened.setup (fresh registry opened.world 0) result }
 {
     let kept = begin(alloc, registry, opened.world)?;
     udp_agent::serve_forever(rt, alloc, &opened.setup, kept)

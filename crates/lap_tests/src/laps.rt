@@ -1,18 +1,17 @@
 //! A worker, a port and a ticker of two rounds a lap, whose wires and pace give more than that.
-use crate::support::{Wires, history, lines_failing, plan};
-use crate::watch::{HoldWatch, Told};
+use crate::support::{LinesOver, history, lines_failing, plan};
+use crate::watch::{self, HoldWatch, Told, Totals};
 use bridge_mib::Planned;
 use history_core::Kept;
-use live_agent::{End, OpenGate};
-use live_laps::{Totals, Watch, lines_of, serve_laps};
-use live_run::Lines;
+use live_agent::End;
+use live_laps::{Watch, lines_of, serve_laps};
 use object_list::Object;
 use std::alloc::Global;
 use std::sync::Wait;
 use std::test::Fail;
 use std::thread::Threads;
 use std::time::Clock;
-use wire_core::{CountPace, WireFault};
+use wire_core::WireFault;
 
 // How the worker, the port and the ticker of a run ended.
 type Ends = (End, End, End);
@@ -26,18 +25,18 @@ fn three(ends: &[End]) -> Option<Ends> {
 }
 
 // How the lines of a run end, and how many entries there are.
-fn run<V: Watch + Sync, R: Threads + Wait + Sync>(
+fn run<V: Watch + Send, R: Threads + Wait + Sync>(
     rt: &R,
     alloc: Global,
-    watch: &V,
+    watch: V,
     history: Kept<Object<Planned>>,
-    lines: Lines<Wires, CountPace>,
+    lines: LinesOver,
 ) -> Result<(Option<Ends>, u64), Fail> {
     if lines.workers.len() > 1 || lines.ports.len() > 1 {
         return Err(Fail::from("three lines"));
     }
-    let lines = lines_of(alloc, lines)?;
-    let (history, _, ends) = serve_laps(rt, &plan(alloc), &OpenGate, watch, history, lines);
+    let lines = lines_of(alloc, lines, watch)?;
+    let (history, _, ends) = serve_laps(rt, &plan(alloc), history, lines);
     Ok((three(ends?.as_slice()), history.next_number()))
 }
 
@@ -47,15 +46,15 @@ fn failed_at<R: Threads + Wait + Clock + Sync>(
     alloc: Global,
     call: u64,
 ) -> Result<(Option<Ends>, u64, Told), Fail> {
-    let watch = HoldWatch::new(rt);
+    let kept = watch::Kept::new();
     let (ends, entries) = run(
         rt,
         alloc,
-        &watch,
+        HoldWatch::new(rt, &kept),
         history(alloc)?,
         lines_failing(alloc, call)?,
     )?;
-    Ok((ends, entries, watch.told()))
+    Ok((ends, entries, kept.told(rt)))
 }
 
 // Totals of so many entries, requests and drops, in which the base has not moved.

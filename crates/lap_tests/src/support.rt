@@ -6,7 +6,7 @@ use fixtures::names::PORTS;
 use fixtures::worlds::built_in;
 use frame_core::Mac;
 use history_core::Kept;
-use live_agent::Plan;
+use live_agent::{Gated, OpenGate, Paced, Plan};
 use live_run::Lines;
 use object_list::{Object, objects};
 use setphase_core::{Registry, are_named};
@@ -17,6 +17,9 @@ use wire_core::{CountPace, FailingWire, Given, MemoryWire};
 
 /// Wires in memory, each of which fails at one call or at none.
 pub type Wires = FailingWire<MemoryWire>;
+
+/// Lines over them, whose workers no gate holds, and whose ticker has a number of seconds.
+pub type LinesOver = Lines<Gated<Wires, OpenGate>, Wires, Paced<Wires, CountPace>>;
 
 // A manager on this machine.
 fn manager() -> SocketAddr {
@@ -66,15 +69,20 @@ fn quiet(alloc: Global) -> Result<MemoryWire, Fail> {
 
 /// A worker that is asked five times, and whose wire fails at this call, or at none where it is 0; a
 /// port that hears nothing; and a ticker of three seconds.
-pub fn lines_failing(alloc: Global, call: u64) -> Result<Lines<Wires, CountPace>, Fail> {
+pub fn lines_failing(alloc: Global, call: u64) -> Result<LinesOver, Fail> {
     let mut workers = Vec::new(alloc);
-    workers.push(FailingWire::new(asking(alloc)?, call))?;
+    workers.push(Gated {
+        wire: FailingWire::new(asking(alloc)?, call),
+        gate: OpenGate,
+    })?;
     let mut ports = Vec::new(alloc);
     ports.push(FailingWire::new(quiet(alloc)?, 0))?;
     Ok(Lines {
         workers,
         ports,
-        ticker: FailingWire::new(MemoryWire::new(alloc), 0),
-        pace: CountPace::new(3),
+        ticker: Paced {
+            wire: FailingWire::new(MemoryWire::new(alloc), 0),
+            pace: CountPace::new(3),
+        },
     })
 }

@@ -1,6 +1,7 @@
 //! A watch that keeps what it is told.
 use live_agent::End;
-use live_laps::{LineName, Totals, Watch};
+use live_laps::{Book, LineName, Watch, Worked};
+use live_lock::Counts;
 use std::sync::{Mutex, Wait};
 use std::thread;
 use std::time::{Clock, Duration};
@@ -10,6 +11,19 @@ const TURNS: u32 = 1000;
 
 // How long it waits between two looks, in milliseconds.
 const TURN_MILLIS: u64 = 10;
+
+/// What all lines did since their start; what workers did, as far as their laps have ended.
+#[derive(Clone, Copy, Debug, PartialEq, Eq)]
+pub struct Totals {
+    /// The entries of the history since its start.
+    pub entries: u64,
+    /// Those of them that workers made.
+    pub requests: u64,
+    /// The entries by which the history's base has moved.
+    pub older: u64,
+    /// The datagrams that came to a worker and held no request.
+    pub drops: u64,
+}
 
 /// What a watch was told of a worker, a port and a ticker.
 #[derive(Clone, Copy)]
@@ -62,41 +76,79 @@ impl Told {
     }
 }
 
+/// What the watches of all lines keep.
+#[derive(Drop)]
+pub struct Kept {
+    told: Mutex<Told>,
+    book: Book,
+}
+
+impl Kept {
+    /// Nothing yet.
+    pub fn new() -> Kept {
+        Kept {
+            told: Mutex::new(NOTHING),
+            book: Book::new(),
+        }
+    }
+
+    /// What they were told.
+    pub fn told<R: Wait>(&self, rt: &R) -> Told {
+        *self.told.lock(rt)
+    }
+}
+
 /// Keeps what it is told, and holds the ticker at the end of a lap until the other lines have ended,
 /// for 1,000 turns of 10 milliseconds: what it is told of the next lap is then told of all lines.
 #[derive(Drop)]
 pub struct HoldWatch<'r, R> {
     rt: &'r R,
-    told: Mutex<Told>,
+    kept: &'r Kept,
 }
 
 impl<'r, R: Wait> HoldWatch<'r, R> {
-    /// One that was told nothing.
-    pub fn new(rt: &'r R) -> HoldWatch<'r, R> {
-        HoldWatch {
-            rt,
-            told: Mutex::new(NOTHING),
-        }
-    }
-
-    /// What it was told.
-    pub fn told(&self) -> Told {
-        *self.told.lock(self.rt)
+    /// One that keeps what it is told here.
+    pub fn new(rt: &'r R, kept: &'r Kept) -> HoldWatch<'r, R> {
+        HoldWatch { rt, kept }
     }
 }
 
 impl<R: Wait + Clock> Watch for HoldWatch<'_, R> {
-    fn lap(&self, totals: Totals) {
-        self.told.lock(self.rt).lap(totals);
+    ghost went = { λ _ _ _. Unit };
+
+    ghost starts = { λ _. tt };
+
+    ghost goes_on = { λ _ _ _ _ _ _ _. tt };
+
+    fn another(&self) -> Self {
+        HoldWatch {
+            rt: self.rt,
+            kept: self.kept,
+        }
+    }
+
+    fn worked<S: Wait>(&mut self, rt: &S, worked: Worked) {
+        self.kept.book.add(rt, worked);
+    }
+
+    fn ticked<S: Wait>(&mut self, rt: &S, counts: Counts) {
+        let worked = self.kept.book.read(rt);
+        let totals = Totals {
+            entries: counts.entries,
+            requests: worked.requests,
+            older: counts.older,
+            drops: worked.drops,
+        };
+        self.kept.told.lock(rt).lap(totals);
         for _ in 0..TURNS {
-            if self.told().is_alone() {
+            if self.kept.told(rt).is_alone() {
                 return;
             }
             thread::sleep(self.rt, Duration::from_millis(TURN_MILLIS));
         }
     }
 
-    fn ended(&self, line: LineName, end: End) {
-        self.told.lock(self.rt).ended(line, end);
+    fn ended(&mut self, line: LineName, end: End) {
+        self.kept.told.lock(self.rt).ended(line, end);
     }
 }

@@ -2,3 +2,4 @@ pub mod Failing
 pub mod Running
 pub mod Ticking
 pub mod Turning
+pub mod Visiting

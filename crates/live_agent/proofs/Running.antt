@@ -1,8 +1,7 @@
 -- One turn more of a line.
-use Rattle.std.proofs.Common.{◌≡◌, ◌∙◌, ℕ, ◌+◌, ◌<◌, Bool, List, [], ◌∷◌, ◌++◌, length, refl, sym, ap, subst, arith, append_assoc, append-nil, length-append}
+use Rattle.std.proofs.Common.{◌≡◌, ◌∙◌, ℕ, ◌+◌, ◌<◌, List, [], ◌∷◌, ◌++◌, length, refl, sym, ap, subst, arith, append_assoc, append-nil, length-append}
 use Rattle.std.specs.Prelude.{Option, Some, None, All}
 use Rattle.std.proofs.lemmas.List.Elements.{All-append, All-cons}
-use Rattle.wire_core.specs.Acts.{Act}
 use Rattle.history_core.specs.declared.applied.Applied.{Applied}
 use Rattle.history_core.specs.declared.applied.Applied.TheVariants.{Done, Dropped, Short, HistoryFull}
 use Rattle.wire_core.specs.declared.wire.WireFault.{WireFault}
@@ -11,20 +10,16 @@ use Rattle.live_agent.specs.declared.trace.End.{End}
 use Rattle.live_agent.specs.declared.trace.End.TheVariants as end
 use Rattle.live_agent.specs.declared.trace.Item.{Item}
 use Rattle.live_agent.specs.declared.trace.Item.TheVariants as item
-use Rattle.live_agent.specs.Turns.{Turn, nothing_came, ended, broke, was_refused, was_taken, was_own, paused, acts_of, items_of, answers_of, item_of, end_after, end_of, entered_in}
-use Rattle.live_agent.specs.Runs.{HasTurned, HasRun, all_acts, all_items, all_answers, GoesOn, EndsBy}
+use Rattle.live_agent.specs.Turns.{Turn, nothing_came, ended, broke, was_refused, was_taken, was_own, paused, items_of, item_of, end_after, end_of, entered_in}
+use Rattle.live_agent.specs.Runs.{HasTurned, HasRun, all_of, all_items, GoesOn, EndsBy}
 
-pub all_acts-snoc : (ts : List Turn) (t : Turn) → all_acts (ts ++ t ∷ []) ≡ all_acts ts ++ acts_of t
-all_acts-snoc [] t = append-nil (acts_of t)
-all_acts-snoc (x ∷ ts) t = ap (λ (l : List Act). acts_of x ++ l) (all_acts-snoc ts t) ∙ sym (append_assoc (acts_of x) (all_acts ts) (acts_of t))
+pub all_of-snoc : {D : Type 0} (does : Turn → List D) (ts : List Turn) (t : Turn) → all_of does (ts ++ t ∷ []) ≡ all_of does ts ++ does t
+all_of-snoc does [] t = append-nil (does t)
+all_of-snoc does (x ∷ ts) t = ap (λ l. does x ++ l) (all_of-snoc does ts t) ∙ sym (append_assoc (does x) (all_of does ts) (does t))
 
 all_items-snoc : (ts : List Turn) (t : Turn) → all_items (ts ++ t ∷ []) ≡ all_items ts ++ items_of t
 all_items-snoc [] t = append-nil (items_of t)
 all_items-snoc (x ∷ ts) t = ap (λ (l : List Item). items_of x ++ l) (all_items-snoc ts t) ∙ sym (append_assoc (items_of x) (all_items ts) (items_of t))
-
-pub all_answers-snoc : (ts : List Turn) (t : Turn) → all_answers (ts ++ t ∷ []) ≡ all_answers ts ++ answers_of t
-all_answers-snoc [] t = append-nil (answers_of t)
-all_answers-snoc (x ∷ ts) t = ap (λ (l : List Bool). answers_of x ++ l) (all_answers-snoc ts t) ∙ sym (append_assoc (answers_of x) (all_answers ts) (answers_of t))
 
 pub entered_in-append : (xs ys : List Item) → entered_in (xs ++ ys) ≡ entered_in xs + entered_in ys
 entered_in-append [] ys = omega arith
@@ -87,17 +82,17 @@ All-snoc P xs x all one = All-append P xs (x ∷ []) all (All-cons P x [] one (�
 -- ---- a line so far
 
 -- So many turns of a line, after all of which it goes on.
-pub record Goes {W : Type 0} (went : W → List Act → W → Type 0) (is_turn : Turn → Type 0) (count : ℕ) (a b : W) (items later_items : List Item) (amount later_amount : ℕ) : Type 0 where
+pub record Goes {W D : Type 0} (went : W → List D → W → Type 0) (does : Turn → List D) (is_turn : Turn → Type 0) (count : ℕ) (a b : W) (items later_items : List Item) (amount later_amount : ℕ) : Type 0 where
   pub turns : List Turn
   pub are : All is_turn turns
   pub on : All GoesOn turns
   pub count_is : length turns ≡ count
-  pub acts : went a (all_acts turns) b
+  pub acts : went a (all_of does turns) b
   pub items_are : later_items ≡ items ++ all_items turns
   pub amount_is : later_amount ≡ amount + entered_in (all_items turns)
 
-abbrev pub goes_none : {W : Type 0} (went : W → List Act → W → Type 0) → ((a : W) → went a [] a) → (is_turn : Turn → Type 0) (a : W) (items later : List Item) (amount : ℕ) → later ≡ items → Goes went is_turn 0 a a items later amount amount
-goes_none went starts is_turn a items later amount same =
+abbrev pub goes_none : {W D : Type 0} (went : W → List D → W → Type 0) → ((a : W) → went a [] a) → (does : Turn → List D) (is_turn : Turn → Type 0) (a : W) (items later : List Item) (amount : ℕ) → later ≡ items → Goes went does is_turn 0 a a items later amount amount
+goes_none went starts does is_turn a items later amount same =
     record {
       turns = [];
       are = λ k d h. absurd (omega arith);
@@ -117,44 +112,44 @@ amount_more amount some later ts t first next =
     omega (arith, first, next, ap entered_in (all_items-snoc ts t), entered_in-append (all_items ts) (items_of t))
 
 -- one turn more, after which it goes on
-abbrev pub goes_more : {W : Type 0} (went : W → List Act → W → Type 0)
-    → ((a b c : W) (xs ys : List Act) → went a xs b → went b ys c → went a (xs ++ ys) c)
-    → (is_turn : Turn → Type 0) (count : ℕ) (a b c : W) (items some lent later : List Item) (amount some_amount later_amount : ℕ)
-    → Goes went is_turn count a b items some amount some_amount → lent ≡ some → HasTurned went is_turn b c lent later some_amount later_amount None
-    → Goes went is_turn (count + 1) a c items later amount later_amount
-goes_more went goes_on is_turn count a b c items some lent later amount some_amount later_amount g same t =
+abbrev pub goes_more : {W D : Type 0} (went : W → List D → W → Type 0)
+    → ((a b c : W) (xs ys : List D) → went a xs b → went b ys c → went a (xs ++ ys) c)
+    → (does : Turn → List D) (is_turn : Turn → Type 0) (count : ℕ) (a b c : W) (items some lent later : List Item) (amount some_amount later_amount : ℕ)
+    → Goes went does is_turn count a b items some amount some_amount → lent ≡ some → HasTurned went does is_turn b c lent later some_amount later_amount None
+    → Goes went does is_turn (count + 1) a c items later amount later_amount
+goes_more went goes_on does is_turn count a b c items some lent later amount some_amount later_amount g same t =
     record {
       turns = g.turns ++ t.turn ∷ [];
       are = All-snoc is_turn g.turns t.turn g.are t.is;
       on = All-snoc GoesOn g.turns t.turn g.on (sym t.ends_so);
       count_is = omega (arith, length-append g.turns (t.turn ∷ []), g.count_is);
-      acts = subst (λ (l : List Act). went a l c) (sym (all_acts-snoc g.turns t.turn)) (goes_on a b c (all_acts g.turns) (acts_of t.turn) g.acts t.acts);
+      acts = subst (λ l. went a l c) (sym (all_of-snoc does g.turns t.turn)) (goes_on a b c (all_of does g.turns) (does t.turn) g.acts t.acts);
       items_are = items_more items some lent later g.turns t.turn g.items_are same t.items_are;
       amount_is = amount_more amount some_amount later_amount g.turns t.turn g.amount_is t.amount_is;
     }
 
 -- one turn more, which ends it
-abbrev pub goes_stops : {W : Type 0} (went : W → List Act → W → Type 0)
-    → ((a b c : W) (xs ys : List Act) → went a xs b → went b ys c → went a (xs ++ ys) c)
-    → (is_turn : Turn → Type 0) (rounds count : ℕ) (a b c : W) (items some lent later trace : List Item) (amount some_amount later_amount : ℕ) (how ending : End)
-    → Goes went is_turn count a b items some amount some_amount → lent ≡ some → HasTurned went is_turn b c lent later some_amount later_amount (Some how) → count < rounds
+abbrev pub goes_stops : {W D : Type 0} (went : W → List D → W → Type 0)
+    → ((a b c : W) (xs ys : List D) → went a xs b → went b ys c → went a (xs ++ ys) c)
+    → (does : Turn → List D) (is_turn : Turn → Type 0) (rounds count : ℕ) (a b c : W) (items some lent later trace : List Item) (amount some_amount later_amount : ℕ) (how ending : End)
+    → Goes went does is_turn count a b items some amount some_amount → lent ≡ some → HasTurned went does is_turn b c lent later some_amount later_amount (Some how) → count < rounds
     → trace ≡ later → ending ≡ how
-    → HasRun went is_turn rounds a c items trace amount later_amount ending
-goes_stops went goes_on is_turn rounds count a b c items some lent later trace amount some_amount later_amount how ending g same t less left so =
+    → HasRun went does is_turn rounds a c items trace amount later_amount ending
+goes_stops went goes_on does is_turn rounds count a b c items some lent later trace amount some_amount later_amount how ending g same t less left so =
     record {
       turns = g.turns ++ t.turn ∷ [];
       are = All-snoc is_turn g.turns t.turn g.are t.is;
-      acts = subst (λ (l : List Act). went a l c) (sym (all_acts-snoc g.turns t.turn)) (goes_on a b c (all_acts g.turns) (acts_of t.turn) g.acts t.acts);
+      acts = subst (λ l. went a l c) (sym (all_of-snoc does g.turns t.turn)) (goes_on a b c (all_of does g.turns) (does t.turn) g.acts t.acts);
       items_are = left ∙ items_more items some lent later g.turns t.turn g.items_are same t.items_are;
       amount_is = amount_more amount some_amount later_amount g.turns t.turn g.amount_is t.amount_is;
       ends = subst (λ (e : End). EndsBy rounds (g.turns ++ t.turn ∷ []) e) (sym so) (stops rounds g.turns t.turn how g.on (sym t.ends_so) (omega (arith, g.count_is)));
     }
 
 -- its rounds are over
-abbrev pub goes_round : {W : Type 0} (went : W → List Act → W → Type 0) (is_turn : Turn → Type 0) (rounds count : ℕ) (a b : W) (items later trace : List Item) (amount later_amount : ℕ) (ending : End)
-    → Goes went is_turn count a b items later amount later_amount → count ≡ rounds → trace ≡ later → ending ≡ end.Rounds
-    → HasRun went is_turn rounds a b items trace amount later_amount ending
-goes_round went is_turn rounds count a b items later trace amount later_amount ending g over left so =
+abbrev pub goes_round : {W D : Type 0} (went : W → List D → W → Type 0) (does : Turn → List D) (is_turn : Turn → Type 0) (rounds count : ℕ) (a b : W) (items later trace : List Item) (amount later_amount : ℕ) (ending : End)
+    → Goes went does is_turn count a b items later amount later_amount → count ≡ rounds → trace ≡ later → ending ≡ end.Rounds
+    → HasRun went does is_turn rounds a b items trace amount later_amount ending
+goes_round went does is_turn rounds count a b items later trace amount later_amount ending g over left so =
     record {
       turns = g.turns;
       are = g.are;
@@ -165,10 +160,10 @@ goes_round went is_turn rounds count a b items later trace amount later_amount e
     }
 
 -- there was no memory for its trace
-abbrev pub goes_short : {W : Type 0} (went : W → List Act → W → Type 0) (is_turn : Turn → Type 0) (rounds count : ℕ) (a b : W) (items some lent trace : List Item) (amount later_amount : ℕ) (ending : End)
-    → Goes went is_turn count a b items some amount later_amount → lent ≡ some → count < rounds → trace ≡ lent → ending ≡ end.Memory
-    → HasRun went is_turn rounds a b items trace amount later_amount ending
-goes_short went is_turn rounds count a b items some lent trace amount later_amount ending g same less left so =
+abbrev pub goes_short : {W D : Type 0} (went : W → List D → W → Type 0) (does : Turn → List D) (is_turn : Turn → Type 0) (rounds count : ℕ) (a b : W) (items some lent trace : List Item) (amount later_amount : ℕ) (ending : End)
+    → Goes went does is_turn count a b items some amount later_amount → lent ≡ some → count < rounds → trace ≡ lent → ending ≡ end.Memory
+    → HasRun went does is_turn rounds a b items trace amount later_amount ending
+goes_short went does is_turn rounds count a b items some lent trace amount later_amount ending g same less left so =
     record {
       turns = g.turns;
       are = g.are;

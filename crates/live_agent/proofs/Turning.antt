@@ -9,7 +9,7 @@ use Rattle.history_core.specs.declared.event.Event.{Event}
 use Rattle.live_lock.specs.Sharing.{entry_count}
 use Rattle.live_agent.specs.declared.trace.End.{End}
 use Rattle.live_agent.specs.declared.trace.Item.{Item}
-use Rattle.live_agent.specs.Turns.{Happening, Turn, acts_of, items_of, item_of, end_of, entered_in}
+use Rattle.live_agent.specs.Turns.{Happening, Turn, items_of, item_of, end_of, entered_in}
 use Rattle.live_agent.specs.Runs.{HasTurned}
 use Rattle.live_agent.proofs.Running.{entered_one}
 
@@ -21,9 +21,9 @@ pub amount_is : (amount later : ℕ) (applied : Applied) → later ≡ amount + 
 amount_is amount later applied is = is ∙ ap (λ (n : ℕ). amount + n) (sym (entered_one applied))
 
 -- a turn that left nothing in the trace
-abbrev pub bare_turn : {W : Type 0} (went : W → List Act → W → Type 0) (is_turn : Turn → Type 0) (t : Turn) (a b : W) (items : List Item) (amount : ℕ) (ends : Option End)
-    → is_turn t → went a (acts_of t) b → items_of t ≡ [] → ends ≡ end_of t → HasTurned went is_turn a b items items amount amount ends
-bare_turn went is_turn t a b items amount ends is acts none so =
+abbrev pub bare_turn : {W D : Type 0} (went : W → List D → W → Type 0) (does : Turn → List D) (is_turn : Turn → Type 0) (t : Turn) (a b : W) (items : List Item) (amount : ℕ) (ends : Option End)
+    → is_turn t → went a (does t) b → items_of t ≡ [] → ends ≡ end_of t → HasTurned went does is_turn a b items items amount amount ends
+bare_turn went does is_turn t a b items amount ends is acts none so =
     let nothing : entered_in (items_of t) ≡ 0 = ap entered_in none in
     record {
       turn = t;

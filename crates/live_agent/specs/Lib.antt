@@ -1,3 +1,6 @@
+pub mod Deeds
+pub mod DeedLaws
+pub mod Gates
 pub mod Lines
 pub mod Runs
 pub mod Turns

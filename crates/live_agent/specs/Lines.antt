@@ -1,6 +1,6 @@
 -- The kinds of lines, by their turns: a worker answers requests, a port takes frames, and the ticker
 -- lets seconds pass.
-use Rattle.std.specs.Prelude.{◌≡◌, ◌⊎◌, ℕ, ◌+◌, Bool, true, List, [], ◌∷◌, ◌++◌, Option, Some, None}
+use Rattle.std.specs.Prelude.{◌≡◌, ◌⊎◌, ℕ, ◌+◌, true, false, List, [], ◌∷◌, ◌++◌, Option, Some, None}
 use Rattle.std.specs.declared.net.socket_addr.SocketAddr.{SocketAddr}
 use Rattle.frame_core.specs.Frames.{IsFrame, IsFault}
 use Rattle.frame_core.specs.declared.frame.FrameIn.{FrameIn}
@@ -21,8 +21,9 @@ use Rattle.live_lock.specs.Sharing.{TakesPlace, IsToldOf, entry_count}
 use Rattle.live_agent.specs.declared.plan.Plan.{Plan}
 use Rattle.live_sending.specs.Packets.{reply_packets, frame_packets, bpdu_packets}
 use Rattle.live_sending.specs.Sending.{IsSending}
-use Rattle.live_agent.specs.Turns.{Arrival, Happening, Turn, nothing_came, ended, broke, was_refused, was_taken, was_own, paused, item_of}
-use Rattle.live_agent.specs.Runs.{HasRun, all_answers}
+use Rattle.live_agent.specs.Deeds.{Deed, acted, visited, answered, before, after, all_acted}
+use Rattle.live_agent.specs.Turns.{Arrival, Happening, Turn, nothing_came, ended, broke, was_refused, was_taken, was_own, paused, arrival_act, acts_of, item_of}
+use Rattle.live_agent.specs.Runs.{HasRun}
 use Rattle.live_agent.specs.declared.trace.End.{End}
 use Rattle.live_agent.specs.declared.trace.End.TheVariants as end
 use Rattle.live_agent.specs.declared.trace.Item.{Item}
@@ -40,10 +41,12 @@ abbrev pub setting_of : History → Plan → Setting
 setting_of start plan =
     record { start = start; source = plan.source; peers = plan.peers.items }
 
--- An event took its place in the history, and these packets were sent for it.
+-- An event took its place in the history, for a caller that had made so many entries, and these
+-- packets were sent for it.
 pub record Happens (s : Setting) (e : Event) (packets : List Packet) (h : Happening) : Type 0 where
   pub event_is : h.event ≡ e
-  pub place : TakesPlace s.start e h.applied h.buffer
+  pub made : ℕ
+  pub place : TakesPlace s.start made e h.applied h.buffer
   pub told : IsToldOf e h.applied h.buffer
   pub sent : IsSending packets h.fault h.acts
 
@@ -77,6 +80,32 @@ IsWorkerTurn s (was_refused a cause) = (a.room ≡ request_room) × IsRefusedReq
 IsWorkerTurn s (was_taken a h) = (a.room ≡ request_room) × IsAnswered s a h
 IsWorkerTurn s (was_own h) = ⊥
 IsWorkerTurn s paused = ⊥
+
+-- the number of the entry that an event made, if it made one
+abbrev pub number_of : Applied → Option ℕ
+number_of (Done receipt audit) = Some receipt.number
+number_of (Dropped receipt cause audit) = Some receipt.number
+number_of (Short back) = None
+number_of (HistoryFull back) = None
+
+-- behind an event that made an entry the gate is told of the entry's number
+abbrev pub visits_behind : ℕ → Option ℕ → List Deed
+visits_behind worker (Some number) = visited (after worker number) ∷ []
+visits_behind worker None = []
+
+-- What a turn of the worker of this number does, in order: where a request happens, the datagram
+-- comes, the gate is told of it by that number, what it gives is sent, and where it made an entry the
+-- gate is told of that.
+abbrev pub worker_deeds : ℕ → Turn → List Deed
+worker_deeds worker (was_taken a h) =
+    acted (arrival_act a) ∷ visited (before worker) ∷ (all_acted h.acts ++ visits_behind worker (number_of h.applied))
+worker_deeds worker turn = all_acted (acts_of turn)
+
+-- Between two states of its wire a worker of this number has run so many rounds.
+abbrev pub HasWorked : {W : Type 0} → (W → List Deed → W → Type 0) → Setting → ℕ → ℕ → W → W →
+    List Item → ℕ → ℕ → End → Type 0
+HasWorked did s rounds worker a b trace amount later_amount how =
+    HasRun did (worker_deeds worker) (IsWorkerTurn s) rounds a b [] trace amount later_amount how
 
 -- ---- ports
 
@@ -142,8 +171,8 @@ pub record HasLinkedAndRun {W : Type 0} (went : W → List Act → W → Type 0)
   pub first_items : List Item
   pub first_amount : ℕ
   pub linked : HasLinked went s port a between [] first_items amount first_amount None
-  pub run : HasRun went (IsPortTurn s port) rounds between b first_items trace first_amount
-      later_amount how
+  pub run : HasRun went acts_of (IsPortTurn s port) rounds between b first_items trace
+      first_amount later_amount how
 
 -- A whole line of a port: there was no memory for its trace; or its link ended it; or that went up,
 -- and the rounds ran.
@@ -171,10 +200,17 @@ abbrev pub IsTickerTurn : Setting → Turn → Type 0
 IsTickerTurn s paused = Unit
 IsTickerTurn s turn = IsSecond s turn
 
--- Between two states of its wire and its pace a ticker of so many rounds has run: its pace said true
--- once for each second that passed, and false where it ended.
-pub record HasTicked {W P : Type 0} (went : W → List Act → W → Type 0)
-    (pace_went : P → List Bool → P → Type 0) (s : Setting) (rounds : ℕ) (a b : W) (p q : P)
-    (trace : List Item) (amount later_amount : ℕ) (how : End) : Type 0 where
-  pub run : HasRun went (IsTickerTurn s) rounds a b [] trace amount later_amount how
-  pub answers : pace_went p (all_answers run.turns) q
+-- What a turn of the ticker does, in order: its pace says true, and what the second gives is sent; or
+-- its pace says false.
+abbrev pub ticker_deeds : Turn → List Deed
+ticker_deeds (was_own h) = answered true ∷ all_acted h.acts
+ticker_deeds paused = answered false ∷ []
+ticker_deeds turn = all_acted (acts_of turn)
+
+-- Between two states of its wire a ticker of so many rounds has run: its pace said true once for each
+-- second, ahead of what that second gave to send and behind what the seconds before it gave, and
+-- false where it ended.
+abbrev pub HasTicked : {W : Type 0} → (W → List Deed → W → Type 0) → Setting → ℕ → W → W →
+    List Item → ℕ → ℕ → End → Type 0
+HasTicked did s rounds a b trace amount later_amount how =
+    HasRun did ticker_deeds (IsTickerTurn s) rounds a b [] trace amount later_amount how

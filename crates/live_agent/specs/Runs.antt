@@ -1,35 +1,32 @@
 -- The loop of a line: its turns one after another, until its rounds are over or a turn ends it.
-use Rattle.std.specs.Prelude.{◌≡◌, ℕ, ◌+◌, ◌<◌, Bool, List, [], ◌∷◌, ◌++◌, length, Option, Some, None, All}
-use Rattle.wire_core.specs.Acts.{Act, one_more}
+use Rattle.std.specs.Prelude.{◌≡◌, ℕ, ◌+◌, ◌<◌, List, [], ◌∷◌, ◌++◌, length, Option, Some, None, All}
+use Rattle.wire_core.specs.Acts.{one_more}
 use Rattle.live_agent.specs.declared.trace.End.{End}
 use Rattle.live_agent.specs.declared.trace.End.TheVariants as end
 use Rattle.live_agent.specs.declared.trace.Item.{Item}
-use Rattle.live_agent.specs.Turns.{Turn, acts_of, items_of, answers_of, end_of, entered_in}
+use Rattle.live_agent.specs.Turns.{Turn, items_of, end_of, entered_in}
 
--- One turn of a line between two states of its wire: it is one of these, it did this on the wire,
--- left this in the trace, and ended the line so, if it did. The share counts the entries that it
--- made.
-pub record HasTurned {W : Type 0} (went : W → List Act → W → Type 0) (is_turn : Turn → Type 0)
-    (a b : W) (items later_items : List Item) (amount later_amount : ℕ) (ends : Option End) :
-    Type 0 where
+-- One turn of a line between two states of its wire: it is one of these, did on the wire what such a
+-- turn does, left this in the trace, and ended the line so, if it did. The share counts the entries
+-- that it made.
+pub record HasTurned {W D : Type 0} (went : W → List D → W → Type 0) (does : Turn → List D)
+    (is_turn : Turn → Type 0) (a b : W) (items later_items : List Item) (amount later_amount : ℕ)
+    (ends : Option End) : Type 0 where
   pub turn : Turn
   pub is : is_turn turn
-  pub acts : went a (acts_of turn) b
+  pub acts : went a (does turn) b
   pub items_are : later_items ≡ items ++ items_of turn
   pub amount_is : later_amount ≡ amount + entered_in (items_of turn)
   pub ends_so : ends ≡ end_of turn
 
-abbrev pub all_acts : List Turn → List Act
-all_acts [] = []
-all_acts (t ∷ ts) = acts_of t ++ all_acts ts
+-- what turns did, one behind another
+abbrev pub all_of : {D : Type 0} → (Turn → List D) → List Turn → List D
+all_of does [] = []
+all_of does (t ∷ ts) = does t ++ all_of does ts
 
 abbrev pub all_items : List Turn → List Item
 all_items [] = []
 all_items (t ∷ ts) = items_of t ++ all_items ts
-
-abbrev pub all_answers : List Turn → List Bool
-all_answers [] = []
-all_answers (t ∷ ts) = answers_of t ++ all_answers ts
 
 -- a turn after which the line goes on
 abbrev pub GoesOn : Turn → Type 0
@@ -51,13 +48,13 @@ EndsBy rounds turns end.Full = Stops rounds turns end.Full
 EndsBy rounds turns (end.Wire fault) = Stops rounds turns (end.Wire fault)
 
 -- Between two states of its wire a line of so many rounds has run, and left these items more: each
--- turn is one of these.
-pub record HasRun {W : Type 0} (went : W → List Act → W → Type 0) (is_turn : Turn → Type 0)
-    (rounds : ℕ) (a b : W) (items later_items : List Item) (amount later_amount : ℕ)
-    (how : End) : Type 0 where
+-- turn is one of these, and they did on the wire what such turns do, in their order.
+pub record HasRun {W D : Type 0} (went : W → List D → W → Type 0) (does : Turn → List D)
+    (is_turn : Turn → Type 0) (rounds : ℕ) (a b : W) (items later_items : List Item)
+    (amount later_amount : ℕ) (how : End) : Type 0 where
   pub turns : List Turn
   pub are : All is_turn turns
-  pub acts : went a (all_acts turns) b
+  pub acts : went a (all_of does turns) b
   pub items_are : later_items ≡ items ++ all_items turns
   pub amount_is : later_amount ≡ amount + entered_in (all_items turns)
   pub ends : EndsBy rounds turns how

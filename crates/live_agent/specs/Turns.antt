@@ -1,5 +1,5 @@
 -- The turns of a line: what each did on its wire, what it left in the trace, how it ended the line.
-use Rattle.std.specs.Prelude.{ℕ, ◌+◌, Bool, true, false, List, [], ◌∷◌, Option, Some, None}
+use Rattle.std.specs.Prelude.{ℕ, ◌+◌, List, [], ◌∷◌, Option, Some, None}
 use Rattle.std.specs.declared.net.socket_addr.SocketAddr.{SocketAddr}
 use Rattle.wire_core.specs.Acts.{Act, got, quiet, closed, failed}
 use Rattle.wire_core.specs.declared.wire.WireFault.{WireFault}
@@ -67,16 +67,6 @@ items_of (was_refused a cause) = item.Refused cause ∷ []
 items_of (was_taken a h) = item_of h.applied ∷ []
 items_of (was_own h) = item_of h.applied ∷ []
 items_of paused = []
-
--- what the line's pace answered
-abbrev pub answers_of : Turn → List Bool
-answers_of nothing_came = []
-answers_of ended = []
-answers_of (broke fault) = []
-answers_of (was_refused a cause) = []
-answers_of (was_taken a h) = []
-answers_of (was_own h) = true ∷ []
-answers_of paused = false ∷ []
 
 -- How an event ends a line, if it does: by a fault of the wire, or where no number is left for an
 -- entry.

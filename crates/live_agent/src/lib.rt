@@ -23,13 +23,15 @@
 
 mod gate;
 mod outgoing;
+mod paced;
 mod plan;
 mod port;
 mod ticker;
 mod trace;
 mod worker;
 
-pub use gate::{Gate, OpenGate};
+pub use gate::{Gate, Gated, GatedWire, OpenGate};
+pub use paced::{Paced, PacedWire};
 pub use plan::Plan;
 pub use port::{port_lap, port_run};
 pub use ticker::ticker_run;

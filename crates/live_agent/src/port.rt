@@ -5,6 +5,7 @@ ghost use Rattle.history_core.specs.declared.event.Event.TheVariants as event;
 ghost use Rattle.wire_core.specs.Acts.{got};
 ghost use Rattle.live_agent.specs.Lines.{setting_of, IsPortTurn, HasLinked, HasPortRun, end_after_link, frame_room};
 ghost use Rattle.live_agent.specs.Runs.{HasTurned, HasRun, failures_at, failures_by};
+ghost use Rattle.live_agent.specs.Turns.{acts_of};
 ghost use Rattle.live_sending.specs.Sending.{fault_in};
 
 use crate::outgoing::{send_forwarded, send_ports};
@@ -101,7 +102,7 @@ pub fn port_lap<O: MibObject, L: Run, W: Wire, R: Wait>(
     port: u16,
 ) -> Ran
     requires { 0 < share.old.parts }
-    ensures run { HasRun W.went
+    ensures run { HasRun W.went acts_of
         (IsPortTurn (setting_of L.start plan.now) port)
         plan.now.rounds wire.old wire.new [] result.trace share.old.amount share.new.amount
         result.end }
@@ -124,7 +125,7 @@ fn go_round<O: MibObject, L: Run, W: Wire, R: Wait>(
     desk: &mut Desk,
 ) -> End
     requires { 0 < share.old.parts }
-    ensures run { HasRun W.went
+    ensures run { HasRun W.went acts_of
         (IsPortTurn (setting_of L.start plan.now) port)
         plan.now.rounds wire.old wire.new desk.old.items.items desk.new.items.items
         share.old.amount share.new.amount result }
@@ -154,7 +155,7 @@ fn port_turn<O: MibObject, L: Run, W: Wire, R: Wait>(
 ) -> Option<End>
     requires part { 0 < share.old.parts }
     requires room { vec_len desk.old.items < vec_capacity desk.old.items }
-    ensures turn { HasTurned W.went
+    ensures turn { HasTurned W.went acts_of
         (IsPortTurn (setting_of L.start plan.now) port)
         wire.old wire.new desk.old.items.items desk.new.items.items
         share.old.amount share.new.amount result }
@@ -197,7 +198,7 @@ fn take_frame<O: MibObject, L: Run, W: Wire, R: Wait>(
     requires part { 0 < share.old.parts }
     requires room { vec_len desk.old.items < vec_capacity desk.old.items }
     ensures turn { (a : W) → W.went a (got frame_room peer octets.now ∷ []) wire.old →
-        HasTurned W.went (IsPortTurn (setting_of L.start plan.now) port) a wire.new
+        HasTurned W.went acts_of (IsPortTurn (setting_of L.start plan.now) port) a wire.new
         desk.old.items.items desk.new.items.items share.old.amount share.new.amount result }
     ensures failures { W.failures wire.new ≡ failures_by result (W.failures wire.old) }
     ensures parts { share.new.parts ≡ share.old.parts }

@@ -3,31 +3,32 @@ ghost use Rattle.std.specs.Prelude.{◌≡◌, ◌+◌, ◌<◌, vec_len, vec_ca
 ghost use Rattle.history_core.specs.declared.event.Event.TheVariants as event;
 ghost use Rattle.live_agent.specs.Lines.{setting_of, HasTicked, IsSecond};
 ghost use Rattle.live_agent.specs.Runs.{HasTurned, failures_at, failures_by};
+ghost use Rattle.live_agent.specs.Turns.{acts_of};
 
 use crate::outgoing::send_ports;
+use crate::paced::PacedWire;
 use crate::plan::Plan;
 use crate::trace::{Desk, End, Ran, noted};
 use live_lock::{Live, Run};
 use setphase_core::MibObject;
 use std::sync::Wait;
 use std::sync::ledger::Share;
-use wire_core::{Pace, Wire};
+use wire_core::Wire;
 
 /// One lap of the ticker: so many trues of its pace, or until that says false, its wire fails, no
 /// number is left for an entry, or there is no memory for its trace. For each true a second passes,
-/// and what the ports send goes to their peers.
-pub fn ticker_run<O: MibObject, L: Run, W: Wire, P: Pace, R: Wait>(
+/// and what the ports send goes to their peers, before the pace is asked again.
+pub fn ticker_run<O: MibObject, L: Run, T: PacedWire, R: Wait>(
     rt: &R,
     plan: &Plan,
     live: &Live<O, L>,
     share: &mut Share<L>,
-    wire: &mut W,
-    pace: &mut P,
+    wire: &mut T,
 ) -> Ran
     requires { 0 < share.old.parts }
-    ensures run { HasTicked W.went P.went (setting_of L.start plan.now) plan.now.rounds wire.old
-        wire.new pace.old pace.new result.trace share.old.amount share.new.amount result.end }
-    ensures failures { W.failures wire.new ≡ failures_at result.end (W.failures wire.old) }
+    ensures run { HasTicked T.did (setting_of L.start plan.now) plan.now.rounds wire.old wire.new
+        result.trace share.old.amount share.new.amount result.end }
+    ensures failures { T.failures wire.new ≡ failures_at result.end (T.failures wire.old) }
     ensures parts { share.new.parts ≡ share.old.parts }
 {
     let mut desk = Desk::new(plan.alloc);
@@ -35,7 +36,7 @@ pub fn ticker_run<O: MibObject, L: Run, W: Wire, P: Pace, R: Wait>(
         if desk.items.reserve(1).is_err() {
             return desk.left(End::Memory);
         }
-        if !pace.next() {
+        if !wire.next() {
             return desk.left(End::Closed);
         }
         if let Some(end) = tick_once(rt, plan, live, share, wire, &mut desk) {
@@ -56,8 +57,8 @@ fn tick_once<O: MibObject, L: Run, W: Wire, R: Wait>(
 ) -> Option<End>
     requires part { 0 < share.old.parts }
     requires room { vec_len desk.old.items < vec_capacity desk.old.items }
-    ensures turn { HasTurned W.went (IsSecond (setting_of L.start plan.now)) wire.old wire.new
-        desk.old.items.items desk.new.items.items share.old.amount share.new.amount result }
+    ensures turn { HasTurned W.went acts_of (IsSecond (setting_of L.start plan.now)) wire.old
+        wire.new desk.old.items.items desk.new.items.items share.old.amount share.new.amount result }
     ensures failures { W.failures wire.new ≡ failures_by result (W.failures wire.old) }
     ensures parts { share.new.parts ≡ share.old.parts }
 {

@@ -1,1 +1,2 @@
 pub mod Lapping
+mod Noting

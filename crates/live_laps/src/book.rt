@@ -1,7 +1,8 @@
-//! What the workers' laps came to, under a lock of its own.
+//! What a worker's lap came to, and what all came to, under a lock of its own.
 ghost use Rattle.std.specs.Prelude.{◌≡◌, ◌+◌, ◌∷◌, []};
 ghost use Rattle.live_agent.specs.Turns.{entered_in};
 ghost use Rattle.live_run.specs.Reports.{refused_in, count_up_to_max};
+ghost use Rattle.live_laps.specs.Notes.{worked_in};
 
 use live_agent::Item;
 use std::sync::{Mutex, Wait};
@@ -25,8 +26,8 @@ fn entered(item: &Item) -> u64
     }
 }
 
-/// How many requests of a trace were entered. The count stops at `u64::MAX`.
-pub fn entered_in(items: &[Item]) -> u64
+// How many requests of a trace were entered. The count stops at `u64::MAX`.
+fn entered_in(items: &[Item]) -> u64
     ensures { result ≡ count_up_to_max (entered_in items.now) }
 {
     let mut count: u64 = 0;
@@ -46,8 +47,8 @@ fn refused(item: &Item) -> u64
     }
 }
 
-/// How many datagrams of a trace were refused. The count stops at `u64::MAX`.
-pub fn refused_in(items: &[Item]) -> u64
+// How many datagrams of a trace were refused. The count stops at `u64::MAX`.
+fn refused_in(items: &[Item]) -> u64
     ensures { result ≡ count_up_to_max (refused_in items.now) }
 {
     let mut count: u64 = 0;
@@ -57,18 +58,29 @@ pub fn refused_in(items: &[Item]) -> u64
     count
 }
 
-impl Worked {
-    // So many more. A count stops at `u64::MAX`.
-    fn add(&mut self, requests: u64, drops: u64)
-        ensures requests { self.new.requests ≡ count_up_to_max (self.old.requests + requests) }
-        ensures drops { self.new.drops ≡ count_up_to_max (self.old.drops + drops) }
-    {
-        self.requests = self.requests.saturating_add(requests);
-        self.drops = self.drops.saturating_add(drops);
+/// What the lap of a worker that left these items came to.
+pub fn worked_in(items: &[Item]) -> Worked
+    ensures { result ≡ worked_in items.now }
+{
+    Worked {
+        requests: entered_in(items),
+        drops: refused_in(items),
     }
 }
 
-/// What the workers' laps came to so far, for all threads.
+impl Worked {
+    // With another lap. A count stops at `u64::MAX`.
+    fn add(&mut self, lap: Worked)
+        ensures requests { self.new.requests
+            ≡ count_up_to_max (self.old.requests + lap.requests) }
+        ensures drops { self.new.drops ≡ count_up_to_max (self.old.drops + lap.drops) }
+    {
+        self.requests = self.requests.saturating_add(lap.requests);
+        self.drops = self.drops.saturating_add(lap.drops);
+    }
+}
+
+/// What laps of workers came to so far, for the watches of all lines.
 #[derive(Drop)]
 pub struct Book {
     worked: Mutex<Worked>,
@@ -86,9 +98,8 @@ impl Book {
     }
 
     /// Adds a lap of a worker.
-    pub fn add<R: Wait>(&self, rt: &R, items: &[Item]) {
-        let (requests, drops) = (entered_in(items), refused_in(items));
-        self.worked.lock(rt).add(requests, drops);
+    pub fn add<R: Wait>(&self, rt: &R, lap: Worked) {
+        self.worked.lock(rt).add(lap);
     }
 
     /// What there is by now.

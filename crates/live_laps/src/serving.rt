@@ -3,15 +3,15 @@ ghost use Rattle.std.specs.Prelude.{◌≡◌, ◌<◌, ◌≤◌, ◌^◌, [], 
 ghost use Rattle.live_laps.specs.Laps.{ServesLaps};
 
 use crate::crew::run_from;
-use crate::line::Line;
+use crate::line::Watched;
 use crate::watch::Watch;
 use history_core::Kept;
-use live_agent::{End, Gate, Plan};
+use live_agent::{End, GatedWire, PacedWire, Plan};
 use setphase_core::MibObject;
 use std::alloc::{AllocError, Global};
 use std::sync::Wait;
 use std::thread::Threads;
-use wire_core::{Pace, Wire};
+use wire_core::Wire;
 
 // Room for how so many lines ended.
 fn room_for(alloc: Global, lines: usize) -> Result<Vec<End>, AllocError>
@@ -23,7 +23,8 @@ fn room_for(alloc: Global, lines: usize) -> Result<Vec<End>, AllocError>
 
 /// Runs lines over a history at the same time, each in a thread of its own. Each goes on lap by lap,
 /// until its wire is closed or fails (the ticker: its pace ends), no number is left for an entry, or
-/// there is no memory for a lap's trace. Where the system makes no thread more, a line begins once
+/// there is no memory for a lap's trace. Each line's watch is told of each lap of a worker and of the
+/// ticker, and of the line's end. Where the system makes no thread more, a line begins once
 /// those that it was to run beside have ended, which is never while they go on.
 ///
 /// Gives back the history, the lines, and how each ended.
@@ -32,26 +33,28 @@ fn room_for(alloc: Global, lines: usize) -> Result<Vec<End>, AllocError>
 /// That there was no memory to begin with, and nothing ran.
 pub fn serve_laps<
     O: MibObject + Send,
+    A: GatedWire + Send,
     W: Wire + Send,
-    P: Pace + Send,
-    G: Gate + Sync,
-    V: Watch + Sync,
+    T: PacedWire + Send,
+    V: Watch + Send,
     R: Threads + Wait + Sync,
 >(
     rt: &R,
     plan: &Plan,
-    gate: &G,
-    watch: &V,
     kept: Kept<O>,
-    lines: Vec<Line<W, P>>,
-) -> (Kept<O>, Vec<Line<W, P>>, Result<Vec<End>, AllocError>)
+    lines: Vec<Watched<A, W, T, V>>,
+) -> (
+    Kept<O>,
+    Vec<Watched<A, W, T, V>>,
+    Result<Vec<End>, AllocError>,
+)
     requires few { vec_len lines < 2 ^ 32 }
-    ensures { ServesLaps W.went W.failures P.went plan.now kept result.0 lines.items result.1.items
+    ensures { ServesLaps A.did A.failures W.went W.failures T.did T.failures V.went plan.now kept result.0 lines.items result.1.items
         result.2 }
 {
     match room_for(plan.alloc, lines.len()) {
         Ok(ends) => {
-            let (kept, lines, ends) = run_from(rt, plan, gate, watch, kept, lines, ends);
+            let (kept, lines, ends) = run_from(rt, plan, kept, lines, ends);
             (kept, lines, Ok(ends))
         }
         Err(refused) => (kept, lines, Err(refused)),

@@ -1,26 +1,42 @@
-//! Who is told how the lines go on.
+//! Who is told how a line goes on.
+ghost use Rattle.std.specs.Prelude.{◌≡◌};
+
+use crate::book::Worked;
 use crate::line::LineName;
 use live_agent::End;
+use live_lock::Counts;
+use std::sync::Wait;
 
-/// What all lines did since their start; what workers did, as far as their laps have ended.
-#[derive(Clone, Copy, Debug, PartialEq, Eq)]
-pub struct Totals {
-    /// The entries of the history since its start.
-    pub entries: u64,
-    /// Those of them that workers made, in laps that have ended. The count stops at `u64::MAX`.
-    pub requests: u64,
-    /// The entries by which the history's base has moved.
-    pub older: u64,
-    /// The datagrams that came to a worker and held no request, in laps that have ended. The count
-    /// stops at `u64::MAX`.
-    pub drops: u64,
-}
+/// Is told how one line goes on, while no lock is held.
+///
+/// What it was told is a relation, as what a wire does is one.
+pub trait Watch: Drop {
+    ghost use Rattle.std.specs.Prelude.{◌≡◌, List, [], ◌∷◌, ◌++◌};
+    ghost use Rattle.live_laps.specs.Notes.{Note, lap_worked, lap_ticked, line_ended};
 
-/// Is told how the lines go on, while no lock is held.
-pub trait Watch {
-    /// At the end of each lap of the ticker.
-    fn lap(&self, totals: Totals);
+    // These notes, in this order, lead from one state of it to another.
+    ghost went: { Self → List Note → Self → Type 0 };
 
-    /// Where a line ends.
-    fn ended(&self, line: LineName, end: End);
+    /// Another of the same, for another line.
+    fn another(&self) -> Self
+        ensures { result ≡ self.now };
+
+    /// At the end of each lap of a worker: what it came to.
+    fn worked<R: Wait>(&mut self, rt: &R, worked: Worked)
+        ensures { went self.old (lap_worked worked ∷ []) self.new };
+
+    /// At the end of each lap of the ticker: how far the history is past its start by then.
+    fn ticked<R: Wait>(&mut self, rt: &R, counts: Counts)
+        ensures { went self.old (lap_ticked counts ∷ []) self.new };
+
+    /// Where the line ends.
+    fn ended(&mut self, line: LineName, end: End)
+        ensures { went self.old (line_ended line end ∷ []) self.new };
+
+    // Without a note it stays as it is.
+    ghost starts: { (a : Self) → went a [] a };
+
+    // Notes behind notes are one list.
+    ghost goes_on: { (a b c : Self) (xs ys : List Note) →
+        went a xs b → went b ys c → went a (xs ++ ys) c };
 }

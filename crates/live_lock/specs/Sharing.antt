@@ -44,15 +44,16 @@ entry_count (Dropped receipt cause audit) = 1
 entry_count (Short back) = 0
 entry_count (HistoryFull back) = 0
 
--- An event took its place: by then the history went on from its start by some entries, it was a
--- legal one whose objects were at rest, and what became of the event is what that history makes of
--- it.
-pub record TakesPlace (start : History) (e : Event) (applied : Applied) (buffer : Buffered) :
-    Type 0 where
+-- An event took its place, whose caller had made so many entries: by then the history went on from its
+-- start by some entries, all of the caller's among them, it was a legal one whose objects were at
+-- rest, and what became of the event is what that history makes of it.
+pub record TakesPlace (start : History) (made : ℕ) (e : Event) (applied : Applied)
+    (buffer : Buffered) : Type 0 where
   pub before : History
   pub later : History
   pub count : ℕ
   pub held : IsHeld start before count
+  pub behind : made ≤ count
   pub legal : IsHistory before
   pub applies : Applies before e applied later buffer
 

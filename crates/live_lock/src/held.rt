@@ -91,26 +91,36 @@ impl<O: MibObject, L: Run> Held<O, L> {
         requires encodable { IsEncodable event }
         requires told { IfOk told (λ t. t ≡ told_of event) }
         requires takes { OnErr told (TakesMemory (told_of event)) }
-        ensures place { TakesPlace L.start event result buffer.new }
+        ensures place { TakesPlace L.start share.old.amount event result buffer.new }
         ensures told { IsToldOf event result buffer.new }
         ensures amount { share.new.amount ≡ share.old.amount + entry_count result }
         ensures parts { share.new.parts ≡ share.old.parts }
     {
         let Held { kept, book, .. } = self;
         kept.legal();
+        book.audit(share);
         let applied = kept.apply_told(alloc, event, told, buffer);
         book.add(share, entries_of(&applied));
         applied
     }
 
-    /// How far the history is past its start.
-    pub fn counts(&self) -> Counts
-        ensures { IsCounted L.start result }
+    /// How far the history is past its start: at least by the entries that the share counts.
+    pub fn counts(&mut self, share: &mut Share<L>) -> Counts
+        ensures counted { IsCounted L.start share.old.amount result }
+        ensures amount { share.new.amount ≡ share.old.amount }
+        ensures parts { share.new.parts ≡ share.old.parts }
     {
-        self.kept.legal();
+        let Held {
+            kept,
+            next_at_start,
+            base_at_start,
+            book,
+        } = self;
+        kept.legal();
+        book.audit(share);
         Counts {
-            entries: self.kept.next_number() - self.next_at_start,
-            older: self.kept.base_number() - self.base_at_start,
+            entries: kept.next_number() - *next_at_start,
+            older: kept.base_number() - *base_at_start,
         }
     }
 

@@ -14,9 +14,9 @@
 //! `specs/Counting.antt`: how far a shared history is past its start.
 //!
 //! # Laws
-//! That each answer is the history's at a place of its own, on each call of [`Live`]; that what is
-//! taken out goes on from what was put in, by as many entries as the shares count, on
-//! [`Live::close`].
+//! That each answer is the history's at a place of its own, behind all entries that the caller made,
+//! and that what is counted has these too, on each call of [`Live`]; that what is taken out goes on
+//! from what was put in, by as many entries as the shares count, on [`Live::close`].
 //!
 //! # Not claimed
 //! Which of two threads comes first; that a call that waits for the lock returns.

@@ -63,7 +63,7 @@ impl<O: MibObject, L: Run> Live<O, L> {
         buffer: &mut Buffer,
     ) -> Applied
         requires { 0 < share.old.parts }
-        ensures place { TakesPlace L.start (event.Frame port frame) result buffer.new }
+        ensures place { TakesPlace L.start share.old.amount (event.Frame port frame) result buffer.new }
         ensures told { IsToldOf (event.Frame port frame) result buffer.new }
         ensures amount { share.new.amount ≡ share.old.amount + entry_count result }
         ensures parts { share.new.parts ≡ share.old.parts }
@@ -80,7 +80,7 @@ impl<O: MibObject, L: Run> Live<O, L> {
         buffer: &mut Buffer,
     ) -> Applied
         requires { 0 < share.old.parts }
-        ensures place { TakesPlace L.start event.Tick result buffer.new }
+        ensures place { TakesPlace L.start share.old.amount event.Tick result buffer.new }
         ensures told { IsToldOf event.Tick result buffer.new }
         ensures amount { share.new.amount ≡ share.old.amount + entry_count result }
         ensures parts { share.new.parts ≡ share.old.parts }
@@ -99,7 +99,7 @@ impl<O: MibObject, L: Run> Live<O, L> {
         buffer: &mut Buffer,
     ) -> Applied
         requires { 0 < share.old.parts }
-        ensures place { TakesPlace L.start (event.Link port up) result buffer.new }
+        ensures place { TakesPlace L.start share.old.amount (event.Link port up) result buffer.new }
         ensures told { IsToldOf (event.Link port up) result buffer.new }
         ensures amount { share.new.amount ≡ share.old.amount + entry_count result }
         ensures parts { share.new.parts ≡ share.old.parts }
@@ -117,7 +117,7 @@ impl<O: MibObject, L: Run> Live<O, L> {
         buffer: &mut Buffer,
     ) -> Applied
         requires { 0 < share.old.parts }
-        ensures place { TakesPlace L.start (event.Policy policy) result buffer.new }
+        ensures place { TakesPlace L.start share.old.amount (event.Policy policy) result buffer.new }
         ensures told { IsToldOf (event.Policy policy) result buffer.new }
         ensures amount { share.new.amount ≡ share.old.amount + entry_count result }
         ensures parts { share.new.parts ≡ share.old.parts }
@@ -138,7 +138,7 @@ impl<O: MibObject, L: Run> Live<O, L> {
     ) -> Applied
         requires part { 0 < share.old.parts }
         requires encodable { AreEncodable request.bindings }
-        ensures place { TakesPlace L.start (event.Request request) result buffer.new }
+        ensures place { TakesPlace L.start share.old.amount (event.Request request) result buffer.new }
         ensures told { IsToldOf (event.Request request) result buffer.new }
         ensures amount { share.new.amount ≡ share.old.amount + entry_count result }
         ensures parts { share.new.parts ≡ share.old.parts }
@@ -174,7 +174,7 @@ impl<O: MibObject, L: Run> Live<O, L> {
     ) -> Applied
         requires part { 0 < share.old.parts }
         requires encodable { IsEncodable event }
-        ensures place { TakesPlace L.start event result buffer.new }
+        ensures place { TakesPlace L.start share.old.amount event result buffer.new }
         ensures told { IsToldOf event result buffer.new }
         ensures amount { share.new.amount ≡ share.old.amount + entry_count result }
         ensures parts { share.new.parts ≡ share.old.parts }
@@ -183,11 +183,14 @@ impl<O: MibObject, L: Run> Live<O, L> {
         self.locked(rt).apply(alloc, share, event, told, buffer)
     }
 
-    /// How far the history is past its start, at the time of the call.
-    pub fn counts<R: Wait>(&self, rt: &R) -> Counts
-        ensures { IsCounted L.start result }
+    /// How far the history is past its start, at the time of the call: at least by the entries that
+    /// the caller made.
+    pub fn counts<R: Wait>(&self, rt: &R, share: &mut Share<L>) -> Counts
+        ensures counted { IsCounted L.start share.old.amount result }
+        ensures amount { share.new.amount ≡ share.old.amount }
+        ensures parts { share.new.parts ≡ share.old.parts }
     {
-        self.locked(rt).counts()
+        self.locked(rt).counts(share)
     }
 
     /// Takes the history out, which went on from its start by as many entries as the share of all

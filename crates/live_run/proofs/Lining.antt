@@ -1,25 +1,25 @@
 -- How many entries a line made, and one line more.
-use Rattle.std.proofs.Common.{◌≡◌, ◌∙◌, ℕ, ◌+◌, inl, inr, Bool, List, [], ◌∷◌, ◌++◌, length, sym, ap, subst, arith}
+use Rattle.std.proofs.Common.{◌≡◌, ◌∙◌, ℕ, ◌+◌, inl, inr, List, [], ◌∷◌, ◌++◌, length, sym, ap, subst, arith}
 use Rattle.wire_core.specs.Acts.{Act}
 use Rattle.live_agent.specs.declared.trace.End.{End}
 use Rattle.live_agent.specs.declared.trace.Item.{Item}
 use Rattle.live_agent.specs.declared.trace.Ran.{Ran}
 use Rattle.std.specs.Prelude.{Option, Some, None}
-use Rattle.live_agent.specs.Turns.{Turn, entered_in}
+use Rattle.live_agent.specs.Turns.{Turn, acts_of, entered_in}
 use Rattle.live_agent.specs.Runs.{HasRun, all_items}
-use Rattle.live_agent.specs.Lines.{Setting, HasLinked, HasLinkedAndRun, HasPortRun, HasTicked}
+use Rattle.live_agent.specs.Lines.{Setting, HasLinked, HasLinkedAndRun, HasPortRun}
 use Rattle.live_agent.proofs.Running.{entered_one, entered_in-append}
 use Rattle.live_run.specs.Crews.{AllRan, entered_by}
 
 -- ---- the entries of a line, from a share with nothing on it
 
-pub run_amount : {W : Type 0} (went : W → List Act → W → Type 0) (is_turn : Turn → Type 0) (rounds : ℕ) (a b : W) (trace : List Item) (amount later : ℕ) (how : End)
-    → HasRun went is_turn rounds a b [] trace amount later how → later ≡ amount + entered_in trace
-run_amount went is_turn rounds a b trace amount later how h = h.amount_is ∙ ap (λ (l : List Item). amount + entered_in l) (sym h.items_are)
+pub run_amount : {W D : Type 0} (went : W → List D → W → Type 0) (does : Turn → List D) (is_turn : Turn → Type 0) (rounds : ℕ) (a b : W) (trace : List Item) (amount later : ℕ) (how : End)
+    → HasRun went does is_turn rounds a b [] trace amount later how → later ≡ amount + entered_in trace
+run_amount went does is_turn rounds a b trace amount later how h = h.amount_is ∙ ap (λ (l : List Item). amount + entered_in l) (sym h.items_are)
 
-abbrev pub rebased : {W : Type 0} (went : W → List Act → W → Type 0) (is_turn : Turn → Type 0) (rounds : ℕ) (a b : W) (items trace : List Item) (amount later n m : ℕ) (how : End)
-    → HasRun went is_turn rounds a b items trace amount later how → m + amount ≡ n + later → HasRun went is_turn rounds a b items trace n m how
-rebased went is_turn rounds a b items trace amount later n m how h same =
+abbrev pub rebased : {W D : Type 0} (went : W → List D → W → Type 0) (does : Turn → List D) (is_turn : Turn → Type 0) (rounds : ℕ) (a b : W) (items trace : List Item) (amount later n m : ℕ) (how : End)
+    → HasRun went does is_turn rounds a b items trace amount later how → m + amount ≡ n + later → HasRun went does is_turn rounds a b items trace n m how
+rebased went does is_turn rounds a b items trace amount later n m how h same =
     record {
       turns = h.turns;
       are = h.are;
@@ -29,10 +29,10 @@ rebased went is_turn rounds a b items trace amount later n m how h same =
       ends = h.ends;
     }
 
-abbrev pub worker_ran : {W : Type 0} (went : W → List Act → W → Type 0) (is_turn : Turn → Type 0) (rounds : ℕ) (a b : W) (trace : List Item) (amount later : ℕ) (how : End)
-    → HasRun went is_turn rounds a b [] trace amount later how → HasRun went is_turn rounds a b [] trace 0 (entered_in trace) how
-worker_ran went is_turn rounds a b trace amount later how h =
-    rebased went is_turn rounds a b [] trace amount later 0 (entered_in trace) how h (omega (arith, run_amount went is_turn rounds a b trace amount later how h))
+abbrev pub line_ran : {W D : Type 0} (went : W → List D → W → Type 0) (does : Turn → List D) (is_turn : Turn → Type 0) (rounds : ℕ) (a b : W) (trace : List Item) (amount later : ℕ) (how : End)
+    → HasRun went does is_turn rounds a b [] trace amount later how → HasRun went does is_turn rounds a b [] trace 0 (entered_in trace) how
+line_ran went does is_turn rounds a b trace amount later how h =
+    rebased went does is_turn rounds a b [] trace amount later 0 (entered_in trace) how h (omega (arith, run_amount went does is_turn rounds a b trace amount later how h))
 
 -- ---- a port's
 
@@ -80,15 +80,8 @@ port_ran went s port rounds a b trace amount later how (inr (inr r)) =
       first_items = r.first_items;
       first_amount = entered_in r.first_items;
       linked = linked_rebased went s port a r.between r.first_items amount r.first_amount None r.linked;
-      run = rebased went _ rounds r.between b r.first_items trace r.first_amount later (entered_in r.first_items) (entered_in trace) how r.run (omega (arith, first, all));
+      run = rebased went acts_of _ rounds r.between b r.first_items trace r.first_amount later (entered_in r.first_items) (entered_in trace) how r.run (omega (arith, first, all));
     }))
-
--- ---- the ticker's
-
-pub ticker_ran : {W P : Type 0} (went : W → List Act → W → Type 0) (pace_went : P → List Bool → P → Type 0) (s : Setting) (rounds : ℕ) (a b : W) (p q : P) (trace : List Item) (amount later : ℕ) (how : End)
-    → HasTicked went pace_went s rounds a b p q trace amount later how → HasTicked went pace_went s rounds a b p q trace 0 (entered_in trace) how
-ticker_ran went pace_went s rounds a b p q trace amount later how t =
-    record { run = worker_ran went _ rounds a b trace amount later how t.run; answers = t.answers }
 
 -- ---- one line more
 

@@ -10,34 +10,33 @@ ghost use Rattle.live_run.specs.Crews.{WorkerRan, PortRan, TickerRan, AllRan, Cr
 
 use crate::lines::{Lines, Runs};
 use history_core::Kept;
-use live_agent::{Gate, Plan, Ran, port_run, ticker_run, worker_run};
+use live_agent::{GatedWire, PacedWire, Plan, Ran, port_run, ticker_run, worker_run};
 use live_lock::{Live, Run};
 use setphase_core::MibObject;
 use std::marker::Brand;
 use std::sync::Wait;
 use std::sync::ledger::{Blank, Share};
 use std::thread::{Threads, join};
-use wire_core::{Pace, Wire};
+use wire_core::Wire;
 
 // One worker, which owns its share and its wire while it runs.
-fn work<O: MibObject, L: Run, W: Wire, G: Gate, R: Wait>(
+fn work<O: MibObject, L: Run, A: GatedWire, R: Wait>(
     rt: &R,
     plan: &Plan,
     live: &Live<O, L>,
-    gate: &G,
     worker: usize,
     share: Share<L>,
-    wire: W,
-) -> (Share<L>, W, Ran)
+    wire: A,
+) -> (Share<L>, A, Ran)
     requires { 0 < share.parts }
-    ensures ran { WorkerRan W.went W.failures (setting_of L.start plan.now) plan.now.rounds wire
-        result.1 result.2 }
+    ensures ran { WorkerRan A.did A.failures (setting_of L.start plan.now) plan.now.rounds worker
+        wire result.1 result.2 }
     ensures amount { result.0.amount ≡ share.amount + entered_in result.2.trace }
     ensures parts { result.0.parts ≡ share.parts }
 {
     let mut share = share;
     let mut wire = wire;
-    let ran = worker_run(rt, plan, live, &mut share, &mut wire, gate, worker);
+    let ran = worker_run(rt, plan, live, &mut share, &mut wire, worker);
     (share, wire, ran)
 }
 
@@ -63,25 +62,23 @@ fn pass<O: MibObject, L: Run, W: Wire, R: Wait>(
 }
 
 // The same of the ticker.
-fn tick<O: MibObject, L: Run, W: Wire, P: Pace, R: Wait>(
+fn tick<O: MibObject, L: Run, T: PacedWire, R: Wait>(
     rt: &R,
     plan: &Plan,
     live: &Live<O, L>,
     share: Share<L>,
-    wire: W,
-    pace: P,
-) -> (Share<L>, W, P, Ran)
+    wire: T,
+) -> (Share<L>, T, Ran)
     requires { 0 < share.parts }
-    ensures ran { TickerRan W.went W.failures P.went (setting_of L.start plan.now) plan.now.rounds
-        wire result.1 pace result.2 result.3 }
-    ensures amount { result.0.amount ≡ share.amount + entered_in result.3.trace }
+    ensures ran { TickerRan T.did T.failures (setting_of L.start plan.now) plan.now.rounds wire
+        result.1 result.2 }
+    ensures amount { result.0.amount ≡ share.amount + entered_in result.2.trace }
     ensures parts { result.0.parts ≡ share.parts }
 {
     let mut share = share;
     let mut wire = wire;
-    let mut pace = pace;
-    let ran = ticker_run(rt, plan, live, &mut share, &mut wire, &mut pace);
-    (share, wire, pace, ran)
+    let ran = ticker_run(rt, plan, live, &mut share, &mut wire);
+    (share, wire, ran)
 }
 
 // A worker for each wire, each in a thread beside the others. Gives back the share, the wires, and how
@@ -89,23 +86,21 @@ fn tick<O: MibObject, L: Run, W: Wire, P: Pace, R: Wait>(
 fn run_workers<
     O: MibObject + Send,
     L: Run + Send + Sync,
-    W: Wire + Send,
-    G: Gate + Sync,
+    A: GatedWire + Send,
     R: Threads + Wait + Sync,
 >(
     rt: &R,
     plan: &Plan,
     live: &Live<O, L>,
-    gate: &G,
     share: Share<L>,
-    wires: Vec<W>,
+    wires: Vec<A>,
     runs: Vec<Ran>,
-) -> (Share<L>, Vec<W>, Vec<Ran>)
+) -> (Share<L>, Vec<A>, Vec<Ran>)
     requires shared { MayShare O.row L.row O.MibObject L.start L.name L.parts }
     requires parts { vec_len wires < share.parts }
     requires empty { runs.items ≡ [] }
     requires room { vec_len wires ≤ vec_capacity runs }
-    ensures ran { AllRan (λ n. WorkerRan W.went W.failures (setting_of L.start plan.now)
+    ensures ran { AllRan (WorkerRan A.did A.failures (setting_of L.start plan.now)
         plan.now.rounds) 0 wires.items result.1.items result.2.items }
     ensures amount { result.0.amount ≡ share.amount + entered_by result.2.items }
     ensures parts { result.0.parts ≡ share.parts }
@@ -122,19 +117,18 @@ fn run_workers<
     let worker = wires.len();
     let (one, others) = join(
         rt,
-        move || -> (Share<L>, W, Ran)
+        move || -> (Share<L>, A, Ran)
             requires { 0 < mine.parts }
-            ensures ran { WorkerRan W.went W.failures (setting_of L.start plan.entry.now)
-                plan.entry.now.rounds wire result.1 result.2 }
+            ensures ran { WorkerRan A.did A.failures (setting_of L.start plan.entry.now)
+                plan.entry.now.rounds worker wire result.1 result.2 }
             ensures amount { result.0.amount ≡ mine.amount + entered_in result.2.trace }
             ensures parts { result.0.parts ≡ mine.parts }
-        { work(rt, plan, live, gate, worker, mine, wire) },
-        move || -> (Share<L>, Vec<W>, Vec<Ran>)
-            requires { IsSync R.row × IsSync G.row
-                × MayShare O.row L.row O.MibObject L.start L.name L.parts
+        { work(rt, plan, live, worker, mine, wire) },
+        move || -> (Share<L>, Vec<A>, Vec<Ran>)
+            requires { IsSync R.row × MayShare O.row L.row O.MibObject L.start L.name L.parts
                 × (vec_len wires < share.parts)
                 × (runs.items ≡ []) × (vec_len wires ≤ vec_capacity runs) }
-            ensures ran { AllRan (λ n. WorkerRan W.went W.failures
+            ensures ran { AllRan (WorkerRan A.did A.failures
                 (setting_of L.start plan.entry.now) plan.entry.now.rounds) 0 wires.items
                 result.1.items result.2.items }
             ensures amount { result.0.amount ≡ share.amount + entered_by result.2.items }
@@ -143,7 +137,7 @@ fn run_workers<
                 × (vec_len result.2 ≡ vec_len wires) }
             ensures wires { vec_capacity result.1 ≡ vec_capacity wires }
             ensures runs { vec_capacity result.2 ≡ vec_capacity runs }
-        { run_workers(rt, plan, live, gate, share, wires, runs) },
+        { run_workers(rt, plan, live, share, wires, runs) },
     );
     let (mine, wire, ran) = one;
     let (mut share, mut wires, mut runs) = others;
@@ -220,7 +214,7 @@ fn run_bridge<
     O: MibObject + Send,
     L: Run + Send + Sync,
     W: Wire + Send,
-    P: Pace,
+    T: PacedWire,
     R: Threads + Wait + Sync,
 >(
     rt: &R,
@@ -228,10 +222,9 @@ fn run_bridge<
     live: &Live<O, L>,
     share: Share<L>,
     ports: Vec<W>,
-    ticker: W,
-    pace: P,
+    ticker: T,
     runs: Vec<Ran>,
-) -> (Share<L>, Vec<W>, Vec<Ran>, W, P, Ran)
+) -> (Share<L>, Vec<W>, Vec<Ran>, T, Ran)
     requires shared { MayShare O.row L.row O.MibObject L.start L.name L.parts }
     requires parts { vec_len ports + 1 < share.parts }
     requires few { vec_len ports < 2 ^ 16 }
@@ -239,10 +232,10 @@ fn run_bridge<
     requires room { vec_len ports ≤ vec_capacity runs }
     ensures ports { AllRan (PortRan W.went W.failures (setting_of L.start plan.now)
         plan.now.rounds) 1 ports.items result.1.items result.2.items }
-    ensures ticker { TickerRan W.went W.failures P.went (setting_of L.start plan.now)
-        plan.now.rounds ticker result.3 pace result.4 result.5 }
+    ensures ticker { TickerRan T.did T.failures (setting_of L.start plan.now) plan.now.rounds
+        ticker result.3 result.4 }
     ensures amount { result.0.amount
-        ≡ share.amount + (entered_by result.2.items + entered_in result.5.trace) }
+        ≡ share.amount + (entered_by result.2.items + entered_in result.4.trace) }
     ensures parts { result.0.parts ≡ share.parts }
 {
     let mut share = share;
@@ -260,47 +253,45 @@ fn run_bridge<
             ensures amount { result.0.amount ≡ theirs.amount + entered_by result.2.items }
             ensures parts { result.0.parts ≡ theirs.parts }
         { run_ports(rt, plan, live, theirs, ports, runs) },
-        move || -> (Share<L>, W, P, Ran)
+        move || -> (Share<L>, T, Ran)
             requires { 0 < share.parts }
-            ensures ran { TickerRan W.went W.failures P.went (setting_of L.start plan.entry.now)
-                plan.entry.now.rounds ticker result.1 pace result.2 result.3 }
-            ensures amount { result.0.amount ≡ share.amount + entered_in result.3.trace }
+            ensures ran { TickerRan T.did T.failures (setting_of L.start plan.entry.now)
+                plan.entry.now.rounds ticker result.1 result.2 }
+            ensures amount { result.0.amount ≡ share.amount + entered_in result.2.trace }
             ensures parts { result.0.parts ≡ share.parts }
-        { tick(rt, plan, live, share, ticker, pace) },
+        { tick(rt, plan, live, share, ticker) },
     );
     let (theirs, ports, runs) = passed;
-    let (mut share, ticker, pace, ran) = ticked;
+    let (mut share, ticker, ran) = ticked;
     share.merge(theirs);
-    (share, ports, runs, ticker, pace, ran)
+    (share, ports, runs, ticker, ran)
 }
 
 // What the workers left, and what the ports and the ticker left, as what all lines left.
-fn gathered<L: Run, W, P>(
-    worked: (Share<L>, Vec<W>, Vec<Ran>),
-    bridged: (Share<L>, Vec<W>, Vec<Ran>, W, P, Ran),
-) -> (Share<L>, Lines<W, P>, Runs)
+fn gathered<L: Run, A, W, T>(
+    worked: (Share<L>, Vec<A>, Vec<Ran>),
+    bridged: (Share<L>, Vec<W>, Vec<Ran>, T, Ran),
+) -> (Share<L>, Lines<A, W, T>, Runs)
     ensures amount { result.0.amount ≡ bridged.0.amount + worked.0.amount }
     ensures parts { result.0.parts ≡ bridged.0.parts + worked.0.parts }
     ensures lines { result.1 ≡ record {
       workers = worked.1;
       ports = bridged.1;
       ticker = bridged.3;
-      pace = bridged.4;
     } }
     ensures runs { result.2 ≡ record {
       workers = worked.2;
       ports = bridged.2;
-      ticker = bridged.5;
+      ticker = bridged.4;
     } }
 {
     let (theirs, workers, worker_runs) = worked;
-    let (mut share, ports, port_runs, ticker, pace, ran) = bridged;
+    let (mut share, ports, port_runs, ticker, ran) = bridged;
     share.merge(theirs);
     let lines = Lines {
         workers,
         ports,
         ticker,
-        pace,
     };
     let runs = Runs {
         workers: worker_runs,
@@ -314,28 +305,27 @@ fn gathered<L: Run, W, P>(
 fn run_crew<
     O: MibObject + Send,
     L: Run + Send + Sync,
+    A: GatedWire + Send,
     W: Wire + Send,
-    P: Pace,
-    G: Gate + Sync,
+    T: PacedWire,
     R: Threads + Wait + Sync,
 >(
     rt: &R,
     plan: &Plan,
     live: &Live<O, L>,
-    gate: &G,
     share: Share<L>,
-    lines: Lines<W, P>,
+    lines: Lines<A, W, T>,
     worker_runs: Vec<Ran>,
     port_runs: Vec<Ran>,
-) -> (Share<L>, Lines<W, P>, Runs)
+) -> (Share<L>, Lines<A, W, T>, Runs)
     requires shared { MayShare O.row L.row O.MibObject L.start L.name L.parts }
     requires parts { vec_len lines.workers + vec_len lines.ports + 2 < share.parts }
     requires few { (vec_len lines.workers < 2 ^ 16) × (vec_len lines.ports < 2 ^ 16) }
     requires empty { (worker_runs.items ≡ []) × (port_runs.items ≡ []) }
     requires room { (vec_len lines.workers ≤ vec_capacity worker_runs)
         × (vec_len lines.ports ≤ vec_capacity port_runs) }
-    ensures crew { CrewRan W.went W.failures P.went (setting_of L.start plan.now)
-        plan.now.rounds lines result.1 result.2 }
+    ensures crew { CrewRan A.did A.failures W.went W.failures T.did T.failures
+        (setting_of L.start plan.now) plan.now.rounds lines result.1 result.2 }
     ensures amount { result.0.amount ≡ share.amount + entered_of result.2 }
     ensures parts { result.0.parts ≡ share.parts }
 {
@@ -343,23 +333,22 @@ fn run_crew<
         workers,
         ports,
         ticker,
-        pace,
     } = lines;
     let mut share = share;
     let theirs = share.split_off(workers.len() as u64 + 1, 0);
     let (worked, bridged) = join(
         rt,
-        move || -> (Share<L>, Vec<W>, Vec<Ran>)
-            requires { IsSync R.row × IsSync G.row × MayShare O.row L.row O.MibObject L.start L.name L.parts
+        move || -> (Share<L>, Vec<A>, Vec<Ran>)
+            requires { IsSync R.row × MayShare O.row L.row O.MibObject L.start L.name L.parts
                 × (vec_len workers < theirs.parts) × (worker_runs.items ≡ [])
                 × (vec_len workers ≤ vec_capacity worker_runs) }
-            ensures ran { AllRan (λ n. WorkerRan W.went W.failures
+            ensures ran { AllRan (WorkerRan A.did A.failures
                 (setting_of L.start plan.entry.now) plan.entry.now.rounds) 0 workers.items
                 result.1.items result.2.items }
             ensures amount { result.0.amount ≡ theirs.amount + entered_by result.2.items }
             ensures parts { result.0.parts ≡ theirs.parts }
-        { run_workers(rt, plan, live, gate, theirs, workers, worker_runs) },
-        move || -> (Share<L>, Vec<W>, Vec<Ran>, W, P, Ran)
+        { run_workers(rt, plan, live, theirs, workers, worker_runs) },
+        move || -> (Share<L>, Vec<W>, Vec<Ran>, T, Ran)
             requires { IsSync R.row × MayShare O.row L.row O.MibObject L.start L.name L.parts
                 × (vec_len ports + 1 < share.parts)
                 × (vec_len ports < 2 ^ 16) × (port_runs.items ≡ [])
@@ -367,13 +356,13 @@ fn run_crew<
             ensures ports { AllRan (PortRan W.went W.failures
                 (setting_of L.start plan.entry.now) plan.entry.now.rounds) 1 ports.items
                 result.1.items result.2.items }
-            ensures ticker { TickerRan W.went W.failures P.went
-                (setting_of L.start plan.entry.now) plan.entry.now.rounds ticker result.3 pace
-                result.4 result.5 }
+            ensures ticker { TickerRan T.did T.failures
+                (setting_of L.start plan.entry.now) plan.entry.now.rounds ticker result.3
+                result.4 }
             ensures amount { result.0.amount
-                ≡ share.amount + (entered_by result.2.items + entered_in result.5.trace) }
+                ≡ share.amount + (entered_by result.2.items + entered_in result.4.trace) }
             ensures parts { result.0.parts ≡ share.parts }
-        { run_bridge(rt, plan, live, share, ports, ticker, pace, port_runs) },
+        { run_bridge(rt, plan, live, share, ports, ticker, port_runs) },
     );
     gathered(worked, bridged)
 }
@@ -382,20 +371,19 @@ fn run_crew<
 fn run_over<
     O: MibObject + Send,
     L: Run + Send + Sync,
+    A: GatedWire + Send,
     W: Wire + Send,
-    P: Pace,
-    G: Gate + Sync,
+    T: PacedWire,
     R: Threads + Wait + Sync,
 >(
     rt: &R,
     plan: &Plan,
-    gate: &G,
     kept: Kept<O>,
     blank: Blank,
-    lines: Lines<W, P>,
+    lines: Lines<A, W, T>,
     worker_runs: Vec<Ran>,
     port_runs: Vec<Ran>,
-) -> (Kept<O>, Lines<W, P>, Runs)
+) -> (Kept<O>, Lines<A, W, T>, Runs)
     requires name { blank.name ≡ L.name }
     requires all { blank.parts ≡ L.parts }
     requires start { kept ≡ L.start }
@@ -404,22 +392,13 @@ fn run_over<
     requires empty { (worker_runs.items ≡ []) × (port_runs.items ≡ []) }
     requires room { (vec_len lines.workers ≤ vec_capacity worker_runs)
         × (vec_len lines.ports ≤ vec_capacity port_runs) }
-    ensures crew { CrewRan W.went W.failures P.went (setting_of L.start plan.now)
-        plan.now.rounds lines result.1 result.2 }
+    ensures crew { CrewRan A.did A.failures W.went W.failures T.did T.failures
+        (setting_of L.start plan.now) plan.now.rounds lines result.1 result.2 }
     ensures held { IsHeld L.start result.0 (entered_of result.2) }
     ensures legal { IsHistory result.0 }
 {
     let (live, share) = Live::<O, L>::new(kept, blank);
-    let (share, lines, runs) = run_crew(
-        rt,
-        plan,
-        &live,
-        gate,
-        share,
-        lines,
-        worker_runs,
-        port_runs,
-    );
+    let (share, lines, runs) = run_crew(rt, plan, &live, share, lines, worker_runs, port_runs);
     let kept = live.close(share);
     (kept, lines, runs)
 }
@@ -428,30 +407,29 @@ fn run_over<
 /// back, and so do the lines.
 pub fn run_from<
     O: MibObject + Send,
+    A: GatedWire + Send,
     W: Wire + Send,
-    P: Pace,
-    G: Gate + Sync,
+    T: PacedWire,
     R: Threads + Wait + Sync,
 >(
     rt: &R,
     plan: &Plan,
-    gate: &G,
     kept: Kept<O>,
-    lines: Lines<W, P>,
+    lines: Lines<A, W, T>,
     worker_runs: Vec<Ran>,
     port_runs: Vec<Ran>,
-) -> (Kept<O>, Lines<W, P>, Runs)
+) -> (Kept<O>, Lines<A, W, T>, Runs)
     requires few { (vec_len lines.workers < 2 ^ 16) × (vec_len lines.ports < 2 ^ 16) }
     requires empty { (worker_runs.items ≡ []) × (port_runs.items ≡ []) }
     requires room { (vec_len lines.workers ≤ vec_capacity worker_runs)
         × (vec_len lines.ports ≤ vec_capacity port_runs) }
-    ensures crew { CrewRan W.went W.failures P.went (setting_of kept plan.now) plan.now.rounds
-        lines result.1 result.2 }
+    ensures crew { CrewRan A.did A.failures W.went W.failures T.did T.failures
+        (setting_of kept plan.now) plan.now.rounds lines result.1 result.2 }
     ensures held { IsHeld kept result.0 (entered_of result.2) }
     ensures legal { IsHistory result.0 }
 {
     // A part for each line, and one more for those that start the workers and the ports.
     let parts = lines.workers.len() as u64 + lines.ports.len() as u64 + 3;
     let blank = Blank::new(parts);
-    run_over::<O, Brand, W, P, G, R>(rt, plan, gate, kept, blank, lines, worker_runs, port_runs)
+    run_over::<O, Brand, A, W, T, R>(rt, plan, kept, blank, lines, worker_runs, port_runs)
 }

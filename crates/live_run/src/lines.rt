@@ -3,15 +3,13 @@ use live_agent::Ran;
 
 /// What a run goes over.
 #[derive(Drop)]
-pub struct Lines<W, P> {
-    /// The wire of each worker.
-    pub workers: Vec<W>,
+pub struct Lines<A, W, T> {
+    /// The wire of each worker, counted from 0, with its gate.
+    pub workers: Vec<A>,
     /// The wire of each port, from port 1 on.
     pub ports: Vec<W>,
-    /// The wire over which the ticker sends.
-    pub ticker: W,
-    /// The ticker's pace.
-    pub pace: P,
+    /// The wire over which the ticker sends, with its pace.
+    pub ticker: T,
 }
 
 /// How each line of a run ended, and what it left.

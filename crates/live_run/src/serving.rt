@@ -7,12 +7,12 @@ use crate::judging::judge;
 use crate::lines::Lines;
 use crate::report::{Report, RunFault};
 use history_core::Kept;
-use live_agent::{Gate, Plan, Ran};
+use live_agent::{GatedWire, PacedWire, Plan, Ran};
 use setphase_core::MibObject;
 use std::alloc::{AllocError, Global};
 use std::sync::Wait;
 use std::thread::Threads;
-use wire_core::{Pace, Wire};
+use wire_core::Wire;
 
 // Room for how so many lines ran.
 fn room_for(alloc: Global, lines: usize) -> Result<Vec<Ran>, AllocError>
@@ -35,19 +35,19 @@ fn room_for(alloc: Global, lines: usize) -> Result<Vec<Ran>, AllocError>
 /// ran; else all lines ran all the same.
 pub fn serve_run<
     O: MibObject + Send,
+    A: GatedWire + Send,
     W: Wire + Send,
-    P: Pace,
-    G: Gate + Sync,
+    T: PacedWire,
     R: Threads + Wait + Sync,
 >(
     rt: &R,
     plan: &Plan,
-    gate: &G,
     kept: Kept<O>,
-    lines: Lines<W, P>,
-) -> (Lines<W, P>, Kept<O>, Result<Report, RunFault>)
+    lines: Lines<A, W, T>,
+) -> (Lines<A, W, T>, Kept<O>, Result<Report, RunFault>)
     requires few { (vec_len lines.workers < 2 ^ 16) × (vec_len lines.ports < 2 ^ 16) }
-    ensures { Serves W.went W.failures P.went plan.now kept result.1 lines result.0 result.2 }
+    ensures { Serves A.did A.failures W.went W.failures T.did T.failures plan.now kept
+        result.1 lines result.0 result.2 }
 {
     let Ok(worker_runs) = room_for(plan.alloc, lines.workers.len()) else {
         return (lines, kept, Err(RunFault::Memory));
@@ -55,7 +55,7 @@ pub fn serve_run<
     let Ok(port_runs) = room_for(plan.alloc, lines.ports.len()) else {
         return (lines, kept, Err(RunFault::Memory));
     };
-    let (kept, lines, runs) = run_from(rt, plan, gate, kept, lines, worker_runs, port_runs);
+    let (kept, lines, runs) = run_from(rt, plan, kept, lines, worker_runs, port_runs);
     let report = judge(plan.alloc, &kept, runs);
     (lines, kept, report)
 }

@@ -7,7 +7,6 @@ use fixtures::message::{Message, Pdu};
 use fixtures::names::{ENABLE_1, ENABLE_2, PRIORITY};
 use fixtures::worlds::built_in;
 use history_core::Kept;
-use live_agent::OpenGate;
 use object_list::{COLUMNS, ColumnDescriptor, ENABLE, PlainObject};
 use setphase_core::{DeviceFault, MibObject};
 use std::alloc::Global;
@@ -92,7 +91,7 @@ fn after<O: MibObject + Send, R: Threads + Wait + Sync>(
         workers.push(asking(alloc, messages)?)?;
     }
     let lines = lines_of(alloc, workers, MemoryWire::new(alloc), 0)?;
-    let (_, history, report) = run(rt, alloc, 10, &OpenGate, history, lines)?;
+    let (_, history, report) = run(rt, alloc, 10, history, lines)?;
     let _ = report.ok().ok_or("a report")?;
     Ok(history)
 }

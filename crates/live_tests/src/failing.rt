@@ -1,9 +1,9 @@
 //! Runs in which one call of one wire fails.
-use crate::support::{FLOODED, asking, carrying, of_edges, run};
+use crate::support::{FLOODED, LinesOver, asking, carrying, of_edges, open, run};
 use fixtures::message::Held::Null;
 use fixtures::message::get;
 use fixtures::names::PORTS;
-use live_agent::OpenGate;
+use live_agent::{OpenGate, Paced};
 use live_run::{Lines, RunFault};
 use std::alloc::Global;
 use std::sync::Wait;
@@ -28,7 +28,11 @@ fn fails_at(line: Line, failing: Line, call: u64) -> u64 {
 
 // A worker with one Get, two ports, and a ticker of three seconds, of which one line's wire fails at
 // this call. To one port comes a frame that is none, to the other one that goes out by the first.
-fn lines_failing(alloc: Global, failing: Line, call: u64) -> Result<Lines<Wires, CountPace>, Fail> {
+fn lines_failing(
+    alloc: Global,
+    failing: Line,
+    call: u64,
+) -> Result<LinesOver<Wires, OpenGate>, Fail> {
     let worker = FailingWire::new(
         asking(alloc, &[get(&[(PORTS, Null)])])?,
         fails_at(Line::Worker, failing, call),
@@ -43,10 +47,12 @@ fn lines_failing(alloc: Global, failing: Line, call: u64) -> Result<Lines<Wires,
     );
     let ticker = MemoryWire::new(alloc);
     Ok(Lines {
-        workers: Vec::from_array(alloc, [worker])?,
+        workers: Vec::from_array(alloc, [open(worker)])?,
         ports: Vec::from_array(alloc, [first, second])?,
-        ticker: FailingWire::new(ticker, fails_at(Line::Ticker, failing, call)),
-        pace: CountPace::new(3),
+        ticker: Paced {
+            wire: FailingWire::new(ticker, fails_at(Line::Ticker, failing, call)),
+            pace: CountPace::new(3),
+        },
     })
 }
 
@@ -58,7 +64,7 @@ fn failed_at<R: Threads + Wait + Sync>(
     call: u64,
 ) -> Result<(Option<RunFault>, u64), Fail> {
     let lines = lines_failing(alloc, failing, call)?;
-    let (_, history, report) = run(rt, alloc, 10, &OpenGate, of_edges(alloc)?, lines)?;
+    let (_, history, report) = run(rt, alloc, 10, of_edges(alloc)?, lines)?;
     Ok((report.err(), history.next_number()))
 }
 

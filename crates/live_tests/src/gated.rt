@@ -1,17 +1,16 @@
 //! Two workers at the same time, of which a gate holds one until the other's call is answered.
-use crate::support::{MANAGER, asking, count_of, lines_of, of_edges, peer, run};
+use crate::support::{LinesOver, MANAGER, asking, count_of, lines_under, of_edges, peer, run};
 use fixtures::message::Held::{Integer, Null};
 use fixtures::message::{get, octets_of, of, reply, set};
 use fixtures::names::PRIORITY;
-use live_agent::Gate;
-use live_run::Lines;
+use live_agent::{Gate, Gated};
 use std::alloc::Global;
 use std::sync::{Mutex, Wait};
 use std::test::Fail;
 use std::thread;
 use std::thread::Threads;
 use std::time::{Clock, Duration};
-use wire_core::{CountPace, MemoryWire};
+use wire_core::MemoryWire;
 
 // How often a held worker looks whether the other's call is answered.
 const TURNS: u32 = 1000;
@@ -19,16 +18,13 @@ const TURNS: u32 = 1000;
 // How long it waits between two looks, in milliseconds.
 const TURN_MILLIS: u64 = 10;
 
-// Holds one worker ahead of its call until a call is answered, for 1,000 turns of 10 milliseconds.
-// It counts the calls that are to begin and those that are answered, and those that it let begin when
-// its turns were over.
+// The calls of all workers that are to begin and those that are answered, and those that a gate let
+// begin when its turns were over.
 #[derive(Drop)]
-struct HoldGate<C> {
-    held: usize,
+struct Calls {
     asked: Mutex<u64>,
     answered: Mutex<u64>,
     late: Mutex<u64>,
-    clock: C,
 }
 
 // One more.
@@ -37,39 +33,72 @@ fn count<R: Wait>(rt: &R, counter: &Mutex<u64>) {
     *counter = counter.saturating_add(1);
 }
 
-impl<C: Clock> HoldGate<C> {
+impl Calls {
+    // None yet.
+    fn new() -> Calls {
+        Calls {
+            asked: Mutex::new(0),
+            answered: Mutex::new(0),
+            late: Mutex::new(0),
+        }
+    }
+
     // Whether a call is answered.
     fn is_answered<R: Wait>(&self, rt: &R) -> bool {
         *self.answered.lock(rt) > 0
     }
 }
 
-impl<C: Clock> Gate for HoldGate<C> {
-    fn before<R: Wait>(&self, rt: &R, worker: usize) {
-        count(rt, &self.asked);
+// The gate of each worker, which holds the one of this number ahead of its call until a call is
+// answered, for 1,000 turns of 10 milliseconds.
+#[derive(Drop)]
+struct HoldGate<'c, C> {
+    held: usize,
+    calls: &'c Calls,
+    clock: C,
+}
+
+impl<C: Clock + Drop> Gate for HoldGate<'_, C> {
+    ghost went = { λ _ _ _. Unit };
+
+    ghost starts = { λ _. tt };
+
+    ghost goes_on = { λ _ _ _ _ _ _ _. tt };
+
+    fn before<R: Wait>(&mut self, rt: &R, worker: usize) {
+        count(rt, &self.calls.asked);
         if worker != self.held {
             return;
         }
         for _ in 0..TURNS {
-            if self.is_answered(rt) {
+            if self.calls.is_answered(rt) {
                 return;
             }
             thread::sleep(&self.clock, Duration::from_millis(TURN_MILLIS));
         }
-        count(rt, &self.late);
+        count(rt, &self.calls.late);
     }
 
-    fn after<R: Wait>(&self, rt: &R, _worker: usize, _number: u64) {
-        count(rt, &self.answered);
+    fn after<R: Wait>(&mut self, rt: &R, _worker: usize, _number: u64) {
+        count(rt, &self.calls.answered);
     }
 }
 
-// Worker 0, which sets the priority, and worker 1, which asks for it.
-fn two_workers(alloc: Global) -> Result<Lines<MemoryWire, CountPace>, Fail> {
+// Worker 0, which sets the priority, and worker 1, which asks for it, under these gates.
+fn two_workers<G: Gate>(alloc: Global, gates: [G; 2]) -> Result<LinesOver<MemoryWire, G>, Fail> {
     let setter = asking(alloc, &[of("admin", set(&[(PRIORITY, Integer(8192))]))])?;
     let getter = asking(alloc, &[of("admin", get(&[(PRIORITY, Null)]))])?;
+    let [first, second] = gates;
+    let setter = Gated {
+        wire: setter,
+        gate: first,
+    };
+    let getter = Gated {
+        wire: getter,
+        gate: second,
+    };
     let workers = Vec::from_array(alloc, [setter, getter])?;
-    lines_of(alloc, workers, MemoryWire::new(alloc), 0)
+    lines_under(alloc, workers, MemoryWire::new(alloc), 0)
 }
 
 // How many replies the worker that asks sends while a gate holds the other, or itself, how many of
@@ -78,28 +107,34 @@ fn two_workers(alloc: Global) -> Result<Lines<MemoryWire, CountPace>, Fail> {
 type Read = ((usize, usize, u64), (u64, u64));
 
 // What is read so.
-fn reads<C: Clock + Sync + Drop, R: Threads + Wait + Sync>(
+fn reads<C: Clock + Send + Copy, R: Threads + Wait + Sync>(
     rt: &R,
     alloc: Global,
     clock: C,
     held: usize,
     value: i32,
 ) -> Result<Read, Fail> {
-    let gate = HoldGate {
-        held,
-        asked: Mutex::new(0),
-        answered: Mutex::new(0),
-        late: Mutex::new(0),
-        clock,
-    };
-    let lines = two_workers(alloc)?;
-    let (lines, _, report) = run(rt, alloc, 10, &gate, of_edges(alloc)?, lines)?;
+    let calls = Calls::new();
+    let gates = [
+        HoldGate {
+            held,
+            calls: &calls,
+            clock,
+        },
+        HoldGate {
+            held,
+            calls: &calls,
+            clock,
+        },
+    ];
+    let lines = two_workers(alloc, gates)?;
+    let (lines, _, report) = run(rt, alloc, 10, of_edges(alloc)?, lines)?;
     let entries = report.ok().ok_or("a report")?.entries;
     let octets = octets_of(alloc, &of("admin", reply(&[(PRIORITY, Integer(value))])))?;
     let asking = lines.workers.get(1).ok_or("a worker")?;
-    let told = count_of(asking.sent(), peer(MANAGER), &octets);
-    let (asked, late) = (*gate.asked.lock(rt), *gate.late.lock(rt));
-    Ok(((asking.sent().len(), told, entries), (asked, late)))
+    let told = count_of(asking.wire.sent(), peer(MANAGER), &octets);
+    let (asked, late) = (*calls.asked.lock(rt), *calls.late.lock(rt));
+    Ok(((asking.wire.sent().len(), told, entries), (asked, late)))
 }
 
 #[test]

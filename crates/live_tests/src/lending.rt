@@ -1,7 +1,7 @@
 //! How many octets each line lends to its wire: one more than the longest request that is read (2,048
 //! octets), and one more than the longest frame (IEEE 802.3, 3.2.7: 1,518 octets).
-use crate::support::{of_edges, run};
-use live_agent::OpenGate;
+use crate::support::{LinesOver, of_edges, open, run};
+use live_agent::{OpenGate, Paced};
 use live_run::Lines;
 use std::alloc::Global;
 use std::net::SocketAddr;
@@ -34,12 +34,14 @@ impl Wire for LentWire {
 }
 
 // A worker and two ports.
-fn lines_lending(alloc: Global) -> Result<Lines<LentWire, CountPace>, Fail> {
+fn lines_lending(alloc: Global) -> Result<LinesOver<LentWire, OpenGate>, Fail> {
     Ok(Lines {
-        workers: Vec::from_array(alloc, [LentWire { lent: 0 }])?,
+        workers: Vec::from_array(alloc, [open(LentWire { lent: 0 })])?,
         ports: Vec::from_array(alloc, [LentWire { lent: 0 }, LentWire { lent: 0 }])?,
-        ticker: LentWire { lent: 0 },
-        pace: CountPace::new(0),
+        ticker: Paced {
+            wire: LentWire { lent: 0 },
+            pace: CountPace::new(0),
+        },
     })
 }
 
@@ -47,8 +49,8 @@ fn lines_lending(alloc: Global) -> Result<Lines<LentWire, CountPace>, Fail> {
 fn lines_lend_one_octet_more_than_is_read(rt: HostRuntime) -> Result<(), Fail> {
     let alloc = rt.alloc();
     let lines = lines_lending(alloc)?;
-    let (lines, _, report) = run(&rt, alloc, 1, &OpenGate, of_edges(alloc)?, lines)?;
-    let worker = lines.workers.first().ok_or("a worker")?.lent;
+    let (lines, _, report) = run(&rt, alloc, 1, of_edges(alloc)?, lines)?;
+    let worker = lines.workers.first().ok_or("a worker")?.wire.lent;
     let (first, second) = match lines.ports.as_slice() {
         [first, second] => (first.lent, second.lent),
         _ => return Err(Fail::from("two ports")),

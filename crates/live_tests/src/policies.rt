@@ -86,7 +86,8 @@ fn told_around<L: Run, R: Wait>(
     let ahead = tells(rt, alloc, &live, &mut share, shown)?;
     let number = put_policy(rt, alloc, &live, &mut share)?;
     let behind = tells(rt, alloc, &live, &mut share, hidden)?;
-    Ok((ahead, number, behind, live.counts(rt).entries))
+    let entries = live.counts(rt, &mut share).entries;
+    Ok((ahead, number, behind, entries))
 }
 
 // The same, of a history in which nothing has happened.

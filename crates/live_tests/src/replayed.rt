@@ -11,7 +11,7 @@ use fixtures::message::Held::{Integer, Null};
 use fixtures::message::{Message, Pdu, octets_of};
 use fixtures::names::{LEARNED_PORT, PRIORITY, SINCE, STATE_1};
 use history_core::{Applied, Event, Kept, Receipt, ReceiptEvent};
-use live_agent::{Item, OpenGate, Ran};
+use live_agent::{Item, Ran};
 use live_run::Runs;
 use message_core::{Request, decode};
 use std::alloc::Global;
@@ -167,7 +167,7 @@ fn compared<R: Threads + Wait + Sync>(
         [asking(alloc, &[SET, NEXT])?, asking(alloc, &[GET])?],
     )?;
     let lines = lines_of(alloc, workers, carrying(alloc, &FLOODED)?, 3)?;
-    let (lines, mut history, report) = run(rt, alloc, 10, &OpenGate, of_edges(alloc)?, lines)?;
+    let (lines, mut history, report) = run(rt, alloc, 10, of_edges(alloc)?, lines)?;
     let report = report.ok().ok_or("a report")?;
     let (stood, mut again) = replayed(alloc, &report.runs, report.entries)?;
     let told = [

@@ -1,7 +1,7 @@
 //! Whole runs over wires in memory.
 use crate::support::{
-    FLOODED, MANAGER, PEER_OF_PORT_2, Shown, asking, carrying, count_of, lines_of, of_edges,
-    of_fast_hello, packets_to, peer, policed, run,
+    FLOODED, LinesOver, MANAGER, PEER_OF_PORT_2, Shown, asking, carrying, count_of, lines_of,
+    of_edges, of_fast_hello, packets_to, peer, policed, run,
 };
 use fixtures::message::Held::{Integer, NoObject, Null};
 use fixtures::message::{Message, Pdu, octets_of};
@@ -9,17 +9,17 @@ use fixtures::names::{HELLO, PRIORITY};
 use fixtures::policies::MASKED;
 use history_core::Kept;
 use live_agent::OpenGate;
-use live_run::{Lines, Report};
+use live_run::Report;
 use std::alloc::Global;
 use std::sync::Wait;
 use std::test::Fail;
 use std::thread::Threads;
-use wire_core::{CountPace, MemoryWire};
+use wire_core::MemoryWire;
 
 // dot1dStpPortState of port 2.
 const STATE_OF_2: &str = "1.3.6.1.2.1.17.2.15.1.3.2";
 
-type Wires = Lines<MemoryWire, CountPace>;
+type Wires = LinesOver<MemoryWire, OpenGate>;
 
 // What a run of one worker and a wire for port 1 leaves, and its report.
 fn ran<R: Threads + Wait + Sync>(
@@ -31,7 +31,7 @@ fn ran<R: Threads + Wait + Sync>(
 ) -> Result<(Wires, Kept<Shown>, Report), Fail> {
     let (worker, port) = wires;
     let lines = lines_of(alloc, Vec::from_array(alloc, [worker])?, port, seconds)?;
-    let (lines, history, report) = run(rt, alloc, 5000, &OpenGate, history, lines)?;
+    let (lines, history, report) = run(rt, alloc, 5000, history, lines)?;
     Ok((lines, history, report.ok().ok_or("a report")?))
 }
 
@@ -91,10 +91,10 @@ fn answers<R: Threads + Wait + Sync>(
     let history = history_of(alloc, case.world)?;
     let (lines, history, report) = ran(rt, alloc, history, wires, case.seconds)?;
     let worker = lines.workers.first().ok_or("a worker")?;
-    let told = count_of(worker.sent(), peer(MANAGER), &octets);
+    let told = count_of(worker.wire.sent(), peer(MANAGER), &octets);
     let base = history.base_number();
     Ok((
-        [packets_to(worker.sent(), peer(MANAGER)), told],
+        [packets_to(worker.wire.sent(), peer(MANAGER)), told],
         [report.entries, report.requests, base, report.older],
     ))
 }

@@ -5,7 +5,7 @@ use fixtures::message::{Message, octets_of};
 use fixtures::worlds::{Served, all_of, bridge_of, built_in_for, edges, port};
 use frame_core::Mac;
 use history_core::Kept;
-use live_agent::{Gate, Plan};
+use live_agent::{Gate, Gated, OpenGate, Paced, Plan};
 use live_run::{Lines, Report, RunFault, serve_run};
 use object_list::{Object, objects};
 use rstp_core::{BridgeKey, IfIndex, Key};
@@ -96,20 +96,23 @@ fn plan_of(alloc: Global, rounds: u64) -> Result<Plan, Fail> {
     })
 }
 
-/// What a run of so many rounds leaves under a gate, and its report.
-pub fn run<O: MibObject + Send, W: Wire + Send, G: Gate + Sync, R: Threads + Wait + Sync>(
+/// Lines over wires of one kind, whose workers have gates of one kind, and whose ticker has a number
+/// of seconds.
+pub type LinesOver<W, G> = Lines<Gated<W, G>, W, Paced<W, CountPace>>;
+
+/// What a run of so many rounds leaves, and its report.
+pub fn run<O: MibObject + Send, W: Wire + Send, G: Gate + Send, R: Threads + Wait + Sync>(
     rt: &R,
     alloc: Global,
     rounds: u64,
-    gate: &G,
     history: Kept<O>,
-    lines: Lines<W, CountPace>,
-) -> Result<(Lines<W, CountPace>, Kept<O>, Result<Report, RunFault>), Fail> {
+    lines: LinesOver<W, G>,
+) -> Result<(LinesOver<W, G>, Kept<O>, Result<Report, RunFault>), Fail> {
     let plan = plan_of(alloc, rounds)?;
     if lines.workers.len() > 8 || lines.ports.len() > 2 {
         return Err(Fail::from("few lines"));
     }
-    Ok(serve_run(rt, &plan, gate, history, lines))
+    Ok(serve_run(rt, &plan, history, lines))
 }
 
 /// A wire that gives these messages of a manager, in order, and is closed behind them.
@@ -128,20 +131,44 @@ pub fn carrying(alloc: Global, frame: &[u8]) -> Result<MemoryWire, Fail> {
     Ok(wire)
 }
 
+/// A worker's wire that no gate holds.
+pub fn open<W>(wire: W) -> Gated<W, OpenGate> {
+    Gated {
+        wire,
+        gate: OpenGate,
+    }
+}
+
 /// The lines of a bridge of two ports: these workers, a wire for port 1, and a closed one for port 2;
 /// the ticker has so many seconds.
+pub fn lines_under<G: Gate>(
+    alloc: Global,
+    workers: Vec<Gated<MemoryWire, G>>,
+    port: MemoryWire,
+    seconds: u64,
+) -> Result<LinesOver<MemoryWire, G>, Fail> {
+    Ok(Lines {
+        workers,
+        ports: Vec::from_array(alloc, [port, MemoryWire::new(alloc)])?,
+        ticker: Paced {
+            wire: MemoryWire::new(alloc),
+            pace: CountPace::new(seconds),
+        },
+    })
+}
+
+/// The same of workers that no gate holds.
 pub fn lines_of(
     alloc: Global,
     workers: Vec<MemoryWire>,
     port: MemoryWire,
     seconds: u64,
-) -> Result<Lines<MemoryWire, CountPace>, Fail> {
-    Ok(Lines {
-        workers,
-        ports: Vec::from_array(alloc, [port, MemoryWire::new(alloc)])?,
-        ticker: MemoryWire::new(alloc),
-        pace: CountPace::new(seconds),
-    })
+) -> Result<LinesOver<MemoryWire, OpenGate>, Fail> {
+    let mut open_workers = Vec::new(alloc);
+    for wire in workers {
+        open_workers.push(open(wire))?;
+    }
+    lines_under(alloc, open_workers, port, seconds)
 }
 
 /// How many of these packets go to this peer.

@@ -12,6 +12,6 @@ pub record IsPlan (setup : Setup) (plan : Plan) : Type 0 where
   pub peers_are : map (λ peer. Some peer) plan.peers.items ≡ map (λ port. port.peer) setup.ports.items
 
 -- as many lines as a setup has: a worker for each thread that is to answer, and a line for each port
-pub record AreLines {W P : Type 0} (setup : Setup) (lines : Lines W P) : Type 0 where
+pub record AreLines {A W T : Type 0} (setup : Setup) (lines : Lines A W T) : Type 0 where
   pub workers : vec_len lines.workers ≡ setup.serve.workers
   pub ports : vec_len lines.ports ≡ length setup.ports.items

@@ -5,13 +5,15 @@ use Rattle.std.specs.declared.alloc.Global.{Global}
 use Rattle.std.specs.declared.io.Error.{Error}
 use Rattle.wire_core.specs.Acts.{Act}
 use Rattle.history_core.specs.History.{History}
+use Rattle.live_agent.specs.Deeds.{Deed}
 use Rattle.live_agent.specs.declared.plan.Plan.{Plan}
 use Rattle.live_agent.specs.declared.trace.End.{End}
 use Rattle.live_agent.specs.declared.trace.End.TheVariants.{Rounds, Closed, Full, Wire, Memory}
 use Rattle.live_run.specs.declared.lines.Lines.{Lines}
 use Rattle.live_laps.specs.Laps.{HaveGoneOn}
 use Rattle.live_laps.specs.Lines.{all_lines}
-use Rattle.live_laps.specs.declared.line.Line.{Line}
+use Rattle.live_laps.specs.Notes.{Note}
+use Rattle.live_laps.specs.declared.line.Watched.{Watched}
 use Rattle.udp_agent.specs.Binding.{IsPlan, AreLines}
 use Rattle.udp_agent.specs.declared.setup.Setup.{Setup}
 
@@ -28,26 +30,31 @@ abbrev pub is_any_failure : List End → Bool
 is_any_failure [] = false
 is_any_failure (end ∷ ends) = is_failure end || is_any_failure ends
 
-module _ {W P : Type 0} (went : W → List Act → W → Type 0) (failures : W → ℕ)
-    (pace_went : P → List Bool → P → Type 0) where
-  -- All these lines went on lap by lap over this history, by this plan, and each ended so.
-  pub record HaveServed (plan : Plan) (start : History) (run : Lines W P) (ends : List End) : Type 0 where
+module _ {A W T V : Type 0} (worker_did : A → List Deed → A → Type 0) (worker_failures : A → ℕ)
+    (went : W → List Act → W → Type 0) (failures : W → ℕ)
+    (ticker_did : T → List Deed → T → Type 0) (ticker_failures : T → ℕ)
+    (watch_went : V → List Note → V → Type 0) where
+  -- All these lines, each with such a watch, went on lap by lap over this history, by this plan, and
+  -- each ended so.
+  pub record HaveServed (watch : V) (plan : Plan) (start : History) (run : Lines A W T) (ends : List End) : Type 0 where
     pub later : History
-    pub left : List (Line W P)
-    pub gone_on : HaveGoneOn went failures pace_went plan start later (all_lines run) left ends
+    pub left : List (Watched A W T V)
+    pub gone_on : HaveGoneOn worker_did worker_failures went failures ticker_did ticker_failures
+        watch_went plan start later (all_lines watch run) left ends
 
   -- What comes of lines that are to go on: nothing is said of where there was no memory to begin with.
-  abbrev pub IsServingForever : Plan → History → Lines W P → Result (Vec End Global) AllocError → Type 0
-  IsServingForever plan start run (Ok ends) = HaveServed plan start run ends.items
-  IsServingForever plan start run (Err refused) = Unit {0}
+  abbrev pub IsServingForever : V → Plan → History → Lines A W T → Result (Vec End Global) AllocError → Type 0
+  IsServingForever watch plan start run (Ok ends) = HaveServed watch plan start run ends.items
+  IsServingForever watch plan start run (Err refused) = Unit {0}
 
   -- Lines of this setup went on, by its plan.
   pub record IsServedForeverBy (setup : Setup) (start : History) (ends : List End) : Type 0 where
     pub plan : Plan
     pub planned : IsPlan setup plan
-    pub run : Lines W P
+    pub run : Lines A W T
     pub bound : AreLines setup run
-    pub served : HaveServed plan start run ends
+    pub watch : V
+    pub served : HaveServed watch plan start run ends
 
   -- What comes of a setup that is served without an end: nothing is said of where its sockets could
   -- not be bound, or where there was no memory to begin with.

@@ -4,22 +4,34 @@ ghost use Rattle.udp_agent.specs.Binding.{IsPlan, AreLines};
 
 use crate::setup::Setup;
 use configuration::{Port, Serve};
-use live_agent::Plan;
+use live_agent::{Gated, OpenGate, Paced, Plan};
 use live_run::Lines;
 use std::alloc::Global;
 use std::io::{self, ErrorKind};
 use std::net::{Net, SocketAddr};
 use std::time::Clock;
-use wire_core::{SecondPace, UdpWire, Wire};
+use wire_core::{SecondPace, UdpWire};
+
+/// The wire of a worker over UDP, which no gate holds.
+pub type UdpWorker = Gated<UdpWire, OpenGate>;
+
+/// The wire of the ticker over UDP, at a pace of a tick each second by a clock.
+pub type UdpTicker<C> = Paced<UdpWire, SecondPace<C>>;
+
+/// The lines of an agent over UDP.
+pub type UdpLines<C> = Lines<UdpWorker, UdpWire, UdpTicker<C>>;
 
 // The wires of the threads that answer requests, which share one socket.
-fn bind_workers<R: Net>(rt: &R, alloc: Global, serve: &Serve) -> io::Result<Vec<UdpWire>>
+fn bind_workers<R: Net>(rt: &R, alloc: Global, serve: &Serve) -> io::Result<Vec<UdpWorker>>
     ensures { IfOk result (λ workers. vec_len workers ≡ serve.now.workers) }
 {
     let socket = UdpWire::bind(rt, alloc, serve.snmp)?;
     let mut workers = Vec::new(alloc);
     for _ in 0..serve.workers {
-        workers.push(socket.share()?)?;
+        workers.push(Gated {
+            wire: socket.share()?,
+            gate: OpenGate,
+        })?;
     }
     Ok(workers)
 }
@@ -82,7 +94,7 @@ pub fn plan_of(alloc: Global, setup: &Setup) -> io::Result<Plan>
 }
 
 // Lines, unless there are more of them than can be numbered.
-fn few<W: Wire, P: Drop>(lines: Lines<W, P>) -> io::Result<Lines<W, P>>
+fn few<A: Drop, W: Drop, T: Drop>(lines: Lines<A, W, T>) -> io::Result<Lines<A, W, T>>
     ensures same { IfOk result (λ few. few ≡ lines) }
     ensures few { IfOk result (λ lines.
         (vec_len lines.workers < 2 ^ 16 - 1) × (vec_len lines.ports < 2 ^ 16 - 1)) }
@@ -105,18 +117,20 @@ pub fn bind_lines<R: Net, C: Clock + Drop>(
     clock: C,
     alloc: Global,
     setup: &Setup,
-) -> io::Result<Lines<UdpWire, SecondPace<C>>>
+) -> io::Result<UdpLines<C>>
     ensures lines { IfOk result (AreLines setup.now) }
     ensures few { IfOk result (λ lines.
         (vec_len lines.workers < 2 ^ 16 - 1) × (vec_len lines.ports < 2 ^ 16 - 1)) }
 {
     let workers = bind_workers(rt, alloc, &setup.serve)?;
     let ports = bind_ports(rt, alloc, setup.ports.as_slice())?;
-    let ticker = share_first(ports.as_slice())?;
+    let ticker = Paced {
+        wire: share_first(ports.as_slice())?,
+        pace: SecondPace::new(clock),
+    };
     few(Lines {
         workers,
         ports,
         ticker,
-        pace: SecondPace::new(clock),
     })
 }

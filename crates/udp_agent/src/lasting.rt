@@ -2,12 +2,12 @@
 ghost use Rattle.std.specs.Prelude.{◌≡◌, ◌<◌, ◌^◌, ◌-◌, true, false, vec_len};
 ghost use Rattle.udp_agent.specs.Lasting.{is_failure, is_any_failure, IsServingForever, IsServedForever};
 
-use crate::binding::{bind_lines, plan_of};
+use crate::binding::{UdpTicker, UdpWorker, bind_lines, plan_of};
 use crate::setup::Setup;
 use crate::telling::Teller;
 use history_core::Kept;
-use live_agent::{End, OpenGate, Plan};
-use live_laps::{Watch, lines_of, serve_laps};
+use live_agent::{End, GatedWire, PacedWire, Plan};
+use live_laps::{Book, Watch, lines_of, serve_laps};
 use live_run::Lines;
 use log::Log;
 use setphase_core::MibObject;
@@ -17,7 +17,7 @@ use std::net::Net;
 use std::sync::Wait;
 use std::thread::Threads;
 use std::time::Clock;
-use wire_core::{Pace, SecondPace, UdpWire, Wire};
+use wire_core::{UdpWire, Wire};
 
 // Whether a line that ended so failed: by its wire, or for want of memory.
 fn is_failure(end: End) -> bool
@@ -38,23 +38,30 @@ pub fn any_failed(ends: &[End]) -> bool
 
 /// Runs the lines of an agent over a history, each in a thread of its own and lap by lap, a lap being
 /// as many rounds as the plan has, until all have ended. Gives how each ended: the workers, from the
-/// first on, the ports, the ticker. The watch is told of each lap of the ticker, and of each line that
-/// ends.
+/// first on, the ports, the ticker. Each line has such a watch, which is told of each lap of a worker
+/// and of the ticker, and of the line's end.
 ///
 /// # Errors
 /// That there was no memory to begin with, and nothing ran.
 pub fn serve_lines_forever<
     O: MibObject + Send,
+    A: GatedWire + Send,
     W: Wire + Send,
-    P: Pace + Send,
-    V: Watch + Sync,
+    T: PacedWire + Send,
+    V: Watch + Send,
     R: Threads + Wait + Sync,
->(rt: &R, plan: &Plan, watch: &V, kept: Kept<O>, lines: Lines<W, P>) -> Result<Vec<End>, AllocError>
+>(
+    rt: &R,
+    plan: &Plan,
+    watch: V,
+    kept: Kept<O>,
+    lines: Lines<A, W, T>,
+) -> Result<Vec<End>, AllocError>
     requires few { (vec_len lines.workers < 2 ^ 16) × (vec_len lines.ports < 2 ^ 16 - 1) }
-    ensures { IsServingForever W.went W.failures P.went plan.now kept lines result }
+    ensures { IsServingForever A.did A.failures W.went W.failures T.did T.failures V.went watch plan.now kept lines result }
 {
-    let lines = lines_of(plan.alloc, lines)?;
-    let (_, _, answer) = serve_laps(rt, plan, &OpenGate, watch, kept, lines);
+    let lines = lines_of(plan.alloc, lines, watch)?;
+    let (_, _, answer) = serve_laps(rt, plan, kept, lines);
     answer
 }
 
@@ -71,12 +78,17 @@ pub fn serve_forever<'r, O: MibObject + Send, R: Threads + Wait + Net + Clock + 
     setup: &Setup,
     kept: Kept<O>,
 ) -> io::Result<Vec<End>>
-    ensures { IsServedForever ⟦<UdpWire as Wire>⟧.went ⟦<UdpWire as Wire>⟧.failures
-        ⟦<SecondPace<&'r R> as Pace>⟧.went setup.now kept result }
+    ensures { IsServedForever ⟦<UdpWorker as GatedWire>⟧.did ⟦<UdpWorker as Wire>⟧.failures
+        ⟦<UdpWire as Wire>⟧.went ⟦<UdpWire as Wire>⟧.failures
+        ⟦<UdpTicker<&'r R> as PacedWire>⟧.did ⟦<UdpTicker<&'r R> as Wire>⟧.failures
+        ⟦<Teller<'r, R> as Watch>⟧.went
+        setup.now kept result }
 {
     let plan = plan_of(alloc, setup)?;
     let lines = bind_lines(rt, rt, alloc, setup)?;
+    let book = Book::new();
+    let watch = Teller { rt, book: &book };
     // Of want of memory `?` makes an error of the system.
-    let ends = serve_lines_forever(rt, &plan, &Teller(rt), kept, lines)?;
+    let ends = serve_lines_forever(rt, &plan, watch, kept, lines)?;
     Ok(ends)
 }

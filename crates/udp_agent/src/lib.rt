@@ -31,8 +31,8 @@ mod serving;
 mod setup;
 mod telling;
 
-pub use binding::{bind_lines, plan_of};
+pub use binding::{UdpLines, UdpTicker, UdpWorker, bind_lines, plan_of};
 pub use lasting::{any_failed, serve_forever, serve_lines_forever};
 pub use serving::{ServeFault, serve, serve_lines};
 pub use setup::{Setup, setup_of};
-pub use telling::{tell_fault, tell_not_begun, tell_report};
+pub use telling::{Teller, tell_fault, tell_not_begun, tell_report};

@@ -2,10 +2,10 @@
 ghost use Rattle.std.specs.Prelude.{◌≡◌, ◌<◌, ◌^◌, vec_len};
 ghost use Rattle.udp_agent.specs.Serving.{IsServing, IsServed};
 
-use crate::binding::{bind_lines, plan_of};
+use crate::binding::{UdpTicker, UdpWorker, bind_lines, plan_of};
 use crate::setup::Setup;
 use history_core::Kept;
-use live_agent::{OpenGate, Plan};
+use live_agent::{GatedWire, PacedWire, Plan};
 use live_run::{Lines, Report, RunFault, serve_run};
 use setphase_core::MibObject;
 use std::alloc::Global;
@@ -14,7 +14,7 @@ use std::net::Net;
 use std::sync::Wait;
 use std::thread::Threads;
 use std::time::Clock;
-use wire_core::{Pace, SecondPace, UdpWire, Wire};
+use wire_core::{UdpWire, Wire};
 
 /// Why a served agent has no report.
 #[derive(Debug, Drop)]
@@ -40,16 +40,17 @@ impl From<io::Error> for ServeFault {
 ///
 /// # Errors
 /// Why there is no report.
-pub fn serve_lines<O: MibObject + Send, W: Wire + Send, P: Pace, R: Threads + Wait + Sync>(
-    rt: &R,
-    plan: &Plan,
-    kept: Kept<O>,
-    lines: Lines<W, P>,
-) -> Result<Report, RunFault>
+pub fn serve_lines<
+    O: MibObject + Send,
+    A: GatedWire + Send,
+    W: Wire + Send,
+    T: PacedWire,
+    R: Threads + Wait + Sync,
+>(rt: &R, plan: &Plan, kept: Kept<O>, lines: Lines<A, W, T>) -> Result<Report, RunFault>
     requires few { (vec_len lines.workers < 2 ^ 16) × (vec_len lines.ports < 2 ^ 16) }
-    ensures { IsServing W.went W.failures P.went plan.now kept lines result }
+    ensures { IsServing A.did A.failures W.went W.failures T.did T.failures plan.now kept lines result }
 {
-    let (_, _, answer) = serve_run(rt, plan, &OpenGate, kept, lines);
+    let (_, _, answer) = serve_run(rt, plan, kept, lines);
     answer
 }
 
@@ -65,8 +66,10 @@ pub fn serve<'r, O: MibObject + Send, R: Threads + Wait + Net + Clock + Sync>(
     setup: &Setup,
     kept: Kept<O>,
 ) -> Result<Report, ServeFault>
-    ensures { IsServed ⟦<UdpWire as Wire>⟧.went ⟦<UdpWire as Wire>⟧.failures
-        ⟦<SecondPace<&'r R> as Pace>⟧.went setup.now kept result }
+    ensures { IsServed ⟦<UdpWorker as GatedWire>⟧.did ⟦<UdpWorker as Wire>⟧.failures
+        ⟦<UdpWire as Wire>⟧.went ⟦<UdpWire as Wire>⟧.failures
+        ⟦<UdpTicker<&'r R> as PacedWire>⟧.did ⟦<UdpTicker<&'r R> as Wire>⟧.failures
+        setup.now kept result }
 {
     let plan = plan_of(alloc, setup)?;
     let lines = bind_lines(rt, rt, alloc, setup)?;

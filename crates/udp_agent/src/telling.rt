@@ -1,10 +1,12 @@
 //! Logs what a run did, why it has no report, and how lines go on.
 use crate::serving::ServeFault;
 use live_agent::End;
-use live_laps::{LineName, Totals, Watch};
+use live_laps::{Book, LineName, Watch, Worked};
+use live_lock::Counts;
 use live_run::{Report, RunFault};
 use log::{Log, error, info};
 use std::io;
+use std::sync::Wait;
 use wire_core::WireFault;
 
 /// Logs what a run did, in one line of level Info: `entries E requests Q older O drops D`.
@@ -37,33 +39,56 @@ pub fn tell_not_begun<R: Log>(rt: &R, why: &io::Error) {
     error!(rt; "not begun: {}", why);
 }
 
-/// Logs how lines go on, by this log: at the end of each lap of the ticker what all did so far, in a
-/// line of level Info as that of [`tell_report`]; where a line ends, which and why, in a line of level
-/// Error.
+/// Logs how lines go on, by this log: at the end of each lap of the ticker what all did so far, by the
+/// book of all lines, in a line of level Info as that of [`tell_report`]; where a line ends, which and
+/// why, in a line of level Error.
 #[derive(Drop)]
-pub struct Teller<'r, R>(pub &'r R);
+pub struct Teller<'r, R> {
+    /// By which it logs.
+    pub rt: &'r R,
+    /// What the laps of all workers came to.
+    pub book: &'r Book,
+}
 
 impl<R: Log> Watch for Teller<'_, R> {
-    fn lap(&self, totals: Totals) {
+    ghost went = { λ _ _ _. Unit };
+
+    ghost starts = { λ _. tt };
+
+    ghost goes_on = { λ _ _ _ _ _ _ _. tt };
+
+    fn another(&self) -> Self {
+        Teller {
+            rt: self.rt,
+            book: self.book,
+        }
+    }
+
+    fn worked<S: Wait>(&mut self, rt: &S, worked: Worked) {
+        self.book.add(rt, worked);
+    }
+
+    fn ticked<S: Wait>(&mut self, rt: &S, counts: Counts) {
+        let worked = self.book.read(rt);
         info!(
-            self.0;
+            self.rt;
             "entries {} requests {} older {} drops {}",
-            totals.entries,
-            totals.requests,
-            totals.older,
-            totals.drops
+            counts.entries,
+            worked.requests,
+            counts.older,
+            worked.drops
         );
     }
 
-    fn ended(&self, line: LineName, end: End) {
+    fn ended(&mut self, line: LineName, end: End) {
         let why = why_ended(end);
         match line {
             // Workers are counted from 0; people count from 1.
             LineName::Worker(number) => {
-                error!(self.0; "worker {} ended: {}", number.saturating_add(1), why)
+                error!(self.rt; "worker {} ended: {}", number.saturating_add(1), why)
             }
-            LineName::Port(number) => error!(self.0; "port {} ended: {}", number, why),
-            LineName::Ticker => error!(self.0; "the clock ended: {}", why),
+            LineName::Port(number) => error!(self.rt; "port {} ended: {}", number, why),
+            LineName::Ticker => error!(self.rt; "the clock ended: {}", why),
         }
     }
 }

@@ -1,26 +1,31 @@
 //! Lines that are bound by hand.
 use crate::support::{OWN, exchange, hears, here, history};
-use live_agent::Plan;
+use live_agent::{Gated, OpenGate, Paced, Plan};
 use live_run::Lines;
 use std::alloc::Global;
 use std::net::Net;
 use std::sync::Wait;
 use std::test::Fail;
 use std::thread::Threads;
-use udp_agent::serve_lines;
+use udp_agent::{UdpWorker, serve_lines};
 use wire_core::{CountPace, UdpWire, Wire};
 
+// Lines over UDP, whose ticker has a number of seconds.
+type CountedLines = Lines<UdpWorker, UdpWire, Paced<UdpWire, CountPace>>;
+
 // The lines of a worker alone, over this wire.
-fn lines_of<R: Net>(
-    rt: &R,
-    alloc: Global,
-    worker: UdpWire,
-) -> Result<Lines<UdpWire, CountPace>, Fail> {
+fn lines_of<R: Net>(rt: &R, alloc: Global, wire: UdpWire) -> Result<CountedLines, Fail> {
+    let worker = Gated {
+        wire,
+        gate: OpenGate,
+    };
     Ok(Lines {
         workers: Vec::from_array(alloc, [worker])?,
         ports: Vec::new(alloc),
-        ticker: UdpWire::bind(rt, alloc, here(0))?,
-        pace: CountPace::new(0),
+        ticker: Paced {
+            wire: UdpWire::bind(rt, alloc, here(0))?,
+            pace: CountPace::new(0),
+        },
     })
 }
 
@@ -28,7 +33,7 @@ fn lines_of<R: Net>(
 fn is_served<R: Threads + Wait + Sync>(
     rt: &R,
     alloc: Global,
-    lines: Lines<UdpWire, CountPace>,
+    lines: CountedLines,
 ) -> Result<bool, Fail> {
     let plan = Plan {
         alloc,

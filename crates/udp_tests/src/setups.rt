@@ -76,7 +76,8 @@ fn answers<R: Net + Clock + Threads + Wait + Sync>(
     let mut client = UdpWire::bind(rt, alloc, here(0))?;
     let setup = setup_to(neighbour.local_addr()?, served(here(0), workers))?;
     let lines = bind_lines(rt, rt, alloc, &setup)?;
-    let at = lines.workers.first().ok_or("a worker")?.local_addr()?;
+    let worker = lines.workers.first().ok_or("a worker")?;
+    let at = worker.wire.local_addr()?;
     let sent = client.send(at, datagram).is_ok();
     let plan = plan_of(alloc, &setup)?;
     let report = serve_lines(rt, &plan, history(alloc)?, lines)

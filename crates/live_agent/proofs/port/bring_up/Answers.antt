@@ -16,7 +16,7 @@ returns-clause-linked g c =
     let t = c.link-applied.ensures in
     record {
       happening = happening (event.Link c.args.port true) c.link-applied.result c.link-applied.new.buffer (fault_in c.send_ports-sent.result) s.0;
-      happens = record { event_is = refl; place = t.place; told = t.told; sent = s.2 };
+      happens = record { event_is = refl; made = c.args.share.now.amount; place = t.place; told = t.told; sent = s.2 };
       acts = s.1;
       items_are = c.push_reserved.ensures.items ∙ ap (λ (x : Item). c.args.desk.now.items.items ++ x ∷ []) c.item_of.ensures;
       amount_is = t.amount;

@@ -29,7 +29,7 @@ returns-clause-turn g c = λ a went.
     let f = c.in-Ok.frame in
     record {
       turn = was_taken (record { room = frame_room; peer = c.args.peer; octets = c.args.octets.now }) (happening (event.Frame c.args.port f) c.frame-applied.result c.frame-applied.new.buffer (fault_in c.send_forwarded-sent.result) s.0);
-      is = (refl, record { frame = f; reads = c.in-Ok.ensures.found; happens = record { event_is = refl; place = t.place; told = t.told; sent = s.2 } });
+      is = (refl, record { frame = f; reads = c.in-Ok.ensures.found; happens = record { event_is = refl; made = c.args.share.now.amount; place = t.place; told = t.told; sent = s.2 } });
       acts = g.met.W.Wire.goes_on _ _ _ _ _ went s.1;
       items_are = c.noted.ensures.items;
       amount_is = amount_is _ _ c.frame-applied.result t.amount;

@@ -1,10 +1,12 @@
-use Rattle.std.proofs.Common.{◌∙◌, ap, refl, sym, arith}
+use Rattle.std.proofs.Common.{◌∙◌, ◌∷◌, [], ap, refl, sym, arith}
 use Rattle.history_core.specs.declared.event.Event.TheVariants as event
+use Rattle.wire_core.specs.Acts.{got}
 use Rattle.live_sending.specs.Sending.{fault_in}
 use Rattle.live_agent.specs.Lines.{request_room}
 use Rattle.live_agent.specs.Turns.{was_taken, was_refused}
 use Rattle.live_agent.specs.declared.trace.Refusal.TheVariants as refusal
 use Rattle.live_agent.proofs.Turning.{happening, amount_is}
+use Rattle.live_agent.proofs.Visiting.{taken_deeds}
 use Rattle.std.specs.Prelude.{Option}
 use Rattle.live_agent.specs.declared.trace.End.{End}
 use Rattle.live_agent.specs.Runs.{failures_by}
@@ -16,7 +18,7 @@ returns-in-Err-clause-turn g c = λ a went.
     record {
       turn = was_refused (record { room = request_room; peer = c.args.peer; octets = c.args.octets.now }) (refusal.Datagram c.in-Err.cause);
       is = (refl, c.in-Err.ensures.cause);
-      acts = went;
+      acts = g.met.W.GatedWire.acts_are _ _ (got request_room c.args.peer c.args.octets.now ∷ []) went;
       items_are = c.push_reserved.ensures.items;
       amount_is = omega arith;
       ends_so = refl;
@@ -29,12 +31,14 @@ returns-clause-turn g c = λ a went.
     let r = c.in-Ok.request in
     record {
       turn = was_taken (record { room = request_room; peer = c.args.peer; octets = c.args.octets.now }) (happening (event.Request r) c.request-applied.result c.request-applied.new.buffer (fault_in c.send_answer-sent.result) s.0);
-      is = (refl, record { request = r; reads = c.in-Ok.ensures.request; happens = record { event_is = refl; place = t.place; told = t.told; sent = s.2 } });
-      acts = g.met.W.Wire.goes_on _ _ _ _ _ went s.1;
+      is = (refl, record { request = r; reads = c.in-Ok.ensures.request; happens = record { event_is = refl; made = c.args.share.now.amount; place = t.place; told = t.told; sent = s.2 } });
+      acts = taken_deeds g.W.Wire.went g.W.GatedWire.did g.met.W.GatedWire.acts_are g.met.W.GatedWire.deeds_go_on _ _ _ _ _ c.args.worker (got request_room c.args.peer c.args.octets.now) s.0 _ went c.before-2.ensures.did s.1 (rw c.number_of.ensures at c.tell.ensures.did);
       items_are = c.noted.ensures.items;
       amount_is = amount_is _ _ c.request-applied.result t.amount;
       ends_so = c.noted.ensures.ends;
     }
 
 pub returns-clause-failures : goal.returns-clause-failures
-returns-clause-failures g c = c.send_answer-sent.ensures.failures ∙ failures_noted c.request-applied.result (fault_in c.send_answer-sent.result) _ ∙ ap (λ (e : Option End). failures_by e (g.W.Wire.failures c.args.wire.now)) (sym c.noted.ensures.ends)
+returns-clause-failures g c =
+    let fault = fault_in c.send_answer-sent.result in
+    c.tell.ensures.kept ∙ c.send_answer-sent.ensures.failures ∙ failures_noted c.request-applied.result fault _ ∙ ap (λ (e : Option End). failures_by e (g.W.Wire.failures c.before-2.new.self)) (sym c.noted.ensures.ends) ∙ ap (λ n. failures_by c.noted.result n) c.before-2.ensures.kept

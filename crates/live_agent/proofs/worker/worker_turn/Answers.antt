@@ -1,13 +1,14 @@
 use Rattle.std.proofs.Common.{refl}
-use Rattle.live_agent.specs.Turns.{nothing_came, ended, broke}
+use Rattle.live_agent.specs.Lines.{worker_deeds}
+use Rattle.live_agent.specs.Turns.{nothing_came, ended, broke, acts_of}
 use Rattle.live_agent.proofs.Turning.{bare_turn}
 use Rattle.live_agent.proofs.worker.worker_turn.Goals as goal
 
 pub returns-in-Err-clause-turn : goal.returns-in-Err-clause-turn
-returns-in-Err-clause-turn g c = bare_turn g.W.Wire.went _ (broke c.in-Err.fault) _ _ _ _ _ tt c.in-Err.ensures.went refl refl
+returns-in-Err-clause-turn g c = bare_turn g.W.GatedWire.did (worker_deeds c.args.worker) _ (broke c.in-Err.fault) _ _ _ _ _ tt (g.met.W.GatedWire.acts_are _ _ (acts_of (broke c.in-Err.fault)) c.in-Err.ensures.went) refl refl
 
 pub returns-in-Ok-Nothing-clause-turn : goal.returns-in-Ok-Nothing-clause-turn
-returns-in-Ok-Nothing-clause-turn g c = bare_turn g.W.Wire.went _ nothing_came _ _ _ _ _ tt (rw c.in-Ok-Nothing.field-0-is at c.in-Ok-Nothing.ensures.went) refl refl
+returns-in-Ok-Nothing-clause-turn g c = bare_turn g.W.GatedWire.did (worker_deeds c.args.worker) _ nothing_came _ _ _ _ _ tt (g.met.W.GatedWire.acts_are _ _ (acts_of nothing_came) (rw c.in-Ok-Nothing.field-0-is at c.in-Ok-Nothing.ensures.went)) refl refl
 
 pub returns-in-Ok-Closed-clause-turn : goal.returns-in-Ok-Closed-clause-turn
-returns-in-Ok-Closed-clause-turn g c = bare_turn g.W.Wire.went _ ended _ _ _ _ _ tt (rw c.in-Ok-Closed.field-0-is at c.in-Ok-Closed.ensures.went) refl refl
+returns-in-Ok-Closed-clause-turn g c = bare_turn g.W.GatedWire.did (worker_deeds c.args.worker) _ ended _ _ _ _ _ tt (g.met.W.GatedWire.acts_are _ _ (acts_of ended) (rw c.in-Ok-Closed.field-0-is at c.in-Ok-Closed.ensures.went)) refl refl

@@ -6,5 +6,6 @@ returns g c = record {
   planned = c.in_ok-plan.ensures;
   run = c.in_ok-lines.lines;
   bound = c.in_ok-lines.ensures.lines;
+  watch = _;
   served = c.in_ok-ends.ensures;
 }

@@ -4,7 +4,7 @@ use Rattle.live_lock.proofs.held.Held.apply.Goals as goal
 
 pub invariant_of-self : goal.invariant_of-self
 invariant_of-self g c = (
-  applied-held g.L.Run.start _ _ c.self.inside.book.total _ c.args.event c.apply_told-applied.result _ c.legal.ensures.at_rest c.self.invariant.0 c.apply_told-applied.ensures (c.add.ensures.total ∙ ap (λ n. c.self.inside.book.total + n) c.entries_of.ensures),
+  applied-held g.L.Run.start _ _ c.self.inside.book.total _ c.args.event c.apply_told-applied.result _ c.legal.ensures.at_rest c.self.invariant.0 c.apply_told-applied.ensures (c.add.ensures.total ∙ ap (λ n. n + c.entries_of.result) c.audit.ensures.total ∙ ap (λ n. c.self.inside.book.total + n) c.entries_of.ensures),
   c.self.invariant.1,
   c.self.invariant.2,
 )
@@ -15,6 +15,7 @@ returns-clause-place g c = record {
   later = c.apply_told-applied.new.self;
   count = c.self.inside.book.total;
   held = c.self.invariant.0;
+  behind = c.audit.ensures.bound;
   legal = c.legal.ensures;
   applies = c.apply_told-applied.ensures;
 }

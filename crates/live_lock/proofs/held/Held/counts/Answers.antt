@@ -2,8 +2,8 @@ use Rattle.std.proofs.Common.{◌≡◌, ◌-◌, ℕ, subst, arith}
 use Rattle.live_lock.specs.Sharing.{IsHeld}
 use Rattle.live_lock.proofs.held.Held.counts.Goals as goal
 
-pub returns : goal.returns
-returns g c =
+pub returns-clause-counted : goal.returns-clause-counted
+returns-clause-counted g c =
     let held = c.self.invariant.0 in
     let counted = held.counted in
     let onward = held.onward in
@@ -11,10 +11,12 @@ returns g c =
     let base = c.base_number.ensures in
     let next_start = c.self.invariant.1 in
     let base_start = c.self.invariant.2 in
+    let bound = c.audit.ensures.bound in
     let count : c.self.inside.book.total ≡ c.next_number.result - c.self.inside.next_at_start = omega arith in
     record {
       then_was = c.self.inside.kept;
       held = subst (λ (n : ℕ). IsHeld g.L.Run.start c.self.inside.kept n) count held;
+      behind = omega arith;
       legal = c.legal.ensures;
       older = omega arith;
     }
