@@ -89,7 +89,13 @@ fn set_answer(alloc: Global, vacm: &Vacm, outcome: SetOutcome) -> Result<SetTold
 {
     let none = SettingKeys::new();
     match outcome {
-        SetOutcome::Done { changed: _ } => Ok(plain_answer(alloc, ErrorStatus::NoError, 0, None, none)),
+        SetOutcome::Done { changed: _ } => Ok(plain_answer(
+            alloc,
+            ErrorStatus::NoError,
+            0,
+            None,
+            none,
+        )),
         SetOutcome::Refused(refusal) => refusal_answer(alloc, vacm, refusal),
         SetOutcome::CommitFailed(number) => Ok(plain_answer(
             alloc,

@@ -105,7 +105,8 @@ pub fn bridge_of(alloc: Global, ports: u16) -> io::Result<Bridge> {
     }
 }
 
-/// Sends frames through bridges of 2 and 32 ports with 10 and 1,024 learned rows.
+/// Sends frames through bridges of 2 and 32 ports with 10 and 1,024 learned rows, and then through one
+/// with static rows.
 pub fn measure_forwarding(rt: &HostRuntime) -> io::Result<()> {
     for ports in PORTS {
         for rows in ROWS {

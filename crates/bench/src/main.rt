@@ -18,6 +18,7 @@ mod access;
 mod bridge;
 mod forwarding;
 mod print;
+mod statics;
 mod tree;
 
 use access::measure_access;

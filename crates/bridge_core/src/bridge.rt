@@ -232,15 +232,15 @@ impl Bridge {
         self.settings.get(key)
     }
 
-    /// A copy of the settings, to look later by `has_settings` whether they are still the same. It
-    /// takes no memory.
+    /// A copy of all settings but the static rows, to see later by `has_settings` whether they are
+    /// still the same. It takes no memory.
     pub fn copied_settings(&self) -> Settings
         ensures { result ≡ self.now.settings }
     {
         self.settings.copy()
     }
 
-    /// Whether the settings are the same as these, so that there is nothing to settle after a Set.
+    /// Whether all settings but the static rows are the same as these.
     pub fn has_settings(&self, settings: &Settings) -> bool
         ensures { IsTrue result ↔ (self.now.settings ≡ settings.now) }
     {
@@ -332,7 +332,8 @@ impl Bridge {
         self.statics.next_made(numbers)
     }
 
-    /// For how many static rows there is sure to be memory.
+    /// For how many static rows in all there is sure to be memory, those that are there among them. It
+    /// may be fewer than the rows.
     pub fn static_places(&self) -> usize
         ensures { result ≡ self.now.statics.places }
     {
@@ -344,8 +345,8 @@ impl Bridge {
     ///
     /// # Errors
     ///
-    /// `AllocError` where there is no memory for them. Nothing changed. It comes neither where the
-    /// rows are none, nor where there was sure to be memory for them before.
+    /// `AllocError` where there is no memory for them. Nothing changed. It comes neither where no
+    /// row is asked for, nor where there was sure to be memory for them before.
     pub fn reserve_static(&mut self, count: usize) -> Result<(), AllocError>
         ensures ok { OnOk result (self.new
             ≡ record self.old { statics = with_places_for count self.old.statics }) }

@@ -201,8 +201,8 @@ pub fn sources_are_learned()
         → (frame_result b port f no_room).bridge.learned ≡ b.learned }
 {}
 
-/// Static rows and learned ones do not meet: whatever static rows there are, the same is learned, and
-/// no frame changes a static row (7.8, 7.9).
+/// Whatever static rows there are, the same is learned from a frame, and no frame changes a static row
+/// (7.8, 7.9).
 pub fn learning_sees_no_static_row()
     ensures learned { (b : BridgeState) (t : Statics) (port : ℕ) (f : FrameIn) (no_room : Bool) →
         (frame_result (record b { statics = t }) port f no_room).bridge.learned

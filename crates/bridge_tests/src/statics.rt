@@ -128,7 +128,7 @@ fn the_row_of_the_port_decides_before_that_of_all(rt: HostRuntime) -> Result<(),
     set(&rt, &mut bridge, index(STATION, 1), [0, 0]);
     let before = bridge.port_facts(1).discards_in;
     assert_goes(&rt, &mut bridge, STATION, &[]);
-    assert_eq!(rt; bridge.port_facts(1).discards_in, before + 1);
+    assert_eq!(rt; bridge.port_facts(1).discards_in, before.wrapping_add(1));
     Ok(())
 }
 
@@ -304,6 +304,6 @@ fn a_frame_of_a_waiting_port_goes_nowhere(rt: HostRuntime) -> Result<(), Fail> {
     assert_eq!(rt; (facts.frames_in, facts.discards_in), (1, 1));
     let out = bridge.port_facts(2).frames_out;
     assert_goes(&rt, &mut bridge, STATION, &[2]);
-    assert_eq!(rt; bridge.port_facts(2).frames_out, out + 1);
+    assert_eq!(rt; bridge.port_facts(2).frames_out, out.wrapping_add(1));
     Ok(())
 }

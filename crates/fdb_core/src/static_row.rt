@@ -39,7 +39,7 @@ pub struct StaticRow {
     /// What the row is of.
     pub index: StaticIndex,
     /// Whether the row is made. One that is not made decides nothing: it keeps only the ports that
-    /// were set for it ahead.
+    /// are set for it, until the bridge is settled.
     pub made: bool,
     /// The ports by which the frames may go out.
     pub ports: PortSet,

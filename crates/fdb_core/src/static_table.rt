@@ -89,7 +89,8 @@ impl StaticTable {
         self.rows.is_empty()
     }
 
-    /// For how many rows it is sure to have memory.
+    /// For how many rows in all it is sure to have memory, those that are there among them. It may be
+    /// fewer than the rows.
     pub fn places(&self) -> usize
         ensures { result ≡ self.now.places }
     {
@@ -138,8 +139,8 @@ impl StaticTable {
     ///
     /// # Errors
     ///
-    /// `AllocError` where there is no memory for them. Nothing changed. It comes neither where the
-    /// rows are none, nor where there was sure to be memory for them before.
+    /// `AllocError` where there is no memory for them. Nothing changed. It comes neither where no
+    /// row is asked for, nor where there was sure to be memory for them before.
     pub fn reserve(&mut self, count: usize) -> Result<(), AllocError>
         ensures ok { OnOk result (self.new ≡ with_places_for count self.old) }
         ensures err { OnErr result (self.new ≡ self.old) }

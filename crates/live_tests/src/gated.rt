@@ -85,10 +85,13 @@ impl<C: Clock + Drop> Gate for HoldGate<'_, C> {
 }
 
 // Worker 0, which sets the priority, and worker 1, which asks for it, under these gates.
-fn two_workers<G: Gate>(alloc: Global, gates: [G; 2]) -> Result<LinesOver<MemoryWire, G>, Fail> {
+fn two_workers<G: Gate>(
+    alloc: Global,
+    first: G,
+    second: G,
+) -> Result<LinesOver<MemoryWire, G>, Fail> {
     let setter = asking(alloc, &[of("admin", set(&[(PRIORITY, Integer(8192))]))])?;
     let getter = asking(alloc, &[of("admin", get(&[(PRIORITY, Null)]))])?;
-    let [first, second] = gates;
     let setter = Gated {
         wire: setter,
         gate: first,
@@ -97,7 +100,9 @@ fn two_workers<G: Gate>(alloc: Global, gates: [G; 2]) -> Result<LinesOver<Memory
         wire: getter,
         gate: second,
     };
-    let workers = Vec::from_array(alloc, [setter, getter])?;
+    let mut workers = Vec::new(alloc);
+    workers.push(setter)?;
+    workers.push(getter)?;
     lines_under(alloc, workers, MemoryWire::new(alloc), 0)
 }
 
@@ -115,19 +120,17 @@ fn reads<C: Clock + Send + Copy, R: Threads + Wait + Sync>(
     value: i32,
 ) -> Result<Read, Fail> {
     let calls = Calls::new();
-    let gates = [
-        HoldGate {
-            held,
-            calls: &calls,
-            clock,
-        },
-        HoldGate {
-            held,
-            calls: &calls,
-            clock,
-        },
-    ];
-    let lines = two_workers(alloc, gates)?;
+    let setter = HoldGate {
+        held,
+        calls: &calls,
+        clock,
+    };
+    let getter = HoldGate {
+        held,
+        calls: &calls,
+        clock,
+    };
+    let lines = two_workers(alloc, setter, getter)?;
     let (lines, _, report) = run(rt, alloc, 10, of_edges(alloc)?, lines)?;
     let entries = report.ok().ok_or("a report")?.entries;
     let octets = octets_of(alloc, &of("admin", reply(&[(PRIORITY, Integer(value))])))?;

@@ -2,7 +2,7 @@
 use Rattle.std.specs.Prelude.{ℕ, Bool, List, slice_get, slice_set, Option, Some, None, option_map}
 use Rattle.vacm_core.specs.declared.tables.FamilyRow.{FamilyRow}
 
--- the row of this number is another, where there is one
+-- the row that is given, where one is, stands in the place of that of this number
 abbrev pub with_row : List FamilyRow → ℕ → Option FamilyRow → List FamilyRow
 with_row rows n (Some row) = slice_set rows n row
 with_row rows n None = rows

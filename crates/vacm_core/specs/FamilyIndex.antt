@@ -10,7 +10,7 @@ use Rattle.vacm_core.specs.Best.{unbeaten}
 abbrev pub family_index : FamilyRow → List ℕ
 family_index row = length row.view ∷ (row.view ++ length row.subtree ∷ row.subtree)
 
--- the first index that differs decides, and what is begun comes first
+-- by the first number that differs, a proper prefix first
 abbrev pub index_before : FamilyRow → FamilyRow → Bool
 index_before a b = is_lt (slice_cmp nat_cmp (family_index a) (family_index b))
 
@@ -18,7 +18,7 @@ index_before a b = is_lt (slice_cmp nat_cmp (family_index a) (family_index b))
 abbrev pub is_behind : List ℕ → FamilyRow → Bool
 is_behind numbers row = is_gt (slice_cmp nat_cmp (family_index row) numbers)
 
--- the place of the row whose index is greater than these numbers, and that no such row comes before
+-- the place of the row of the least index that is greater than these numbers
 abbrev pub next_family : List FamilyRow → List ℕ → Option ℕ
 next_family rows numbers = unbeaten (is_behind numbers) index_before rows
 

@@ -6,7 +6,7 @@ use Rattle.vacm_core.specs.declared.limits.TheConstants.{MAX_MASK}
 abbrev pub with_zeros : List ℕ → List ℕ
 with_zeros octets = octets ++ replicate (MAX_MASK - length octets) 0
 
--- the octets that are kept, and how many of them are the mask's, tell each other
+-- from the value of a mask follow how many octets it has, and the 16 that are kept
 pub length_again : (octets : List ℕ) (n : ℕ) → n ≤ MAX_MASK → length octets ≡ MAX_MASK → length (take n octets) ≡ n
 length_again octets n short all = length-take-le n octets (omega arith)
 

@@ -31,7 +31,7 @@ pub fn some_access_row_decides()
 {}
 
 /// A family row decides wherever one matches: none decides exactly where no row of the view has the
-/// name in its family, and the one that decides is such a row that no such row comes before
+/// name in its family, and the one that decides is such a row that no such row beats
 /// (RFC 3415, vacmViewTreeFamilyTable).
 pub fn some_family_row_decides()
     ensures none { (families : List FamilyRow) (view name : List ℕ) →

@@ -218,8 +218,9 @@ impl Vacm {
     }
 
     /// Puts the mask of the family row of this number, and gives the one that it had
-    /// (vacmViewTreeFamilyMask of RFC 3415). It takes no memory. Where the mask before had no 0 it
-    /// goes along that row alone, else once along each row.
+    /// (vacmViewTreeFamilyMask of RFC 3415). All else stays, each row's number and index too. It takes
+    /// no memory. Where the mask before had no 0 it goes along that row alone, else once along each
+    /// row.
     pub fn put_mask(&mut self, n: usize, mask: Mask) -> Mask
         requires { n < length self.old.families }
         ensures tables { self.new ≡ record self.old {
@@ -232,7 +233,7 @@ impl Vacm {
     }
 
     /// Puts the type of the family row of this number, whether it is included, and gives the one
-    /// that it had (vacmViewTreeFamilyType of RFC 3415). It takes no memory.
+    /// that it had (vacmViewTreeFamilyType of RFC 3415). All else stays. It takes no memory.
     pub fn put_type(&mut self, n: usize, included: bool) -> bool
         requires { n < length self.old.families }
         ensures tables { self.new ≡ record self.old {
@@ -244,9 +245,10 @@ impl Vacm {
         self.families.put_type(n, included)
     }
 
-    /// The number of the family row whose index is the first that is greater than these numbers (RFC
-    /// 3415, vacmViewTreeFamilyTable), if there is one. It is found by halves, without taking
-    /// memory.
+    /// The number of the family row of the least index that is greater than these numbers, if there is
+    /// one (RFC 3415, vacmViewTreeFamilyTable). An index is how many octets the view's name has, those,
+    /// how many sub-identifiers the subtree has, those; the numbers need be none: they may be cut
+    /// short, or more. It is found by halves, without taking memory.
     pub fn next_family(&self, numbers: &[u32]) -> Option<usize>
         ensures row { result ≡ next_family self.now.families numbers.now }
         ensures within { ForSome result (λ n. n < length self.now.families) }
@@ -265,7 +267,7 @@ impl Vacm {
     }
 
     /// Whether a view is seen to hide every name that begins so: no included row of it may match
-    /// one of these names, or an excluded row that matches them all comes before each that may (RFC
+    /// one of these names, or an excluded row that matches them all beats each that may (RFC
     /// 3415, vacmViewTreeFamilyTable). It may say no where all are hidden all the same, as by
     /// several rows. It takes no memory, and goes over the rows twice.
     pub fn hides_all(&self, view: &Name, prefix: &[u32]) -> bool
