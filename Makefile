@@ -4,8 +4,7 @@
 run:
 	cd crates/agentd && rt try < stdin
 
-# Proves every crate, but for what an earlier run on this machine proved and kept, tries the must-fail edits, runs the tests
-# and the programs; then runs the agent so built over the stored scripts and over a random one, and serves it over UDP, where
+# Proves every crate, tries the must-fail edits, runs the tests and the programs; then runs the agent so built over the stored scripts and over a random one, and serves it over UDP, where
 # the manager and, if it is there, Net-SNMP ask it. As many checks run at a time as there are processors, each in one job,
 # since a check in two takes some half more processor time (docs/PROOFS.md, Times). rt then looks at no free memory: have some 4 GB for each processor, or give a smaller RT_JOBS.
 test:
