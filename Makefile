@@ -1,17 +1,24 @@
-.PHONY: run test bench growths scripts udp-session wrong-bodies
+.PHONY: run serve lab test bench growths scripts udp-session wrong-bodies
 
 # Answers some worked lines. It compiles and runs, and proves nothing.
 run:
 	cd crates/agentd && rt try < stdin
 
+# Compiles the agent, proves nothing, and serves docs/serve.toml until it is ended.
+serve:
+	tools/serve
+
 # Proves every crate, tries the must-fail edits, runs the tests and the programs; then runs the agent so built over the stored scripts and over a random one, and serves it over UDP, where
-# the manager and, if it is there, Net-SNMP ask it. As many checks run at a time as there are processors, each in one job,
+# the manager and, if it is there, Net-SNMP ask it; last, where root has network namespaces, it tries the feeder, and by it the agent between two hosts.
+# As many checks run at a time as there are processors, each in one job,
 # since a check in two takes some half more processor time (docs/PROOFS.md, Times). rt then looks at no free memory: have some 4 GB for each processor, or give a smaller RT_JOBS.
 test:
 	RT_JOBS=$${RT_JOBS:-$$(nproc)} rt ci
 	tools/stored-scripts
 	tools/random-script
 	tools/udp-session
+	tools/feeder-session
+	tools/lab --hosts
 
 # Tries further wrong bodies, which the gate leaves out: of all crates, or of CRATES="NAME ..".
 wrong-bodies:
@@ -34,6 +41,12 @@ udp-session:
 	cd crates/agentd && rt run < stdin > /dev/null
 	cd crates/manager && (rt run 2> /dev/null || test $$? -eq 2)
 	tools/udp-session
+
+# Builds agentd, proved, and tries it as root, in network namespaces, between hosts, beside a Linux bridge and beside Open vSwitch.
+lab:
+	tools/lab --spaces
+	cd crates/agentd && rt run < stdin > /dev/null
+	tools/lab
 
 # Builds the programs, proved, and measures them.
 bench:

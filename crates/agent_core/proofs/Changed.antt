@@ -1,10 +1,15 @@
 -- Whether settings are changed.
-use Rattle.std.proofs.Common.{◌≡◌, ◌∙◌, Bool, true, false, not, IsTrue, ◌↔◌, ap, sym, refl, inl, inr}
+use Rattle.std.proofs.Common.{◌≡◌, ◌∙◌, Bool, true, false, not, ◌&&◌, IsTrue, ◌↔◌, IfSome, unwrap_or, List, ap, sym, refl, inl, inr}
 use Rattle.std.proofs.lemmas.Bool.{cases_Bool}
 use Rattle.rstp_settings.specs.Table.{Table}
 use Rattle.setphase_core.specs.declared.world.World.{World}
 use Rattle.setphase_core.specs.Settings.{same_settings, same_settings_of}
-use Rattle.setphase_core.proofs.Same.{same_settings-Decides}
+use Rattle.setphase_core.specs.declared.sets.SetOutcome.{SetOutcome}
+use Rattle.setphase_core.specs.declared.sets.SetOutcome.TheVariants.{Done, Refused, CommitFailed, UndoFailed}
+use Rattle.setphase_core.specs.Outcomes.{refusal_in, notes_in, changed_in, world_after_set}
+use Rattle.setphase_core.specs.Variables.{Written}
+use Rattle.setphase_core.proofs.Kept.{stuck_keeps_rows}
+use Rattle.setphase_core.proofs.Same.{same_settings-Decides, rows-Decides, same_of-Decides}
 use Rattle.agent_core.specs.Sets.{settled, settled_bpdus, settled_world, settling_bpdus}
 
 -- what a test of the settings says
@@ -15,6 +20,25 @@ same_is before now false h =
       | inl e ↦ cc (h.1 (sym ((same_settings-Decides before now).0 e)))
       | inr e ↦ ap not (sym e)
     ]
+
+-- where the static rows are the same, the settings are where those of the bridge are
+by_settings : (a b : Bool) → b ≡ true → not a ≡ not (a && b)
+by_settings true true e = refl
+by_settings true false e = absurd cc
+by_settings false b e = refl
+
+-- what a Set that ended so changed
+pub changed_is : (outcome : SetOutcome) (ws : List Written) (before after : World) (b : Bool)
+    → after ≡ world_after_set (refusal_in outcome) ws before (notes_in outcome)
+    → IfSome (changed_in outcome) (λ changed. changed ≡ not (same_settings_of before after))
+    → b ≡ unwrap_or (changed_in outcome) (not (same_settings before.bridge.settings after.bridge.settings))
+    → b ≡ not (same_settings_of before after)
+changed_is (Done changed) ws before after b world told e = e ∙ told
+changed_is (Refused refusal) ws before after b world told e = e ∙ told
+changed_is (CommitFailed i) ws before after b world told e = e ∙ told
+changed_is (UndoFailed i keys) ws before after b world told e =
+    let rows = sym (ap (λ (x : World). x.bridge.statics.rows) world ∙ stuck_keeps_rows ws i keys before) in
+    e ∙ by_settings (same_settings before.bridge.settings after.bridge.settings) _ ((rows-Decides before.bridge.statics.rows after.bridge.statics.rows).1 rows)
 
 -- what is settled by that
 pub settled_is : (before after later : World) (b : Bool) → b ≡ not (same_settings_of before after) → later ≡ settled b after → later ≡ settled_world before after
@@ -28,4 +52,4 @@ settled_bpdus_is before after b e = ap (λ (c : Bool). settled_bpdus c after) e
 -- a world whose settings are those of before
 pub unsettled : (w : World) → settled_world w w ≡ w
 unfolding settled_world
-unsettled w = ap (λ (c : Bool). settled (not c) w) ((same_settings-Decides w.bridge.settings w.bridge.settings).1 refl)
+unsettled w = ap (λ (c : Bool). settled (not c) w) ((same_of-Decides w w).1 (refl, refl))

@@ -1,5 +1,5 @@
 //! Answers a Set that is let in to a view (RFC 3416, 4.2.5).
-ghost use Rattle.std.specs.Prelude.{◌≡◌, ◌≤◌, ◌<◌, ◌^◌, [], true, not, IfOk, IfSome, OnErr, length, map, pos};
+ghost use Rattle.std.specs.Prelude.{◌≡◌, ◌≤◌, ◌<◌, ◌^◌, [], true, not, IfOk, IfSome, OnErr, unwrap_or, length, map, pos};
 ghost use Rattle.message_core.specs.Encodable.{AreEncodable};
 ghost use Rattle.message_core.specs.declared.limits.TheConstants.{MAX_COMMUNITY};
 ghost use Rattle.vacm_core.specs.Families.{NamesFamilyOf};
@@ -114,12 +114,12 @@ fn set_answer(alloc: Global, vacm: &Vacm, outcome: SetOutcome) -> Result<SetTold
     }
 }
 
-// Whether a Set that ended so changed a setting: where undoing failed, by the settings of before.
+// Whether a Set that ended so changed a setting: where undoing failed, by the settings of before,
+// since only those of the bridge can stay.
 #[tactic(auto, using(crate::proofs::Changed::same_is))]
 fn changed(outcome: &SetOutcome, before: &Settings, world: &World) -> bool
-    requires { IfSome (changed_in outcome.now)
-        (λ changed. changed ≡ not (same_settings before.now world.now.bridge.settings)) }
-    ensures { result ≡ not (same_settings before.now world.now.bridge.settings) }
+    ensures { result ≡ unwrap_or (changed_in outcome.now)
+        (not (same_settings before.now world.now.bridge.settings)) }
 {
     match outcome {
         SetOutcome::Done { changed } => *changed,

@@ -4,7 +4,7 @@ use Rattle.std.specs.declared.alloc.Global.{Global}
 use Rattle.setphase_core.specs.Objects.{ObjectState}
 use Rattle.agent_program.specs.declared.files.NotRead.{NotRead}
 use Rattle.agent_program.specs.declared.failure.Failure.{Failure}
-use Rattle.agent_program.specs.declared.words.Lasting.{Lasting}
+use Rattle.agent_words.specs.declared.asked.Lasting.{Lasting}
 use Rattle.agent_program.specs.Files.{IsNotRead, IsReadOf, read_view}
 use Rattle.agent_program.specs.Telling.{IsFileChecked, IsCheckOf}
 use Rattle.agent_program.specs.Services.{Service, OpensRead, OpensFile}

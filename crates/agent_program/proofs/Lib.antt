@@ -2,4 +2,3 @@ pub mod FileLemmas
 pub mod FrontLemmas
 pub mod OpeningLemmas
 pub mod TellingLemmas
-pub mod WordLemmas

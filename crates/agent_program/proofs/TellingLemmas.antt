@@ -4,7 +4,7 @@ use Rattle.configuration.specs.declared.configuration.Configuration.{Configurati
 use Rattle.configuration.specs.declared.fault.ConfigurationFault.{ConfigurationFault}
 use Rattle.configuration.specs.Configurations.{IsConfigurationIn}
 use Rattle.agent_program.specs.declared.failure.Failure.{Failure}
-use Rattle.agent_program.specs.declared.failure.Failure.TheVariants.{Usage, NotText, CannotRead, Refused, Input, Output, Run as RunFailed}
+use Rattle.agent_program.specs.declared.failure.Failure.TheVariants.{NotText, CannotRead, Refused, Input, Output, Run as RunFailed}
 use Rattle.agent_program.specs.Telling.{ok_text, fault_text, IsCutOff, IsTold, IsFaultFound, IsFaultTold, IsChecked}
 
 -- a right configuration was told so
@@ -21,7 +21,6 @@ wrong_told contents octets fault writer writer' failure found told = inr (record
 -- a sentence that was cut off
 pub cut_told : {O : Type 0} (contents : O → Option (List ℕ)) (fault : ConfigurationFault) (writer writer' : O) (failure : Failure)
     → IsCutOff contents (fault_text fault) writer writer' failure → IsFaultTold contents fault writer writer' failure
-cut_told contents fault writer writer' (Usage why) cut = absurd cut
 cut_told contents fault writer writer' NotText cut = absurd cut
 cut_told contents fault writer writer' (CannotRead file) cut = absurd cut
 cut_told contents fault writer writer' Refused cut = absurd cut

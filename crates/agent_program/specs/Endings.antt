@@ -10,16 +10,15 @@ use Rattle.agent_program.specs.declared.opening.NotRun.{NotRun}
 use Rattle.agent_program.specs.declared.opening.NotRun.TheVariants.{Refused as IsRefused, Memory, NoRegistry, Stopped}
 use Rattle.agent_program.specs.declared.files.NotRead.{NotRead}
 use Rattle.agent_program.specs.declared.files.NotRead.TheVariants.{Memory as FileMemory, Unreadable}
-use Rattle.agent_program.specs.declared.words.Wrong.{Wrong}
-use Rattle.agent_program.specs.declared.words.Wrong.TheVariants.{Unexpected, Missing}
+use Rattle.agent_words.specs.declared.program.Answered.{Answered}
+use Rattle.agent_words.specs.declared.program.Answered.TheVariants.{Shown, NotShown, Refused as WordsRefused, Memory as WordsMemory}
 use Rattle.agent_program.specs.declared.telling.NotTaken.{NotTaken}
 use Rattle.agent_program.specs.declared.failure.Failure.{Failure}
-use Rattle.agent_program.specs.declared.failure.Failure.TheVariants.{Usage, NotText, CannotRead, Refused, Input, Output, Run as RunFailed}
+use Rattle.agent_program.specs.declared.failure.Failure.TheVariants.{NotText, CannotRead, Refused, Input, Output, Run as RunFailed}
 
--- the exit status: 2 for words that are no command and for a configuration that cannot be read or
--- is refused, 1 for what failed in a run
+-- the exit status: 2 for a word that is no text and for a configuration that cannot be read or is
+-- refused, 1 for what failed in a run
 abbrev pub failure_status : Failure → ℕ
-failure_status (Usage why) = 2
 failure_status NotText = 2
 failure_status (CannotRead file) = 2
 failure_status Refused = 2
@@ -33,9 +32,7 @@ status_of (Err failure) = failure_status failure
 
 -- what a failure is called, and what it names
 abbrev pub failure_words : Failure → List ℕ
-failure_words (Usage (Unexpected word)) = codes "usage: agentd [script|check|serve [--forever] --config FILE]: unexpected word "
-failure_words (Usage Missing) = codes "usage: agentd [script|check|serve [--forever] --config FILE]: --config FILE is missing"
-failure_words NotText = codes "usage: agentd [script|check|serve [--forever] --config FILE]: a word is no text"
+failure_words NotText = codes "a word is no text"
 failure_words (CannotRead file) = codes "cannot read "
 failure_words Refused = codes "configuration refused"
 failure_words Input = codes "input failed"
@@ -43,8 +40,6 @@ failure_words Output = codes "output failed"
 failure_words RunFailed = codes "run failed"
 
 abbrev pub failure_name : Failure → List ℕ
-failure_name (Usage (Unexpected word)) = word.now
-failure_name (Usage Missing) = []
 failure_name NotText = []
 failure_name (CannotRead file) = file.now
 failure_name Refused = []
@@ -61,6 +56,20 @@ failure_line failure =
 abbrev pub said_of : {A : Type 0} → Result A Failure → List ℕ
 said_of (Ok done) = []
 said_of (Err failure) = failure_line failure
+
+-- the exit status of words that are no command, as they were answered: 2 for words that are wrong
+abbrev pub answered_status : Answered → ℕ
+answered_status Shown = 0
+answered_status WordsRefused = 2
+answered_status NotShown = 1
+answered_status WordsMemory = 1
+
+-- what is said on standard error behind that answer
+abbrev pub answered_line : Answered → List ℕ
+answered_line Shown = []
+answered_line WordsRefused = []
+answered_line NotShown = failure_line Output
+answered_line WordsMemory = failure_line RunFailed
 
 -- words that were not had, as a failure of the program: want of memory for them is not their fault
 abbrev pub words_failure : ErrorKind → Failure

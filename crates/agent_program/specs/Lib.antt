@@ -1,4 +1,3 @@
-pub mod Words
 pub mod Files
 pub mod Agents
 pub mod Runs

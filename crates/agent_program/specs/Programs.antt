@@ -1,4 +1,4 @@
--- What the program does with its words.
+-- What the program does for what is asked of it.
 use Rattle.std.specs.Prelude.{◌≡◌, ℕ, List, Option, None, Result, Ok, Err}
 use Rattle.configuration.specs.declared.configuration.TheConstants.{BUILT_IN}
 use Rattle.setphase_core.specs.Objects.{ObjectState}
@@ -7,18 +7,14 @@ use Rattle.agent_program.specs.declared.files.NotRead.{NotRead}
 use Rattle.agent_program.specs.declared.opening.NotRun.{NotRun}
 use Rattle.agent_program.specs.declared.failure.Failure.{Failure}
 use Rattle.agent_program.specs.declared.failure.Ended.{Ended}
-use Rattle.agent_program.specs.declared.failure.Failure.TheVariants.{Usage}
-use Rattle.agent_program.specs.declared.words.TheConstants.{HELP, VERSION}
-use Rattle.agent_program.specs.declared.words.Asked.{Asked}
-use Rattle.agent_program.specs.declared.words.Asked.TheVariants.{BuiltIn, Script, Check, Serve, Help, Version}
-use Rattle.agent_program.specs.declared.words.Lasting.{Lasting}
-use Rattle.agent_program.specs.declared.words.Wrong.{Wrong}
-use Rattle.agent_program.specs.Words.{asking_of, asking_view}
+use Rattle.agent_words.specs.declared.asked.Asked.{Asked}
+use Rattle.agent_words.specs.declared.asked.Asked.TheVariants.{BuiltIn, Script, Check, Serve}
+use Rattle.agent_words.specs.declared.asked.Lasting.{Lasting}
 use Rattle.agent_program.specs.Files.{IsReadOf}
 use Rattle.agent_program.specs.Endings.{status_of, said_of, ended_by, read_failure, IsLineTaken}
 use Rattle.agent_program.specs.Runs.{IsUntouched, IsRunBy}
 use Rattle.agent_program.specs.Services.{Service, OpensFile}
-use Rattle.agent_program.specs.Telling.{IsTold, IsCheckOf}
+use Rattle.agent_program.specs.Telling.{IsCheckOf}
 
 -- an end that leaves nothing to be served
 abbrev pub nothing_left : Result (Unit {0}) Failure → Result (Option Service) Failure
@@ -58,11 +54,6 @@ module _ {I O : Type 0} (remaining : I → Option (List ℕ)) (contents : O → 
   RunsRead objects (Err why) reader reader' writer writer' ended =
       FailsFirst (read_failure why) reader reader' writer writer' ended
 
-  -- the program told something, and read nothing
-  pub record Tells (text : List ℕ) (reader reader' : I) (writer writer' : O) (ended : Result (Unit {0}) Failure) : Type 0 where
-    pub unread : reader' ≡ reader
-    pub told : IsTold contents text writer writer' ended
-
 -- Beside these a reader of files, by what a read of the file of a name may give, and the objects
 -- that were handed in.
 module _ {I O : Type 0} (Gives : List ℕ → Result (List ℕ) NotRead → Type 0)
@@ -87,37 +78,24 @@ module _ {I O : Type 0} (Gives : List ℕ → Result (List ℕ) NotRead → Type
     pub untouched : IsUntouched remaining contents reader reader' writer writer'
     pub opens : OpensFile Gives objects lasting file done
 
-  -- What the program did for what its words ask.
-  abbrev pub Does : Result Asked Wrong → I → I → O → O → Result (Option Service) Failure → Type 0
-  Does (Ok BuiltIn) reader reader' writer writer' done =
+  -- What the program did for what is asked.
+  abbrev pub Does : Asked → I → I → O → O → Result (Option Service) Failure → Type 0
+  Does BuiltIn reader reader' writer writer' done =
       HasDone (RunsBy remaining contents objects BUILT_IN.now reader reader' writer writer') done
-  Does (Ok (Script file)) reader reader' writer writer' done =
+  Does (Script file) reader reader' writer writer' done =
       HasDone (RunsFile file.now reader reader' writer writer') done
-  Does (Ok (Check file)) reader reader' writer writer' done =
+  Does (Check file) reader reader' writer writer' done =
       HasDone (ChecksFile file.now reader reader' writer writer') done
-  Does (Ok (Serve file lasting)) reader reader' writer writer' done =
+  Does (Serve file lasting) reader reader' writer writer' done =
       ServesFile file.now lasting reader reader' writer writer' done
-  Does (Ok Help) reader reader' writer writer' done =
-      HasDone (Tells remaining contents HELP.now reader reader' writer writer') done
-  Does (Ok Version) reader reader' writer writer' done =
-      HasDone (Tells remaining contents VERSION.now reader reader' writer writer') done
-  Does (Err wrong) reader reader' writer writer' done =
-      HasDone (FailsFirst remaining contents (Usage wrong) reader reader' writer writer') done
 
-  -- The program did what its words, its name first, ask for.
-  pub record HasEnded (words : List (List ℕ)) (reader reader' : I) (writer writer' : O)
-      (done : Result (Option Service) Failure) : Type 0 where
-    pub asked : Result Asked Wrong
-    pub is : asking_view asked ≡ asking_of words
-    pub does : Does asked reader reader' writer writer' done
-
-  -- The program did what its words ask for, and this is left to be served, if anything: its status is
+  -- The program did what is asked, and this is left to be served, if anything: its status is
   -- that of how it ended, and on standard error stands the line that says so, whole or a front of it
   -- behind which a write failed.
-  pub record IsProgramRun (words : List (List ℕ)) (reader reader' : I) (writer writer' : O)
+  pub record IsProgramRun (asked : Asked) (reader reader' : I) (writer writer' : O)
       (errors errors' : Option (List ℕ)) (finished : Ended) (left : Option Service) : Type 0 where
     pub done : Result (Option Service) Failure
-    pub did : HasEnded words reader reader' writer writer' done
+    pub did : Does asked reader reader' writer writer' done
     pub status : finished.status ≡ status_of done
     pub said : IsLineTaken finished.line errors errors' (said_of done)
     pub left_is : left ≡ left_of done

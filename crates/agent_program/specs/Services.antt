@@ -10,7 +10,7 @@ use Rattle.agent_program.specs.declared.failure.Failure.{Failure}
 use Rattle.agent_program.specs.declared.opening.NotRun.{NotRun}
 use Rattle.agent_program.specs.declared.opening.NotRun.TheVariants.{Refused, Memory, NoRegistry, Stopped}
 use Rattle.agent_program.specs.declared.serving.Opened.{Opened}
-use Rattle.agent_program.specs.declared.words.Lasting.{Lasting}
+use Rattle.agent_words.specs.declared.asked.Lasting.{Lasting}
 use Rattle.agent_program.specs.Agents.{world_of, MakeRegistry, HasFault}
 use Rattle.agent_program.specs.Files.{IsReadOf}
 use Rattle.agent_program.specs.Endings.{failure_of, read_failure}

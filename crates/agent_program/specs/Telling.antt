@@ -10,7 +10,7 @@ use Rattle.configuration.specs.Sentences.{sentence}
 use Rattle.agent_program.specs.declared.files.NotRead.{NotRead}
 use Rattle.agent_program.specs.declared.files.NotRead.TheVariants.{Memory as FileMemory, Unreadable}
 use Rattle.agent_program.specs.declared.failure.Failure.{Failure}
-use Rattle.agent_program.specs.declared.failure.Failure.TheVariants.{Usage, NotText, CannotRead, Refused, Input, Output, Run as RunFailed}
+use Rattle.agent_program.specs.declared.failure.Failure.TheVariants.{NotText, CannotRead, Refused, Input, Output, Run as RunFailed}
 use Rattle.agent_program.specs.Endings.{TakesFront}
 use Rattle.agent_program.specs.Files.{IsReadOf}
 
@@ -31,7 +31,6 @@ IsFaultFound octets fault =
 module _ {O : Type 0} (contents : O → Option (List ℕ)) where
   -- A failure of the output: a front of this text was written.
   abbrev pub IsCutOff : List ℕ → O → O → Failure → Type 0
-  IsCutOff text writer writer' (Usage why) = ⊥
   IsCutOff text writer writer' NotText = ⊥
   IsCutOff text writer writer' (CannotRead file) = ⊥
   IsCutOff text writer writer' Refused = ⊥
@@ -47,7 +46,6 @@ module _ {O : Type 0} (contents : O → Option (List ℕ)) where
   -- A fault was told, and the configuration is refused; or the output failed before its end; or
   -- there was no memory for its sentence, and nothing was written.
   abbrev pub IsFaultTold : ConfigurationFault → O → O → Failure → Type 0
-  IsFaultTold fault writer writer' (Usage why) = ⊥
   IsFaultTold fault writer writer' NotText = ⊥
   IsFaultTold fault writer writer' (CannotRead file) = ⊥
   IsFaultTold fault writer writer' Refused =

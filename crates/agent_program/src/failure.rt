@@ -3,12 +3,12 @@ ghost use Rattle.std.specs.Prelude.{◌≡◌, ◌++◌, OnOk};
 ghost use Rattle.std.specs.Io.KnownBytes.{Appends};
 ghost use Rattle.std.specs.IoError.{error_kind};
 ghost use Rattle.agent_program.specs.Telling.{IsTold};
-ghost use Rattle.agent_program.specs.Endings.{failure_status, failure_words, failure_name, failure_line, failure_of, words_failure, run_failure, read_failure, TakesFront, IsLineTaken};
+ghost use Rattle.agent_program.specs.Endings.{failure_status, failure_words, failure_name, failure_line, failure_of, words_failure, run_failure, read_failure, answered_status, answered_line, TakesFront, IsLineTaken};
 
 use crate::files::NotRead;
 use crate::opening::NotRun;
 use crate::telling::{NotTaken, write_front};
-use crate::words::Wrong;
+use agent_words::Answered;
 use script_core::RunFault;
 use std::io::{self, ErrorKind, Write};
 
@@ -22,8 +22,6 @@ pub const FAILED: u8 = 1;
 /// Why the program ends with another status than 0.
 #[derive(Debug, Drop)]
 pub enum Failure<'a> {
-    /// The words are no command, for this reason.
-    Usage(Wrong<'a>),
     /// A word is no text.
     NotText,
     /// The file of the configuration cannot be read.
@@ -90,8 +88,7 @@ impl Failure<'_> {
         ensures { result ≡ failure_status self.now }
     {
         match self {
-            Failure::Usage(_) | Failure::NotText | Failure::CannotRead(_) | Failure::Refused =>
-                USAGE,
+            Failure::NotText | Failure::CannotRead(_) | Failure::Refused => USAGE,
             Failure::Input | Failure::Output | Failure::Run => FAILED,
         }
     }
@@ -101,12 +98,7 @@ impl Failure<'_> {
         ensures { result.now ≡ failure_words self.now }
     {
         match self {
-            Failure::Usage(Wrong::Unexpected(_)) =>
-                b"usage: agentd [script|check|serve [--forever] --config FILE]: unexpected word ",
-            Failure::Usage(Wrong::Missing) =>
-                b"usage: agentd [script|check|serve [--forever] --config FILE]: --config FILE is missing",
-            Failure::NotText =>
-                b"usage: agentd [script|check|serve [--forever] --config FILE]: a word is no text",
+            Failure::NotText => b"a word is no text",
             Failure::CannotRead(_) => b"cannot read ",
             Failure::Refused => b"configuration refused",
             Failure::Input => b"input failed",
@@ -120,14 +112,9 @@ impl Failure<'_> {
         ensures { result.now ≡ failure_name self.now }
     {
         match self {
-            Failure::Usage(Wrong::Unexpected(word)) => word.as_bytes(),
             Failure::CannotRead(file) => file.as_bytes(),
-            Failure::Usage(Wrong::Missing)
-            | Failure::NotText
-            | Failure::Refused
-            | Failure::Input
-            | Failure::Output
-            | Failure::Run => b"",
+            Failure::NotText | Failure::Refused | Failure::Input | Failure::Output | Failure::Run =>
+                b"",
         }
     }
 }
@@ -164,6 +151,28 @@ pub fn report<E: Write>(failure: &Failure<'_>, errors: &mut E) -> Ended
     Ended {
         status: failure.status(),
         line,
+    }
+}
+
+/// Ends the program where its words are no command, as they were answered: where the output did not
+/// take the help or the version, or there was no memory for the words, the line of that failure is
+/// written, or a front of it.
+pub fn end_answered<E: Write>(answered: Answered, errors: &mut E) -> Ended
+    ensures status { result.status ≡ answered_status answered }
+    ensures line { IsLineTaken result.line (E.contents errors.old) (E.contents errors.new)
+        (answered_line answered) }
+{
+    match answered {
+        Answered::Shown => Ended {
+            status: 0,
+            line: Ok(()),
+        },
+        Answered::Refused => Ended {
+            status: USAGE,
+            line: Ok(()),
+        },
+        Answered::NotShown => report(&Failure::Output, errors),
+        Answered::Memory => report(&Failure::Run, errors),
     }
 }
 

@@ -1,26 +1,25 @@
-//! What the agent's program does with the words of its command line, over objects, streams and
-//! files that it is handed.
+//! What the agent's program does for what its words ask, over objects, streams and files that it is
+//! handed.
 //!
 //! # Entry points
-//! [`run_words`] over managed objects, words, streams and a reader of files gives how it [`Ended`],
-//! that is the exit status, 0, 1 or 2, and whether the line of a failure was written whole; and
-//! what is left to be served, if its words ask for that, and for how long: an [`Opened`], and
-//! [`Lasting`]. A [`ReadFile`] gives the octets of a file or [`NotRead`], [`SystemFiles`] those of
-//! the system. [`run_octets`] runs the script over objects by the octets of a configuration, and
-//! refuses octets that say none, or objects that make no registry, before it reads or writes;
-//! [`NotRun`] says why there was no run to the end. [`check_octets`] tells whether octets are one,
-//! [`check_read`] whether what was read of a file is. [`open_service`] gives what octets say is to
-//! be served, [`serve_opened`] serves it for its rounds, and [`serve_opened_forever`] without an
-//! end. [`collect_words`] has the words of a command line as a list, [`asks_to_serve`] says whether
-//! they ask to serve an agent, before any file is read. [`report`] writes the line of a [`Failure`],
-//! or a front of it, which is [`NotTaken`] whole; [`Wrong`] says why words are no command.
+//! [`run_asked`] over managed objects, what is asked, streams and a reader of files gives how it
+//! [`Ended`], that is the exit status, 0, 1 or 2, and whether the line of a failure was written
+//! whole; and what is left to be served, if that is asked, and for how long: an [`Opened`], and
+//! [`agent_words::Lasting`]. [`end_answered`] ends words that are no command. A [`ReadFile`] gives
+//! the octets of a file or [`NotRead`], [`SystemFiles`] those of the system. [`run_octets`] runs the
+//! script over objects by the octets of a configuration, and refuses octets that say none, or objects
+//! that make no registry, before it reads or writes; [`NotRun`] says why there was no run to the end.
+//! [`check_octets`] tells whether octets are one, [`check_read`] whether what was read of a file is.
+//! [`open_service`] gives what octets say is to be served, [`serve_opened`] serves it for its rounds,
+//! and [`serve_opened_forever`] without an end. [`collect_words`] has the words of a command line as
+//! a list. [`report`] writes the line of a [`Failure`], or a front of it, which is [`NotTaken`] whole.
 //!
 //! # Definitions
-//! `specs/Words.antt`: what words ask for; `specs/Files.antt`: what a read of a file gave;
-//! `specs/Agents.antt`: the world that a configuration opens; `specs/Runs.antt`: what a run by
-//! octets promises; `specs/Services.antt`: what they give to be served; `specs/Endings.antt`:
-//! statuses, and the line of each failure; `specs/Telling.antt`: what a check tells;
-//! `specs/Programs.antt`: what the program does with its words.
+//! `specs/Files.antt`: what a read of a file gave; `specs/Agents.antt`: the world that a
+//! configuration opens; `specs/Runs.antt`: what a run by octets promises; `specs/Services.antt`: what
+//! they give to be served; `specs/Endings.antt`: statuses, and the line of each failure;
+//! `specs/Telling.antt`: what a check tells; `specs/Programs.antt`: what the program does for what is
+//! asked. What words ask for stands in `agent_words`.
 //!
 //! # Laws
 //! None.
@@ -40,15 +39,13 @@ mod run;
 mod running;
 mod serving;
 mod telling;
-mod words;
 
 pub use checking::{check_octets, check_read};
 pub use collecting::collect_words;
-pub use failure::{Ended, Failure, report};
+pub use failure::{Ended, Failure, end_answered, report};
 pub use files::{NotRead, ReadFile, SystemFiles};
 pub use opening::NotRun;
-pub use run::run_words;
+pub use run::run_asked;
 pub use running::run_octets;
 pub use serving::{Opened, open_service, serve_opened, serve_opened_forever};
 pub use telling::NotTaken;
-pub use words::{Lasting, Wrong, asks_to_serve};

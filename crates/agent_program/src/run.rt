@@ -1,36 +1,35 @@
-//! What the program does with its words.
-ghost use Rattle.std.specs.Prelude.{◌≡◌, map, string_bytes};
+//! What the program does for what is asked of it.
+ghost use Rattle.std.specs.Prelude.{◌≡◌, map};
 ghost use Rattle.agent_program.specs.Endings.{ended_by};
 ghost use Rattle.agent_program.specs.Files.{read_view};
 ghost use Rattle.agent_program.specs.Telling.{IsCheckOf};
 ghost use Rattle.agent_program.specs.Services.{OpensRead, OpensFile};
-ghost use Rattle.agent_program.specs.Programs.{RunsBy, RunsRead, RunsFile, Does, HasEnded, IsProgramRun, nothing_left};
+ghost use Rattle.agent_program.specs.Programs.{RunsBy, RunsRead, RunsFile, Does, IsProgramRun, nothing_left};
 
 use crate::checking::check_read;
-use crate::failure::{Ended, Failure, failure_of, read_failure, report, tell};
+use crate::failure::{Ended, Failure, failure_of, read_failure, report};
 use crate::files::{NotRead, ReadFile};
 use crate::running::run_octets;
 use crate::serving::{Opened, open_service};
-use crate::words::{Asked, HELP, Lasting, VERSION, Wrong, asked_by};
+use agent_words::{Asked, Lasting};
 use configuration::BUILT_IN;
 use setphase_core::{MibObject, Registry};
 use std::alloc::Global;
 use std::io::{Read, Write};
 
-/// Runs the program on the words of its command line, its name first, and gives its exit status: 0;
-/// 1 where input, output or the run failed; 2 for words that are no command, and for a
+/// Does what is asked, and gives the exit status: 0; 1 where input, output or the run failed; 2 for a
 /// configuration that cannot be read or is refused. A failure is written to `errors` as one line,
 /// whole or a front of it behind which a write failed. The octets of a file are those that `files`
 /// gives for its name. The script runs over exactly the objects that are handed in; where they make
 /// no registry, its configuration is refused.
 ///
-/// Where the words ask to serve, it gives what is to be served as well, and for how long, and has
+/// Where it is asked to serve, it gives what is to be served as well, and for how long, and has
 /// neither read from `reader` nor written anything; the caller has then to serve it.
-pub fn run_words<F, M, I, O, E>(
+pub fn run_asked<F, M, I, O, E>(
     alloc: Global,
     files: &F,
     objects: Vec<M>,
-    words: &[String],
+    asked: Asked<'_>,
     reader: &mut I,
     writer: &mut O,
     errors: &mut E,
@@ -42,11 +41,11 @@ where
     O: Write,
     E: Write,
     ensures { IsProgramRun (F.gives files.now) (map M.state objects.items)
-        I.remaining O.contents (map string_bytes words.now)
+        I.remaining O.contents asked.entry
         reader.old reader.new writer.old writer.new
         (E.contents errors.old) (E.contents errors.new) result.0 result.1 }
 {
-    match try_words(alloc, files, objects, words, reader, writer) {
+    match do_asked(alloc, files, objects, asked, reader, writer) {
         Ok(left) => {
             let ended = Ended {
                 status: 0,
@@ -58,33 +57,12 @@ where
     }
 }
 
-// Runs the program, and gives what is left to be served, or why it failed.
-fn try_words<'a, F, M, I, O>(
-    alloc: Global,
-    files: &F,
-    objects: Vec<M>,
-    words: &'a [String],
-    reader: &mut I,
-    writer: &mut O,
-) -> Result<Option<(Registry<M>, Opened, Lasting)>, Failure<'a>>
-where
-    F: ReadFile,
-    M: MibObject,
-    I: Read,
-    O: Write,
-    ensures { HasEnded (F.gives files.now) (map M.state objects.items)
-        I.remaining O.contents (map string_bytes words.now)
-        reader.old reader.new writer.old writer.new result }
-{
-    do_asked(alloc, files, objects, asked_by(words), reader, writer)
-}
-
 // Does what was asked for.
 fn do_asked<'a, F, M, I, O>(
     alloc: Global,
     files: &F,
     objects: Vec<M>,
-    asked: Result<Asked<'a>, Wrong<'a>>,
+    asked: Asked<'a>,
     reader: &mut I,
     writer: &mut O,
 ) -> Result<Option<(Registry<M>, Opened, Lasting)>, Failure<'a>>
@@ -98,13 +76,10 @@ where
         reader.old reader.new writer.old writer.new result }
 {
     match asked {
-        Ok(Asked::BuiltIn) => finish(run_by(alloc, objects, BUILT_IN.as_bytes(), reader, writer)),
-        Ok(Asked::Script(file)) => finish(run_file(alloc, files, objects, file, reader, writer)),
-        Ok(Asked::Check(file)) => finish(check_file(alloc, files, file, writer)),
-        Ok(Asked::Serve(file, lasting)) => serve_file(alloc, files, objects, file, lasting),
-        Ok(Asked::Help) => finish(tell(HELP.as_bytes(), writer)),
-        Ok(Asked::Version) => finish(tell(VERSION.as_bytes(), writer)),
-        Err(wrong) => Err(Failure::Usage(wrong)),
+        Asked::BuiltIn => finish(run_by(alloc, objects, BUILT_IN.as_bytes(), reader, writer)),
+        Asked::Script(file) => finish(run_file(alloc, files, objects, file, reader, writer)),
+        Asked::Check(file) => finish(check_file(alloc, files, file, writer)),
+        Asked::Serve(file, lasting) => serve_file(alloc, files, objects, file, lasting),
     }
 }
 

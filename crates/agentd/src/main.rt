@@ -1,13 +1,13 @@
 //! The agent, driven by a script from standard input, or served over UDP.
 //!
 //! # Entry points
-//! `main` puts the 51 objects of `object_list` into boxes, and hands them to `run_objects` with the
-//! words of the command line, the standard streams and the files of the system. That runs
-//! `agent_program::run_words`; where it leaves something to be served, it is served over UDP, for its
-//! rounds or without an end, and it is logged what was done.
+//! `main` reads the words of the command line by `agent_words::read_words`. It puts the 51 objects of
+//! `object_list` into boxes, and hands them to `run_objects` with what is asked, the standard streams
+//! and the files of the system. That runs `agent_program::run_asked`; where it leaves something to be
+//! served, it is served over UDP, for its rounds or without an end, and it is logged what was done.
 //!
 //! # Definitions
-//! None: what the words do stands in `agent_program`.
+//! None: what words ask for stands in `agent_words`, what is done for that in `agent_program`.
 //!
 //! # Laws
 //! None.
@@ -20,9 +20,10 @@
 #![tactic(auto)]
 
 use agent_program::{
-    Failure, Lasting, Opened, ReadFile, SystemFiles, asks_to_serve, collect_words, report,
-    run_words, serve_opened, serve_opened_forever,
+    Failure, Opened, ReadFile, SystemFiles, collect_words, end_answered, report, run_asked,
+    serve_opened, serve_opened_forever,
 };
+use agent_words::{Asked, Lasting, asks_to_serve, read_words};
 use bridge_mib::{Planned, PortEnable, Steady};
 use log::Log;
 use object_list::{COLUMNS, ColumnDescriptor, ENABLE, PlainObject};
@@ -38,9 +39,13 @@ use udp_agent::{any_failed, tell_fault, tell_not_begun, tell_report};
 
 fn main(rt: HostRuntime) -> ExitCode {
     let (mut reader, mut writer, mut errors) = (rt.reader(), io::writer(&rt), rt.stderr());
-    let words = match read_words(&rt) {
+    let words = match program_words(&rt) {
         Ok(words) => words,
         Err(error) => return failed(&Failure::from(error), &mut errors),
+    };
+    let asked = match read_words(rt.alloc(), &words, &mut writer, &mut errors) {
+        Ok(asked) => asked,
+        Err(answered) => return ExitCode::from(end_answered(answered, &mut errors).status),
     };
     let mut objects: Vec<Box<dyn MibObject + Send>> = Vec::new(rt.alloc());
     for column in COLUMNS {
@@ -52,7 +57,7 @@ fn main(rt: HostRuntime) -> ExitCode {
         };
     }
     // A served agent has no device that fails; a script has one, which fails where a line says so.
-    if asks_to_serve(&words) {
+    if asks_to_serve(&asked) {
         let Ok(object) = Box::new(rt.alloc(), PortEnable::new(Steady)) else {
             return failed(&Failure::Refused, &mut errors);
         };
@@ -68,7 +73,7 @@ fn main(rt: HostRuntime) -> ExitCode {
         rt.alloc(),
         &SystemFiles(&rt),
         objects,
-        &words,
+        asked,
         &mut reader,
         &mut writer,
         &mut errors,
@@ -80,13 +85,13 @@ fn failed<E: io::Write>(failure: &Failure<'_>, errors: &mut E) -> ExitCode {
     ExitCode::from(report(failure, errors).status)
 }
 
-// Runs the words over these objects, and serves what they leave to be served.
+// Does what is asked over these objects, and serves what it leaves to be served.
 fn run_objects<F, M, I, O, E, R>(
     rt: &R,
     alloc: Global,
     files: &F,
     objects: Vec<M>,
-    words: &[String],
+    asked: Asked<'_>,
     reader: &mut I,
     writer: &mut O,
     errors: &mut E,
@@ -99,7 +104,7 @@ where
     E: io::Write,
     R: Threads + Wait + Net + Clock + Log + Sync,
 {
-    let (ended, left) = run_words(alloc, files, objects, words, reader, writer, errors);
+    let (ended, left) = run_asked(alloc, files, objects, asked, reader, writer, errors);
     let Some((registry, opened, lasting)) = left else {
         return ExitCode::from(ended.status);
     };
@@ -151,6 +156,6 @@ fn serve_forever<M: MibObject + Send, R: Threads + Wait + Net + Clock + Log + Sy
 }
 
 // The words of the command line, the program's name first.
-fn read_words(rt: &HostRuntime) -> io::Result<Vec<String>> {
+fn program_words(rt: &HostRuntime) -> io::Result<Vec<String>> {
     collect_words(rt.alloc(), env::args(rt)?)
 }

@@ -1,19 +1,23 @@
-//! Access: which row decides, among 10, 100 and 1,000 rows.
+//! Access: which row decides, among 10, 100 and 1,000 rows, and masks that are put.
 use crate::print::print_turns;
 use community_core::Policy;
 use oid_core::Oid;
 use policy_text::policy_in;
 use std::alloc::{AllocError, Global};
+use std::hint::black_box;
 use std::io;
 use std::io::{Error, ErrorKind, Write};
 use std::time::Instant;
-use vacm_core::{Ask, Level, Name, Vacm, Verdict, ViewType};
+use vacm_core::{Ask, Level, Mask, Name, Vacm, Verdict, ViewType};
 
 /// How often each is asked.
 const TURNS: u32 = 100_000;
 
 /// How many rows there are.
 const ROWS: [u32; 3] = [10, 100, 1_000];
+
+/// How many families have a mask put, of 1,000 rows.
+const PUTS: u32 = 999;
 
 /// The family of the view `last`, which is all of the bridge.
 const LAST: &str =
@@ -168,11 +172,32 @@ fn measure_access_rows(rt: &HostRuntime, rows: u32) -> io::Result<()> {
     measure_decide(rt, policy.vacm())
 }
 
-/// Decides on a request, and on a name in a view, among more and more rows.
+// Puts a mask of each family of the view `bridge`, which is found by its index.
+fn measure_puts(rt: &HostRuntime, policy: &mut Policy, what: &str, mask: Mask) -> io::Result<()> {
+    let start = Instant::now(rt)?;
+    for number in 1..=PUTS {
+        let index = [
+            6, 98, 114, 105, 100, 103, 101, 8, 1, 3, 6, 1, 2, 1, 17, number,
+        ];
+        if let Some(row) = policy.vacm().family_at(&index) {
+            black_box(policy.put_mask(row, mask));
+        }
+    }
+    print_turns(rt, what, PUTS, &start)
+}
+
+// Opens a place of each mask, and closes it again.
+fn measure_masks(rt: &HostRuntime) -> io::Result<()> {
+    let mut policy = policy_with(rt.alloc(), 1_000)?;
+    measure_puts(rt, &mut policy, "put_mask that opens", Mask::of(&[0xFE]))?;
+    measure_puts(rt, &mut policy, "put_mask that closes", Mask::of(&[]))
+}
+
+/// Decides on a request, and on a name in a view, among more and more rows, and puts masks.
 pub fn measure_access(rt: &HostRuntime) -> io::Result<()> {
     for rows in ROWS {
         measure_families(rt, rows)?;
         measure_access_rows(rt, rows)?;
     }
-    Ok(())
+    measure_masks(rt)
 }

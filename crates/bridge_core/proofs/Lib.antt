@@ -8,4 +8,5 @@ pub mod Reserved
 pub mod RunLaws
 pub mod StaticKept
 pub mod StaticRows
+pub mod StaticSettings
 pub mod Same

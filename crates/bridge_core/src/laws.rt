@@ -8,11 +8,12 @@ ghost use Rattle.std.specs.Prelude.{◌≡◌, ◌≢◌, ◌≤◌, ◌<◌, �
 ghost use Rattle.std.specs.List.{AllByRecursion};
 ghost use Rattle.frame_core.specs.declared.mac.Mac.{Mac};
 ghost use Rattle.frame_core.specs.declared.frame.FrameIn.{FrameIn};
-ghost use Rattle.fdb_core.specs.Rows.{row_of, port_of as learned_port};
+ghost use Rattle.fdb_core.specs.declared.port_set.PortSet.{PortSet};
+ghost use Rattle.fdb_core.specs.Rows.{IsAddress, row_of, port_of as learned_port};
 ghost use Rattle.fdb_core.specs.declared.static_row.StaticIndex.{StaticIndex};
 ghost use Rattle.fdb_core.specs.declared.static_row.StaticRow.{StaticRow};
 ghost use Rattle.fdb_core.specs.Learning.{new_row};
-ghost use Rattle.fdb_core.specs.PortSets.{has_port};
+ghost use Rattle.fdb_core.specs.PortSets.{IsOfPorts, has_port};
 ghost use Rattle.fdb_core.specs.Statics.{Statics, IsRising, row_of as static_row};
 ghost use Rattle.rstp_settings.specs.Table.{IsInRange};
 ghost use Rattle.rstp_settings.specs.declared.config.PortConfig.{PortConfig};
@@ -22,7 +23,8 @@ ghost use Rattle.rstp_core.specs.Runs.{IsRootPort};
 ghost use Rattle.rstp_core.specs.Legal.{IsLegal};
 ghost use Rattle.bridge_core.specs.Bridge.{BridgeState, HasPort, address_of, port_count, port_of, counters_of, is_on};
 ghost use Rattle.bridge_core.specs.Counting.{next_count};
-ghost use Rattle.bridge_core.specs.Statics.{is_made, made_row};
+ghost use Rattle.bridge_core.specs.Statics.{is_made, allowed, set_made, set_allowed, made_row, HasStatics};
+ghost use Rattle.bridge_core.specs.StaticIndexes.{IsStaticIndex};
 ghost use Rattle.bridge_core.specs.Forwarding.{is_reserved, forwards, learns, ports_where};
 ghost use Rattle.bridge_core.specs.Events.{frame_result, after_settling, no_bpdus, GoesBetween};
 ghost use Rattle.bridge_core.specs.Relay.{IsReceived, IsRelayed, IsListed, IsUnlisted, IsForAll, IsFor, HasPlace};
@@ -218,6 +220,33 @@ pub fn settling_keeps_the_rows_that_are_made()
         AllByRecursion (λ r. r.made ≡ true) (after_settling b).statics.rows }
     ensures same { (b : BridgeState) → IsRising b.statics.rows → (i : StaticIndex) →
         static_row (after_settling b).statics.rows i ≡ made_row b.statics.rows i }
+{}
+
+/// There may be a static row of each port, and of all ports as port 0, for each address of six octets
+/// but the bridge's own and 01-80-C2-00-00-00 to 01-80-C2-00-00-0F.
+pub fn own_and_reserved_addresses_have_no_static_row()
+    ensures { (b : BridgeState) (i : StaticIndex) → IsStaticIndex b i
+        ↔ (IsAddress i.address × (i.port ≤ port_count b) × (i.address ≢ address_of b) × ((x : ℕ)
+        → x < 16 → i.address.0 ≢ 0x01 ∷ 0x80 ∷ 0xC2 ∷ 0x00 ∷ 0x00 ∷ x ∷ [])) }
+{}
+
+/// Whether a row is made and which ports are allowed to it are a finite map: each reads as it was put,
+/// putting one leaves the other of its index, and those of each other index stay.
+pub fn static_settings_are_a_finite_map()
+    ensures made { (b : BridgeState) (i : StaticIndex) (made : Bool) →
+        is_made (set_made i made b) i ≡ made }
+    ensures ports { (b : BridgeState) (i : StaticIndex) (ports : PortSet) →
+        IsOfPorts (port_count b) ports → allowed (set_allowed i ports b) i ≡ ports }
+    ensures made_keeps_ports { (b : BridgeState) (i : StaticIndex) (made : Bool) → HasStatics b →
+        allowed (set_made i made b) i ≡ allowed b i }
+    ensures ports_keep_made { (b : BridgeState) (i : StaticIndex) (ports : PortSet) →
+        is_made (set_allowed i ports b) i ≡ is_made b i }
+    ensures made_keeps_others { (b : BridgeState) (i : StaticIndex) (made : Bool) (j : StaticIndex)
+        → j ≢ i → (is_made (set_made i made b) j ≡ is_made b j)
+        × (allowed (set_made i made b) j ≡ allowed b j) }
+    ensures ports_keep_others { (b : BridgeState) (i : StaticIndex) (ports : PortSet)
+        (j : StaticIndex) → j ≢ i → (is_made (set_allowed i ports b) j ≡ is_made b j)
+        × (allowed (set_allowed i ports b) j ≡ allowed b j) }
 {}
 
 /// The settings and the spanning tree of a bridge are legal at its opening, and each event keeps

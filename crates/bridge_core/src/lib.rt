@@ -23,7 +23,8 @@
 //!
 //! # Laws
 //! In [`laws`]: where a frame goes in the standard's words, by a static row or without one, which
-//! ports forward after any list of events, and when there is no root port.
+//! ports forward after any list of events, and when there is no root port; static settings are a
+//! finite map.
 //!
 //! # Not claimed
 //! That no port forwards while it is disabled between `put_setting` and `settle`; nor after it

@@ -1,8 +1,8 @@
 //! The static rows of a bridge, as a table (IEEE 802.1D-2004 7.9.1).
-ghost use Rattle.std.specs.Prelude.{◌≡◌, ◌≢◌, ◌↔◌, ◌≤◌, true, false, IsTrue};
+ghost use Rattle.std.specs.Prelude.{◌≡◌, ◌==◌, ◌≢◌, ◌↔◌, ◌≤◌, true, false, find, IsTrue};
 ghost use Rattle.fdb_core.specs.Statics.{row_of, made_rows, HasPlaceFor};
 ghost use Rattle.bridge_core.specs.Forwarding.{is_reserved};
-ghost use Rattle.bridge_core.specs.Statics.{is_made_in, ports_of, says, rows_with, made_row, listed};
+ghost use Rattle.bridge_core.specs.Statics.{is_made_in, ports_of, says, rows_with, if_made, listed};
 
 use crate::forwarding::is_reserved;
 use fdb_core::{MAX_SET_PORTS, PortSet, StaticIndex, StaticRow, StaticTable};
@@ -55,11 +55,18 @@ pub fn drop_unmade(statics: &mut StaticTable)
     statics.keep_made();
 }
 
-// The row of the index, where it is made.
-fn find_made(statics: &StaticTable, index: StaticIndex) -> Option<StaticRow>
-    ensures { result ≡ made_row statics.now.rows index }
+// The first row of a port.
+fn find_port(rows: &[StaticRow], port: u16) -> Option<StaticRow>
+    ensures { result ≡ find (λ r. r.index.port == port) rows.now }
 {
-    statics.row(index).filter(|row| row.made)
+    rows.iter().find(|row| row.index.port == port).copied()
+}
+
+// The first row of a port, where it is made.
+fn find_made(rows: &[StaticRow], port: u16) -> Option<StaticRow>
+    ensures { result ≡ if_made (find (λ r. r.index.port == port) rows.now) }
+{
+    find_port(rows, port).filter(|row| row.made)
 }
 
 /// The row that decides about frames to an address that come by a port: the made row of that port,
@@ -70,15 +77,9 @@ pub fn find_listed(statics: &StaticTable, from: u16, address: Mac) -> Option<Sta
     if statics.is_empty() {
         return None;
     }
-    let by_port = find_made(
-        statics,
-        StaticIndex {
-            address,
-            port: from,
-        },
-    );
-    match by_port {
+    let rows = statics.rows_of(address);
+    match find_made(rows, from) {
         Some(row) => Some(row),
-        None => find_made(statics, StaticIndex { address, port: 0 }),
+        None => find_made(rows, 0),
     }
 }

@@ -1,12 +1,12 @@
 -- What contracts see of a driver that fails by plan, and of an object over a driver.
-use Rattle.std.specs.Prelude.{ℕ, ◌==◌, Bool, List, Option}
+use Rattle.std.specs.Prelude.{ℕ, ◌==◌, Bool, false, List, Option}
 use Rattle.std.specs.List.{AllByRecursion}
 use Rattle.rstp_settings.specs.declared.key.Key.TheVariants as key
 use Rattle.rstp_settings.specs.declared.key.PortKey.TheVariants as port
 use Rattle.setting_keys.specs.declared.SettingKey.{SettingKey}
 use Rattle.setting_keys.specs.declared.SettingKey.TheVariants as setting
 use Rattle.setting_keys.specs.declared.SettingValue.{SettingValue}
-use Rattle.setting_keys.specs.declared.SettingValue.TheVariants.{Number}
+use Rattle.setting_keys.specs.declared.SettingValue.TheVariants.{Number, Ports}
 use Rattle.setphase_core.specs.declared.object.Reservation.{Reservation}
 use Rattle.setphase_core.specs.declared.column.Column.TheVariants as column
 use Rattle.setphase_core.specs.declared.column.StpPort.TheVariants as stp_port
@@ -31,6 +31,7 @@ AreEnables rs = AllByRecursion (λ r. IsLine r.key) rs
 -- A value of it says that the port is on: enabled (RFC 4188).
 abbrev pub is_enabled : SettingValue → Bool
 is_enabled (Number n) = n == 1
+is_enabled (Ports s) = false
 
 -- An object over a driver: the driver, and what it has reserved for the Set that is being made, by
 -- place.

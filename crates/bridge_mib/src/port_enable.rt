@@ -1,7 +1,7 @@
 //! dot1dStpPortEnable over a device that switches lines (RFC 4188).
 ghost use Rattle.std.specs.Prelude.{◌≡◌, ◌+◌, ℕ, true, false, [], slice_get, Some, OnOk, OnErr};
 ghost use Rattle.setting_keys.specs.declared.SettingValue.{SettingValue as AnySetting};
-ghost use Rattle.setphase_core.specs.Objects.{IsReserved, IsCommitted, IsByPlan, after_call, object_after_arm, object_after_commit, object_after_failure, committed_reservation};
+ghost use Rattle.setphase_core.specs.Objects.{IsReserved, IsCommitted, HasRoom, HasRoomBack, IsByPlan, after_call, object_after_arm, object_after_commit, object_after_failure, committed_reservation};
 ghost use Rattle.setphase_core.specs.Plans.{plan_after_call, FollowsPlan};
 ghost use Rattle.setphase_core.specs.Settings.{setting, put, IsSettingInRange, IsLine};
 ghost use Rattle.bridge_mib.specs.Line.{state_of, port_enable, is_enabled};
@@ -77,7 +77,7 @@ fn tell<L: LineDriver>(
 fn is_enabled(value: SettingValue) -> bool
     ensures { result ≡ is_enabled value }
 {
-    value == SettingValue::Number(1)
+    matches!(value, SettingValue::Number(1))
 }
 
 impl<L: LineDriver> MibObject for PortEnable<L> {
@@ -104,7 +104,9 @@ impl<L: LineDriver> MibObject for PortEnable<L> {
     }
 
     fn commit(&mut self, world: &mut World, slot: Slot) -> Result<(), DeviceFault>
-        requires { IsReserved world.old (state_of L.failures L.plan_left self.old) slot }
+        requires reserved { IsReserved world.old
+            (state_of L.failures L.plan_left self.old) slot }
+        requires room { HasRoom world.old slot.key slot.value }
         ensures put { OnOk result (world.new ≡ put world.old slot.key slot.value) }
         ensures kept { OnOk result (state_of L.failures L.plan_left self.new
             ≡ object_after_commit (state_of L.failures L.plan_left self.old) slot
@@ -128,8 +130,10 @@ impl<L: LineDriver> MibObject for PortEnable<L> {
     }
 
     fn undo(&mut self, world: &mut World, slot: Slot) -> Result<(), DeviceFault>
-        requires { (before : AnySetting)
+        requires committed { (before : AnySetting)
             × IsCommitted world.old (state_of L.failures L.plan_left self.old) slot before }
+        requires room { HasRoomBack world.old
+            (state_of L.failures L.plan_left self.old) slot }
         ensures put { OnOk result ((before : AnySetting)
             → slice_get self.old.reserved slot.place ≡ Some (committed_reservation slot before)
             → world.new ≡ put world.old slot.key before) }

@@ -1,9 +1,12 @@
 -- Where an index stands among static rows by rising index.
-use Rattle.std.specs.Prelude.{◌≡◌, ℕ, ◌+◌, ◌<◌, ◌≤◌, List, length, take, drop, Some, None}
+use Rattle.std.specs.Prelude.{◌≡◌, ℕ, ◌+◌, ◌<◌, ◌≤◌, Bool, List, length, take, drop, Some, None}
 use Rattle.std.specs.List.{HoldsAt}
+use Rattle.std.specs.Ordering.{nat_cmp, is_gt}
+use Rattle.std.specs.Cmp.Lexicographic.{slice_cmp}
+use Rattle.frame_core.specs.declared.mac.Mac.{Mac}
 use Rattle.fdb_core.specs.declared.static_row.StaticIndex.{StaticIndex}
 use Rattle.fdb_core.specs.declared.static_row.StaticRow.{StaticRow}
-use Rattle.fdb_core.specs.Statics.{rows_below, rows_above, row_of}
+use Rattle.fdb_core.specs.Statics.{numbers_of, rows_below, rows_above, row_of}
 
 -- the index's row stands at this place, between those of lower and those of higher indexes
 pub record IsRowAt (rows : List StaticRow) (i : StaticIndex) (place : ℕ) : Type 0 where
@@ -18,3 +21,7 @@ pub record IsGapAt (rows : List StaticRow) (i : StaticIndex) (place : ℕ) : Typ
   pub row : row_of rows i ≡ None
   pub before : take place rows ≡ rows_below rows i
   pub behind : drop place rows ≡ rows_above rows i
+
+-- the index is one of the address or behind those, where it too has six octets
+abbrev pub is_from : Mac → StaticIndex → Bool
+is_from address i = is_gt (slice_cmp nat_cmp (numbers_of i) address.0)

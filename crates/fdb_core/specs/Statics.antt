@@ -1,10 +1,13 @@
 -- The static rows of a filtering database (IEEE 802.1D-2004 7.9.1; RFC 4188 dot1dStaticTable), by
 -- rising index: a finite map from an address and a receive port to what is set of them.
-use Rattle.std.specs.Prelude.{◌≡◌, ℕ, ◌+◌, ◌<◌, List, [], ◌∷◌, ◌++◌, length, filter, find, max, Option, None}
+use Rattle.std.specs.Prelude.{◌≡◌, ℕ, ◌+◌, ◌<◌, true, List, [], ◌∷◌, ◌++◌, length, filter, find, max, Option, Some, None}
 use Rattle.std.specs.List.Sorted.{IsStrictlySortedBy}
 use Rattle.std.specs.Ordering.{nat_cmp, is_lt, is_eq, is_gt}
 use Rattle.std.specs.declared.cmp.Ordering.{Ordering}
+use Rattle.std.specs.declared.cmp.Ordering.TheVariants.{Greater}
 use Rattle.std.specs.Cmp.Lexicographic.{slice_cmp}
+use Rattle.frame_core.specs.declared.mac.Mac.{Mac}
+use Rattle.frame_core.specs.Octets.{same_mac}
 use Rattle.fdb_core.specs.declared.static_row.StaticIndex.{StaticIndex}
 use Rattle.fdb_core.specs.declared.static_row.StaticRow.{StaticRow}
 
@@ -31,6 +34,10 @@ rows_above rows i = filter (λ r. is_gt (index_cmp r.index i)) rows
 abbrev pub row_of : List StaticRow → StaticIndex → Option StaticRow
 row_of rows i = find (λ r. is_eq (index_cmp r.index i)) rows
 
+-- the rows of an address, by rising port
+abbrev pub rows_of : List StaticRow → Mac → List StaticRow
+rows_of rows address = filter (λ r. same_mac r.index.address address) rows
+
 -- the rows with this one in its place, and the rows without that of an index
 abbrev pub put_row : List StaticRow → StaticRow → List StaticRow
 put_row rows row = rows_below rows row.index ++ row ∷ rows_above rows row.index
@@ -46,6 +53,12 @@ made_rows rows = filter (λ r. r.made) rows
 abbrev pub next_made : List StaticRow → List ℕ → Option StaticRow
 next_made rows numbers =
     find (λ r. r.made) (filter (λ r. is_gt (slice_cmp nat_cmp (numbers_of r.index) numbers)) rows)
+
+-- a made row of the table that is above some numbers
+pub record IsMadeAbove (rows : List StaticRow) (numbers : List ℕ) (row : StaticRow) : Type 0 where
+  pub there : row_of rows row.index ≡ Some row
+  pub made : row.made ≡ true
+  pub above : slice_cmp nat_cmp (numbers_of row.index) numbers ≡ Greater
 
 -- A table: its rows, and for how many rows it is sure to have memory. A row that is put uses up
 -- nothing of this promise: it holds as long as the rows are no more.

@@ -10,8 +10,8 @@
 //! [`MAX_AGING_TIME`] the aging time in seconds.
 //!
 //! [`StaticTable`] is seen as its rows by rising index and for how many rows it is sure to have
-//! memory: `put`, `remove`, `keep_made`, `reserve`, `hold`, and without change `row`, `next_made`,
-//! `len`, `is_empty`, `places`, `known`, `try_copy` and `try_rows`. Only `reserve` and the two
+//! memory: `put`, `remove`, `keep_made`, `reserve`, `hold`, and without change `row`, `rows_of`,
+//! `next_made`, `len`, `is_empty`, `places`, `known`, `try_copy` and `try_rows`. Only `reserve` and the two
 //! copies take memory. [`StaticRow`] is one row, of a [`StaticIndex`]. [`PortSet`] is a set of at
 //! most [`MAX_SET_PORTS`] ports: `first`, `has`, `has_all`, `read` and `octets`, which are a bit for
 //! each port in at most [`SET_OCTETS`] octets, and [`has_other_port`] finds a bit of no port.
@@ -24,8 +24,8 @@
 //! `specs/StaticsInside.antt`: how it is kept; `specs/PortSets.antt`: sets of ports, and octets.
 //!
 //! # Laws
-//! In [`laws`]: the bounds of the aging time and of sets of ports; static rows are a finite map, and
-//! stay in order. On `known` and `next_after`: the table rises, each
+//! In [`laws`]: the bounds of the aging time and of sets of ports; sets of ports are read as they were
+//! written; static rows are a finite map, and stay in order, and the next made row is the lowest. On `known` and `next_after`: the table rises, each
 //! address is six octets, and the table is young and within its limit.
 //!
 //! # Not claimed

@@ -1,11 +1,15 @@
 //! Static rows by rising index, as plain lists.
-ghost use Rattle.std.specs.Prelude.{◌≡◌, ◌≤◌, ◌<◌, length, IfOk, IfErr, None, vec_capacity, find, not};
+ghost use Rattle.std.specs.Prelude.{◌≡◌, ◌≤◌, ◌<◌, true, length, take, IfOk, IfErr, None, vec_capacity, find, not};
+ghost use Rattle.std.specs.List.{AllByRecursion};
 ghost use Rattle.std.specs.Cmp.Lexicographic.{slice_cmp};
 ghost use Rattle.std.specs.Ordering.{nat_cmp, is_gt};
-ghost use Rattle.fdb_core.specs.StaticPlaces.{IsRowAt, IsGapAt};
-ghost use Rattle.fdb_core.specs.Statics.{numbers_of, IsRising, row_of, put_row, without_row, made_rows, next_made};
+ghost use Rattle.frame_core.specs.Octets.{mac_cmp};
+ghost use Rattle.fdb_core.specs.StaticPlaces.{IsRowAt, IsGapAt, is_from};
+ghost use Rattle.fdb_core.specs.Statics.{numbers_of, IsRising, row_of, rows_of, put_row, without_row, made_rows, next_made};
 
 use crate::static_row::{StaticIndex, StaticRow};
+use frame_core::Mac;
+use std::cmp::Ordering;
 
 // Where the row of the index stands, or where it would.
 fn place_of(rows: &[StaticRow], index: StaticIndex) -> Result<usize, usize>
@@ -30,6 +34,55 @@ pub fn row_at(rows: &[StaticRow], index: StaticIndex) -> Option<StaticRow>
         Ok(place) => Some(rows[place]),
         Err(_) => None,
     }
+}
+
+// How two addresses compare, octet by octet; both have six. Four octets are compared at once, and
+// then two.
+fn compare(address: Mac, other: Mac) -> Ordering
+    ensures order { result ≡ mac_cmp address other }
+    ensures long { length address.0 ≡ length other.0 }
+{
+    let [a, b, c, d, e, f] = address.0;
+    let [g, h, i, j, k, l] = other.0;
+    let parts = (u32::from_be_bytes([a, b, c, d]), u16::from_be_bytes([e, f]));
+    parts.cmp(&(u32::from_be_bytes([g, h, i, j]), u16::from_be_bytes([k, l])))
+}
+
+// Whether an index comes before all those of the address.
+fn is_before(index: StaticIndex, address: Mac) -> bool
+    ensures { result ≡ not (is_from address index) }
+{
+    compare(index.address, address).is_lt()
+}
+
+// How many rows of the address stand in front, where no row is before them.
+fn count_of(rows: &[StaticRow], address: Mac) -> usize
+    requires rising { IsRising rows.now }
+    requires from { AllByRecursion (λ r. is_from address r.index ≡ true) rows.now }
+    ensures rows { take result rows.now ≡ rows_of rows.now address }
+    ensures bound { result ≤ length rows.now }
+{
+    for i in 0..rows.len() {
+        if compare(rows[i].index.address, address).is_ne() {
+            return i;
+        }
+    }
+    rows.len()
+}
+
+/// The rows of an address, by rising port: found by halves, and then one by one.
+pub fn rows_at(rows: &[StaticRow], address: Mac) -> &[StaticRow]
+    requires { IsRising rows.now }
+    ensures { result.now ≡ rows_of rows.now address }
+{
+    let from = rows.partition_point(
+        |row|
+            ensures { result ≡ not (is_from address row.now.index) }
+        { is_before(row.index, address) },
+    );
+    let rest = &rows[from..];
+    let count = count_of(rest, address);
+    &rest[..count]
 }
 
 /// Puts the row in its place, or in place of the one of its index. It takes no memory: there is

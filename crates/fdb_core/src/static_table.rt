@@ -1,9 +1,10 @@
 //! The static table.
-ghost use Rattle.std.specs.Prelude.{◌≡◌, ◌+◌, ◌≤◌, length, IfOk, OnOk, OnErr, IsOk, IsTrue, ◌↔◌, [], vec_capacity};
-ghost use Rattle.fdb_core.specs.Statics.{IsRising, no_statics, with_places_for, row_of, put_row, without_row, made_rows, next_made, HasPlaceFor};
+ghost use Rattle.std.specs.Prelude.{◌≡◌, ◌==◌, ℕ, ◌+◌, ◌≤◌, length, find, IfOk, OnOk, OnErr, IsOk, IsTrue, ◌↔◌, [], vec_capacity};
+ghost use Rattle.fdb_core.specs.Statics.{IsRising, no_statics, with_places_for, row_of, rows_of, put_row, without_row, made_rows, next_made, HasPlaceFor};
 
 use crate::static_row::{StaticIndex, StaticRow};
-use crate::static_rows::{keep_made, next_made_in, put_in, remove_from, row_at};
+use crate::static_rows::{keep_made, next_made_in, put_in, remove_from, row_at, rows_at};
+use frame_core::Mac;
 use std::alloc::{AllocError, Global};
 use std::marker::Model;
 
@@ -102,6 +103,16 @@ impl StaticTable {
         ensures { result ≡ row_of self.now.rows index }
     {
         row_at(self.rows.as_slice(), index)
+    }
+
+    /// The rows of an address, by rising port.
+    pub fn rows_of(&self, address: Mac) -> &[StaticRow]
+        ensures rows { result.now ≡ rows_of self.now.rows address }
+        // So the one of a port is that of the address and the port.
+        ensures row { (port : ℕ) → find (λ r. r.index.port == port) result.now
+            ≡ row_of self.now.rows (record { address = address; port = port }) }
+    {
+        rows_at(self.rows.as_slice(), address)
     }
 
     /// Puts a row, in place of the one of its index if there is one. It takes no memory.

@@ -83,7 +83,8 @@ next_of h = h.base_number + length h.entries
 
 -- What holds of each history that is kept: it is legal, and leads to the world as it is; no object
 -- has anything reserved; at most `MAX_ENTRIES` entries are kept, and one at least once one was
--- made; and the base number is the first number, or whole blocks of entries past it.
+-- made; the next number is one of 64 bits; and the base number is the first number, or whole blocks of
+-- entries past it.
 pub record IsHistory (h : History) : Type 0 where
   pub legal : IsLegal (rows_of h.objects) h.base h.entries
   pub world_is : h.world ≡ replay (rows_of h.objects) h.base h.entries

@@ -16,7 +16,7 @@ pub struct Tally {
 }
 
 /// The number of the first receipt that is not above the one before it, or that is neither older
-/// than the entries that are kept nor the receipt of one of them.
+/// than the entries that are kept nor the receipt of the one of its number.
 #[derive(Clone, Copy, Debug, PartialEq, Eq, Drop)]
 pub struct Mismatch(pub u64);
 
@@ -66,7 +66,7 @@ fn is_above(before: Option<u64>, number: u64) -> bool
 /// # Errors
 ///
 /// The number of the first receipt that is not above the one before it, or that is neither older
-/// than the entries nor that of one of them in event, egress and reply.
+/// than the entries nor that of the one of its number in event, egress and reply.
 pub fn compare(base_number: u64, entries: &[Entry], receipts: &[Receipt]) -> Result<Tally, Mismatch>
     ensures { MatchResult result
         (IsTallied base_number entries.now receipts.now)

@@ -11,7 +11,7 @@ use Rattle.live_agent.specs.declared.trace.End.TheVariants as end
 use Rattle.live_agent.specs.declared.trace.Item.{Item}
 use Rattle.live_agent.specs.declared.trace.Item.TheVariants as item
 use Rattle.live_agent.specs.Turns.{Turn, nothing_came, ended, broke, was_refused, was_taken, was_own, paused, items_of, item_of, end_after, end_of, entered_in}
-use Rattle.live_agent.specs.Runs.{HasTurned, HasRun, all_of, all_items, GoesOn, EndsBy}
+use Rattle.live_agent.specs.Runs.{HasTurned, HasRun, IsBehind, AreBehind, all_of, all_items, GoesOn, EndsBy}
 
 pub all_of-snoc : {D : Type 0} (does : Turn → List D) (ts : List Turn) (t : Turn) → all_of does (ts ++ t ∷ []) ≡ all_of does ts ++ does t
 all_of-snoc does [] t = append-nil (does t)
@@ -27,6 +27,13 @@ entered_in-append (item.Entered r ∷ xs) ys = omega (arith, entered_in-append x
 entered_in-append (item.Refused c ∷ xs) ys = entered_in-append xs ys
 entered_in-append (item.Short ∷ xs) ys = entered_in-append xs ys
 entered_in-append (item.Full ∷ xs) ys = entered_in-append xs ys
+
+pub AreBehind-snoc : (amount : ℕ) (ts : List Turn) (t : Turn) → AreBehind amount ts → IsBehind (amount + entered_in (all_items ts)) t → AreBehind amount (ts ++ t ∷ [])
+AreBehind-snoc amount [] t before one =
+    let e : amount + 0 ≡ amount = omega arith in (subst (λ (n : ℕ). IsBehind n t) e one, tt)
+AreBehind-snoc amount (x ∷ ts) t before one =
+    let e : amount + entered_in (items_of x ++ all_items ts) ≡ amount + entered_in (items_of x) + entered_in (all_items ts) = omega (arith, entered_in-append (items_of x) (all_items ts)) in
+    (before.0, AreBehind-snoc (amount + entered_in (items_of x)) ts t before.1 (subst (λ (n : ℕ). IsBehind n t) e one))
 
 -- what an event left in the trace counts its entries
 pub entered_one : (a : Applied) → entered_in (item_of a ∷ []) ≡ entry_count a
@@ -85,6 +92,7 @@ All-snoc P xs x all one = All-append P xs (x ∷ []) all (All-cons P x [] one (�
 pub record Goes {W D : Type 0} (went : W → List D → W → Type 0) (does : Turn → List D) (is_turn : Turn → Type 0) (count : ℕ) (a b : W) (items later_items : List Item) (amount later_amount : ℕ) : Type 0 where
   pub turns : List Turn
   pub are : All is_turn turns
+  pub behind : AreBehind amount turns
   pub on : All GoesOn turns
   pub count_is : length turns ≡ count
   pub acts : went a (all_of does turns) b
@@ -96,6 +104,7 @@ goes_none went starts does is_turn a items later amount same =
     record {
       turns = [];
       are = λ k d h. absurd (omega arith);
+      behind = tt;
       on = λ k d h. absurd (omega arith);
       count_is = refl;
       acts = starts a;
@@ -121,6 +130,7 @@ goes_more went goes_on does is_turn count a b c items some lent later amount som
     record {
       turns = g.turns ++ t.turn ∷ [];
       are = All-snoc is_turn g.turns t.turn g.are t.is;
+      behind = AreBehind-snoc amount g.turns t.turn g.behind (subst (λ (n : ℕ). IsBehind n t.turn) g.amount_is t.behind);
       on = All-snoc GoesOn g.turns t.turn g.on (sym t.ends_so);
       count_is = omega (arith, length-append g.turns (t.turn ∷ []), g.count_is);
       acts = subst (λ l. went a l c) (sym (all_of-snoc does g.turns t.turn)) (goes_on a b c (all_of does g.turns) (does t.turn) g.acts t.acts);
@@ -139,6 +149,7 @@ goes_stops went goes_on does is_turn rounds count a b c items some lent later tr
     record {
       turns = g.turns ++ t.turn ∷ [];
       are = All-snoc is_turn g.turns t.turn g.are t.is;
+      behind = AreBehind-snoc amount g.turns t.turn g.behind (subst (λ (n : ℕ). IsBehind n t.turn) g.amount_is t.behind);
       acts = subst (λ l. went a l c) (sym (all_of-snoc does g.turns t.turn)) (goes_on a b c (all_of does g.turns) (does t.turn) g.acts t.acts);
       items_are = left ∙ items_more items some lent later g.turns t.turn g.items_are same t.items_are;
       amount_is = amount_more amount some_amount later_amount g.turns t.turn g.amount_is t.amount_is;
@@ -153,6 +164,7 @@ goes_round went does is_turn rounds count a b items later trace amount later_amo
     record {
       turns = g.turns;
       are = g.are;
+      behind = g.behind;
       acts = g.acts;
       items_are = left ∙ g.items_are;
       amount_is = g.amount_is;
@@ -167,6 +179,7 @@ goes_short went does is_turn rounds count a b items some lent trace amount later
     record {
       turns = g.turns;
       are = g.are;
+      behind = g.behind;
       acts = g.acts;
       items_are = left ∙ same ∙ g.items_are;
       amount_is = g.amount_is;

@@ -39,6 +39,7 @@ second_turn went did acts_are on s a b c items later amount later_amount ends mo
     record {
       turn = t.turn;
       is = second_ticks s t.turn t.is;
+      behind = t.behind;
       acts = subst (λ (l : List Deed). did a l c) (sym (second_deeds s t.turn t.is)) (on a b c (answered true ∷ []) (all_acted (acts_of t.turn)) more (acts_are b c (acts_of t.turn) t.acts));
       items_are = t.items_are;
       amount_is = t.amount_is;
@@ -49,4 +50,4 @@ second_turn went did acts_are on s a b c items later amount later_amount ends mo
 abbrev pub pause_turn : {W : Type 0} (did : W → List Deed → W → Type 0) (s : Setting) (a b : W) (items : List Item) (amount : ℕ)
     → did a (answered false ∷ []) b → HasTurned did ticker_deeds (IsTickerTurn s) a b items items amount amount (Some end.Closed)
 pause_turn did s a b items amount over =
-    record { turn = paused; is = tt; acts = over; items_are = sym (append-nil items); amount_is = omega arith; ends_so = refl }
+    record { turn = paused; is = tt; behind = tt; acts = over; items_are = sym (append-nil items); amount_is = omega arith; ends_so = refl }

@@ -10,24 +10,25 @@ use Rattle.live_lock.specs.Sharing.{entry_count}
 use Rattle.live_agent.specs.declared.trace.End.{End}
 use Rattle.live_agent.specs.declared.trace.Item.{Item}
 use Rattle.live_agent.specs.Turns.{Happening, Turn, items_of, item_of, end_of, entered_in}
-use Rattle.live_agent.specs.Runs.{HasTurned}
+use Rattle.live_agent.specs.Runs.{HasTurned, IsBehind}
 use Rattle.live_agent.proofs.Running.{entered_one}
 
 -- the event that took its place, with what was sent of it
-abbrev pub happening : Event → Applied → Buffered → (fault : Option WireFault) → List Act → Happening
-happening e applied buffer fault acts = record { event = e; applied = applied; buffer = buffer; acts = acts; fault = fault }
+abbrev pub happening : Event → ℕ → Applied → Buffered → (fault : Option WireFault) → List Act → Happening
+happening e made applied buffer fault acts = record { event = e; made = made; applied = applied; buffer = buffer; acts = acts; fault = fault }
 
 pub amount_is : (amount later : ℕ) (applied : Applied) → later ≡ amount + entry_count applied → later ≡ amount + entered_in (item_of applied ∷ [])
 amount_is amount later applied is = is ∙ ap (λ (n : ℕ). amount + n) (sym (entered_one applied))
 
 -- a turn that left nothing in the trace
 abbrev pub bare_turn : {W D : Type 0} (went : W → List D → W → Type 0) (does : Turn → List D) (is_turn : Turn → Type 0) (t : Turn) (a b : W) (items : List Item) (amount : ℕ) (ends : Option End)
-    → is_turn t → went a (does t) b → items_of t ≡ [] → ends ≡ end_of t → HasTurned went does is_turn a b items items amount amount ends
-bare_turn went does is_turn t a b items amount ends is acts none so =
+    → is_turn t → IsBehind amount t → went a (does t) b → items_of t ≡ [] → ends ≡ end_of t → HasTurned went does is_turn a b items items amount amount ends
+bare_turn went does is_turn t a b items amount ends is behind acts none so =
     let nothing : entered_in (items_of t) ≡ 0 = ap entered_in none in
     record {
       turn = t;
       is = is;
+      behind = behind;
       acts = acts;
       items_are = sym (append-nil items) ∙ ap (λ (l : List Item). items ++ l) (sym none);
       amount_is = omega (arith, nothing);

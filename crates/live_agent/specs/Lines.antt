@@ -1,6 +1,6 @@
 -- The kinds of lines, by their turns: a worker answers requests, a port takes frames, and the ticker
 -- lets seconds pass.
-use Rattle.std.specs.Prelude.{◌≡◌, ◌⊎◌, ℕ, ◌+◌, true, false, List, [], ◌∷◌, ◌++◌, Option, Some, None}
+use Rattle.std.specs.Prelude.{◌≡◌, ◌⊎◌, ℕ, ◌+◌, ◌≤◌, true, false, List, [], ◌∷◌, ◌++◌, Option, Some, None}
 use Rattle.std.specs.declared.net.socket_addr.SocketAddr.{SocketAddr}
 use Rattle.frame_core.specs.Frames.{IsFrame, IsFault}
 use Rattle.frame_core.specs.declared.frame.FrameIn.{FrameIn}
@@ -41,12 +41,11 @@ abbrev pub setting_of : History → Plan → Setting
 setting_of start plan =
     record { start = start; source = plan.source; peers = plan.peers.items }
 
--- An event took its place in the history, for a caller that had made so many entries, and these
--- packets were sent for it.
+-- An event took its place in the history, behind at least as many entries as its thread had made,
+-- and these packets were sent for it.
 pub record Happens (s : Setting) (e : Event) (packets : List Packet) (h : Happening) : Type 0 where
   pub event_is : h.event ≡ e
-  pub made : ℕ
-  pub place : TakesPlace s.start made e h.applied h.buffer
+  pub place : TakesPlace s.start h.made e h.applied h.buffer
   pub told : IsToldOf e h.applied h.buffer
   pub sent : IsSending packets h.fault h.acts
 
@@ -158,6 +157,7 @@ pub record HasLinked {W : Type 0} (went : W → List Act → W → Type 0) (s : 
     Type 0 where
   pub happening : Happening
   pub happens : Happens s (event.Link port true) (ports_packets s happening) happening
+  pub behind : amount ≤ happening.made
   pub acts : went a happening.acts b
   pub items_are : later_items ≡ items ++ item_of happening.applied ∷ []
   pub amount_is : later_amount ≡ amount + entry_count happening.applied

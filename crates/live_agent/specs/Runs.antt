@@ -1,19 +1,32 @@
 -- The loop of a line: its turns one after another, until its rounds are over or a turn ends it.
-use Rattle.std.specs.Prelude.{◌≡◌, ℕ, ◌+◌, ◌<◌, List, [], ◌∷◌, ◌++◌, length, Option, Some, None, All}
+use Rattle.std.specs.Prelude.{◌≡◌, ℕ, ◌+◌, ◌<◌, ◌≤◌, List, [], ◌∷◌, ◌++◌, length, Option, Some, None, All}
 use Rattle.wire_core.specs.Acts.{one_more}
 use Rattle.live_agent.specs.declared.trace.End.{End}
 use Rattle.live_agent.specs.declared.trace.End.TheVariants as end
 use Rattle.live_agent.specs.declared.trace.Item.{Item}
-use Rattle.live_agent.specs.Turns.{Turn, items_of, end_of, entered_in}
+use Rattle.live_agent.specs.Turns.{Turn, was_taken, was_own, items_of, end_of, entered_in}
 
--- One turn of a line between two states of its wire: it is one of these, did on the wire what such a
--- turn does, left this in the trace, and ended the line so, if it did. The share counts the entries
--- that it made.
+-- The event of a turn, if it has one, took its place after the line's thread had made at least so many
+-- entries.
+abbrev pub IsBehind : ℕ → Turn → Type 0
+IsBehind made (was_taken a h) = made ≤ h.made
+IsBehind made (was_own h) = made ≤ h.made
+IsBehind made turn = Unit
+
+-- So did the events of turns one behind another, each behind the entries of those before it too.
+abbrev pub AreBehind : ℕ → List Turn → Type 0
+AreBehind made [] = Unit
+AreBehind made (t ∷ ts) = IsBehind made t × AreBehind (made + entered_in (items_of t)) ts
+
+-- One turn of a line between two states of its wire: it is one of these, behind the entries that the
+-- line's thread had made, did on the wire what such a turn does, left this in the trace, and ended the
+-- line so, if it did. The share counts the entries that it made.
 pub record HasTurned {W D : Type 0} (went : W → List D → W → Type 0) (does : Turn → List D)
     (is_turn : Turn → Type 0) (a b : W) (items later_items : List Item) (amount later_amount : ℕ)
     (ends : Option End) : Type 0 where
   pub turn : Turn
   pub is : is_turn turn
+  pub behind : IsBehind amount turn
   pub acts : went a (does turn) b
   pub items_are : later_items ≡ items ++ items_of turn
   pub amount_is : later_amount ≡ amount + entered_in (items_of turn)
@@ -48,12 +61,14 @@ EndsBy rounds turns end.Full = Stops rounds turns end.Full
 EndsBy rounds turns (end.Wire fault) = Stops rounds turns (end.Wire fault)
 
 -- Between two states of its wire a line of so many rounds has run, and left these items more: each
--- turn is one of these, and they did on the wire what such turns do, in their order.
+-- turn is one of these, behind the entries that the line's thread had made, and they did on the wire
+-- what such turns do, in their order.
 pub record HasRun {W D : Type 0} (went : W → List D → W → Type 0) (does : Turn → List D)
     (is_turn : Turn → Type 0) (rounds : ℕ) (a b : W) (items later_items : List Item)
     (amount later_amount : ℕ) (how : End) : Type 0 where
   pub turns : List Turn
   pub are : All is_turn turns
+  pub behind : AreBehind amount turns
   pub acts : went a (all_of does turns) b
   pub items_are : later_items ≡ items ++ all_items turns
   pub amount_is : later_amount ≡ amount + entered_in (all_items turns)

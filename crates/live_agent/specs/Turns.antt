@@ -19,9 +19,11 @@ pub record Arrival : Type 0 where
   pub peer : SocketAddr
   pub octets : List ℕ
 
--- An event that a line had happen: what became of it, what it gave to send, and what was sent.
+-- An event that a line had happen: how many entries the line's thread had made before, what became
+-- of it, what it gave to send, and what was sent.
 pub record Happening : Type 0 where
   pub event : Event
+  pub made : ℕ
   pub applied : Applied
   pub buffer : Buffered
   pub acts : List Act

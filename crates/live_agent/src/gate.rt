@@ -5,9 +5,10 @@ use std::net::SocketAddr;
 use std::sync::Wait;
 use wire_core::{Received, Wire, WireFault};
 
-/// Is told of each request of one worker, ahead of it and behind it, while the lock is free.
+/// Is called for each request of one worker: ahead of what the request sends, and behind that. The
+/// worker holds no lock then.
 ///
-/// What it was told is a relation, as what a wire does is one.
+/// What it was called with is a relation, as what a wire does is one.
 pub trait Gate: Drop {
     ghost use Rattle.std.specs.Prelude.{List, [], ◌∷◌, ◌++◌};
     ghost use Rattle.live_agent.specs.Deeds.{Visit, before, after};
@@ -15,11 +16,12 @@ pub trait Gate: Drop {
     // These visits, in this order, lead from one state of the gate to another.
     ghost went: { Self → List Visit → Self → Type 0 };
 
-    /// Ahead of a request of the worker of this number, counted from 0.
+    /// Ahead of what a request of the worker of this number, counted from 0, sends.
     fn before<R: Wait>(&mut self, rt: &R, worker: usize)
         ensures { went self.old (before worker ∷ []) self.new };
 
-    /// Behind a request of the worker that made the entry of this number, once it was answered.
+    /// Behind a request of the worker that made the entry of this number, and behind what was sent for
+    /// it, also where that could not be sent.
     fn after<R: Wait>(&mut self, rt: &R, worker: usize, number: u64)
         ensures { went self.old (after worker number ∷ []) self.new };
 

@@ -13,19 +13,19 @@ use crate::plan::Plan;
 use crate::trace::{Desk, End, Item, Ran, Refusal, item_of, noted};
 use frame_core::{MAX_FRAME_LEN, read_frame};
 use history_core::Applied;
-use live_lock::{Live, Run};
+use live_lock::{Live, Run, Share};
 use setphase_core::MibObject;
 use std::net::SocketAddr;
 use std::sync::Wait;
-use std::sync::ledger::Share;
 use wire_core::{Received, Wire, WireFault};
 
 // The room that is lent for a frame: one octet more than it has at most, so that a longer one is
 // seen.
 const FRAME_ROOM: usize = MAX_FRAME_LEN + 1;
 
-/// A port's line: first its link goes up, and where that finds no memory the line ends; then one lap,
-/// as [`port_lap`].
+/// A port's line: first its link goes up, and where that finds no memory or no number, or its BPDUs
+/// cannot be sent, the line ends; then one lap, as [`port_lap`]. Without memory for the link's item it
+/// ends before that.
 pub fn port_run<O: MibObject, L: Run, W: Wire, R: Wait>(
     rt: &R,
     plan: &Plan,

@@ -9,10 +9,9 @@ use crate::outgoing::send_ports;
 use crate::paced::PacedWire;
 use crate::plan::Plan;
 use crate::trace::{Desk, End, Ran, noted};
-use live_lock::{Live, Run};
+use live_lock::{Live, Run, Share};
 use setphase_core::MibObject;
 use std::sync::Wait;
-use std::sync::ledger::Share;
 use wire_core::Wire;
 
 /// One lap of the ticker: so many trues of its pace, or until that says false, its wire fails, no

@@ -13,12 +13,11 @@ use crate::outgoing::send_answer;
 use crate::plan::Plan;
 use crate::trace::{Desk, End, Item, Ran, Refusal, noted};
 use history_core::Applied;
-use live_lock::{Live, Run};
+use live_lock::{Live, Run, Share};
 use message_core::{MAX_REQUEST, Request, decode};
 use setphase_core::MibObject;
 use std::net::SocketAddr;
 use std::sync::Wait;
-use std::sync::ledger::Share;
 use wire_core::Received;
 
 // The room that is lent for a request: one octet more than it has at most, so that a longer one is

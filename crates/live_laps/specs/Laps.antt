@@ -45,9 +45,9 @@ module _ {A W T : Type 0} (worker_did : A → List Deed → A → Type 0) (worke
       × (ticker_failures b ≡ failures_at end (ticker_failures a))
   IsLap _ _ m n trace end = ⊥
 
--- What the watch of a line is told at the end of a lap that left this trace, once its thread has made
--- so many entries: what a worker's lap came to, and how far the history was by then at one of the
--- ticker.
+-- What is reported to the watch of a line of a lap that left this trace, once its thread has made so
+-- many entries: what a worker's lap came to, and for one of the ticker how far the history was at some
+-- time, by no fewer entries than these.
 abbrev pub IsNoted : {A W T : Type 0} → History → Line A W T → ℕ → List Item → List Note → Type 0
 IsNoted start (Worker number wire) made trace notes = notes ≡ lap_worked (worked_in trace) ∷ []
 IsNoted start (Port number is_begun wire) made trace notes = notes ≡ []

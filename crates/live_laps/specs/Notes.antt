@@ -16,7 +16,7 @@ pub data Note : Type 0 where
   line_ended : LineName → End → Note
 
 -- What a worker's lap came to, by its trace: the requests that were entered, and the datagrams that
--- held none.
+-- gave none.
 abbrev pub worked_in : List Item → Worked
 worked_in trace = record {
   requests = count_up_to_max (entered_in trace);

@@ -12,7 +12,7 @@ use std::sync::{Mutex, Wait};
 pub struct Worked {
     /// The requests that they entered.
     pub requests: u64,
-    /// The datagrams that held none.
+    /// The datagrams that gave none.
     pub drops: u64,
 }
 

@@ -12,11 +12,11 @@ use crate::line::Watched;
 use crate::watch::Watch;
 use history_core::Kept;
 use live_agent::{End, GatedWire, PacedWire, Plan};
-use live_lock::{Live, Run};
+use live_lock::{Live, Run, Share};
+use rising::Blank;
 use setphase_core::MibObject;
 use std::marker::Brand;
-use std::sync::Wait;
-use std::sync::ledger::{Blank, Share};
+use std::sync::{Wait, ledger};
 use std::thread::{Threads, join};
 use wire_core::Wire;
 
@@ -38,7 +38,7 @@ fn run_lines<
     lines: Vec<Watched<A, W, T, V>>,
     ends: Vec<End>,
 ) -> (Share<L>, Vec<Watched<A, W, T, V>>, Vec<End>)
-    requires shared { MayShare O.row L.row O.MibObject L.start L.name L.parts }
+    requires shared { MayShare O.row L.row O.MibObject L.start L.base_rise L.name L.parts L.rise }
     requires parts { vec_len lines < share.parts }
     requires empty { ends.items ≡ [] }
     requires room { vec_len lines ≤ vec_capacity ends }
@@ -54,7 +54,7 @@ fn run_lines<
     let Some(line) = lines.pop() else {
         return (share, lines, ends);
     };
-    let mine = share.split_off(1, 0);
+    let mine = share.split_off(1);
     let (one, others) = join(
         rt,
         move || -> (Share<L>, Watched<A, W, T, V>, End)
@@ -65,7 +65,7 @@ fn run_lines<
             ensures parts { result.0.parts ≡ mine.parts }
         { go_on(rt, plan, live, mine, line) },
         move || -> (Share<L>, Vec<Watched<A, W, T, V>>, Vec<End>)
-            requires { IsSync R.row × MayShare O.row L.row O.MibObject L.start L.name L.parts
+            requires { IsSync R.row × MayShare O.row L.row O.MibObject L.start L.base_rise L.name L.parts L.rise
                 × (vec_len lines < share.parts)
                 × (ends.items ≡ []) × (vec_len lines ≤ vec_capacity ends) }
             ensures lines { AllGoneOn A.did A.failures W.went W.failures T.did T.failures V.went
@@ -99,12 +99,16 @@ fn run_over<
     rt: &R,
     plan: &Plan,
     kept: Kept<O>,
-    blank: Blank,
+    blank: ledger::Blank,
+    number: Blank,
+    moved: Blank,
     lines: Vec<Watched<A, W, T, V>>,
     ends: Vec<End>,
 ) -> (Kept<O>, Vec<Watched<A, W, T, V>>, Vec<End>)
     requires name { blank.name ≡ L.name }
     requires all { blank.parts ≡ L.parts }
+    requires number { number.name ≡ L.rise }
+    requires moved { moved.name ≡ L.base_rise }
     requires start { kept ≡ L.start }
     requires parts { vec_len lines < blank.parts }
     requires empty { ends.items ≡ [] }
@@ -112,7 +116,7 @@ fn run_over<
     ensures { HaveGoneOn A.did A.failures W.went W.failures T.did T.failures V.went plan.now L.start result.0 lines.items
         result.1.items result.2.items }
 {
-    let (live, share) = Live::<O, L>::new(kept, blank);
+    let (live, share) = Live::<O, L>::new(kept, blank, number, moved);
     let (share, lines, ends) = run_lines(rt, plan, &live, share, lines, ends);
     let kept = live.close(share);
     (kept, lines, ends)
@@ -141,6 +145,15 @@ pub fn run_from<
         result.1.items result.2.items }
 {
     // A part for each line, and one for who starts them.
-    let blank = Blank::new(lines.len() as u64 + 1);
-    run_over::<O, Brand, A, W, T, V, R>(rt, plan, kept, blank, lines, ends)
+    let blank = ledger::Blank::new(lines.len() as u64 + 1);
+    run_over::<O, Brand, A, W, T, V, R>(
+        rt,
+        plan,
+        kept,
+        blank,
+        Blank::new(),
+        Blank::new(),
+        lines,
+        ends,
+    )
 }

@@ -12,10 +12,9 @@ use crate::watch::Watch;
 use live_agent::{
     End, GatedWire, PacedWire, Plan, Ran, port_lap, port_run, ticker_run, worker_run,
 };
-use live_lock::{Live, Run};
+use live_lock::{Live, Run, Share};
 use setphase_core::MibObject;
 use std::sync::Wait;
-use std::sync::ledger::Share;
 use wire_core::Wire;
 
 // One lap of a line. A port's first begins with its link.
@@ -77,8 +76,8 @@ fn note_end<A, W, T, V: Watch>(watch: &mut V, line: &Line<A, W, T>, end: End) ->
     true
 }
 
-/// A line goes on lap by lap until one ends it. Its watch is told of each lap, once, and of the end.
-/// What a lap left is let go.
+/// A line goes on lap by lap until one ends it, or 2^64 - 1 are done. Each lap is reported once to its
+/// watch, and so is the end. The trace of a lap is dropped when the next begins.
 pub fn go_on<O: MibObject, L: Run, A: GatedWire, W: Wire, T: PacedWire, V: Watch, R: Wait>(
     rt: &R,
     plan: &Plan,

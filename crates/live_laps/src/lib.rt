@@ -13,12 +13,14 @@
 //!
 //! # Laws
 //! On [`serve_laps`]: each line went on lap by lap, each of which is as the lap of its kind is in
-//! `live_agent`, until one ended it; each lap was reported once to its watch, and its end once; the
+//! `live_agent`, until one ended it or 2^64 - 1 were done; each lap was reported once to its watch, in
+//! order, and its end once; the
 //! history that comes back is legal, and goes on from the one that was handed in by as many entries
 //! as the lines made.
 //!
 //! # Not claimed
-//! That a line ends; that two threads run at the same time; what a [`Book`] holds.
+//! That a line ends; that two threads run at the same time; what a [`Book`] holds; that a lap is
+//! reported before the next one begins.
 #![tactic(auto)]
 
 mod book;

@@ -23,8 +23,8 @@ fn room_for(alloc: Global, lines: usize) -> Result<Vec<End>, AllocError>
 
 /// Runs lines over a history at the same time, each in a thread of its own. Each goes on lap by lap,
 /// until its wire is closed or fails (the ticker: its pace ends), no number is left for an entry, or
-/// there is no memory for a lap's trace. Each line's watch is told of each lap of a worker and of the
-/// ticker, and of the line's end. Where the system makes no thread more, a line begins once
+/// there is no memory for a lap's trace, or until 2^64 - 1 laps are done. Each lap of a worker and of
+/// the ticker, and the line's end, is reported to the line's watch. Where the system makes no thread more, a line begins once
 /// those that it was to run beside have ended, which is never while they go on.
 ///
 /// Gives back the history, the lines, and how each ended.

@@ -1,4 +1,4 @@
-//! Who is told how a line goes on.
+//! To whom it is reported how a line goes on.
 ghost use Rattle.std.specs.Prelude.{◌≡◌};
 
 use crate::book::Worked;
@@ -7,9 +7,9 @@ use live_agent::End;
 use live_lock::Counts;
 use std::sync::Wait;
 
-/// Is told how one line goes on, while no lock is held.
+/// Is called as one line goes on. The line's thread does not hold the history's lock then.
 ///
-/// What it was told is a relation, as what a wire does is one.
+/// What it was called with is a relation, as what a wire does is one.
 pub trait Watch: Drop {
     ghost use Rattle.std.specs.Prelude.{◌≡◌, List, [], ◌∷◌, ◌++◌};
     ghost use Rattle.live_laps.specs.Notes.{Note, lap_worked, lap_ticked, line_ended};
@@ -25,7 +25,7 @@ pub trait Watch: Drop {
     fn worked<R: Wait>(&mut self, rt: &R, worked: Worked)
         ensures { went self.old (lap_worked worked ∷ []) self.new };
 
-    /// At the end of each lap of the ticker: how far the history is past its start by then.
+    /// At the end of each lap of the ticker: how far the history was past its start at some time.
     fn ticked<R: Wait>(&mut self, rt: &R, counts: Counts)
         ensures { went self.old (lap_ticked counts ∷ []) self.new };
 

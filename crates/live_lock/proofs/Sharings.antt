@@ -1,5 +1,5 @@
 -- An event keeps what is known of a shared history, and tells what its answer says.
-use Rattle.std.proofs.Common.{◌≡◌, ◌∙◌, ℕ, ◌+◌, Bool, true, false, [], ◌∷◌, ◌++◌, length, Option, Some, ap, refl, sym, subst, arith, length-append, append_assoc, append-nil}
+use Rattle.std.proofs.Common.{◌≡◌, ◌∙◌, ℕ, ◌+◌, ◌≤◌, Bool, true, false, [], ◌∷◌, ◌++◌, length, Option, Some, ap, refl, sym, subst, arith, length-append, append_assoc, append-nil}
 use Rattle.std.specs.Prelude.{◌==◌, if◌then◌else◌, unwrap_or}
 use Rattle.std.proofs.lemmas.Bool.Decides.{nat_tests}
 use Rattle.audit_core.specs.declared.audit.Audit.{Audit}
@@ -16,6 +16,7 @@ use Rattle.history_core.specs.declared.event.Event.{Event}
 use Rattle.history_core.specs.declared.event.Event.TheVariants as event
 use Rattle.history_core.specs.declared.limits.TheConstants.{MAX_ENTRIES}
 use Rattle.history_core.specs.declared.receipt.Receipt.{Receipt}
+use Rattle.live_lock.specs.Rising.{Rises}
 use Rattle.live_lock.specs.Sharing.{IsHeld, entry_count, IsDroppable, IsToldOf}
 
 after-held_by : (start h : History) (n : ℕ) (e : Event) (notes : Notes) (b : Bool) → (length h.entries == MAX_ENTRIES) ≡ b → AreAtRest h.objects → IsHeld start h n
@@ -62,6 +63,42 @@ applied-held start h later n m e (Done r audit) b rest held did count = entered-
 applied-held start h later n m e (Dropped r cause audit) b rest held did count = entered-held start h later n m e r (Some audit) b rest held did.2 count
 applied-held start h later n m e (Short back) b rest held did count = same-held start h later n m held did.3 count
 applied-held start h later n m e (HistoryFull back) b rest held did count = same-held start h later n m held did.2 count
+
+-- the base stands, or moves to the number of the event's entry
+after-onward : (h : History) (e : Event) (notes : Notes) (b : Bool) → h.base_number ≤ (with_entry (if b then history_at_new_base h else h) e notes).base_number
+after-onward h e notes true = omega arith
+after-onward h e notes false = omega arith
+
+entered-onward : (h later : History) (e : Event) (r : Receipt) (audit : Option Audit) (b : Buffered) → IsEntered h e r audit later b → h.base_number ≤ later.base_number
+entered-onward h later e r audit b did =
+    subst (λ (x : History). h.base_number ≤ x.base_number) (sym did.after_is) (after-onward h e did.notes (length h.entries == MAX_ENTRIES))
+
+same-onward : (h later : History) → later ≡ h → h.base_number ≤ later.base_number
+same-onward h later same = subst (λ (x : History). h.base_number ≤ x.base_number) (sym same) (omega arith)
+
+-- the base does not go back
+pub applied-onward : (h later : History) (e : Event) (a : Applied) (b : Buffered) → Applies h e a later b → h.base_number ≤ later.base_number
+applied-onward h later e (Done r audit) b did = entered-onward h later e r audit b did.2
+applied-onward h later e (Dropped r cause audit) b did = entered-onward h later e r (Some audit) b did.2
+applied-onward h later e (Short back) b did = same-onward h later did.3
+applied-onward h later e (HistoryFull back) b did = same-onward h later did.2
+
+-- an answer's number is past all entries that its thread knew of
+pub applied-rises : (start h later : History) (n known now : ℕ) (e : Event) (a : Applied) (b : Buffered)
+    → IsHeld start h n → Applies h e a later b → known ≤ n → now ≡ n + entry_count a → Rises start known a now
+applied-rises start h later n known now e (Done r audit) b held did knew is =
+    let number : r.number ≡ next_of h = ap (λ (x : Receipt). x.number) did.2.receipt_is in
+    let counted = held.counted in
+    (omega arith, omega arith)
+applied-rises start h later n known now e (Dropped r cause audit) b held did knew is =
+    let number : r.number ≡ next_of h = ap (λ (x : Receipt). x.number) did.2.receipt_is in
+    let counted = held.counted in
+    (omega arith, omega arith)
+applied-rises start h later n known now e (Short back) b held did knew is = omega arith
+applied-rises start h later n known now e (HistoryFull back) b held did knew is =
+    let full = did.0 in
+    let counted = held.counted in
+    (omega arith, omega arith)
 
 droppable : (w : World) (e : Event) (cause : Cause) → cause_of w e ≡ Some cause → IsDroppable e
 droppable w (event.Frame port frame) cause is = cc

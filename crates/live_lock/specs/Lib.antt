@@ -1,2 +1,4 @@
 pub mod Counting
+pub mod Rising
 pub mod Sharing
+pub mod Standing

@@ -45,8 +45,8 @@ entry_count (Short back) = 0
 entry_count (HistoryFull back) = 0
 
 -- An event took its place, whose caller had made so many entries: by then the history went on from its
--- start by some entries, all of the caller's among them, it was a legal one whose objects were at
--- rest, and what became of the event is what that history makes of it.
+-- start by at least as many, it was a legal one whose objects were at rest, and what became of the
+-- event is what that history makes of it.
 pub record TakesPlace (start : History) (made : ℕ) (e : Event) (applied : Applied)
     (buffer : Buffered) : Type 0 where
   pub before : History

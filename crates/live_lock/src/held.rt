@@ -1,18 +1,23 @@
-//! What lies under the lock: the history, and the book of what was entered since the start.
-ghost use Rattle.std.specs.Prelude.{◌≡◌, ◌+◌, ◌<◌, IfOk, OnErr};
+//! What lies under the lock: the history, the book of what was entered since the start, and how much
+//! that is.
+ghost use Rattle.std.specs.Prelude.{◌≡◌, ◌+◌, ◌<◌, ◌≤◌, IfOk, OnErr};
 ghost use Rattle.history_core.specs.History.{IsHistory};
 ghost use Rattle.history_core.specs.Receipts.{told_of, TakesMemory};
 ghost use Rattle.history_core.specs.Steps.{IsEncodable};
 ghost use Rattle.live_lock.specs.Sharing.{entry_count, IsHeld, TakesPlace, IsToldOf};
 ghost use Rattle.live_lock.specs.Counting.{IsCounted};
+ghost use Rattle.live_lock.specs.Rising.{Rises};
 
-use crate::run::Run;
+use crate::run::{Base, Run};
+use crate::share::Share;
 use agent_core::Buffer;
 use history_core::{Applied, Event, Kept, ReceiptEvent};
+use rising::{Blank, Latest};
 use setphase_core::MibObject;
 use std::alloc::{AllocError, Global};
 use std::marker::Model;
-use std::sync::ledger::{Blank, Book, Share};
+use std::sync::ledger;
+use std::sync::ledger::Book;
 
 /// How far a history is past its start.
 #[derive(Clone, Copy, Debug, PartialEq, Eq, Drop)]
@@ -29,6 +34,8 @@ pub struct Held<O: MibObject, L: Run> {
     next_at_start: u64,
     base_at_start: u64,
     book: Book<L>,
+    latest: Latest<L>,
+    base: Latest<Base<L>>,
 }
 
 // By hand, so that who lets one go knows nothing of its parts.
@@ -39,12 +46,14 @@ impl<O: MibObject, L: Run> Drop for Held<O, L> {
             next_at_start: _next_at_start,
             base_at_start: _base_at_start,
             book: _book,
+            latest: _latest,
+            base: _base,
         } = self;
     }
 }
 
 impl<O: MibObject, L: Run> Model for Held<O, L> {
-    ghost use Rattle.std.specs.Prelude.{◌≡◌, ℕ};
+    ghost use Rattle.std.specs.Prelude.{◌≡◌, ℕ, ◌+◌};
     ghost use Rattle.history_core.specs.History.{History, next_of};
     ghost use Rattle.live_lock.specs.Sharing.{IsHeld};
 
@@ -54,19 +63,31 @@ impl<O: MibObject, L: Run> Model for Held<O, L> {
 
     ghost invariant = { λ h. IsHeld L.start h.kept h.book.total
         × (h.next_at_start ≡ next_of L.start)
-        × (h.base_at_start ≡ L.start.base_number) };
+        × (h.base_at_start ≡ L.start.base_number)
+        × (h.latest.number ≡ h.book.total)
+        × (h.kept.base_number ≡ L.start.base_number + h.base.number) };
 }
 
 impl<O: MibObject, L: Run> Held<O, L> {
     /// A history at its start, in which nothing is entered yet, and the share with all parts.
-    pub fn new(kept: Kept<O>, blank: Blank) -> (Held<O, L>, Share<L>)
+    pub fn new(
+        kept: Kept<O>,
+        blank: ledger::Blank,
+        number: Blank,
+        moved: Blank,
+    ) -> (Held<O, L>, Share<L>)
         requires name { blank.name ≡ L.name }
         requires parts { blank.parts ≡ L.parts }
+        requires number { number.name ≡ L.rise }
+        requires moved { moved.name ≡ L.base_rise }
         requires start { kept ≡ L.start }
         ensures parts { result.1.parts ≡ L.parts }
         ensures amount { result.1.amount ≡ 0 }
+        ensures known { (result.1.known ≡ 0) × (result.1.older ≡ 0) }
     {
-        let (book, share) = blank.open::<L>();
+        let (book, made) = blank.open::<L>();
+        let (latest, reached) = number.open::<L>();
+        let (base, moved) = moved.open::<Base<L>>();
         let next_at_start = kept.next_number();
         let base_at_start = kept.base_number();
         let held = Held {
@@ -74,11 +95,14 @@ impl<O: MibObject, L: Run> Held<O, L> {
             next_at_start,
             base_at_start,
             book,
+            latest,
+            base,
         };
-        (held, share)
+        (held, Share::new(made, reached, moved))
     }
 
     /// One event happens, and its entry is counted. What its receipt tells of it was copied before.
+    /// The share then knows of all entries.
     pub fn apply(
         &mut self,
         alloc: Global,
@@ -93,20 +117,38 @@ impl<O: MibObject, L: Run> Held<O, L> {
         requires takes { OnErr told (TakesMemory (told_of event)) }
         ensures place { TakesPlace L.start share.old.amount event result buffer.new }
         ensures told { IsToldOf event result buffer.new }
+        ensures rises { Rises L.start share.old.known result share.new.known }
+        ensures older { share.old.older ≤ share.new.older }
         ensures amount { share.new.amount ≡ share.old.amount + entry_count result }
         ensures parts { share.new.parts ≡ share.old.parts }
     {
-        let Held { kept, book, .. } = self;
+        let Held {
+            kept,
+            book,
+            latest,
+            base,
+            ..
+        } = self;
         kept.legal();
-        book.audit(share);
+        let base_before = kept.base_number();
         let applied = kept.apply_told(alloc, event, told, buffer);
-        book.add(share, entries_of(&applied));
+        let base_after = kept.base_number();
+        share.enter(
+            book,
+            latest,
+            base,
+            entries_of(&applied),
+            base_after - base_before,
+        );
         applied
     }
 
-    /// How far the history is past its start: at least by the entries that the share counts.
+    /// How far the history is past its start: at least by the entries that the share counts, and by
+    /// those that it knew of. It then knows of all.
     pub fn counts(&mut self, share: &mut Share<L>) -> Counts
         ensures counted { IsCounted L.start share.old.amount result }
+        ensures rises { (share.old.known ≤ result.entries) × (share.old.older ≤ result.older) }
+        ensures known { (share.new.known ≡ result.entries) × (share.new.older ≡ result.older) }
         ensures amount { share.new.amount ≡ share.old.amount }
         ensures parts { share.new.parts ≡ share.old.parts }
     {
@@ -115,9 +157,11 @@ impl<O: MibObject, L: Run> Held<O, L> {
             next_at_start,
             base_at_start,
             book,
+            latest,
+            base,
         } = self;
         kept.legal();
-        book.audit(share);
+        share.observe(book, latest, base);
         Counts {
             entries: kept.next_number() - *next_at_start,
             older: kept.base_number() - *base_at_start,
@@ -136,8 +180,10 @@ impl<O: MibObject, L: Run> Held<O, L> {
             next_at_start: _,
             base_at_start: _,
             mut book,
+            mut latest,
+            mut base,
         } = self;
-        book.audit(&mut share);
+        share.observe(&mut book, &mut latest, &mut base);
         kept.legal();
         kept
     }

@@ -3,29 +3,37 @@
 //! # Entry points
 //! [`Live`]: a `Kept` history under a lock. By shared reference `frame`, `tick`, `link`, `policy`
 //! and `request` have one event happen each, all under the lock; `counts` reads how far the history
-//! is, as [`Counts`]; `new` puts it under the lock, and `close` takes it out. [`Run`] is what a run
-//! of threads started from: each call of a program picks its own, as it picks its ledger, whose
-//! shares count what each thread entered.
+//! is, as [`Counts`]; `new` puts it under the lock, and `close` takes it out. [`Share`] is what a
+//! thread has of a run: it counts what the thread entered, and knows how many entries there were at
+//! the thread's last call. [`Run`] is what a run of threads started from: each call of a program picks
+//! its own, as it picks its ledger. [`Base`] names a number of it.
 //!
 //! # Definitions
 //! `specs/Sharing.antt`: a history that goes on from another by so many entries, over objects of the
 //! same rows; an event that took its place in it; and what an answer tells of an event, whatever the
 //! history was;
-//! `specs/Counting.antt`: how far a shared history is past its start.
+//! `specs/Counting.antt`: how far a shared history is past its start;
+//! `specs/Rising.antt`: the numbers of a thread rise; `specs/Standing.antt`: what a thread has of a
+//! run.
 //!
 //! # Laws
-//! That each answer is the history's at a place of its own, behind all entries that the caller made,
-//! and that what is counted has these too, on each call of [`Live`]; that what is taken out goes on
-//! from what was put in, by as many entries as the shares count, on [`Live::close`].
+//! On each call of [`Live`]: each answer is the history's at a place of its own, behind at least as
+//! many entries as the caller made; its number is greater than each that the share's thread got before,
+//! and past all entries that it counted by `counts`; what `counts` reads is no less than what the
+//! thread made, got or read before. On [`Live::close`]: what is taken out goes on from what was put
+//! in, by as many entries as the shares count.
 //!
 //! # Not claimed
-//! Which of two threads comes first; that a call that waits for the lock returns.
+//! Which of two threads comes first; that two threads get different numbers; that a call that waits for
+//! the lock returns.
 #![tactic(auto)]
 
 mod held;
 mod live;
 mod run;
+mod share;
 
 pub use held::Counts;
 pub use live::Live;
-pub use run::Run;
+pub use run::{Base, Run};
+pub use share::Share;

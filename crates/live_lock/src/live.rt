@@ -1,24 +1,26 @@
 //! A history under a lock, and the events that any thread has happen in it.
-ghost use Rattle.std.specs.Prelude.{◌≡◌, ◌+◌, ◌<◌};
+ghost use Rattle.std.specs.Prelude.{◌≡◌, ◌+◌, ◌<◌, ◌≤◌};
 ghost use Rattle.message_core.specs.Encodable.{AreEncodable};
 ghost use Rattle.history_core.specs.History.{IsHistory};
 ghost use Rattle.history_core.specs.Steps.{IsEncodable};
 ghost use Rattle.history_core.specs.declared.event.Event.TheVariants as event;
 ghost use Rattle.live_lock.specs.Counting.{IsCounted};
+ghost use Rattle.live_lock.specs.Rising.{Rises};
 ghost use Rattle.live_lock.specs.Sharing.{entry_count, IsHeld, TakesPlace, IsToldOf};
 
 use crate::held::{Counts, Held};
 use crate::run::Run;
+use crate::share::Share;
 use agent_core::Buffer;
 use community_core::Policy;
 use frame_core::FrameIn;
 use history_core::{Applied, Event, Kept};
 use message_core::Request;
+use rising::Blank;
 use setphase_core::MibObject;
 use std::alloc::Global;
 use std::hint::spin_loop;
-use std::sync::ledger::{Blank, Share};
-use std::sync::{Mutex, MutexGuard, Wait};
+use std::sync::{Mutex, MutexGuard, Wait, ledger};
 use std::thread::yield_now;
 
 // How often a thread looks whether the lock is free, before it sleeps until it is; and after how many
@@ -37,15 +39,23 @@ pub struct Live<O: MibObject, L: Run> {
 
 impl<O: MibObject, L: Run> Live<O, L> {
     /// Puts a history under a lock. The share is that of one thread, and has all parts: threads get
-    /// theirs by `split_off` with no amount.
-    pub fn new(kept: Kept<O>, blank: Blank) -> (Live<O, L>, Share<L>)
+    /// theirs by `split_off`. It counts nothing, and knows of no entry.
+    pub fn new(
+        kept: Kept<O>,
+        blank: ledger::Blank,
+        number: Blank,
+        moved: Blank,
+    ) -> (Live<O, L>, Share<L>)
         requires name { blank.name ≡ L.name }
         requires parts { blank.parts ≡ L.parts }
+        requires number { number.name ≡ L.rise }
+        requires moved { moved.name ≡ L.base_rise }
         requires start { kept ≡ L.start }
         ensures parts { result.1.parts ≡ L.parts }
         ensures amount { result.1.amount ≡ 0 }
+        ensures known { (result.1.known ≡ 0) × (result.1.older ≡ 0) }
     {
-        let (held, share) = Held::new(kept, blank);
+        let (held, share) = Held::new(kept, blank, number, moved);
         let live = Live {
             held: Mutex::new(held),
         };
@@ -65,6 +75,8 @@ impl<O: MibObject, L: Run> Live<O, L> {
         requires { 0 < share.old.parts }
         ensures place { TakesPlace L.start share.old.amount (event.Frame port frame) result buffer.new }
         ensures told { IsToldOf (event.Frame port frame) result buffer.new }
+        ensures rises { Rises L.start share.old.known result share.new.known }
+        ensures older { share.old.older ≤ share.new.older }
         ensures amount { share.new.amount ≡ share.old.amount + entry_count result }
         ensures parts { share.new.parts ≡ share.old.parts }
     {
@@ -82,6 +94,8 @@ impl<O: MibObject, L: Run> Live<O, L> {
         requires { 0 < share.old.parts }
         ensures place { TakesPlace L.start share.old.amount event.Tick result buffer.new }
         ensures told { IsToldOf event.Tick result buffer.new }
+        ensures rises { Rises L.start share.old.known result share.new.known }
+        ensures older { share.old.older ≤ share.new.older }
         ensures amount { share.new.amount ≡ share.old.amount + entry_count result }
         ensures parts { share.new.parts ≡ share.old.parts }
     {
@@ -101,6 +115,8 @@ impl<O: MibObject, L: Run> Live<O, L> {
         requires { 0 < share.old.parts }
         ensures place { TakesPlace L.start share.old.amount (event.Link port up) result buffer.new }
         ensures told { IsToldOf (event.Link port up) result buffer.new }
+        ensures rises { Rises L.start share.old.known result share.new.known }
+        ensures older { share.old.older ≤ share.new.older }
         ensures amount { share.new.amount ≡ share.old.amount + entry_count result }
         ensures parts { share.new.parts ≡ share.old.parts }
     {
@@ -119,6 +135,8 @@ impl<O: MibObject, L: Run> Live<O, L> {
         requires { 0 < share.old.parts }
         ensures place { TakesPlace L.start share.old.amount (event.Policy policy) result buffer.new }
         ensures told { IsToldOf (event.Policy policy) result buffer.new }
+        ensures rises { Rises L.start share.old.known result share.new.known }
+        ensures older { share.old.older ≤ share.new.older }
         ensures amount { share.new.amount ≡ share.old.amount + entry_count result }
         ensures parts { share.new.parts ≡ share.old.parts }
     {
@@ -140,6 +158,8 @@ impl<O: MibObject, L: Run> Live<O, L> {
         requires encodable { AreEncodable request.bindings }
         ensures place { TakesPlace L.start share.old.amount (event.Request request) result buffer.new }
         ensures told { IsToldOf (event.Request request) result buffer.new }
+        ensures rises { Rises L.start share.old.known result share.new.known }
+        ensures older { share.old.older ≤ share.new.older }
         ensures amount { share.new.amount ≡ share.old.amount + entry_count result }
         ensures parts { share.new.parts ≡ share.old.parts }
     {
@@ -176,6 +196,8 @@ impl<O: MibObject, L: Run> Live<O, L> {
         requires encodable { IsEncodable event }
         ensures place { TakesPlace L.start share.old.amount event result buffer.new }
         ensures told { IsToldOf event result buffer.new }
+        ensures rises { Rises L.start share.old.known result share.new.known }
+        ensures older { share.old.older ≤ share.new.older }
         ensures amount { share.new.amount ≡ share.old.amount + entry_count result }
         ensures parts { share.new.parts ≡ share.old.parts }
     {
@@ -183,10 +205,12 @@ impl<O: MibObject, L: Run> Live<O, L> {
         self.locked(rt).apply(alloc, share, event, told, buffer)
     }
 
-    /// How far the history is past its start, at the time of the call: at least by the entries that
-    /// the caller made.
+    /// How far the history was past its start at some time: by no fewer entries than the caller had
+    /// made before the call, and no less than it knew before. It then knows that.
     pub fn counts<R: Wait>(&self, rt: &R, share: &mut Share<L>) -> Counts
         ensures counted { IsCounted L.start share.old.amount result }
+        ensures rises { (share.old.known ≤ result.entries) × (share.old.older ≤ result.older) }
+        ensures known { (share.new.known ≡ result.entries) × (share.new.older ≡ result.older) }
         ensures amount { share.new.amount ≡ share.old.amount }
         ensures parts { share.new.parts ≡ share.old.parts }
     {

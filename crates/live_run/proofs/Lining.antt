@@ -1,12 +1,12 @@
 -- How many entries a line made, and one line more.
-use Rattle.std.proofs.Common.{◌≡◌, ◌∙◌, ℕ, ◌+◌, inl, inr, List, [], ◌∷◌, ◌++◌, length, sym, ap, subst, arith}
+use Rattle.std.proofs.Common.{◌≡◌, ◌∙◌, ℕ, ◌+◌, ◌≤◌, inl, inr, List, [], ◌∷◌, ◌++◌, length, sym, ap, subst, arith}
 use Rattle.wire_core.specs.Acts.{Act}
 use Rattle.live_agent.specs.declared.trace.End.{End}
 use Rattle.live_agent.specs.declared.trace.Item.{Item}
 use Rattle.live_agent.specs.declared.trace.Ran.{Ran}
 use Rattle.std.specs.Prelude.{Option, Some, None}
-use Rattle.live_agent.specs.Turns.{Turn, acts_of, entered_in}
-use Rattle.live_agent.specs.Runs.{HasRun, all_items}
+use Rattle.live_agent.specs.Turns.{Turn, nothing_came, ended, broke, was_refused, was_taken, was_own, paused, acts_of, items_of, entered_in}
+use Rattle.live_agent.specs.Runs.{HasRun, IsBehind, AreBehind, all_items}
 use Rattle.live_agent.specs.Lines.{Setting, HasLinked, HasLinkedAndRun, HasPortRun}
 use Rattle.live_agent.proofs.Running.{entered_one, entered_in-append}
 use Rattle.live_run.specs.Crews.{AllRan, entered_by}
@@ -17,12 +17,28 @@ pub run_amount : {W D : Type 0} (went : W → List D → W → Type 0) (does : T
     → HasRun went does is_turn rounds a b [] trace amount later how → later ≡ amount + entered_in trace
 run_amount went does is_turn rounds a b trace amount later how h = h.amount_is ∙ ap (λ (l : List Item). amount + entered_in l) (sym h.items_are)
 
+-- what is behind more entries is behind fewer
+behind_fewer : (n m : ℕ) (t : Turn) → n ≤ m → IsBehind m t → IsBehind n t
+behind_fewer n m nothing_came less is = tt
+behind_fewer n m ended less is = tt
+behind_fewer n m (broke f) less is = tt
+behind_fewer n m (was_refused a c) less is = tt
+behind_fewer n m (was_taken a h) less is = omega (arith, less, is)
+behind_fewer n m (was_own h) less is = omega (arith, less, is)
+behind_fewer n m paused less is = tt
+
+pub all_behind_fewer : (n m : ℕ) (ts : List Turn) → n ≤ m → AreBehind m ts → AreBehind n ts
+all_behind_fewer n m [] less are = tt
+all_behind_fewer n m (t ∷ ts) less are =
+    (behind_fewer n m t less are.0, all_behind_fewer (n + entered_in (items_of t)) (m + entered_in (items_of t)) ts (omega (arith, less)) are.1)
+
 abbrev pub rebased : {W D : Type 0} (went : W → List D → W → Type 0) (does : Turn → List D) (is_turn : Turn → Type 0) (rounds : ℕ) (a b : W) (items trace : List Item) (amount later n m : ℕ) (how : End)
-    → HasRun went does is_turn rounds a b items trace amount later how → m + amount ≡ n + later → HasRun went does is_turn rounds a b items trace n m how
-rebased went does is_turn rounds a b items trace amount later n m how h same =
+    → HasRun went does is_turn rounds a b items trace amount later how → m + amount ≡ n + later → n ≤ amount → HasRun went does is_turn rounds a b items trace n m how
+rebased went does is_turn rounds a b items trace amount later n m how h same less =
     record {
       turns = h.turns;
       are = h.are;
+      behind = all_behind_fewer n amount h.turns less h.behind;
       acts = h.acts;
       items_are = h.items_are;
       amount_is = omega (arith, h.amount_is, same);
@@ -32,7 +48,7 @@ rebased went does is_turn rounds a b items trace amount later n m how h same =
 abbrev pub line_ran : {W D : Type 0} (went : W → List D → W → Type 0) (does : Turn → List D) (is_turn : Turn → Type 0) (rounds : ℕ) (a b : W) (trace : List Item) (amount later : ℕ) (how : End)
     → HasRun went does is_turn rounds a b [] trace amount later how → HasRun went does is_turn rounds a b [] trace 0 (entered_in trace) how
 line_ran went does is_turn rounds a b trace amount later how h =
-    rebased went does is_turn rounds a b [] trace amount later 0 (entered_in trace) how h (omega (arith, run_amount went does is_turn rounds a b trace amount later how h))
+    rebased went does is_turn rounds a b [] trace amount later 0 (entered_in trace) how h (omega (arith, run_amount went does is_turn rounds a b trace amount later how h)) (omega arith)
 
 -- ---- a port's
 
@@ -48,6 +64,7 @@ linked_rebased went s port a b trace amount later ends l =
     record {
       happening = l.happening;
       happens = l.happens;
+      behind = omega arith;
       acts = l.acts;
       items_are = l.items_are;
       amount_is = omega (arith, n, l.amount_is);
@@ -80,7 +97,7 @@ port_ran went s port rounds a b trace amount later how (inr (inr r)) =
       first_items = r.first_items;
       first_amount = entered_in r.first_items;
       linked = linked_rebased went s port a r.between r.first_items amount r.first_amount None r.linked;
-      run = rebased went acts_of _ rounds r.between b r.first_items trace r.first_amount later (entered_in r.first_items) (entered_in trace) how r.run (omega (arith, first, all));
+      run = rebased went acts_of _ rounds r.between b r.first_items trace r.first_amount later (entered_in r.first_items) (entered_in trace) how r.run (omega (arith, first, all)) (omega (arith, first));
     }))
 
 -- ---- one line more

@@ -159,8 +159,8 @@ pub record IsSound (runs : Runs) : Type 0 where
   pub sound : fault_of runs ≡ None
   pub had_memory : EachRan HadMemory runs
 
--- Why a run has no report: first a number that is not the history's; then what the lines give; and
--- where there was no memory to compare the receipts with the history, want of memory.
+-- Why a run has no report: a number that is not the history's; or what the lines give; or, where there
+-- was no memory to compare the receipts with the history, want of memory.
 abbrev pub IsRunFault : History → Runs → RunFault → Type 0
 IsRunFault h runs (fault.Mismatch number) =
     Disagrees h (all_receipts runs) number ⊎ IsFaultOf runs (fault.Mismatch number)

@@ -11,11 +11,11 @@ ghost use Rattle.live_run.specs.Crews.{WorkerRan, PortRan, TickerRan, AllRan, Cr
 use crate::lines::{Lines, Runs};
 use history_core::Kept;
 use live_agent::{GatedWire, PacedWire, Plan, Ran, port_run, ticker_run, worker_run};
-use live_lock::{Live, Run};
+use live_lock::{Live, Run, Share};
+use rising::Blank;
 use setphase_core::MibObject;
 use std::marker::Brand;
-use std::sync::Wait;
-use std::sync::ledger::{Blank, Share};
+use std::sync::{Wait, ledger};
 use std::thread::{Threads, join};
 use wire_core::Wire;
 
@@ -96,7 +96,7 @@ fn run_workers<
     wires: Vec<A>,
     runs: Vec<Ran>,
 ) -> (Share<L>, Vec<A>, Vec<Ran>)
-    requires shared { MayShare O.row L.row O.MibObject L.start L.name L.parts }
+    requires shared { MayShare O.row L.row O.MibObject L.start L.base_rise L.name L.parts L.rise }
     requires parts { vec_len wires < share.parts }
     requires empty { runs.items ≡ [] }
     requires room { vec_len wires ≤ vec_capacity runs }
@@ -113,7 +113,7 @@ fn run_workers<
     let Some(wire) = wires.pop() else {
         return (share, wires, runs);
     };
-    let mine = share.split_off(1, 0);
+    let mine = share.split_off(1);
     let worker = wires.len();
     let (one, others) = join(
         rt,
@@ -125,7 +125,7 @@ fn run_workers<
             ensures parts { result.0.parts ≡ mine.parts }
         { work(rt, plan, live, worker, mine, wire) },
         move || -> (Share<L>, Vec<A>, Vec<Ran>)
-            requires { IsSync R.row × MayShare O.row L.row O.MibObject L.start L.name L.parts
+            requires { IsSync R.row × MayShare O.row L.row O.MibObject L.start L.base_rise L.name L.parts L.rise
                 × (vec_len wires < share.parts)
                 × (runs.items ≡ []) × (vec_len wires ≤ vec_capacity runs) }
             ensures ran { AllRan (WorkerRan A.did A.failures
@@ -156,7 +156,7 @@ fn run_ports<O: MibObject + Send, L: Run + Send + Sync, W: Wire + Send, R: Threa
     wires: Vec<W>,
     runs: Vec<Ran>,
 ) -> (Share<L>, Vec<W>, Vec<Ran>)
-    requires shared { MayShare O.row L.row O.MibObject L.start L.name L.parts }
+    requires shared { MayShare O.row L.row O.MibObject L.start L.base_rise L.name L.parts L.rise }
     requires parts { vec_len wires < share.parts }
     requires few { vec_len wires < 2 ^ 16 }
     requires empty { runs.items ≡ [] }
@@ -174,7 +174,7 @@ fn run_ports<O: MibObject + Send, L: Run + Send + Sync, W: Wire + Send, R: Threa
     let Some(wire) = wires.pop() else {
         return (share, wires, runs);
     };
-    let mine = share.split_off(1, 0);
+    let mine = share.split_off(1);
     let port = wires.len() as u16 + 1;
     let (one, others) = join(
         rt,
@@ -186,7 +186,7 @@ fn run_ports<O: MibObject + Send, L: Run + Send + Sync, W: Wire + Send, R: Threa
             ensures parts { result.0.parts ≡ mine.parts }
         { pass(rt, plan, live, port, mine, wire) },
         move || -> (Share<L>, Vec<W>, Vec<Ran>)
-            requires { IsSync R.row × MayShare O.row L.row O.MibObject L.start L.name L.parts
+            requires { IsSync R.row × MayShare O.row L.row O.MibObject L.start L.base_rise L.name L.parts L.rise
                 × (vec_len wires < share.parts)
                 × (vec_len wires < 2 ^ 16) × (runs.items ≡ [])
                 × (vec_len wires ≤ vec_capacity runs) }
@@ -225,7 +225,7 @@ fn run_bridge<
     ticker: T,
     runs: Vec<Ran>,
 ) -> (Share<L>, Vec<W>, Vec<Ran>, T, Ran)
-    requires shared { MayShare O.row L.row O.MibObject L.start L.name L.parts }
+    requires shared { MayShare O.row L.row O.MibObject L.start L.base_rise L.name L.parts L.rise }
     requires parts { vec_len ports + 1 < share.parts }
     requires few { vec_len ports < 2 ^ 16 }
     requires empty { runs.items ≡ [] }
@@ -239,11 +239,11 @@ fn run_bridge<
     ensures parts { result.0.parts ≡ share.parts }
 {
     let mut share = share;
-    let theirs = share.split_off(ports.len() as u64 + 1, 0);
+    let theirs = share.split_off(ports.len() as u64 + 1);
     let (passed, ticked) = join(
         rt,
         move || -> (Share<L>, Vec<W>, Vec<Ran>)
-            requires { IsSync R.row × MayShare O.row L.row O.MibObject L.start L.name L.parts
+            requires { IsSync R.row × MayShare O.row L.row O.MibObject L.start L.base_rise L.name L.parts L.rise
                 × (vec_len ports < theirs.parts)
                 × (vec_len ports < 2 ^ 16) × (runs.items ≡ [])
                 × (vec_len ports ≤ vec_capacity runs) }
@@ -318,7 +318,7 @@ fn run_crew<
     worker_runs: Vec<Ran>,
     port_runs: Vec<Ran>,
 ) -> (Share<L>, Lines<A, W, T>, Runs)
-    requires shared { MayShare O.row L.row O.MibObject L.start L.name L.parts }
+    requires shared { MayShare O.row L.row O.MibObject L.start L.base_rise L.name L.parts L.rise }
     requires parts { vec_len lines.workers + vec_len lines.ports + 2 < share.parts }
     requires few { (vec_len lines.workers < 2 ^ 16) × (vec_len lines.ports < 2 ^ 16) }
     requires empty { (worker_runs.items ≡ []) × (port_runs.items ≡ []) }
@@ -335,11 +335,11 @@ fn run_crew<
         ticker,
     } = lines;
     let mut share = share;
-    let theirs = share.split_off(workers.len() as u64 + 1, 0);
+    let theirs = share.split_off(workers.len() as u64 + 1);
     let (worked, bridged) = join(
         rt,
         move || -> (Share<L>, Vec<A>, Vec<Ran>)
-            requires { IsSync R.row × MayShare O.row L.row O.MibObject L.start L.name L.parts
+            requires { IsSync R.row × MayShare O.row L.row O.MibObject L.start L.base_rise L.name L.parts L.rise
                 × (vec_len workers < theirs.parts) × (worker_runs.items ≡ [])
                 × (vec_len workers ≤ vec_capacity worker_runs) }
             ensures ran { AllRan (WorkerRan A.did A.failures
@@ -349,7 +349,7 @@ fn run_crew<
             ensures parts { result.0.parts ≡ theirs.parts }
         { run_workers(rt, plan, live, theirs, workers, worker_runs) },
         move || -> (Share<L>, Vec<W>, Vec<Ran>, T, Ran)
-            requires { IsSync R.row × MayShare O.row L.row O.MibObject L.start L.name L.parts
+            requires { IsSync R.row × MayShare O.row L.row O.MibObject L.start L.base_rise L.name L.parts L.rise
                 × (vec_len ports + 1 < share.parts)
                 × (vec_len ports < 2 ^ 16) × (port_runs.items ≡ [])
                 × (vec_len ports ≤ vec_capacity port_runs) }
@@ -379,13 +379,17 @@ fn run_over<
     rt: &R,
     plan: &Plan,
     kept: Kept<O>,
-    blank: Blank,
+    blank: ledger::Blank,
+    number: Blank,
+    moved: Blank,
     lines: Lines<A, W, T>,
     worker_runs: Vec<Ran>,
     port_runs: Vec<Ran>,
 ) -> (Kept<O>, Lines<A, W, T>, Runs)
     requires name { blank.name ≡ L.name }
     requires all { blank.parts ≡ L.parts }
+    requires number { number.name ≡ L.rise }
+    requires moved { moved.name ≡ L.base_rise }
     requires start { kept ≡ L.start }
     requires parts { vec_len lines.workers + vec_len lines.ports + 2 < blank.parts }
     requires few { (vec_len lines.workers < 2 ^ 16) × (vec_len lines.ports < 2 ^ 16) }
@@ -397,7 +401,7 @@ fn run_over<
     ensures held { IsHeld L.start result.0 (entered_of result.2) }
     ensures legal { IsHistory result.0 }
 {
-    let (live, share) = Live::<O, L>::new(kept, blank);
+    let (live, share) = Live::<O, L>::new(kept, blank, number, moved);
     let (share, lines, runs) = run_crew(rt, plan, &live, share, lines, worker_runs, port_runs);
     let kept = live.close(share);
     (kept, lines, runs)
@@ -430,6 +434,16 @@ pub fn run_from<
 {
     // A part for each line, and one more for those that start the workers and the ports.
     let parts = lines.workers.len() as u64 + lines.ports.len() as u64 + 3;
-    let blank = Blank::new(parts);
-    run_over::<O, Brand, A, W, T, R>(rt, plan, kept, blank, lines, worker_runs, port_runs)
+    let blank = ledger::Blank::new(parts);
+    run_over::<O, Brand, A, W, T, R>(
+        rt,
+        plan,
+        kept,
+        blank,
+        Blank::new(),
+        Blank::new(),
+        lines,
+        worker_runs,
+        port_runs,
+    )
 }

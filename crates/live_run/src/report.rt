@@ -11,7 +11,8 @@ pub struct Report {
     pub requests: u64,
     /// Those of them that are older than the history's base.
     pub older: u64,
-    /// The datagrams that came to a worker and held no request. The count stops at `u64::MAX`.
+    /// The datagrams that came to a worker and gave no request, also for want of memory. The count
+    /// stops at `u64::MAX`.
     pub drops: u64,
     /// How each line ended, and its trace.
     pub runs: Runs,
@@ -20,8 +21,8 @@ pub struct Report {
 /// Why a run has no report.
 #[derive(Clone, Copy, Debug, PartialEq, Eq)]
 pub enum RunFault {
-    /// A receipt of this number does not stand in the history, is there twice, or is not above the
-    /// one before it in its trace.
+    /// A receipt of this number is not below the history's base and does not stand in it, is there
+    /// twice, or is not above the one before it in its trace.
     Mismatch(u64),
     /// The first wire of the workers, the ports and the ticker that failed, failed so.
     Wire(WireFault),

@@ -31,7 +31,7 @@ fn room_for(alloc: Global, lines: usize) -> Result<Vec<Ran>, AllocError>
 /// Gives back the lines, the history, and the report.
 ///
 /// # Errors
-/// A [`RunFault`], in its order. Where there is no memory to begin with, it is `Memory`, and nothing
+/// A [`RunFault`] that the run has. Where there is no memory to begin with, it is `Memory`, and nothing
 /// ran; else all lines ran all the same.
 pub fn serve_run<
     O: MibObject + Send,

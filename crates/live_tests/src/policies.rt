@@ -9,12 +9,12 @@ use fixtures::message::{Message, get, octets_of, reply};
 use fixtures::names::STATE_2;
 use fixtures::policies::{MASKED, WHOLE_BRIDGE, policy_of};
 use history_core::{Applied, Kept, ReceiptEvent};
-use live_lock::{Live, Run};
+use live_lock::{Live, Run, Share};
 use message_core::{Request, decode};
+use rising::Blank;
 use std::alloc::Global;
 use std::marker::Brand;
-use std::sync::Wait;
-use std::sync::ledger::{Blank, Share};
+use std::sync::{Wait, ledger};
 use std::test::Fail;
 
 // The request of a message.
@@ -73,14 +73,18 @@ fn told_around<L: Run, R: Wait>(
     rt: &R,
     alloc: Global,
     kept: Kept<Shown>,
-    blank: Blank,
+    blank: ledger::Blank,
+    number: Blank,
+    moved: Blank,
 ) -> Result<(bool, Option<u64>, bool, u64), Fail>
     requires name { blank.name ≡ L.name }
     requires all { blank.parts ≡ L.parts }
+    requires number { number.name ≡ L.rise }
+    requires moved { moved.name ≡ L.base_rise }
     requires some { 0 < blank.parts }
     requires start { kept ≡ L.start }
 {
-    let (live, mut share) = Live::<Shown, L>::new(kept, blank);
+    let (live, mut share) = Live::<Shown, L>::new(kept, blank, number, moved);
     let shown = reply(&[(STATE_2, Integer(1))]);
     let hidden = reply(&[(STATE_2, NoObject)]);
     let ahead = tells(rt, alloc, &live, &mut share, shown)?;
@@ -93,7 +97,8 @@ fn told_around<L: Run, R: Wait>(
 // The same, of a history in which nothing has happened.
 fn told<R: Wait>(rt: &R, alloc: Global) -> Result<(bool, Option<u64>, bool, u64), Fail> {
     let kept = policed(alloc, WHOLE_BRIDGE)?;
-    told_around::<Brand, R>(rt, alloc, kept, Blank::new(1))
+    let blank = ledger::Blank::new(1);
+    told_around::<Brand, R>(rt, alloc, kept, blank, Blank::new(), Blank::new())
 }
 
 #[test]

@@ -1,8 +1,8 @@
 //! Tests of the agent's program by its words, over streams, files and objects in memory: what is to
-//! be served, and what is told of failures.
+//! be served, and what is said of failures.
 //!
 //! # Entry points
-//! None: the tests call what `agent_program` offers.
+//! None: the tests call what `agent_words` and `agent_program` offer.
 //!
 //! # Definitions
 //! None.

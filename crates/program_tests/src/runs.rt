@@ -1,6 +1,7 @@
 //! Runs over streams that fail, files that are given, and objects that are handed in.
-use crate::support::{Full, GET, Idle, Names, REFUSED, REPLY, ran_over, ran_with, words_of};
-use agent_program::{Failure, NotRead, SystemFiles, check_read, run_words};
+use crate::support::{Full, GET, Idle, Names, REFUSED, REPLY, ran_over, ran_with};
+use agent_program::{Failure, NotRead, SystemFiles, check_read, run_asked};
+use agent_words::Asked;
 use bridge_mib::Planned;
 use object_list::{Object, objects};
 use setphase_core::{Base, Column};
@@ -44,14 +45,13 @@ fn ended<R: Files + AllocGlobal, I: Read, O: Write>(
     out: &mut O,
 ) -> Result<(u8, Vec<u8>), Fail> {
     let alloc = rt.alloc();
-    let words = words_of(alloc, &["agentd"])?;
     let all = objects(alloc, Planned::new())?;
     let mut errors = Vec::new(alloc);
-    let (ended, _) = run_words(
+    let (ended, _) = run_asked(
         alloc,
         &SystemFiles(rt),
         all,
-        &words,
+        Asked::BuiltIn,
         reader,
         out,
         &mut errors,

@@ -1,7 +1,8 @@
 //! Runs over readers, writers and files in memory.
 ghost use Rattle.std.specs.Prelude.{◌≡◌, IfOk};
 
-use agent_program::{NotRead, ReadFile, SystemFiles, run_words};
+use agent_program::{Ended, NotRead, ReadFile, SystemFiles, end_answered, run_asked};
+use agent_words::read_words;
 use bridge_mib::Planned;
 use object_list::objects;
 use setphase_core::MibObject;
@@ -85,6 +86,23 @@ pub struct Finished {
     pub errors: Vec<u8>,
 }
 
+// What comes of these words on a script, over these files and objects.
+fn ended_with<F: ReadFile, B: MibObject>(
+    alloc: Global,
+    files: &F,
+    objects: Vec<B>,
+    words: &[String],
+    script: &[u8],
+    out: &mut Vec<u8>,
+    errors: &mut Vec<u8>,
+) -> Ended {
+    let mut reader = script;
+    match read_words(alloc, words, out, errors) {
+        Ok(asked) => run_asked(alloc, files, objects, asked, &mut reader, out, errors).0,
+        Err(answered) => end_answered(answered, errors),
+    }
+}
+
 /// A run of these words on a script, over these files and objects.
 pub fn ran_with<F: ReadFile, B: MibObject>(
     alloc: Global,
@@ -96,16 +114,7 @@ pub fn ran_with<F: ReadFile, B: MibObject>(
     let words = words_of(alloc, texts)?;
     let mut out = Vec::new(alloc);
     let mut errors = Vec::new(alloc);
-    let mut reader = script;
-    let (ended, _) = run_words(
-        alloc,
-        files,
-        objects,
-        &words,
-        &mut reader,
-        &mut out,
-        &mut errors,
-    );
+    let ended = ended_with(alloc, files, objects, &words, script, &mut out, &mut errors);
     ended.line.map_err(|_| "a line was cut off")?;
     Ok(Finished {
         status: ended.status,

@@ -6,10 +6,10 @@ use Rattle.setting_keys.specs.declared.SettingValue.{SettingValue}
 use Rattle.setphase_core.specs.declared.object.Assignment.{Assignment}
 use Rattle.setphase_core.specs.declared.staging.Staged.{Staged}
 use Rattle.setphase_core.specs.declared.world.World.{World}
-use Rattle.setphase_core.specs.Settings.{setting, put, HasSetting, same_setting}
-use Rattle.setphase_core.specs.Staging.{assignment_of_entry, assignments_of, entry_at, Without, IsDistinct}
+use Rattle.setphase_core.specs.Settings.{setting, put, HasSetting, IsSettingInRange, same_setting}
+use Rattle.setphase_core.specs.Staging.{assignment_of_entry, assignments_of, entry_at, Without, IsDistinct, IsLegal, AreLegal}
 use Rattle.setphase_core.specs.Together.{assign}
-use Rattle.setphase_core.proofs.Puts.{setting-put_other, put-restored, puts-commuted, keys-kept, same-exact}
+use Rattle.setphase_core.proofs.Puts.{setting-put_other, put-restored, puts-commuted, keys-kept, range-kept, range-before, same-exact}
 
 pub different : (k l : SettingKey) → k ≢ l → same_setting k l ≡ false
 different k l ne = off (same_setting k l) refl
@@ -18,44 +18,57 @@ different k l ne = off (same_setting k l) refl
     off true e = absurd (ne ((same-exact k l).0 e))
     off false e = refl
 
--- ---- settings that are there
+-- ---- what is legal stays so
 
--- There are the settings that are assigned.
-abbrev pub HasAll : World → List Assignment → Type 0
-HasAll w [] = Unit {0}
-HasAll w (a ∷ ps) = HasSetting w a.key × HasAll w ps
+pub still_legal : (w : World) (a : Assignment) (k : SettingKey) (v : SettingValue) →
+    IsSettingInRange w k v → IsLegal w a → IsLegal (put w k v) a
+still_legal w a k v range h = record {
+  key = keys-kept w k a.key v range h.key;
+  value = range-kept w k a.key v a.value h.value;
+}
 
-has_all-put : (ps : List Assignment) (w : World) (k : SettingKey) (v : SettingValue) →
-    HasAll w ps → HasAll (put w k v) ps
-has_all-put [] w k v h = tt
-has_all-put (a ∷ ps) w k v h = ((keys-kept w k a.key v).1 h.0, has_all-put ps w k v h.1)
+pub legal_after : (w : World) (ps : List Assignment) (k : SettingKey) (v : SettingValue) →
+    IsSettingInRange w k v → AreLegal w ps → AreLegal (put w k v) ps
+legal_after w [] k v range h = tt
+legal_after w (p ∷ ps) k v range h = (still_legal w p k v range h.0, legal_after w ps k v range h.1)
 
 -- ---- the laws of several assignments
 
 pub setting-assign : (ps : List Assignment) (w : World) (k : SettingKey) → Without k ps →
-    HasAll w ps → HasSetting w k → setting (assign ps w) k ≡ setting w k
+    AreLegal w ps → HasSetting w k → setting (assign ps w) k ≡ setting w k
 setting-assign [] w k apart has h = refl
 setting-assign (a ∷ ps) w k apart has h =
-    setting-assign ps (put w a.key a.value) k apart.1 (has_all-put ps w a.key a.value has.1) ((keys-kept w a.key k a.value).1 h)
-    ∙ setting-put_other w a.key k a.value (different a.key k apart.0) has.0 h
+    setting-assign ps (put w a.key a.value) k apart.1 (legal_after w ps a.key a.value has.0.value has.1) (keys-kept w a.key k a.value has.0.value h)
+    ∙ setting-put_other w a.key k a.value (different a.key k apart.0) has.0.key h
 
 put-assign : (ps : List Assignment) (w : World) (k : SettingKey) (v : SettingValue) →
-    Without k ps → HasAll w ps → HasSetting w k → put (assign ps w) k v ≡ assign ps (put w k v)
-put-assign [] w k v apart has h = refl
-put-assign (a ∷ ps) w k v apart has h =
-    put-assign ps (put w a.key a.value) k v apart.1 (has_all-put ps w a.key a.value has.1) ((keys-kept w a.key k a.value).1 h)
-    ∙ ap (assign ps) (puts-commuted w a.key k a.value v apart.0 has.0 h)
+    Without k ps → AreLegal w ps → HasSetting w k → IsSettingInRange w k v →
+    put (assign ps w) k v ≡ assign ps (put w k v)
+put-assign [] w k v apart has h range = refl
+put-assign (a ∷ ps) w k v apart has h range =
+    put-assign ps (put w a.key a.value) k v apart.1 (legal_after w ps a.key a.value has.0.value has.1) (keys-kept w a.key k a.value has.0.value h) (range-kept w a.key k a.value v range)
+    ∙ ap (assign ps) (puts-commuted w a.key k a.value v apart.0 has.0.key h has.0.value range)
 
--- One setting among others is put back.
+-- One setting among others is put back, to a value that it may have.
 pub put_back : (ps qs : List Assignment) (w : World) (a : Assignment) → Without a.key ps →
-    Without a.key qs → HasAll w ps → HasAll w qs → HasSetting w a.key →
+    Without a.key qs → AreLegal w ps → AreLegal w qs → IsLegal w a →
+    IsSettingInRange w a.key (setting w a.key) →
     put (assign (ps ++ a ∷ qs) w) a.key (setting w a.key) ≡ assign (ps ++ qs) w
-put_back [] qs w a before behind has there h =
-    put-assign qs (put w a.key a.value) a.key (setting w a.key) behind (has_all-put qs w a.key a.value there) ((keys-kept w a.key a.key a.value).1 h)
-    ∙ ap (assign qs) (put-restored w a.key a.value h)
-put_back (p ∷ ps) qs w a before behind has there h =
-    ap (λ v. put (assign (ps ++ a ∷ qs) (put w p.key p.value)) a.key v) (sym (setting-put_other w p.key a.key p.value (different p.key a.key before.0) has.0 h))
-    ∙ put_back ps qs (put w p.key p.value) a before.1 behind (has_all-put ps w p.key p.value has.1) (has_all-put qs w p.key p.value there) ((keys-kept w p.key a.key p.value).1 h)
+put_back [] qs w a before behind has there h range =
+    put-assign qs (put w a.key a.value) a.key (setting w a.key) behind (legal_after w qs a.key a.value h.value there) (keys-kept w a.key a.key a.value h.value h.key) (range-kept w a.key a.key a.value (setting w a.key) range)
+    ∙ ap (assign qs) (put-restored w a.key a.value h.key)
+put_back (p ∷ ps) qs w a before behind has there h range =
+    let same : setting (put w p.key p.value) a.key ≡ setting w a.key = setting-put_other w p.key a.key p.value (different p.key a.key before.0) has.0.key h.key in
+    ap (λ v. put (assign (ps ++ a ∷ qs) (put w p.key p.value)) a.key v) (sym same)
+    ∙ put_back ps qs (put w p.key p.value) a before.1 behind (legal_after w ps p.key p.value has.0.value has.1) (legal_after w qs p.key p.value has.0.value there) (still_legal w a p.key p.value has.0.value h)
+    (subst (IsSettingInRange (put w p.key p.value) a.key) (sym same) (range-kept w p.key a.key p.value (setting w a.key) range))
+
+-- What is in range after assignments was before: the ports are as many.
+pub range-assigned : (ps : List Assignment) (w : World) (k : SettingKey) (v : SettingValue) →
+    IsSettingInRange (assign ps w) k v → IsSettingInRange w k v
+range-assigned [] w k v h = h
+range-assigned (a ∷ ps) w k v h =
+    range-before w a.key k a.value v (range-assigned ps (put w a.key a.value) k v h)
 
 assign-append : (ps qs : List Assignment) (w : World) →
     assign (ps ++ qs) w ≡ assign qs (assign ps w)
@@ -64,24 +77,24 @@ assign-append (a ∷ ps) qs w = assign-append ps qs (put w a.key a.value)
 
 -- ---- what entries write
 
-pub has_all-taken : (es : List Staged) (n : ℕ) (w : World) → n ≤ length es →
-    ((k : ℕ) → k < n → HasSetting w (entry_at es k).slot.key) →
-    HasAll w (take n (assignments_of es))
-has_all-taken es zero w h has = tt
-has_all-taken [] (suc n) w h has = tt
-has_all-taken (e ∷ es) (suc n) w h has =
-    (has 0 (omega arith), has_all-taken es n w (omega arith) (λ k low. has (suc k) (omega arith)))
+pub legal-taken : (es : List Staged) (n : ℕ) (w : World) → n ≤ length es →
+    ((k : ℕ) → k < n → IsLegal w (assignment_of_entry (entry_at es k))) →
+    AreLegal w (take n (assignments_of es))
+legal-taken es zero w h has = tt
+legal-taken [] (suc n) w h has = tt
+legal-taken (e ∷ es) (suc n) w h has =
+    (has 0 (omega arith), legal-taken es n w (omega arith) (λ k low. has (suc k) (omega arith)))
 
-has_all-drop : (es : List Staged) (m : ℕ) (w : World) → HasAll w (assignments_of es) →
-    HasAll w (assignments_of (drop m es))
-has_all-drop es zero w h = h
-has_all-drop [] (suc m) w h = tt
-has_all-drop (e ∷ es) (suc m) w h = has_all-drop es m w h.1
+legal-drop : (es : List Staged) (m : ℕ) (w : World) → AreLegal w (assignments_of es) →
+    AreLegal w (assignments_of (drop m es))
+legal-drop es zero w h = h
+legal-drop [] (suc m) w h = tt
+legal-drop (e ∷ es) (suc m) w h = legal-drop es m w h.1
 
-pub has_all-between : (es : List Staged) (m n : ℕ) (w : World) →
-    HasAll w (take n (assignments_of es)) → HasAll w (assignments_of (drop m (take n es)))
-has_all-between es m n w h =
-    has_all-drop (take n es) m w (subst (HasAll w) (take-map assignment_of_entry n es) h)
+pub legal-between : (es : List Staged) (m n : ℕ) (w : World) →
+    AreLegal w (take n (assignments_of es)) → AreLegal w (assignments_of (drop m (take n es)))
+legal-between es m n w h =
+    legal-drop (take n es) m w (subst (AreLegal w) (take-map assignment_of_entry n es) h)
 
 take_more : (es : List Staged) (i : ℕ) → i < length es →
     take (suc i) (assignments_of es)

@@ -5,11 +5,11 @@ use Rattle.std.proofs.lemmas.Bool.Decides.{eqb_tells}
 use Rattle.setphase_core.specs.declared.staging.Staged.{Staged}
 use Rattle.setphase_core.specs.declared.world.World.{World}
 use Rattle.setphase_core.specs.Objects.{ObjectState, IsCommitted, reservation_of, committed_reservation, object_after_commit, object_after_release, object_called, IsByPlan}
-use Rattle.setphase_core.specs.Settings.{setting, put, HasSetting, IsSettingInRange}
-use Rattle.setphase_core.specs.Staging.{object_at, entry_at, assignments_of, IsDistinct, StandsReserved, StandsCommitted, AreCommitted, CallAt, AreCalled, commit_at}
+use Rattle.setphase_core.specs.Settings.{setting, put, IsSettingInRange}
+use Rattle.setphase_core.specs.Staging.{object_at, entry_at, assignment_of_entry, assignments_of, IsDistinct, IsLegal, AreLegal, StandsReserved, StandsCommitted, AreCommitted, CallAt, AreCalled, commit_at}
 use Rattle.setphase_core.specs.Together.{assign}
 use Rattle.setphase_core.proofs.Puts.{keys-kept, range-kept}
-use Rattle.setphase_core.proofs.Assigns.{HasAll, has_all-taken, setting-assign, assign_more, distinct_below, without_before}
+use Rattle.setphase_core.proofs.Assigns.{legal-taken, setting-assign, assign_more, distinct_below, without_before}
 use Rattle.setphase_core.proofs.Holding.{Holds, holds_reserved, holds_committed, holds_others, holds_made, holds_after_call}
 use Rattle.setphase_core.proofs.Called.{called_more}
 
@@ -26,18 +26,19 @@ abbrev pub after_called : Bool → List ObjectState → Staged → List ObjectSt
 after_called fails os e =
     slice_set os e.object (object_called fails (object_at os e.object))
 
--- The settings of the committed entries were there before.
+-- What the committed entries write was legal before.
 pub had_key : (before w : World) (os : List ObjectState) (es : List Staged) (n : ℕ) →
-    AreCommitted before w os es n → (k : ℕ) → k < n → HasSetting before (entry_at es k).slot.key
+    AreCommitted before w os es n → (k : ℕ) → k < n →
+    IsLegal before (assignment_of_entry (entry_at es k))
 had_key before w os es n done k low = (done.stands k low).had
 
 had_all : (before w : World) (os : List ObjectState) (es : List Staged) (n : ℕ) →
-    n ≤ length es → AreCommitted before w os es n → HasAll before (take n (assignments_of es))
-had_all before w os es n h done = has_all-taken es n before h (had_key before w os es n done)
+    n ≤ length es → AreCommitted before w os es n → AreLegal before (take n (assignments_of es))
+had_all before w os es n h done = legal-taken es n before h (had_key before w os es n done)
 
 -- The entry that was committed just now.
 just_committed : (before w : World) (os : List ObjectState) (e : Staged) →
-    StandsReserved w os e → HasSetting before e.slot.key →
+    StandsReserved w os e → IsLegal before (assignment_of_entry e) →
     setting w e.slot.key ≡ setting before e.slot.key →
     IsSettingInRange w e.slot.key (setting w e.slot.key) →
     StandsCommitted before (put_entry w e) (after_commit os w e) e
@@ -48,7 +49,7 @@ just_committed before w os e here had was range =
       had = had;
       within = omega (arith, here.within, length-set {A = ObjectState});
       committed = subst (λ v. IsCommitted (put_entry w e) (object_at (after_commit os w e) e.object) e.slot v) was (record {
-        key = (keys-kept w e.slot.key e.slot.key e.slot.value).1 here.reserved.key;
+        key = keys-kept w e.slot.key e.slot.key e.slot.value here.reserved.value here.reserved.key;
         value = range-kept w e.slot.key e.slot.key e.slot.value (setting w e.slot.key) range;
         place = after.within;
         stands = after.stands;
@@ -66,7 +67,7 @@ still_committed before w os e f here there ne =
       had = there.had;
       within = omega (arith, there.within, length-set {A = ObjectState});
       committed = record {
-        key = (keys-kept w e.slot.key f.slot.key e.slot.value).1 there.committed.key;
+        key = keys-kept w e.slot.key f.slot.key e.slot.value here.reserved.value there.committed.key;
         value = range-kept w e.slot.key f.slot.key e.slot.value (setting before f.slot.key) there.committed.value;
         place = after.within;
         stands = after.stands;
@@ -81,13 +82,13 @@ pub record Commits (before w : World) (os : List ObjectState) (es : List Staged)
 
 committed_more : (before w : World) (os : List ObjectState) (es : List Staged) (i : ℕ) →
     IsDistinct (assignments_of es) → i < length es → StandsReserved w os (entry_at es i) →
-    HasSetting before (entry_at es i).slot.key → Commits before w os es i →
+    IsLegal before (assignment_of_entry (entry_at es i)) → Commits before w os es i →
     IsSettingInRange w (entry_at es i).slot.key (setting w (entry_at es i).slot.key) →
     AreCommitted before (put_entry w (entry_at es i)) (after_commit os w (entry_at es i)) es (i + 1)
 committed_more before w os es i d h here had commits range =
     let was : setting w (entry_at es i).slot.key ≡ setting before (entry_at es i).slot.key
     = ap (λ v. setting v (entry_at es i).slot.key) commits.world
-    ∙ setting-assign (take i (assignments_of es)) before (entry_at es i).slot.key (without_before es i d h) (had_all before w os es i (omega arith) commits.done) had in
+    ∙ setting-assign (take i (assignments_of es)) before (entry_at es i).slot.key (without_before es i d h) (had_all before w os es i (omega arith) commits.done) had.key in
     record {
       stands = λ k low. elim (eqb_tells k i) [
         | inl e ↦ subst (λ n. StandsCommitted before (put_entry w (entry_at es i)) (after_commit os w (entry_at es i)) (entry_at es n)) (sym e.1) (just_committed before w os (entry_at es i) here had was range)
@@ -103,7 +104,7 @@ entry_is es ds i n e f = ap (λ xs. entry_at xs n) e ∙ ap (entry_at es) f
 -- One more entry is committed.
 pub commit_step : (before w v : World) (os ns : List ObjectState) (es ds : List Staged) (i n : ℕ) →
     ds ≡ es → n ≡ i → IsDistinct (assignments_of es) → i < length es →
-    StandsReserved w os (entry_at ds n) → HasSetting before (entry_at es i).slot.key →
+    StandsReserved w os (entry_at ds n) → IsLegal before (assignment_of_entry (entry_at es i)) →
     Commits before w os es i → v ≡ put_entry w (entry_at ds n) →
     ns ≡ after_commit os w (entry_at ds n) →
     IsSettingInRange w (entry_at ds n).slot.key (setting w (entry_at ds n).slot.key) →

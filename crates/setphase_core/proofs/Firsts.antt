@@ -2,18 +2,22 @@
 use Rattle.std.proofs.Common.{◌≡◌, ◌≢◌, ℕ, ◌∙◌, sym, ap, refl, Bool, true, false, not, cond, ◌&&◌, ◌||◌, List, [], ◌∷◌, ◌++◌, Option, Some, None, is_some, arith, append_assoc}
 use Rattle.setting_keys.specs.declared.SettingKey.{SettingKey}
 use Rattle.setting_keys.specs.declared.SettingValue.{SettingValue}
-use Rattle.setting_keys.specs.declared.SettingValue.TheVariants.{Number}
-use Rattle.std.proofs.lemmas.Bool.Decides.{nat_tests}
+use Rattle.setting_keys.specs.declared.SettingValue.TheVariants.{Number, Ports}
+use Rattle.std.specs.Bool.{Decides}
+use Rattle.std.proofs.lemmas.Bool.Decides.{Decides-eqb, Decides-like, nat_tests}
+use Rattle.std.proofs.lemmas.Slice.Eq.{slice_eq-Decides}
+use Rattle.fdb_core.specs.declared.port_set.PortSet.{PortSet}
 use Rattle.setphase_core.specs.declared.world.World.{World}
 use Rattle.setphase_core.specs.declared.object.Assignment.{Assignment}
 use Rattle.setphase_core.specs.declared.staging.Standing.TheVariants.{First, Repeats, Contradicts}
-use Rattle.setphase_core.specs.Settings.{put, HasSetting, same_setting, same_value}
+use Rattle.setphase_core.specs.Settings.{put, HasSetting, IsSettingInRange, same_setting, same_bool, same_ports, same_value}
 use Rattle.setphase_core.specs.Variables.{Written}
 use Rattle.setphase_core.specs.Together.{assign, assignments, contradicts}
 use Rattle.setphase_core.specs.Outcomes.{has_key, keys_of, firsts, committed_of}
 use Rattle.setphase_core.specs.Staging.{Without, IsDistinct, AreLegal}
 use Rattle.setphase_core.specs.Tested.{first_in, value_among, standing_by, is_contradicting}
 use Rattle.setphase_core.proofs.Puts.{put-put, puts-commuted, keys-kept, range-kept, same-exact}
+use Rattle.setphase_core.proofs.Assigns.{legal_after}
 
 -- ---- numbers
 
@@ -28,15 +32,34 @@ first_in-append (Some n) xs ys = refl
 pub same_itself : (k : SettingKey) → same_setting k k ≡ true
 same_itself k = (same-exact k k).1 refl
 
-pub value-exact : (u v : SettingValue) → same_value u v ≡ true → u ≡ v
-value-exact (Number n) (Number m) e = let same : n ≡ m = grind (arith, nat_tests, e) in ap Number same
+pub same_bool-Decides : (a b : Bool) → Decides (same_bool a b) (a ≡ b)
+same_bool-Decides true true = (λ e. refl, λ e. refl)
+same_bool-Decides true false = (λ e. sym e, λ e. sym e)
+same_bool-Decides false true = (λ e. e, λ e. e)
+same_bool-Decides false false = (λ e. refl, λ e. refl)
 
-pub value-other : (u v : SettingValue) → same_value u v ≡ false → u ≢ v
-value-other (Number n) (Number m) e same =
-    let other : n ≢ m = grind (arith, nat_tests, e) in other (same_number n m same)
+pub same_ports-Decides : (s t : PortSet) → Decides (same_ports s t) (s ≡ t)
+same_ports-Decides s t =
+    let of : List Bool → PortSet = λ ports. record { 0 = ports } in
+    Decides-like _ (ap of) (ap (λ (x : PortSet). x.0)) (slice_eq-Decides {E = same_bool} same_bool-Decides s.0 t.0 _ refl)
+
+pub value-Decides : (u v : SettingValue) → Decides (same_value u v) (u ≡ v)
+value-Decides (Number n) (Number m) = Decides-like _ (ap Number) (λ (e : Number n ≡ Number m). same_number n m e) (Decides-eqb n m)
   where
     same_number : (n m : ℕ) → Number n ≡ Number m → n ≡ m
     same_number n m e = cc
+value-Decides (Number n) (Ports t) = (λ e. absurd cc, λ e. absurd cc)
+value-Decides (Ports s) (Number m) = (λ e. absurd cc, λ e. absurd cc)
+value-Decides (Ports s) (Ports t) = Decides-like _ (ap Ports) (λ (e : Ports s ≡ Ports t). same_set s t e) (same_ports-Decides s t)
+  where
+    same_set : (s t : PortSet) → Ports s ≡ Ports t → s ≡ t
+    same_set s t e = cc
+
+pub value-exact : (u v : SettingValue) → same_value u v ≡ true → u ≡ v
+value-exact u v e = (value-Decides u v).0 e
+
+pub value-other : (u v : SettingValue) → same_value u v ≡ false → u ≢ v
+value-other u v e same = let t : same_value u v ≡ true = (value-Decides u v).1 same in absurd cc
 
 pub differ : (k l : SettingKey) → same_setting k l ≡ false → k ≢ l
 differ k l e same = absurd (let t : same_setting k l ≡ true = (same-exact k l).1 same in cc)
@@ -233,18 +256,13 @@ pub assign-append : (ps qs : List Assignment) (w : World) →
 assign-append [] qs w = refl
 assign-append (p ∷ ps) qs w = assign-append ps qs (put w p.key p.value)
 
-pub legal_after : (w : World) (ps : List Assignment) (k : SettingKey) (v : SettingValue) →
-    AreLegal w ps → AreLegal (put w k v) ps
-legal_after w [] k v h = tt
-legal_after w (p ∷ ps) k v h =
-    (record { key = (keys-kept w k p.key v).1 h.0.key; value = range-kept w k p.key v p.value h.0.value }, legal_after w ps k v h.1)
-
 put_past : (ps : List Assignment) (w : World) (k : SettingKey) (v : SettingValue) → Without k ps →
-    HasSetting w k → AreLegal w ps → put (assign ps w) k v ≡ assign ps (put w k v)
-put_past [] w k v apart h all = refl
-put_past (p ∷ ps) w k v apart h all =
-    put_past ps (put w p.key p.value) k v apart.1 ((keys-kept w p.key k p.value).1 h) (legal_after w ps p.key p.value all.1)
-    ∙ ap (assign ps) (puts-commuted w p.key k p.value v apart.0 all.0.key h)
+    HasSetting w k → IsSettingInRange w k v → AreLegal w ps →
+    put (assign ps w) k v ≡ assign ps (put w k v)
+put_past [] w k v apart h range all = refl
+put_past (p ∷ ps) w k v apart h range all =
+    put_past ps (put w p.key p.value) k v apart.1 (keys-kept w p.key k p.value all.0.value h) (range-kept w p.key k p.value v range) (legal_after w ps p.key p.value all.0.value all.1)
+    ∙ ap (assign ps) (puts-commuted w p.key k p.value v apart.0 all.0.key h all.0.value range)
 
 -- A value that is among assignments changes nothing where it is put again.
 pub put_among : (ps : List Assignment) (w : World) (k : SettingKey) (v : SettingValue) →
@@ -253,7 +271,7 @@ pub put_among : (ps : List Assignment) (w : World) (k : SettingKey) (v : Setting
 put_among [] w k v distinct all e = absurd (cc)
 put_among (p ∷ ps) w k v distinct all e =
     by_same (same_setting p.key k) refl
-    (λ h. put_among ps (put w p.key p.value) k v distinct.1 (legal_after w ps p.key p.value all.1) h) e
+    (λ h. put_among ps (put w p.key p.value) k v distinct.1 (legal_after w ps p.key p.value all.0.value all.1) h) e
   where
     one : {u x : SettingValue} → Some u ≡ Some x → u ≡ x
     one e = cc
@@ -265,7 +283,7 @@ put_among (p ∷ ps) w k v distinct all e =
     by_same true s rest e =
         ap (λ l. put (assign ps (put w p.key p.value)) l v) (sym ((same-exact p.key k).0 s))
         ∙ ap (put (assign ps (put w p.key p.value)) p.key) (sym (one e))
-        ∙ put_past ps (put w p.key p.value) p.key p.value distinct.0 ((keys-kept w p.key p.key p.value).1 all.0.key) (legal_after w ps p.key p.value all.1)
+        ∙ put_past ps (put w p.key p.value) p.key p.value distinct.0 (keys-kept w p.key p.key p.value all.0.value all.0.key) (range-kept w p.key p.key p.value p.value all.0.value) (legal_after w ps p.key p.value all.0.value all.1)
         ∙ ap (assign ps) (put-put w p.key p.value p.value all.0.key all.0.value)
     by_same false s rest e = rest e
 

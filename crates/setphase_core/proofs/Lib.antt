@@ -1,3 +1,4 @@
+pub mod StaticPuts
 pub mod Puts
 pub mod Below
 pub mod Ordered
@@ -20,12 +21,14 @@ pub mod Firsts
 pub mod Slotted
 pub mod Stages
 pub mod Assigns
+pub mod Room
 pub mod Holding
 pub mod Called
 pub mod Commits
 pub mod UnderWay
 pub mod Stuck
 pub mod Undoes
+pub mod Equal
 pub mod Timers
 pub mod Same
 pub mod Endings

@@ -1,5 +1,5 @@
--- The settings of a world as a finite map, from those of its bridge.
-use Rattle.std.proofs.Common.{◌≡◌, ◌≢◌, ℕ, Bool, true, false, cond, nat_eq, length, refl, sym, ap, subst, ◌∙◌, ◌↔◌, arith}
+-- The settings of a world as a finite map, from those of its bridge and from its static rows.
+use Rattle.std.proofs.Common.{◌≡◌, ◌≢◌, ℕ, ◌<◌, ◌≤◌, zero, suc, Bool, true, false, cond, nat_eq, List, length, refl, sym, ap, subst, ◌∙◌, ◌↔◌, arith}
 use Rattle.std.proofs.lemmas.Bool.Decides.{nat_tests}
 use Rattle.std.proofs.lemmas.List.{length-set}
 use Rattle.rstp_settings.specs.declared.key.PortValues.{PortValues}
@@ -13,10 +13,20 @@ use Rattle.rstp_settings.specs.declared.key.PortKey.{PortKey}
 use Rattle.rstp_settings.specs.declared.key.PortKey.TheVariants as port
 use Rattle.rstp_settings.specs.Values.{same_bridge_key, same_port_key}
 use Rattle.setting_keys.specs.declared.SettingKey.{SettingKey}
-use Rattle.setting_keys.specs.declared.SettingKey.TheVariants.{Bridge}
+use Rattle.setting_keys.specs.declared.SettingKey.TheVariants.{Bridge, Made, Allowed}
 use Rattle.setting_keys.specs.declared.SettingValue.{SettingValue}
-use Rattle.setting_keys.specs.declared.SettingValue.TheVariants.{Number}
-use Rattle.setphase_core.specs.Settings.{setting, put, HasSetting, IsSettingInRange, same_setting, with_settings}
+use Rattle.setting_keys.specs.declared.SettingValue.TheVariants.{Number, Ports}
+use Rattle.fdb_core.specs.declared.port_set.PortSet.{PortSet}
+use Rattle.fdb_core.specs.declared.static_row.StaticIndex.{StaticIndex}
+use Rattle.fdb_core.specs.declared.static_row.StaticRow.{StaticRow}
+use Rattle.fdb_core.specs.PortSets.{IsOfPorts}
+use Rattle.fdb_core.specs.Statics.{row_of}
+use Rattle.fdb_core.proofs.StaticFound.{same_tables}
+use Rattle.bridge_core.specs.Bridge.{BridgeState, port_count}
+use Rattle.bridge_core.specs.Statics.{is_made_in, ports_of, is_made, allowed, with_static, set_made, set_allowed, HasStatics, AreStaticRows}
+use Rattle.bridge_core.proofs.StaticKept.{allowed_ports, with_row}
+use Rattle.setphase_core.specs.Settings.{setting, put, HasSetting, HasStaticSetting, IsSettingInRange, made_number, made_by, same_index, same_setting, is_static, with_settings, with_rows}
+use Rattle.setphase_core.proofs.StaticPuts.{index-exact, index-itself, index-other, left_by, same_there, rising_with, made_twice, allowed_twice, made_again, allowed_again, made_either, allowed_either, both_either, made_after, ports_after, made_others, allowed_others, made_keeps_ports, allowed_keeps_made}
 use Rattle.setphase_core.specs.declared.world.World.{World}
 
 number-cond : (b : Bool) (m n : ℕ) → Number (cond b m n) ≡ cond b (Number m) (Number n)
@@ -27,29 +37,93 @@ number-cond false m n = refl
 bridge-put : (w : World) (k l : Key) (n : ℕ) → HasKey w.bridge.settings k → HasKey w.bridge.settings l → setting (put w (Bridge k) (Number n)) (Bridge l) ≡ cond (same_key k l) (Number n) (setting w (Bridge l))
 bridge-put w k l n h i = ap Number (get-put w.bridge.settings k l n h i) ∙ number-cond (same_key k l) n (get w.bridge.settings l)
 
+-- The number of a row that is made, and of one that is not.
+made_back : (n : ℕ) → n ≤ 1 → made_number (made_by n) ≡ n
+made_back zero h = refl
+made_back (suc zero) h = refl
+made_back (suc (suc n)) h = absurd (omega (arith, h))
+
+made_same : (b : Bool) → made_by (made_number b) ≡ b
+made_same true = refl
+made_same false = refl
+
+-- What static rows have after a put.
+made-put : (w : World) (i j : StaticIndex) (n : ℕ) (b : Bool) → same_index i j ≡ b → HasStatics w.bridge → n ≤ 1 → setting (put w (Made i) (Number n)) (Made j) ≡ cond b (Number n) (setting w (Made j))
+made-put w i j n true e h range =
+    let row : StaticRow = record { index = i; made = made_by n; ports = allowed w.bridge i } in
+    ap (λ (k : StaticIndex). setting (put w (Made i) (Number n)) (Made k)) (sym (index-exact i j e))
+    ∙ ap (λ (m : Bool). Number (made_number m)) (made_after (port_count w.bridge) row w.bridge.statics.rows)
+    ∙ ap Number (made_back n range)
+made-put w i j n false e h range =
+    ap (λ o. Number (made_number (is_made_in o))) (made_others (port_count w.bridge) w.bridge.statics.rows h.rising h.rows i j (made_by n) (λ q. index-other i j e (sym q)))
+
+allowed-put : (w : World) (i j : StaticIndex) (s : PortSet) (b : Bool) → same_index i j ≡ b → HasStatics w.bridge → IsOfPorts (port_count w.bridge) s → setting (put w (Allowed i) (Ports s)) (Allowed j) ≡ cond b (Ports s) (setting w (Allowed j))
+allowed-put w i j s true e h range =
+    let row : StaticRow = record { index = i; made = is_made w.bridge i; ports = s } in
+    ap (λ (k : StaticIndex). setting (put w (Allowed i) (Ports s)) (Allowed k)) (sym (index-exact i j e))
+    ∙ ap Ports (ports_after (port_count w.bridge) row w.bridge.statics.rows range)
+allowed-put w i j s false e h range =
+    ap (λ o. Ports (ports_of (port_count w.bridge) o)) (allowed_others (port_count w.bridge) w.bridge.statics.rows h.rising h.rows i j s (λ q. index-other i j e (sym q)))
+
+allowed-kept : (w : World) (i j : StaticIndex) (n : ℕ) → HasStatics w.bridge → setting (put w (Made i) (Number n)) (Allowed j) ≡ setting w (Allowed j)
+allowed-kept w i j n h = ap Ports (made_keeps_ports (port_count w.bridge) w.bridge.statics.rows h.rising h.rows i j (made_by n))
+
+made-kept : (w : World) (i j : StaticIndex) (s : PortSet) → HasStatics w.bridge → setting (put w (Allowed i) (Ports s)) (Made j) ≡ setting w (Made j)
+made-kept w i j s h = ap (λ (m : Bool). Number (made_number m)) (allowed_keeps_made (port_count w.bridge) w.bridge.statics.rows h.rising h.rows i j s)
+
 pub setting-put : (w : World) (k l : SettingKey) (v : SettingValue) → HasSetting w k → HasSetting w l → IsSettingInRange w k v → setting (put w k v) l ≡ cond (same_setting k l) v (setting w l)
 setting-put w (Bridge k) (Bridge l) (Number n) h i range = bridge-put w k l n h i
+setting-put w (Bridge k) (Made l) (Number n) h i range = refl
+setting-put w (Bridge k) (Allowed l) (Number n) h i range = refl
+setting-put w (Bridge k) l (Ports s) h i range = absurd range
+setting-put w (Made k) (Bridge l) (Number n) h i range = refl
+setting-put w (Made k) (Made l) (Number n) h i range = made-put w k l n (same_index k l) refl i.rows range
+setting-put w (Made k) (Allowed l) (Number n) h i range = allowed-kept w k l n i.rows
+setting-put w (Made k) l (Ports s) h i range = absurd range
+setting-put w (Allowed k) l (Number n) h i range = absurd range
+setting-put w (Allowed k) (Bridge l) (Ports s) h i range = refl
+setting-put w (Allowed k) (Made l) (Ports s) h i range = made-kept w k l s i.rows
+setting-put w (Allowed k) (Allowed l) (Ports s) h i range = allowed-put w k l s (same_index k l) refl i.rows range
 
 -- Whatever a setting is given, the others have what they had.
 pub setting-put_other : (w : World) (k l : SettingKey) (v : SettingValue) → same_setting k l ≡ false → HasSetting w k → HasSetting w l → setting (put w k v) l ≡ setting w l
 setting-put_other w (Bridge k) (Bridge l) (Number n) other h i = bridge-put w k l n h i ∙ ap (λ (b : Bool). cond b (Number n) (setting w (Bridge l))) other
+setting-put_other w (Bridge k) (Made l) (Number n) other h i = refl
+setting-put_other w (Bridge k) (Allowed l) (Number n) other h i = refl
+setting-put_other w (Bridge k) l (Ports s) other h i = refl
+setting-put_other w (Made k) (Bridge l) (Number n) other h i = refl
+setting-put_other w (Made k) (Made l) (Number n) other h i =
+    ap (λ o. Number (made_number (is_made_in o))) (made_others (port_count w.bridge) w.bridge.statics.rows i.rows.rising i.rows.rows k l (made_by n) (λ q. index-other k l other (sym q)))
+setting-put_other w (Made k) (Allowed l) (Number n) other h i = allowed-kept w k l n i.rows
+setting-put_other w (Made k) l (Ports s) other h i = refl
+setting-put_other w (Allowed k) l (Number n) other h i = refl
+setting-put_other w (Allowed k) (Bridge l) (Ports s) other h i = refl
+setting-put_other w (Allowed k) (Made l) (Ports s) other h i = made-kept w k l s i.rows
+setting-put_other w (Allowed k) (Allowed l) (Ports s) other h i =
+    ap (λ o. Ports (ports_of (port_count w.bridge) o)) (allowed_others (port_count w.bridge) w.bridge.statics.rows i.rows.rising i.rows.rows k l s (λ q. index-other k l other (sym q)))
 
--- and each has its range.
+-- and each has its range, which goes by the number of ports alone.
+pub ports-kept : (w : World) (k : SettingKey) (v : SettingValue) → port_count (put w k v).bridge ≡ port_count w.bridge
+ports-kept w (Bridge k) (Number n) = refl
+ports-kept w (Bridge k) (Ports s) = refl
+ports-kept w (Made k) (Number n) = refl
+ports-kept w (Made k) (Ports s) = refl
+ports-kept w (Allowed k) (Number n) = refl
+ports-kept w (Allowed k) (Ports s) = refl
+
+range-same : (w x : World) (l : SettingKey) (u : SettingValue) → port_count x.bridge ≡ port_count w.bridge → IsSettingInRange w l u → IsSettingInRange x l u
+range-same w x (Bridge l) (Number n) e h = h
+range-same w x (Bridge l) (Ports s) e h = h
+range-same w x (Made l) (Number n) e h = h
+range-same w x (Made l) (Ports s) e h = h
+range-same w x (Allowed l) (Number n) e h = h
+range-same w x (Allowed l) (Ports s) e h = subst (λ n. IsOfPorts n s) (sym e) h
+
 pub range-kept : (w : World) (k l : SettingKey) (v u : SettingValue) → IsSettingInRange w l u → IsSettingInRange (put w k v) l u
-range-kept w (Bridge k) (Bridge l) (Number n) (Number m) h = h
+range-kept w k l v u h = range-same w (put w k v) l u (ports-kept w k v) h
 
-pub put-restored : (w : World) (k : SettingKey) (v : SettingValue) → HasSetting w k → put (put w k v) k (setting w k) ≡ w
-put-restored w (Bridge k) (Number n) h = ap (with_settings w) (put-back w.bridge.settings k n h)
-
-pub puts-commuted : (w : World) (k l : SettingKey) (v u : SettingValue) → k ≢ l → HasSetting w k → HasSetting w l → put (put w k v) l u ≡ put (put w l u) k v
-puts-commuted w (Bridge k) (Bridge l) (Number m) (Number n) ne h i = ap (with_settings w) (put-comm w.bridge.settings k l m n (λ e. ne (ap Bridge e)) h i)
-
-same_number : (m n : ℕ) → Number m ≡ Number n → m ≡ n
-same_number m n e = cc
-
-pub settings-ext : (w : World) (t : Table) → length t.ports ≡ length w.bridge.settings.ports → ((k : SettingKey) → HasSetting w k → setting (with_settings w t) k ≡ setting w k) → with_settings w t ≡ w
-settings-ext w t len e =
-    ap (with_settings w) (sym (table-ext w.bridge.settings t (sym len) (λ k h. sym (same_number (get t k) (get w.bridge.settings k) (e (Bridge k) h)))))
+pub range-before : (w : World) (k l : SettingKey) (v u : SettingValue) → IsSettingInRange (put w k v) l u → IsSettingInRange w l u
+range-before w k l v u h = range-same (put w k v) w l u (sym (ports-kept w k v)) h
 
 -- ---- over the bridge's table
 
@@ -113,12 +187,155 @@ same_key-itself (key.Port n k) =
 
 pub put-put : (w : World) (k : SettingKey) (v u : SettingValue) → HasSetting w k → IsSettingInRange w k u → put (put w k v) k u ≡ put w k u
 put-put w (Bridge k) (Number m) (Number n) h range = ap (with_settings w) (put_put w.bridge.settings k m n h)
+put-put w (Bridge k) (Ports s) (Number n) h range = refl
+put-put w (Bridge k) v (Ports s) h range = absurd range
+put-put w (Made k) (Number m) (Number n) h range =
+    ap (with_rows w) (made_twice (port_count w.bridge) w.bridge.statics.rows h.rows.rising h.rows.rows k (made_by n) (made_by m))
+put-put w (Made k) (Ports s) (Number n) h range = refl
+put-put w (Made k) v (Ports s) h range = absurd range
+put-put w (Allowed k) v (Number n) h range = absurd range
+put-put w (Allowed k) (Number m) (Ports s) h range = refl
+put-put w (Allowed k) (Ports t) (Ports s) h range =
+    ap (with_rows w) (allowed_twice (port_count w.bridge) w.bridge.statics.rows h.rows.rising h.rows.rows k s t)
 
 pub put-again : (w : World) (k : SettingKey) → HasSetting w k → put w k (setting w k) ≡ w
 put-again w (Bridge k) h = ap (with_settings w) (put_same w.bridge.settings k h)
+put-again w (Made k) h =
+    ap (λ (m : Bool). record w { bridge = set_made k m w.bridge }) (made_same (is_made w.bridge k))
+    ∙ ap (with_rows w) (made_again (port_count w.bridge) w.bridge.statics.rows h.rows.rising h.rows.rows k)
+put-again w (Allowed k) h = ap (with_rows w) (allowed_again (port_count w.bridge) w.bridge.statics.rows h.rows.rising h.rows.rows k)
 
-pub keys-kept : (w : World) (k l : SettingKey) (v : SettingValue) → HasSetting (put w k v) l ↔ HasSetting w l
-keys-kept w (Bridge k) (Bridge l) (Number n) = (has_before w.bridge.settings k l n, has_after w.bridge.settings k l n)
+pub put-restored : (w : World) (k : SettingKey) (v : SettingValue) → HasSetting w k → put (put w k v) k (setting w k) ≡ w
+put-restored w (Bridge k) (Number n) h = ap (with_settings w) (put-back w.bridge.settings k n h)
+put-restored w (Bridge k) (Ports s) h = put-again w (Bridge k) h
+put-restored w (Made k) (Number n) h =
+    ap (with_rows w) (made_twice (port_count w.bridge) w.bridge.statics.rows h.rows.rising h.rows.rows k (made_by (made_number (is_made w.bridge k))) (made_by n))
+    ∙ put-again w (Made k) h
+put-restored w (Made k) (Ports s) h = put-again w (Made k) h
+put-restored w (Allowed k) (Number n) h = put-again w (Allowed k) h
+put-restored w (Allowed k) (Ports s) h =
+    ap (with_rows w) (allowed_twice (port_count w.bridge) w.bridge.statics.rows h.rows.rising h.rows.rows k (allowed w.bridge k) s)
+    ∙ put-again w (Allowed k) h
+
+-- a put of another kind's value needs no second look
+pub puts-commuted : (w : World) (k l : SettingKey) (v u : SettingValue) → k ≢ l → HasSetting w k → HasSetting w l → IsSettingInRange w k v → IsSettingInRange w l u → put (put w k v) l u ≡ put (put w l u) k v
+puts-commuted w (Bridge k) l (Ports s) u ne h i range fits = absurd range
+puts-commuted w (Made k) l (Ports s) u ne h i range fits = absurd range
+puts-commuted w (Allowed k) l (Number n) u ne h i range fits = absurd range
+puts-commuted w (Bridge k) (Bridge l) (Number m) (Number n) ne h i range fits = ap (with_settings w) (put-comm w.bridge.settings k l m n (λ e. ne (ap Bridge e)) h i)
+puts-commuted w (Bridge k) (Bridge l) (Number m) (Ports t) ne h i range fits = absurd fits
+puts-commuted w (Bridge k) (Made l) (Number m) (Number n) ne h i range fits = refl
+puts-commuted w (Bridge k) (Made l) (Number m) (Ports t) ne h i range fits = absurd fits
+puts-commuted w (Bridge k) (Allowed l) (Number m) (Number n) ne h i range fits = absurd fits
+puts-commuted w (Bridge k) (Allowed l) (Number m) (Ports t) ne h i range fits = refl
+puts-commuted w (Made k) (Bridge l) (Number m) (Number n) ne h i range fits = refl
+puts-commuted w (Made k) (Bridge l) (Number m) (Ports t) ne h i range fits = absurd fits
+puts-commuted w (Made k) (Made l) (Number m) (Number n) ne h i range fits =
+    ap (with_rows w) (made_either (port_count w.bridge) w.bridge.statics.rows h.rows.rising h.rows.rows k l (made_by m) (made_by n) (λ e. ne (ap Made e)))
+puts-commuted w (Made k) (Made l) (Number m) (Ports t) ne h i range fits = absurd fits
+puts-commuted w (Made k) (Allowed l) (Number m) (Number n) ne h i range fits = absurd fits
+puts-commuted w (Made k) (Allowed l) (Number m) (Ports t) ne h i range fits =
+    ap (with_rows w) (both_either (port_count w.bridge) w.bridge.statics.rows h.rows.rising h.rows.rows k l (made_by m) t fits)
+puts-commuted w (Allowed k) (Bridge l) (Ports s) (Number n) ne h i range fits = refl
+puts-commuted w (Allowed k) (Bridge l) (Ports s) (Ports t) ne h i range fits = absurd fits
+puts-commuted w (Allowed k) (Made l) (Ports s) (Number n) ne h i range fits =
+    ap (with_rows w) (sym (both_either (port_count w.bridge) w.bridge.statics.rows h.rows.rising h.rows.rows l k (made_by n) s range))
+puts-commuted w (Allowed k) (Made l) (Ports s) (Ports t) ne h i range fits = absurd fits
+puts-commuted w (Allowed k) (Allowed l) (Ports s) (Number n) ne h i range fits = absurd fits
+puts-commuted w (Allowed k) (Allowed l) (Ports s) (Ports t) ne h i range fits =
+    ap (with_rows w) (allowed_either (port_count w.bridge) w.bridge.statics.rows h.rows.rising h.rows.rows k l s t (λ e. ne (ap Allowed e)))
+
+-- A put of a value in range takes no setting away.
+statics-kept : (b : BridgeState) (row : StaticRow) → IsOfPorts (port_count b) row.ports → HasStatics b → HasStatics (with_static row b)
+statics-kept b row ports h = record {
+  rising = rising_with (port_count b) row b.statics.rows h.rising;
+  rows = with_row (port_count b) row b.statics.rows ports h.rows;
+}
+
+made-has : (b : BridgeState) (k l : StaticIndex) (made : Bool) → HasStaticSetting b l → HasStaticSetting (set_made k made b) l
+made-has b k l made h = record {
+  index = record {
+    address = h.index.address;
+    port = h.index.port;
+    foreign = h.index.foreign;
+    unreserved = h.index.unreserved;
+  };
+  rows = statics-kept b (record { index = k; made = made; ports = allowed b k }) (allowed_ports (port_count b) b.statics.rows k h.rows.rows) h.rows;
+}
+
+allowed-has : (b : BridgeState) (k l : StaticIndex) (ports : PortSet) → IsOfPorts (port_count b) ports → HasStaticSetting b l → HasStaticSetting (set_allowed k ports b) l
+allowed-has b k l ports range h = record {
+  index = record {
+    address = h.index.address;
+    port = h.index.port;
+    foreign = h.index.foreign;
+    unreserved = h.index.unreserved;
+  };
+  rows = statics-kept b (record { index = k; made = is_made b k; ports = ports }) range h.rows;
+}
+
+bridge-has : (b : BridgeState) (t : Table) (l : StaticIndex) → HasStaticSetting b l → HasStaticSetting (record b { settings = t }) l
+bridge-has b t l h = record {
+  index = record {
+    address = h.index.address;
+    port = h.index.port;
+    foreign = h.index.foreign;
+    unreserved = h.index.unreserved;
+  };
+  rows = record { rising = h.rows.rising; rows = h.rows.rows };
+}
+
+pub keys-kept : (w : World) (k l : SettingKey) (v : SettingValue) → IsSettingInRange w k v → HasSetting w l → HasSetting (put w k v) l
+keys-kept w (Bridge k) (Bridge l) (Number n) range h = has_after w.bridge.settings k l n h
+keys-kept w (Bridge k) (Made l) (Number n) range h = bridge-has w.bridge (put_key w.bridge.settings k n) l h
+keys-kept w (Bridge k) (Allowed l) (Number n) range h = bridge-has w.bridge (put_key w.bridge.settings k n) l h
+keys-kept w (Bridge k) l (Ports s) range h = absurd range
+keys-kept w (Made k) (Bridge l) (Number n) range h = h
+keys-kept w (Made k) (Made l) (Number n) range h = made-has w.bridge k l (made_by n) h
+keys-kept w (Made k) (Allowed l) (Number n) range h = made-has w.bridge k l (made_by n) h
+keys-kept w (Made k) l (Ports s) range h = absurd range
+keys-kept w (Allowed k) l (Number n) range h = absurd range
+keys-kept w (Allowed k) (Bridge l) (Ports s) range h = h
+keys-kept w (Allowed k) (Made l) (Ports s) range h = allowed-has w.bridge k l s range h
+keys-kept w (Allowed k) (Allowed l) (Ports s) range h = allowed-has w.bridge k l s range h
+
+bridge-same : (k l : Key) → (same_key k l ≡ true) ↔ (Bridge k ≡ Bridge l)
+bridge-same k l = (λ h. ap Bridge (same_key-is k l h), λ e. subst (λ m. same_setting (Bridge k) m ≡ true) e (same_key-itself k))
 
 pub same-exact : (k l : SettingKey) → (same_setting k l ≡ true) ↔ (k ≡ l)
-same-exact (Bridge k) (Bridge l) = (λ h. ap Bridge (same_key-is k l h), λ e. subst (λ m. same_setting (Bridge k) m ≡ true) e (same_key-itself k))
+same-exact (Bridge k) (Bridge l) = bridge-same k l
+same-exact (Bridge k) (Made l) = (λ h. absurd cc, λ e. absurd cc)
+same-exact (Bridge k) (Allowed l) = (λ h. absurd cc, λ e. absurd cc)
+same-exact (Made k) (Bridge l) = (λ h. absurd cc, λ e. absurd cc)
+same-exact (Made k) (Made l) = (λ h. ap Made (index-exact k l h), λ e. subst (λ m. same_setting (Made k) m ≡ true) e (index-itself k))
+same-exact (Made k) (Allowed l) = (λ h. absurd cc, λ e. absurd cc)
+same-exact (Allowed k) (Bridge l) = (λ h. absurd cc, λ e. absurd cc)
+same-exact (Allowed k) (Made l) = (λ h. absurd cc, λ e. absurd cc)
+same-exact (Allowed k) (Allowed l) = (λ h. ap Allowed (index-exact k l h), λ e. subst (λ m. same_setting (Allowed k) m ≡ true) e (index-itself k))
+
+-- ---- settings that agree
+
+same_number : (m n : ℕ) → Number m ≡ Number n → m ≡ n
+same_number m n e = cc
+
+pub settings-ext : (w : World) (t : Table) → length t.ports ≡ length w.bridge.settings.ports → ((k : SettingKey) → HasSetting w k → setting (with_settings w t) k ≡ setting w k) → with_settings w t ≡ w
+settings-ext w t len e =
+    ap (with_settings w) (sym (table-ext w.bridge.settings t (sym len) (λ k h. sym (same_number (get t k) (get w.bridge.settings k) (e (Bridge k) h)))))
+
+-- static rows that agree on each index
+same_made : (a b : Bool) → Number (made_number a) ≡ Number (made_number b) → a ≡ b
+same_made true true e = refl
+same_made true false e = let no : 1 ≡ 0 = same_number 1 0 e in absurd (omega (arith, no))
+same_made false true e = let no : 0 ≡ 1 = same_number 0 1 e in absurd (omega (arith, no))
+same_made false false e = refl
+
+same_set : (s t : PortSet) → Ports s ≡ Ports t → s ≡ t
+same_set s t e = cc
+
+pub rows-ext : (w : World) (rows : List StaticRow) → HasStatics (with_rows w rows).bridge → HasStatics w.bridge → ((k : SettingKey) → is_static k ≡ true → setting (with_rows w rows) k ≡ setting w k) → with_rows w rows ≡ w
+rows-ext w rows h i e =
+    ap (with_rows w) (same_tables rows w.bridge.statics.rows h.rising i.rising (λ j.
+    sym (same_there (port_count w.bridge) rows j h.rows)
+    ∙ ap (λ (m : Bool). left_by (port_count w.bridge) (record { index = j; made = m; ports = ports_of (port_count w.bridge) (row_of rows j) })) (same_made (is_made_in (row_of rows j)) (is_made w.bridge j) (e (Made j) refl))
+    ∙ ap (λ (s : PortSet). left_by (port_count w.bridge) (record { index = j; made = is_made w.bridge j; ports = s })) (same_set (ports_of (port_count w.bridge) (row_of rows j)) (allowed w.bridge j) (e (Allowed j) refl))
+    ∙ same_there (port_count w.bridge) w.bridge.statics.rows j i.rows))

@@ -32,6 +32,7 @@ use Rattle.setphase_core.specs.declared.column.Tp.{Tp}
 use Rattle.setphase_core.specs.declared.column.Tp.TheVariants as tp
 use Rattle.setphase_core.specs.declared.column.Column.{Column}
 use Rattle.setphase_core.specs.declared.column.Column.TheVariants as column
+use Rattle.setphase_core.specs.Settings.{is_static}
 use Rattle.setphase_core.specs.Staging.{IsLegal}
 use Rattle.setphase_core.specs.Values.{port_index}
 use Rattle.setphase_core.specs.Writing.{writable_of, takes, number_given, key_at, assignment_at, assignment_by, assignment_of, stp_writable, stp_port_writable, rapid_writable, ext_port_writable, tp_writable}
@@ -188,3 +189,51 @@ by_legal (Some (Integers x)) w at value.EndOfMibView a even range e = absurd (cc
 pub legal : (c : Column) (w : World) (at : List ℕ) (v : Value) (a : Assignment) →
     port_count w.bridge ≡ length w.bridge.settings.ports → assignment_of c w at v ≡ Ok a → IsLegal w a
 legal c w at v a even e = by_legal (writable_of c) w at v a even (gives c) e
+
+-- ---- no object writes a setting of a static row
+
+bridge_plain : (k : BridgeKey) (b : Bool) (v : ℕ) (a : Assignment) →
+    assignment_at (cond b (Some (setting.Bridge (key.Bridge k))) None) v ≡ Ok a → is_static a.key ≡ false
+bridge_plain k true v a e =
+    let same : record { key = setting.Bridge (key.Bridge k); value = Number v } ≡ a = cc in
+    subst (λ (x : Assignment). is_static x.key ≡ false) same refl
+bridge_plain k false v a e = absurd (cc)
+
+port_plain : (k : PortKey) (o : Option ℕ) (v : ℕ) (a : Assignment) →
+    assignment_at (option_map (λ n. setting.Bridge (key.Port n k)) o) v ≡ Ok a → is_static a.key ≡ false
+port_plain k None v a e = absurd (cc)
+port_plain k (Some n) v a e =
+    let same : record { key = setting.Bridge (key.Port n k); value = Number v } ≡ a = cc in
+    subst (λ (x : Assignment). is_static x.key ≡ false) same refl
+
+target_plain : (t : Target) (w : World) (at : List ℕ) (v : ℕ) (a : Assignment) →
+    assignment_at (key_at t w at) v ≡ Ok a → is_static a.key ≡ false
+target_plain (target.Bridge k) w at v a e = bridge_plain k (name_eq (0 ∷ []) at) v a e
+target_plain (target.Port k) w at v a e = port_plain k (port_index (port_count w.bridge) at) v a e
+
+integer_plain : (x : IntegerTarget) (w : World) (at : List ℕ) (n : ℕ) (a : Assignment) (b : Bool) →
+    cond b (assignment_at (key_at x.target w at) (number_given x.target n)) (Err WrongValue) ≡ Ok a → is_static a.key ≡ false
+integer_plain x w at n a true e = target_plain x.target w at (number_given x.target n) a e
+integer_plain x w at n a false e = absurd (cc)
+
+by_plain : (x : Option Writable) (w : World) (at : List ℕ) (v : Value) (a : Assignment) →
+    assignment_by x w at v ≡ Ok a → is_static a.key ≡ false
+by_plain None w at v a e = absurd (cc)
+by_plain (Some (Integers x)) w at (value.Integer (pos n)) a e = integer_plain x w at n a (takes x n) e
+by_plain (Some (Integers x)) w at (value.Integer (negsuc n)) a e = absurd (cc)
+by_plain (Some (Integers x)) w at (value.OctetString v) a e = absurd (cc)
+by_plain (Some (Integers x)) w at value.Null a e = absurd (cc)
+by_plain (Some (Integers x)) w at (value.ObjectIdentifier v) a e = absurd (cc)
+by_plain (Some (Integers x)) w at (value.IpAddress v) a e = absurd (cc)
+by_plain (Some (Integers x)) w at (value.Counter32 v) a e = absurd (cc)
+by_plain (Some (Integers x)) w at (value.Gauge32 v) a e = absurd (cc)
+by_plain (Some (Integers x)) w at (value.TimeTicks v) a e = absurd (cc)
+by_plain (Some (Integers x)) w at (value.Opaque v) a e = absurd (cc)
+by_plain (Some (Integers x)) w at (value.Counter64 v) a e = absurd (cc)
+by_plain (Some (Integers x)) w at value.NoSuchObject a e = absurd (cc)
+by_plain (Some (Integers x)) w at value.NoSuchInstance a e = absurd (cc)
+by_plain (Some (Integers x)) w at value.EndOfMibView a e = absurd (cc)
+
+pub plain : (c : Column) (w : World) (at : List ℕ) (v : Value) (a : Assignment) →
+    assignment_of c w at v ≡ Ok a → is_static a.key ≡ false
+plain c w at v a e = by_plain (writable_of c) w at v a e

@@ -1,25 +1,32 @@
 -- Whether the settings of two worlds are the same.
-use Rattle.std.proofs.Common.{◌≡◌, ◌≢◌, ◌∙◌, ℕ, zero, suc, ◌<◌, ◌+◌, Bool, true, false, not, cond, List, [], ◌∷◌, length, take, Some, ap, sym, refl, arith}
+use Rattle.std.proofs.Common.{◌≡◌, ◌≢◌, ◌∙◌, ℕ, zero, suc, ◌<◌, ◌+◌, Bool, true, false, not, cond, List, [], ◌∷◌, length, take, Some, ap, sym, subst, refl, arith}
 use Rattle.std.specs.Bool.{Decides}
 use Rattle.std.specs.Cmp.Lexicographic.{pointwise}
 use Rattle.std.proofs.lemmas.Bool.Decides.{Decides-and, Decides-like}
 use Rattle.std.proofs.lemmas.Slice.Eq.{slice_eq-Decides}
+use Rattle.fdb_core.specs.declared.static_row.StaticIndex.{StaticIndex}
+use Rattle.fdb_core.specs.declared.static_row.StaticRow.{StaticRow}
+use Rattle.fdb_core.specs.Statics.{row_of}
+use Rattle.bridge_core.specs.Bridge.{port_count}
+use Rattle.bridge_core.specs.Statics.{is_made_in, ports_of}
 use Rattle.rstp_settings.specs.Table.{Table, get}
 use Rattle.rstp_settings.proofs.Same.{same_port-Decides, same_bridge-Decides}
 use Rattle.setting_keys.specs.declared.SettingKey.{SettingKey}
-use Rattle.setting_keys.specs.declared.SettingKey.TheVariants.{Bridge}
-use Rattle.setting_keys.specs.declared.SettingValue.TheVariants.{Number}
+use Rattle.setting_keys.specs.declared.SettingKey.TheVariants.{Bridge, Made, Allowed}
+use Rattle.setting_keys.specs.declared.SettingValue.TheVariants.{Number, Ports}
+use Rattle.setphase_core.specs.declared.object.Assignment.{Assignment}
 use Rattle.setphase_core.specs.declared.staging.Staged.{Staged}
 use Rattle.setphase_core.specs.declared.world.World.{World}
 use Rattle.setphase_core.specs.Outcomes.{writers_of}
-use Rattle.setphase_core.specs.Settings.{setting, put, same_settings, same_port_values, same_settings_of}
+use Rattle.setphase_core.specs.Settings.{setting, put, same_index, same_settings, same_port_values, made_number, same_static_row, same_static_rows, same_settings_of}
 use Rattle.setphase_core.specs.Staging.{entry_at, assignment_of_entry, assignments_of, IsDistinct, IsLegal, AreLegal}
 use Rattle.setphase_core.specs.Tested.{value_among}
 use Rattle.setphase_core.specs.Together.{assign}
 use Rattle.setphase_core.specs.Variables.{Written}
 use Rattle.setphase_core.proofs.Assigns.{different, distinct_below, assign_more}
-use Rattle.setphase_core.proofs.Firsts.{same_itself}
-use Rattle.setphase_core.proofs.Puts.{put-again}
+use Rattle.setphase_core.proofs.Firsts.{same_itself, same_bool-Decides, same_ports-Decides}
+use Rattle.setphase_core.proofs.Puts.{put-again, ports-kept}
+use Rattle.setphase_core.proofs.StaticPuts.{index-exact, index-itself}
 use Rattle.setphase_core.proofs.Timers.{given_value}
 
 pub same_settings-Decides : (t u : Table) → Decides (same_settings t u) (t ≡ u)
@@ -27,24 +34,55 @@ same_settings-Decides t u =
     Decides-like _ (λ h i. record { bridge = h.0 i; ports = h.1 i }) (λ e. (ap (λ (x : Table). x.bridge) e, ap (λ (x : Table). x.ports) e))
     (Decides-and _ _ (same_bridge-Decides t.bridge u.bridge) (slice_eq-Decides {E = same_port_values} same_port-Decides t.ports u.ports (pointwise same_port_values t.ports u.ports) refl))
 
+index-Decides : (i j : StaticIndex) → Decides (same_index i j) (i ≡ j)
+index-Decides i j = (index-exact i j, λ e. subst (λ k. same_index i k ≡ true) e (index-itself i))
+
+row-Decides : (r s : StaticRow) → Decides (same_static_row r s) (r ≡ s)
+row-Decides r s =
+    Decides-like _
+    (λ h i. record { index = h.0 i; made = h.1.0 i; ports = h.1.1 i })
+    (λ e. (ap (λ (x : StaticRow). x.index) e, (ap (λ (x : StaticRow). x.made) e, ap (λ (x : StaticRow). x.ports) e)))
+    (Decides-and _ _ (index-Decides r.index s.index) (Decides-and _ _ (same_bool-Decides r.made s.made) (same_ports-Decides r.ports s.ports)))
+
+pub rows-Decides : (rows others : List StaticRow) → Decides (same_static_rows rows others) (rows ≡ others)
+rows-Decides rows others = slice_eq-Decides {E = same_static_row} row-Decides rows others _ refl
+
+-- Settings are the same where both parts are.
+pub same_of-Decides : (v w : World) → Decides (same_settings_of v w) ((v.bridge.settings ≡ w.bridge.settings) × (v.bridge.statics.rows ≡ w.bridge.statics.rows))
+same_of-Decides v w =
+    Decides-like _ (λ h. (h.0, h.1)) (λ h. (h.0, h.1))
+    (Decides-and _ _ (same_settings-Decides v.bridge.settings w.bridge.settings) (rows-Decides v.bridge.statics.rows w.bridge.statics.rows))
+
 -- A world and itself.
 pub same_itself_of : (w v : World) → v ≡ w → false ≡ not (same_settings_of w v)
 same_itself_of w v e =
-    ap not (sym ((same_settings-Decides w.bridge.settings v.bridge.settings).1 (ap (λ (x : World). x.bridge.settings) (sym e))))
+    ap not (sym ((same_of-Decides w v).1 (ap (λ (x : World). x.bridge.settings) (sym e), ap (λ (x : World). x.bridge.statics.rows) (sym e))))
 
-same_each : (w v : World) (k : SettingKey) → same_settings_of w v ≡ true → setting w k ≡ setting v k
-same_each w v (Bridge k) e =
-    ap (λ (t : Table). Number (get t k)) ((same_settings-Decides w.bridge.settings v.bridge.settings).0 e)
+-- Static settings are the same where the rows are, at bridges of as many ports.
+same_each : (w v : World) (k : SettingKey) → port_count w.bridge ≡ port_count v.bridge →
+    same_settings_of w v ≡ true → setting w k ≡ setting v k
+same_each w v (Bridge k) n e = ap (λ (t : Table). Number (get t k)) ((same_of-Decides w v).0 e).0
+same_each w v (Made i) n e =
+    ap (λ (rows : List StaticRow). Number (made_number (is_made_in (row_of rows i)))) ((same_of-Decides w v).0 e).1
+same_each w v (Allowed i) n e =
+    ap (λ (rows : List StaticRow). Ports (ports_of (port_count w.bridge) (row_of rows i))) ((same_of-Decides w v).0 e).1
+    ∙ ap (λ m. Ports (ports_of m (row_of v.bridge.statics.rows i))) n
 
 -- A setting that has another value in the other world.
-pub other_of : (w v : World) (k : SettingKey) → setting w k ≢ setting v k → true ≡ not (same_settings_of w v)
-other_of w v k ne = by_same (same_settings_of w v) refl
+pub other_of : (w v : World) (k : SettingKey) → port_count w.bridge ≡ port_count v.bridge →
+    setting w k ≢ setting v k → true ≡ not (same_settings_of w v)
+other_of w v k n ne = by_same (same_settings_of w v) refl
   where
     by_same : (b : Bool) → same_settings_of w v ≡ b → true ≡ not b
-    by_same true e = absurd (ne (same_each w v k e))
+    by_same true e = absurd (ne (same_each w v k n e))
     by_same false e = refl
 
 -- ---- what is staged
+
+-- Assignments leave as many ports.
+ports-assigned : (ps : List Assignment) (w : World) → port_count (assign ps w).bridge ≡ port_count w.bridge
+ports-assigned [] w = refl
+ports-assigned (a ∷ ps) w = ports-assigned ps (put w a.key a.value) ∙ ports-kept w a.key a.value
 
 pub legal_at : (es : List Staged) (w : World) (k : ℕ) → AreLegal w (assignments_of es) → k < length es →
     IsLegal w (assignment_of_entry (entry_at es k))
@@ -67,7 +105,7 @@ pub other_staged : (es : List Staged) (w : World) (k : ℕ) → IsDistinct (assi
     setting w (entry_at es k).slot.key ≢ (entry_at es k).slot.value →
     true ≡ not (same_settings_of w (assign (assignments_of es) w))
 other_staged es w k distinct legal h ne =
-    other_of w (assign (assignments_of es) w) (entry_at es k).slot.key
+    other_of w (assign (assignments_of es) w) (entry_at es k).slot.key (sym (ports-assigned (assignments_of es) w))
     (λ e. ne (e ∙ sym (given_value (assignments_of es) w (entry_at es k).slot.key (entry_at es k).slot.value distinct legal (legal_at es w k legal h).key (value_at es k distinct h))))
 
 -- One more that gives its setting the value that it has.

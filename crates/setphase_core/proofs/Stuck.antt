@@ -5,11 +5,10 @@ use Rattle.std.proofs.Math.Seq.{drop-cons}
 use Rattle.setting_keys.specs.declared.SettingKey.{SettingKey}
 use Rattle.setphase_core.specs.declared.staging.Staged.{Staged}
 use Rattle.setphase_core.specs.declared.world.World.{World}
-use Rattle.setphase_core.specs.Settings.{HasSetting}
-use Rattle.setphase_core.specs.Staging.{assignments_of, entry_at, no_entry, Without, IsDistinct, CallAt, commit_at, undo_at, undos_at, entries_of}
+use Rattle.setphase_core.specs.Staging.{assignment_of_entry, assignments_of, entry_at, no_entry, Without, IsDistinct, IsLegal, AreLegal, CallAt, commit_at, undo_at, undos_at, entries_of}
 use Rattle.setphase_core.specs.Outcomes.{has_key}
 use Rattle.setphase_core.proofs.Puts.{same-exact}
-use Rattle.setphase_core.proofs.Assigns.{HasAll, different, without_behind}
+use Rattle.setphase_core.proofs.Assigns.{different, without_behind}
 use Rattle.setphase_core.proofs.Called.{undos-cons, undos-more}
 
 -- The settings of entries.
@@ -39,17 +38,17 @@ without_entries keys [] k h = tt
 without_entries keys (e ∷ es) k h =
     without-picked (has_key keys e.slot.key) e (entries_of keys es) k h.0 (without_entries keys es k h.1)
 
-has_all-picked : (b : Bool) (e : Staged) (es : List Staged) (w : World) →
-    HasSetting w e.slot.key → HasAll w (assignments_of es) →
-    HasAll w (assignments_of (cond b (e ∷ es) es))
-has_all-picked true e es w h i = (h, i)
-has_all-picked false e es w h i = i
+legal-picked : (b : Bool) (e : Staged) (es : List Staged) (w : World) →
+    IsLegal w (assignment_of_entry e) → AreLegal w (assignments_of es) →
+    AreLegal w (assignments_of (cond b (e ∷ es) es))
+legal-picked true e es w h i = (h, i)
+legal-picked false e es w h i = i
 
-pub has_all-entries : (keys : List SettingKey) (es : List Staged) (w : World) →
-    HasAll w (assignments_of es) → HasAll w (assignments_of (entries_of keys es))
-has_all-entries keys [] w h = tt
-has_all-entries keys (e ∷ es) w h =
-    has_all-picked (has_key keys e.slot.key) e (entries_of keys es) w h.0 (has_all-entries keys es w h.1)
+pub legal-entries : (keys : List SettingKey) (es : List Staged) (w : World) →
+    AreLegal w (assignments_of es) → AreLegal w (assignments_of (entries_of keys es))
+legal-entries keys [] w h = tt
+legal-entries keys (e ∷ es) w h =
+    legal-picked (has_key keys e.slot.key) e (entries_of keys es) w h.0 (legal-entries keys es w h.1)
 
 -- A setting that no entry has picks none.
 entries_more : (keys : List SettingKey) (key : SettingKey) (es : List Staged) →

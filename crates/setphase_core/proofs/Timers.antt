@@ -8,7 +8,7 @@ use Rattle.setphase_core.specs.Settings.{setting, put, HasSetting, same_setting}
 use Rattle.setphase_core.specs.Together.{assign}
 use Rattle.setphase_core.specs.Staging.{Without, IsDistinct, AreLegal}
 use Rattle.setphase_core.specs.Tested.{value_among}
-use Rattle.setphase_core.proofs.Firsts.{legal_after}
+use Rattle.setphase_core.proofs.Assigns.{legal_after}
 use Rattle.setphase_core.proofs.Puts.{setting-put, keys-kept, same-exact}
 
 without_none : (k : SettingKey) (ps : List Assignment) → Without k ps → value_among ps k ≡ None
@@ -26,7 +26,7 @@ pub setting_assigned : (ps : List Assignment) (w : World) (k : SettingKey) → I
     setting (assign ps w) k ≡ unwrap_or (value_among ps k) (setting w k)
 setting_assigned [] w k distinct legal has = refl
 setting_assigned (p ∷ ps) w k distinct legal has =
-    setting_assigned ps (put w p.key p.value) k distinct.1 (legal_after w ps p.key p.value legal.1) ((keys-kept w p.key k p.value).1 has)
+    setting_assigned ps (put w p.key p.value) k distinct.1 (legal_after w ps p.key p.value legal.0.value legal.1) (keys-kept w p.key k p.value legal.0.value has)
     ∙ ap (unwrap_or (value_among ps k)) (setting-put w p.key k p.value legal.0.key has legal.0.value)
     ∙ by_same (same_setting p.key k) refl
   where

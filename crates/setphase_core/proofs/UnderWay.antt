@@ -174,7 +174,7 @@ module _ (w : World) (os : List ObjectState) (es : List Staged) (t n : ℕ)
     reserved_here = record {
       within = omega (arith, here.within, length-set {A = ObjectState});
       reserved = record {
-        key = (keys-kept w e.slot.key e.slot.key e.slot.value).1 here.reserved.key;
+        key = keys-kept w e.slot.key e.slot.key e.slot.value here.reserved.value here.reserved.key;
         value = range-kept w e.slot.key e.slot.key e.slot.value e.slot.value here.reserved.value;
         place = made.within;
         old = Some (setting w e.slot.key);
@@ -187,7 +187,7 @@ module _ (w : World) (os : List ObjectState) (es : List Staged) (t n : ℕ)
       within = omega (arith, here.within, length-set {A = ObjectState});
       before = setting w e.slot.key;
       committed = record {
-        key = (keys-kept w e.slot.key e.slot.key e.slot.value).1 here.reserved.key;
+        key = keys-kept w e.slot.key e.slot.key e.slot.value here.reserved.value here.reserved.key;
         value = range-kept w e.slot.key e.slot.key e.slot.value (setting w e.slot.key) range;
         place = made.within;
         stands = made.stands;
@@ -201,7 +201,7 @@ module _ (w : World) (os : List ObjectState) (es : List Staged) (t n : ℕ)
         record {
           within = omega (arith, there.within, length-set {A = ObjectState});
           reserved = record {
-            key = (keys-kept w e.slot.key f.slot.key e.slot.value).1 there.reserved.key;
+            key = keys-kept w e.slot.key f.slot.key e.slot.value here.reserved.value there.reserved.key;
             value = range-kept w e.slot.key f.slot.key e.slot.value f.slot.value there.reserved.value;
             place = after.within;
             old = there.reserved.old;
@@ -217,7 +217,7 @@ module _ (w : World) (os : List ObjectState) (es : List Staged) (t n : ℕ)
           within = omega (arith, there.within, length-set {A = ObjectState});
           before = there.before;
           committed = record {
-            key = (keys-kept w e.slot.key f.slot.key e.slot.value).1 there.committed.key;
+            key = keys-kept w e.slot.key f.slot.key e.slot.value here.reserved.value there.committed.key;
             value = range-kept w e.slot.key f.slot.key e.slot.value there.before there.committed.value;
             place = after.within;
             stands = after.stands;
@@ -290,8 +290,9 @@ called fails w v os ns es t n m e less h world objects u =
 
 -- A setting was given a value.
 given : (w : World) (key : SettingKey) (value : SettingValue) (os : List ObjectState)
-    (es : List Staged) (t n : ℕ) → IsUnderWay w os es t n → IsUnderWay (put w key value) os es t n
-given w key value os es t n u = record {
+    (es : List Staged) (t n : ℕ) → IsSettingInRange w key value → IsUnderWay w os es t n →
+    IsUnderWay (put w key value) os es t n
+given w key value os es t n range u = record {
   few = u.few;
   counted = u.counted;
   distinct = u.distinct;
@@ -300,7 +301,7 @@ given w key value os es t n u = record {
       record {
         within = there.within;
         reserved = record {
-          key = (keys-kept w key (entry_at es k).slot.key value).1 there.reserved.key;
+          key = keys-kept w key (entry_at es k).slot.key value range there.reserved.key;
           value = range-kept w key (entry_at es k).slot.key value (entry_at es k).slot.value there.reserved.value;
           place = there.reserved.place;
           old = there.reserved.old;
@@ -313,7 +314,7 @@ given w key value os es t n u = record {
         within = there.within;
         before = there.before;
         committed = record {
-          key = (keys-kept w key (entry_at es k).slot.key value).1 there.committed.key;
+          key = keys-kept w key (entry_at es k).slot.key value range there.committed.key;
           value = range-kept w key (entry_at es k).slot.key value there.before there.committed.value;
           place = there.committed.place;
           stands = there.committed.stands;
@@ -324,11 +325,12 @@ given w key value os es t n u = record {
 -- The last commit was undone.
 pub undone : (w v : World) (os ns : List ObjectState) (es : List Staged) (t n m : ℕ)
     (e : Staged) (value : SettingValue) → m ≤ n → e.object < length os →
+    IsSettingInRange w e.slot.key value →
     v ≡ put w e.slot.key value → ns ≡ after_called false os e →
     IsUnderWay w os es t n → IsUnderWay v ns es t m
-undone w v os ns es t n m e value less h world objects u =
+undone w v os ns es t n m e value less h range world objects u =
     subst (λ x. IsUnderWay x ns es t m) (sym world)
-    (called false (put w e.slot.key value) (put w e.slot.key value) os ns es t n m e less h refl objects (given w e.slot.key value os es t n u))
+    (called false (put w e.slot.key value) (put w e.slot.key value) os ns es t n m e less h refl objects (given w e.slot.key value os es t n range u))
 
 -- ---- by what a call answers
 
@@ -349,7 +351,7 @@ module _ {T E : Type 0} (r : Result T E) (w v : World) (os ns : List ObjectState
           OnOk r (ns ≡ after_called false os e) → OnErr r (v ≡ w) →
           OnErr r (ns ≡ after_called true os e) → IsUnderWay v ns es t m
       by_answer (Ok x) puts kept same failed =
-          undone w v os ns es t n m e there.before less there.within (puts there.before there.committed.stands) kept u
+          undone w v os ns es t n m e there.before less there.within there.committed.value (puts there.before there.committed.stands) kept u
       by_answer (Err x) puts kept same failed =
           called true w v os ns es t n m e less there.within same failed u
 

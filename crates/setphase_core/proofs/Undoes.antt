@@ -2,17 +2,19 @@
 use Rattle.std.proofs.Common.{◌≡◌, ℕ, ◌+◌, ◌-◌, ◌<◌, ◌≤◌, ◌∙◌, sym, ap, subst, refl, zero, suc, false, true, List, [], ◌∷◌, ◌++◌, length, map, take, drop, slice_get, Some, arith, append-nil}
 use Rattle.setting_keys.specs.declared.SettingKey.{SettingKey}
 use Rattle.setting_keys.specs.declared.SettingValue.{SettingValue}
+use Rattle.setphase_core.specs.declared.object.Reservation.{Reservation}
 use Rattle.setphase_core.specs.declared.staging.Staged.{Staged}
 use Rattle.setphase_core.specs.declared.world.World.{World}
-use Rattle.setphase_core.specs.Objects.{ObjectState, committed_reservation, object_after_release, IsByPlan}
-use Rattle.setphase_core.specs.Settings.{setting, put, HasSetting}
-use Rattle.setphase_core.specs.Staging.{object_at, entry_at, assignment_of_entry, assignments_of, IsDistinct, StandsCommitted, AreCommitted, AreCalled, commit_at, undos_at, entries_of}
+use Rattle.setphase_core.specs.Objects.{ObjectState, HasRoom, HasRoomBack, committed_reservation, object_after_release, IsByPlan}
+use Rattle.setphase_core.specs.Settings.{setting, put, IsSettingInRange}
+use Rattle.setphase_core.specs.Staging.{object_at, entry_at, assignment_of_entry, assignments_of, IsDistinct, IsLegal, StandsCommitted, HasRoomFor, AreCommitted, AreCalled, commit_at, undos_at, entries_of}
 use Rattle.setphase_core.specs.Together.{assign}
 use Rattle.setphase_core.proofs.Puts.{keys-kept, range-kept}
-use Rattle.setphase_core.proofs.Assigns.{has_all-taken, has_all-between, put_back, take_last, without_before}
+use Rattle.setphase_core.proofs.Assigns.{legal-taken, legal-between, range-assigned, put_back, take_last, without_before}
 use Rattle.setphase_core.proofs.Called.{called_none}
 use Rattle.setphase_core.proofs.Commits.{after_called, had_key, committed_after_call, called_after_call}
-use Rattle.setphase_core.proofs.Stuck.{entry_keys, entries_none, without_entries, has_all-entries, behind, stay_same, stay_more, undos_same, undos_failed}
+use Rattle.setphase_core.proofs.Room.{room_undo}
+use Rattle.setphase_core.proofs.Stuck.{entry_keys, entries_none, without_entries, legal-entries, behind, stay_same, stay_more, undos_same, undos_failed}
 
 -- What stands while commits are undone: of a world and objects where n entries were committed there
 -- are now others, where m are, and the settings that could not be undone have these keys.
@@ -52,9 +54,9 @@ undo_end w₁ w os₁ os es n m keys e undoes = subst (λ j. Undoes w₁ os₁ e
 
 -- The entries below a place, of those that are committed, where one setting was given a value.
 committed_after_put : (before w v : World) (os : List ObjectState) (es : List Staged)
-    (m k : ℕ) (key : SettingKey) (value : SettingValue) → k ≤ m → v ≡ put w key value →
-    AreCommitted before w os es m → AreCommitted before v os es k
-committed_after_put before w v os es m k key value h world done =
+    (m k : ℕ) (key : SettingKey) (value : SettingValue) → k ≤ m → IsSettingInRange w key value →
+    v ≡ put w key value → AreCommitted before w os es m → AreCommitted before v os es k
+committed_after_put before w v os es m k key value h range world done =
     subst (λ u. AreCommitted before u os es k) (sym world) (record {
       stands = λ j low.
           let there : StandsCommitted before w os (entry_at es j) = done.stands j (omega arith) in
@@ -62,7 +64,7 @@ committed_after_put before w v os es m k key value h world done =
             had = there.had;
             within = there.within;
             committed = record {
-              key = (keys-kept w key (entry_at es j).slot.key value).1 there.committed.key;
+              key = keys-kept w key (entry_at es j).slot.key value range there.committed.key;
               value = range-kept w key (entry_at es j).slot.key value (setting before (entry_at es j).slot.key) there.committed.value;
               place = there.committed.place;
               stands = there.committed.stands;
@@ -83,6 +85,45 @@ module _ (w₁ w v : World) (os₁ os ns : List ObjectState) (es ds : List Stage
     (keys : List SettingKey) (same : ds ≡ es) (distinct : IsDistinct (assignments_of es))
     (high : n ≤ length es) (low : m ≤ n) (one : k + 1 ≡ m)
     (undoes : Undoes w₁ os₁ es n w os m keys) where
+  -- The world in which the setting of the last commit has its old value back.
+  put_old_is : (before : World) → AreCommitted before w₁ os₁ es n →
+      w₁ ≡ assign (take n (assignments_of es)) before →
+      put w (entry_at es k).slot.key (setting before (entry_at es k).slot.key)
+      ≡ assign (take k (assignments_of es) ++ assignments_of (entries_of keys (drop m (take n es)))) before
+  put_old_is before done was =
+      let e = entry_at es k in
+      let had : (j : ℕ) → j < n → IsLegal before (assignment_of_entry (entry_at es j)) = had_key before w₁ os₁ es n done in
+      let is = undoes.world before done was in
+      let range : IsSettingInRange before (entry_at es k).slot.key (setting before (entry_at es k).slot.key)
+      = range-assigned (take m (assignments_of es) ++ assignments_of (entries_of keys (drop m (take n es)))) before e.slot.key (setting before e.slot.key)
+      (subst (λ (x : World). IsSettingInRange x e.slot.key (setting before e.slot.key)) is ((undoes.stands before done).stands k (omega arith)).committed.value) in
+      ap (λ u. put u e.slot.key (setting before e.slot.key)) (is ∙ ap (λ ps. assign ps before) (take_last es m k (assignments_of (entries_of keys (drop m (take n es)))) one (omega arith)))
+      ∙ put_back (take k (assignments_of es)) (assignments_of (entries_of keys (drop m (take n es)))) before (assignment_of_entry e)
+      (without_before es k distinct (omega arith))
+      (without_entries keys (drop m (take n es)) e.slot.key (behind es k m n one low high distinct))
+      (legal-taken es k before (omega arith) (λ j less. had j (omega arith)))
+      (legal-entries keys (drop m (take n es)) before (legal-between es m n before (legal-taken es n before high had)))
+      (had k (omega arith)) range
+
+  -- There is memory for that.
+  pub undo_room : (before : World) → AreCommitted before w₁ os₁ es n →
+      w₁ ≡ assign (take n (assignments_of es)) before → HasRoomFor before (assignments_of es) →
+      HasRoomBack w (object_at os (entry_at ds (m - 1)).object) (entry_at ds (m - 1)).slot
+  undo_room before done was room =
+      let e = entry_at es k in
+      let at : entry_at ds (m - 1) ≡ entry_at es k = last_is es ds m k same one in
+      let stood = ((undoes.stands before done).stands k (omega arith)).committed.stands in
+      subst (λ (z : Staged). HasRoomBack w (object_at os z.object) z.slot) (sym at) (λ old there.
+      let is : setting before (entry_at es k).slot.key ≡ old = same_old (setting before e.slot.key) old (sym stood ∙ there) in
+      subst (HasRoom w e.slot.key) is
+      (room_undo before w es (take m (assignments_of es) ++ assignments_of (entries_of keys (drop m (take n es)))) k m n keys (setting before e.slot.key) room (undoes.world before done was) (omega arith) (omega arith) (put_old_is before done was)))
+    where
+      same_old : (u v : SettingValue) → Some (committed_reservation (entry_at es k).slot u) ≡ Some (committed_reservation (entry_at es k).slot v) → u ≡ v
+      same_old u v e =
+          let same : committed_reservation (entry_at es k).slot u ≡ committed_reservation (entry_at es k).slot v = cc in
+          let olds : Some u ≡ Some v = ap (λ (r : Reservation). r.old) same in
+          cc
+
   -- The last commit was undone.
   pub undo_step : (entry_at ds (m - 1)).object < length os →
       ns ≡ after_called false os (entry_at ds (m - 1)) →
@@ -100,18 +141,11 @@ module _ (w₁ w v : World) (os₁ os ns : List ObjectState) (es ds : List Stage
       = λ before done.
       subst (λ (z : Staged). slice_get (object_at os z.object).reserved z.slot.place ≡ Some (committed_reservation z.slot (setting before e.slot.key)) → v ≡ put w z.slot.key (setting before e.slot.key)) at (puts (setting before e.slot.key)) ((undoes.stands before done).stands k (omega arith)).committed.stands in
       record {
-        stands = λ before done. committed_after_put before w v ns es m k e.slot.key (setting before e.slot.key) (omega arith) (put_old before done) (committed_after_call false before w w os ns es m (entry_at ds (m - 1)) within refl objects (undoes.stands before done));
+        stands = λ before done. committed_after_put before w v ns es m k e.slot.key (setting before e.slot.key) (omega arith) ((undoes.stands before done).stands k (omega arith)).committed.value (put_old before done) (committed_after_call false before w w os ns es m (entry_at ds (m - 1)) within refl objects (undoes.stands before done));
         told = undoes.told ∙ ap entry_keys (sym stay);
         world = λ before done was.
-            let had : (j : ℕ) → j < n → HasSetting before (entry_at es j).slot.key = had_key before w₁ os₁ es n done in
             put_old before done
-            ∙ ap (λ u. put u e.slot.key (setting before e.slot.key)) (undoes.world before done was ∙ ap (λ ps. assign ps before) (take_last es m k (assignments_of (entries_of keys (drop m (take n es)))) one (omega arith)))
-            ∙ put_back (take k (assignments_of es)) (assignments_of (entries_of keys (drop m (take n es)))) before (assignment_of_entry e)
-            (without_before es k distinct (omega arith))
-            (without_entries keys (drop m (take n es)) e.slot.key (behind es k m n one low high distinct))
-            (has_all-taken es k before (omega arith) (λ j less. had j (omega arith)))
-            (has_all-entries keys (drop m (take n es)) before (has_all-between es m n before (has_all-taken es n before high had)))
-            (had k (omega arith))
+            ∙ put_old_is before done was
             ∙ ap (λ xs. assign (take k (assignments_of es) ++ assignments_of xs) before) (sym stay);
         called = subst (λ cs. AreCalled cs (map object_after_release os₁) (map object_after_release ns)) (ap (λ (z : Staged). undos_at keys (drop m (take n es)) ++ commit_at false z ∷ []) at ∙ undos_same es k m n one low high distinct keys undoes.told) (called_after_call false os ns (map object_after_release os₁) (undos_at keys (drop m (take n es))) (entry_at ds (m - 1)) objects planned undoes.called);
       }

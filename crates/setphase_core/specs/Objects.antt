@@ -1,12 +1,23 @@
 -- What a managed object is, as plain data, and what a Set does to it (RFC 3416, 4.2.5).
 use Rattle.std.specs.Prelude.{◌≡◌, ℕ, ◌+◌, ◌<◌, Bool, true, false, List, [], ◌∷◌, ◌++◌, length, slice_get, slice_set, Option, Some, None}
+use Rattle.bridge_core.specs.Statics.{is_made, allowed, HasPlaceFrom}
+use Rattle.setting_keys.specs.declared.SettingKey.{SettingKey}
+use Rattle.setting_keys.specs.declared.SettingKey.TheVariants.{Bridge, Made, Allowed}
 use Rattle.setting_keys.specs.declared.SettingValue.{SettingValue}
+use Rattle.setting_keys.specs.declared.SettingValue.TheVariants.{Number, Ports}
 use Rattle.setphase_core.specs.declared.column.Column.{Column}
 use Rattle.setphase_core.specs.declared.object.Reservation.{Reservation}
 use Rattle.setphase_core.specs.declared.object.Slot.{Slot}
 use Rattle.setphase_core.specs.declared.world.World.{World}
 use Rattle.setphase_core.specs.Plans.{plan_after_call, plan_after_arm, FollowsPlan}
-use Rattle.setphase_core.specs.Settings.{HasSetting, IsSettingInRange}
+use Rattle.setphase_core.specs.Settings.{HasSetting, IsSettingInRange, made_by}
+
+-- There is memory to give a setting a value: where that brings in a static row, there is a place for
+-- it among those that the static table is sure of. Any other put takes no memory.
+abbrev pub HasRoom : World → SettingKey → SettingValue → Type 0
+HasRoom w (Made i) (Number n) = HasPlaceFrom w.bridge i (made_by n) (allowed w.bridge i)
+HasRoom w (Allowed i) (Ports s) = HasPlaceFrom w.bridge i (is_made w.bridge i) s
+HasRoom w k v = Unit {0}
 
 -- An object's row: its name, and what it shows.
 pub record ObjectRow : Type 0 where
@@ -77,6 +88,12 @@ pub record IsReserved (w : World) (o : ObjectState) (slot : Slot) : Type 0 where
   pub place : slot.place < length o.reserved
   pub old : Option SettingValue
   pub stands : slice_get o.reserved slot.place ≡ Some (reservation_of slot old)
+
+-- There is memory to give the setting of a committed slot its old value back.
+abbrev pub HasRoomBack : World → ObjectState → Slot → Type 0
+HasRoomBack w o slot =
+    (old : SettingValue) → slice_get o.reserved slot.place ≡ Some (committed_reservation slot old)
+    → HasRoom w slot.key old
 
 -- The slot was committed over an old value, which its setting may get again.
 pub record IsCommitted (w : World) (o : ObjectState) (slot : Slot) (old : SettingValue) :

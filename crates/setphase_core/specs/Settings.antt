@@ -1,7 +1,13 @@
 -- The settings of a world as one finite map from keys to values (RFC 4188, RFC 4318; IEEE
--- 802.1D-2004 17.13, 17.14).
-use Rattle.std.specs.Prelude.{◌≡◌, Bool, true, false, ◌==◌, ◌&&◌, List, map}
+-- 802.1D-2004 7.9.1, 17.13, 17.14).
+use Rattle.std.specs.Prelude.{◌≡◌, ℕ, ◌≤◌, Bool, true, false, not, ◌==◌, ◌&&◌, if◌then◌else◌, List, map}
 use Rattle.std.specs.Cmp.Lexicographic.{pointwise}
+use Rattle.std.specs.Ordering.{is_eq}
+use Rattle.fdb_core.specs.declared.port_set.PortSet.{PortSet}
+use Rattle.fdb_core.specs.declared.static_row.StaticIndex.{StaticIndex}
+use Rattle.fdb_core.specs.declared.static_row.StaticRow.{StaticRow}
+use Rattle.fdb_core.specs.PortSets.{IsOfPorts}
+use Rattle.fdb_core.specs.Statics.{index_cmp}
 use Rattle.rstp_settings.specs.Table.{Table, get, HasKey, IsInRange, same_key}
 use Rattle.rstp_settings.specs.declared.key.Key.{Key}
 use Rattle.rstp_settings.specs.declared.key.Key.TheVariants as key
@@ -9,33 +15,79 @@ use Rattle.rstp_settings.specs.declared.key.PortKey.TheVariants as port
 use Rattle.rstp_settings.specs.declared.key.BridgeValues.{BridgeValues}
 use Rattle.rstp_settings.specs.declared.key.PortValues.{PortValues}
 use Rattle.setting_keys.specs.declared.SettingKey.{SettingKey}
-use Rattle.setting_keys.specs.declared.SettingKey.TheVariants.{Bridge}
+use Rattle.setting_keys.specs.declared.SettingKey.TheVariants.{Bridge, Made, Allowed}
 use Rattle.setting_keys.specs.declared.SettingValue.{SettingValue}
-use Rattle.setting_keys.specs.declared.SettingValue.TheVariants.{Number}
+use Rattle.setting_keys.specs.declared.SettingValue.TheVariants.{Number, Ports}
+use Rattle.bridge_core.specs.Bridge.{BridgeState, port_count}
 use Rattle.bridge_core.specs.Events.{set_bridge}
+use Rattle.bridge_core.specs.Statics.{is_made, allowed, set_made, set_allowed, HasStatics}
+use Rattle.bridge_core.specs.StaticIndexes.{IsStaticIndex}
 use Rattle.setphase_core.specs.declared.world.World.{World}
+
+-- There may be a static row of the index, and the static rows are in order, each of the bridge's
+-- ports, and each made or with not all ports.
+pub record HasStaticSetting (b : BridgeState) (i : StaticIndex) : Type 0 where
+  pub index : IsStaticIndex b i
+  pub rows : HasStatics b
 
 -- There is such a setting.
 abbrev pub HasSetting : World → SettingKey → Type 0
 HasSetting w (Bridge k) = HasKey w.bridge.settings k
+HasSetting w (Made i) = HasStaticSetting w.bridge i
+HasSetting w (Allowed i) = HasStaticSetting w.bridge i
+
+-- Whether a row is made, as the number that its setting has, and by that number.
+abbrev pub made_number : Bool → ℕ
+made_number made = if made then 1 else 0
+
+abbrev pub made_by : ℕ → Bool
+made_by n = n == 1
 
 -- The value that it has.
 abbrev pub setting : World → SettingKey → SettingValue
 setting w (Bridge k) = Number (get w.bridge.settings k)
+setting w (Made i) = Number (made_number (is_made w.bridge i))
+setting w (Allowed i) = Ports (allowed w.bridge i)
 
--- The world after it was given a value: nothing else changed.
+-- The world after it was given a value: nothing else changed. A value of another kind changes
+-- nothing.
 abbrev pub put : World → SettingKey → SettingValue → World
 put w (Bridge k) (Number n) = record w { bridge = set_bridge k n w.bridge }
+put w (Bridge k) (Ports s) = w
+put w (Made i) (Number n) = record w { bridge = set_made i (made_by n) w.bridge }
+put w (Made i) (Ports s) = w
+put w (Allowed i) (Number n) = w
+put w (Allowed i) (Ports s) = record w { bridge = set_allowed i s w.bridge }
 
 -- A value that it may have in a world.
 abbrev pub IsSettingInRange : World → SettingKey → SettingValue → Type 0
 IsSettingInRange w (Bridge k) (Number n) = IsInRange k n
+IsSettingInRange w (Bridge k) (Ports s) = ⊥
+IsSettingInRange w (Made i) (Number n) = n ≤ 1
+IsSettingInRange w (Made i) (Ports s) = ⊥
+IsSettingInRange w (Allowed i) (Number n) = ⊥
+IsSettingInRange w (Allowed i) (Ports s) = IsOfPorts (port_count w.bridge) s
+
+abbrev pub same_index : StaticIndex → StaticIndex → Bool
+same_index i j = is_eq (index_cmp i j)
 
 abbrev pub same_setting : SettingKey → SettingKey → Bool
 same_setting (Bridge k) (Bridge l) = same_key k l
+same_setting (Made i) (Made j) = same_index i j
+same_setting (Allowed i) (Allowed j) = same_index i j
+same_setting k l = false
+
+-- Sets are the same where each port is in both or in none.
+abbrev pub same_bool : Bool → Bool → Bool
+same_bool a b = if a then b else not b
+
+abbrev pub same_ports : PortSet → PortSet → Bool
+same_ports s t = pointwise same_bool s.0 t.0
 
 abbrev pub same_value : SettingValue → SettingValue → Bool
 same_value (Number n) (Number m) = n == m
+same_value (Ports s) (Ports t) = same_ports s t
+same_value u v = false
 
 -- The keys of a bridge's settings, among those of all.
 abbrev pub bridge_keys : List Key → List SettingKey
@@ -49,6 +101,12 @@ is_line other = false
 
 abbrev pub IsLine : SettingKey → Type 0
 IsLine k = is_line k ≡ true
+
+-- A setting of a static row: only such a one may take memory to be given a value.
+abbrev pub is_static : SettingKey → Bool
+is_static (Bridge k) = false
+is_static (Made i) = true
+is_static (Allowed i) = true
 
 -- ---- the settings of whole worlds
 
@@ -68,14 +126,28 @@ abbrev pub same_settings : Table → Table → Bool
 same_settings a b =
     same_bridge_values a.bridge b.bridge && pointwise same_port_values a.ports b.ports
 
+abbrev pub same_static_row : StaticRow → StaticRow → Bool
+same_static_row r s =
+    same_index r.index s.index && (same_bool r.made s.made && same_ports r.ports s.ports)
+
+-- The same static rows.
+abbrev pub same_static_rows : List StaticRow → List StaticRow → Bool
+same_static_rows rows others = pointwise same_static_row rows others
+
 -- Each setting has the same value in both worlds.
 abbrev pub same_settings_of : World → World → Bool
-same_settings_of v w = same_settings v.bridge.settings w.bridge.settings
+same_settings_of v w =
+    same_settings v.bridge.settings w.bridge.settings
+    && same_static_rows v.bridge.statics.rows w.bridge.statics.rows
+
+-- The same world but for its bridge's settings, and but for its static rows.
+abbrev pub with_settings : World → Table → World
+with_settings w t = record w { bridge = record w.bridge { settings = t } }
+
+abbrev pub with_rows : World → List StaticRow → World
+with_rows w rows =
+    record w { bridge = record w.bridge { statics = record w.bridge.statics { rows = rows } } }
 
 -- The same world but for its settings, which are those of another.
 abbrev pub with_settings_of : World → World → World
-with_settings_of v w = record w { bridge = record w.bridge { settings = v.bridge.settings } }
-
--- The same world but for its bridge's settings.
-abbrev pub with_settings : World → Table → World
-with_settings w t = record w { bridge = record w.bridge { settings = t } }
+with_settings_of v w = with_rows (with_settings w v.bridge.settings) v.bridge.statics.rows

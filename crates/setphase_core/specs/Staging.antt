@@ -1,5 +1,5 @@
 -- One Set while it is being made: what is staged, and what stands between the calls.
-use Rattle.std.specs.Prelude.{◌≡◌, ℕ, ◌<◌, ◌≤◌, ◌≢◌, Bool, true, false, List, [], ◌∷◌, ◌++◌, map, filter, length, reverse, slice_index_or, slice_set, take, Option, Some, None}
+use Rattle.std.specs.Prelude.{◌≡◌, ℕ, ◌+◌, ◌<◌, ◌≤◌, ◌≢◌, Bool, true, false, List, [], ◌∷◌, ◌++◌, if◌then◌else◌, map, filter, length, reverse, slice_index_or, slice_set, take, Option, Some, None}
 use Rattle.rstp_settings.specs.declared.key.Key.TheVariants as key
 use Rattle.rstp_settings.specs.declared.key.BridgeKey.TheVariants as bridge
 use Rattle.setting_keys.specs.declared.SettingKey.{SettingKey}
@@ -11,7 +11,7 @@ use Rattle.setphase_core.specs.declared.column.Base.TheVariants as base
 use Rattle.setphase_core.specs.declared.column.Column.TheVariants as column
 use Rattle.setphase_core.specs.declared.object.Assignment.{Assignment}
 use Rattle.setphase_core.specs.declared.staging.Staged.{Staged}
-use Rattle.setphase_core.specs.Settings.{setting, HasSetting, IsSettingInRange}
+use Rattle.setphase_core.specs.Settings.{setting, HasSetting, IsSettingInRange, is_static}
 use Rattle.setphase_core.specs.Objects.{ObjectState, IsReserved, IsCommitted, object_called, IsByPlan}
 use Rattle.setphase_core.specs.Together.{assign}
 use Rattle.setphase_core.specs.Outcomes.{has_key}
@@ -66,6 +66,17 @@ abbrev pub AreLegal : World → List Assignment → Type 0
 AreLegal w [] = Unit {0}
 AreLegal w (a ∷ ps) = IsLegal w a × AreLegal w ps
 
+-- How many assignments are to settings of static rows: each brings in one row at most.
+abbrev pub static_count : List Assignment → ℕ
+static_count [] = 0
+static_count (a ∷ ps) = (if is_static a.key then 1 else 0) + static_count ps
+
+-- There is memory for all static rows that assignments may bring in.
+abbrev pub HasRoomFor : World → List Assignment → Type 0
+HasRoomFor w ps =
+    0 < static_count ps
+    → length w.bridge.statics.rows + static_count ps ≤ w.bridge.statics.places
+
 -- The slot of an entry is reserved at its object.
 pub record StandsReserved (w : World) (os : List ObjectState) (e : Staged) : Type 0 where
   pub within : e.object < length os
@@ -77,10 +88,11 @@ pub record StandsUndoable (w : World) (os : List ObjectState) (e : Staged) : Typ
   pub before : SettingValue
   pub committed : IsCommitted w (object_at os e.object) e.slot before
 
--- The same, over the value that its setting has in a world of before, which has that setting.
+-- The same, over the value that its setting has in a world of before, where the setting is and may
+-- have the new value.
 pub record StandsCommitted (before w : World) (os : List ObjectState) (e : Staged) :
     Type 0 where
-  pub had : HasSetting before e.slot.key
+  pub had : IsLegal before (assignment_of_entry e)
   pub within : e.object < length os
   pub committed : IsCommitted w (object_at os e.object) e.slot (setting before e.slot.key)
 
@@ -151,3 +163,11 @@ pub record HasFailed (before w : World) (os : List ObjectState) (es : List Stage
   pub within : i < length es
   pub world : w ≡ assign (take i (assignments_of es)) before
   pub stands : AreCommitted before w os es i
+
+-- So many commits may be undone: they were made over the settings of a world of before, where there
+-- was memory for all that is staged.
+pub record MayUndo (before w : World) (os : List ObjectState) (es : List Staged) (n : ℕ) :
+    Type 0 where
+  pub world : w ≡ assign (take n (assignments_of es)) before
+  pub stands : AreCommitted before w os es n
+  pub room : HasRoomFor before (assignments_of es)

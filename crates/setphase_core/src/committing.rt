@@ -4,7 +4,7 @@ ghost use Rattle.setphase_core.specs.declared.world.World.{World as AnyWorld};
 ghost use Rattle.setphase_core.specs.Objects.{object_after_release};
 ghost use Rattle.setphase_core.specs.Settings.{bridge_keys, IsLine};
 ghost use Rattle.setphase_core.specs.Together.{assign};
-ghost use Rattle.setphase_core.specs.Staging.{assignments_of, IsUnderWay, AreCommitted, HasFailed, AreCalled, commits_at, undos_at, entries_of};
+ghost use Rattle.setphase_core.specs.Staging.{assignments_of, IsUnderWay, AreCommitted, HasFailed, HasRoomFor, MayUndo, AreCalled, commits_at, undos_at, entries_of};
 
 use crate::object::MibObject;
 use crate::staging::Staging;
@@ -19,6 +19,7 @@ pub(crate) fn commit_all<O: MibObject>(
     requires none { staging.old.committed ≡ 0 }
     requires under_way { IsUnderWay world.old staging.old.registry.now staging.old.staged.items
         staging.old.tested staging.old.committed }
+    requires room { HasRoomFor world.old (assignments_of staging.old.staged.items) }
     ensures under_way { IsUnderWay world.new staging.new.registry.now staging.new.staged.items
         staging.new.tested staging.new.committed }
     ensures same_reference { staging.new.registry.ghost_name ≡ staging.old.registry.ghost_name }
@@ -49,14 +50,17 @@ fn put_line(keys: &mut SettingKeys, key: SettingKey)
 {
     match key {
         SettingKey::Bridge(key) => keys.put_first(key),
+        SettingKey::Made(_) | SettingKey::Allowed(_) => unreachable!(),
     }
 }
 
 /// Undoes all commits, and answers the settings whose undoing failed, in the order of their
 /// variables.
 pub(crate) fn undo_all<O: MibObject>(staging: &mut Staging<'_, O>, world: &mut World) -> SettingKeys
-    requires { IsUnderWay world.old staging.old.registry.now staging.old.staged.items
+    requires under_way { IsUnderWay world.old staging.old.registry.now staging.old.staged.items
         staging.old.tested staging.old.committed }
+    requires may { (before : AnyWorld) × MayUndo before world.old staging.old.registry.now
+        staging.old.staged.items staging.old.committed }
     ensures same_reference { staging.new.registry.ghost_name ≡ staging.old.registry.ghost_name }
     ensures staged { staging.new.staged.items ≡ staging.old.staged.items }
     ensures keys { bridge_keys result ≡ map (λ e. e.slot.key) (entries_of (bridge_keys result)

@@ -1,13 +1,15 @@
 //! Laws of worlds, of what they show, and of lists of objects. Each function does nothing: its
 //! contract is the law.
-ghost use Rattle.std.specs.Prelude.{◌≡◌, ◌≢◌, ◌↔◌, ◌≤◌, ◌<◌, ℕ, Bool, if◌then◌else◌, List, length, filter, None, IsTrue};
+ghost use Rattle.std.specs.Prelude.{◌≡◌, ◌≢◌, ◌↔◌, ◌≤◌, ◌<◌, ℕ, Bool, if◌then◌else◌, List, length, filter, None, IsTrue, true};
 ghost use Rattle.std.specs.List.{count_by};
 ghost use Rattle.community_core.specs.Communities.{PolicyTables};
+ghost use Rattle.fdb_core.specs.declared.static_row.StaticRow.{StaticRow};
+ghost use Rattle.bridge_core.specs.Statics.{HasStatics};
 ghost use Rattle.message_core.specs.Instances.{IsRising};
 ghost use Rattle.rstp_settings.specs.Table.{Table};
 ghost use Rattle.setting_keys.specs.declared.SettingKey.{SettingKey};
 ghost use Rattle.setting_keys.specs.declared.SettingValue.{SettingValue};
-ghost use Rattle.setphase_core.specs.Settings.{setting, put, HasSetting, IsSettingInRange, same_setting, with_settings};
+ghost use Rattle.setphase_core.specs.Settings.{setting, put, HasSetting, IsSettingInRange, same_setting, is_static, with_settings, with_rows};
 ghost use Rattle.setphase_core.specs.declared.world.World.{World};
 ghost use Rattle.setphase_core.specs.Objects.{ObjectRow};
 ghost use Rattle.setphase_core.specs.Names.{bridge_rows};
@@ -37,10 +39,10 @@ pub fn put_again_changes_nothing()
     ensures { (w : World) (k : SettingKey) → HasSetting w k → put w k (setting w k) ≡ w }
 {}
 
-/// A put makes no setting and takes none away.
+/// A put of a value in range takes no setting away.
 pub fn put_keeps_keys()
-    ensures { (w : World) (k l : SettingKey) (v : SettingValue)
-        → HasSetting (put w k v) l ↔ HasSetting w l }
+    ensures { (w : World) (k l : SettingKey) (v : SettingValue) → IsSettingInRange w k v
+        → HasSetting w l → HasSetting (put w k v) l }
 {}
 
 /// Two settings are the same where their keys are equal.
@@ -54,17 +56,22 @@ pub fn put_back_restores()
         → put (put w k v) k (setting w k) ≡ w }
 {}
 
-/// Two settings of different keys may be put in either order.
+/// Two settings of different keys may be put in either order, where the values are in range.
 pub fn puts_commute()
     ensures { (w : World) (k l : SettingKey) (v u : SettingValue) → k ≢ l → HasSetting w k
-        → HasSetting w l → put (put w k v) l u ≡ put (put w l u) k v }
+        → HasSetting w l → IsSettingInRange w k v → IsSettingInRange w l u
+        → put (put w k v) l u ≡ put (put w l u) k v }
 {}
 
-/// Settings that agree on every key are equal.
+/// Settings that agree on every key are equal: those of a bridge, and static rows that are in order,
+/// of the bridge's ports, and each made or with not all ports.
 pub fn equal_on_every_key()
-    ensures { (w : World) (t : Table) → length t.ports ≡ length w.bridge.settings.ports
+    ensures bridge { (w : World) (t : Table) → length t.ports ≡ length w.bridge.settings.ports
         → ((k : SettingKey) → HasSetting w k → setting (with_settings w t) k ≡ setting w k)
         → with_settings w t ≡ w }
+    ensures statics { (w : World) (rows : List StaticRow) → HasStatics (with_rows w rows).bridge
+        → HasStatics w.bridge → ((k : SettingKey) → is_static k ≡ true
+        → setting (with_rows w rows) k ≡ setting w k) → with_rows w rows ≡ w }
 {}
 
 /// Of the names of objects that make a registry none begins another.

@@ -26,7 +26,8 @@
 //! [`MAX_PATH_COST`], [`MAX_INFO`].
 //!
 //! # Definitions
-//! `specs/Settings.antt`: the settings of a world as a finite map; `specs/Flat.antt`: a policy as
+//! `specs/Settings.antt`: the settings of a world as a finite map, those of its bridge and of its
+//! static rows; `specs/Flat.antt`: a policy as
 //! its rows; `specs/Columns.antt`: what each object shows, row by row; `specs/Writing.antt`: how
 //! each is written; `specs/Names.antt`: the objects' names; `specs/Values.antt`: values by index;
 //! `specs/Objects.antt`: an object as plain data; `specs/Plans.antt`: which of the next calls of
@@ -47,7 +48,8 @@
 //! [`assignment_by`], and `specs/Writing.antt`. The laws of settings are proved by kind in
 //! `proofs/Puts.antt`, that what is tested is legal in `proofs/Ranges.antt`, and that the same
 //! settings are equal in `proofs/Same.antt`. A setting that a device holds: `is_line` of
-//! `specs/Settings.antt`. Beside these the timers (`specs/Together.antt`, `src/sets.rt`) and what
+//! `specs/Settings.antt`. A put that may take memory: `is_static` there, `HasRoom` of
+//! `specs/Objects.antt`, and `proofs/Room.antt`. Beside these the timers (`specs/Together.antt`, `src/sets.rt`) and what
 //! could not be undone (`src/committing.rt`) go by kinds of keys, and say of a new one that it is
 //! none of theirs.
 //!
@@ -67,8 +69,9 @@
 //! the devices are called, but where it shows in which calls of one plan failed: of two objects, and
 //! of calls of which the plan says the same, no clause tells. That a step of `owner_steps` is a
 //! comparison: the clauses say how many there are at least and at most. Which number a call leaves
-//! for the next one as `near`. That the objects of a program are the 51. dot1dStaticTable (RFC 4188,
-//! 1.3.6.1.2.1.17.5.1) is left out: no address is configured, so it would have no rows.
+//! for the next one as `near`. That the objects of a program are the 51. No object shows or writes
+//! a static row so far (RFC 4188, dot1dStaticTable, 1.3.6.1.2.1.17.5.1): their settings are here, and
+//! no Set stages one.
 #![tactic(auto)]
 
 mod boxed;

@@ -85,7 +85,7 @@ pub struct DeviceFault;
 /// for the Set that is being made. None of its calls changes what it shows of a given world.
 pub trait MibObject: Drop {
     ghost use Rattle.setting_keys.specs.declared.SettingValue.{SettingValue as AnySetting};
-    ghost use Rattle.setphase_core.specs.Objects.{ObjectState, IsReserved, IsCommitted, IsByPlan, reserve, after_call, object_after_arm, object_after_commit, object_after_release, object_after_failure, committed_reservation};
+    ghost use Rattle.setphase_core.specs.Objects.{ObjectState, IsReserved, IsCommitted, HasRoom, HasRoomBack, IsByPlan, reserve, after_call, object_after_arm, object_after_commit, object_after_release, object_after_failure, committed_reservation};
     ghost use Rattle.setphase_core.specs.Settings.{setting, put, IsSettingInRange, IsLine};
     ghost use Rattle.setphase_core.specs.Columns.{shown_by};
     ghost use Rattle.setphase_core.specs.Values.{value_at, index_after};
@@ -122,14 +122,16 @@ pub trait MibObject: Drop {
         ensures refused { OnErr result (state self.new ≡ state self.old) };
 
     /// Gives the setting of a reserved slot its value, and keeps the one before. It takes no
-    /// memory. It is one call of the object's device, if it has one.
+    /// memory: where it brings in a static row, there is a place for it. It is one call of the
+    /// object's device, if it has one.
     ///
     /// # Errors
     /// The object's device did not take it: its failures are one more, and nothing else changed but
     /// its plan. Where it has a plan, it fails exactly where that says so. Only a setting that a
     /// device holds can fail.
     fn commit(&mut self, world: &mut World, slot: Slot) -> Result<(), DeviceFault>
-        requires { IsReserved world.old (state self.old) slot }
+        requires reserved { IsReserved world.old (state self.old) slot }
+        requires room { HasRoom world.old slot.key slot.value }
         ensures put { OnOk result (world.new ≡ put world.old slot.key slot.value) }
         ensures kept { OnOk result
             (state self.new ≡ object_after_commit (state self.old) slot
@@ -143,13 +145,15 @@ pub trait MibObject: Drop {
         ensures line { OnErr result (IsLine slot.key) };
 
     /// Gives the setting of a committed slot back what it had before the commit, whatever became of
-    /// other settings since. It takes no memory. It is one call of the object's device, if it has
-    /// one.
+    /// other settings since. It takes no memory: where it brings in a static row, there is a place
+    /// for it. It is one call of the object's device, if it has one.
     ///
     /// # Errors
     /// As of `commit`.
     fn undo(&mut self, world: &mut World, slot: Slot) -> Result<(), DeviceFault>
-        requires { (before : AnySetting) × IsCommitted world.old (state self.old) slot before }
+        requires committed { (before : AnySetting)
+            × IsCommitted world.old (state self.old) slot before }
+        requires room { HasRoomBack world.old (state self.old) slot }
         ensures put { OnOk result ((before : AnySetting)
             → slice_get (state self.old).reserved slot.place
             ≡ Some (committed_reservation slot before)

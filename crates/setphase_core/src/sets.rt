@@ -74,7 +74,7 @@ fn is_timer(key: SettingKey) -> bool
                 BridgeKey::MaxAge | BridgeKey::Hello | BridgeKey::ForwardDelay
             )
         }
-        SettingKey::Bridge(Key::Port(..)) => false,
+        SettingKey::Bridge(Key::Port(..)) | SettingKey::Made(_) | SettingKey::Allowed(_) => false,
     }
 }
 
@@ -200,6 +200,7 @@ fn timer_after(world: &World, staged: &[Staged], key: BridgeKey) -> u64
 {
     match value_after(world, staged, SettingKey::Bridge(Key::Bridge(key))) {
         SettingValue::Number(number) => u64::from(number),
+        SettingValue::Ports(_) => unreachable!(),
     }
 }
 

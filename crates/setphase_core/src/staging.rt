@@ -3,7 +3,7 @@
 ghost use Rattle.std.specs.Prelude.{◌≡◌, ◌+◌, ◌-◌, ◌≤◌, ◌<◌, true, false, [], length, map, slice_get, slice_set, Some, OnOk, OnErr, IfOk, IfErr};
 ghost use Rattle.setting_keys.specs.declared.SettingValue.{SettingValue as AnySetting};
 ghost use Rattle.setphase_core.specs.declared.world.World.{World as AnyWorld};
-ghost use Rattle.setphase_core.specs.Objects.{after_call, object_after_release, object_after_commit, committed_reservation, object_after_failure, IsByPlan};
+ghost use Rattle.setphase_core.specs.Objects.{after_call, object_after_release, object_after_commit, committed_reservation, object_after_failure, HasRoom, HasRoomBack, IsByPlan};
 ghost use Rattle.setphase_core.specs.Settings.{put, setting, IsSettingInRange, IsLine};
 ghost use Rattle.setphase_core.specs.declared.object.SetFault.TheVariants.{ResourceUnavailable};
 ghost use Rattle.setphase_core.specs.Staging.{object_at, entry_at, assignments_of, IsUnderWay};
@@ -63,7 +63,7 @@ pub struct Staged {
 ///
 /// What its calls need of it beside what they name is one condition, `IsUnderWay`, of a Set and of
 /// the world that it is made in: it holds of a new one in every world, each call keeps it, and who
-/// calls hands it on.
+/// calls hands it on. A commit or an undo that brings in a static row needs a place for that too.
 pub struct Staging<'a, O: MibObject> {
     pub(crate) registry: &'a mut Registry<O>,
     pub(crate) staged: ArrayVec<Staged, MAX_VARIABLES>,
@@ -72,6 +72,7 @@ pub struct Staging<'a, O: MibObject> {
 }
 
 /// The value that a setting is to get, where a slot is staged for it.
+#[tactic(auto, using(crate::proofs::Equal::key_equal))]
 pub(crate) fn value_among(staged: &[Staged], key: SettingKey) -> Option<SettingValue>
     ensures { result ≡ value_among (assignments_of staged.now) key }
 {
@@ -84,6 +85,7 @@ pub(crate) fn value_among(staged: &[Staged], key: SettingKey) -> Option<SettingV
 }
 
 // What a slot is to those that are staged.
+#[tactic(auto, using(crate::proofs::Equal::value_equal))]
 fn standing_of(staged: &[Staged], slot: Slot) -> Standing
     ensures { result
         ≡ standing_by (value_among (assignments_of staged.now) slot.key) slot.value }
@@ -209,6 +211,8 @@ impl<'a, O: MibObject> Staging<'a, O> {
         requires pending { self.old.committed < length self.old.staged.items }
         requires under_way { IsUnderWay world.old self.old.registry.now self.old.staged.items
             self.old.tested self.old.committed }
+        requires room { let e = entry_at self.old.staged.items self.old.committed in
+            HasRoom world.old e.slot.key e.slot.value }
         ensures under_way { IsUnderWay world.new self.new.registry.now self.new.staged.items
             self.new.tested self.new.committed }
         ensures same_reference { self.new.registry.ghost_name ≡ self.old.registry.ghost_name }
@@ -249,6 +253,8 @@ impl<'a, O: MibObject> Staging<'a, O> {
         requires pending { 0 < self.old.committed }
         requires under_way { IsUnderWay world.old self.old.registry.now self.old.staged.items
             self.old.tested self.old.committed }
+        requires room { let e = entry_at self.old.staged.items (self.old.committed - 1) in
+            HasRoomBack world.old (object_at self.old.registry.now e.object) e.slot }
         ensures under_way { IsUnderWay world.new self.new.registry.now self.new.staged.items
             self.new.tested self.new.committed }
         ensures same_reference { self.new.registry.ghost_name ≡ self.old.registry.ghost_name }

@@ -37,6 +37,7 @@ impl Drop for World {
 
 impl World {
     ghost use Rattle.setphase_core.specs.Settings.{setting, put, HasSetting, IsSettingInRange};
+    ghost use Rattle.setphase_core.specs.Objects.{HasRoom};
 
     /// A copy: the same bridge, policy and counts.
     ///
@@ -77,14 +78,19 @@ impl World {
     {
         match key {
             SettingKey::Bridge(key) => SettingValue::Number(self.bridge.get_setting(key)),
+            SettingKey::Made(index) => SettingValue::Number(u32::from(self.bridge.is_made(index))),
+            SettingKey::Allowed(index) => SettingValue::Ports(self.bridge.allowed(index)),
         }
     }
 
     /// Gives a setting that there is a value in its range, and answers the one before. Nothing else
-    /// changes: the bridge is to be settled behind the last of several (`Bridge::settle`).
+    /// changes: the bridge is to be settled behind the last of several (`Bridge::settle`). It takes
+    /// no memory: where it brings in a static row, a place must be left of those reserved
+    /// (`Bridge::reserve_static`).
     pub fn put_setting(&mut self, key: SettingKey, value: SettingValue) -> SettingValue
         requires key { HasSetting self.old key }
         requires value { IsSettingInRange self.old key value }
+        requires room { HasRoom self.old key value }
         ensures before { result ≡ setting self.old key }
         ensures after { self.new ≡ put self.old key value }
     {
@@ -92,6 +98,14 @@ impl World {
             (SettingKey::Bridge(key), SettingValue::Number(number)) => {
                 SettingValue::Number(self.bridge.put_setting(key, number))
             }
+            (SettingKey::Made(index), SettingValue::Number(number)) => {
+                SettingValue::Number(u32::from(self.bridge.put_made(index, number == 1)))
+            }
+            (SettingKey::Allowed(index), SettingValue::Ports(ports)) => {
+                SettingValue::Ports(self.bridge.put_allowed(index, ports))
+            }
+            (SettingKey::Bridge(_) | SettingKey::Made(_), SettingValue::Ports(_))
+            | (SettingKey::Allowed(_), SettingValue::Number(_)) => unreachable!(),
         }
     }
 }

@@ -1,5 +1,5 @@
-//! The keys of the settings that a Set may write, and the values that they take. Today they are
-//! those of a bridge.
+//! The keys of the settings that a Set may write, and the values that they take: those of a bridge
+//! and of its ports, and those of its static rows (IEEE 802.1D-2004, 7.9.1).
 //!
 //! # Entry points
 //! [`SettingKey`], [`SettingValue`]: plain data. Of what stands above, `setphase_core` alone tells
@@ -20,6 +20,7 @@
 ghost use Rattle.std.specs.Prelude.{◌≡◌, ◌<◌, ◌↔◌, [], ◌∷◌, length, IsTrue};
 
 use arrayvec::ArrayVec;
+use fdb_core::{PortSet, StaticIndex};
 use rstp_settings::key::{BridgeKey, Key, PortKey};
 use std::marker::Model;
 
@@ -28,6 +29,12 @@ use std::marker::Model;
 pub enum SettingKey {
     /// A setting of the bridge or of one of its ports.
     Bridge(Key),
+    /// Whether the static row of an index is made (RFC 4188, dot1dStaticStatus): 1 where it is, and
+    /// 0 where it is not.
+    Made(StaticIndex),
+    /// The ports by which frames of an index may go out, where its row is made (RFC 4188,
+    /// dot1dStaticAllowedToGoTo).
+    Allowed(StaticIndex),
 }
 
 impl Default for SettingKey {
@@ -44,6 +51,8 @@ impl Default for SettingKey {
 pub enum SettingValue {
     /// A number, in the unit of its key.
     Number(u32),
+    /// A set of ports.
+    Ports(PortSet),
 }
 
 impl Default for SettingValue {

@@ -107,7 +107,8 @@ fn few<A: Drop, W: Drop, T: Drop>(lines: Lines<A, W, T>) -> io::Result<Lines<A, 
 }
 
 /// The lines of a setup over UDP: the threads that answer requests share one socket, each port has
-/// one of its own, and the ticker shares that of port 1, and ticks each second by this clock.
+/// one of its own, and the ticker shares that of port 1, and ticks each second by this clock. A clause
+/// tells how many lines there are; which sockets they share is tested.
 ///
 /// # Errors
 /// That of the system, or of a refused growth; nothing is bound then. `InvalidInput` where more than

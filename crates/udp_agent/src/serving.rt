@@ -58,8 +58,9 @@ pub fn serve_lines<
 /// a thread of its own, until each has made its rounds or ended before.
 ///
 /// # Errors
-/// `Begin` where a socket could not be bound, or there was no memory for what the lines share: nothing
-/// ran; `Run` where they ran, and have no report, or where there was no memory to begin with.
+/// `Begin` where a socket could not be bound, or there was no memory for what the lines share, before
+/// any line ran; no clause tells that. `Run` where they ran, and have no report, or where there was no
+/// memory to begin with.
 pub fn serve<'r, O: MibObject + Send, R: Threads + Wait + Net + Clock + Sync>(
     rt: &'r R,
     alloc: Global,

@@ -78,7 +78,7 @@ one_index a b e =
     let subtree : a.subtree ≡ b.subtree = cc in
     and_from _ _ (bytes_same a.view b.view parts.0) (bytes_same a.subtree b.subtree subtree)
 
-index_order : IsStrictWeakOrder index_before
+pub index_order : IsStrictWeakOrder index_before
 index_order = ranks_by nat_list_cmp_total family_index
 
 index_ties : (numbers : List ℕ) → Ties (is_behind numbers) index_before same_family

@@ -16,3 +16,4 @@ pub mod Tied
 pub mod FamilyIndexes
 pub mod Marks
 pub mod Puts
+pub mod SameIndexes

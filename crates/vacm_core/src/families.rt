@@ -15,6 +15,7 @@ ghost use Rattle.vacm_core.specs.declared.limits.TheConstants.{MAX_MASK};
 ghost use Rattle.vacm_core.specs.declared.tables.FamilyRow.{FamilyRow};
 
 use crate::by_index::{self, numbers_by_index};
+use crate::contest::deciding_row;
 use crate::copying::copied_rows;
 use crate::deciding::{FamilyContest, mask_bit};
 use crate::index::{Keyed, index_of, with_key};
@@ -35,6 +36,10 @@ use std::marker::Model;
 
 // How many steps a way has at most: how many octets a view's name has, those, and a subtree.
 const MOST_STEPS: usize = 1 + MAX_NAME + MAX_NUMBERS;
+
+// How many forks of the tree are entered for a name at most for each row, before the rows are looked at
+// in turn.
+const FORKS_PER_ROW: usize = 2;
 
 impl Keyed for FamilyRow {
     ghost key = { view_key };
@@ -351,7 +356,8 @@ fn tree_of(alloc: Global, rows: &[FamilyRow]) -> Result<Radix, AllocError>
     packed(alloc, &tree)
 }
 
-// The number of the family row of a view that decides on a name, of those in their tree.
+// The number of the family row of a view that decides on a name, of those in their tree. Where masks
+// leave so much open that the walk of the tree gives up, the rows are looked at in turn.
 fn deciding_family(tree: &Radix, rows: &[FamilyRow], view: &Name, name: &Oid) -> Option<usize>
     requires tree { IsTreeOf (reaches tree.now) rows.now }
     requires differ { KeysDiffer same_family rows.now }
@@ -359,13 +365,14 @@ fn deciding_family(tree: &Radix, rows: &[FamilyRow], view: &Name, name: &Oid) ->
     ensures within { ForSome result (λ n. n < length rows.now) }
 {
     let name = name.as_slice();
+    let contest = FamilyContest { view, name };
     let mut numbers = ArrayVec::new();
     put_numbers(&mut numbers, view, name);
-    best_below(
-        tree,
-        &FamilyContest { view, name },
-        rows,
-        numbers.as_slice(),
-        None,
-    )
+    let mut left = rows.len().saturating_mul(FORKS_PER_ROW).saturating_add(1);
+    let best = best_below(tree, &contest, rows, numbers.as_slice(), None, &mut left);
+    if left == 0 {
+        deciding_row(&contest, rows)
+    } else {
+        best
+    }
 }

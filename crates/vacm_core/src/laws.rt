@@ -1,5 +1,5 @@
 //! What follows from the definitions alone.
-ghost use Rattle.std.specs.Prelude.{◌≡◌, ◌↔◌, ◌+◌, ◌++◌, ◌<◌, ◌≤◌, ℕ, List, true, false, Some, None, length, slice_index};
+ghost use Rattle.std.specs.Prelude.{◌≡◌, ◌↔◌, ◌+◌, ◌++◌, ◌<◌, ◌≤◌, ℕ, Bool, List, true, false, Some, None, length, slice_get, slice_index, option_map};
 ghost use Rattle.std.specs.List.{list_any};
 ghost use Rattle.oid_core.specs.declared.limits.TheConstants.{MAX_NUMBERS};
 ghost use Rattle.vacm_core.specs.declared.tables.AccessRow.{AccessRow};
@@ -8,6 +8,8 @@ ghost use Rattle.vacm_core.specs.declared.verdict.Ask.{Ask};
 ghost use Rattle.vacm_core.specs.Best.{IsUnbeatenAt};
 ghost use Rattle.vacm_core.specs.Access.{candidate, access_beats, deciding_access};
 ghost use Rattle.vacm_core.specs.Families.{mask_bit, agrees_from, matches, family_beats, deciding_family};
+ghost use Rattle.vacm_core.specs.FamilyIndex.{family_index, index_before, is_behind, next_family, has_index, family_at, HaveSameIndexes};
+ghost use Rattle.vacm_core.specs.Changes.{with_mask, with_type};
 ghost use Rattle.vacm_core.specs.Hiding.{may_match};
 
 use crate::limits::{MAX_FAMILY, MAX_MASK, MAX_MODEL, MAX_NAME};
@@ -40,6 +42,37 @@ pub fn some_family_row_decides()
     ensures some { (families : List FamilyRow) (view name : List ℕ) (n : ℕ) →
         deciding_family families view name ≡ Some n
         → IsUnbeatenAt (matches view name) family_beats families n }
+{}
+
+/// The row behind some numbers in the order of the table: none is exactly where no row's index is
+/// greater than the numbers, and the one that is has such an index, and no row one that lies between
+/// (RFC 3415, vacmViewTreeFamilyTable).
+pub fn next_family_is_the_nearest()
+    ensures none { (families : List FamilyRow) (numbers : List ℕ) →
+        (next_family families numbers ≡ None) ↔ (list_any (is_behind numbers) families
+        ≡ false) }
+    ensures some { (families : List FamilyRow) (numbers : List ℕ) (n : ℕ) →
+        next_family families numbers ≡ Some n
+        → IsUnbeatenAt (is_behind numbers) index_before families n }
+{}
+
+/// The row that is found by an index: none is exactly where no row has that index, and the one that
+/// is has it (RFC 3415, vacmViewTreeFamilyTable).
+pub fn family_at_has_the_index()
+    ensures none { (families : List FamilyRow) (numbers : List ℕ) →
+        (family_at families numbers ≡ None) ↔ (list_any (has_index numbers) families ≡ false) }
+    ensures some { (families : List FamilyRow) (numbers : List ℕ) (n : ℕ) →
+        family_at families numbers ≡ Some n
+        → option_map family_index (slice_get families n) ≡ Some numbers }
+{}
+
+/// No index is moved where the mask or the type of a row is changed, and by any numbers the same row
+/// is found (RFC 3415, vacmViewTreeFamilyTable).
+pub fn changes_move_no_index()
+    ensures masks { (families : List FamilyRow) (n : ℕ) (mask : List ℕ) → n < length families
+        → HaveSameIndexes families (with_mask families n mask) }
+    ensures types { (families : List FamilyRow) (n : ℕ) (included : Bool) → n < length families
+        → HaveSameIndexes families (with_type families n included) }
 {}
 
 /// Of the names that a prefix begins, a family has some exactly where its row may match below the

@@ -37,6 +37,7 @@
 //!
 //! # Laws
 //! In [`laws`]: a row decides wherever one fits; of the names below a prefix, which a family has;
+//! which row is behind some numbers, and which has an index; no changed mask or type moves an index;
 //! the limits are what they are. On the type, since they hold of kept rows alone, by its invariant:
 //! `Vacm::one_row_decides`, only one row decides, and
 //! `Vacm::rows_are_right`, kept rows break no rule.
@@ -52,9 +53,10 @@
 //! How long a decision takes: `Vacm::decide` finds the group row by halves, and looks at the access
 //! rows of the group, and at the contexts up to the one asked for. It looks by halves whether the
 //! view has a family. `Vacm::hides_all` looks at each family row, `Vacm::in_view` at those that its
-//! tree leads to: few where masks leave little open, and all where they leave everything open, which
-//! takes some three times as long as to look at each row in turn. `Vacm::put_mask` goes along the way
-//! of its row where the mask before had no 0, else along that of each row, some 0.3 ms at 1,000 rows.
+//! tree leads to, or, where so many places are open that it enters more forks of the tree than two for
+//! each row, at each row in turn: at most some twice the time of a scan at 100 rows and more.
+//! `Vacm::put_mask` goes along the way of its row where the mask before had no 0, else along that of
+//! each row, some 0.3 ms at 1,000 rows.
 //! A run of numbers of which a put mask leaves one open is passed whole, while any does.
 #![tactic(auto)]
 

@@ -1,5 +1,5 @@
 //! The best of the rows of these numbers, and of the rows of a tree whose way a name fits.
-ghost use Rattle.std.specs.Prelude.{◌≡◌, ◌<◌, ◌&&◌, ℕ, List, Contains, true, Some, length};
+ghost use Rattle.std.specs.Prelude.{◌≡◌, ◌<◌, ◌≤◌, ◌&&◌, ℕ, List, Contains, true, Some, length};
 ghost use Rattle.std.specs.Option.{ForSome};
 ghost use Rattle.vacm_core.specs.Best.{takes_over};
 ghost use Rattle.vacm_core.specs.Trees.{reaches, fits, IsFit, Covers, IsLater};
@@ -49,17 +49,20 @@ pub fn best_among<C: Contest>(contest: &C, rows: &[C::Row], numbers: &[usize]) -
 }
 
 /// The best of the rows so far and those of a tree whose way a name fits, in which the deepest are
-/// looked at first. It takes no memory.
+/// looked at first. It takes no memory. It enters at most as many forks as are left, less one: where
+/// none is left afterwards, it gave up, and there may be a better row.
 pub fn best_below<C: Contest>(
     tree: &Radix,
     contest: &C,
     rows: &[C::Row],
     name: &[u32],
     best: Option<usize>,
+    left: &mut usize,
 ) -> Option<usize>
     requires { IsFit (C.passes contest.now) rows.now best }
     ensures later { IsLater (C.passes contest.now) (C.beats contest.now) rows.now best result }
-    ensures found { (way : List Step) (n : ℕ) → reaches tree.now way n ≡ true
+    ensures fewer { left.new ≤ left.old }
+    ensures found { 0 < left.new → (way : List Step) (n : ℕ) → reaches tree.now way n ≡ true
         → fits way name.now ≡ true
         → Covers (C.passes contest.now) (C.beats contest.now) rows.now result n }
 {
@@ -67,7 +70,7 @@ pub fn best_below<C: Contest>(
         Radix::Empty => return best,
         Radix::Run(run) => {
             return match run.after(name) {
-                Some(after) => best_below(&run.below, contest, rows, after, best),
+                Some(after) => best_below(&run.below, contest, rows, after, best, left),
                 None => best,
             };
         }
@@ -76,24 +79,28 @@ pub fn best_below<C: Contest>(
     let [first, after @ ..] = name else {
         return best;
     };
+    *left = left.saturating_sub(1);
+    if *left == 0 {
+        return best;
+    }
     if node.loose {
-        let best = best_below(&node.less, contest, rows, name, best);
-        let best = best_below(&node.greater, contest, rows, name, best);
+        let best = best_below(&node.less, contest, rows, name, best, left);
+        let best = best_below(&node.greater, contest, rows, name, best, left);
         if !node.loose_equal && *first != node.part {
             return best;
         }
-        let best = best_below(&node.equal, contest, rows, after, best);
+        let best = best_below(&node.equal, contest, rows, after, best, left);
         return better(contest, rows, best, node.row);
     }
     if *first < node.part {
-        return best_below(&node.less, contest, rows, name, best);
+        return best_below(&node.less, contest, rows, name, best, left);
     }
     if node.part < *first {
-        return best_below(&node.greater, contest, rows, name, best);
+        return best_below(&node.greater, contest, rows, name, best, left);
     }
     if node.row.is_none() {
-        return best_below(&node.equal, contest, rows, after, best);
+        return best_below(&node.equal, contest, rows, after, best, left);
     }
-    let best = best_below(&node.equal, contest, rows, after, best);
+    let best = best_below(&node.equal, contest, rows, after, best, left);
     better(contest, rows, best, node.row)
 }

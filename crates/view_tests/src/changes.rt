@@ -1,6 +1,6 @@
 //! Masks and types that are changed where they stand: the answers are those of a plain scan.
 use crate::drawn::Draws;
-use crate::many_families::{FAMILIES, View, is_scanned, vacm_of};
+use crate::many_families::{FAMILIES, View, is_answered, is_scanned, vacm_of};
 use std::alloc::Global;
 use std::test::Fail;
 use vacm_core::{Mask, Vacm};
@@ -73,6 +73,11 @@ impl ViewTables {
 
     fn is_scanned(&self, alloc: Global, draws: &mut Draws) -> Result<bool, Fail> {
         is_scanned(alloc, draws, &self.view, &self.vacm)
+    }
+
+    // The same, however many there are of each answer.
+    fn is_answered(&self, alloc: Global, draws: &mut Draws) -> Result<bool, Fail> {
+        is_answered(alloc, draws, &self.view, &self.vacm)
     }
 
     // The number of the first family with at least so many sub-identifiers.
@@ -148,6 +153,27 @@ fn masks_and_types_at_random(rt: HostRuntime) -> Result<(), Fail> {
         change(rt.alloc(), &mut draws, &mut tables)?;
         let holds = tables.is_scanned(rt.alloc(), &mut draws)?;
         assert!(rt; holds, "turn {turn}");
+    }
+    Ok(())
+}
+
+// Gives each family a mask of zeros alone.
+fn open_every_place(alloc: Global, tables: &mut ViewTables) -> Result<(), Fail> {
+    for family in 0..FAMILIES {
+        tables.put_mask(alloc, family, Mask::of(&[0; 16]))?;
+    }
+    Ok(())
+}
+
+#[test]
+fn masks_that_open_every_place(rt: HostRuntime) -> Result<(), Fail> {
+    let mut draws = Draws::new(3413);
+    let mut tables = ViewTables::new(rt.alloc(), &mut draws)?;
+    open_every_place(rt.alloc(), &mut tables)?;
+    for turn in 0..3 {
+        let holds = tables.is_answered(rt.alloc(), &mut draws)?;
+        assert!(rt; holds, "turn {turn}");
+        change(rt.alloc(), &mut draws, &mut tables)?;
     }
     Ok(())
 }

@@ -1,6 +1,6 @@
 //! Tests of views of many families: what decides on a name, beside a plain scan of all families, also
-//! after masks and types were changed; the order of families by their indexes; and policies of many
-//! rows, in whatever order.
+//! after masks and types were changed, and where masks open every place; the order of families by their
+//! indexes; and policies of many rows, in whatever order.
 //!
 //! # Entry points
 //! None: the tests call what `vacm_core` and `community_core` offer.

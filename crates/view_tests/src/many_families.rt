@@ -138,6 +138,37 @@ impl Counts {
     }
 }
 
+// How many of the names that are drawn were included, excluded and in no family, where each has the
+// answer of the scan.
+fn scanned_counts(
+    alloc: Global,
+    draws: &mut Draws,
+    view: &View,
+    vacm: &Vacm,
+) -> Result<Option<Counts>, Fail> {
+    let name_of_view = Name::from_str(view.name).ok_or("a name")?;
+    let mut counts = Counts::new();
+    for turn in 0..NAMES {
+        let name = view.drawn_name(alloc, draws, turn)?;
+        let answer = vacm.in_view(&name_of_view, &Oid::from_slice(alloc, name.as_slice())?);
+        if answer != scanned(view.families.as_slice(), name.as_slice()) {
+            return Ok(None);
+        }
+        counts.add(&answer);
+    }
+    Ok(Some(counts))
+}
+
+/// Whether each name that is drawn has the answer of the scan.
+pub fn is_answered(
+    alloc: Global,
+    draws: &mut Draws,
+    view: &View,
+    vacm: &Vacm,
+) -> Result<bool, Fail> {
+    Ok(scanned_counts(alloc, draws, view, vacm)?.is_some())
+}
+
 /// Whether each name that is drawn has the answer of the scan, and there are many of each answer.
 pub fn is_scanned(
     alloc: Global,
@@ -145,17 +176,10 @@ pub fn is_scanned(
     view: &View,
     vacm: &Vacm,
 ) -> Result<bool, Fail> {
-    let name_of_view = Name::from_str(view.name).ok_or("a name")?;
-    let mut counts = Counts::new();
-    for turn in 0..NAMES {
-        let name = view.drawn_name(alloc, draws, turn)?;
-        let answer = vacm.in_view(&name_of_view, &Oid::from_slice(alloc, name.as_slice())?);
-        if answer != scanned(view.families.as_slice(), name.as_slice()) {
-            return Ok(false);
-        }
-        counts.add(&answer);
+    match scanned_counts(alloc, draws, view, vacm)? {
+        Some(counts) => Ok(counts.are_many()),
+        None => Ok(false),
     }
-    Ok(counts.are_many())
 }
 
 // The same of two views of one set of tables, whose rows are drawn in turn.

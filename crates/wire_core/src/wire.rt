@@ -50,7 +50,7 @@ pub trait Wire: Drop {
     ghost failures: { Self → ℕ };
 
     /// Waits for a datagram, for as long as this wire does, and writes it into the slice. A
-    /// datagram that is longer than the slice is cut to it.
+    /// wire cuts a datagram that is longer than the slice to it; the clauses bound the length alone.
     ///
     /// # Errors
     /// `WireFault::Receive`, which counts as a failure.

@@ -1,4 +1,4 @@
-use Rattle.std.proofs.Common.{◌≡◌, ◌∙◌, ℕ, ◌≤◌, [], List, length, map, Option, None, IfSome, not, FitsSigned, w32, rules, ap, sym, subst}
+use Rattle.std.proofs.Common.{◌≡◌, ◌∙◌, ℕ, ◌≤◌, [], List, length, map, Option, None, IfSome, unwrap_or, not, FitsSigned, w32, rules, ap, sym, subst}
 use Rattle.std.proofs.lemmas.Int.{to_z-of_z}
 use Rattle.message_core.specs.Canon.{answer_to}
 use Rattle.message_core.specs.declared.binding.Binding.{Binding}
@@ -14,7 +14,7 @@ use Rattle.setphase_core.specs.Registry.{rows_of}
 use Rattle.setphase_core.specs.Settings.{same_settings, same_settings_of}
 use Rattle.setphase_core.specs.Variables.{writings}
 use Rattle.setphase_core.specs.Together.{refusal_of}
-use Rattle.setphase_core.specs.Outcomes.{SetNotes, AreNotes, refusal_in, notes_in, world_after_set}
+use Rattle.setphase_core.specs.Outcomes.{SetNotes, AreNotes, refusal_in, notes_in, changed_in, world_after_set}
 use Rattle.setphase_core.specs.Calls.{calls_of, object_after_set, FollowPlans}
 use Rattle.agent_core.specs.Replies.{reply_within_limit}
 use Rattle.agent_core.specs.Sets.{MayFailInSet}
@@ -24,7 +24,7 @@ use Rattle.agent_core.specs.declared.answered.Answered.TheVariants as answered
 use Rattle.agent_core.specs.declared.sent_reply.SentReply.{SentReply}
 use Rattle.agent_core.specs.declared.sets.SetTold.{SetTold}
 use Rattle.agent_core.proofs.SetProofs.{index_within, number_within, may_fail, families_kept, names_kept, families_are}
-use Rattle.agent_core.proofs.Changed.{settled_is, settled_bpdus_is}
+use Rattle.agent_core.proofs.Changed.{changed_is, settled_is, settled_bpdus_is}
 use Rattle.agent_core.proofs.SetSteps.{told_audit, too_long_done, too_long_plans, fitting_plans, set_done, notes_told_of}
 use Rattle.agent_core.proofs.sets.answer_set.Goals as goal
 
@@ -90,8 +90,9 @@ returns-clause-done g c =
     subst (λ (bs : List Binding). after ≡ world_after_set (refusal_in outcome) (writings rows world bs) world (notes_in outcome)) same c.run_set-outcome.ensures.world in
     let objects_are : c.run_set-outcome.new.registry ≡ map (object_after_set (calls_of (refusal_in outcome) (writings rows world request.bindings) (notes_in outcome))) objects =
     subst (λ (bs : List Binding). c.run_set-outcome.new.registry ≡ map (object_after_set (calls_of (refusal_in outcome) (writings rows world bs) (notes_in outcome))) objects) same c.run_set-outcome.ensures.objects in
-    let changed_is : c.changed-changed.result ≡ not (same_settings_of world after) =
-    c.changed-changed.ensures ∙ ap (λ (t : Table). not (same_settings t after.bridge.settings)) c.copied_settings-before.ensures in
+    let changed : c.changed-changed.result ≡ not (same_settings_of world after) =
+    changed_is outcome (writings rows world request.bindings) world after c.changed-changed.result after_is c.run_set-outcome.ensures.changed
+    (c.changed-changed.ensures ∙ ap (λ (t : Table). unwrap_or (changed_in outcome) (not (same_settings t after.bridge.settings))) c.copied_settings-before.ensures) in
     let index_fits : FitsSigned w32 answer.index = search rules in
     let put : IsSent (reply_within_limit (answer_to request answer.status answer.index request.bindings)) c.put-sent.result c.put-sent.new.self.reply =
     subst (λ (bs : List Binding). IsSent (reply_within_limit (answer_to request answer.status answer.index bs)) c.put-sent.result c.put-sent.new.self.reply) same (rw (to_z-of_z w32 answer.index index_fits) at c.put-sent.ensures.sent) in
@@ -101,8 +102,8 @@ returns-clause-done g c =
     (families_are (refusal_in outcome) c.vacm.result.now.families after.policy.vacm.families world.policy.vacm.families (ap (λ (t : Tables). t.families) c.vacm.ensures)
     (families_kept outcome (writings rows world request.bindings) world after after_is))
     c.in_ok-answer.ensures.told
-    (settled_is world after c.settle.new.world c.changed-changed.result changed_is c.settle.ensures.world)
-    (c.put-sent.ensures.bpdus ∙ c.settle.ensures.bpdus ∙ settled_bpdus_is world after c.changed-changed.result changed_is)
+    (settled_is world after c.settle.new.world c.changed-changed.result changed c.settle.ensures.world)
+    (c.put-sent.ensures.bpdus ∙ c.settle.ensures.bpdus ∙ settled_bpdus_is world after c.changed-changed.result changed)
     put objects_are c.told-2.ensures
 
 pub returns-then-is_too_long-clause-by_plan : goal.returns-then-is_too_long-clause-by_plan

@@ -1,4 +1,4 @@
-use Rattle.std.proofs.Common.{◌∙◌, ◌++◌, ◌∷◌, [], ap, refl, sym}
+use Rattle.std.proofs.Common.{◌∙◌, ◌++◌, ◌∷◌, [], ap, refl, sym, arith}
 use Rattle.std.specs.Prelude.{true}
 use Rattle.history_core.specs.declared.event.Event.TheVariants as event
 use Rattle.live_sending.specs.Sending.{fault_in}
@@ -15,8 +15,9 @@ returns-clause-linked g c =
     let s = c.send_ports-sent.ensures.sends in
     let t = c.link-applied.ensures in
     record {
-      happening = happening (event.Link c.args.port true) c.link-applied.result c.link-applied.new.buffer (fault_in c.send_ports-sent.result) s.0;
-      happens = record { event_is = refl; made = c.args.share.now.amount; place = t.place; told = t.told; sent = s.2 };
+      happening = happening (event.Link c.args.port true) c.args.share.now.amount c.link-applied.result c.link-applied.new.buffer (fault_in c.send_ports-sent.result) s.0;
+      happens = record { event_is = refl; place = t.place; told = t.told; sent = s.2 };
+      behind = omega arith;
       acts = s.1;
       items_are = c.push_reserved.ensures.items ∙ ap (λ (x : Item). c.args.desk.now.items.items ++ x ∷ []) c.item_of.ensures;
       amount_is = t.amount;

@@ -16,6 +16,7 @@ returns-in-Err-clause-turn g c = λ a went.
     record {
       turn = was_refused (record { room = frame_room; peer = c.args.peer; octets = c.args.octets.now }) (refusal.Frame c.in-Err.fault);
       is = (refl, c.in-Err.ensures.fault);
+      behind = tt;
       acts = went;
       items_are = c.push_reserved.ensures.items;
       amount_is = omega arith;
@@ -28,8 +29,9 @@ returns-clause-turn g c = λ a went.
     let t = c.frame-applied.ensures in
     let f = c.in-Ok.frame in
     record {
-      turn = was_taken (record { room = frame_room; peer = c.args.peer; octets = c.args.octets.now }) (happening (event.Frame c.args.port f) c.frame-applied.result c.frame-applied.new.buffer (fault_in c.send_forwarded-sent.result) s.0);
-      is = (refl, record { frame = f; reads = c.in-Ok.ensures.found; happens = record { event_is = refl; made = c.args.share.now.amount; place = t.place; told = t.told; sent = s.2 } });
+      turn = was_taken (record { room = frame_room; peer = c.args.peer; octets = c.args.octets.now }) (happening (event.Frame c.args.port f) c.args.share.now.amount c.frame-applied.result c.frame-applied.new.buffer (fault_in c.send_forwarded-sent.result) s.0);
+      is = (refl, record { frame = f; reads = c.in-Ok.ensures.found; happens = record { event_is = refl; place = t.place; told = t.told; sent = s.2 } });
+      behind = omega arith;
       acts = g.met.W.Wire.goes_on _ _ _ _ _ went s.1;
       items_are = c.noted.ensures.items;
       amount_is = amount_is _ _ c.frame-applied.result t.amount;

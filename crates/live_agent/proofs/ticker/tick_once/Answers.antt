@@ -1,4 +1,4 @@
-use Rattle.std.proofs.Common.{◌∙◌, ap, refl, sym}
+use Rattle.std.proofs.Common.{◌∙◌, ap, refl, sym, arith}
 use Rattle.history_core.specs.declared.event.Event.TheVariants as event
 use Rattle.live_sending.specs.Sending.{fault_in}
 use Rattle.live_agent.specs.Turns.{was_own}
@@ -14,8 +14,9 @@ returns-clause-turn g c =
     let s = c.send_ports-sent.ensures.sends in
     let t = c.tick-applied.ensures in
     record {
-      turn = was_own (happening event.Tick c.tick-applied.result c.tick-applied.new.buffer (fault_in c.send_ports-sent.result) s.0);
-      is = record { event_is = refl; made = c.args.share.now.amount; place = t.place; told = t.told; sent = s.2 };
+      turn = was_own (happening event.Tick c.args.share.now.amount c.tick-applied.result c.tick-applied.new.buffer (fault_in c.send_ports-sent.result) s.0);
+      is = record { event_is = refl; place = t.place; told = t.told; sent = s.2 };
+      behind = omega arith;
       acts = s.1;
       items_are = c.noted.ensures.items;
       amount_is = amount_is _ _ c.tick-applied.result t.amount;

@@ -18,6 +18,7 @@ returns-in-Err-clause-turn g c = λ a went.
     record {
       turn = was_refused (record { room = request_room; peer = c.args.peer; octets = c.args.octets.now }) (refusal.Datagram c.in-Err.cause);
       is = (refl, c.in-Err.ensures.cause);
+      behind = tt;
       acts = g.met.W.GatedWire.acts_are _ _ (got request_room c.args.peer c.args.octets.now ∷ []) went;
       items_are = c.push_reserved.ensures.items;
       amount_is = omega arith;
@@ -30,8 +31,9 @@ returns-clause-turn g c = λ a went.
     let t = c.request-applied.ensures in
     let r = c.in-Ok.request in
     record {
-      turn = was_taken (record { room = request_room; peer = c.args.peer; octets = c.args.octets.now }) (happening (event.Request r) c.request-applied.result c.request-applied.new.buffer (fault_in c.send_answer-sent.result) s.0);
-      is = (refl, record { request = r; reads = c.in-Ok.ensures.request; happens = record { event_is = refl; made = c.args.share.now.amount; place = t.place; told = t.told; sent = s.2 } });
+      turn = was_taken (record { room = request_room; peer = c.args.peer; octets = c.args.octets.now }) (happening (event.Request r) c.args.share.now.amount c.request-applied.result c.request-applied.new.buffer (fault_in c.send_answer-sent.result) s.0);
+      is = (refl, record { request = r; reads = c.in-Ok.ensures.request; happens = record { event_is = refl; place = t.place; told = t.told; sent = s.2 } });
+      behind = omega arith;
       acts = taken_deeds g.W.Wire.went g.W.GatedWire.did g.met.W.GatedWire.acts_are g.met.W.GatedWire.deeds_go_on _ _ _ _ _ c.args.worker (got request_room c.args.peer c.args.octets.now) s.0 _ went c.before-2.ensures.did s.1 (rw c.number_of.ensures at c.tell.ensures.did);
       items_are = c.noted.ensures.items;
       amount_is = amount_is _ _ c.request-applied.result t.amount;

@@ -3,17 +3,24 @@ use Rattle.rstp_settings.specs.declared.key.Key.{Key}
 use Rattle.setting_keys.specs.declared.SettingKey.{SettingKey}
 use Rattle.setphase_core.specs.Settings.{bridge_keys}
 use Rattle.setphase_core.specs.Staging.{no_entry}
-use Rattle.setphase_core.proofs.Undoes.{Undoes, undo_start, undo_step, undo_failed}
+use Rattle.setphase_core.proofs.Undoes.{Undoes, undo_start, undo_step, undo_failed, undo_room}
 use Rattle.setphase_core.proofs.committing.undo_all.Goals as goal
 
 pub loop-staging-init : goal.loop-staging-init
 loop-staging-init g c = record {
-  under_way = c.requires;
+  under_way = c.requires.under_way;
   same_reference = refl;
   staged = refl;
   counted = omega (arith, ap (length {A = Key}) c.new-stuck.ensures);
   undoes = subst (λ keys. Undoes c.args.world.now c.args.staging.now.registry.now c.args.staging.now.staged.items c.args.staging.now.committed c.args.world.now c.args.staging.now.registry.now c.args.staging.now.committed keys) (sym (ap bridge_keys c.new-stuck.ensures)) (undo_start c.args.world.now c.args.staging.now.registry.now c.args.staging.now.staged.items c.args.staging.now.committed);
 }
+
+pub undo_last-requires-clause-room : goal.undo_last-requires-clause-room
+undo_last-requires-clause-room g c =
+    let i = c.loop-staging.invariant in
+    let may = c.requires.may.1 in
+    undo_room c.args.world.now c.loop-staging.world c.loop-staging.world c.args.staging.now.registry.now c.loop-staging.staging.registry.now c.loop-staging.staging.registry.now c.args.staging.now.staged.items c.loop-staging.staging.staged.items c.args.staging.now.committed c.loop-staging.staging.committed (c.loop-staging.staging.committed - 1) (bridge_keys c.loop-staging.stuck) i.staged c.requires.under_way.distinct c.requires.under_way.counted (omega (arith, i.counted)) (omega arith) i.undoes
+    c.requires.may.0 may.stands may.world may.room
 
 pub loop-staging-preserved : goal.loop-staging-preserved
 loop-staging-preserved g c =
@@ -23,7 +30,7 @@ loop-staging-preserved g c =
       same_reference = c.undo_last.ensures.same_reference ∙ i.same_reference;
       staged = c.undo_last.ensures.staged ∙ i.staged;
       counted = omega (arith, c.undo_last.ensures.committed, i.counted);
-      undoes = undo_step c.args.world.now c.loop-staging.world _ c.args.staging.now.registry.now c.loop-staging.staging.registry.now _ c.args.staging.now.staged.items c.loop-staging.staging.staged.items c.args.staging.now.committed c.loop-staging.staging.committed c.undo_last.new.self.committed (bridge_keys c.loop-staging.stuck) i.staged c.requires.distinct c.requires.counted (omega (arith, i.counted)) c.undo_last.ensures.committed i.undoes
+      undoes = undo_step c.args.world.now c.loop-staging.world _ c.args.staging.now.registry.now c.loop-staging.staging.registry.now _ c.args.staging.now.staged.items c.loop-staging.staging.staged.items c.args.staging.now.committed c.loop-staging.staging.committed c.undo_last.new.self.committed (bridge_keys c.loop-staging.stuck) i.staged c.requires.under_way.distinct c.requires.under_way.counted (omega (arith, i.counted)) c.undo_last.ensures.committed i.undoes
           (i.under_way.undoable (c.loop-staging.staging.committed - 1) (omega arith)).within
           c.in-Ok.ensures.kept c.in-Ok.ensures.passes c.in-Ok.ensures.put;
     }
@@ -33,7 +40,7 @@ loop-staging-preserved-in_default g c =
     let i = c.loop-staging.invariant in
     let key : SettingKey = (slice_index_or c.as_slice.result.now (c.loop-staging.staging.committed - 1) no_entry).slot.key in
     let after : Undoes c.args.world.now c.args.staging.now.registry.now c.args.staging.now.staged.items c.args.staging.now.committed c.undo_last.new.world c.undo_last.new.self.registry.now c.undo_last.new.self.committed (key ∷ bridge_keys c.loop-staging.stuck)
-    = undo_failed c.args.world.now c.loop-staging.world _ c.args.staging.now.registry.now c.loop-staging.staging.registry.now _ c.args.staging.now.staged.items c.loop-staging.staging.staged.items c.args.staging.now.committed c.loop-staging.staging.committed c.undo_last.new.self.committed (bridge_keys c.loop-staging.stuck) i.staged c.requires.distinct c.requires.counted (omega (arith, i.counted)) c.undo_last.ensures.committed i.undoes
+    = undo_failed c.args.world.now c.loop-staging.world _ c.args.staging.now.registry.now c.loop-staging.staging.registry.now _ c.args.staging.now.staged.items c.loop-staging.staging.staged.items c.args.staging.now.committed c.loop-staging.staging.committed c.undo_last.new.self.committed (bridge_keys c.loop-staging.stuck) i.staged c.requires.under_way.distinct c.requires.under_way.counted (omega (arith, i.counted)) c.undo_last.ensures.committed i.undoes
     key (ap (λ xs. (slice_index_or xs (c.loop-staging.staging.committed - 1) no_entry).slot.key) c.as_slice.ensures.value)
     (i.under_way.undoable (c.loop-staging.staging.committed - 1) (omega arith)).within
     c.in_default.ensures.unchanged c.in_default.ensures.failed c.in_default.ensures.fails in

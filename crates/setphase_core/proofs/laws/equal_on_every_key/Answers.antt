@@ -1,5 +1,8 @@
-use Rattle.setphase_core.proofs.Puts.{settings-ext}
+use Rattle.setphase_core.proofs.Puts.{settings-ext, rows-ext}
 use Rattle.setphase_core.proofs.laws.equal_on_every_key.Goals as goal
 
-pub returns : goal.returns
-returns c = settings-ext
+pub returns-clause-bridge : goal.returns-clause-bridge
+returns-clause-bridge c = settings-ext
+
+pub returns-clause-statics : goal.returns-clause-statics
+returns-clause-statics c = rows-ext

@@ -1,6 +1,7 @@
 use Rattle.std.proofs.Common.{◌≡◌, ◌≢◌, ◌∙◌, sym, true, false, rules, arith, length}
 use Rattle.setphase_core.specs.Settings.{setting, same_value}
 use Rattle.setphase_core.specs.Staging.{entry_at}
+use Rattle.setphase_core.proofs.Equal.{value_equal}
 use Rattle.setphase_core.proofs.Firsts.{value-exact, value-other}
 use Rattle.setphase_core.proofs.Same.{legal_at, same_staged, other_staged, none_staged}
 use Rattle.setphase_core.proofs.sets.changes.Goals as goal
@@ -11,14 +12,14 @@ get_setting-requires c = (legal_at c.args.staged.now c.args.world.now c.loop-ent
 pub returns-then-ne : goal.returns-then-ne
 returns-then-ne c =
     let value = (entry_at c.args.staged.now c.loop-entry.entry-index).slot.value in
-    let ne : same_value c.get_setting.result (entry_at c.args.staged.now c.loop-entry.entry-index).slot.value ≡ false = search rules in
+    let ne : same_value c.get_setting.result (entry_at c.args.staged.now c.loop-entry.entry-index).slot.value ≡ false = grind (arith, value_equal) in
     let other : setting c.args.world.now (entry_at c.args.staged.now c.loop-entry.entry-index).slot.key ≢ (entry_at c.args.staged.now c.loop-entry.entry-index).slot.value
     = λ e. value-other c.get_setting.result value ne (c.get_setting.ensures.value ∙ e) in
     other_staged c.args.staged.now c.args.world.now c.loop-entry.entry-index c.requires.distinct c.requires.legal c.loop-entry-test.true other
 
 pub loop-entry-preserved : goal.loop-entry-preserved
 loop-entry-preserved c =
-    let eq : same_value c.get_setting.result (entry_at c.args.staged.now c.loop-entry.entry-index).slot.value ≡ true = search rules in
+    let eq : same_value c.get_setting.result (entry_at c.args.staged.now c.loop-entry.entry-index).slot.value ≡ true = grind (arith, value_equal) in
     let same : setting c.args.world.now (entry_at c.args.staged.now c.loop-entry.entry-index).slot.key ≡ (entry_at c.args.staged.now c.loop-entry.entry-index).slot.value
     = sym c.get_setting.ensures.value ∙ value-exact c.get_setting.result (entry_at c.args.staged.now c.loop-entry.entry-index).slot.value eq in
     same_staged c.args.staged.now c.args.world.now c.loop-entry.entry-index c.requires.legal c.loop-entry-test.true same c.loop-entry.invariant

@@ -8,11 +8,21 @@ use Rattle.setphase_core.specs.Together.{assign, assignments}
 use Rattle.setphase_core.specs.Calls.{calls_by, object_after_set, FollowPlans}
 use Rattle.setphase_core.specs.Outcomes.{CanFail, committed_of, stuck}
 use Rattle.setphase_core.specs.Staging.{entry_at, assignments_of}
+use Rattle.setphase_core.proofs.Room.{none_needs_room, may_undo}
 use Rattle.setphase_core.proofs.Called.{called_since, no_plans}
 use Rattle.setphase_core.proofs.Endings.{done_objects}
 use Rattle.setphase_core.proofs.Runs.{ended_notes, ended_world, ended_objects, ended_by_plan}
 use Rattle.setphase_core.proofs.Same.{same_itself_of, writers_none}
 use Rattle.setphase_core.proofs.sets.run_staged.Goals as goal
+
+pub commit_all-requires-clause-room : goal.commit_all-requires-clause-room
+commit_all-requires-clause-room g c =
+    none_needs_room c.args.world.now (assignments_of c.refused.new.staging.staged.items) c.in_default.ensures.ready.plain
+
+pub undo_all-keys-requires-clause-may : goal.undo_all-keys-requires-clause-may
+undo_all-keys-requires-clause-may g c =
+    may_undo c.args.world.now c.commit_all.new.world c.commit_all.new.staging.registry.now c.refused.new.staging.staged.items c.commit_all.new.staging.staged.items c.in-Some-commit_all.failed c.commit_all.new.staging.committed c.in-Some-commit_all.ensures.failed c.commit_all.ensures.staged c.in-Some-commit_all.ensures.committed
+    (none_needs_room c.args.world.now (assignments_of c.refused.new.staging.staged.items) c.in_default.ensures.ready.plain)
 
 pub returns-then-is_empty-clause-notes : goal.returns-then-is_empty-clause-notes
 returns-then-is_empty-clause-notes g c =

@@ -31,7 +31,7 @@ returns-in-Some-wrong-clause-fault g c other =
     stop_fault rules c.args.table c.args.written rows c.in-Some-wrong.wrong
     (subst (λ (o : Option Wrong). AreRead rules c.args.written rows o) c.in-Some-wrong.is c.in_ok-rows.ensures.read)
     (subst (λ (o : Option ℕ). IsFirstRepeat w.same_key rows o) c.in_default.is first)
-    (length c.as_slice-in-Some-wrong.result.now) (ap length c.as_slice-in-Some-wrong.ensures)
+    _ (omega (arith, ap length c.as_slice-in-Some-wrong.ensures))
 
 pub returns-in-None-clause-right : goal.returns-in-None-clause-right
 returns-in-None-clause-right g c =

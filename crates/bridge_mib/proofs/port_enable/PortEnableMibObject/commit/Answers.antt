@@ -6,9 +6,9 @@ use Rattle.bridge_mib.proofs.port_enable.PortEnableMibObject.commit.Goals as goa
 
 pub tell-requires : goal.tell-requires
 tell-requires g c =
-    enable_at c.self.inside.slots c.args.slot.place (reservation_of c.args.slot c.requires.old) c.self.invariant (search rules)
+    enable_at c.self.inside.slots c.args.slot.place (reservation_of c.args.slot c.requires.reserved.old) c.self.invariant (search rules)
 
 pub invariant_of-self-2 : goal.invariant_of-self-2
 invariant_of-self-2 g c =
     subst AreEnables (sym c.commit.ensures.kept)
-    (enables_set c.self.inside.slots c.args.slot.place _ c.self.invariant (enable_at c.self.inside.slots c.args.slot.place (reservation_of c.args.slot c.requires.old) c.self.invariant (search rules)))
+    (enables_set c.self.inside.slots c.args.slot.place _ c.self.invariant (enable_at c.self.inside.slots c.args.slot.place (reservation_of c.args.slot c.requires.reserved.old) c.self.invariant (search rules)))

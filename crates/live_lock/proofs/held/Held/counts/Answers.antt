@@ -11,7 +11,7 @@ returns-clause-counted g c =
     let base = c.base_number.ensures in
     let next_start = c.self.invariant.1 in
     let base_start = c.self.invariant.2 in
-    let bound = c.audit.ensures.bound in
+    let bound = c.observe.ensures.behind in
     let count : c.self.inside.book.total ≡ c.next_number.result - c.self.inside.next_at_start = omega arith in
     record {
       then_was = c.self.inside.kept;

@@ -1,0 +1,4 @@
+pub mod Added
+pub mod Given
+pub mod Refused
+pub mod Simple

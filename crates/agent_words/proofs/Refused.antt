@@ -1,0 +1,80 @@
+-- What a parse says of the words, and how they are answered.
+use Rattle.std.proofs.Common.{◌≡◌, ◌≢◌, ◌∙◌, ◌⊎◌, List, [], Option, Some, None, Result, Ok, Err, IfErr, inl, inr, refl, sym, subst, true}
+use Rattle.std.specs.Prelude.{IsErrAnd, option_map}
+use Rattle.clap.specs.Words.{App, HasKind, HasMatchesOf, Row, Text, fault_of, is_simple_and_free, kind_of, subcommand_rows_of}
+use Rattle.clap.specs.declared.error.Error.{Error}
+use Rattle.clap.specs.declared.error.kind.ErrorKind.{ErrorKind}
+use Rattle.clap.specs.declared.error.kind.ErrorKind.TheVariants as kind
+use Rattle.clap.specs.declared.parser.matches.ArgMatches.{ArgMatches}
+use Rattle.agent_words.specs.Options.{agent_app}
+use Rattle.agent_words.specs.Asking.{IsAsked, asked_view, asking_in, asking_of}
+use Rattle.agent_words.specs.Answers.{IsAnswerTo, IsAnswered, IsRefusal, IsText}
+use Rattle.agent_words.specs.declared.asked.Asked.{Asked}
+use Rattle.agent_words.specs.declared.program.Answered.{Answered}
+use Rattle.agent_words.specs.declared.program.Answered.TheVariants.{Shown, NotShown, Refused, Memory}
+use Rattle.agent_words.proofs.Simple.{free, simple}
+
+faultless : (a : App) (words : List Text) → a ≡ agent_app → (is_simple_and_free a ≡ true → fault_of a words ≡ []) → fault_of agent_app words ≡ []
+faultless a words is kinds =
+    subst (λ (x : App). is_simple_and_free x ≡ true → fault_of x words ≡ []) is kinds free
+
+-- what the matches of a parse ask for
+asks : (a : App) (words : List Text) (m : ArgMatches) → a ≡ agent_app → HasMatchesOf a words m → asking_in (subcommand_rows_of m) ≡ asking_of words
+asks a words m is matches =
+    let h = subst (λ (x : App). HasMatchesOf x words m) is matches simple in
+    subst (λ (o : Option (Text × List Row)). asking_in (subcommand_rows_of m) ≡ asking_in o) h.1 refl
+
+pub command_said : (a : App) (words : List Text) (m : ArgMatches) (asked : Option Asked) (is_asked : Asked) → a ≡ agent_app → (is_simple_and_free a ≡ true → fault_of a words ≡ []) → HasMatchesOf a words m → option_map asked_view asked ≡ asking_in (subcommand_rows_of m) → asked ≡ Some is_asked → IsAsked words is_asked
+command_said a words m asked is_asked is kinds matches said some = record {
+  faultless = faultless a words is kinds;
+  asks = sym (asks a words m is matches) ∙ sym said ∙ rw some refl;
+}
+
+-- the matches say nothing
+pub none_said : (a : App) (words : List Text) (m : ArgMatches) (asked : Option Asked) (e : Error) → a ≡ agent_app → (is_simple_and_free a ≡ true → fault_of a words ≡ []) → HasMatchesOf a words m → option_map asked_view asked ≡ asking_in (subcommand_rows_of m) → asked ≡ None → (kind_of e ≡ kind.OutOfMemory) ⊎ (kind_of e ≡ kind.ValueValidation) → IsRefusal words e
+none_said a words m asked e is kinds matches said none (inl wants) = inl wants
+none_said a words m asked e is kinds matches said none (inr invalid) = inr (inr (
+  invalid,
+  record {
+    faultless = faultless a words is kinds;
+    none = sym (asks a words m is matches) ∙ sym said ∙ rw none refl;
+  },
+))
+
+-- a parse that fails
+has_kind : (words : List Text) (e : Error) → HasKind (fault_of agent_app words) e → IsRefusal words e
+has_kind words e (inl wants) = inl wants
+has_kind words e (inr among) = inr (inl among)
+
+pub parse_failed : {T : Type 0} (a : App) (words : List Text) (e : Error) (r : Result T Error) → a ≡ agent_app → (is_simple_and_free a ≡ true → HasKind (fault_of a words) e) → IsErrAnd r (λ f. f ≡ e) → IfErr r (IsRefusal words)
+parse_failed a words e (Ok x) is kinds same = absurd same
+parse_failed a words e (Err f) is kinds same =
+    let k = subst (λ (x : App). is_simple_and_free x ≡ true → HasKind (fault_of x words) e) is kinds free in
+    subst (IsRefusal words) (sym same) (has_kind words e k)
+
+-- ---- answers
+
+not_text : (k other : ErrorKind) → other ≢ kind.DisplayHelp → other ≢ kind.DisplayVersion → k ≡ other → ¬ IsText k
+not_text k other a b same (inl h) = a (sym same ∙ h)
+not_text k other a b same (inr h) = b (sym same ∙ h)
+
+wants_no_text : (k : ErrorKind) → k ≡ kind.OutOfMemory → ¬ IsText k
+wants_no_text k same = not_text k kind.OutOfMemory (λ h. cc) (λ h. cc) same
+
+invalid_no_text : (k : ErrorKind) → k ≡ kind.ValueValidation → ¬ IsText k
+invalid_no_text k same = not_text k kind.ValueValidation (λ h. cc) (λ h. cc) same
+
+pub answered : {O E : Type 0} (words : List Text) (e : Error) (out : O) (errors : E) (a : Answered) (out' : O) (errors' : E) → IsRefusal words e → IsAnswerTo (kind_of e) out errors a out' errors' → IsAnswered words out errors a out' errors'
+answered words e out errors Shown out' errors' (inl wants) is = absurd (wants_no_text (kind_of e) wants is.0)
+answered words e out errors Shown out' errors' (inr (inl among)) is =
+    (record { kind = kind_of e; among = among; shown = is.0 }, is.1)
+answered words e out errors Shown out' errors' (inr (inr v)) is = absurd (invalid_no_text (kind_of e) v.0 is.0)
+answered words e out errors NotShown out' errors' (inl wants) is = absurd (wants_no_text (kind_of e) wants is.0)
+answered words e out errors NotShown out' errors' (inr (inl among)) is =
+    (record { kind = kind_of e; among = among; shown = is.0 }, is.1)
+answered words e out errors NotShown out' errors' (inr (inr v)) is = absurd (invalid_no_text (kind_of e) v.0 is.0)
+answered words e out errors Refused out' errors' (inl wants) is = absurd (is.1 wants)
+answered words e out errors Refused out' errors' (inr (inl among)) is =
+    (inl (record { kind = kind_of e; among = among; wrong = is.0 }), is.2)
+answered words e out errors Refused out' errors' (inr (inr v)) is = (inr v.1, is.2)
+answered words e out errors Memory out' errors' refusal is = (is.1, is.2)

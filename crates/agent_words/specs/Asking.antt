@@ -1,0 +1,74 @@
+-- What the words of a command line ask for.
+use Rattle.std.specs.Prelude.{◌≡◌, ℕ, Bool, true, false, codes, if◌then◌else◌, List, [], Option, Some, None, option_and_then}
+use Rattle.std.specs.Str.{bytes_eq}
+use Rattle.clap.specs.Words.{Row, Text, first_of, found_of, one_of, rows_of, fault_of, subcommand_of}
+use Rattle.clap.specs.declared.parser.matches.ArgMatches.{ArgMatches}
+use Rattle.agent_words.specs.Options.{agent_app}
+use Rattle.agent_words.specs.declared.asked.Asked.{Asked}
+use Rattle.agent_words.specs.declared.asked.Asked.TheVariants.{BuiltIn, Script, Check, Serve}
+use Rattle.agent_words.specs.declared.asked.Lasting.{Lasting}
+use Rattle.agent_words.specs.declared.asked.Lasting.TheVariants.{Rounds, Forever}
+
+pub data Asking : Type 0 where
+  -- the script by the built-in configuration
+  built_in : Asking
+  -- the script by the configuration of this file
+  script : (file : List ℕ) → Asking
+  -- whether this file is a configuration
+  check : (file : List ℕ) → Asking
+  -- the agent by the configuration of this file, over UDP, for so long
+  serve : (file : List ℕ) → Lasting → Asking
+
+-- the rows of a level's matches
+abbrev pub rows_in : ArgMatches → List Row
+rows_in m = rows_of (found_of m)
+
+-- whether a flag is given, by its value
+abbrev pub is_set : Option Text → Bool
+is_set None = false
+is_set (Some value) = bytes_eq value (codes "true")
+
+-- for how long an agent is served, by whether `--forever` is given
+abbrev pub lasting_by : Bool → Lasting
+lasting_by forever = if forever then Forever else Rounds
+
+-- what a subcommand asks for of a file, for so long where it serves
+abbrev pub asking_with : Text → Lasting → List ℕ → Option Asking
+asking_with name lasting file =
+    if bytes_eq name (codes "script") then Some (script file)
+    else if bytes_eq name (codes "check") then Some (check file)
+    else if bytes_eq name (codes "serve") then Some (serve file lasting)
+    else None
+
+-- the same by the rows of its matches
+abbrev pub asking_by : Text → List Row → Option Asking
+asking_by name rows = option_and_then
+    (asking_with name (lasting_by (is_set (one_of (codes "forever") rows))))
+    (first_of (codes "FILE") rows)
+
+-- what matches ask for: without a subcommand the script by the built-in configuration
+abbrev pub asking_in : Option (Text × List Row) → Option Asking
+asking_in None = Some built_in
+asking_in (Some entered) = asking_by entered.0 entered.1
+
+-- What words ask for, the program's name first.
+abbrev pub asking_of : List Text → Option Asking
+asking_of words = asking_in (subcommand_of agent_app words)
+
+abbrev pub asked_view : Asked → Asking
+asked_view BuiltIn = built_in
+asked_view (Script file) = script file.now
+asked_view (Check file) = check file.now
+asked_view (Serve file lasting) = serve file.now lasting
+
+-- These words ask for this: they have no fault, and it is what their matches say.
+pub record IsAsked (words : List Text) (asked : Asked) : Type 0 where
+  pub faultless : fault_of agent_app words ≡ []
+  pub asks : asking_of words ≡ Some (asked_view asked)
+
+-- What is asked for is to serve an agent.
+abbrev pub is_serving : Asked → Bool
+is_serving (Serve file lasting) = true
+is_serving BuiltIn = false
+is_serving (Script file) = false
+is_serving (Check file) = false

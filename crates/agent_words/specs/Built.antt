@@ -1,0 +1,16 @@
+-- What the parts of a command are, as it is built.
+use Rattle.std.specs.Prelude.{◌≡◌, false}
+use Rattle.clap.specs.Words.{App, Rule, app_of, rule_of}
+use Rattle.clap.specs.declared.builder.arg.Arg.{Arg}
+use Rattle.clap.specs.declared.builder.command.Command.{Command}
+use Rattle.clap.specs.declared.builder.command.Command.TheViews.{out-Command}
+
+-- an argument of this rule, of one command alone
+pub record IsArgument (rule : Rule) (a : Arg) : Type 0 where
+  pub ruled : rule_of a ≡ rule
+  pub local : a.global ≡ false
+
+-- a command of these words, which hands no argument down
+pub record HasWords (app : App) (c : Command) : Type 0 where
+  pub words : app_of c ≡ app
+  pub local : (out-Command c).has_globals ≡ false

@@ -1,0 +1,4 @@
+pub mod Options
+pub mod Built
+pub mod Asking
+pub mod Answers

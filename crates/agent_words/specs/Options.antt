@@ -1,0 +1,42 @@
+-- The words of `agentd` as `clap` reads them: one command with three subcommands, none of which has to stand.
+use Rattle.std.specs.Prelude.{codes, true, false, [], ◌∷◌, Some}
+use Rattle.clap.specs.Words.{App, Rule, Shape, Text, new_rule}
+use Rattle.clap.specs.Simple.{new_shape}
+use Rattle.clap.specs.declared.builder.action.ArgAction.TheVariants.{SetTrue}
+use Rattle.clap.specs.declared.builder.value_parser.ValueParser.TheVariants as parser
+
+-- `--config` and the name of a file, which has to stand
+abbrev pub config_option : Rule
+config_option = record (new_rule (codes "FILE")) {
+  long = Some (codes "config");
+  parser = Some parser.NonEmptyString;
+  required = true;
+}
+
+-- `--forever`
+abbrev pub forever_flag : Rule
+forever_flag = record (new_rule (codes "forever")) {
+  long = Some (codes "forever");
+  action = Some SetTrue;
+}
+
+-- what is done with a file
+abbrev pub file_shape : Text → Shape
+file_shape name = record (new_shape name) { rules = config_option ∷ [] }
+
+abbrev pub serve_shape : Shape
+serve_shape = record (new_shape (codes "serve")) { rules = config_option ∷ (forever_flag ∷ []) }
+
+-- what stands in front of that
+abbrev pub agent_shape : Shape
+agent_shape = record (new_shape (codes "agentd")) {
+  has_version = true;
+  disable_help_subcommand = true;
+}
+
+-- The words of `agentd`.
+abbrev pub agent_app : App
+agent_app = record {
+  top = record agent_shape { is_leaf = false };
+  subs = file_shape (codes "script") ∷ (file_shape (codes "check") ∷ (serve_shape ∷ []));
+}

@@ -1,0 +1,32 @@
+//! What words ask for.
+ghost use Rattle.std.specs.Prelude.{◌≡◌};
+ghost use Rattle.agent_words.specs.Asking.{is_serving};
+
+/// What words ask for.
+#[derive(Clone, Copy, Debug, PartialEq, Eq, Drop)]
+pub enum Asked<'a> {
+    /// The script by the built-in configuration.
+    BuiltIn,
+    /// The script by the configuration of this file.
+    Script(&'a str),
+    /// Whether this file is a configuration.
+    Check(&'a str),
+    /// The agent by the configuration of this file, over UDP, for so long.
+    Serve(&'a str, Lasting),
+}
+
+/// For how long an agent is served.
+#[derive(Clone, Copy, Debug, PartialEq, Eq, Drop)]
+pub enum Lasting {
+    /// Until each of its lines has made its rounds.
+    Rounds,
+    /// Without an end: each line begins its rounds anew.
+    Forever,
+}
+
+/// Whether it is asked to serve an agent.
+pub fn asks_to_serve(asked: &Asked<'_>) -> bool
+    ensures { result ≡ is_serving asked.now }
+{
+    matches!(asked, Asked::Serve(..))
+}

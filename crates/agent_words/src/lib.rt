@@ -1,0 +1,27 @@
+//! The words of `agentd`: what a command line asks for, or how it is answered.
+//!
+//! # Entry points
+//! [`read_words`] gives what words ask for, [`Asked`], and where it is to serve, for how long:
+//! [`Lasting`]. Words that are no command it answers, with help, the version or what is wrong with
+//! them, and says how: [`Answered`]. [`asks_to_serve`] says whether it is asked to serve an agent.
+//!
+//! # Definitions
+//! `specs/Options.antt`: the words, as clap reads them; `specs/Built.antt`: what is built of them;
+//! `specs/Asking.antt`: what words ask for; `specs/Answers.antt`: how words that are no command are
+//! answered.
+//!
+//! # Laws
+//! None.
+//!
+//! # Not claimed
+//! The texts of help, of the version and of errors; that a growth or a write succeeds; that memory
+//! was refused where that is said.
+#![tactic(auto)]
+
+mod asked;
+mod matches;
+mod options;
+mod program;
+
+pub use asked::{Asked, Lasting, asks_to_serve};
+pub use program::{Answered, read_words};

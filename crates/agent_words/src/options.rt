@@ -1,0 +1,144 @@
+//! The words of `agentd`, and what its help says of them.
+ghost use Rattle.std.specs.Prelude.{[], codes, IfOk};
+ghost use Rattle.agent_words.specs.Options.{config_option, forever_flag, file_shape, serve_shape, agent_shape, agent_app};
+ghost use Rattle.agent_words.specs.Built.{IsArgument, HasWords};
+
+use clap::builder::ValueParser;
+use clap::{Arg, ArgAction, Command};
+use std::alloc::{AllocError, Global};
+
+/// What stands below the help.
+const AFTER_HELP: &str =
+    "Without a command the script runs by the built-in configuration: address 02000000000A, two ports,
+the communities public and admin. 'agentd script --help' has the lines of a script.
+
+Exit status: 0; 1 if the input, the output or the run failed; 2 if the words are no command, or if
+FILE cannot be read or is refused.
+
+Example: printf 'link 1 up\\ntick 2\\n' | agentd script --config agentd.toml";
+
+/// The lines of a script.
+const SCRIPT_HELP: &str = "Lines of a script, from standard input:
+  request HEX       a datagram: reply HEX, or drop and the cause
+  frame P HEX       a frame by port P: forward P,P.. or forward -, then the BPDUs that are sent, or
+                    badframe and the cause
+  tick N            N seconds pass, 1 to 100000: the BPDUs that are sent
+  link P up         the link of port P goes up: the BPDUs that are sent
+  link P down       the link of port P goes down: the same
+  policy, end       the lines of TOML between them are the policy from there on: policy ok, or policy
+                    refused
+  audit on          the audit of each request is written too; audit off: no longer
+  counts            how many datagrams were dropped, by cause
+  driver N..        the ports' devices fail at these of their next 64 calls, and at no other
+  any other line    badline";
+
+/// What serving needs of FILE, and how it goes on.
+const SERVE_HELP: &str =
+    "FILE has to have the table serve, and listen and peer of each port: else it is refused.
+
+One socket takes the requests, and one of each port its frames. Each thread that answers and each
+port makes as many receives as rounds says, of at most a second each, and the clock as many seconds.
+When all are done, what was done is logged on standard error: entries E requests Q older O drops D.
+
+With --forever each begins its rounds anew when they are done. That line comes each time the clock is
+done, and one where a thread, a port or the clock ends, with its reason; the others go on.
+
+Exit status: 0; 1 if nothing could be served, or if one of them failed; 2 if the words are no
+command, or if FILE cannot be read or is refused.";
+
+/// The words of `agentd`: a subcommand for what is done with a file.
+pub(crate) fn agent_command<'a>(alloc: Global) -> Result<Command<'a>, AllocError>
+    ensures { IfOk result (HasWords agent_app) }
+{
+    let script = script_command(alloc)?;
+    let check = check_command(alloc)?;
+    let serve = serve_command(alloc)?;
+    agent_options(alloc)
+        .subcommand(script)?
+        .subcommand(check)?
+        .subcommand(serve)
+}
+
+// What stands in front of a subcommand.
+fn agent_options<'a>(alloc: Global) -> Command<'a>
+    ensures { HasWords (record { top = agent_shape; subs = [] }) result }
+{
+    Command::new(alloc, "agentd")
+        .about("An SNMPv2c agent of a bridge, driven by a script or served over UDP")
+        .after_help(AFTER_HELP)
+        .version("0.1")
+        .disable_help_subcommand(true)
+}
+
+// `script`: the script by a file.
+fn script_command<'a>(alloc: Global) -> Result<Command<'a>, AllocError>
+    ensures { IfOk result (HasWords (record { top = file_shape (codes "script"); subs = [] })) }
+{
+    file_command(
+        alloc,
+        "script",
+        "Runs the script on standard input by the configuration in FILE",
+        SCRIPT_HELP,
+    )
+}
+
+// `check`: whether a file is a configuration.
+fn check_command<'a>(alloc: Global) -> Result<Command<'a>, AllocError>
+    ensures { IfOk result (HasWords (record { top = file_shape (codes "check"); subs = [] })) }
+{
+    file_command(
+        alloc,
+        "check",
+        "Says whether FILE is a configuration, and if not, what would be right",
+        "Exit status: 0 if it is one, 2 if not, 1 if that cannot be printed.",
+    )
+}
+
+// `serve`: an agent by a file, for its rounds or without an end.
+fn serve_command<'a>(alloc: Global) -> Result<Command<'a>, AllocError>
+    ensures { IfOk result (HasWords (record { top = serve_shape; subs = [] })) }
+{
+    file_command(
+        alloc,
+        "serve",
+        "Serves the agent of FILE over UDP: its requests and its ports' frames",
+        SERVE_HELP,
+    )?
+    .arg(forever_flag(alloc))
+}
+
+// What is done with a file.
+fn file_command<'a>(
+    alloc: Global,
+    name: &'a str,
+    about: &'a str,
+    after_help: &'a str,
+) -> Result<Command<'a>, AllocError>
+    ensures { IfOk result (HasWords (record { top = file_shape name.entry.now; subs = [] })) }
+{
+    Command::new(alloc, name)
+        .about(about)
+        .after_help(after_help)
+        .arg(config_option(alloc))
+}
+
+// `--config FILE`.
+fn config_option<'a>(alloc: Global) -> Arg<'a>
+    ensures { IsArgument config_option result }
+{
+    Arg::new(alloc, "FILE")
+        .long("config")
+        .value_parser(ValueParser::NonEmptyString)
+        .required(true)
+        .help("The configuration, a TOML document")
+}
+
+// `--forever`.
+fn forever_flag<'a>(alloc: Global) -> Arg<'a>
+    ensures { IsArgument forever_flag result }
+{
+    Arg::new(alloc, "forever")
+        .long("forever")
+        .action(ArgAction::SetTrue)
+        .help("Serve without an end")
+}

@@ -1,0 +1,96 @@
+//! What the words of the program ask for, or how they are answered.
+ghost use Rattle.std.specs.Prelude.{◌≡◌, ◌⊎◌, map, string_bytes, IfOk, IfErr, OnOk};
+ghost use Rattle.clap.specs.Words.{kind_of};
+ghost use Rattle.clap.specs.declared.error.kind.ErrorKind.TheVariants.{OutOfMemory, ValueValidation};
+ghost use Rattle.agent_words.specs.Asking.{IsAsked};
+ghost use Rattle.agent_words.specs.Answers.{IsText, IsRefusal, IsAnswerTo, IsAnswered};
+
+use crate::asked::Asked;
+use crate::matches::asked_in;
+use crate::options::agent_command;
+use clap::error::ErrorKind;
+use clap::{Command, Error};
+use std::alloc::Global;
+use std::io::Write;
+
+/// How words that are no command were answered.
+#[derive(Clone, Copy, Debug, PartialEq, Eq, Drop)]
+pub enum Answered {
+    /// Help or the version is written.
+    Shown,
+    /// Help or the version was asked for, and the output failed.
+    NotShown,
+    /// What is wrong with the words stands on standard error, as far as that took it.
+    Refused,
+    /// There was no memory for the words, and nothing is written.
+    Memory,
+}
+
+/// What the words of a command line ask for, the program's name first; nothing is written then.
+///
+/// # Errors
+/// How words that are no command were answered: help and the version on `out`, what is wrong on
+/// `errors`.
+pub fn read_words<'a, O: Write, E: Write>(
+    alloc: Global,
+    words: &'a [String],
+    out: &mut O,
+    errors: &mut E,
+) -> Result<Asked<'a>, Answered>
+    ensures asked { IfOk result (IsAsked (map string_bytes words.now)) }
+    ensures unwritten { OnOk result ((out.new ≡ out.old) × (errors.new ≡ errors.old)) }
+    ensures answered { IfErr result (λ answered. IsAnswered (map string_bytes words.now)
+        out.old errors.old answered out.new errors.new) }
+{
+    match asked_by(alloc, words) {
+        Ok(asked) => Ok(asked),
+        Err(error) => Err(answer(&error, out, errors)),
+    }
+}
+
+// What the words ask for, or the error of them.
+fn asked_by<'a>(alloc: Global, words: &'a [String]) -> Result<Asked<'a>, Error>
+    ensures asked { IfOk result (IsAsked (map string_bytes words.now)) }
+    ensures refused { IfErr result (IsRefusal (map string_bytes words.now)) }
+{
+    let mut agent = agent_command(alloc)?;
+    let matches = agent.try_get_matches_from_mut(words)?;
+    match asked_in(&matches) {
+        Some(asked) => Ok(asked),
+        None => Err(no_command(&mut agent)),
+    }
+}
+
+// The error of matches that say nothing, with the usage.
+fn no_command(agent: &mut Command<'_>) -> Error
+    ensures { (kind_of result ≡ OutOfMemory) ⊎ (kind_of result ≡ ValueValidation) }
+{
+    match agent.error(ErrorKind::ValueValidation, "no command") {
+        Ok(error) => error,
+        Err(error) => Error::from(error),
+    }
+}
+
+// Writes what an error of the words says, help and the version on the output.
+fn answer<O: Write, E: Write>(error: &Error, out: &mut O, errors: &mut E) -> Answered
+    ensures { IsAnswerTo (kind_of error.now) out.old errors.old result out.new errors.new }
+{
+    match error.kind() {
+        ErrorKind::DisplayHelp | ErrorKind::DisplayVersion => show(error, out),
+        ErrorKind::OutOfMemory => Answered::Memory,
+        _ => {
+            let _written = write!(errors, "agentd: {error}");
+            Answered::Refused
+        }
+    }
+}
+
+// Writes a text that was asked for.
+fn show<O: Write>(text: &Error, out: &mut O) -> Answered
+    ensures { (result ≡ Answered.Shown) ⊎ (result ≡ Answered.NotShown) }
+{
+    match write!(out, "{text}") {
+        Ok(()) if out.flush().is_ok() => Answered::Shown,
+        _ => Answered::NotShown,
+    }
+}

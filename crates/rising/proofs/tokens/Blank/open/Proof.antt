@@ -1,0 +1,113 @@
+-- `open` hands out the number under its name, and that it has reached 0.
+use mathlib.Core.Path.{refl, sym, subst}
+use mathlib.Core.List.{List, [], ◌∷◌, ◌++◌}
+use Prim.Native.Nat.{ℕ}
+use seplogic.Ra.Ura.{Ura}
+use mir.Syntax.{Fn, Dict, dcons, dnil, a_type}
+use mir.Val.{Val, vstruct, vcons, vnil, of_list}
+use mir.MapTy.{inst_fn}
+use base.Logic.{SProp, ent, via, fst∗, snd∗}
+use base.Fml.{Fml, ftrue, fsep, feq, flft}
+use prog.Wp.{WpFn}
+use prog.Model.{Model}
+use types.Logic.{Logic, sem}
+use contract.Monad.{fact_use}
+use contract.Running.{Running, MachineTables, tables, tables_of}
+use sound.WpLaws.{WpFn-mono}
+use types.Kit.{‵, raw, ◌⊛◌, ◌$◌, ◌∵◌, !, qed, move, keep, split, join, fsplit, fjoin, fjoin3, fpack, suffices, frame, use0, use1, feq_i}
+use types.Run.{no_more, and_then, returns, enter}
+use types.ByLocal.{alloc_all, pass_all, free_all, look_at, get, sets}
+use types.Part.{agg}
+use denote.Exit.{yes}
+use denote.RattleType.{RattleType, Valss, owns}
+use denote.Laws.{Are, Ises, owns_show, showss}
+use denote.Signature.{types_at, plain}
+use denote.Builtin.{unit}
+use denote.Steps.{nothing}
+use denote.Param.{param, bounded}
+use denote.Triple.Clauses.{Clauses, closing}
+use denote.Triple.Entry.{on_entry, alive}
+use denote.Triple.Spec.{Meets, triple_of}
+use denote.Triple.Table.{entered}
+use denote.Triple.Walked.{Stays, stay_dropped, walk_of, ends_at, Goes-dropped, walk_Meets}
+use contract.CodeStep
+use Rattle.rising.specs.Owning.{latest_owns, reached_owns}
+use Rattle.rising.specs.declared.tokens.Rising.{Ghosts}
+use Rattle.rising.proofs.Steps as steps
+use Rattle.rising.specs.contracts.tokens.Blank as blank
+use Rattle.rising.specs.contracts.tokens.Latest as latest
+use Rattle.rising.specs.contracts.tokens.Reached as reached
+use Rattle.rising.proofs.Walks.{token, Mark, told, made, hears, hears_last, tells, tells_last}
+use Rattle.rising.specs.contracts.tokens.Blank.open.{ended, clauses}
+use Rattle.rising.specs.contracts.tokens.Blank.open.Key.{name as #self}
+use Rattle.rising.proofs.tokens.Blank.open.Statement as stated
+use Rattle.rising.proofs.tokens.Blank.open.Code as code
+
+module _ (Y : RattleType) (g : Ghosts Y.Denot) (d : Dict) {M : Type 1} {𝓤 : Ura M} (𝓛 : Logic 𝓤) (𝓜 : Model 𝓤 𝓛.H) (𝓡 : Running 𝓤 𝓛.H 𝓜) where
+  open 𝓛 use {H}
+
+  abbrev function : Fn
+  function = inst_fn (bounded (a_type ∷ []) (Y, tt) (dcons d dnil)) code.function
+
+  abbrev A : RattleType
+  A = latest.the_row (param 0 Y) g
+
+  abbrev B : RattleType
+  B = reached.the_row (param 0 Y) g
+
+  abbrev stayed : Stays (ended Y g d).signature.params (ended Y g d).kept
+  stayed = (stay_dropped (plain (λ _. blank.the_row)) yes, tt)
+
+  abbrev 𝓣 : MachineTables 𝓤 H 𝓜
+  𝓣 = tables 𝓤 H 𝓜 𝓡 𝓡.env
+
+  abbrev held : Clauses 𝓤 (ended Y g d)
+  held = clauses Y g d 𝓛 𝓜.mem 𝓡.returns
+
+  module _ (z : (walk_of 𝓛 (ended Y g d) stayed held).Ghost) where
+    abbrev Vss : Type 0
+    Vss = List Val × Unit {0}
+
+    abbrev At : Vss → (walk_of 𝓛 (ended Y g d) stayed held).Ghost
+    At vss = ((z.0.0, z.0.1, z.0.2, z.0.3, vss), z.1)
+
+    abbrev Goes : Vss → Type 1
+    Goes vss = ent 𝓤 ((walk_of 𝓛 (ended Y g d) stayed held).pre (At vss)) (WpFn 𝓤 H 𝓣.C 𝓣.Λ function ((walk_of 𝓛 (ended Y g d) stayed held).args (At vss)) ((walk_of 𝓛 (ended Y g d) stayed held).post (At vss)))
+
+    abbrev a : (blank.the_row).Denot
+    a = z.0.3.0
+
+    abbrev passed : Vss
+    passed = (token ∷ [], tt)
+
+    abbrev args : Fml
+    args = owns (types_at (ended Y g d).signature.params z.0.0) z.0.3 passed
+
+    abbrev asked : SProp 𝓤
+    asked = (held z.0.0 z.0.3).requires z.1
+
+    walks : Goes passed
+    walks =
+        let latest₀ : A.Denot = record { marker = record {}; number = 0 } in let reached₀ : B.Denot = record { marker = record {}; number = 0 } in let v : Val = vstruct (vcons token (vcons token vnil)) in
+        qed 𝓛 (((‵ (flft z.0.0.0 z.0.1.0) ⊛ ‵ ftrue) ⊛ ‵ args) ∷ raw asked ∷ []) ∵ move ! (1 ∷ []) $ hears ! (λ _. hears_last ! (λ named. split ! $ move ! (1 ∷ []) $ fsplit ! $ fsplit ! $ keep ! (1 ∷ 3 ∷ []) $
+        types.Kit.rewrite ! 0 (λ (p : ℕ). ‵ (latest_owns p 0)) {x = g.rise} {y = a.name} named refl $ use1 𝓛 (‵ (latest_owns g.rise 0) ⊛ ‵ (reached_owns g.rise 0)) (steps.shows 𝓛 g.rise 0) $ split ! $
+        enter ! 𝓣.C 𝓣.Λ function (token ∷ []) _ $ alloc_all ! (λ l. pass_all ! refl ((tt, (tt, tt)), tt) $ sets ! (agg ! (no_more !)) refl (tt, tt) $ sets ! (agg ! (and_then ! (get ! refl) (no_more !))) refl (tt, (tt, tt)) $ sets ! (agg ! (no_more !)) refl (tt, tt) $ sets ! (agg ! (and_then ! (get ! refl) (no_more !))) refl (tt, (tt, tt)) $
+        sets ! (agg ! (and_then ! (get ! refl) (and_then ! (get ! refl) (no_more !)))) refl (tt, ((tt, tt), ((tt, tt), tt))) $
+        returns ! (look_at ! 0 refl) $ free_all ! refl $ suffices ! _ (ends_at 𝓛 (ended Y g d) stayed held (At passed) v (latest₀, reached₀) (tt, tt) (tt, tt)) $
+        use0 𝓛 (‵ ((Mark (latest.the_type (param 0 Y) g).name (param 0 Y ∷ []) (param 0 Y)).own_val (tt, tt) (token ∷ []))) (made (latest.the_type (param 0 Y) g).name (param 0 Y ∷ []) (param 0 Y) 𝓛) $ fjoin ! $ move ! (1 ∷ []) $ use0 𝓛 (‵ ((Mark (reached.the_type (param 0 Y) g).name (param 0 Y ∷ []) (param 0 Y)).own_val (tt, tt) (token ∷ []))) (made (reached.the_type (param 0 Y) g).name (param 0 Y ∷ []) (param 0 Y) 𝓛) $ fjoin ! $ nothing ! $ move ! (2 ∷ 1 ∷ 0 ∷ []) $ fjoin3 ! $ feq_i ! (List Val) (v ∷ []) (v ∷ []) refl $ fjoin ! $
+        fpack ! (Valss (A ∷ B ∷ [])) (λ vss. fsep (feq (List Val) (v ∷ []) (vstruct (of_list (vss.0 ++ (vss.1.0 ++ []))) ∷ [])) (owns (A ∷ B ∷ []) (latest₀, (reached₀, tt)) vss)) (token ∷ [], (token ∷ [], tt)) $
+        nothing ! $ nothing ! $ fjoin ! $ join ! $ move ! (1 ∷ 0 ∷ []) $ join ! $ frame ! $ tells ! refl $ tells_last ! refl)))
+
+  meets : Meets 𝓛 (ended Y g d).signature (WpFn 𝓤 H 𝓣.C 𝓣.Λ function) (closing 𝓛 (ended Y g d) held)
+  unfolding tables_of contract.CodeStep.c_Tables
+  meets =
+      walk_Meets 𝓛 (ended Y g d) stayed (Goes-dropped 𝓛 1 (plain (λ _. blank.the_row)) yes (λ κs x f. refl), tt) held
+      (WpFn 𝓤 H 𝓣.C 𝓣.Λ function) (WpFn-mono 𝓤 H 𝓛.laws (tables_of 𝓤 H 𝓜 𝓣) function)
+      (λ z. let a = z.0.3 in let vss = z.0.4 in let Rs : List RattleType = types_at (ended Y g d).signature.params z.0.0 in let On : SProp 𝓤 = on_entry 𝓛 (ended Y g d).signature z.0.0 z.0.1 a vss in
+      fact_use 𝓤 (Are Rs (Ises Rs) a vss) (via 𝓤 (sem 𝓛 (owns Rs a vss)) (via 𝓤 On (fst∗ 𝓤 On (asked z)) (snd∗ 𝓤 (alive 𝓛 (ended Y g d).signature z.0.0 z.0.1) (sem 𝓛 (owns Rs a vss)))) (owns_show 𝓛 Rs (Ises Rs) (showss 𝓛 Rs) a vss)) (λ are.
+      subst (Goes z) (λ i. (sym (told (blank.the_type).name [] unit vss.0 are.0.0) i, tt)) (walks z)))
+
+pub open_spec : {M : Type 1} → stated.statement M
+open_spec 𝓤 𝓛 𝓜 𝓡 wired Y laws g d _ = let 𝓣' = tables 𝓤 𝓛.H 𝓜 𝓡 𝓡.env in
+    entered 𝓤 𝓛.H (triple_of 𝓛 (ended Y g d).signature (closing 𝓛 (ended Y g d) (held Y g d 𝓛 𝓜 𝓡))) 𝓣'.C 𝓣'.Λ (#self (bounded (a_type ∷ []) (Y, tt) (dcons d dnil))) (function Y g d 𝓛 𝓜 𝓡)
+    (code.unfolded 𝓤 𝓛.H 𝓜 𝓡 wired (Y, tt) d) (meets Y g d 𝓛 𝓜 𝓡)
