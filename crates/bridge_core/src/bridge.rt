@@ -7,7 +7,7 @@ ghost use Rattle.bridge_core.specs.Forwarding.{AsksMemory, MayLackMemory, egress
 ghost use Rattle.bridge_core.specs.Counting.{sent_where, has_bpdu};
 ghost use Rattle.fdb_core.specs.Rows.{other_rows};
 ghost use Rattle.fdb_core.specs.PortSets.{IsOfPorts};
-ghost use Rattle.fdb_core.specs.Statics.{with_places_for, next_made};
+ghost use Rattle.fdb_core.specs.Statics.{made_rows, with_places_for, next_made};
 ghost use Rattle.bridge_core.specs.Statics.{is_made, allowed, set_made, set_allowed, HasPlaceFrom, HasStatics};
 ghost use Rattle.bridge_core.specs.StaticIndexes.{IsStaticIndex};
 ghost use Rattle.bridge_core.specs.Events.{Gives, frame_result, reception_result, data_result, after_reception, after_learning, after_forwarding, after_tree_step, arrival_of, tick_of, after_tick, link_of, after_link, settling_of, after_settling, set_bridge};
@@ -330,6 +330,13 @@ impl Bridge {
         ensures { result ≡ next_made self.now.statics.rows numbers.now }
     {
         self.statics.next_made(numbers)
+    }
+
+    /// How many static rows are made (RFC 4188 dot1dStaticTable).
+    pub fn made_statics(&self) -> usize
+        ensures { result ≡ length (made_rows self.now.statics.rows) }
+    {
+        self.statics.made_count()
     }
 
     /// For how many static rows in all there is sure to be memory, those that are there among them. It

@@ -140,3 +140,10 @@ pub fn keep_made(rows: &mut Vec<StaticRow>)
 {
     rows.retain(|row| row.made);
 }
+
+/// How many rows are made.
+pub fn count_made(rows: &[StaticRow]) -> usize
+    ensures { result ≡ length (made_rows rows.now) }
+{
+    rows.iter().filter(|row| row.made).count()
+}
