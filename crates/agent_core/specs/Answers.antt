@@ -30,7 +30,7 @@ use Rattle.setphase_core.specs.Registry.{rows_of, prefixes_of, instances}
 use Rattle.agent_core.specs.Buffered.{Buffered}
 use Rattle.agent_core.specs.Denying.{denied_in}
 use Rattle.agent_core.specs.Replies.{reply_within_limit, refusal_reply, kind_reply}
-use Rattle.agent_core.specs.Sets.{SetStep, set_step, set_calls, no_notes, MayFailInSet, IsDeniedSet}
+use Rattle.agent_core.specs.Sets.{SetStep, set_step, set_calls, no_notes, MayFailInSet, TakesInSet}
 use Rattle.agent_core.specs.declared.answered.Answered.{Answered}
 use Rattle.agent_core.specs.declared.answered.Answered.TheVariants as answered
 use Rattle.agent_core.specs.declared.sent_reply.SentReply.{SentReply}
@@ -129,13 +129,13 @@ pub record AgreesOnAsked (shown other : Shown) (view other_view : List ℕ) (req
   pub asked : All (λ b. in_view shown.policy.vacm.families view b.name
       ≡ in_view other.policy.vacm.families other_view b.name) request.bindings
 
--- Answering a request of this kind in a view may take memory: it reads, or it is a Set whose audit
--- names a variable to which the view gives no access.
+-- Answering a request of this kind in a view may take memory: it reads, or it is a Set that may take
+-- some.
 abbrev pub TakesInView : List ObjectRow → World → List ℕ → Request → Kind → Type 0
 TakesInView rows world view request Get = Unit {0}
 TakesInView rows world view request GetNext = Unit {0}
 TakesInView rows world view request GetBulk = Unit {0}
-TakesInView rows world view request Set = IsDeniedSet rows world view request
+TakesInView rows world view request Set = TakesInSet rows world view request
 
 -- Answering a request may take memory: it is let in to a view, and takes some there.
 pub record TakesMemory (rows : List ObjectRow) (world : World) (request : Request) : Type 0 where

@@ -1,5 +1,5 @@
 -- What answers a Set that is let in to a view, and what it leaves (RFC 3416, 4.2.5).
-use Rattle.std.specs.Prelude.{◌≡◌, ℕ, pos, Bool, true, false, not, nat_lt, if◌then◌else◌, List, [], ◌∷◌, length, map, Option, Some, None, IsSome}
+use Rattle.std.specs.Prelude.{◌≡◌, ℕ, ◌<◌, pos, Bool, true, false, not, nat_lt, if◌then◌else◌, List, [], ◌∷◌, length, map, Option, Some, None, IsSome}
 use Rattle.message_core.specs.Canon.{canon_reply, answer_to}
 use Rattle.message_core.specs.declared.limits.TheConstants.{MAX_REPLY}
 use Rattle.message_core.specs.declared.reply.Reply.{Reply}
@@ -18,7 +18,8 @@ use Rattle.setphase_core.specs.Objects.{ObjectRow, ObjectState}
 use Rattle.setphase_core.specs.Registry.{rows_of}
 use Rattle.setphase_core.specs.Settings.{same_settings_of}
 use Rattle.setphase_core.specs.Variables.{Written, writings}
-use Rattle.setphase_core.specs.Together.{refusal_of}
+use Rattle.setphase_core.specs.Together.{assignments, refusal_of}
+use Rattle.setphase_core.specs.Staging.{static_count}
 use Rattle.setphase_core.specs.Outcomes.{SetNotes, AreNotes, refusal_in, notes_in, world_after_set}
 use Rattle.setphase_core.specs.Calls.{Call, calls_of, object_after_set}
 use Rattle.agent_core.specs.Denying.{denied_variable}
@@ -188,8 +189,14 @@ abbrev pub IsDenied : Option Refusal → Type 0
 IsDenied (Some refusal) = IsSome refusal.family
 IsDenied None = ⊥
 
--- A Set is refused so; its audit names the variable.
-pub record IsDeniedSet (rows : List ObjectRow) (world : World) (view : List ℕ)
+-- A Set whose answer may take memory: its audit names a variable to which the view gives no access;
+-- or it is not refused, and one of its variables writes a setting of a static row.
+abbrev pub TakesInSetBy : Option Refusal → List Written → Type 0
+TakesInSetBy (Some refusal) ws = IsSome refusal.family
+TakesInSetBy None ws = 0 < static_count (assignments ws)
+
+pub record TakesInSet (rows : List ObjectRow) (world : World) (view : List ℕ)
     (request : Request) : Type 0 where
   pub fits : is_too_long request ≡ false
-  pub denied : IsDenied (refusal_of rows world view request.bindings)
+  pub takes : TakesInSetBy (refusal_of rows world view request.bindings)
+      (writings rows world request.bindings)

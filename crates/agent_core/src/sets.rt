@@ -8,7 +8,7 @@ ghost use Rattle.setphase_core.specs.Registry.{rows_of};
 ghost use Rattle.setphase_core.specs.Outcomes.{refusal_in, notes_in, changed_in, NamesASetting};
 ghost use Rattle.setphase_core.specs.Settings.{same_settings};
 ghost use Rattle.setphase_core.specs.Calls.{FollowPlans};
-ghost use Rattle.agent_core.specs.Sets.{greatest_index, set_step, set_calls, settled, settled_bpdus, IsDenied, IsDeniedSet, IsToldOf, MayFailInSet};
+ghost use Rattle.agent_core.specs.Sets.{greatest_index, set_step, set_calls, settled, settled_bpdus, IsDenied, TakesInSet, IsToldOf, MayFailInSet};
 ghost use Rattle.agent_core.specs.Answers.{IsDone, notes_told, writing_step};
 
 use crate::answered::Answered;
@@ -185,7 +185,8 @@ fn told(
 /// what could not be undone, and settled once where a setting differs from before.
 ///
 /// # Errors
-/// Only memory can fail, for the audit of a variable that is not in the view: nothing is changed.
+/// Only memory can fail, for the audit of a variable that is not in the view, or for the static rows
+/// that the Set may bring in: nothing is changed.
 pub(crate) fn answer_set<O: MibObject>(
     alloc: Global,
     registry: &mut Registry<O>,
@@ -207,7 +208,7 @@ pub(crate) fn answer_set<O: MibObject>(
     ensures done { IfOk result (λ told. IsDone (writing_step request.now row view
         (set_step registry.old world.old view request.now (notes_told told)))
         told buffer.new world.new registry.new) }
-    ensures takes { OnErr result (IsDeniedSet (rows_of registry.old) world.old view request.now) }
+    ensures takes { OnErr result (TakesInSet (rows_of registry.old) world.old view request.now) }
     ensures empty { OnErr result (buffer.new.reply ≡ []) }
     ensures unsent { OnErr result (buffer.new.bpdus ≡ []) }
     ensures unchanged { OnErr result (world.new ≡ world.old) }
@@ -220,7 +221,7 @@ pub(crate) fn answer_set<O: MibObject>(
     }
     let bindings = request.bindings.as_slice();
     let before = world.bridge.copied_settings();
-    let outcome = run_set(registry, world, bindings, &view);
+    let outcome = run_set(registry, world, bindings, &view)?;
     let changed = changed(&outcome, &before, world);
     let answer = set_answer(alloc, world.policy.vacm(), outcome)?;
     settle(changed, world, buffer);

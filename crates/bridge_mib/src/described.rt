@@ -93,8 +93,8 @@ impl<D: Descriptor> MibObject for Described<D> {
     }
 
     fn test(&mut self, world: &World, at: &[u32], value: &Value) -> Result<Slot, SetFault> {
-        self.slots
-            .reserve(assignment_by(self.which.writable(), world, at, value))
+        let tested = assignment_by(self.which.writable(), world, at, value);
+        self.slots.reserve(world, tested)
     }
 
     fn commit(&mut self, world: &mut World, slot: Slot) -> Result<(), DeviceFault> {

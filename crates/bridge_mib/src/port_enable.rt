@@ -100,7 +100,7 @@ impl<L: LineDriver> MibObject for PortEnable<L> {
     fn test(&mut self, world: &World, at: &[u32], value: &Value) -> Result<Slot, SetFault> {
         let writable = StpPort::Enable.writable();
         self.slots
-            .reserve(assignment_by(writable, world, at, value))
+            .reserve(world, assignment_by(writable, world, at, value))
     }
 
     fn commit(&mut self, world: &mut World, slot: Slot) -> Result<(), DeviceFault>

@@ -36,3 +36,5 @@ pub mod Faults
 pub mod Runs
 pub mod Told
 pub mod Kept
+pub mod StaticIndexes
+pub mod Reserving

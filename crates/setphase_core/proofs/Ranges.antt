@@ -1,5 +1,5 @@
 -- What a test lets pass is a setting that there is, and a value that it may have.
-use Rattle.std.proofs.Common.{◌≡◌, ℕ, zero, suc, ◌≤◌, ◌%◌, subst, refl, Bool, true, false, cond, nat_le, List, [], ◌∷◌, length, Option, Some, None, Ok, Err, arith, ◌⊎◌, inl, inr, ◌==◌, ◌&&◌, pos, negsuc}
+use Rattle.std.proofs.Common.{◌≡◌, ℕ, zero, suc, ◌≤◌, ◌%◌, subst, refl, Bool, true, false, cond, nat_le, List, [], ◌∷◌, length, Option, Some, None, IfSome, Ok, Err, nat_lt, arith, ◌⊎◌, inl, inr, ◌==◌, ◌&&◌, pos, negsuc}
 use Rattle.std.specs.Option.{option_map}
 use Rattle.std.proofs.lemmas.Bool.Decides.{nat_tests}
 use Rattle.oid_core.specs.Order.{name_eq}
@@ -10,16 +10,22 @@ use Rattle.rstp_settings.specs.declared.key.BridgeKey.{BridgeKey}
 use Rattle.rstp_settings.specs.declared.key.PortKey.{PortKey}
 use Rattle.rstp_settings.specs.declared.key.Key.TheVariants as key
 use Rattle.bridge_core.specs.Bridge.{port_count}
+use Rattle.bridge_core.specs.Statics.{HasStatics}
+use Rattle.bridge_core.specs.StaticIndexes.{IsStaticIndex}
+use Rattle.fdb_core.specs.declared.static_row.StaticIndex.{StaticIndex}
+use Rattle.fdb_core.specs.PortSets.{ports_in, has_other_port}
+use Rattle.fdb_core.proofs.PortSets.{read_of_ports}
 use Rattle.setting_keys.specs.declared.SettingKey.TheVariants as setting
-use Rattle.setting_keys.specs.declared.SettingValue.TheVariants.{Number}
+use Rattle.setting_keys.specs.declared.SettingValue.TheVariants.{Number, Ports}
 use Rattle.setphase_core.specs.declared.world.World.{World}
 use Rattle.setphase_core.specs.declared.object.Assignment.{Assignment}
-use Rattle.setphase_core.specs.declared.object.SetFault.TheVariants.{WrongValue}
+use Rattle.setphase_core.specs.declared.object.SetFault.TheVariants.{WrongLength, WrongValue}
+use Rattle.setphase_core.specs.declared.limits.TheConstants.{MAX_PORT_OCTETS}
 use Rattle.setphase_core.specs.declared.writable.Target.{Target}
 use Rattle.setphase_core.specs.declared.writable.Target.TheVariants as target
 use Rattle.setphase_core.specs.declared.writable.IntegerTarget.{IntegerTarget}
 use Rattle.setphase_core.specs.declared.writable.Writable.{Writable}
-use Rattle.setphase_core.specs.declared.writable.Writable.TheVariants.{Integer as Integers}
+use Rattle.setphase_core.specs.declared.writable.Writable.TheVariants.{Integer as Integers, Ports as PortOctets}
 use Rattle.setphase_core.specs.declared.column.Stp.{Stp}
 use Rattle.setphase_core.specs.declared.column.Stp.TheVariants as stp
 use Rattle.setphase_core.specs.declared.column.StpPort.{StpPort}
@@ -32,10 +38,15 @@ use Rattle.setphase_core.specs.declared.column.Tp.{Tp}
 use Rattle.setphase_core.specs.declared.column.Tp.TheVariants as tp
 use Rattle.setphase_core.specs.declared.column.Column.{Column}
 use Rattle.setphase_core.specs.declared.column.Column.TheVariants as column
-use Rattle.setphase_core.specs.Settings.{is_static}
 use Rattle.setphase_core.specs.Staging.{IsLegal}
 use Rattle.setphase_core.specs.Values.{port_index}
-use Rattle.setphase_core.specs.Writing.{writable_of, takes, number_given, key_at, assignment_at, assignment_by, assignment_of, stp_writable, stp_port_writable, rapid_writable, ext_port_writable, tp_writable}
+use Rattle.setphase_core.proofs.StaticIndexes.{named_is_index}
+use Rattle.setphase_core.specs.Writing.{writable_of, takes, number_given, key_at, static_index, assignment_at, allowed_assignment, assignment_by, assignment_of, stp_writable, stp_port_writable, rapid_writable, ext_port_writable, tp_writable}
+
+-- What holds of every world whose bridge is one.
+pub record IsSound (w : World) : Type 0 where
+  pub even : port_count w.bridge ≡ length w.bridge.settings.ports
+  pub statics : HasStatics w.bridge
 
 -- A number that an object takes.
 record Taken (x : IntegerTarget) (n : ℕ) : Type 0 where
@@ -54,11 +65,13 @@ taken x n e = record {
 abbrev IsTargetRange : Target → ℕ → Type 0
 IsTargetRange (target.Bridge k) v = IsBridgeRange k v
 IsTargetRange (target.Port k) v = IsPortRange k v
+IsTargetRange target.Made v = v ≤ 1
 
 -- What each object that is written gives is in the range of its setting.
 abbrev GivesRange : Option Writable → Type 0
 GivesRange None = Unit {0}
 GivesRange (Some (Integers x)) = (n : ℕ) → Taken x n → IsTargetRange x.target (number_given x.target n)
+GivesRange (Some PortOctets) = Unit {0}
 
 two_or_none : (n : ℕ) → n ≤ 2 → n % 2 ≡ 0 → (n ≡ 0) ⊎ (n ≡ 2)
 two_or_none zero h e = inl refl
@@ -154,86 +167,81 @@ port_legal k w (n ∷ []) v a even range e = one (nat_le 1 n && nat_le n (port_c
     one false is e = absurd (cc)
 port_legal k w (n ∷ m ∷ at) v a even range e = absurd (cc)
 
+made_legal : (w : World) (o : Option StaticIndex) (v : ℕ) (a : Assignment) → HasStatics w.bridge →
+    IfSome o (IsStaticIndex w.bridge) → v ≤ 1 → assignment_at (option_map setting.Made o) v ≡ Ok a → IsLegal w a
+made_legal w None v a statics is range e = absurd (cc)
+made_legal w (Some i) v a statics is range e =
+    let same : record { key = setting.Made i; value = Number v } ≡ a = cc in
+    subst (IsLegal w) same (record { key = record { index = is; rows = statics }; value = range })
+
 target_legal : (t : Target) (w : World) (at : List ℕ) (v : ℕ) (a : Assignment) →
-    port_count w.bridge ≡ length w.bridge.settings.ports → IsTargetRange t v → assignment_at (key_at t w at) v ≡ Ok a → IsLegal w a
-target_legal (target.Bridge k) w at v a even range e = bridge_legal k w (name_eq (0 ∷ []) at) v a range e
-target_legal (target.Port k) w at v a even range e = port_legal k w at v a even range e
+    IsSound w → IsTargetRange t v → assignment_at (key_at t w at) v ≡ Ok a → IsLegal w a
+target_legal (target.Bridge k) w at v a sound range e = bridge_legal k w (name_eq (0 ∷ []) at) v a range e
+target_legal (target.Port k) w at v a sound range e = port_legal k w at v a sound.even range e
+target_legal target.Made w at v a sound range e =
+    made_legal w (static_index w.bridge at) v a sound.statics (named_is_index w.bridge at) range e
 
 integer_legal : (x : IntegerTarget) (w : World) (at : List ℕ) (n : ℕ) (a : Assignment) (b : Bool) →
-    port_count w.bridge ≡ length w.bridge.settings.ports → GivesRange (Some (Integers x)) → takes x n ≡ b →
+    IsSound w → GivesRange (Some (Integers x)) → takes x n ≡ b →
     cond b (assignment_at (key_at x.target w at) (number_given x.target n)) (Err WrongValue) ≡ Ok a → IsLegal w a
-integer_legal x w at n a true even range is e =
-    target_legal x.target w at (number_given x.target n) a even (range n (taken x n is)) e
-integer_legal x w at n a false even range is e = absurd (cc)
+integer_legal x w at n a true sound range is e =
+    target_legal x.target w at (number_given x.target n) a sound (range n (taken x n is)) e
+integer_legal x w at n a false sound range is e = absurd (cc)
+
+allowed_legal : (w : World) (o : Option StaticIndex) (octets : List ℕ) (a : Assignment) → HasStatics w.bridge →
+    IfSome o (IsStaticIndex w.bridge) → has_other_port (port_count w.bridge) octets ≡ false →
+    allowed_assignment o octets ≡ Ok a → IsLegal w a
+allowed_legal w None octets a statics is none e = absurd (cc)
+allowed_legal w (Some i) octets a statics is none e =
+    let same : record { key = setting.Allowed i; value = Ports (ports_in octets) } ≡ a = cc in
+    subst (IsLegal w) same (record {
+      key = record { index = is; rows = statics };
+      value = read_of_ports octets (port_count w.bridge) none;
+    })
+
+ports_legal : (w : World) (at octets : List ℕ) (a : Assignment) (long other : Bool) → HasStatics w.bridge →
+    has_other_port (port_count w.bridge) octets ≡ other →
+    cond long (Err WrongLength) (cond other (Err WrongValue) (allowed_assignment (static_index w.bridge at) octets)) ≡ Ok a →
+    IsLegal w a
+ports_legal w at octets a true other statics is e = absurd (cc)
+ports_legal w at octets a false true statics is e = absurd (cc)
+ports_legal w at octets a false false statics is e =
+    allowed_legal w (static_index w.bridge at) octets a statics (named_is_index w.bridge at) is e
 
 by_legal : (x : Option Writable) (w : World) (at : List ℕ) (v : Value) (a : Assignment) →
-    port_count w.bridge ≡ length w.bridge.settings.ports → GivesRange x → assignment_by x w at v ≡ Ok a → IsLegal w a
-by_legal None w at v a even range e = absurd (cc)
-by_legal (Some (Integers x)) w at (value.Integer (pos n)) a even range e =
-    integer_legal x w at n a (takes x n) even range refl e
-by_legal (Some (Integers x)) w at (value.Integer (negsuc n)) a even range e = absurd (cc)
-by_legal (Some (Integers x)) w at (value.OctetString v) a even range e = absurd (cc)
-by_legal (Some (Integers x)) w at value.Null a even range e = absurd (cc)
-by_legal (Some (Integers x)) w at (value.ObjectIdentifier v) a even range e = absurd (cc)
-by_legal (Some (Integers x)) w at (value.IpAddress v) a even range e = absurd (cc)
-by_legal (Some (Integers x)) w at (value.Counter32 v) a even range e = absurd (cc)
-by_legal (Some (Integers x)) w at (value.Gauge32 v) a even range e = absurd (cc)
-by_legal (Some (Integers x)) w at (value.TimeTicks v) a even range e = absurd (cc)
-by_legal (Some (Integers x)) w at (value.Opaque v) a even range e = absurd (cc)
-by_legal (Some (Integers x)) w at (value.Counter64 v) a even range e = absurd (cc)
-by_legal (Some (Integers x)) w at value.NoSuchObject a even range e = absurd (cc)
-by_legal (Some (Integers x)) w at value.NoSuchInstance a even range e = absurd (cc)
-by_legal (Some (Integers x)) w at value.EndOfMibView a even range e = absurd (cc)
+    IsSound w → GivesRange x → assignment_by x w at v ≡ Ok a → IsLegal w a
+by_legal None w at v a sound range e = absurd (cc)
+by_legal (Some (Integers x)) w at (value.Integer (pos n)) a sound range e =
+    integer_legal x w at n a (takes x n) sound range refl e
+by_legal (Some (Integers x)) w at (value.Integer (negsuc n)) a sound range e = absurd (cc)
+by_legal (Some (Integers x)) w at (value.OctetString v) a sound range e = absurd (cc)
+by_legal (Some (Integers x)) w at value.Null a sound range e = absurd (cc)
+by_legal (Some (Integers x)) w at (value.ObjectIdentifier v) a sound range e = absurd (cc)
+by_legal (Some (Integers x)) w at (value.IpAddress v) a sound range e = absurd (cc)
+by_legal (Some (Integers x)) w at (value.Counter32 v) a sound range e = absurd (cc)
+by_legal (Some (Integers x)) w at (value.Gauge32 v) a sound range e = absurd (cc)
+by_legal (Some (Integers x)) w at (value.TimeTicks v) a sound range e = absurd (cc)
+by_legal (Some (Integers x)) w at (value.Opaque v) a sound range e = absurd (cc)
+by_legal (Some (Integers x)) w at (value.Counter64 v) a sound range e = absurd (cc)
+by_legal (Some (Integers x)) w at value.NoSuchObject a sound range e = absurd (cc)
+by_legal (Some (Integers x)) w at value.NoSuchInstance a sound range e = absurd (cc)
+by_legal (Some (Integers x)) w at value.EndOfMibView a sound range e = absurd (cc)
+by_legal (Some PortOctets) w at (value.Integer v) a sound range e = absurd (cc)
+by_legal (Some PortOctets) w at (value.OctetString octets) a sound range e =
+    ports_legal w at octets a (nat_lt MAX_PORT_OCTETS (length octets)) (has_other_port (port_count w.bridge) octets) sound.statics refl e
+by_legal (Some PortOctets) w at value.Null a sound range e = absurd (cc)
+by_legal (Some PortOctets) w at (value.ObjectIdentifier v) a sound range e = absurd (cc)
+by_legal (Some PortOctets) w at (value.IpAddress v) a sound range e = absurd (cc)
+by_legal (Some PortOctets) w at (value.Counter32 v) a sound range e = absurd (cc)
+by_legal (Some PortOctets) w at (value.Gauge32 v) a sound range e = absurd (cc)
+by_legal (Some PortOctets) w at (value.TimeTicks v) a sound range e = absurd (cc)
+by_legal (Some PortOctets) w at (value.Opaque v) a sound range e = absurd (cc)
+by_legal (Some PortOctets) w at (value.Counter64 v) a sound range e = absurd (cc)
+by_legal (Some PortOctets) w at value.NoSuchObject a sound range e = absurd (cc)
+by_legal (Some PortOctets) w at value.NoSuchInstance a sound range e = absurd (cc)
+by_legal (Some PortOctets) w at value.EndOfMibView a sound range e = absurd (cc)
 
 -- What a variable of a column writes, a world can take.
 pub legal : (c : Column) (w : World) (at : List ℕ) (v : Value) (a : Assignment) →
-    port_count w.bridge ≡ length w.bridge.settings.ports → assignment_of c w at v ≡ Ok a → IsLegal w a
-legal c w at v a even e = by_legal (writable_of c) w at v a even (gives c) e
-
--- ---- no object writes a setting of a static row
-
-bridge_plain : (k : BridgeKey) (b : Bool) (v : ℕ) (a : Assignment) →
-    assignment_at (cond b (Some (setting.Bridge (key.Bridge k))) None) v ≡ Ok a → is_static a.key ≡ false
-bridge_plain k true v a e =
-    let same : record { key = setting.Bridge (key.Bridge k); value = Number v } ≡ a = cc in
-    subst (λ (x : Assignment). is_static x.key ≡ false) same refl
-bridge_plain k false v a e = absurd (cc)
-
-port_plain : (k : PortKey) (o : Option ℕ) (v : ℕ) (a : Assignment) →
-    assignment_at (option_map (λ n. setting.Bridge (key.Port n k)) o) v ≡ Ok a → is_static a.key ≡ false
-port_plain k None v a e = absurd (cc)
-port_plain k (Some n) v a e =
-    let same : record { key = setting.Bridge (key.Port n k); value = Number v } ≡ a = cc in
-    subst (λ (x : Assignment). is_static x.key ≡ false) same refl
-
-target_plain : (t : Target) (w : World) (at : List ℕ) (v : ℕ) (a : Assignment) →
-    assignment_at (key_at t w at) v ≡ Ok a → is_static a.key ≡ false
-target_plain (target.Bridge k) w at v a e = bridge_plain k (name_eq (0 ∷ []) at) v a e
-target_plain (target.Port k) w at v a e = port_plain k (port_index (port_count w.bridge) at) v a e
-
-integer_plain : (x : IntegerTarget) (w : World) (at : List ℕ) (n : ℕ) (a : Assignment) (b : Bool) →
-    cond b (assignment_at (key_at x.target w at) (number_given x.target n)) (Err WrongValue) ≡ Ok a → is_static a.key ≡ false
-integer_plain x w at n a true e = target_plain x.target w at (number_given x.target n) a e
-integer_plain x w at n a false e = absurd (cc)
-
-by_plain : (x : Option Writable) (w : World) (at : List ℕ) (v : Value) (a : Assignment) →
-    assignment_by x w at v ≡ Ok a → is_static a.key ≡ false
-by_plain None w at v a e = absurd (cc)
-by_plain (Some (Integers x)) w at (value.Integer (pos n)) a e = integer_plain x w at n a (takes x n) e
-by_plain (Some (Integers x)) w at (value.Integer (negsuc n)) a e = absurd (cc)
-by_plain (Some (Integers x)) w at (value.OctetString v) a e = absurd (cc)
-by_plain (Some (Integers x)) w at value.Null a e = absurd (cc)
-by_plain (Some (Integers x)) w at (value.ObjectIdentifier v) a e = absurd (cc)
-by_plain (Some (Integers x)) w at (value.IpAddress v) a e = absurd (cc)
-by_plain (Some (Integers x)) w at (value.Counter32 v) a e = absurd (cc)
-by_plain (Some (Integers x)) w at (value.Gauge32 v) a e = absurd (cc)
-by_plain (Some (Integers x)) w at (value.TimeTicks v) a e = absurd (cc)
-by_plain (Some (Integers x)) w at (value.Opaque v) a e = absurd (cc)
-by_plain (Some (Integers x)) w at (value.Counter64 v) a e = absurd (cc)
-by_plain (Some (Integers x)) w at value.NoSuchObject a e = absurd (cc)
-by_plain (Some (Integers x)) w at value.NoSuchInstance a e = absurd (cc)
-by_plain (Some (Integers x)) w at value.EndOfMibView a e = absurd (cc)
-
-pub plain : (c : Column) (w : World) (at : List ℕ) (v : Value) (a : Assignment) →
-    assignment_of c w at v ≡ Ok a → is_static a.key ≡ false
-plain c w at v a e = by_plain (writable_of c) w at v a e
+    IsSound w → assignment_of c w at v ≡ Ok a → IsLegal w a
+legal c w at v a sound e = by_legal (writable_of c) w at v a sound (gives c) e

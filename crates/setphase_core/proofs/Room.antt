@@ -62,7 +62,7 @@ rows-assign [] w = omega arith
 rows-assign (a ∷ ps) w =
     omega (arith, rows-assign ps (put w a.key a.value), rows-put w a.key a.value)
 
-places-assign : (ps : List Assignment) (w : World) →
+pub places-assign : (ps : List Assignment) (w : World) →
     (assign ps w).bridge.statics.places ≡ w.bridge.statics.places
 places-assign [] w = refl
 places-assign (a ∷ ps) w = places-assign ps (put w a.key a.value) ∙ places-put w a.key a.value
@@ -156,9 +156,6 @@ room_undo before w es ps k m n keys v room was h less is =
     room_for before w es ps (take k (assignments_of es) ++ assignments_of (entries_of keys (drop m (take n es)))) (entry_at es k).slot.key v room was is
     (omega (arith, static_count-append (take k (assignments_of es)) (assignments_of (entries_of keys (drop m (take n es)))), entries_count keys (drop m (take n es)), parts_count es k m n less))
     (static_at es k h)
-
-pub none_needs_room : (w : World) (ps : List Assignment) → static_count ps ≡ 0 → HasRoomFor w ps
-none_needs_room w ps none some = absurd (omega (arith, none, some))
 
 -- What was committed before a commit failed may be undone.
 pub may_undo : (before w : World) (os : List ObjectState) (es fs : List Staged) (i n : ℕ) →

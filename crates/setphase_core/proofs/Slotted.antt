@@ -17,7 +17,7 @@ use Rattle.setphase_core.specs.Staging.{object_at, no_object, entry_at, assignme
 use Rattle.setphase_core.specs.Tested.{AreStaged, IsNumber}
 use Rattle.setphase_core.proofs.Firsts.{committed-last}
 use Rattle.setphase_core.proofs.States.{prefix_of_object}
-use Rattle.setphase_core.proofs.Writings.{owner_within}
+use Rattle.setphase_core.proofs.Writings.{owner_within, reserved_for}
 
 -- ---- lists with one more at the end
 
@@ -70,11 +70,6 @@ less : (n : ℕ) → suc n - 1 ≡ n
 less n = omega arith
 
 -- ---- slots that are reserved
-
--- What an object of this name has reserved: what the variables under it write, in their order.
-abbrev pub reserved_for : List ℕ → List Written → List Reservation
-reserved_for prefix ws =
-    map (λ x. record { key = x.assignment.key; value = x.assignment.value; old = None }) (written_under prefix ws)
 
 under-last : (prefix : List ℕ) (ws : List Written) (x : Written) →
     reserved_for prefix (ws ++ x ∷ [])

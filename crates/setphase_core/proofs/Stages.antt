@@ -2,7 +2,6 @@
 use Rattle.std.proofs.Common.{◌≡◌, ℕ, zero, suc, ◌+◌, ◌<◌, ◌≤◌, ◌∙◌, sym, ap, subst, refl, Bool, true, false, cond, List, [], ◌∷◌, ◌++◌, length, map, drop, drop-cons, get_or, slice_get, Option, Some, None, is_some, Ok, arith, add-one, length-append, append_assoc}
 use Rattle.std.proofs.lemmas.List.{map-append}
 use Rattle.message_core.specs.declared.binding.Binding.{Binding}
-use Rattle.bridge_core.specs.Bridge.{port_count}
 use Rattle.setphase_core.specs.declared.world.World.{World}
 use Rattle.setphase_core.specs.declared.object.Assignment.{Assignment}
 use Rattle.setphase_core.specs.declared.object.Slot.{Slot}
@@ -14,16 +13,16 @@ use Rattle.setphase_core.specs.declared.staging.VariableFault.{VariableFault}
 use Rattle.setphase_core.specs.Objects.{ObjectRow, ObjectState, reserve, object_after_release}
 use Rattle.setphase_core.specs.Registry.{rows_of, prefixes_of}
 use Rattle.setphase_core.specs.Searching.{IsOwnerPlace}
-use Rattle.setphase_core.specs.Settings.{put, is_static}
+use Rattle.setphase_core.specs.Settings.{put}
 use Rattle.setphase_core.specs.Variables.{Written, writings_of, writings, variable, assignment_for, refusals_for, refusal_for, single_refusals}
 use Rattle.setphase_core.specs.Together.{assign, assignments, contradicts, contradicting, is_timer, timer_numbers}
-use Rattle.setphase_core.specs.Staging.{object_at, assignments_of, assignment_of_entry, IsDistinct, IsLegal, AreLegal, static_count}
+use Rattle.setphase_core.specs.Staging.{object_at, assignments_of, assignment_of_entry, IsDistinct, IsLegal, AreLegal}
 use Rattle.setphase_core.specs.Tested.{first_in, value_among, standing_by, is_contradicting, staged_by, IsPassed, IsFaulty, AreStaged, ArePassed}
 use Rattle.setphase_core.proofs.Firsts.{first_in-append, is_first, is_repeated, is_contradicted, IsKnown, known_first, known_again, Agrees, agrees_more, agrees_last, value_last, contradicts_is, assign-append, put_among, distinct_last}
-use Rattle.setphase_core.proofs.Ranges.{legal, plain}
-use Rattle.setphase_core.proofs.Slotted.{reserved_for, reserves_more, few, staged_again, staged_first}
+use Rattle.setphase_core.proofs.Ranges.{IsSound, legal}
+use Rattle.setphase_core.proofs.Slotted.{reserves_more, few, staged_again, staged_first}
 use Rattle.setphase_core.proofs.States.{rows_of-set}
-use Rattle.setphase_core.proofs.Writings.{placed_ok, assigned_ok, variable_ok, variable_err}
+use Rattle.setphase_core.proofs.Writings.{reserved_for, owner_within, assigned_ok, within_ok, placed_ok, variable_ok, variable_err}
 
 -- What stands when so many variables were tested.
 pub record Stages (rows : List ObjectRow) (w : World) (view : List ℕ) (bs : List Binding)
@@ -41,7 +40,6 @@ pub record Stages (rows : List ObjectRow) (w : World) (view : List ℕ) (bs : Li
   pub kept : rows_of os ≡ rows
   pub reserves : (p : ℕ) → p < length os → (object_at os p).reserved ≡ reserved_for (object_at os p).row.prefix earlier
   pub legal : AreLegal w (assignments_of es)
-  pub plain : static_count (assignments_of es) ≡ 0
   pub staged : AreStaged rows earlier es
   pub distinct : IsDistinct (assignments_of es)
   pub known : IsKnown earlier (assignments_of es)
@@ -68,7 +66,6 @@ stages_begin w view bs os released = record {
       ap (λ zs. (object_at zs p).reserved) released
       ∙ none_reserved os p (subst (λ zs. p < length zs) released h);
   legal = tt;
-  plain = refl;
   staged = record {
     written = refl;
     placed = λ k x at. absurd (nothing x at);
@@ -104,7 +101,6 @@ module _ (rows : List ObjectRow) (w : World) (ws : List Written) (es : List Stag
   -- What is known of the entries alone.
   pub record Entries (vs : List Written) (fs : List Staged) (counts : Bool) : Type 0 where
     pub legal : AreLegal w (assignments_of fs)
-    pub plain : static_count (assignments_of fs) ≡ 0
     pub staged : AreStaged rows vs fs
     pub distinct : IsDistinct (assignments_of fs)
     pub known : IsKnown vs (assignments_of fs)
@@ -117,19 +113,11 @@ legal_last : (w : World) (ps : List Assignment) (a : Assignment) → AreLegal w 
 legal_last w [] a h new = (new, tt)
 legal_last w (q ∷ ps) a h new = (h.0, legal_last w ps a h.1 new)
 
-plain_last : (ps : List Assignment) (a : Assignment) → static_count ps ≡ 0 →
-    is_static a.key ≡ false → static_count (ps ++ a ∷ []) ≡ 0
-plain_last [] a h e = ap (λ b. cond b 1 0 + 0) e
-plain_last (q ∷ ps) a h e =
-    let rest : static_count (ps ++ a ∷ []) ≡ 0 = plain_last ps a (omega (arith, h)) e in
-    omega (arith, h, rest)
-
 module _ (rows : List ObjectRow) (w : World) (ws : List Written) (es : List Staged)
     (name : List ℕ) (p : ℕ) (slot : Slot)
     (owner : IsOwnerPlace (prefixes_of rows) name (Some p))
     (allowed : IsLegal w (record { key = slot.key; value = slot.value }))
     (takes : AreLegal w (assignments_of es))
-    (moves : is_static slot.key ≡ false) (none_static : static_count (assignments_of es) ≡ 0)
     (staged : AreStaged rows ws es) (distinct : IsDistinct (assignments_of es))
     (known : IsKnown ws (assignments_of es)) where
   abbrev pub a : Assignment
@@ -148,7 +136,6 @@ module _ (rows : List ObjectRow) (w : World) (ws : List Written) (es : List Stag
       Entries rows w ws es (ws ++ x ∷ []) (es ++ e ∷ []) false
   entries_first none = record {
     legal = subst (AreLegal w) (sym entries-last) (legal_last w (assignments_of es) a takes allowed);
-    plain = ap static_count entries-last ∙ plain_last (assignments_of es) a none_static moves;
     staged = staged_first rows ws es x staged e (known slot.key ∙ ap is_some none) refl refl owner;
     distinct = subst IsDistinct (sym entries-last) (distinct_last (assignments_of es) a distinct none);
     known = subst (IsKnown (ws ++ x ∷ [])) (sym entries-last) (known_first ws (assignments_of es) x known);
@@ -168,7 +155,6 @@ module _ (rows : List ObjectRow) (w : World) (ws : List Written) (es : List Stag
       Entries rows w ws es (ws ++ x ∷ []) es counts
   entries_again counts there gives = record {
     legal = takes;
-    plain = none_static;
     staged = staged_again rows ws es x staged (known slot.key ∙ there);
     distinct = distinct;
     known = known_again ws (assignments_of es) x known there;
@@ -192,7 +178,7 @@ module _ (rows : List ObjectRow) (w : World) (ws : List Written) (es : List Stag
 
 module _ (rows : List ObjectRow) (w : World) (view : List ℕ) (bs : List Binding)
     (os ns : List ObjectState) (es fs : List Staged) (c t : Option ℕ) (i : ℕ) (d : Binding)
-    (v : TestedVariable) (even : port_count w.bridge ≡ length w.bridge.settings.ports)
+    (v : TestedVariable) (sound : IsSound w)
     (below : i < length bs) (before : Stages rows w view bs os es c t i)
     (passed : IsPassed os ns w view i (get_or bs i d) es fs v) where
   abbrev b : Binding
@@ -215,7 +201,8 @@ module _ (rows : List ObjectRow) (w : World) (view : List ℕ) (bs : List Bindin
   fine : variable rows w view before.earlier b ≡ Ok written_now.assignment
   fine =
       sym (of_rows (λ rs. variable rs w view before.earlier b))
-      ∙ variable_ok os w view before.earlier b passed.place passed.slot passed.seen (omega (arith, passed.room, before.count)) passed.at.owner passed.at.answer
+      ∙ variable_ok os w view before.earlier b passed.place passed.slot passed.seen (omega (arith, passed.room, before.count)) passed.at.owner
+      (before.reserves passed.place (owner_within os b.name passed.place passed.at.owner)) passed.at.answer
 
   writings-rest : writings rows w (drop i bs) ≡ written_now ∷ writings rows w (drop (suc i) bs)
   writings-rest =
@@ -227,10 +214,9 @@ module _ (rows : List ObjectRow) (w : World) (view : List ℕ) (bs : List Bindin
       subst (λ zs. Entries rows w before.earlier es (before.earlier ++ written_now ∷ []) zs (is_contradicting v.standing)) (sym (passed.at.staged ∙ ap (λ n. staged_by v.standing es (record { object = passed.place; slot = passed.slot; number = n })) number))
       (entries_by rows w before.earlier es b.name passed.place passed.slot
       (subst (λ rs. IsOwnerPlace (prefixes_of rs) b.name (Some passed.place)) before.kept passed.at.owner)
-      (legal (object_at os passed.place).row.column w (drop (length (object_at os passed.place).row.prefix) b.name) b.value _ even (placed_ok _ (object_at os passed.place).reserved passed.slot passed.at.answer).assigned)
+      (legal (object_at os passed.place).row.column w (drop (length (object_at os passed.place).row.prefix) b.name) b.value _ sound (within_ok w _ _ _ (placed_ok _ (object_at os passed.place).reserved passed.slot passed.at.answer).assigned))
       before.legal
-      (plain (object_at os passed.place).row.column w (drop (length (object_at os passed.place).row.prefix) b.name) b.value _ (placed_ok _ (object_at os passed.place).reserved passed.slot passed.at.answer).assigned)
-      before.plain before.staged before.distinct before.known
+      before.staged before.distinct before.known
       v.standing passed.at.standing)
     where
       number : i + 1 ≡ suc (length before.earlier)
@@ -276,7 +262,6 @@ module _ (rows : List ObjectRow) (w : World) (view : List ℕ) (bs : List Bindin
         ∙ reserves_more os passed.place passed.slot b.name before.earlier passed.at.owner before.reserves q (subst (λ zs. q < length zs) passed.at.reserved h)
         ∙ ap (λ zs. reserved_for (object_at zs q).row.prefix (before.earlier ++ written_now ∷ [])) (sym passed.at.reserved);
     legal = entries.legal;
-    plain = entries.plain;
     staged = entries.staged;
     distinct = entries.distinct;
     known = entries.known;
@@ -302,7 +287,7 @@ stage_refused rows w view bs os es c t i d fault below before faulty =
     ∙ ap (single_refusals rows w view i before.earlier) (drop-cons bs i d below)
     ∙ ap (λ r. refusals_for (i + 1) r ++ single_refusals rows w view (i + 1) (before.earlier ++ writings_of (get_or bs i d).name (assignment_for rows w (get_or bs i d))) (drop (suc i) bs))
     (sym (ap (λ rs. variable rs w view before.earlier (get_or bs i d)) before.kept)
-    ∙ variable_err os w view before.earlier (get_or bs i d) fault (λ p h. few os before.earlier p (before.reserves p h))
+    ∙ variable_err os w view before.earlier (get_or bs i d) fault before.reserves (λ p h. few os before.earlier p (before.reserves p h))
     (subst (λ n. IsFaulty os w view n (get_or bs i d) fault) (sym before.count) faulty))))
 
 -- All variables passed.
@@ -315,7 +300,6 @@ stages_end rows w view bs os es c t i done h = record {
   timers = found t ∙ ap (λ zs. first_in t (timer_numbers (suc i) (assignments (writings rows w zs)))) (sym none) ∙ h.timers;
   distinct = h.distinct;
   legal = h.legal;
-  plain = h.plain;
   staged = subst (λ ws. AreStaged rows ws es) (sym everything) h.staged;
   same = λ free. ap (λ ws. assign (assignments ws) w) everything ∙ h.same free;
 }

@@ -4,7 +4,6 @@ use Rattle.std.proofs.lemmas.List.{length-set, get_or-set_same, get_or-set_other
 use Rattle.std.proofs.lemmas.Bool.{cases_lt}
 use Rattle.std.proofs.lemmas.Bool.Decides.{eqb_tells}
 use Rattle.message_core.specs.declared.binding.Binding.{Binding}
-use Rattle.bridge_core.specs.Bridge.{port_count}
 use Rattle.setting_keys.specs.declared.SettingKey.{SettingKey}
 use Rattle.setting_keys.specs.declared.SettingValue.{SettingValue}
 use Rattle.setphase_core.specs.declared.world.World.{World}
@@ -24,9 +23,9 @@ use Rattle.setphase_core.proofs.Commits.{put_entry, after_commit, after_called}
 use Rattle.setphase_core.proofs.Firsts.{is_first, distinct_last}
 use Rattle.setphase_core.proofs.Holding.{Holds, holds_reserved, holds_committed, holds_others, holds_made, holds_after_call}
 use Rattle.setphase_core.proofs.Puts.{keys-kept, range-kept}
-use Rattle.setphase_core.proofs.Ranges.{legal}
+use Rattle.setphase_core.proofs.Ranges.{IsSound, legal}
 use Rattle.setphase_core.proofs.Slotted.{slice_get-append, slice_get-last, entry_at-append, entry_at-last}
-use Rattle.setphase_core.proofs.Writings.{placed_ok, owner_within}
+use Rattle.setphase_core.proofs.Writings.{placed_ok, owner_within, within_ok}
 
 -- What holds of the object at a place, where the one at some place is another now.
 at_set : (P : ObjectState → Type 0) (os : List ObjectState) (p j : ℕ) (o : ObjectState) →
@@ -134,14 +133,14 @@ module _ (w : World) (os : List ObjectState) (p : ℕ) (s : Slot) (h : p < lengt
 -- One more variable passed its tests.
 pub passed_more : (w : World) (view : List ℕ) (b : Binding) (os ns : List ObjectState)
     (es fs : List Staged) (t n : ℕ) (v : TestedVariable) →
-    port_count w.bridge ≡ length w.bridge.settings.ports → IsPassed os ns w view t b es fs v →
+    IsSound w → IsPassed os ns w view t b es fs v →
     IsUnderWay w os es t n → IsUnderWay w ns fs (t + 1) n
-passed_more w view b os ns es fs t n v even passed u =
+passed_more w view b os ns es fs t n v sound passed u =
     let within : passed.place < length os = owner_within os b.name passed.place passed.at.owner in
     let placed = placed_ok _ (object_at os passed.place).reserved passed.slot passed.at.answer in
     subst (λ zs. IsUnderWay w zs fs (t + 1) n) (sym passed.at.reserved)
     (subst (λ xs. IsUnderWay w (with_slot w os passed.place passed.slot within) xs (t + 1) n) (sym passed.at.staged)
-    (staged_by_standing w os passed.place passed.slot within placed.place (legal _ w _ b.value _ even placed.assigned) es t n u v.standing passed.at.standing))
+    (staged_by_standing w os passed.place passed.slot within placed.place (legal _ w _ b.value _ sound (within_ok w _ _ _ placed.assigned)) es t n u v.standing passed.at.standing))
 
 -- ---- a commit
 
@@ -358,13 +357,13 @@ module _ {T E : Type 0} (r : Result T E) (w v : World) (os ns : List ObjectState
 -- The test of a variable whose object reserved a slot.
 pub test_answered : (r : Result TestedVariable VariableFault) (w : World) (view : List ℕ) (b : Binding)
     (os ns : List ObjectState) (es fs : List Staged) (t k n : ℕ) (p : ℕ) (s : Slot) →
-    port_count w.bridge ≡ length w.bridge.settings.ports → p < length os →
+    IsSound w → p < length os →
     ns ≡ slice_set os p (reserve (object_at os p) s) →
     IfOk r (λ v. IsPassed os ns w view t b es fs v) → OnOk r (k ≡ t + 1) → OnErr r (fs ≡ es) →
     OnErr r (k ≡ t) → IsUnderWay w os es t n → IsUnderWay w ns fs k n
-test_answered (Ok v) w view b os ns es fs t k n p s even h is passed more same stays u =
-    subst (λ j. IsUnderWay w ns fs j n) (sym more) (passed_more w view b os ns es fs t n v even passed u)
-test_answered (Err fault) w view b os ns es fs t k n p s even h is passed more same stays u =
+test_answered (Ok v) w view b os ns es fs t k n p s sound h is passed more same stays u =
+    subst (λ j. IsUnderWay w ns fs j n) (sym more) (passed_more w view b os ns es fs t n v sound passed u)
+test_answered (Err fault) w view b os ns es fs t k n p s sound h is passed more same stays u =
     subst (λ j. IsUnderWay w ns fs j n) (sym stays)
     (subst (λ xs. IsUnderWay w ns xs t n) (sym same)
     (subst (λ zs. IsUnderWay w zs es t n) (sym is) (slot_more w os p s h es t t n (omega arith) u)))

@@ -1,5 +1,5 @@
 -- What a variable that passed writes, and why one that did not pass is refused.
-use Rattle.std.proofs.Common.{◌≡◌, ℕ, zero, suc, ◌<◌, ◌≤◌, ◌∙◌, sym, ap, refl, Bool, true, false, cond, nat_lt, List, [], ◌∷◌, length, drop, Some, None, Result, Ok, Err, arith, ◌⊎◌, inl, inr}
+use Rattle.std.proofs.Common.{◌≡◌, ℕ, zero, suc, ◌<◌, ◌≤◌, ◌∙◌, sym, ap, refl, Bool, true, false, cond, nat_lt, not, ◌&&◌, List, [], ◌∷◌, map, length, drop, Some, None, Result, Ok, Err, arith, ◌⊎◌, inl, inr}
 use Rattle.std.proofs.lemmas.Bool.Decides.{nat_tests}
 use Rattle.message_core.specs.declared.binding.Binding.{Binding}
 use Rattle.vacm_core.specs.Families.{family_answer, in_view, is_included}
@@ -18,8 +18,8 @@ use Rattle.setphase_core.specs.Registry.{rows_of, prefixes_of}
 use Rattle.setphase_core.specs.Searching.{IsOwnerPlace}
 use Rattle.setphase_core.specs.Staging.{object_at}
 use Rattle.setphase_core.specs.Tested.{answer_at, IsFaulty}
-use Rattle.setphase_core.specs.Variables.{Written, object_of, assignment_in, assignment_for, with_room, in_answer, variable}
-use Rattle.setphase_core.specs.Writing.{assignment_of, next_slot}
+use Rattle.setphase_core.specs.Variables.{Written, written_under, written_by, object_of, assignment_in, assignment_for, with_room, in_answer, variable}
+use Rattle.setphase_core.specs.Writing.{assignment_of, makes_row, has_rows_left, within_rows, assignments_in, next_slot}
 
 -- ---- the object of a name
 
@@ -54,6 +54,16 @@ pub record IsPlacedAs (r : Result Assignment SetFault) (reserved : List Reservat
     (slot : Slot) : Type 0 where
   pub assigned : r ≡ Ok (record { key = slot.key; value = slot.value })
   pub place : slot.place ≡ length reserved
+
+-- What passed the limit of rows was to be written.
+pub within_ok : (w : World) (earlier : List Assignment) (r : Result Assignment SetFault) (a : Assignment) →
+    within_rows w earlier r ≡ Ok a → r ≡ Ok a
+within_ok w earlier (Err f) a e = absurd (cc)
+within_ok w earlier (Ok b) a e = pick (makes_row w b.key b.value && not (has_rows_left w (b ∷ earlier))) e
+  where
+    pick : (t : Bool) → cond {A = Result Assignment SetFault} t (Err ResourceUnavailable) (Ok b) ≡ Ok a → Ok b ≡ Ok a
+    pick true e = absurd (cc)
+    pick false e = e
 
 placed_as : (a : Assignment) (reserved : List Reservation) (slot : Slot) (b : Bool) →
     cond {A = Result Slot SetFault} b (Ok (record { key = a.key; value = a.value; place = length reserved })) (Err ResourceUnavailable) ≡ Ok slot →
@@ -100,6 +110,19 @@ refused_by (Ok a) reserved before f few e =
     let full = full_or_not a reserved f (nat_lt (length reserved) MAX_SLOTS) refl e in
     with_none_left a before (omega (arith, full.1, few)) ∙ ap (λ (h : SetFault). Err (Refused h)) (sym full.0)
 
+-- ---- slots that are reserved
+
+-- What an object of this name has reserved: what the variables under it write, in their order.
+abbrev pub reserved_for : List ℕ → List Written → List Reservation
+reserved_for prefix ws =
+    map (λ x. record { key = x.assignment.key; value = x.assignment.value; old = None }) (written_under prefix ws)
+
+written_in : (xs : List Written) →
+    assignments_in (map (λ x. record { key = x.assignment.key; value = x.assignment.value; old = None }) xs)
+    ≡ map (λ x. x.assignment) xs
+written_in [] = refl
+written_in (x ∷ xs) = ap (λ ps. x.assignment ∷ ps) (written_in xs)
+
 -- ---- variables
 
 module _ (os : List ObjectState) (w : World) (view : List ℕ) (before : List Written) (b : Binding) where
@@ -109,11 +132,32 @@ module _ (os : List ObjectState) (w : World) (view : List ℕ) (before : List Wr
       ≡ assignment_of (object_at os p).row.column w (drop (length (object_at os p).row.prefix) b.name) b.value
   at_owner p owner = ap (λ row. assignment_in row w b) (owner_row os b.name p owner)
 
+  -- What the object at the place answers is what the variable writes behind the earlier ones of it.
+  answer_is : (p : ℕ) → IsOwnerPlace (prefixes_of (rows_of os)) b.name (Some p) →
+      (object_at os p).reserved ≡ reserved_for (object_at os p).row.prefix before →
+      answer_at os p w b
+      ≡ next_slot (object_at os p).reserved (within_rows w (written_by (object_of (rows_of os) b.name) before) (assignment_for (rows_of os) w b))
+  answer_is p owner reserved =
+      ap (next_slot (object_at os p).reserved)
+      (ap (λ ps. within_rows w ps (assignment_of (object_at os p).row.column w (drop (length (object_at os p).row.prefix) b.name) b.value))
+      (ap assignments_in reserved ∙ written_in (written_under (object_at os p).row.prefix before) ∙ ap (λ row. written_by row before) (sym (owner_row os b.name p owner)))
+      ∙ ap (within_rows w (written_by (object_of (rows_of os) b.name) before)) (sym (at_owner p owner)))
+
   pub assigned_ok : (p : ℕ) (slot : Slot) →
       IsOwnerPlace (prefixes_of (rows_of os)) b.name (Some p) → answer_at os p w b ≡ Ok slot →
       assignment_for (rows_of os) w b ≡ Ok (record { key = slot.key; value = slot.value })
   assigned_ok p slot owner answer =
-      at_owner p owner ∙ (placed_ok _ (object_at os p).reserved slot answer).assigned
+      at_owner p owner
+      ∙ within_ok w (assignments_in (object_at os p).reserved) _ _ (placed_ok _ (object_at os p).reserved slot answer).assigned
+
+  within_too : (p : ℕ) (slot : Slot) →
+      IsOwnerPlace (prefixes_of (rows_of os)) b.name (Some p) →
+      (object_at os p).reserved ≡ reserved_for (object_at os p).row.prefix before →
+      answer_at os p w b ≡ Ok slot →
+      within_rows w (written_by (object_of (rows_of os) b.name) before) (assignment_for (rows_of os) w b)
+      ≡ Ok (record { key = slot.key; value = slot.value })
+  within_too p slot owner reserved answer =
+      (placed_ok _ (object_at os p).reserved slot (sym (answer_is p owner reserved) ∙ answer)).assigned
 
   seen_through : (r : Result Assignment VariableFault) →
       in_view w.policy.vacm.families view b.name ≡ true →
@@ -122,33 +166,35 @@ module _ (os : List ObjectState) (w : World) (view : List ℕ) (before : List Wr
 
   pub variable_ok : (p : ℕ) (slot : Slot) → in_view w.policy.vacm.families view b.name ≡ true →
       length before < MAX_VARIABLES → IsOwnerPlace (prefixes_of (rows_of os)) b.name (Some p) →
+      (object_at os p).reserved ≡ reserved_for (object_at os p).row.prefix before →
       answer_at os p w b ≡ Ok slot →
       variable (rows_of os) w view before b ≡ Ok (record { key = slot.key; value = slot.value })
-  variable_ok p slot seen room owner answer =
+  variable_ok p slot seen room owner reserved answer =
       seen_through _ seen
-      ∙ ap (with_room before) (assigned_ok p slot owner answer)
+      ∙ ap (with_room before) (within_too p slot owner reserved answer)
       ∙ with_some_left _ before room
 
   pub variable_err : (fault : VariableFault) →
+      ((p : ℕ) → p < length os → (object_at os p).reserved ≡ reserved_for (object_at os p).row.prefix before) →
       ((p : ℕ) → p < length os → length (object_at os p).reserved ≤ length before) →
       IsFaulty os w view (length before) b fault → variable (rows_of os) w view before b ≡ Err fault
-  variable_err (NoAccess answer) few (is, hidden) =
+  variable_err (NoAccess answer) all few (is, hidden) =
       rw (ap is_included (sym is) ∙ hidden) (ap (λ (a : FamilyAnswer). Err (NoAccess a)) (sym is))
-  variable_err (Refused f) few (seen, why) = seen_through _ seen ∙ because why
+  variable_err (Refused f) all few (seen, why) = seen_through _ seen ∙ because why
     where
       because : ((f ≡ NotWritable) × IsOwnerPlace (prefixes_of (rows_of os)) b.name None)
           ⊎ ((p : ℕ) × IsOwnerPlace (prefixes_of (rows_of os)) b.name (Some p)
           × ((answer_at os p w b ≡ Err f)
           ⊎ ((f ≡ ResourceUnavailable) × (MAX_VARIABLES ≤ length before)
           × ((slot : Slot) × (answer_at os p w b ≡ Ok slot))))) →
-          with_room before (assignment_for (rows_of os) w b) ≡ Err (Refused f)
+          with_room before (within_rows w (written_by (object_of (rows_of os) b.name) before) (assignment_for (rows_of os) w b)) ≡ Err (Refused f)
       because (inl (is, none)) =
-          ap (λ row. with_room before (assignment_in row w b)) (no_owner_row os b.name none)
+          ap (λ row. with_room before (within_rows w (written_by row before) (assignment_in row w b))) (no_owner_row os b.name none)
           ∙ ap (λ (h : SetFault). Err (Refused h)) (sym is)
       because (inr (p, owner, inl answer)) =
-          ap (with_room before) (at_owner p owner)
-          ∙ refused_by _ (object_at os p).reserved before f (few p (owner_within os b.name p owner)) answer
+          let within : p < length os = owner_within os b.name p owner in
+          refused_by _ (object_at os p).reserved before f (few p within) (sym (answer_is p owner (all p within)) ∙ answer)
       because (inr (p, owner, inr (is, full, (slot, answer)))) =
-          ap (with_room before) (assigned_ok p slot owner answer)
+          ap (with_room before) (within_too p slot owner (all p (owner_within os b.name p owner)) answer)
           ∙ with_none_left _ before full
           ∙ ap (λ (h : SetFault). Err (Refused h)) (sym is)

@@ -24,7 +24,7 @@ use Rattle.setphase_core.specs.Writing.{test_answer}
 use Rattle.setphase_core.specs.Variables.{Written, writings, single_refusals}
 use Rattle.setphase_core.specs.Together.{assignments, assign, contradicting, timer_numbers}
 use Rattle.setphase_core.specs.Outcomes.{committed_of}
-use Rattle.setphase_core.specs.Staging.{object_at, entry_at, assignments_of, IsDistinct, AreLegal, static_count}
+use Rattle.setphase_core.specs.Staging.{object_at, entry_at, assignments_of, IsDistinct, AreLegal}
 
 -- The number that was found, or else the first of these.
 abbrev pub first_in : Option ℕ → List ℕ → Option ℕ
@@ -113,8 +113,7 @@ pub record AreStaged (rows : List ObjectRow) (ws : List Written) (es : List Stag
 
 -- The variables of a Set passed their tests: none has a fault of its own; the first that
 -- contradicts an earlier one and the first that writes a timer are these; and the entries write no
--- setting twice and none of a static row, which no object writes, and together what all variables
--- do, where none contradicts another.
+-- setting twice, and together what all variables do, where none contradicts another.
 pub record ArePassed (rows : List ObjectRow) (w : World) (view : List ℕ) (bs : List Binding)
     (es : List Staged) (contradiction timer : Option ℕ) : Type 0 where
   pub single : single_refusals rows w view 0 [] bs ≡ []
@@ -123,7 +122,6 @@ pub record ArePassed (rows : List ObjectRow) (w : World) (view : List ℕ) (bs :
   pub timers : timer ≡ slice_get (timer_numbers 1 (assignments (writings rows w bs))) 0
   pub distinct : IsDistinct (assignments_of es)
   pub legal : AreLegal w (assignments_of es)
-  pub plain : static_count (assignments_of es) ≡ 0
   pub staged : AreStaged rows (writings rows w bs) es
   pub same : contradiction ≡ None
       → assign (assignments (writings rows w bs)) w ≡ assign (assignments_of es) w
@@ -134,12 +132,11 @@ abbrev pub inconsistency : Option ℕ → Bool → Option ℕ → Option ℕ
 inconsistency (Some n) agree timer = Some n
 inconsistency None agree timer = if agree then None else timer
 
--- A Set that is not refused: its entries write no setting twice and none of a static row, each a
--- value that it may have, and together what its variables do.
+-- A Set that is not refused: its entries write no setting twice, each a value that it may have, and
+-- together what its variables do.
 pub record AreReady (rows : List ObjectRow) (w : World) (bs : List Binding) (es : List Staged) :
     Type 0 where
   pub distinct : IsDistinct (assignments_of es)
   pub legal : AreLegal w (assignments_of es)
-  pub plain : static_count (assignments_of es) ≡ 0
   pub staged : AreStaged rows (writings rows w bs) es
   pub same : assign (assignments (writings rows w bs)) w ≡ assign (assignments_of es) w

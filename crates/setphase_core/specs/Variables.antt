@@ -1,5 +1,5 @@
 -- The variables of a Set one by one: what each writes, or its first fault (RFC 3416, 4.2.5).
-use Rattle.std.specs.Prelude.{ℕ, ◌+◌, nat_lt, if◌then◌else◌, List, [], ◌∷◌, ◌++◌, length, drop, filter, find, Option, Some, None, Result, Ok, Err}
+use Rattle.std.specs.Prelude.{ℕ, ◌+◌, nat_lt, if◌then◌else◌, List, [], ◌∷◌, ◌++◌, length, map, drop, filter, find, Option, Some, None, Result, Ok, Err}
 use Rattle.std.specs.List.{flat_map}
 use Rattle.oid_core.specs.Order.{is_prefix}
 use Rattle.message_core.specs.declared.binding.Binding.{Binding}
@@ -16,7 +16,7 @@ use Rattle.setphase_core.specs.declared.sets.Refusal.{Refusal}
 use Rattle.setphase_core.specs.declared.staging.VariableFault.{VariableFault}
 use Rattle.setphase_core.specs.declared.staging.VariableFault.TheVariants.{NoAccess, Refused}
 use Rattle.setphase_core.specs.Objects.{ObjectRow}
-use Rattle.setphase_core.specs.Writing.{assignment_of}
+use Rattle.setphase_core.specs.Writing.{assignment_of, within_rows}
 
 -- The object of a name: its own name begins it.
 abbrev pub object_of : List ObjectRow → List ℕ → Option ObjectRow
@@ -54,12 +54,18 @@ abbrev pub in_answer : FamilyAnswer → Result Assignment VariableFault →
     Result Assignment VariableFault
 in_answer answer seen = if is_included answer then seen else Err (NoAccess answer)
 
+-- Of what earlier variables write, what those of this object do.
+abbrev pub written_by : Option ObjectRow → List Written → List Assignment
+written_by None earlier = []
+written_by (Some row) earlier = map (λ x. x.assignment) (written_under row.prefix earlier)
+
 -- What a variable writes behind others that write this, or its first fault.
 abbrev pub variable : List ObjectRow → World → List ℕ → List Written → Binding →
     Result Assignment VariableFault
 variable rows w view earlier b =
     in_answer (family_answer w.policy.vacm.families view b.name)
-    (with_room earlier (assignment_for rows w b))
+    (with_room earlier
+    (within_rows w (written_by (object_of rows b.name) earlier) (assignment_for rows w b)))
 
 -- The error-status of a fault (RFC 3416, section 3).
 abbrev pub status_of : SetFault → ErrorStatus

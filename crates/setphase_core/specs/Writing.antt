@@ -1,33 +1,43 @@
 -- How a Set writes each object, as RFC 4188 (BRIDGE-MIB) and RFC 4318 (RSTP-MIB) have it: which
 -- setting, which INTEGERs, and what the test of a variable answers (RFC 3416, 4.2.5). Above each
 -- row stand its name under 1.3.6.1.2.1.17 and its descriptor; all other objects are read-only.
-use Rattle.std.specs.Prelude.{ℕ, ◌%◌, ◌==◌, ◌&&◌, ◌<◌, nat_le, nat_lt, ℤ, pos, negsuc, Bool, if◌then◌else◌, List, [], ◌∷◌, length, Option, Some, None, Result, Ok, Err}
+use Rattle.std.specs.Prelude.{ℕ, ◌+◌, ◌%◌, ◌==◌, ◌&&◌, ◌<◌, nat_le, nat_lt, ℤ, pos, negsuc, Bool, true, false, not, if◌then◌else◌, List, [], ◌∷◌, ◌++◌, length, map, filter, Option, Some, None, Result, Ok, Err}
+use Rattle.std.specs.List.{list_all, list_any}
 use Rattle.std.specs.Option.{option_map}
+use Rattle.frame_core.specs.declared.mac.Mac.{Mac}
+use Rattle.frame_core.specs.Octets.{same_mac}
+use Rattle.fdb_core.specs.declared.static_row.StaticIndex.{StaticIndex}
+use Rattle.fdb_core.specs.PortSets.{ports_in, has_other_port}
+use Rattle.fdb_core.specs.Statics.{made_rows}
 use Rattle.oid_core.specs.Order.{name_eq}
 use Rattle.message_core.specs.declared.value.Value.{Value}
-use Rattle.message_core.specs.declared.value.Value.TheVariants.{Integer}
+use Rattle.message_core.specs.declared.value.Value.TheVariants.{Integer, OctetString}
 use Rattle.rstp_settings.specs.declared.key.TheConstants.{MIN_AGING, MAX_AGING, MIGRATION_CHECK}
 use Rattle.rstp_settings.specs.declared.key.Key.TheVariants as key
 use Rattle.rstp_settings.specs.declared.key.BridgeKey.{BridgeKey}
 use Rattle.rstp_settings.specs.declared.key.BridgeKey.TheVariants as bridge
 use Rattle.rstp_settings.specs.declared.key.PortKey.{PortKey}
 use Rattle.rstp_settings.specs.declared.key.PortKey.TheVariants as port
-use Rattle.bridge_core.specs.Bridge.{port_count}
+use Rattle.bridge_core.specs.Bridge.{BridgeState, address_of, port_count}
+use Rattle.bridge_core.specs.Forwarding.{is_reserved}
+use Rattle.bridge_core.specs.Statics.{is_made}
 use Rattle.setting_keys.specs.declared.SettingKey.{SettingKey}
 use Rattle.setting_keys.specs.declared.SettingKey.TheVariants as setting
-use Rattle.setting_keys.specs.declared.SettingValue.TheVariants.{Number}
+use Rattle.setting_keys.specs.declared.SettingValue.{SettingValue}
+use Rattle.setting_keys.specs.declared.SettingValue.TheVariants.{Number, Ports}
 use Rattle.setphase_core.specs.declared.world.World.{World}
-use Rattle.setphase_core.specs.declared.limits.TheConstants.{MAX_SLOTS, MAX_PATH_COST}
+use Rattle.setphase_core.specs.declared.limits.TheConstants.{MAX_SLOTS, MAX_PATH_COST, MAX_STATIC_ROWS, MAX_PORT_OCTETS}
 use Rattle.setphase_core.specs.declared.object.Assignment.{Assignment}
 use Rattle.setphase_core.specs.declared.object.Reservation.{Reservation}
 use Rattle.setphase_core.specs.declared.object.SetFault.{SetFault}
-use Rattle.setphase_core.specs.declared.object.SetFault.TheVariants.{NotWritable, WrongType, WrongValue, NoCreation, ResourceUnavailable}
+use Rattle.setphase_core.specs.declared.object.SetFault.TheVariants.{NotWritable, WrongType, WrongLength, WrongValue, NoCreation, ResourceUnavailable}
 use Rattle.setphase_core.specs.declared.object.Slot.{Slot}
 use Rattle.setphase_core.specs.declared.writable.Target.{Target}
 use Rattle.setphase_core.specs.declared.writable.Target.TheVariants as target
 use Rattle.setphase_core.specs.declared.writable.IntegerTarget.{IntegerTarget}
 use Rattle.setphase_core.specs.declared.writable.Writable.{Writable}
-use Rattle.setphase_core.specs.declared.writable.Writable.TheVariants.{Integer as Integers}
+use Rattle.setphase_core.specs.declared.writable.Writable.TheVariants.{Integer as Integers, Ports as PortOctets}
+use Rattle.setphase_core.specs.Settings.{same_setting, made_by}
 use Rattle.setphase_core.specs.Values.{port_index}
 use Rattle.setphase_core.specs.declared.column.Stp.{Stp}
 use Rattle.setphase_core.specs.declared.column.Stp.TheVariants as stp
@@ -113,16 +123,41 @@ writable_of (column.TpPort c) = None
 -- The step of an object that takes INTEGERs is above 0.
 abbrev pub HasStep : Writable → Type 0
 HasStep (Integers x) = 0 < x.step
+HasStep PortOctets = Unit {0}
 
 -- The object takes this number.
 abbrev pub takes : IntegerTarget → ℕ → Bool
 takes w n = nat_le w.least n && nat_le n w.most && (n % w.step == 0)
 
 -- What its setting gets for it. A protocol migration check is asked for by true; false asks for
--- none (RFC 4318, dot1dStpPortProtocolMigration).
+-- none (RFC 4318, dot1dStpPortProtocolMigration). A static row is made by permanent, 3, and removed
+-- by invalid, 2 (RFC 4188, dot1dStaticStatus).
 abbrev pub number_given : Target → ℕ → ℕ
 number_given (target.Port port.Migrate) n = if n == 1 then MIGRATION_CHECK else 0
+number_given target.Made n = if n == 3 then 1 else 0
 number_given other n = n
+
+-- The numbers are six octets.
+abbrev pub are_octets : List ℕ → Bool
+are_octets numbers = list_all (λ n. nat_lt n 256) numbers
+
+-- A bridge may have a static row of an address and a receive port: the port is one of the bridge's,
+-- or 0 for all; the address is neither the bridge's own nor reserved.
+abbrev pub may_have_row : BridgeState → StaticIndex → Bool
+may_have_row b i =
+    nat_le i.port (port_count b)
+    && (not (same_mac i.address (address_of b)) && not (is_reserved i.address))
+
+-- The static row that seven numbers name, of which a bridge may have one: the six octets of the
+-- address, and the receive port (RFC 4188, dot1dStaticEntry).
+abbrev pub row_named : BridgeState → List ℕ → StaticIndex → Option StaticIndex
+row_named b octets i = if are_octets octets && may_have_row b i then Some i else None
+
+abbrev pub static_index : BridgeState → List ℕ → Option StaticIndex
+static_index b (o1 ∷ o2 ∷ o3 ∷ o4 ∷ o5 ∷ o6 ∷ p ∷ []) =
+    let octets = o1 ∷ o2 ∷ o3 ∷ o4 ∷ o5 ∷ o6 ∷ [] in
+    row_named b octets (record { address = record { 0 = octets }; port = p })
+static_index b other = None
 
 -- The setting that the instance of an index writes; none where there can never be such an instance.
 abbrev pub key_at : Target → World → List ℕ → Option SettingKey
@@ -130,6 +165,7 @@ key_at (target.Bridge k) w at =
     if name_eq (0 ∷ []) at then Some (setting.Bridge (key.Bridge k)) else None
 key_at (target.Port k) w at =
     option_map (λ n. setting.Bridge (key.Port n k)) (port_index (port_count w.bridge) at)
+key_at target.Made w at = option_map setting.Made (static_index w.bridge at)
 
 -- ---- what a variable writes, or the first of its faults
 
@@ -145,9 +181,24 @@ integer_assignment x w at (pos n) =
     else Err WrongValue
 integer_assignment x w at (negsuc n) = Err WrongValue
 
+abbrev pub allowed_assignment : Option StaticIndex → List ℕ → Result Assignment SetFault
+allowed_assignment None octets = Err NoCreation
+allowed_assignment (Some i) octets =
+    Ok (record { key = setting.Allowed i; value = Ports (ports_in octets) })
+
+-- The ports of a static row are 512 octets at most, of which each bit that is 1 is a port of the
+-- bridge (RFC 4188, dot1dStaticAllowedToGoTo).
+abbrev pub ports_assignment : World → List ℕ → List ℕ → Result Assignment SetFault
+ports_assignment w at octets =
+    if nat_lt MAX_PORT_OCTETS (length octets) then Err WrongLength
+    else (if has_other_port (port_count w.bridge) octets then Err WrongValue
+    else allowed_assignment (static_index w.bridge at) octets)
+
 abbrev pub typed_assignment : Writable → World → List ℕ → Value → Result Assignment SetFault
 typed_assignment (Integers x) w at (Integer i) = integer_assignment x w at i
 typed_assignment (Integers x) w at other = Err WrongType
+typed_assignment PortOctets w at (OctetString octets) = ports_assignment w at octets
+typed_assignment PortOctets w at other = Err WrongType
 
 abbrev pub assignment_by : Option Writable → World → List ℕ → Value → Result Assignment SetFault
 assignment_by None w at v = Err NotWritable
@@ -157,7 +208,45 @@ assignment_by (Some writable) w at v = typed_assignment writable w at v
 abbrev pub assignment_of : Column → World → List ℕ → Value → Result Assignment SetFault
 assignment_of c w at v = assignment_by (writable_of c) w at v
 
+-- ---- how many static rows there may be
+
+-- Giving a setting this value makes a static row that is not there.
+abbrev pub makes_row : World → SettingKey → SettingValue → Bool
+makes_row w (setting.Made i) (Number n) = made_by n && not (is_made w.bridge i)
+makes_row w k v = false
+
+-- These settings, each once.
+abbrev pub each_once : List SettingKey → List SettingKey
+each_once [] = []
+each_once (k ∷ ks) =
+    (if list_any (λ l. same_setting l k) ks then [] else k ∷ []) ++ each_once ks
+
+-- The settings by which assignments make static rows that are not there.
+abbrev pub new_rows : World → List Assignment → List SettingKey
+new_rows w ps = map (λ a. a.key) (filter (λ a. makes_row w a.key a.value) ps)
+
+-- The rows that are there, and the distinct new ones, are no more than there may be. A row that the
+-- same Set removes still counts.
+abbrev pub has_rows_left : World → List Assignment → Bool
+has_rows_left w ps =
+    nat_le (length (made_rows w.bridge.statics.rows) + length (each_once (new_rows w ps)))
+    MAX_STATIC_ROWS
+
+-- What a variable writes behind earlier ones of its object, where it makes no static row that is one
+-- too many.
+abbrev pub within_rows : World → List Assignment → Result Assignment SetFault →
+    Result Assignment SetFault
+within_rows w earlier (Err fault) = Err fault
+within_rows w earlier (Ok a) =
+    if makes_row w a.key a.value && not (has_rows_left w (a ∷ earlier))
+    then Err ResourceUnavailable
+    else Ok a
+
 -- ---- what the test of a variable answers
+
+-- What reserved slots write.
+abbrev pub assignments_in : List Reservation → List Assignment
+assignments_in reserved = map (λ r. record { key = r.key; value = r.value }) reserved
 
 -- A variable that passed has the next of the object's places, while there is one.
 abbrev pub next_slot : List Reservation → Result Assignment SetFault → Result Slot SetFault
@@ -169,4 +258,5 @@ next_slot reserved (Ok a) =
 
 abbrev pub test_answer : Column → World → List Reservation → List ℕ → Value →
     Result Slot SetFault
-test_answer c w reserved at v = next_slot reserved (assignment_of c w at v)
+test_answer c w reserved at v =
+    next_slot reserved (within_rows w (assignments_in reserved) (assignment_of c w at v))

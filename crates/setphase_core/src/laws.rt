@@ -19,7 +19,10 @@ ghost use Rattle.setphase_core.specs.Searching.{least_comparisons};
 ghost use Rattle.setphase_core.specs.Opening.{opening_world, opening_instances};
 ghost use Rattle.setphase_core.specs.InUse.{world_in_use, instances_in_use};
 
-use crate::limits::{MAX_COST, MAX_INDEX, MAX_INFO, MAX_PATH_COST, MAX_SLOTS, MAX_VARIABLES};
+use crate::limits::{
+    MAX_COST, MAX_INDEX, MAX_INFO, MAX_PATH_COST, MAX_PORT_OCTETS, MAX_SLOTS, MAX_STATIC_ROWS,
+    MAX_VARIABLES,
+};
 
 /// A setting has the value that it was last given, where that is in its range, and each other setting
 /// the one it had.
@@ -137,4 +140,6 @@ pub fn limits_are_fixed()
     ensures cost { MAX_COST ≡ 2147483647 }
     ensures path_cost { MAX_PATH_COST ≡ 65535 }
     ensures info { MAX_INFO ≡ 1500 }
+    ensures static_rows { MAX_STATIC_ROWS ≡ 256 }
+    ensures port_octets { MAX_PORT_OCTETS ≡ 512 }
 {}

@@ -91,6 +91,8 @@ mod search;
 mod sets;
 mod slots;
 mod staging;
+mod static_index;
+mod static_limit;
 mod testing;
 mod walk;
 mod world;
@@ -99,7 +101,10 @@ mod writable;
 pub use column::{Base, BasePort, Column, ExtPort, Rapid, Stp, StpPort, Tp, TpFdb, TpPort};
 pub use flat_world::FlatWorld;
 pub use index::{is_scalar, port_after, port_at, scalar_after};
-pub use limits::{MAX_COST, MAX_INDEX, MAX_INFO, MAX_PATH_COST, MAX_SLOTS, MAX_VARIABLES};
+pub use limits::{
+    MAX_COST, MAX_INDEX, MAX_INFO, MAX_PATH_COST, MAX_PORT_OCTETS, MAX_SLOTS, MAX_STATIC_ROWS,
+    MAX_VARIABLES,
+};
 pub use named::are_named;
 pub use object::{Assignment, DeviceFault, Index, MibObject, Reservation, SetFault, Slot};
 pub use passing::Passing;

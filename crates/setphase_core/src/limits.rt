@@ -17,3 +17,9 @@ pub const MAX_PATH_COST: u32 = 65_535;
 
 /// What dot1dTpPortMaxInfo shows, for every port (RFC 4188).
 pub const MAX_INFO: u32 = 1_500;
+
+/// The most static rows that may be made (RFC 4188 dot1dStaticTable; a limit of this profile).
+pub const MAX_STATIC_ROWS: usize = 256;
+
+/// The most octets of a dot1dStaticAllowedToGoTo (RFC 4188, SIZE (0..512)).
+pub const MAX_PORT_OCTETS: usize = 512;

@@ -1,16 +1,16 @@
 //! A Set: all variables are tested, then all are committed, and where a device fails the earlier
 //! ones are undone (RFC 3416, 4.2.5).
-ghost use Rattle.std.specs.Prelude.{◌≡◌, ◌↔◌, ◌<◌, ◌≤◌, ◌^◌, [], ◌∷◌, if◌then◌else◌, not, length, map, slice_get, Some, IfOk, IfErr, IfNone, IfSome, IsSome};
+ghost use Rattle.std.specs.Prelude.{◌≡◌, ◌↔◌, ◌<◌, ◌≤◌, ◌^◌, List, [], ◌∷◌, if◌then◌else◌, not, length, map, slice_get, Some, None, IfOk, IfErr, OnErr, IfNone, IfSome, IsSome};
 ghost use Rattle.vacm_core.specs.Families.{NamesFamilyOf};
 ghost use Rattle.setphase_core.specs.Objects.{object_after_release};
 ghost use Rattle.setphase_core.specs.Registry.{rows_of, held_count};
 ghost use Rattle.setphase_core.specs.Settings.{setting, HasSetting, same_settings_of, with_settings_of};
-ghost use Rattle.setphase_core.specs.Variables.{status_of, refusal_for, single_refusals, writings};
-ghost use Rattle.setphase_core.specs.Together.{assign, is_timer, timer, timers_agree, refusal_of};
+ghost use Rattle.setphase_core.specs.Variables.{Written as Variable, status_of, refusal_for, single_refusals, writings};
+ghost use Rattle.setphase_core.specs.Together.{assign, assignments, is_timer, timer, timers_agree, refusal_of};
 ghost use Rattle.setphase_core.specs.Outcomes.{refusal_in, notes_in, changed_in, world_after_set, AreNotes, NamesASetting};
 ghost use Rattle.setphase_core.specs.Calls.{calls_of, object_after_set, FollowPlans};
-ghost use Rattle.setphase_core.specs.Staging.{assignments_of, IsDistinct, AreLegal, IsUnderWay};
-ghost use Rattle.setphase_core.specs.Tested.{first_in, is_contradicting, inconsistency, ArePassed, AreReady};
+ghost use Rattle.setphase_core.specs.Staging.{assignments_of, static_count, IsDistinct, AreLegal, HasRoomFor, IsUnderWay};
+ghost use Rattle.setphase_core.specs.Tested.{first_in, is_contradicting, inconsistency, AreStaged, ArePassed, AreReady};
 
 use crate::committing::{commit_all, undo_all};
 use crate::object::{MibObject, SetFault};
@@ -20,6 +20,7 @@ use crate::world::World;
 use message_core::{Binding, ErrorStatus};
 use rstp_settings::key::{BridgeKey, Key};
 use setting_keys::{SettingKey, SettingKeys, SettingValue};
+use std::alloc::AllocError;
 use vacm_core::{FamilyAnswer, Name};
 
 // Two seconds, in hundredths of a second.
@@ -165,6 +166,7 @@ fn stage_all<O: MibObject>(
         view.now bindings.now staging.new.staged.items joint.contradiction joint.timer) }
 {
     let _ports = world.bridge.ports();
+    world.bridge.known_statics();
     let mut joint = Joint {
         contradiction: None,
         timer: None,
@@ -281,42 +283,55 @@ fn changes(world: &World, staged: &[Staged]) -> bool
     false
 }
 
-// Makes the Set that a staging is for.
-fn run_staged<O: MibObject>(
+// How many of the staged slots give a setting of a static row a value.
+fn count_static(staged: &[Staged]) -> usize
+    ensures count { result ≡ static_count (assignments_of staged.now) }
+    ensures most { result ≤ length staged.now }
+{
+    let Some((first, others)) = staged.split_first() else {
+        return 0;
+    };
+    match first.slot.key {
+        SettingKey::Bridge(_) => count_static(others),
+        SettingKey::Made(_) | SettingKey::Allowed(_) => 1 + count_static(others),
+    }
+}
+
+// Commits all that is staged; where a commit fails, undoes those before it. Whether a setting gets
+// another value from what is staged is said ahead.
+fn commit_staged<O: MibObject>(
     staging: &mut Staging<'_, O>,
     world: &mut World,
-    view: &Name,
-    bindings: &[Binding],
+    changed: bool,
 ) -> SetOutcome
-    requires fresh { staging.old.registry.now ≡ map object_after_release staging.old.registry.now }
-    requires staged { staging.old.staged.items ≡ [] }
-    requires tested { staging.old.tested ≡ 0 }
-    requires committed { staging.old.committed ≡ 0 }
+    requires none { staging.old.committed ≡ 0 }
     requires under_way { IsUnderWay world.old staging.old.registry.now staging.old.staged.items
         staging.old.tested staging.old.committed }
+    requires distinct { IsDistinct (assignments_of staging.old.staged.items) }
+    requires room { HasRoomFor world.old (assignments_of staging.old.staged.items) }
+    requires changed { changed ≡ not (same_settings_of world.old
+        (assign (assignments_of staging.old.staged.items) world.old)) }
     ensures same_reference { staging.new.registry.ghost_name ≡ staging.old.registry.ghost_name }
-    ensures refusal { refusal_in result ≡ refusal_of (rows_of staging.old.registry.now) world.old
-        view.now bindings.now }
-    ensures notes { AreNotes (writings (rows_of staging.old.registry.now) world.old bindings.now)
-        (notes_in result) }
+    ensures accepted { refusal_in result ≡ None }
     ensures undos { NamesASetting result }
     ensures changed { IfSome (changed_in result)
         (λ changed. changed ≡ not (same_settings_of world.old world.new)) }
-    ensures world { world.new ≡ world_after_set (refusal_in result)
-        (writings (rows_of staging.old.registry.now) world.old bindings.now) world.old
-        (notes_in result) }
-    ensures objects { map object_after_release staging.new.registry.now
-        ≡ map (object_after_set (calls_of (refusal_in result)
-        (writings (rows_of staging.old.registry.now) world.old bindings.now) (notes_in result)))
-        staging.old.registry.now }
-    ensures by_plan { FollowPlans (calls_of (refusal_in result)
-        (writings (rows_of staging.old.registry.now) world.old bindings.now) (notes_in result))
-        staging.old.registry.now }
+    ensures notes { (ws : List Variable)
+        → AreStaged (rows_of staging.old.registry.now) ws staging.old.staged.items
+        → AreNotes ws (notes_in result) }
+    ensures world { (ws : List Variable)
+        → AreStaged (rows_of staging.old.registry.now) ws staging.old.staged.items
+        → assign (assignments ws) world.old
+        ≡ assign (assignments_of staging.old.staged.items) world.old
+        → world.new ≡ world_after_set None ws world.old (notes_in result) }
+    ensures objects { (ws : List Variable)
+        → AreStaged (rows_of staging.old.registry.now) ws staging.old.staged.items
+        → map object_after_release staging.new.registry.now
+        ≡ map (object_after_set (calls_of None ws (notes_in result))) staging.old.registry.now }
+    ensures by_plan { (ws : List Variable)
+        → AreStaged (rows_of staging.old.registry.now) ws staging.old.staged.items
+        → FollowPlans (calls_of None ws (notes_in result)) staging.old.registry.now }
 {
-    if let Some(refusal) = refused(staging, world, view, bindings) {
-        return SetOutcome::Refused(refusal);
-    }
-    let changed = changes(world, staging.staged.as_slice());
     let Some(failed) = commit_all(staging, world) else {
         return SetOutcome::Done { changed };
     };
@@ -329,41 +344,144 @@ fn run_staged<O: MibObject>(
     }
 }
 
+// Commits all that is staged, which goes together, once there is memory for the static rows that it
+// may bring in.
+fn commit_reserved<O: MibObject>(
+    staging: &mut Staging<'_, O>,
+    world: &mut World,
+) -> Result<SetOutcome, AllocError>
+    requires none { staging.old.committed ≡ 0 }
+    requires under_way { IsUnderWay world.old staging.old.registry.now staging.old.staged.items
+        staging.old.tested staging.old.committed }
+    requires distinct { IsDistinct (assignments_of staging.old.staged.items) }
+    requires legal { AreLegal world.old (assignments_of staging.old.staged.items) }
+    ensures same_reference { staging.new.registry.ghost_name ≡ staging.old.registry.ghost_name }
+    ensures accepted { IfOk result (λ outcome. refusal_in outcome ≡ None) }
+    ensures undos { IfOk result NamesASetting }
+    ensures changed { IfOk result (λ outcome. IfSome (changed_in outcome)
+        (λ changed. changed ≡ not (same_settings_of world.old world.new))) }
+    ensures notes { IfOk result (λ outcome. (ws : List Variable)
+        → AreStaged (rows_of staging.old.registry.now) ws staging.old.staged.items
+        → AreNotes ws (notes_in outcome)) }
+    ensures world { IfOk result (λ outcome. (ws : List Variable)
+        → AreStaged (rows_of staging.old.registry.now) ws staging.old.staged.items
+        → assign (assignments ws) world.old
+        ≡ assign (assignments_of staging.old.staged.items) world.old
+        → world.new ≡ world_after_set None ws world.old (notes_in outcome)) }
+    ensures objects { IfOk result (λ outcome. (ws : List Variable)
+        → AreStaged (rows_of staging.old.registry.now) ws staging.old.staged.items
+        → map object_after_release staging.new.registry.now
+        ≡ map (object_after_set (calls_of None ws (notes_in outcome))) staging.old.registry.now) }
+    ensures by_plan { IfOk result (λ outcome. (ws : List Variable)
+        → AreStaged (rows_of staging.old.registry.now) ws staging.old.staged.items
+        → FollowPlans (calls_of None ws (notes_in outcome)) staging.old.registry.now) }
+    ensures writes_static { OnErr result (0 < static_count (assignments_of staging.old.staged.items)) }
+    ensures unchanged { OnErr result (world.new ≡ world.old) }
+    ensures uncalled { OnErr result (staging.new.registry.now ≡ staging.old.registry.now) }
+{
+    let staged = staging.staged.as_slice();
+    let changed = changes(world, staged);
+    let places = world.bridge.static_places();
+    world.bridge.reserve_static(count_static(staged))?;
+    let outcome = commit_staged(staging, world, changed);
+    world.bridge.hold_static(places);
+    Ok(outcome)
+}
+
+// Makes the Set that a staging is for.
+fn run_staged<O: MibObject>(
+    staging: &mut Staging<'_, O>,
+    world: &mut World,
+    view: &Name,
+    bindings: &[Binding],
+) -> Result<SetOutcome, AllocError>
+    requires fresh { staging.old.registry.now ≡ map object_after_release staging.old.registry.now }
+    requires staged { staging.old.staged.items ≡ [] }
+    requires tested { staging.old.tested ≡ 0 }
+    requires committed { staging.old.committed ≡ 0 }
+    requires under_way { IsUnderWay world.old staging.old.registry.now staging.old.staged.items
+        staging.old.tested staging.old.committed }
+    ensures same_reference { staging.new.registry.ghost_name ≡ staging.old.registry.ghost_name }
+    ensures refusal { IfOk result (λ outcome. refusal_in outcome
+        ≡ refusal_of (rows_of staging.old.registry.now) world.old view.now bindings.now) }
+    ensures notes { IfOk result (λ outcome. AreNotes
+        (writings (rows_of staging.old.registry.now) world.old bindings.now) (notes_in outcome)) }
+    ensures undos { IfOk result NamesASetting }
+    ensures changed { IfOk result (λ outcome. IfSome (changed_in outcome)
+        (λ changed. changed ≡ not (same_settings_of world.old world.new))) }
+    ensures world { IfOk result (λ outcome. world.new ≡ world_after_set (refusal_in outcome)
+        (writings (rows_of staging.old.registry.now) world.old bindings.now) world.old
+        (notes_in outcome)) }
+    ensures objects { IfOk result (λ outcome. map object_after_release staging.new.registry.now
+        ≡ map (object_after_set (calls_of (refusal_in outcome)
+        (writings (rows_of staging.old.registry.now) world.old bindings.now) (notes_in outcome)))
+        staging.old.registry.now) }
+    ensures by_plan { IfOk result (λ outcome. FollowPlans (calls_of (refusal_in outcome)
+        (writings (rows_of staging.old.registry.now) world.old bindings.now) (notes_in outcome))
+        staging.old.registry.now) }
+    ensures accepted { OnErr result (refusal_of (rows_of staging.old.registry.now) world.old
+        view.now bindings.now ≡ None) }
+    ensures writes_static { OnErr result (0 < static_count (assignments
+        (writings (rows_of staging.old.registry.now) world.old bindings.now))) }
+    ensures unchanged { OnErr result (world.new ≡ world.old) }
+    ensures uncalled { OnErr result (map object_after_release staging.new.registry.now
+        ≡ map object_after_release staging.old.registry.now) }
+{
+    match refused(staging, world, view, bindings) {
+        Some(refusal) => Ok(SetOutcome::Refused(refusal)),
+        None => commit_reserved(staging, world),
+    }
+}
+
 /// Sets all variables in a view, or none but those that could not be undone. Changed settings are
-/// not in force yet: `Bridge::settle` comes behind. No object holds a reservation afterwards. It
-/// takes no memory.
+/// not in force yet: `Bridge::settle` comes behind. No object holds a reservation afterwards, and
+/// the bridge is sure of memory for as many static rows as before.
+///
+/// # Errors
+///
+/// `AllocError` where there is no memory for the static rows that the Set may bring in: it is not
+/// refused, and one of its variables writes a setting of a static row. Nothing is changed then, and
+/// no device was called. It is the only memory that a Set takes, and is taken before the first
+/// commit.
 pub fn run_set<O: MibObject>(
     registry: &mut Registry<O>,
     world: &mut World,
     bindings: &[Binding],
     view: &Name,
-) -> SetOutcome
-    ensures refusal { refusal_in result
-        ≡ refusal_of (rows_of registry.old) world.old view.now bindings.now }
-    ensures notes { AreNotes (writings (rows_of registry.old) world.old bindings.now)
-        (notes_in result) }
-    ensures undos { NamesASetting result }
-    ensures changed { IfSome (changed_in result)
-        (λ changed. changed ≡ not (same_settings_of world.old world.new)) }
-    ensures world { world.new ≡ world_after_set (refusal_in result)
-        (writings (rows_of registry.old) world.old bindings.now) world.old (notes_in result) }
-    ensures objects { registry.new ≡ map (object_after_set (calls_of (refusal_in result)
-        (writings (rows_of registry.old) world.old bindings.now) (notes_in result)))
-        registry.old }
-    ensures by_plan { FollowPlans (calls_of (refusal_in result)
-        (writings (rows_of registry.old) world.old bindings.now) (notes_in result))
-        registry.old }
-    ensures refused_index { IfSome (refusal_in result)
-        (λ r. (1 ≤ r.index) × (r.index ≤ length bindings.now)) }
-    ensures failed_index { IfSome (notes_in result).commit
-        (λ i. (1 ≤ i) × (i ≤ length bindings.now)) }
-    ensures family { IfSome (refusal_in result) (λ r. IfSome r.family
-        (λ answer. NamesFamilyOf world.old.policy.vacm.families answer)) }
-    ensures no_access { IfSome (refusal_in result)
-        (λ r. (r.status ≡ ErrorStatus.NoAccess) ↔ IsSome r.family) }
+) -> Result<SetOutcome, AllocError>
+    ensures refusal { IfOk result (λ outcome. refusal_in outcome
+        ≡ refusal_of (rows_of registry.old) world.old view.now bindings.now) }
+    ensures notes { IfOk result (λ outcome. AreNotes
+        (writings (rows_of registry.old) world.old bindings.now) (notes_in outcome)) }
+    ensures undos { IfOk result NamesASetting }
+    ensures changed { IfOk result (λ outcome. IfSome (changed_in outcome)
+        (λ changed. changed ≡ not (same_settings_of world.old world.new))) }
+    ensures world { IfOk result (λ outcome. world.new ≡ world_after_set (refusal_in outcome)
+        (writings (rows_of registry.old) world.old bindings.now) world.old (notes_in outcome)) }
+    ensures objects { IfOk result (λ outcome. registry.new
+        ≡ map (object_after_set (calls_of (refusal_in outcome)
+        (writings (rows_of registry.old) world.old bindings.now) (notes_in outcome)))
+        registry.old) }
+    ensures by_plan { IfOk result (λ outcome. FollowPlans (calls_of (refusal_in outcome)
+        (writings (rows_of registry.old) world.old bindings.now) (notes_in outcome))
+        registry.old) }
+    ensures refused_index { IfOk result (λ outcome. IfSome (refusal_in outcome)
+        (λ r. (1 ≤ r.index) × (r.index ≤ length bindings.now))) }
+    ensures failed_index { IfOk result (λ outcome. IfSome (notes_in outcome).commit
+        (λ i. (1 ≤ i) × (i ≤ length bindings.now))) }
+    ensures family { IfOk result (λ outcome. IfSome (refusal_in outcome) (λ r. IfSome r.family
+        (λ answer. NamesFamilyOf world.old.policy.vacm.families answer))) }
+    ensures no_access { IfOk result (λ outcome. IfSome (refusal_in outcome)
+        (λ r. (r.status ≡ ErrorStatus.NoAccess) ↔ IsSome r.family)) }
     ensures settings { world.new ≡ with_settings_of world.new world.old }
     ensures rows { rows_of registry.new ≡ rows_of registry.old }
     ensures held { held_count registry.new ≡ 0 }
+    ensures accepted { OnErr result
+        (refusal_of (rows_of registry.old) world.old view.now bindings.now ≡ None) }
+    ensures writes_static { OnErr result (0 < static_count (assignments
+        (writings (rows_of registry.old) world.old bindings.now))) }
+    ensures unchanged { OnErr result (world.new ≡ world.old) }
+    ensures uncalled { OnErr result (registry.new ≡ map object_after_release registry.old) }
 {
     let mut staging = Staging::new(registry);
     run_staged(&mut staging, world, view, bindings)

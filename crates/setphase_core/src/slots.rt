@@ -3,10 +3,11 @@ ghost use Rattle.std.specs.Prelude.{◌≡◌, ◌<◌, ◌≤◌, [], ◌∷◌
 ghost use Rattle.setting_keys.specs.declared.SettingValue.{SettingValue as AnySetting};
 ghost use Rattle.setphase_core.specs.Objects.{HasRoom, pending_reservation, committed_reservation};
 ghost use Rattle.setphase_core.specs.Settings.{HasSetting, IsSettingInRange, setting, put};
-ghost use Rattle.setphase_core.specs.Writing.{next_slot};
+ghost use Rattle.setphase_core.specs.Writing.{next_slot, within_rows, assignments_in};
 
 use crate::limits::MAX_SLOTS;
 use crate::object::{Assignment, Reservation, SetFault, Slot};
+use crate::static_limit::is_within_rows;
 use crate::world::World;
 use arrayvec::ArrayVec;
 use setting_keys::SettingValue;
@@ -47,14 +48,24 @@ impl Slots {
     /// Reserves the next place for what a variable writes, where it has no fault.
     ///
     /// # Errors
-    /// The variable's fault, or `ResourceUnavailable` where all places are taken.
-    pub fn reserve(&mut self, tested: Result<Assignment, SetFault>) -> Result<Slot, SetFault>
-        ensures answer { result ≡ next_slot self.old tested }
+    /// The variable's fault, or `ResourceUnavailable`: where it makes a static row that is one too
+    /// many beside those that are there and those that the reserved slots make; or where all places
+    /// are taken.
+    pub fn reserve(
+        &mut self,
+        world: &World,
+        tested: Result<Assignment, SetFault>,
+    ) -> Result<Slot, SetFault>
+        ensures answer { result
+            ≡ next_slot self.old (within_rows world.now (assignments_in self.old) tested) }
         ensures reserved { IfOk result (λ slot.
             self.new ≡ self.old ++ pending_reservation slot ∷ []) }
         ensures refused { OnErr result (self.new ≡ self.old) }
     {
         let Assignment { key, value } = tested?;
+        if !is_within_rows(world, self.slots.as_slice(), key, value) {
+            return Err(SetFault::ResourceUnavailable);
+        }
         let place = self.slots.len();
         let reservation = Reservation {
             key,

@@ -151,6 +151,7 @@ impl<'a, O: MibObject> Staging<'a, O> {
         ensures same_tested { OnErr result (self.new.tested ≡ self.old.tested) }
     {
         let _ports = world.bridge.ports();
+        world.bridge.known_statics();
         let answer = world.policy.vacm().in_view(view, &binding.name);
         if !answer.is_included() {
             return Err(VariableFault::NoAccess(answer));

@@ -1,10 +1,13 @@
 //! How a Set writes an object, and what one of its variables writes.
 ghost use Rattle.std.specs.Prelude.{◌≡◌, ◌<◌, IfSome};
-ghost use Rattle.setphase_core.specs.Writing.{takes, number_given, key_at, integer_assignment, assignment_by, HasStep};
+ghost use Rattle.setphase_core.specs.Writing.{takes, number_given, key_at, integer_assignment, ports_assignment, assignment_by, HasStep};
 
 use crate::index::{is_scalar, port_at};
+use crate::limits::MAX_PORT_OCTETS;
 use crate::object::{Assignment, SetFault};
+use crate::static_index::static_index;
 use crate::world::World;
+use fdb_core::{PortSet, has_other_port};
 use message_core::Value;
 use rstp_settings::key::{BridgeKey, Key, MIGRATION_CHECK, PortKey};
 use setting_keys::{SettingKey, SettingValue};
@@ -16,6 +19,8 @@ pub enum Target {
     Bridge(BridgeKey),
     /// That of the port whose number is the index.
     Port(PortKey),
+    /// Whether the static row of the index is made.
+    Made,
 }
 
 impl Target {
@@ -25,6 +30,7 @@ impl Target {
     {
         match self {
             Target::Port(PortKey::Migrate) => { if number == 1 { MIGRATION_CHECK } else { 0 } }
+            Target::Made => { if number == 3 { 1 } else { 0 } }
             _ => number,
         }
     }
@@ -39,6 +45,7 @@ impl Target {
                 let port = port_at(world.bridge.ports(), at)?;
                 Some(SettingKey::Bridge(Key::Port(port, key)))
             }
+            Target::Made => static_index(&world.bridge, at).map(SettingKey::Made),
         }
     }
 }
@@ -49,6 +56,8 @@ impl Target {
 pub enum Writable {
     /// By an INTEGER.
     Integer(IntegerTarget),
+    /// By the octets of a set of ports, which the static row of the index gets.
+    Ports,
 }
 
 /// Which setting an INTEGER writes, and which INTEGERs are taken: from the least to the most those
@@ -93,6 +102,22 @@ impl IntegerTarget {
     }
 }
 
+// What the instance of an index of a static row's ports writes for octets.
+fn ports_assignment(world: &World, at: &[u32], octets: &[u8]) -> Result<Assignment, SetFault>
+    ensures { result ≡ ports_assignment world.now at.now octets.now }
+{
+    if octets.len() > MAX_PORT_OCTETS {
+        return Err(SetFault::WrongLength);
+    }
+    if has_other_port(world.bridge.ports(), octets) {
+        return Err(SetFault::WrongValue);
+    }
+    let index = static_index(&world.bridge, at).ok_or(SetFault::NoCreation)?;
+    let key = SettingKey::Allowed(index);
+    let value = SettingValue::Ports(PortSet::read(octets));
+    Ok(Assignment { key, value })
+}
+
 /// What a variable of an object that is written so writes, or the first fault that the object's
 /// places do not decide; an object that is read-only refuses each (RFC 3416, 4.2.5). It takes no
 /// memory.
@@ -109,6 +134,7 @@ pub fn assignment_by(
         (Writable::Integer(target), Value::Integer(integer)) => {
             target.integer_assignment(world, at, *integer)
         }
-        (Writable::Integer(_), _) => Err(SetFault::WrongType),
+        (Writable::Ports, Value::OctetString(octets)) => ports_assignment(world, at, octets.as_slice()),
+        (Writable::Integer(_) | Writable::Ports, _) => Err(SetFault::WrongType),
     }
 }

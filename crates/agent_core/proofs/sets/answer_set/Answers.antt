@@ -1,4 +1,4 @@
-use Rattle.std.proofs.Common.{◌≡◌, ◌∙◌, ℕ, ◌≤◌, [], List, length, map, Option, None, IfSome, unwrap_or, not, FitsSigned, w32, rules, ap, sym, subst}
+use Rattle.std.proofs.Common.{◌≡◌, ◌∙◌, ℕ, ◌<◌, ◌≤◌, [], List, length, map, Option, None, IfSome, unwrap_or, not, FitsSigned, w32, rules, ap, sym, subst}
 use Rattle.std.proofs.lemmas.Int.{to_z-of_z}
 use Rattle.message_core.specs.Canon.{answer_to}
 use Rattle.message_core.specs.declared.binding.Binding.{Binding}
@@ -13,7 +13,8 @@ use Rattle.setphase_core.specs.Objects.{ObjectRow, ObjectState}
 use Rattle.setphase_core.specs.Registry.{rows_of}
 use Rattle.setphase_core.specs.Settings.{same_settings, same_settings_of}
 use Rattle.setphase_core.specs.Variables.{writings}
-use Rattle.setphase_core.specs.Together.{refusal_of}
+use Rattle.setphase_core.specs.Together.{assignments, refusal_of}
+use Rattle.setphase_core.specs.Staging.{static_count}
 use Rattle.setphase_core.specs.Outcomes.{SetNotes, AreNotes, refusal_in, notes_in, changed_in, world_after_set}
 use Rattle.setphase_core.specs.Calls.{calls_of, object_after_set, FollowPlans}
 use Rattle.agent_core.specs.Replies.{reply_within_limit}
@@ -25,7 +26,7 @@ use Rattle.agent_core.specs.declared.sent_reply.SentReply.{SentReply}
 use Rattle.agent_core.specs.declared.sets.SetTold.{SetTold}
 use Rattle.agent_core.proofs.SetProofs.{index_within, number_within, may_fail, families_kept, names_kept, families_are}
 use Rattle.agent_core.proofs.Changed.{changed_is, settled_is, settled_bpdus_is}
-use Rattle.agent_core.proofs.SetSteps.{told_audit, too_long_done, too_long_plans, fitting_plans, set_done, notes_told_of}
+use Rattle.agent_core.proofs.SetSteps.{told_audit, too_long_done, too_long_plans, fitting_plans, set_done, notes_told_of, short_set, short_audit}
 use Rattle.agent_core.proofs.sets.answer_set.Goals as goal
 
 pub returns-then-is_too_long-clause-done : goal.returns-then-is_too_long-clause-done
@@ -41,34 +42,34 @@ returns-then-is_too_long-clause-done g c =
 
 pub set_answer-requires-clause-refused : goal.set_answer-requires-clause-refused
 set_answer-requires-clause-refused g c =
-    index_within c.args.request.now (refusal_in c.run_set-outcome.result) (sym c.is_too_long.ensures.too_long ∙ c.if-is_too_long.false)
-    (subst (λ (bs : List Binding). IfSome (refusal_in c.run_set-outcome.result) (λ r. (1 ≤ r.index) × (r.index ≤ length bs))) c.as_slice-bindings.ensures c.run_set-outcome.ensures.refused_index)
+    index_within c.args.request.now (refusal_in c.in_ok-outcome.outcome) (sym c.is_too_long.ensures.too_long ∙ c.if-is_too_long.false)
+    (subst (λ (bs : List Binding). IfSome (refusal_in c.in_ok-outcome.outcome) (λ r. (1 ≤ r.index) × (r.index ≤ length bs))) c.as_slice-bindings.ensures c.in_ok-outcome.ensures.refused_index)
 
 pub set_answer-requires-clause-failed : goal.set_answer-requires-clause-failed
 set_answer-requires-clause-failed g c =
-    number_within c.args.request.now (notes_in c.run_set-outcome.result).commit (sym c.is_too_long.ensures.too_long ∙ c.if-is_too_long.false)
-    (subst (λ (bs : List Binding). IfSome (notes_in c.run_set-outcome.result).commit (λ n. (1 ≤ n) × (n ≤ length bs))) c.as_slice-bindings.ensures c.run_set-outcome.ensures.failed_index)
+    number_within c.args.request.now (notes_in c.in_ok-outcome.outcome).commit (sym c.is_too_long.ensures.too_long ∙ c.if-is_too_long.false)
+    (subst (λ (bs : List Binding). IfSome (notes_in c.in_ok-outcome.outcome).commit (λ n. (1 ≤ n) × (n ≤ length bs))) c.as_slice-bindings.ensures c.in_ok-outcome.ensures.failed_index)
 
 pub set_answer-requires-clause-family : goal.set_answer-requires-clause-family
 set_answer-requires-clause-family g c =
-    let outcome : SetOutcome = c.run_set-outcome.result in
+    let outcome : SetOutcome = c.in_ok-outcome.outcome in
     let world : World = c.args.world.now in
-    let after : World = c.run_set-outcome.new.world in
+    let after : World = c.run_set.new.world in
     names_kept (refusal_in outcome) world.policy.vacm.families c.vacm.result.now.families
     (families_are (refusal_in outcome) c.vacm.result.now.families after.policy.vacm.families world.policy.vacm.families (ap (λ (t : Tables). t.families) c.vacm.ensures)
-    (families_kept outcome (writings (rows_of c.args.registry.now) world c.as_slice-bindings.result.now) world after c.run_set-outcome.ensures.world))
-    c.run_set-outcome.ensures.family
+    (families_kept outcome (writings (rows_of c.args.registry.now) world c.as_slice-bindings.result.now) world after c.in_ok-outcome.ensures.world))
+    c.in_ok-outcome.ensures.family
 
 pub returns-clause-may : goal.returns-clause-may
 returns-clause-may g c =
     let request : Request = c.args.request.now in
     let world : World = c.args.world.now in
     let rows : List ObjectRow = rows_of c.args.registry.now in
-    let outcome : SetOutcome = c.run_set-outcome.result in
+    let outcome : SetOutcome = c.in_ok-outcome.outcome in
     let refusal : refusal_in outcome ≡ refusal_of rows world c.args.view request.bindings =
-    subst (λ (bs : List Binding). refusal_in outcome ≡ refusal_of rows world c.args.view bs) c.as_slice-bindings.ensures c.run_set-outcome.ensures.refusal in
+    subst (λ (bs : List Binding). refusal_in outcome ≡ refusal_of rows world c.args.view bs) c.as_slice-bindings.ensures c.in_ok-outcome.ensures.refusal in
     let notes : AreNotes (writings rows world request.bindings) (notes_in outcome) =
-    subst (λ (bs : List Binding). AreNotes (writings rows world bs) (notes_in outcome)) c.as_slice-bindings.ensures c.run_set-outcome.ensures.notes in
+    subst (λ (bs : List Binding). AreNotes (writings rows world bs) (notes_in outcome)) c.as_slice-bindings.ensures c.in_ok-outcome.ensures.notes in
     subst (λ (ns : SetNotes). MayFailInSet rows world c.args.view request ns)
     (sym (notes_told_of c.vacm.result.now.families outcome c.in_ok-answer.answer c.told-2.result request c.args.row c.args.view c.put-sent.result c.in_ok-answer.ensures.told c.told-2.ensures))
     (may_fail outcome request (refusal_of rows world c.args.view request.bindings) (writings rows world request.bindings)
@@ -80,23 +81,23 @@ returns-clause-done g c =
     let world : World = c.args.world.now in
     let objects : List ObjectState = c.args.registry.now in
     let rows : List ObjectRow = rows_of objects in
-    let outcome : SetOutcome = c.run_set-outcome.result in
-    let after : World = c.run_set-outcome.new.world in
+    let outcome : SetOutcome = c.in_ok-outcome.outcome in
+    let after : World = c.run_set.new.world in
     let answer : SetTold = c.in_ok-answer.answer in
     let same = c.as_slice-bindings.ensures in
     let refusal : refusal_in outcome ≡ refusal_of rows world c.args.view request.bindings =
-    subst (λ (bs : List Binding). refusal_in outcome ≡ refusal_of rows world c.args.view bs) same c.run_set-outcome.ensures.refusal in
+    subst (λ (bs : List Binding). refusal_in outcome ≡ refusal_of rows world c.args.view bs) same c.in_ok-outcome.ensures.refusal in
     let after_is : after ≡ world_after_set (refusal_in outcome) (writings rows world request.bindings) world (notes_in outcome) =
-    subst (λ (bs : List Binding). after ≡ world_after_set (refusal_in outcome) (writings rows world bs) world (notes_in outcome)) same c.run_set-outcome.ensures.world in
-    let objects_are : c.run_set-outcome.new.registry ≡ map (object_after_set (calls_of (refusal_in outcome) (writings rows world request.bindings) (notes_in outcome))) objects =
-    subst (λ (bs : List Binding). c.run_set-outcome.new.registry ≡ map (object_after_set (calls_of (refusal_in outcome) (writings rows world bs) (notes_in outcome))) objects) same c.run_set-outcome.ensures.objects in
+    subst (λ (bs : List Binding). after ≡ world_after_set (refusal_in outcome) (writings rows world bs) world (notes_in outcome)) same c.in_ok-outcome.ensures.world in
+    let objects_are : c.run_set.new.registry ≡ map (object_after_set (calls_of (refusal_in outcome) (writings rows world request.bindings) (notes_in outcome))) objects =
+    subst (λ (bs : List Binding). c.run_set.new.registry ≡ map (object_after_set (calls_of (refusal_in outcome) (writings rows world bs) (notes_in outcome))) objects) same c.in_ok-outcome.ensures.objects in
     let changed : c.changed-changed.result ≡ not (same_settings_of world after) =
-    changed_is outcome (writings rows world request.bindings) world after c.changed-changed.result after_is c.run_set-outcome.ensures.changed
+    changed_is outcome (writings rows world request.bindings) world after c.changed-changed.result after_is c.in_ok-outcome.ensures.changed
     (c.changed-changed.ensures ∙ ap (λ (t : Table). unwrap_or (changed_in outcome) (not (same_settings t after.bridge.settings))) c.copied_settings-before.ensures) in
     let index_fits : FitsSigned w32 answer.index = search rules in
     let put : IsSent (reply_within_limit (answer_to request answer.status answer.index request.bindings)) c.put-sent.result c.put-sent.new.self.reply =
     subst (λ (bs : List Binding). IsSent (reply_within_limit (answer_to request answer.status answer.index bs)) c.put-sent.result c.put-sent.new.self.reply) same (rw (to_z-of_z w32 answer.index index_fits) at c.put-sent.ensures.sent) in
-    set_done objects world request c.args.row c.args.view outcome answer c.put-sent.result c.put-sent.new.self after c.settle.new.world c.run_set-outcome.new.registry
+    set_done objects world request c.args.row c.args.view outcome answer c.put-sent.result c.put-sent.new.self after c.settle.new.world c.run_set.new.registry
     c.told-2.result c.vacm.result.now.families
     (sym c.is_too_long.ensures.too_long ∙ c.if-is_too_long.false) refusal after_is
     (families_are (refusal_in outcome) c.vacm.result.now.families after.policy.vacm.families world.policy.vacm.families (ap (λ (t : Tables). t.families) c.vacm.ensures)
@@ -116,12 +117,29 @@ returns-clause-by_plan g c =
     let world : World = c.args.world.now in
     let objects : List ObjectState = c.args.registry.now in
     let rows : List ObjectRow = rows_of objects in
-    let outcome : SetOutcome = c.run_set-outcome.result in
+    let outcome : SetOutcome = c.in_ok-outcome.outcome in
     let same = c.as_slice-bindings.ensures in
     let refusal : refusal_in outcome ≡ refusal_of rows world c.args.view request.bindings =
-    subst (λ (bs : List Binding). refusal_in outcome ≡ refusal_of rows world c.args.view bs) same c.run_set-outcome.ensures.refusal in
+    subst (λ (bs : List Binding). refusal_in outcome ≡ refusal_of rows world c.args.view bs) same c.in_ok-outcome.ensures.refusal in
     let by_plan : FollowPlans (calls_of (refusal_in outcome) (writings rows world request.bindings) (notes_in outcome)) objects =
-    subst (λ (bs : List Binding). FollowPlans (calls_of (refusal_in outcome) (writings rows world bs) (notes_in outcome)) objects) same c.run_set-outcome.ensures.by_plan in
+    subst (λ (bs : List Binding). FollowPlans (calls_of (refusal_in outcome) (writings rows world bs) (notes_in outcome)) objects) same c.in_ok-outcome.ensures.by_plan in
     fitting_plans objects world c.args.view request (notes_in outcome) _ (sym c.is_too_long.ensures.too_long ∙ c.if-is_too_long.false)
     (notes_told_of c.vacm.result.now.families outcome c.in_ok-answer.answer c.told-2.result request c.args.row c.args.view c.put-sent.result c.in_ok-answer.ensures.told c.told-2.ensures)
     (subst (λ r. FollowPlans (calls_of r (writings rows world request.bindings) (notes_in outcome)) objects) refusal by_plan)
+
+pub returns-in_err-outcome-clause-takes : goal.returns-in_err-outcome-clause-takes
+returns-in_err-outcome-clause-takes g c =
+    let request : Request = c.args.request.now in
+    let rows : List ObjectRow = rows_of c.args.registry.now in
+    short_set rows c.args.world.now c.args.view request (sym c.is_too_long.ensures.too_long ∙ c.if-is_too_long.false)
+    (subst (λ (bs : List Binding). refusal_of rows c.args.world.now c.args.view bs ≡ None) c.as_slice-bindings.ensures c.in_err-outcome.ensures.accepted)
+    (subst (λ (bs : List Binding). 0 < static_count (assignments (writings rows c.args.world.now bs))) c.as_slice-bindings.ensures c.in_err-outcome.ensures.writes_static)
+
+pub returns-in_err-answer-clause-takes : goal.returns-in_err-answer-clause-takes
+returns-in_err-answer-clause-takes g c =
+    let request : Request = c.args.request.now in
+    let rows : List ObjectRow = rows_of c.args.registry.now in
+    let outcome : SetOutcome = c.in_ok-outcome.outcome in
+    short_audit rows c.args.world.now c.args.view request (refusal_in outcome) (sym c.is_too_long.ensures.too_long ∙ c.if-is_too_long.false)
+    (subst (λ (bs : List Binding). refusal_in outcome ≡ refusal_of rows c.args.world.now c.args.view bs) c.as_slice-bindings.ensures c.in_ok-outcome.ensures.refusal)
+    c.in_err-answer.ensures.takes
