@@ -32,6 +32,7 @@ pub mod Equal
 pub mod Timers
 pub mod Same
 pub mod Endings
+pub mod Lacking
 pub mod Faults
 pub mod Runs
 pub mod Told

@@ -1,25 +1,29 @@
 -- The run of a Set, from its tests to its end.
 use Rattle.std.proofs.Common.{◌≡◌, ℕ, ◌∙◌, sym, ap, subst, refl, Bool, true, false, cond, List, [], ◌∷◌, ◌++◌, map, take, slice_get, Option, Some, None}
-use Rattle.std.specs.Option.{option_map}
+use Rattle.std.specs.Option.{option_map, option_or}
 use Rattle.message_core.specs.declared.binding.Binding.{Binding}
+use Rattle.message_core.specs.declared.status.ErrorStatus.TheVariants as status
 use Rattle.setting_keys.specs.declared.SettingKey.{SettingKey}
 use Rattle.setphase_core.specs.declared.world.World.{World}
+use Rattle.setphase_core.specs.declared.object.Assignment.{Assignment}
+use Rattle.setphase_core.specs.declared.sets.Refusal.{Refusal}
 use Rattle.setphase_core.specs.declared.staging.Staged.{Staged}
 use Rattle.setphase_core.specs.Objects.{ObjectRow, ObjectState, object_after_release}
 use Rattle.setphase_core.specs.Registry.{rows_of}
 use Rattle.setphase_core.specs.Variables.{Written, writings}
-use Rattle.setphase_core.specs.Together.{assign, assignments, contradicting, timer_numbers, timers_agree, disagreeing, inconsistent, joint_refusals, refusal_of}
+use Rattle.setphase_core.specs.Together.{assign, assignments, contradicting, numbers_where, lacks_row, lacking_row, timer_numbers, timers_agree, disagreeing, joint_refusal, joint_refusals, refusal_of}
 use Rattle.setphase_core.specs.Outcomes.{CanFail, stuck}
 use Rattle.setphase_core.specs.Calls.{Call, calls_by, object_after_set, FollowPlans}
 use Rattle.setphase_core.specs.Staging.{assignments_of, entry_at, entries_of, AreCommitted, HasFailed, AreCalled, commits_at, undos_at, IsDistinct}
-use Rattle.setphase_core.specs.Tested.{first_in, inconsistency, AreStaged, ArePassed}
+use Rattle.setphase_core.specs.Tested.{first_lacking, inconsistency, AreStaged, ArePassed, AreReady}
 use Rattle.setphase_core.proofs.Endings.{stuck_assignments, can_fail, calls_told}
 use Rattle.setphase_core.proofs.Called.{plans_released}
+use Rattle.setphase_core.proofs.Lacking.{first_lacking_staged}
 use Rattle.setphase_core.proofs.Stuck.{entry_keys}
 
 -- ---- the refusal
 
-first-append : (xs ys : List ℕ) → slice_get (xs ++ ys) 0 ≡ first_in (slice_get xs 0) ys
+first-append : {X : Type 0} (xs ys : List X) → slice_get (xs ++ ys) 0 ≡ option_or (slice_get xs 0) (slice_get ys 0)
 first-append [] ys = refl
 first-append (x ∷ xs) ys = refl
 
@@ -31,44 +35,79 @@ first_if : (b : Bool) (ns : List ℕ) → slice_get (cond b [] ns) 0 ≡ cond b 
 first_if true ns = refl
 first_if false ns = refl
 
+-- The first joint refusal, by the first number of each kind.
+abbrev by_kind : Option ℕ → Option ℕ → Option ℕ → Option Refusal
+by_kind contradiction lacking timer =
+    option_or (option_map (joint_refusal status.InconsistentValue) contradiction)
+    (option_or (option_map (joint_refusal status.InconsistentName) lacking)
+    (option_map (joint_refusal status.InconsistentValue) timer))
+
+inconsistent_by_kind : (c l : Option ℕ) (b : Bool) (t : Option ℕ) →
+    inconsistency c l b t ≡ by_kind c l (cond b None t)
+inconsistent_by_kind (Some n) l b t = refl
+inconsistent_by_kind None (Some n) b t = refl
+inconsistent_by_kind None None true t = refl
+inconsistent_by_kind None None false t = refl
+
+first_joint : (w : World) (ps : List Assignment) →
+    slice_get (joint_refusals w ps) 0
+    ≡ by_kind (slice_get (contradicting [] ps) 0) (slice_get (lacking_row w ps) 0) (slice_get (disagreeing w ps) 0)
+first_joint w ps =
+    let value : ℕ → Refusal = joint_refusal status.InconsistentValue in
+    let name : ℕ → Refusal = joint_refusal status.InconsistentName in
+    first-append (map value (contradicting [] ps)) (map name (lacking_row w ps) ++ map value (disagreeing w ps))
+    ∙ ap (λ o. option_or o (slice_get (map name (lacking_row w ps) ++ map value (disagreeing w ps)) 0)) (first-map value (contradicting [] ps))
+    ∙ ap (option_or (option_map value (slice_get (contradicting [] ps) 0)))
+    (first-append (map name (lacking_row w ps)) (map value (disagreeing w ps))
+    ∙ ap (λ o. option_or o (slice_get (map value (disagreeing w ps)) 0)) (first-map name (lacking_row w ps))
+    ∙ ap (option_or (option_map name (slice_get (lacking_row w ps) 0))) (first-map value (disagreeing w ps)))
+
 -- What keeps the variables from going together, where each passed its own tests, is the refusal.
 pub refused_together : (rows : List ObjectRow) (w : World) (view : List ℕ) (bs : List Binding)
     (es : List Staged) (c t : Option ℕ) →
     ArePassed rows w view bs es c t →
-    option_map inconsistent (inconsistency c (timers_agree (assign (assignments_of es) w)) t)
+    inconsistency c (first_lacking (assign (assignments_of es) w) es) (timers_agree (assign (assignments_of es) w)) t
     ≡ refusal_of rows w view bs
 refused_together rows w view bs es c t h =
     let ps = assignments (writings rows w bs) in
-    ap (option_map inconsistent) (by_first c h.same
-    ∙ ap (λ o. first_in o (disagreeing w ps)) h.contradictions
-    ∙ sym (first-append (contradicting [] ps) (disagreeing w ps)))
-    ∙ sym (first-map inconsistent (contradicting [] ps ++ disagreeing w ps))
+    inconsistent_by_kind c (first_lacking (assign (assignments_of es) w) es) (timers_agree (assign (assignments_of es) w)) t
+    ∙ by_first c h.same
+    ∙ ap (λ o. by_kind o (slice_get (lacking_row w ps) 0) (slice_get (disagreeing w ps) 0)) h.contradictions
+    ∙ sym (first_joint w ps)
     ∙ ap (λ rs. slice_get (rs ++ joint_refusals w ps) 0) (sym h.single)
   where
-    by_first : (o : Option ℕ) → (o ≡ None → assign (assignments (writings rows w bs)) w ≡ assign (assignments_of es) w) →
-        inconsistency o (timers_agree (assign (assignments_of es) w)) t
-        ≡ first_in o (disagreeing w (assignments (writings rows w bs)))
-    by_first None same =
+    lacking : assign (assignments (writings rows w bs)) w ≡ assign (assignments_of es) w →
+        first_lacking (assign (assignments_of es) w) es ≡ slice_get (lacking_row w (assignments (writings rows w bs))) 0
+    lacking same =
+        first_lacking_staged (assign (assignments_of es) w) rows (writings rows w bs) es h.staged
+        ∙ ap (λ v. slice_get (numbers_where (lacks_row v) 1 (assignments (writings rows w bs))) 0) (sym same)
+
+    timers : assign (assignments (writings rows w bs)) w ≡ assign (assignments_of es) w →
+        cond (timers_agree (assign (assignments_of es) w)) None t ≡ slice_get (disagreeing w (assignments (writings rows w bs))) 0
+    timers same =
         ap (λ o. cond (timers_agree (assign (assignments_of es) w)) None o) h.timers
         ∙ sym (first_if (timers_agree (assign (assignments_of es) w)) (timer_numbers 1 (assignments (writings rows w bs))))
-        ∙ ap (λ v. slice_get (cond (timers_agree v) [] (timer_numbers 1 (assignments (writings rows w bs)))) 0) (sym (same refl))
+        ∙ ap (λ v. slice_get (cond (timers_agree v) [] (timer_numbers 1 (assignments (writings rows w bs)))) 0) (sym same)
+
+    by_first : (o : Option ℕ) → (o ≡ None → assign (assignments (writings rows w bs)) w ≡ assign (assignments_of es) w) →
+        by_kind o (first_lacking (assign (assignments_of es) w) es) (cond (timers_agree (assign (assignments_of es) w)) None t)
+        ≡ by_kind o (slice_get (lacking_row w (assignments (writings rows w bs))) 0) (slice_get (disagreeing w (assignments (writings rows w bs))) 0)
+    by_first None same =
+        ap (λ l. by_kind None l (cond (timers_agree (assign (assignments_of es) w)) None t)) (lacking (same refl))
+        ∙ ap (by_kind None (slice_get (lacking_row w (assignments (writings rows w bs))) 0)) (timers (same refl))
     by_first (Some n) same = refl
 
-pub refused_for : (rows : List ObjectRow) (w : World) (view : List ℕ) (bs : List Binding)
-    (es : List Staged) (c t : Option ℕ) (n : ℕ) →
-    ArePassed rows w view bs es c t →
-    inconsistency c (timers_agree (assign (assignments_of es) w)) t ≡ Some n →
-    Some (inconsistent n) ≡ refusal_of rows w view bs
-refused_for rows w view bs es c t n h e =
-    sym (ap (option_map inconsistent) e) ∙ refused_together rows w view bs es c t h
-
-pub not_refused : (rows : List ObjectRow) (w : World) (view : List ℕ) (bs : List Binding)
-    (es : List Staged) (c t : Option ℕ) →
-    ArePassed rows w view bs es c t →
-    inconsistency c (timers_agree (assign (assignments_of es) w)) t ≡ None →
-    None ≡ refusal_of rows w view bs
-not_refused rows w view bs es c t h e =
-    sym (ap (option_map inconsistent) e) ∙ refused_together rows w view bs es c t h
+-- Where nothing does, no variable contradicts another, and the Set is ready.
+pub ready_together : (rows : List ObjectRow) (w : World) (view : List ℕ) (bs : List Binding)
+    (es : List Staged) (c l : Option ℕ) (b : Bool) (t : Option ℕ) →
+    ArePassed rows w view bs es c t → inconsistency c l b t ≡ None → AreReady rows w bs es
+ready_together rows w view bs es None l b t h e = record {
+  distinct = h.distinct;
+  legal = h.legal;
+  staged = h.staged;
+  same = h.same refl;
+}
+ready_together rows w view bs es (Some n) l b t h e = absurd cc
 
 -- ---- a commit that failed, and the undoing of those before it
 

@@ -5,6 +5,7 @@ use Rattle.std.specs.List.{AllByRecursion}
 use Rattle.std.proofs.lemmas.Option.{slice_get_within}
 use Rattle.std.proofs.lemmas.List.{length-map}
 use Rattle.message_core.specs.declared.binding.Binding.{Binding}
+use Rattle.message_core.specs.declared.status.ErrorStatus.{ErrorStatus}
 use Rattle.message_core.specs.declared.status.ErrorStatus.TheVariants as status
 use Rattle.vacm_core.specs.declared.tables.FamilyRow.{FamilyRow}
 use Rattle.vacm_core.specs.declared.verdict.FamilyAnswer.{FamilyAnswer}
@@ -22,7 +23,7 @@ use Rattle.setphase_core.specs.declared.staging.VariableFault.TheVariants.{NoAcc
 use Rattle.setphase_core.specs.declared.world.World.{World}
 use Rattle.setphase_core.specs.Objects.{ObjectRow}
 use Rattle.setphase_core.specs.Variables.{Written, writings_of, writings, assignment_for, with_room, variable, status_of, refusal_for, refusals_for, single_refusals}
-use Rattle.setphase_core.specs.Together.{assign, assignments, contradicts, contradicting, is_timer, timer_numbers, timers_agree, disagreeing, inconsistent, joint_refusals, refusal_of}
+use Rattle.setphase_core.specs.Together.{assign, assignments, contradicts, contradicting, numbers_where, lacks_row, lacking_row, is_timer, timer_numbers, timers_agree, disagreeing, joint_refusal, joint_refusals, refusal_of}
 use Rattle.setphase_core.specs.Outcomes.{SetNotes, CanFail, AreNotes}
 
 -- ---- lists
@@ -62,18 +63,22 @@ contradicting_within earlier (a ∷ ps) n h =
     (all_where (IsNumberOf n) (contradicts earlier a) (length earlier + 1) (omega arith, omega (arith, h)))
     (contradicting_within (earlier ++ a ∷ []) ps n (omega (arith, h, length-append earlier (a ∷ []))))
 
-timers_within : (first : ℕ) (ps : List Assignment) (n : ℕ) → 1 ≤ first → first + length ps ≤ n + 1 →
-    AllByRecursion (IsNumberOf n) (timer_numbers first ps)
-timers_within first [] n least h = tt
-timers_within first (a ∷ ps) n least h =
-    all_append (IsNumberOf n) (cond (is_timer a.key) (first ∷ []) []) (timer_numbers (first + 1) ps)
-    (all_where (IsNumberOf n) (is_timer a.key) first (least, omega (arith, h)))
-    (timers_within (first + 1) ps n (omega arith) (omega (arith, h)))
+numbers_within : (test : SettingKey → Bool) (first : ℕ) (ps : List Assignment) (n : ℕ) → 1 ≤ first →
+    first + length ps ≤ n + 1 → AllByRecursion (IsNumberOf n) (numbers_where test first ps)
+numbers_within test first [] n least h = tt
+numbers_within test first (a ∷ ps) n least h =
+    all_append (IsNumberOf n) (cond (test a.key) (first ∷ []) []) (numbers_where test (first + 1) ps)
+    (all_where (IsNumberOf n) (test a.key) first (least, omega (arith, h)))
+    (numbers_within test (first + 1) ps n (omega arith) (omega (arith, h)))
+
+lacking_within : (w : World) (ps : List Assignment) (n : ℕ) → length ps ≤ n →
+    AllByRecursion (IsNumberOf n) (lacking_row w ps)
+lacking_within w ps n h = numbers_within (lacks_row (assign ps w)) 1 ps n (omega arith) (omega (arith, h))
 
 disagreeing_within : (ps : List Assignment) (b : Bool) (n : ℕ) → length ps ≤ n →
     AllByRecursion (IsNumberOf n) (cond b [] (timer_numbers 1 ps))
 disagreeing_within ps true n h = tt
-disagreeing_within ps false n h = timers_within 1 ps n (omega arith) (omega (arith, h))
+disagreeing_within ps false n h = numbers_within is_timer 1 ps n (omega arith) (omega (arith, h))
 
 written_most : (name : List ℕ) (r : Result Assignment SetFault) → length (writings_of name r) ≤ 1
 written_most name (Ok a) = omega arith
@@ -104,13 +109,20 @@ singles_numbered rows w view before earlier (b ∷ bs) n h =
     (single_numbered n (before + 1) (variable rows w view earlier b) (omega arith, omega (arith, h)))
     (singles_numbered rows w view (before + 1) more bs n (omega (arith, h)))
 
+joint_numbered : (s : ErrorStatus) (numbers : List ℕ) (n : ℕ) → AllByRecursion (IsNumberOf n) numbers →
+    AllByRecursion (λ (r : Refusal). IsNumberOf n r.index) (map (joint_refusal s) numbers)
+joint_numbered s numbers n h = all_map (joint_refusal s) (λ (r : Refusal). IsNumberOf n r.index) numbers h
+
 joints_numbered : (w : World) (ps : List Assignment) (n : ℕ) → length ps ≤ n →
     AllByRecursion (λ (r : Refusal). IsNumberOf n r.index) (joint_refusals w ps)
 joints_numbered w ps n h =
-    all_map inconsistent (λ (r : Refusal). IsNumberOf n r.index) (contradicting [] ps ++ disagreeing w ps)
-    (all_append (IsNumberOf n) (contradicting [] ps) (disagreeing w ps)
-    (contradicting_within [] ps n (omega (arith, h)))
-    (disagreeing_within ps (timers_agree (assign ps w)) n h))
+    let value : ℕ → Refusal = joint_refusal status.InconsistentValue in
+    let name : ℕ → Refusal = joint_refusal status.InconsistentName in
+    all_append (λ (r : Refusal). IsNumberOf n r.index) (map value (contradicting [] ps)) (map name (lacking_row w ps) ++ map value (disagreeing w ps))
+    (joint_numbered status.InconsistentValue (contradicting [] ps) n (contradicting_within [] ps n (omega (arith, h))))
+    (all_append (λ (r : Refusal). IsNumberOf n r.index) (map name (lacking_row w ps)) (map value (disagreeing w ps))
+    (joint_numbered status.InconsistentName (lacking_row w ps) n (lacking_within w ps n h))
+    (joint_numbered status.InconsistentValue (disagreeing w ps) n (disagreeing_within ps (timers_agree (assign ps w)) n h)))
 
 -- A refusal is of one of the variables.
 pub refusal_numbered : (rows : List ObjectRow) (w : World) (view : List ℕ) (bs : List Binding) →
@@ -166,9 +178,6 @@ other_status fault.InconsistentName e = cc
 other_status fault.InconsistentValue e = cc
 other_status fault.ResourceUnavailable e = cc
 
-together : status.InconsistentValue ≡ status.NoAccess → ⊥
-together e = cc
-
 no_some : false ≡ true → ⊥
 no_some e = cc
 
@@ -206,11 +215,24 @@ singles_tell rows w view before earlier (b ∷ bs) =
     (answer_tells families (before + 1) earlier (assignment_for rows w b) (is_included answer) answer (family_named families (deciding_family families view b.name)))
     (singles_tell rows w view (before + 1) more bs)
 
-joints_tell : (families : List FamilyRow) (numbers : List ℕ) →
-    AllByRecursion (TellsFamily families) (map inconsistent numbers)
-joints_tell families [] = tt
-joints_tell families (i ∷ numbers) =
-    (record { row = tt; told = λ e. absurd (together e); alone = λ h. absurd (no_some h) }, joints_tell families numbers)
+joint_tells : (families : List FamilyRow) (s : ErrorStatus) (numbers : List ℕ) → (s ≡ status.NoAccess → ⊥) →
+    AllByRecursion (TellsFamily families) (map (joint_refusal s) numbers)
+joint_tells families s [] other = tt
+joint_tells families s (i ∷ numbers) other = (
+  record { row = tt; told = λ e. absurd (other e); alone = λ h. absurd (no_some h) },
+  joint_tells families s numbers other,
+)
+
+joints_tell : (families : List FamilyRow) (w : World) (ps : List Assignment) →
+    AllByRecursion (TellsFamily families) (joint_refusals w ps)
+joints_tell families w ps =
+    let value : ℕ → Refusal = joint_refusal status.InconsistentValue in
+    let name : ℕ → Refusal = joint_refusal status.InconsistentName in
+    all_append (TellsFamily families) (map value (contradicting [] ps)) (map name (lacking_row w ps) ++ map value (disagreeing w ps))
+    (joint_tells families status.InconsistentValue (contradicting [] ps) (other_status fault.InconsistentValue))
+    (all_append (TellsFamily families) (map name (lacking_row w ps)) (map value (disagreeing w ps))
+    (joint_tells families status.InconsistentName (lacking_row w ps) (other_status fault.InconsistentName))
+    (joint_tells families status.InconsistentValue (disagreeing w ps) (other_status fault.InconsistentValue)))
 
 refusal_tells : (rows : List ObjectRow) (w : World) (view : List ℕ) (bs : List Binding) →
     IfSome (refusal_of rows w view bs) (TellsFamily w.policy.vacm.families)
@@ -220,7 +242,7 @@ refusal_tells rows w view bs =
     all_first (TellsFamily families) (single_refusals rows w view 0 [] bs ++ joint_refusals w ps)
     (all_append (TellsFamily families) (single_refusals rows w view 0 [] bs) (joint_refusals w ps)
     (singles_tell rows w view 0 [] bs)
-    (joints_tell families (contradicting [] ps ++ disagreeing w ps)))
+    (joints_tell families w ps))
 
 if_some : {X : Type 0} (P Q : X → Type 0) (o : Option X) → ((x : X) → P x → Q x) → IfSome o P → IfSome o Q
 if_some P Q None f h = tt

@@ -1,6 +1,8 @@
 -- What is staged of the variables that passed their tests.
 use Rattle.std.specs.Prelude.{◌≡◌, ℕ, ◌+◌, ◌-◌, ◌<◌, ◌≤◌, ◌⊎◌, Bool, true, false, if◌then◌else◌, List, [], ◌∷◌, ◌++◌, length, take, drop, slice_get, slice_set, Option, Some, None, Result, Ok, Err}
+use Rattle.std.specs.Option.{option_map}
 use Rattle.message_core.specs.declared.binding.Binding.{Binding}
+use Rattle.message_core.specs.declared.status.ErrorStatus.TheVariants as status
 use Rattle.setting_keys.specs.declared.SettingKey.{SettingKey}
 use Rattle.setting_keys.specs.declared.SettingValue.{SettingValue}
 use Rattle.setphase_core.specs.declared.world.World.{World}
@@ -8,6 +10,7 @@ use Rattle.setphase_core.specs.declared.object.Assignment.{Assignment}
 use Rattle.setphase_core.specs.declared.object.SetFault.{SetFault}
 use Rattle.setphase_core.specs.declared.object.SetFault.TheVariants.{NotWritable, ResourceUnavailable}
 use Rattle.setphase_core.specs.declared.object.Slot.{Slot}
+use Rattle.setphase_core.specs.declared.sets.Refusal.{Refusal}
 use Rattle.setphase_core.specs.declared.limits.TheConstants.{MAX_VARIABLES}
 use Rattle.setphase_core.specs.declared.staging.TestedVariable.{TestedVariable}
 use Rattle.setphase_core.specs.declared.staging.Staged.{Staged}
@@ -22,7 +25,7 @@ use Rattle.setphase_core.specs.Searching.{IsOwnerPlace}
 use Rattle.setphase_core.specs.Settings.{same_setting, same_value}
 use Rattle.setphase_core.specs.Writing.{test_answer}
 use Rattle.setphase_core.specs.Variables.{Written, writings, single_refusals}
-use Rattle.setphase_core.specs.Together.{assignments, assign, contradicting, timer_numbers}
+use Rattle.setphase_core.specs.Together.{assignments, assign, contradicting, lacks_row, timer_numbers, joint_refusal}
 use Rattle.setphase_core.specs.Outcomes.{committed_of}
 use Rattle.setphase_core.specs.Staging.{object_at, entry_at, assignments_of, IsDistinct, AreLegal}
 
@@ -126,11 +129,18 @@ pub record ArePassed (rows : List ObjectRow) (w : World) (view : List ℕ) (bs :
   pub same : contradiction ≡ None
       → assign (assignments (writings rows w bs)) w ≡ assign (assignments_of es) w
 
--- The number of the variable that keeps the variables of a Set from going together: the one that
--- contradicts an earlier one, or else the first timer, where the timers do not agree.
-abbrev pub inconsistency : Option ℕ → Bool → Option ℕ → Option ℕ
-inconsistency (Some n) agree timer = Some n
-inconsistency None agree timer = if agree then None else timer
+-- The number of the first entry that writes the ports of a static row that is not there in a world.
+abbrev pub first_lacking : World → List Staged → Option ℕ
+first_lacking w [] = None
+first_lacking w (e ∷ es) = if lacks_row w e.slot.key then Some e.number else first_lacking w es
+
+-- Why the variables of a Set do not go together: one contradicts an earlier one; or else one lacks
+-- its row; or else the timers do not agree, of which this is the first.
+abbrev pub inconsistency : Option ℕ → Option ℕ → Bool → Option ℕ → Option Refusal
+inconsistency (Some n) lacking agree timer = Some (joint_refusal status.InconsistentValue n)
+inconsistency None (Some n) agree timer = Some (joint_refusal status.InconsistentName n)
+inconsistency None None agree timer =
+    if agree then None else option_map (joint_refusal status.InconsistentValue) timer
 
 -- A Set that is not refused: its entries write no setting twice, each a value that it may have, and
 -- together what its variables do.

@@ -1,15 +1,18 @@
--- The variables of a Set together: those that contradict others, timers that do not go together,
--- and the refusal of the whole Set (RFC 3416, 4.2.5; IEEE 802.1D-2004 17.14).
+-- The variables of a Set together: those that contradict others, ports of static rows that are not
+-- there, timers that do not go together, and the refusal of the whole Set (RFC 3416, 4.2.5; RFC 4188
+-- dot1dStaticTable; IEEE 802.1D-2004 17.14).
 use Rattle.std.specs.Prelude.{ℕ, ◌+◌, ◌*◌, nat_le, Bool, true, false, not, ◌&&◌, if◌then◌else◌, List, [], ◌∷◌, ◌++◌, length, map, slice_get, Option, None}
 use Rattle.std.specs.List.{list_any}
 use Rattle.message_core.specs.declared.binding.Binding.{Binding}
+use Rattle.message_core.specs.declared.status.ErrorStatus.{ErrorStatus}
 use Rattle.message_core.specs.declared.status.ErrorStatus.TheVariants as status
+use Rattle.bridge_core.specs.Statics.{is_made}
 use Rattle.rstp_settings.specs.Table.{get}
 use Rattle.rstp_settings.specs.declared.key.Key.TheVariants as key
 use Rattle.rstp_settings.specs.declared.key.BridgeKey.{BridgeKey}
 use Rattle.rstp_settings.specs.declared.key.BridgeKey.TheVariants as bridge
 use Rattle.setting_keys.specs.declared.SettingKey.{SettingKey}
-use Rattle.setting_keys.specs.declared.SettingKey.TheVariants.{Bridge}
+use Rattle.setting_keys.specs.declared.SettingKey.TheVariants.{Bridge, Made, Allowed}
 use Rattle.setphase_core.specs.declared.world.World.{World}
 use Rattle.setphase_core.specs.declared.object.Assignment.{Assignment}
 use Rattle.setphase_core.specs.declared.sets.Refusal.{Refusal}
@@ -37,6 +40,24 @@ contradicting earlier (a ∷ ps) =
     (if contradicts earlier a then (length earlier + 1) ∷ [] else [])
     ++ contradicting (earlier ++ a ∷ []) ps
 
+-- The numbers of the variables whose settings pass a test; the first of these variables has this
+-- number.
+abbrev pub numbers_where : (SettingKey → Bool) → ℕ → List Assignment → List ℕ
+numbers_where test first [] = []
+numbers_where test first (a ∷ ps) =
+    (if test a.key then first ∷ [] else []) ++ numbers_where test (first + 1) ps
+
+-- The allowed ports of a static row that is not there.
+abbrev pub lacks_row : World → SettingKey → Bool
+lacks_row w (Bridge k) = false
+lacks_row w (Made i) = false
+lacks_row w (Allowed i) = not (is_made w.bridge i)
+
+-- The numbers of the variables that write the allowed ports of a row that is not there once all
+-- values are in place.
+abbrev pub lacking_row : World → List Assignment → List ℕ
+lacking_row w ps = numbers_where (lacks_row (assign ps w)) 1 ps
+
 -- A timer of the bridge: maximum age, hello time or forward delay.
 abbrev pub is_timer : SettingKey → Bool
 is_timer (Bridge (key.Bridge bridge.MaxAge)) = true
@@ -44,11 +65,9 @@ is_timer (Bridge (key.Bridge bridge.Hello)) = true
 is_timer (Bridge (key.Bridge bridge.ForwardDelay)) = true
 is_timer other = false
 
--- The numbers of the variables that write a timer; the first of these variables has this number.
+-- The numbers of the variables that write a timer.
 abbrev pub timer_numbers : ℕ → List Assignment → List ℕ
-timer_numbers first [] = []
-timer_numbers first (a ∷ ps) =
-    (if is_timer a.key then first ∷ [] else []) ++ timer_numbers (first + 1) ps
+timer_numbers first ps = numbers_where is_timer first ps
 
 abbrev pub timer : World → BridgeKey → ℕ
 timer w k = get w.bridge.settings (key.Bridge k)
@@ -68,14 +87,20 @@ timers_agree w =
 abbrev pub disagreeing : World → List Assignment → List ℕ
 disagreeing w ps = if timers_agree (assign ps w) then [] else timer_numbers 1 ps
 
-abbrev pub inconsistent : ℕ → Refusal
-inconsistent i = record { status = status.InconsistentValue; index = i; family = None }
+abbrev pub joint_refusal : ErrorStatus → ℕ → Refusal
+joint_refusal s i = record { status = s; index = i; family = None }
 
+-- The refusals of variables that do not go together: for contradictions, for rows that are not
+-- there, and for timers, in this order.
 abbrev pub joint_refusals : World → List Assignment → List Refusal
-joint_refusals w ps = map inconsistent (contradicting [] ps ++ disagreeing w ps)
+joint_refusals w ps =
+    map (joint_refusal status.InconsistentValue) (contradicting [] ps)
+    ++ map (joint_refusal status.InconsistentName) (lacking_row w ps)
+    ++ map (joint_refusal status.InconsistentValue) (disagreeing w ps)
 
 -- What a Set in a view is refused for: the first fault of its first faulty variable; where no
--- variable has one, its first variable that contradicts an earlier one; and where none does, its
+-- variable has one, its first variable that contradicts an earlier one; where none does, its first
+-- variable that writes the ports of a static row that is not there; and where none does that, its
 -- first timer, where the timers do not agree.
 abbrev pub refusal_of : List ObjectRow → World → List ℕ → List Binding → Option Refusal
 refusal_of rows w view bs =

@@ -6,11 +6,11 @@ ghost use Rattle.setphase_core.specs.Objects.{object_after_release};
 ghost use Rattle.setphase_core.specs.Registry.{rows_of, held_count};
 ghost use Rattle.setphase_core.specs.Settings.{setting, HasSetting, same_settings_of, with_settings_of};
 ghost use Rattle.setphase_core.specs.Variables.{Written as Variable, status_of, refusal_for, single_refusals, writings};
-ghost use Rattle.setphase_core.specs.Together.{assign, assignments, is_timer, timer, timers_agree, refusal_of};
+ghost use Rattle.setphase_core.specs.Together.{assign, assignments, is_timer, lacks_row, timer, timers_agree, joint_refusal, refusal_of};
 ghost use Rattle.setphase_core.specs.Outcomes.{refusal_in, notes_in, changed_in, world_after_set, AreNotes, NamesASetting};
 ghost use Rattle.setphase_core.specs.Calls.{calls_of, object_after_set, FollowPlans};
 ghost use Rattle.setphase_core.specs.Staging.{assignments_of, static_count, IsDistinct, AreLegal, HasRoomFor, IsUnderWay};
-ghost use Rattle.setphase_core.specs.Tested.{first_in, is_contradicting, inconsistency, AreStaged, ArePassed, AreReady};
+ghost use Rattle.setphase_core.specs.Tested.{first_in, first_lacking, is_contradicting, inconsistency, AreStaged, ArePassed, AreReady};
 
 use crate::committing::{commit_all, undo_all};
 use crate::object::{MibObject, SetFault};
@@ -218,17 +218,69 @@ fn timers_agree(world: &World, staged: &[Staged]) -> bool
     max_age + TWO_SECONDS <= 2 * forward_delay && 2 * hello + TWO_SECONDS <= max_age
 }
 
-// The number of the variable that keeps all from going together, where one does.
-fn inconsistency(world: &World, staged: &[Staged], joint: Joint) -> Option<usize>
+// Whether a setting is the allowed ports of a static row that is not there once all that is staged
+// is assigned (RFC 4188, dot1dStaticAllowedToGoTo).
+#[tactic(auto, using(crate::proofs::Equal::value_equal))]
+fn lacks_row(world: &World, staged: &[Staged], key: SettingKey) -> bool
+    requires has { HasSetting world.now key }
+    requires distinct { IsDistinct (assignments_of staged.now) }
+    requires legal { AreLegal world.now (assignments_of staged.now) }
+    ensures { result ≡ lacks_row (assign (assignments_of staged.now) world.now) key }
+{
+    match key {
+        SettingKey::Allowed(index) => {
+            let made = value_after(world, staged, SettingKey::Made(index));
+            made == SettingValue::Number(0)
+        }
+        SettingKey::Bridge(_) | SettingKey::Made(_) => false,
+    }
+}
+
+// The number of the first entry that writes the ports of a static row that is not there once all
+// that is staged is assigned.
+fn first_lacking(world: &World, staged: &[Staged]) -> Option<usize>
+    requires distinct { IsDistinct (assignments_of staged.now) }
+    requires legal { AreLegal world.now (assignments_of staged.now) }
+    ensures { result
+        ≡ first_lacking (assign (assignments_of staged.now) world.now) staged.now }
+{
+    for entry in staged {
+        if lacks_row(world, staged, entry.slot.key) {
+            return Some(entry.number);
+        }
+    }
+    None
+}
+
+// The refusal for a variable that does not go together with the others.
+fn joint_refusal(status: ErrorStatus, number: usize) -> Refusal
+    ensures { result ≡ joint_refusal status number }
+{
+    Refusal {
+        status,
+        index: number,
+        family: None,
+    }
+}
+
+// Why the variables do not go together, where they do not.
+fn inconsistency(world: &World, staged: &[Staged], joint: Joint) -> Option<Refusal>
     requires distinct { IsDistinct (assignments_of staged.now) }
     requires legal { AreLegal world.now (assignments_of staged.now) }
     ensures { result ≡ inconsistency joint.contradiction
+        (first_lacking (assign (assignments_of staged.now) world.now) staged.now)
         (timers_agree (assign (assignments_of staged.now) world.now)) joint.timer }
 {
-    match joint.contradiction {
-        Some(number) => Some(number),
+    if let Some(number) = joint.contradiction {
+        return Some(joint_refusal(ErrorStatus::InconsistentValue, number));
+    }
+    match first_lacking(world, staged) {
+        Some(number) => Some(joint_refusal(ErrorStatus::InconsistentName, number)),
         None if timers_agree(world, staged) => None,
-        None => joint.timer,
+        None => match joint.timer {
+            Some(number) => Some(joint_refusal(ErrorStatus::InconsistentValue, number)),
+            None => None,
+        },
     }
 }
 
@@ -257,14 +309,7 @@ fn refused<O: MibObject>(
 {
     match stage_all(staging, world, view, bindings) {
         Err(refusal) => Some(refusal),
-        Ok(joint) => match inconsistency(world, staging.staged.as_slice(), joint) {
-            None => None,
-            Some(number) => Some(Refusal {
-                status: ErrorStatus::InconsistentValue,
-                index: number,
-                family: None,
-            }),
-        },
+        Ok(joint) => inconsistency(world, staging.staged.as_slice(), joint),
     }
 }
 
