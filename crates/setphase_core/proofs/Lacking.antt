@@ -48,7 +48,7 @@ module _ (test : SettingKey → Bool) where
   firsts_pass : (earlier ws : List Written) → passes earlier ≡ false →
       passes (firsts earlier ws) ≡ passes ws
   firsts_pass earlier [] none = refl
-  firsts_pass earlier (x ∷ ws) none = by_test (test x.assignment.key) refl
+  firsts_pass earlier (x ∷ ws) none = by_test (test x.assignment.key) refl (firsts_pass (earlier ++ x ∷ []) ws)
     where
       first : (b : Bool) → has_key (keys_of earlier) x.assignment.key ≡ b → b ≡ false → test x.assignment.key ≡ true →
           passes (cond b [] (x ∷ []) ++ firsts (earlier ++ x ∷ []) ws) ≡ true
@@ -60,16 +60,19 @@ module _ (test : SettingKey → Bool) where
       other true h = refl
       other false h = ap (λ b. b || passes (firsts (earlier ++ x ∷ []) ws)) h
 
-      by_test : (b : Bool) → test x.assignment.key ≡ b → passes (firsts earlier (x ∷ ws)) ≡ passes (x ∷ ws)
-      by_test true h =
-          first (has_key (keys_of earlier) x.assignment.key) refl (none_writes earlier x.assignment.key none h) h
+      by_test : (b : Bool) → test x.assignment.key ≡ b →
+          (passes (earlier ++ x ∷ []) ≡ false → passes (firsts (earlier ++ x ∷ []) ws) ≡ passes ws) →
+          passes (firsts earlier (x ∷ ws)) ≡ passes (x ∷ ws)
+      by_test true h more =
+          let new : has_key (keys_of earlier) x.assignment.key ≡ false = none_writes earlier x.assignment.key none h in
+          first (has_key (keys_of earlier) x.assignment.key) refl new h
           ∙ sym (ap (λ b. b || passes ws) h)
-      by_test false h =
+      by_test false h more =
           let later : passes (earlier ++ x ∷ []) ≡ false =
           list_any-append (λ (y : Written). test y.assignment.key) earlier (x ∷ [])
           ∙ ap (λ b. b || (test x.assignment.key || false)) none ∙ ap (λ b. b || false) h in
           other (has_key (keys_of earlier) x.assignment.key) h
-          ∙ firsts_pass (earlier ++ x ∷ []) ws later
+          ∙ more later
           ∙ sym (ap (λ b. b || passes ws) h)
 
   committed_pass : (ws : List Written) → passes (committed_of ws) ≡ passes ws
@@ -141,11 +144,12 @@ module _ (v : World) where
 
   none_lacks : (es : List Staged) → first_lacking v es ≡ None → lacks_one es ≡ false
   none_lacks [] e = refl
-  none_lacks (d ∷ es) e = by_row (lacks_row v d.slot.key) e
+  none_lacks (d ∷ es) e = by_row (lacks_row v d.slot.key) (none_lacks es) e
     where
-      by_row : (b : Bool) → cond b (Some d.number) (first_lacking v es) ≡ None → (b || lacks_one es) ≡ false
-      by_row true f = absurd cc
-      by_row false f = none_lacks es f
+      by_row : (b : Bool) → (first_lacking v es ≡ None → lacks_one es ≡ false) →
+          cond b (Some d.number) (first_lacking v es) ≡ None → (b || lacks_one es) ≡ false
+      by_row true rest f = absurd cc
+      by_row false rest f = rest f
 
   -- The first entry that lacks its row stands at a place, with its number.
   record IsFirstLacking (es : List Staged) (n : ℕ) : Type 0 where
@@ -157,25 +161,25 @@ module _ (v : World) where
 
   first_at : (es : List Staged) (n : ℕ) → first_lacking v es ≡ Some n → IsFirstLacking es n
   first_at [] n e = absurd cc
-  first_at (d ∷ es) n e = by_row (lacks_row v d.slot.key) refl e
+  first_at (d ∷ es) n e = by_row (lacks_row v d.slot.key) refl (first_at es n) e
     where
-      by_row : (b : Bool) → lacks_row v d.slot.key ≡ b → cond b (Some d.number) (first_lacking v es) ≡ Some n →
-          IsFirstLacking (d ∷ es) n
-      by_row true h f = record {
+      by_row : (b : Bool) → lacks_row v d.slot.key ≡ b → (first_lacking v es ≡ Some n → IsFirstLacking es n) →
+          cond b (Some d.number) (first_lacking v es) ≡ Some n → IsFirstLacking (d ∷ es) n
+      by_row true h rest f = record {
         place = 0;
         within = omega arith;
         before = refl;
         here = h;
         number = cc;
       }
-      by_row false h f =
-          let rest = first_at es n f in
+      by_row false h rest f =
+          let later = rest f in
           record {
-            place = suc rest.place;
-            within = omega (arith, rest.within);
-            before = ap (λ b. b || lacks_one (take rest.place es)) h ∙ rest.before;
-            here = rest.here;
-            number = rest.number;
+            place = suc later.place;
+            within = omega (arith, later.within);
+            before = ap (λ b. b || lacks_one (take later.place es)) h ∙ later.before;
+            here = later.here;
+            number = later.number;
           }
 
   -- ---- the entry's number is that of the first variable that lacks its row

@@ -38,9 +38,9 @@ first_if false ns = refl
 -- The first joint refusal, by the first number of each kind.
 abbrev by_kind : Option ℕ → Option ℕ → Option ℕ → Option Refusal
 by_kind contradiction lacking timer =
-    option_or (option_map (joint_refusal status.InconsistentValue) contradiction)
-    (option_or (option_map (joint_refusal status.InconsistentName) lacking)
-    (option_map (joint_refusal status.InconsistentValue) timer))
+    option_or (option_or (option_map (joint_refusal status.InconsistentValue) contradiction)
+    (option_map (joint_refusal status.InconsistentName) lacking))
+    (option_map (joint_refusal status.InconsistentValue) timer)
 
 inconsistent_by_kind : (c l : Option ℕ) (b : Bool) (t : Option ℕ) →
     inconsistency c l b t ≡ by_kind c l (cond b None t)
@@ -55,12 +55,12 @@ first_joint : (w : World) (ps : List Assignment) →
 first_joint w ps =
     let value : ℕ → Refusal = joint_refusal status.InconsistentValue in
     let name : ℕ → Refusal = joint_refusal status.InconsistentName in
-    first-append (map value (contradicting [] ps)) (map name (lacking_row w ps) ++ map value (disagreeing w ps))
-    ∙ ap (λ o. option_or o (slice_get (map name (lacking_row w ps) ++ map value (disagreeing w ps)) 0)) (first-map value (contradicting [] ps))
-    ∙ ap (option_or (option_map value (slice_get (contradicting [] ps) 0)))
-    (first-append (map name (lacking_row w ps)) (map value (disagreeing w ps))
-    ∙ ap (λ o. option_or o (slice_get (map value (disagreeing w ps)) 0)) (first-map name (lacking_row w ps))
-    ∙ ap (option_or (option_map name (slice_get (lacking_row w ps) 0))) (first-map value (disagreeing w ps)))
+    first-append (map value (contradicting [] ps) ++ map name (lacking_row w ps)) (map value (disagreeing w ps))
+    ∙ ap (option_or (slice_get (map value (contradicting [] ps) ++ map name (lacking_row w ps)) 0)) (first-map value (disagreeing w ps))
+    ∙ ap (λ o. option_or o (option_map value (slice_get (disagreeing w ps) 0)))
+    (first-append (map value (contradicting [] ps)) (map name (lacking_row w ps))
+    ∙ ap (option_or (slice_get (map value (contradicting [] ps)) 0)) (first-map name (lacking_row w ps))
+    ∙ ap (λ o. option_or o (option_map name (slice_get (lacking_row w ps) 0))) (first-map value (contradicting [] ps)))
 
 -- What keeps the variables from going together, where each passed its own tests, is the refusal.
 pub refused_together : (rows : List ObjectRow) (w : World) (view : List ℕ) (bs : List Binding)
