@@ -15,7 +15,7 @@ use Rattle.setphase_core.specs.Together.{assign, assignments, contradicting, num
 use Rattle.setphase_core.specs.Outcomes.{CanFail, stuck}
 use Rattle.setphase_core.specs.Calls.{Call, calls_by, object_after_set, FollowPlans}
 use Rattle.setphase_core.specs.Staging.{assignments_of, entry_at, entries_of, AreCommitted, HasFailed, AreCalled, commits_at, undos_at, IsDistinct}
-use Rattle.setphase_core.specs.Tested.{first_lacking, inconsistency, AreStaged, ArePassed, AreReady}
+use Rattle.setphase_core.specs.Tested.{first_lacking, inconsistency, AreStaged, ArePassed}
 use Rattle.setphase_core.proofs.Endings.{stuck_assignments, can_fail, calls_told}
 use Rattle.setphase_core.proofs.Called.{plans_released}
 use Rattle.setphase_core.proofs.Lacking.{first_lacking_staged}
@@ -96,19 +96,6 @@ refused_together rows w view bs es c t h =
         ap (λ l. by_kind None l (cond (timers_agree (assign (assignments_of es) w)) None t)) (lacking (same refl))
         ∙ ap (by_kind None (slice_get (lacking_row w (assignments (writings rows w bs))) 0)) (timers (same refl))
     by_first (Some n) same = refl
-
--- Where nothing does, no variable contradicts another, and the Set is ready.
-pub ready_together : (rows : List ObjectRow) (w : World) (view : List ℕ) (bs : List Binding)
-    (es : List Staged) (c l : Option ℕ) (b : Bool) (t : Option ℕ) →
-    ArePassed rows w view bs es c t → inconsistency c l b t ≡ None → AreReady rows w bs es
-ready_together rows w view bs es None l b t h e = record {
-  distinct = h.distinct;
-  legal = h.legal;
-  plain = h.plain;
-  staged = h.staged;
-  same = h.same refl;
-}
-ready_together rows w view bs es (Some n) l b t h e = absurd cc
 
 -- ---- a commit that failed, and the undoing of those before it
 
