@@ -1,20 +1,16 @@
 -- The first variable that writes the ports of a static row that is not there: it is the first of its
 -- setting, and so it is staged.
-use Rattle.std.proofs.Common.{◌≡◌, ℕ, zero, suc, ◌+◌, ◌-◌, ◌<◌, ◌≤◌, ◌∙◌, sym, ap, subst, refl, Bool, true, false, not, cond, ◌||◌, List, [], ◌∷◌, ◌++◌, length, map, take, drop, slice_get, Option, Some, None, arith, add-one}
+use Rattle.std.proofs.Common.{◌≡◌, ℕ, zero, suc, ◌+◌, ◌-◌, ◌<◌, ◌∙◌, sym, ap, refl, Bool, true, false, cond, ◌||◌, List, [], ◌∷◌, ◌++◌, length, map, take, slice_get, Option, Some, None, arith}
 use Rattle.std.specs.List.{list_any}
 use Rattle.std.proofs.lemmas.Bool.{or_parts}
 use Rattle.std.proofs.lemmas.List.{length-map, take-map}
 use Rattle.std.proofs.lemmas.List.Folds.{list_any-append}
-use Rattle.fdb_core.specs.declared.static_row.StaticIndex.{StaticIndex}
-use Rattle.bridge_core.specs.Statics.{is_made}
 use Rattle.setting_keys.specs.declared.SettingKey.{SettingKey}
-use Rattle.setting_keys.specs.declared.SettingKey.TheVariants.{Made, Allowed}
-use Rattle.setting_keys.specs.declared.SettingValue.TheVariants.{Number}
 use Rattle.setphase_core.specs.declared.object.Assignment.{Assignment}
 use Rattle.setphase_core.specs.declared.staging.Staged.{Staged}
 use Rattle.setphase_core.specs.declared.world.World.{World}
 use Rattle.setphase_core.specs.Objects.{ObjectRow}
-use Rattle.setphase_core.specs.Settings.{setting, made_number, same_setting, same_value}
+use Rattle.setphase_core.specs.Settings.{same_setting}
 use Rattle.setphase_core.specs.Variables.{Written}
 use Rattle.setphase_core.specs.Together.{assignments, lacks_row, numbers_where}
 use Rattle.setphase_core.specs.Outcomes.{has_key, keys_of, firsts, committed_of}
@@ -217,39 +213,3 @@ module _ (v : World) where
             o ≡ slice_get (numbers_where (lacks_row v) 1 (assignments ws)) 0
         by_found None e = none e
         by_found (Some n) e = found n (first_at es n e)
-
--- ---- a search of the entries, one by one
-
-pub lacking_here : (v : World) (es : List Staged) (k : ℕ) → k < length es →
-    lacks_row v (entry_at es k).slot.key ≡ true →
-    first_lacking v (drop k es) ≡ Some (entry_at es k).number
-lacking_here v [] k h e = absurd (omega arith)
-lacking_here v (d ∷ es) zero h e = ap (λ b. cond b (Some d.number) (first_lacking v es)) e
-lacking_here v (d ∷ es) (suc k) h e = lacking_here v es k (omega (arith, h)) e
-
-pub lacking_later : (v : World) (es : List Staged) (k : ℕ) → k < length es →
-    lacks_row v (entry_at es k).slot.key ≡ false →
-    first_lacking v (drop k es) ≡ first_lacking v (drop (k + 1) es)
-lacking_later v es k h e = by_place es k h e ∙ ap (λ n. first_lacking v (drop n es)) (sym (add-one k))
-  where
-    by_place : (es : List Staged) (k : ℕ) → k < length es → lacks_row v (entry_at es k).slot.key ≡ false →
-        first_lacking v (drop k es) ≡ first_lacking v (drop (suc k) es)
-    by_place [] k h e = absurd (omega arith)
-    by_place (d ∷ es) zero h e = ap (λ b. cond b (Some d.number) (first_lacking v es)) e
-    by_place (d ∷ es) (suc k) h e = by_place es k (omega (arith, h)) e
-
-pub lacking_nowhere : (v : World) (es : List Staged) (k : ℕ) → length es ≤ k →
-    first_lacking v (drop k es) ≡ None
-lacking_nowhere v [] zero h = refl
-lacking_nowhere v [] (suc k) h = refl
-lacking_nowhere v (d ∷ es) zero h = absurd (omega (arith, h))
-lacking_nowhere v (d ∷ es) (suc k) h = lacking_nowhere v es k (omega (arith, h))
-
--- A row is not there exactly where its setting has 0.
-pub not_made : (v : World) (i : StaticIndex) →
-    same_value (setting v (Made i)) (Number 0) ≡ lacks_row v (Allowed i)
-not_made v i = by_made (is_made v.bridge i)
-  where
-    by_made : (b : Bool) → same_value (Number (made_number b)) (Number 0) ≡ not b
-    by_made true = refl
-    by_made false = refl
