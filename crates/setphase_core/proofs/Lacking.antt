@@ -1,20 +1,16 @@
 -- The first variable that writes the ports of a static row that is not there: it is the first of its
 -- setting, and so it is staged.
-use Rattle.std.proofs.Common.{◌≡◌, ℕ, zero, suc, ◌+◌, ◌-◌, ◌<◌, ◌≤◌, ◌∙◌, sym, ap, subst, refl, Bool, true, false, not, cond, ◌||◌, List, [], ◌∷◌, ◌++◌, length, map, take, drop, slice_get, Option, Some, None, arith, add-one}
+use Rattle.std.proofs.Common.{◌≡◌, ℕ, zero, suc, ◌+◌, ◌-◌, ◌<◌, ◌∙◌, sym, ap, refl, Bool, true, false, cond, ◌||◌, List, [], ◌∷◌, ◌++◌, length, map, take, slice_get, Option, Some, None, arith}
 use Rattle.std.specs.List.{list_any}
 use Rattle.std.proofs.lemmas.Bool.{or_parts}
 use Rattle.std.proofs.lemmas.List.{length-map, take-map}
 use Rattle.std.proofs.lemmas.List.Folds.{list_any-append}
-use Rattle.fdb_core.specs.declared.static_row.StaticIndex.{StaticIndex}
-use Rattle.bridge_core.specs.Statics.{is_made}
 use Rattle.setting_keys.specs.declared.SettingKey.{SettingKey}
-use Rattle.setting_keys.specs.declared.SettingKey.TheVariants.{Made, Allowed}
-use Rattle.setting_keys.specs.declared.SettingValue.TheVariants.{Number}
 use Rattle.setphase_core.specs.declared.object.Assignment.{Assignment}
 use Rattle.setphase_core.specs.declared.staging.Staged.{Staged}
 use Rattle.setphase_core.specs.declared.world.World.{World}
 use Rattle.setphase_core.specs.Objects.{ObjectRow}
-use Rattle.setphase_core.specs.Settings.{setting, made_number, same_setting, same_value}
+use Rattle.setphase_core.specs.Settings.{same_setting}
 use Rattle.setphase_core.specs.Variables.{Written}
 use Rattle.setphase_core.specs.Together.{assignments, lacks_row, numbers_where}
 use Rattle.setphase_core.specs.Outcomes.{has_key, keys_of, firsts, committed_of}
@@ -48,7 +44,7 @@ module _ (test : SettingKey → Bool) where
   firsts_pass : (earlier ws : List Written) → passes earlier ≡ false →
       passes (firsts earlier ws) ≡ passes ws
   firsts_pass earlier [] none = refl
-  firsts_pass earlier (x ∷ ws) none = by_test (test x.assignment.key) refl
+  firsts_pass earlier (x ∷ ws) none = by_test (test x.assignment.key) refl (firsts_pass (earlier ++ x ∷ []) ws)
     where
       first : (b : Bool) → has_key (keys_of earlier) x.assignment.key ≡ b → b ≡ false → test x.assignment.key ≡ true →
           passes (cond b [] (x ∷ []) ++ firsts (earlier ++ x ∷ []) ws) ≡ true
@@ -60,16 +56,19 @@ module _ (test : SettingKey → Bool) where
       other true h = refl
       other false h = ap (λ b. b || passes (firsts (earlier ++ x ∷ []) ws)) h
 
-      by_test : (b : Bool) → test x.assignment.key ≡ b → passes (firsts earlier (x ∷ ws)) ≡ passes (x ∷ ws)
-      by_test true h =
-          first (has_key (keys_of earlier) x.assignment.key) refl (none_writes earlier x.assignment.key none h) h
+      by_test : (b : Bool) → test x.assignment.key ≡ b →
+          (passes (earlier ++ x ∷ []) ≡ false → passes (firsts (earlier ++ x ∷ []) ws) ≡ passes ws) →
+          passes (firsts earlier (x ∷ ws)) ≡ passes (x ∷ ws)
+      by_test true h more =
+          let new : has_key (keys_of earlier) x.assignment.key ≡ false = none_writes earlier x.assignment.key none h in
+          first (has_key (keys_of earlier) x.assignment.key) refl new h
           ∙ sym (ap (λ b. b || passes ws) h)
-      by_test false h =
+      by_test false h more =
           let later : passes (earlier ++ x ∷ []) ≡ false =
           list_any-append (λ (y : Written). test y.assignment.key) earlier (x ∷ [])
           ∙ ap (λ b. b || (test x.assignment.key || false)) none ∙ ap (λ b. b || false) h in
           other (has_key (keys_of earlier) x.assignment.key) h
-          ∙ firsts_pass (earlier ++ x ∷ []) ws later
+          ∙ more later
           ∙ sym (ap (λ b. b || passes ws) h)
 
   committed_pass : (ws : List Written) → passes (committed_of ws) ≡ passes ws
@@ -141,11 +140,12 @@ module _ (v : World) where
 
   none_lacks : (es : List Staged) → first_lacking v es ≡ None → lacks_one es ≡ false
   none_lacks [] e = refl
-  none_lacks (d ∷ es) e = by_row (lacks_row v d.slot.key) e
+  none_lacks (d ∷ es) e = by_row (lacks_row v d.slot.key) (none_lacks es) e
     where
-      by_row : (b : Bool) → cond b (Some d.number) (first_lacking v es) ≡ None → (b || lacks_one es) ≡ false
-      by_row true f = absurd cc
-      by_row false f = none_lacks es f
+      by_row : (b : Bool) → (first_lacking v es ≡ None → lacks_one es ≡ false) →
+          cond b (Some d.number) (first_lacking v es) ≡ None → (b || lacks_one es) ≡ false
+      by_row true rest f = absurd cc
+      by_row false rest f = rest f
 
   -- The first entry that lacks its row stands at a place, with its number.
   record IsFirstLacking (es : List Staged) (n : ℕ) : Type 0 where
@@ -157,25 +157,25 @@ module _ (v : World) where
 
   first_at : (es : List Staged) (n : ℕ) → first_lacking v es ≡ Some n → IsFirstLacking es n
   first_at [] n e = absurd cc
-  first_at (d ∷ es) n e = by_row (lacks_row v d.slot.key) refl e
+  first_at (d ∷ es) n e = by_row (lacks_row v d.slot.key) refl (first_at es n) e
     where
-      by_row : (b : Bool) → lacks_row v d.slot.key ≡ b → cond b (Some d.number) (first_lacking v es) ≡ Some n →
-          IsFirstLacking (d ∷ es) n
-      by_row true h f = record {
+      by_row : (b : Bool) → lacks_row v d.slot.key ≡ b → (first_lacking v es ≡ Some n → IsFirstLacking es n) →
+          cond b (Some d.number) (first_lacking v es) ≡ Some n → IsFirstLacking (d ∷ es) n
+      by_row true h rest f = record {
         place = 0;
         within = omega arith;
         before = refl;
         here = h;
         number = cc;
       }
-      by_row false h f =
-          let rest = first_at es n f in
+      by_row false h rest f =
+          let later = rest f in
           record {
-            place = suc rest.place;
-            within = omega (arith, rest.within);
-            before = ap (λ b. b || lacks_one (take rest.place es)) h ∙ rest.before;
-            here = rest.here;
-            number = rest.number;
+            place = suc later.place;
+            within = omega (arith, later.within);
+            before = ap (λ b. b || lacks_one (take later.place es)) h ∙ later.before;
+            here = later.here;
+            number = later.number;
           }
 
   -- ---- the entry's number is that of the first variable that lacks its row
@@ -213,39 +213,3 @@ module _ (v : World) where
             o ≡ slice_get (numbers_where (lacks_row v) 1 (assignments ws)) 0
         by_found None e = none e
         by_found (Some n) e = found n (first_at es n e)
-
--- ---- a search of the entries, one by one
-
-pub lacking_here : (v : World) (es : List Staged) (k : ℕ) → k < length es →
-    lacks_row v (entry_at es k).slot.key ≡ true →
-    first_lacking v (drop k es) ≡ Some (entry_at es k).number
-lacking_here v [] k h e = absurd (omega arith)
-lacking_here v (d ∷ es) zero h e = ap (λ b. cond b (Some d.number) (first_lacking v es)) e
-lacking_here v (d ∷ es) (suc k) h e = lacking_here v es k (omega (arith, h)) e
-
-pub lacking_later : (v : World) (es : List Staged) (k : ℕ) → k < length es →
-    lacks_row v (entry_at es k).slot.key ≡ false →
-    first_lacking v (drop k es) ≡ first_lacking v (drop (k + 1) es)
-lacking_later v es k h e = by_place es k h e ∙ ap (λ n. first_lacking v (drop n es)) (sym (add-one k))
-  where
-    by_place : (es : List Staged) (k : ℕ) → k < length es → lacks_row v (entry_at es k).slot.key ≡ false →
-        first_lacking v (drop k es) ≡ first_lacking v (drop (suc k) es)
-    by_place [] k h e = absurd (omega arith)
-    by_place (d ∷ es) zero h e = ap (λ b. cond b (Some d.number) (first_lacking v es)) e
-    by_place (d ∷ es) (suc k) h e = by_place es k (omega (arith, h)) e
-
-pub lacking_nowhere : (v : World) (es : List Staged) (k : ℕ) → length es ≤ k →
-    first_lacking v (drop k es) ≡ None
-lacking_nowhere v [] zero h = refl
-lacking_nowhere v [] (suc k) h = refl
-lacking_nowhere v (d ∷ es) zero h = absurd (omega (arith, h))
-lacking_nowhere v (d ∷ es) (suc k) h = lacking_nowhere v es k (omega (arith, h))
-
--- A row is not there exactly where its setting has 0.
-pub not_made : (v : World) (i : StaticIndex) →
-    same_value (setting v (Made i)) (Number 0) ≡ lacks_row v (Allowed i)
-not_made v i = by_made (is_made v.bridge i)
-  where
-    by_made : (b : Bool) → same_value (Number (made_number b)) (Number 0) ≡ not b
-    by_made true = refl
-    by_made false = refl

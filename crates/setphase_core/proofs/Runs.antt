@@ -15,7 +15,7 @@ use Rattle.setphase_core.specs.Together.{assign, assignments, contradicting, num
 use Rattle.setphase_core.specs.Outcomes.{CanFail, stuck}
 use Rattle.setphase_core.specs.Calls.{Call, calls_by, object_after_set, FollowPlans}
 use Rattle.setphase_core.specs.Staging.{assignments_of, entry_at, entries_of, AreCommitted, HasFailed, AreCalled, commits_at, undos_at, IsDistinct}
-use Rattle.setphase_core.specs.Tested.{first_lacking, inconsistency, AreStaged, ArePassed, AreReady}
+use Rattle.setphase_core.specs.Tested.{first_lacking, inconsistency, AreStaged, ArePassed}
 use Rattle.setphase_core.proofs.Endings.{stuck_assignments, can_fail, calls_told}
 use Rattle.setphase_core.proofs.Called.{plans_released}
 use Rattle.setphase_core.proofs.Lacking.{first_lacking_staged}
@@ -38,9 +38,9 @@ first_if false ns = refl
 -- The first joint refusal, by the first number of each kind.
 abbrev by_kind : Option ℕ → Option ℕ → Option ℕ → Option Refusal
 by_kind contradiction lacking timer =
-    option_or (option_map (joint_refusal status.InconsistentValue) contradiction)
-    (option_or (option_map (joint_refusal status.InconsistentName) lacking)
-    (option_map (joint_refusal status.InconsistentValue) timer))
+    option_or (option_or (option_map (joint_refusal status.InconsistentValue) contradiction)
+    (option_map (joint_refusal status.InconsistentName) lacking))
+    (option_map (joint_refusal status.InconsistentValue) timer)
 
 inconsistent_by_kind : (c l : Option ℕ) (b : Bool) (t : Option ℕ) →
     inconsistency c l b t ≡ by_kind c l (cond b None t)
@@ -55,12 +55,12 @@ first_joint : (w : World) (ps : List Assignment) →
 first_joint w ps =
     let value : ℕ → Refusal = joint_refusal status.InconsistentValue in
     let name : ℕ → Refusal = joint_refusal status.InconsistentName in
-    first-append (map value (contradicting [] ps)) (map name (lacking_row w ps) ++ map value (disagreeing w ps))
-    ∙ ap (λ o. option_or o (slice_get (map name (lacking_row w ps) ++ map value (disagreeing w ps)) 0)) (first-map value (contradicting [] ps))
-    ∙ ap (option_or (option_map value (slice_get (contradicting [] ps) 0)))
-    (first-append (map name (lacking_row w ps)) (map value (disagreeing w ps))
-    ∙ ap (λ o. option_or o (slice_get (map value (disagreeing w ps)) 0)) (first-map name (lacking_row w ps))
-    ∙ ap (option_or (option_map name (slice_get (lacking_row w ps) 0))) (first-map value (disagreeing w ps)))
+    first-append (map value (contradicting [] ps) ++ map name (lacking_row w ps)) (map value (disagreeing w ps))
+    ∙ ap (option_or (slice_get (map value (contradicting [] ps) ++ map name (lacking_row w ps)) 0)) (first-map value (disagreeing w ps))
+    ∙ ap (λ o. option_or o (option_map value (slice_get (disagreeing w ps) 0)))
+    (first-append (map value (contradicting [] ps)) (map name (lacking_row w ps))
+    ∙ ap (option_or (slice_get (map value (contradicting [] ps)) 0)) (first-map name (lacking_row w ps))
+    ∙ ap (λ o. option_or o (option_map name (slice_get (lacking_row w ps) 0))) (first-map value (contradicting [] ps)))
 
 -- What keeps the variables from going together, where each passed its own tests, is the refusal.
 pub refused_together : (rows : List ObjectRow) (w : World) (view : List ℕ) (bs : List Binding)
@@ -96,18 +96,6 @@ refused_together rows w view bs es c t h =
         ap (λ l. by_kind None l (cond (timers_agree (assign (assignments_of es) w)) None t)) (lacking (same refl))
         ∙ ap (by_kind None (slice_get (lacking_row w (assignments (writings rows w bs))) 0)) (timers (same refl))
     by_first (Some n) same = refl
-
--- Where nothing does, no variable contradicts another, and the Set is ready.
-pub ready_together : (rows : List ObjectRow) (w : World) (view : List ℕ) (bs : List Binding)
-    (es : List Staged) (c l : Option ℕ) (b : Bool) (t : Option ℕ) →
-    ArePassed rows w view bs es c t → inconsistency c l b t ≡ None → AreReady rows w bs es
-ready_together rows w view bs es None l b t h e = record {
-  distinct = h.distinct;
-  legal = h.legal;
-  staged = h.staged;
-  same = h.same refl;
-}
-ready_together rows w view bs es (Some n) l b t h e = absurd cc
 
 -- ---- a commit that failed, and the undoing of those before it
 

@@ -118,11 +118,11 @@ joints_numbered : (w : World) (ps : List Assignment) (n : ℕ) → length ps ≤
 joints_numbered w ps n h =
     let value : ℕ → Refusal = joint_refusal status.InconsistentValue in
     let name : ℕ → Refusal = joint_refusal status.InconsistentName in
-    all_append (λ (r : Refusal). IsNumberOf n r.index) (map value (contradicting [] ps)) (map name (lacking_row w ps) ++ map value (disagreeing w ps))
+    all_append (λ (r : Refusal). IsNumberOf n r.index) (map value (contradicting [] ps) ++ map name (lacking_row w ps)) (map value (disagreeing w ps))
+    (all_append (λ (r : Refusal). IsNumberOf n r.index) (map value (contradicting [] ps)) (map name (lacking_row w ps))
     (joint_numbered status.InconsistentValue (contradicting [] ps) n (contradicting_within [] ps n (omega (arith, h))))
-    (all_append (λ (r : Refusal). IsNumberOf n r.index) (map name (lacking_row w ps)) (map value (disagreeing w ps))
-    (joint_numbered status.InconsistentName (lacking_row w ps) n (lacking_within w ps n h))
-    (joint_numbered status.InconsistentValue (disagreeing w ps) n (disagreeing_within ps (timers_agree (assign ps w)) n h)))
+    (joint_numbered status.InconsistentName (lacking_row w ps) n (lacking_within w ps n h)))
+    (joint_numbered status.InconsistentValue (disagreeing w ps) n (disagreeing_within ps (timers_agree (assign ps w)) n h))
 
 -- A refusal is of one of the variables.
 pub refusal_numbered : (rows : List ObjectRow) (w : World) (view : List ℕ) (bs : List Binding) →
@@ -228,11 +228,11 @@ joints_tell : (families : List FamilyRow) (w : World) (ps : List Assignment) →
 joints_tell families w ps =
     let value : ℕ → Refusal = joint_refusal status.InconsistentValue in
     let name : ℕ → Refusal = joint_refusal status.InconsistentName in
-    all_append (TellsFamily families) (map value (contradicting [] ps)) (map name (lacking_row w ps) ++ map value (disagreeing w ps))
+    all_append (TellsFamily families) (map value (contradicting [] ps) ++ map name (lacking_row w ps)) (map value (disagreeing w ps))
+    (all_append (TellsFamily families) (map value (contradicting [] ps)) (map name (lacking_row w ps))
     (joint_tells families status.InconsistentValue (contradicting [] ps) (other_status fault.InconsistentValue))
-    (all_append (TellsFamily families) (map name (lacking_row w ps)) (map value (disagreeing w ps))
-    (joint_tells families status.InconsistentName (lacking_row w ps) (other_status fault.InconsistentName))
-    (joint_tells families status.InconsistentValue (disagreeing w ps) (other_status fault.InconsistentValue)))
+    (joint_tells families status.InconsistentName (lacking_row w ps) (other_status fault.InconsistentName)))
+    (joint_tells families status.InconsistentValue (disagreeing w ps) (other_status fault.InconsistentValue))
 
 refusal_tells : (rows : List ObjectRow) (w : World) (view : List ℕ) (bs : List Binding) →
     IfSome (refusal_of rows w view bs) (TellsFamily w.policy.vacm.families)
