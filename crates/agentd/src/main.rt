@@ -1,7 +1,7 @@
 //! The agent, driven by a script from standard input, or served over UDP.
 //!
 //! # Entry points
-//! `main` reads the words of the command line by `agent_words::read_words`. It puts the 51 objects of
+//! `main` reads the words of the command line by `agent_words::read_words`. It puts the 55 objects of
 //! `object_list` into boxes, and hands them to `run_objects` with what is asked, the standard streams
 //! and the files of the system. That runs `agent_program::run_asked`; where it leaves something to be
 //! served, it is served over UDP, for its rounds or without an end, and it is logged what was done.
@@ -13,7 +13,7 @@
 //! None.
 //!
 //! # Not claimed
-//! That the words are those of the command line, that the objects that `main` makes are the 51 of
+//! That the words are those of the command line, that the objects that `main` makes are the 55 of
 //! `object_list`, which driver stands under dot1dStpPortEnable, that what is left to be served is
 //! served, the status then, and what is logged. What a file of the system holds and a terminal
 //! shows.

@@ -2,7 +2,7 @@
 //!
 //! # Entry points
 //! [`BaseScalar`], [`BasePortColumn`]: dot1dBase; [`StpScalar`], [`StpPortColumn`], [`PortEnable`]:
-//! dot1dStp; [`TpScalar`], [`FdbColumn`], [`TpPortColumn`]: dot1dTp. Each is made by `new` of a
+//! dot1dStp; [`TpScalar`], [`FdbColumn`], [`TpPortColumn`]: dot1dTp; [`StaticColumn`]: dot1dStatic. Each is made by `new` of a
 //! descriptor, and is a `MibObject`: it shows its row, whatever was asked of it before. All but
 //! `PortEnable` are [`Described`] by a [`Descriptor`], which says what the object is called, what
 //! it shows and how it is written. `PortEnable` is made of a [`LineDriver`] in place of a
@@ -29,6 +29,7 @@ mod described;
 mod fdb;
 mod line;
 mod port_enable;
+mod statics;
 mod stp;
 mod tp;
 pub mod values;
@@ -39,5 +40,6 @@ pub use described::{Described, Descriptor};
 pub use fdb::FdbColumn;
 pub use line::{LineDriver, Planned, Steady};
 pub use port_enable::PortEnable;
+pub use statics::StaticColumn;
 pub use stp::{StpPortColumn, StpScalar};
 pub use tp::{TpPortColumn, TpScalar};

@@ -1,4 +1,4 @@
-//! The 51 objects as boxed ones: a registry takes them in the order of their names, and hands each
+//! The 55 objects as boxed ones: a registry takes them in the order of their names, and hands each
 //! of them back where it refuses them.
 use bridge_mib::Steady;
 use object_list::{COLUMNS, Object};
@@ -8,7 +8,7 @@ use std::io::Write;
 use std::test::Fail;
 
 /// The objects' names behind dot1dBridge (RFC 4188, RFC 4318).
-pub const NAMES: [&str; 51] = [
+pub const NAMES: [&str; 55] = [
     "1.1",
     "1.2",
     "1.3",
@@ -60,6 +60,10 @@ pub const NAMES: [&str; 51] = [
     "4.4.1.3",
     "4.4.1.4",
     "4.4.1.5",
+    "5.1.1.1",
+    "5.1.1.2",
+    "5.1.1.3",
+    "5.1.1.4",
 ];
 
 /// Appends numbers, each behind a dot but the first.
@@ -119,7 +123,7 @@ fn end_of<O: MibObject>(alloc: Global, objects: Vec<O>, names: &[&str]) -> Resul
 }
 
 // The columns, and their names, of which two are exchanged.
-fn exchanged() -> ([Column; 51], [&'static str; 51]) {
+fn exchanged() -> ([Column; 55], [&'static str; 55]) {
     let (mut columns, mut names) = (COLUMNS, NAMES);
     columns.swap(6, 7);
     names.swap(6, 7);
@@ -127,7 +131,7 @@ fn exchanged() -> ([Column; 51], [&'static str; 51]) {
 }
 
 // The columns, and their names, of which one is there twice.
-fn doubled() -> ([Column; 51], [&'static str; 51]) {
+fn doubled() -> ([Column; 55], [&'static str; 55]) {
     let (mut columns, mut names) = (COLUMNS, NAMES);
     columns[2] = COLUMNS[1];
     names[2] = NAMES[1];
@@ -137,8 +141,8 @@ fn doubled() -> ([Column; 51], [&'static str; 51]) {
 // Whether the objects of these columns have these names, and how a registry of them ends.
 fn registration(
     alloc: Global,
-    columns: [Column; 51],
-    names: [&'static str; 51],
+    columns: [Column; 55],
+    names: [&'static str; 55],
 ) -> Result<(bool, End), Fail> {
     let objects = boxed(alloc, &columns)?;
     let named = are(alloc, objects.as_slice(), &names)?;
@@ -148,7 +152,7 @@ fn registration(
 #[test]
 fn a_registry_takes_objects_in_order(rt: HostRuntime) -> Result<(), Fail> {
     let all = registration(rt.alloc(), COLUMNS, NAMES)?;
-    assert_eq!(rt; all, (true, (Ok(51), true)));
+    assert_eq!(rt; all, (true, (Ok(55), true)));
     Ok(())
 }
 

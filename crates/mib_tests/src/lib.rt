@@ -1,4 +1,4 @@
-//! Tests of the 51 objects of a bridge: what a registry makes of them as boxed ones, in how many
+//! Tests of the 55 objects of a bridge: what a registry makes of them as boxed ones, in how many
 //! comparisons it finds the object of a name, what each of them reserves for a Set, and Sets of one
 //! of them whose device fails.
 //!

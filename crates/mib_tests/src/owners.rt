@@ -1,4 +1,4 @@
-//! The object of a name among the 51, which six comparisons find, or find that there is none.
+//! The object of a name among the 55, which six comparisons find, or find that there is none.
 ghost use Rattle.std.specs.Prelude.{◌≡◌, ◌+◌, ◌<◌, ◌≤◌, IfOk};
 ghost use Rattle.setphase_core.specs.Registry.{rows_of};
 ghost use Rattle.setphase_core.specs.Names.{bridge_rows};
@@ -15,12 +15,13 @@ use std::test::Fail;
 use steps::Steps;
 
 // Names of no object: before all, between two, behind all.
-const NAMES_OF_NONE: [&[u32]; 6] = [
+const NAMES_OF_NONE: [&[u32]; 7] = [
     &[0, 0],
     &[1, 3, 6, 1, 2, 1, 17],
     &[1, 3, 6, 1, 2, 1, 17, 2, 18, 0],
     &[1, 3, 6, 1, 2, 1, 17, 3, 1],
     &[1, 3, 6, 1, 2, 1, 17, 4, 5],
+    &[1, 3, 6, 1, 2, 1, 17, 5, 1, 1, 5],
     &[2, 5],
 ];
 

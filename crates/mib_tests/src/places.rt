@@ -90,7 +90,7 @@ fn tested(world: &World, column: Column) -> (Option<SetFault>, usize) {
 }
 
 #[test]
-fn reserves_nothing_of_the_36_others(rt: HostRuntime) -> Result<(), Fail> {
+fn reserves_nothing_of_the_40_others(rt: HostRuntime) -> Result<(), Fail> {
     let world = one_port(rt.alloc())?;
     for column in COLUMNS {
         if !is_written(column) {

@@ -7,11 +7,13 @@ ghost use Rattle.object_list.specs.Objects.{states_of};
 use crate::object::Object;
 use bridge_mib::{LineDriver, PortEnable};
 use setphase_core::laws::objects_are_accepted;
-use setphase_core::{Base, BasePort, Column, ExtPort, Rapid, Stp, StpPort, Tp, TpFdb, TpPort};
+use setphase_core::{
+    Base, BasePort, Column, ExtPort, Rapid, Static, Stp, StpPort, Tp, TpFdb, TpPort,
+};
 use std::alloc::{AllocError, Global};
 
 /// What the objects of a bridge show, in the order of the objects' names (RFC 4188, RFC 4318).
-pub const COLUMNS: [Column; 51] = [
+pub const COLUMNS: [Column; 55] = [
     Column::Base(Base::BridgeAddress),
     Column::Base(Base::NumPorts),
     Column::Base(Base::Type),
@@ -63,6 +65,10 @@ pub const COLUMNS: [Column; 51] = [
     Column::TpPort(TpPort::InFrames),
     Column::TpPort(TpPort::OutFrames),
     Column::TpPort(TpPort::InDiscards),
+    Column::Static(Static::Address),
+    Column::Static(Static::ReceivePort),
+    Column::Static(Static::AllowedToGoTo),
+    Column::Static(Static::Status),
 ];
 
 /// The place of dot1dStpPortEnable in [`COLUMNS`], counted from 0.

@@ -28,6 +28,7 @@ impl Descriptor for ColumnDescriptor {
             Column::Tp(which) => which.prefix(),
             Column::TpFdb(which) => which.prefix(),
             Column::TpPort(which) => which.prefix(),
+            Column::Static(which) => which.prefix(),
         }
     }
 
@@ -42,6 +43,7 @@ impl Descriptor for ColumnDescriptor {
             Column::Tp(which) => which.read(alloc, world, at),
             Column::TpFdb(which) => which.read(alloc, world, at),
             Column::TpPort(which) => which.read(alloc, world, at),
+            Column::Static(which) => which.read(alloc, world, at),
         }
     }
 
@@ -56,6 +58,7 @@ impl Descriptor for ColumnDescriptor {
             Column::Tp(which) => which.next(world, after),
             Column::TpFdb(which) => which.next(world, after),
             Column::TpPort(which) => which.next(world, after),
+            Column::Static(which) => which.next(world, after),
         }
     }
 
@@ -70,6 +73,7 @@ impl Descriptor for ColumnDescriptor {
             Column::Tp(which) => which.writable(),
             Column::TpFdb(which) => which.writable(),
             Column::TpPort(which) => which.writable(),
+            Column::Static(which) => which.writable(),
         }
     }
 }

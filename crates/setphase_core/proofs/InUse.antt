@@ -11,6 +11,6 @@ pub in_use_is : (policy : PolicyTables) → instances bridge_rows (world_in_use 
 unfolding bridge_rows instances shown_by facts_of port_facts_of bridge_in_use instances_in_use
 in_use_is policy = refl
 
-pub in_use_count : length instances_in_use ≡ 135
+pub in_use_count : length instances_in_use ≡ 143
 unfolding instances_in_use
 in_use_count = refl

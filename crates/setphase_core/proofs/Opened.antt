@@ -22,7 +22,7 @@ pub opening_is : (policy : PolicyTables) → instances bridge_rows (opening_worl
 unfolding bridge_rows instances shown_by facts_of port_facts_of opening_bridge opening_instances
 opening_is policy = refl
 
-pub objects_count : length bridge_rows ≡ 51
+pub objects_count : length bridge_rows ≡ 55
 unfolding bridge_rows
 objects_count = refl
 

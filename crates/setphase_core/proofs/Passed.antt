@@ -5,7 +5,6 @@ use Rattle.std.proofs.lemmas.Bool.{or_parts, false≢true}
 use Rattle.std.proofs.lemmas.List.{append-nil}
 use Rattle.std.proofs.lemmas.List.Elements.{filter-append}
 use Rattle.std.proofs.lemmas.List.Sums.{sum_by-cons}
-use Rattle.fdb_core.specs.Rows.{IsRising as AreRising}
 use Rattle.oid_core.specs.Order.{name_lt, is_prefix}
 use Rattle.oid_core.proofs.OrderLaws.{prefix_of}
 use Rattle.message_core.specs.declared.binding.Binding.{Binding}
@@ -15,7 +14,7 @@ use Rattle.setphase_core.specs.Values.{IndexedValue}
 use Rattle.setphase_core.specs.declared.registry.RegistryFault.TheVariants.{Unsorted, Nested}
 use Rattle.setphase_core.specs.Columns.{shown_by}
 use Rattle.setphase_core.specs.Objects.{ObjectRow}
-use Rattle.setphase_core.specs.Registry.{prefixes_of, first_fault, AreNamed, under, instances_under, instances}
+use Rattle.setphase_core.specs.Registry.{prefixes_of, first_fault, AreNamed, IsKept, under, instances_under, instances}
 use Rattle.setphase_core.specs.Searching.{prefix_at, may_follow, IsStart}
 use Rattle.setphase_core.specs.Passing.{open_rows, open_instances, passed_after, passed_ahead, PassesHidden}
 use Rattle.setphase_core.proofs.Below.{is_below, below_from, below_lt, below_more, below_lt_then, above_not_lt, above_not_begun}
@@ -416,7 +415,7 @@ open_named passes (row ∷ rows) h = pick (passes row.prefix) (open_named passes
     pick true more = more
     pick false more = (h.0, more)
 
-pub open_servable : (passes : List ℕ → Bool) (rows : List ObjectRow) (w : World) → first_fault rows ≡ None → AreNamed rows → AreRising w.bridge.learned → IsServable (open_instances passes rows w)
+pub open_servable : (passes : List ℕ → Bool) (rows : List ObjectRow) (w : World) → first_fault rows ≡ None → AreNamed rows → IsKept w → IsServable (open_instances passes rows w)
 open_servable passes rows w e h k =
     instances_servable (open_rows passes rows) w (ordered_faultless (open_rows passes rows) (open_ordered passes rows (ordered_from rows e))) (open_named passes rows h) k
 

@@ -138,6 +138,7 @@ gives (column.ExtPort c) = ext_port_gives c
 gives (column.Tp c) = tp_gives c
 gives (column.TpFdb c) = tt
 gives (column.TpPort c) = tt
+gives (column.Static c) = tt
 
 within : (n m : ℕ) → (nat_le 1 n && nat_le n m) ≡ true → n ≤ m
 within n m is = grind (arith, nat_tests, is)

@@ -1,15 +1,17 @@
 -- The names of all instances rise, and each can be served.
-use Rattle.std.proofs.Common.{◌≡◌, ℕ, zero, suc, ◌+◌, ◌<◌, true, false, nat_eq, nat_lt, List, [], ◌∷◌, ◌++◌, map, refl, sym, subst, ◌∙◌, arith, None, IsTrue}
+use Rattle.std.proofs.Common.{◌≡◌, ℕ, zero, suc, ◌+◌, ◌<◌, Bool, true, false, cond, nat_eq, nat_lt, List, [], ◌∷◌, ◌++◌, map, refl, sym, subst, ◌∙◌, arith, None, IsTrue}
 use Rattle.std.specs.List.{AllByRecursion}
 use Rattle.std.specs.declared.cmp.Ordering.TheVariants.{Less}
 use Rattle.std.proofs.lemmas.Bool.Decides.{nat_tests}
 use Rattle.std.proofs.lemmas.List.Kept.{AllPairs-cons}
 use Rattle.std.proofs.lemmas.List.Elements.{All-from_recursion, recursion_from_All}
-use Rattle.std.proofs.lemmas.Map.Keys.{sorted_tail}
+use Rattle.std.proofs.lemmas.Map.Keys.{sorted_head, sorted_tail}
 use Rattle.std.proofs.lemmas.Map.Views.{All-after_first}
 use Rattle.frame_core.specs.Octets.{mac_cmp}
 use Rattle.fdb_core.specs.declared.row.Row.{Row}
 use Rattle.fdb_core.specs.Rows.{IsRising as AreRising}
+use Rattle.fdb_core.specs.declared.static_row.StaticRow.{StaticRow}
+use Rattle.fdb_core.specs.Statics.{numbers_of, index_cmp, made_rows, IsRising as AreRisingStatics}
 use Rattle.oid_core.specs.Order.{name_lt}
 use Rattle.oid_core.proofs.OrderLaws.{name_lt-cmp}
 use Rattle.message_core.specs.declared.binding.Binding.{Binding}
@@ -19,10 +21,10 @@ use Rattle.setphase_core.specs.declared.world.World.{World}
 use Rattle.setphase_core.specs.declared.column.Column.{Column}
 use Rattle.setphase_core.specs.declared.column.Column.TheVariants as column
 use Rattle.message_core.specs.declared.value.Value.{Value}
-use Rattle.setphase_core.specs.Values.{IndexedValue, numbers_from, by_address}
+use Rattle.setphase_core.specs.Values.{IndexedValue, numbers_from, by_address, by_static}
 use Rattle.setphase_core.specs.Columns.{shown_by}
 use Rattle.setphase_core.specs.Objects.{ObjectRow}
-use Rattle.setphase_core.specs.Registry.{prefixes_of, first_fault, under, instances_under, instances}
+use Rattle.setphase_core.specs.Registry.{prefixes_of, first_fault, IsKept, under, instances_under, instances}
 use Rattle.setphase_core.proofs.Below.{is_below, below_lt}
 use Rattle.setphase_core.proofs.Ordered.{AreOrdered, ordered_from}
 use Rattle.setphase_core.proofs.Found.{instances-cons, instances-nil}
@@ -92,7 +94,32 @@ addresses_climb (r ∷ rows) f h = (
   addresses_climb rows f (sorted_tail (λ (a b : Row). mac_cmp a.address b.address) r rows h),
 )
 
-climbs : (c : Column) (w : World) → AreRising w.bridge.learned → Climbs (shown_by c w)
+-- An entry in front of those that are made goes with them where it is made itself.
+below_made : (i : List ℕ) (s : StaticRow) (rows : List StaticRow) (f : StaticRow → Value) (made : Bool) → name_lt i (numbers_of s.index) ≡ true →
+    AllByRecursion (λ (t : IndexedValue). name_lt i t.index ≡ true) (by_static rows f) →
+    AllByRecursion (λ (t : IndexedValue). name_lt i t.index ≡ true) (map (λ (r : StaticRow). record { index = numbers_of r.index; value = f r }) (cond made (s ∷ made_rows rows) (made_rows rows)))
+below_made i s rows f true lt more = (lt, more)
+below_made i s rows f false lt more = more
+
+below_statics : (r : StaticRow) (rows : List StaticRow) (f : StaticRow → Value) → AllByRecursion (λ (s : StaticRow). index_cmp r.index s.index ≡ Less) rows →
+    AllByRecursion (λ (t : IndexedValue). name_lt (numbers_of r.index) t.index ≡ true) (by_static rows f)
+below_statics r [] f h = tt
+below_statics r (s ∷ rows) f h =
+    below_made (numbers_of r.index) s rows f s.made (sym (name_lt-cmp (numbers_of r.index) (numbers_of s.index) Less (sym h.0))) (below_statics r rows f h.1)
+
+made_climb : (r : StaticRow) (rows : List StaticRow) (f : StaticRow → Value) (made : Bool) →
+    AllByRecursion (λ (t : IndexedValue). name_lt (numbers_of r.index) t.index ≡ true) (by_static rows f) → Climbs (by_static rows f) →
+    Climbs (map (λ (s : StaticRow). record { index = numbers_of s.index; value = f s }) (cond made (r ∷ made_rows rows) (made_rows rows)))
+made_climb r rows f true first more = (first, more)
+made_climb r rows f false first more = more
+
+statics_climb : (rows : List StaticRow) (f : StaticRow → Value) → AreRisingStatics rows → Climbs (by_static rows f)
+statics_climb [] f h = tt
+statics_climb (r ∷ rows) f h =
+    made_climb r rows f r.made (below_statics r rows f (sorted_head (λ (a b : StaticRow). index_cmp a.index b.index) r rows h))
+    (statics_climb rows f (sorted_tail (λ (a b : StaticRow). index_cmp a.index b.index) r rows h))
+
+climbs : (c : Column) (w : World) → IsKept w → Climbs (shown_by c w)
 unfolding shown_by
 climbs (column.Base c) w h = (tt, tt)
 climbs (column.BasePort c) w h = ports_climb 1 (port_count w.bridge) _
@@ -101,8 +128,9 @@ climbs (column.StpPort c) w h = ports_climb 1 (port_count w.bridge) _
 climbs (column.Rapid c) w h = (tt, tt)
 climbs (column.ExtPort c) w h = ports_climb 1 (port_count w.bridge) _
 climbs (column.Tp c) w h = (tt, tt)
-climbs (column.TpFdb c) w h = addresses_climb w.bridge.learned _ h
+climbs (column.TpFdb c) w h = addresses_climb w.bridge.learned _ h.learned
 climbs (column.TpPort c) w h = ports_climb 1 (port_count w.bridge) _
+climbs (column.Static c) w h = statics_climb w.bridge.statics.rows _ h.statics
 
 -- ---- several objects
 
@@ -121,12 +149,12 @@ all_below_others : (p : List ℕ) (shown : List IndexedValue) (rows : List Objec
 all_below_others p [] rows w h = tt
 all_below_others p (s ∷ shown) rows w h = (below_others p s.index rows w h, all_below_others p shown rows w h)
 
-all_rise : (rows : List ObjectRow) (w : World) → AreOrdered (prefixes_of rows) → AreRising w.bridge.learned → Rises (instances rows w)
+all_rise : (rows : List ObjectRow) (w : World) → AreOrdered (prefixes_of rows) → IsKept w → Rises (instances rows w)
 all_rise [] w h k = subst Rises (sym (instances-nil w)) tt
 all_rise (row ∷ rows) w h k =
     subst Rises (sym (instances-cons row rows w))
     (rises_append (instances_under row w) (instances rows w) (rises_under row.prefix (shown_by row.column w) (climbs row.column w k)) (all_rise rows w h.1 k)
     (all_below_others row.prefix (shown_by row.column w) rows w h.0))
 
-pub instances_rising : (rows : List ObjectRow) (w : World) → first_fault rows ≡ None → AreRising w.bridge.learned → IsRising (instances rows w)
+pub instances_rising : (rows : List ObjectRow) (w : World) → first_fault rows ≡ None → IsKept w → IsRising (instances rows w)
 instances_rising rows w e h = rises_is (instances rows w) (all_rise rows w (ordered_from rows e) h)

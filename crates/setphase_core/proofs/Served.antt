@@ -1,9 +1,10 @@
 -- Each instance can be served: its name stands under 1.3, its value is no exception, and a name for
 -- value has an encoding.
-use Rattle.std.proofs.Common.{◌≡◌, ℕ, ◌<◌, ◌≤◌, true, List, [], ◌∷◌, ◌++◌, map, None, zero, suc, ◌+◌, subst, sym, arith}
+use Rattle.std.proofs.Common.{◌≡◌, ℕ, ◌<◌, ◌≤◌, Bool, true, cond, List, [], ◌∷◌, ◌++◌, map, None, zero, suc, ◌+◌, subst, sym, arith}
 use Rattle.std.specs.List.{AllByRecursion}
 use Rattle.fdb_core.specs.declared.row.Row.{Row}
-use Rattle.fdb_core.specs.Rows.{IsRising as AreRising}
+use Rattle.fdb_core.specs.declared.static_row.StaticRow.{StaticRow}
+use Rattle.fdb_core.specs.Statics.{numbers_of, made_rows}
 use Rattle.oid_core.specs.Name.{HasRoot}
 use Rattle.oid_core.specs.Order.{is_prefix}
 use Rattle.oid_core.proofs.OrderLaws.{prefix_found}
@@ -31,12 +32,14 @@ use Rattle.setphase_core.specs.declared.column.TpFdb.{TpFdb}
 use Rattle.setphase_core.specs.declared.column.TpFdb.TheVariants as tp_fdb
 use Rattle.setphase_core.specs.declared.column.TpPort.{TpPort}
 use Rattle.setphase_core.specs.declared.column.TpPort.TheVariants as tp_port
+use Rattle.setphase_core.specs.declared.column.Static.{Static}
+use Rattle.setphase_core.specs.declared.column.Static.TheVariants as static_column
 use Rattle.setphase_core.specs.declared.column.Column.{Column}
 use Rattle.setphase_core.specs.declared.column.Column.TheVariants as column
-use Rattle.setphase_core.specs.Values.{IndexedValue, by_address, numbers_from}
-use Rattle.setphase_core.specs.Columns.{shown_by, base_value, base_port_value, stp_value, stp_port_value, rapid_value, ext_port_value, tp_value, tp_fdb_value, tp_port_value}
+use Rattle.setphase_core.specs.Values.{IndexedValue, by_address, by_static, numbers_from}
+use Rattle.setphase_core.specs.Columns.{shown_by, base_value, base_port_value, stp_value, stp_port_value, rapid_value, ext_port_value, tp_value, tp_fdb_value, tp_port_value, static_value}
 use Rattle.setphase_core.specs.Objects.{ObjectRow}
-use Rattle.setphase_core.specs.Registry.{first_fault, AreNamed, under, instances_under, instances}
+use Rattle.setphase_core.specs.Registry.{first_fault, AreNamed, IsKept, under, instances_under, instances}
 use Rattle.setphase_core.proofs.Found.{instances-cons, instances-nil}
 use Rattle.setphase_core.proofs.Rising.{instances_rising}
 
@@ -120,6 +123,12 @@ tp_port_served tp_port.InFrames b n = record { encodable = tt; valued = tt }
 tp_port_served tp_port.OutFrames b n = record { encodable = tt; valued = tt }
 tp_port_served tp_port.InDiscards b n = record { encodable = tt; valued = tt }
 
+static_served : (c : Static) (b : BridgeState) (r : StaticRow) → IsServed (static_value c b r)
+static_served static_column.Address b r = record { encodable = tt; valued = tt }
+static_served static_column.ReceivePort b r = record { encodable = tt; valued = tt }
+static_served static_column.AllowedToGoTo b r = record { encodable = tt; valued = tt }
+static_served static_column.Status b r = record { encodable = tt; valued = tt }
+
 ports_served : (first count : ℕ) (f : ℕ → Value) → ((n : ℕ) → IsServed (f n)) → AllByRecursion (λ (s : IndexedValue). IsServed s.value) (map (λ n. record { index = n ∷ []; value = f n }) (numbers_from first count))
 ports_served first zero f h = tt
 ports_served first (suc count) f h = (h first, ports_served (first + 1) count f h)
@@ -127,6 +136,15 @@ ports_served first (suc count) f h = (h first, ports_served (first + 1) count f 
 addresses_served : (rows : List Row) (f : Row → Value) → ((r : Row) → IsServed (f r)) → AllByRecursion (λ (s : IndexedValue). IsServed s.value) (by_address rows f)
 addresses_served [] f h = tt
 addresses_served (r ∷ rows) f h = (h r, addresses_served rows f h)
+
+made_served : (r : StaticRow) (rows : List StaticRow) (f : StaticRow → Value) (made : Bool) → IsServed (f r) → AllByRecursion (λ (s : IndexedValue). IsServed s.value) (by_static rows f) →
+    AllByRecursion (λ (s : IndexedValue). IsServed s.value) (map (λ (x : StaticRow). record { index = numbers_of x.index; value = f x }) (cond made (r ∷ made_rows rows) (made_rows rows)))
+made_served r rows f true h more = (h, more)
+made_served r rows f false h more = more
+
+statics_served : (rows : List StaticRow) (f : StaticRow → Value) → ((r : StaticRow) → IsServed (f r)) → AllByRecursion (λ (s : IndexedValue). IsServed s.value) (by_static rows f)
+statics_served [] f h = tt
+statics_served (r ∷ rows) f h = made_served r rows f r.made (h r) (statics_served rows f h)
 
 all_served : (c : Column) (w : World) → AllByRecursion (λ s. IsServed s.value) (shown_by c w)
 unfolding shown_by
@@ -139,6 +157,7 @@ all_served (column.ExtPort c) w = ports_served 1 (port_count w.bridge) (ext_port
 all_served (column.Tp c) w = (tp_served c w.bridge, tt)
 all_served (column.TpFdb c) w = addresses_served w.bridge.learned (tp_fdb_value c) (tp_fdb_served c)
 all_served (column.TpPort c) w = ports_served 1 (port_count w.bridge) (tp_port_value c w.bridge) (tp_port_served c w.bridge)
+all_served (column.Static c) w = statics_served w.bridge.statics.rows (static_value c w.bridge) (static_served c w.bridge)
 
 -- ---- names
 
@@ -178,7 +197,7 @@ are_valued : (xs : List Binding) → AllByRecursion IsServedBinding xs → AreVa
 are_valued [] h = tt
 are_valued (x ∷ xs) h = (h.0.valued, are_valued xs h.1)
 
-pub instances_servable : (rows : List ObjectRow) (w : World) → first_fault rows ≡ None → AreNamed rows → AreRising w.bridge.learned → IsServable (instances rows w)
+pub instances_servable : (rows : List ObjectRow) (w : World) → first_fault rows ≡ None → AreNamed rows → IsKept w → IsServable (instances rows w)
 instances_servable rows w e h k = record {
   rising = instances_rising rows w e k;
   encodable = are_encodable (instances rows w) (instances_served rows w h);

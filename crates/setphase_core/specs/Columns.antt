@@ -4,6 +4,8 @@
 use Rattle.std.specs.Prelude.{ℕ, ◌*◌, ◌/◌, ◌%◌, ◌^◌, pos, Bool, min, if◌then◌else◌, List, [], ◌∷◌, ◌++◌}
 use Rattle.frame_core.specs.declared.bpdu.BridgeId.{BridgeId}
 use Rattle.fdb_core.specs.declared.row.Row.{Row}
+use Rattle.fdb_core.specs.declared.static_row.StaticRow.{StaticRow}
+use Rattle.fdb_core.specs.PortSets.{octets_of}
 use Rattle.rstp_settings.specs.Table.{get}
 use Rattle.rstp_settings.specs.declared.key.Key.TheVariants as key
 use Rattle.rstp_settings.specs.declared.key.BridgeKey.{BridgeKey}
@@ -37,9 +39,11 @@ use Rattle.setphase_core.specs.declared.column.TpFdb.{TpFdb}
 use Rattle.setphase_core.specs.declared.column.TpFdb.TheVariants as tp_fdb
 use Rattle.setphase_core.specs.declared.column.TpPort.{TpPort}
 use Rattle.setphase_core.specs.declared.column.TpPort.TheVariants as tp_port
+use Rattle.setphase_core.specs.declared.column.Static.{Static}
+use Rattle.setphase_core.specs.declared.column.Static.TheVariants as static_column
 use Rattle.setphase_core.specs.declared.column.Column.{Column}
 use Rattle.setphase_core.specs.declared.column.Column.TheVariants as column
-use Rattle.setphase_core.specs.Values.{IndexedValue, scalar, by_port, by_address}
+use Rattle.setphase_core.specs.Values.{IndexedValue, scalar, by_port, by_address, by_static}
 
 -- ---- values
 
@@ -221,6 +225,18 @@ tp_port_value tp_port.OutFrames b n = Counter32 (port_facts_of b n).frames_out
 -- 4.4.1.5 dot1dTpPortInDiscards
 tp_port_value tp_port.InDiscards b n = Counter32 (port_facts_of b n).discards_in
 
+-- ---- RFC 4188, dot1dStatic
+
+abbrev pub static_value : Static → BridgeState → StaticRow → Value
+-- 5.1.1.1 dot1dStaticAddress
+static_value static_column.Address b r = OctetString r.index.address.0
+-- 5.1.1.2 dot1dStaticReceivePort
+static_value static_column.ReceivePort b r = number r.index.port
+-- 5.1.1.3 dot1dStaticAllowedToGoTo: a bit for each port, in as many octets as that takes
+static_value static_column.AllowedToGoTo b r = OctetString (octets_of (port_count b) r.ports)
+-- 5.1.1.4 dot1dStaticStatus: permanent
+static_value static_column.Status b r = number 3
+
 -- ---- all objects
 
 -- What a column shows of a world, by rising index.
@@ -234,3 +250,4 @@ shown_by (column.ExtPort c) w = by_port (port_count w.bridge) (ext_port_value c 
 shown_by (column.Tp c) w = scalar (tp_value c w.bridge)
 shown_by (column.TpFdb c) w = by_address w.bridge.learned (tp_fdb_value c)
 shown_by (column.TpPort c) w = by_port (port_count w.bridge) (tp_port_value c w.bridge)
+shown_by (column.Static c) w = by_static w.bridge.statics.rows (static_value c w.bridge)

@@ -1,12 +1,13 @@
 -- What a bridge of four ports, made by hand as if in use, shows, all its instances: three speeds
--- and all states, other settings than the opening ones, two learned addresses, and facts of which
--- most differ from one another, so that few objects could stand for another. No run leads to it,
--- since its root is no port's.
+-- and all states, other settings than the opening ones, two learned addresses, two made static rows,
+-- and facts of which most differ from one another, so that few objects could stand for another. No
+-- run leads to it, since its root is no port's.
 use Rattle.std.specs.Prelude.{ℕ, Bool, true, false, List, [], ◌∷◌, ◌++◌}
 use Rattle.frame_core.specs.declared.mac.Mac.{Mac}
 use Rattle.frame_core.specs.declared.bpdu.Times.{Times}
 use Rattle.frame_core.specs.declared.bpdu.PriorityVector.{PriorityVector}
-use Rattle.fdb_core.specs.Statics.{no_statics}
+use Rattle.fdb_core.specs.declared.static_row.StaticRow.{StaticRow}
+use Rattle.fdb_core.specs.PortSets.{ports_in}
 use Rattle.rstp_settings.specs.Table.{Table}
 use Rattle.rstp_settings.specs.declared.config.PortConfig.{PortConfig}
 use Rattle.rstp_rules.specs.declared.port.Port.{Port}
@@ -119,6 +120,26 @@ counters_in_use = record {
       ∷ record { frames_in = 64; frames_out = 74; discards_in = 84 } ∷ [];
 }
 
+-- Frames to 01-80-C2-00-00-20 that come by port 2 may go to the ports 1 and 3, those to
+-- 02-00-00-00-00-07 that come by any port to none. The row between is not made.
+abbrev pub statics_in_use : List StaticRow
+statics_in_use =
+    record {
+      index = record { address = record { 0 = 1 ∷ 128 ∷ 194 ∷ 0 ∷ 0 ∷ 32 ∷ [] }; port = 2 };
+      made = true;
+      ports = ports_in (160 ∷ []);
+    }
+    ∷ record {
+      index = record { address = record { 0 = 2 ∷ 0 ∷ 0 ∷ 0 ∷ 0 ∷ 6 ∷ [] }; port = 4 };
+      made = false;
+      ports = ports_in (64 ∷ []);
+    }
+    ∷ record {
+      index = record { address = record { 0 = 2 ∷ 0 ∷ 0 ∷ 0 ∷ 0 ∷ 7 ∷ [] }; port = 0 };
+      made = true;
+      ports = ports_in [];
+    } ∷ []
+
 unfoldable pub bridge_in_use : BridgeState
 bridge_in_use = record {
   settings = settings_in_use;
@@ -126,7 +147,7 @@ bridge_in_use = record {
   learned =
       record { address = record { 0 = 0 ∷ 16 ∷ 32 ∷ 48 ∷ 64 ∷ 80 ∷ [] }; port = 4; age = 5 }
       ∷ record { address = record { 0 = 2 ∷ 0 ∷ 0 ∷ 0 ∷ 0 ∷ 1 ∷ [] }; port = 1; age = 6 } ∷ [];
-  statics = no_statics;
+  statics = record { rows = statics_in_use; places = 0 };
   counters = counters_in_use;
 }
 
@@ -152,6 +173,12 @@ abbrev pub of_addresses : List ℕ → Value → Value → List Binding
 of_addresses numbers v1 v2 =
     bridge_instance (numbers ++ 0 ∷ 16 ∷ 32 ∷ 48 ∷ 64 ∷ 80 ∷ []) v1
     ∷ bridge_instance (numbers ++ 2 ∷ 0 ∷ 0 ∷ 0 ∷ 0 ∷ 1 ∷ []) v2 ∷ []
+
+-- The instances of a column of the two made static rows.
+abbrev pub of_statics : List ℕ → Value → Value → List Binding
+of_statics numbers v1 v2 =
+    bridge_instance (numbers ++ 1 ∷ 128 ∷ 194 ∷ 0 ∷ 0 ∷ 32 ∷ 2 ∷ []) v1
+    ∷ bridge_instance (numbers ++ 2 ∷ 0 ∷ 0 ∷ 0 ∷ 0 ∷ 7 ∷ 0 ∷ []) v2 ∷ []
 
 -- dot1dBase
 abbrev pub base_in_use : List Binding
@@ -235,6 +262,16 @@ tp_in_use =
     ++ of_ports (4 ∷ 4 ∷ 1 ∷ 4 ∷ []) (Counter32 71) (Counter32 72) (Counter32 73) (Counter32 74)
     ++ of_ports (4 ∷ 4 ∷ 1 ∷ 5 ∷ []) (Counter32 81) (Counter32 82) (Counter32 83) (Counter32 84)
 
+-- dot1dStaticTable
+abbrev pub static_in_use : List Binding
+static_in_use =
+    of_statics (5 ∷ 1 ∷ 1 ∷ 1 ∷ []) (OctetString (1 ∷ 128 ∷ 194 ∷ 0 ∷ 0 ∷ 32 ∷ []))
+    (OctetString (2 ∷ 0 ∷ 0 ∷ 0 ∷ 0 ∷ 7 ∷ []))
+    ++ of_statics (5 ∷ 1 ∷ 1 ∷ 2 ∷ []) (number 2) (number 0)
+    ++ of_statics (5 ∷ 1 ∷ 1 ∷ 3 ∷ []) (OctetString (160 ∷ [])) (OctetString (0 ∷ []))
+    ++ of_statics (5 ∷ 1 ∷ 1 ∷ 4 ∷ []) (number 3) (number 3)
+
 -- All its instances, by rising name.
 unfoldable pub instances_in_use : List Binding
-instances_in_use = base_in_use ++ stp_in_use ++ stp_ports_in_use ++ rapid_in_use ++ tp_in_use
+instances_in_use =
+    base_in_use ++ stp_in_use ++ stp_ports_in_use ++ rapid_in_use ++ tp_in_use ++ static_in_use

@@ -19,6 +19,8 @@ use Rattle.setphase_core.specs.declared.column.TpFdb.{TpFdb}
 use Rattle.setphase_core.specs.declared.column.TpFdb.TheVariants as tp_fdb
 use Rattle.setphase_core.specs.declared.column.TpPort.{TpPort}
 use Rattle.setphase_core.specs.declared.column.TpPort.TheVariants as tp_port
+use Rattle.setphase_core.specs.declared.column.Static.{Static}
+use Rattle.setphase_core.specs.declared.column.Static.TheVariants as static_column
 use Rattle.setphase_core.specs.declared.column.Column.{Column}
 use Rattle.setphase_core.specs.declared.column.Column.TheVariants as column
 use Rattle.setphase_core.specs.Objects.{ObjectRow}
@@ -105,6 +107,13 @@ tp_port_name tp_port.InFrames = bridge_name (4 ∷ 4 ∷ 1 ∷ 3 ∷ [])
 tp_port_name tp_port.OutFrames = bridge_name (4 ∷ 4 ∷ 1 ∷ 4 ∷ [])
 tp_port_name tp_port.InDiscards = bridge_name (4 ∷ 4 ∷ 1 ∷ 5 ∷ [])
 
+-- dot1dStaticEntry, 5.1.1
+abbrev pub static_name : Static → List ℕ
+static_name static_column.Address = bridge_name (5 ∷ 1 ∷ 1 ∷ 1 ∷ [])
+static_name static_column.ReceivePort = bridge_name (5 ∷ 1 ∷ 1 ∷ 2 ∷ [])
+static_name static_column.AllowedToGoTo = bridge_name (5 ∷ 1 ∷ 1 ∷ 3 ∷ [])
+static_name static_column.Status = bridge_name (5 ∷ 1 ∷ 1 ∷ 4 ∷ [])
+
 -- ---- all objects
 
 abbrev pub name_of : Column → List ℕ
@@ -117,6 +126,7 @@ name_of (column.ExtPort c) = ext_port_name c
 name_of (column.Tp c) = tp_name c
 name_of (column.TpFdb c) = tp_fdb_name c
 name_of (column.TpPort c) = tp_port_name c
+name_of (column.Static c) = static_name c
 
 -- The row of the object of a column.
 abbrev pub row_of : Column → ObjectRow
@@ -145,6 +155,9 @@ columns =
     ++ map column.TpFdb (tp_fdb.Address ∷ tp_fdb.Port ∷ tp_fdb.Status ∷ [])
     ++ map column.TpPort
     (tp_port.Port ∷ tp_port.MaxInfo ∷ tp_port.InFrames ∷ tp_port.OutFrames ∷ tp_port.InDiscards ∷ [])
+    ++ map column.Static
+    (static_column.Address ∷ static_column.ReceivePort ∷ static_column.AllowedToGoTo
+    ∷ static_column.Status ∷ [])
 
 -- The rows of all objects.
 unfoldable pub bridge_rows : List ObjectRow

@@ -3,6 +3,7 @@
 use Rattle.std.specs.Prelude.{ℕ, ◌+◌, ◌≤◌, Bool, not, ◌&&◌, if◌then◌else◌, IsTrue, AllPairs, List, [], ◌∷◌, ◌++◌, map, length, find, Option, Some, None, IfSome}
 use Rattle.std.specs.List.{AllByRecursion, flat_map}
 use Rattle.fdb_core.specs.Rows.{IsRising as AreRising}
+use Rattle.fdb_core.specs.Statics.{IsRising as AreRisingStatics}
 use Rattle.oid_core.specs.Order.{name_lt, is_prefix}
 use Rattle.oid_core.specs.declared.limits.TheConstants.{INLINE_NUMBERS, MAX_NUMBERS}
 use Rattle.message_core.specs.declared.binding.Binding.{Binding}
@@ -62,9 +63,11 @@ instances_under row w = map (under row.prefix) (shown_by row.column w)
 unfoldable pub instances : List ObjectRow → World → List Binding
 instances rows w = flat_map (λ row. instances_under row w) rows
 
--- What holds of every world that is kept: the learned rows of its bridge are by rising address.
+-- What holds of every world that is kept: the learned rows of its bridge are by rising address, and
+-- its static rows by rising index.
 pub record IsKept (w : World) : Type 0 where
   pub learned : AreRising w.bridge.learned
+  pub statics : AreRisingStatics w.bridge.statics.rows
 
 -- The instance that is found, if one is, has a name that takes no memory.
 abbrev pub HasShortName : Option Binding → Type 0

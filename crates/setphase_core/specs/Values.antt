@@ -3,6 +3,8 @@ use Rattle.std.specs.Prelude.{ℕ, ◌+◌, nat_le, ◌&&◌, if◌then◌else�
 use Rattle.std.specs.Option.{option_map}
 use Rattle.std.proofs.Common.{zero, suc}
 use Rattle.fdb_core.specs.declared.row.Row.{Row}
+use Rattle.fdb_core.specs.declared.static_row.StaticRow.{StaticRow}
+use Rattle.fdb_core.specs.Statics.{numbers_of, made_rows}
 use Rattle.oid_core.specs.Order.{name_lt, name_eq}
 use Rattle.message_core.specs.declared.value.Value.{Value}
 
@@ -32,6 +34,11 @@ port_index count at = None
 -- The instances of a table of learned addresses have the six octets of the address for index.
 abbrev pub by_address : List Row → (Row → Value) → List IndexedValue
 by_address rows f = map (λ r. record { index = r.address.0; value = f r }) rows
+
+-- The instances of a table of static rows are those of the made rows, and have the seven numbers of
+-- the row for index: the octets of its address, and its port.
+abbrev pub by_static : List StaticRow → (StaticRow → Value) → List IndexedValue
+by_static rows f = map (λ r. record { index = numbers_of r.index; value = f r }) (made_rows rows)
 
 -- The value under an index, if an instance has it.
 abbrev pub value_at : List IndexedValue → List ℕ → Option Value

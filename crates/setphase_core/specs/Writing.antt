@@ -117,6 +117,7 @@ writable_of (column.ExtPort c) = ext_port_writable c
 writable_of (column.Tp c) = tp_writable c
 writable_of (column.TpFdb c) = None
 writable_of (column.TpPort c) = None
+writable_of (column.Static c) = None
 
 -- ---- what a variable writes
 

@@ -148,6 +148,19 @@ pub enum TpPort {
     InDiscards,
 }
 
+/// The columns of dot1dStaticTable (RFC 4188).
+#[derive(Clone, Copy, Debug, PartialEq, Eq)]
+pub enum Static {
+    /// dot1dStaticAddress
+    Address,
+    /// dot1dStaticReceivePort
+    ReceivePort,
+    /// dot1dStaticAllowedToGoTo
+    AllowedToGoTo,
+    /// dot1dStaticStatus
+    Status,
+}
+
 /// What an object shows.
 #[derive(Clone, Copy, Debug, PartialEq, Eq)]
 pub enum Column {
@@ -169,4 +182,6 @@ pub enum Column {
     TpFdb(TpFdb),
     /// A column of dot1dTpPortTable.
     TpPort(TpPort),
+    /// A column of dot1dStaticTable.
+    Static(Static),
 }

@@ -18,7 +18,7 @@
 //! [`Writable`], [`assignment_by`], [`Slots`]: how an object is written, what a variable of it
 //! writes, and what it reserved; for those who write objects.
 //! [`Column`] is what an object shows: [`Base`], [`BasePort`], [`Stp`], [`StpPort`], [`Rapid`],
-//! [`ExtPort`], [`Tp`], [`TpFdb`], [`TpPort`], by an [`Index`]. [`Target`] is the setting that an
+//! [`ExtPort`], [`Tp`], [`TpFdb`], [`TpPort`], [`Static`], by an [`Index`]. [`Target`] is the setting that an
 //! object writes, [`IntegerTarget`] with the INTEGERs that it takes, [`Assignment`] what a variable writes, [`Slot`] what a test reserves,
 //! [`Reservation`] what stands at a place; [`TestedVariable`], [`Standing`] and [`Staged`] are
 //! those of `Staging`. What is wrong is a [`SetFault`], [`VariableFault`], [`DeviceFault`] or
@@ -56,11 +56,12 @@
 //! # Laws
 //! In [`laws`]: the settings of a world are a finite map; of the names of a registry's objects none
 //! begins another; the names of all instances rise, whatever the objects are, where the learned
-//! rows of the bridge are by rising address, as those of every `Bridge` are; a walk that passes
+//! rows of the bridge are by rising address, and its static rows by rising index, as those of every
+//! `Bridge` are; a walk that passes
 //! over only objects none of whose names is shown misses nothing that is shown, and passes over no
 //! more of them after a name than there are; where there are objects, the object of a name is not
-//! known without a comparison; the 51 objects make a registry; they show 75 instances of a bridge
-//! of two ports as it opens, and 135 of a bridge of four ports, made by hand as if in use, most of
+//! known without a comparison; the 55 objects make a registry; they show 75 instances of a bridge
+//! of two ports as it opens, and 143 of a bridge of four ports, made by hand as if in use, most of
 //! whose facts differ from one another.
 //!
 //! # Not claimed
@@ -69,7 +70,7 @@
 //! the devices are called, but where it shows in which calls of one plan failed: of two objects, and
 //! of calls of which the plan says the same, no clause tells. That a step of `owner_steps` is a
 //! comparison: the clauses say how many there are at least and at most. Which number a call leaves
-//! for the next one as `near`. That the objects of a program are the 51. No object shows or writes
+//! for the next one as `near`. That the objects of a program are the 55. No object writes
 //! a static row so far (RFC 4188, dot1dStaticTable, 1.3.6.1.2.1.17.5.1): their settings are here, and
 //! no Set stages one.
 #![tactic(auto)]
@@ -98,7 +99,7 @@ mod walk;
 mod world;
 mod writable;
 
-pub use column::{Base, BasePort, Column, ExtPort, Rapid, Stp, StpPort, Tp, TpFdb, TpPort};
+pub use column::{Base, BasePort, Column, ExtPort, Rapid, Static, Stp, StpPort, Tp, TpFdb, TpPort};
 pub use flat_world::FlatWorld;
 pub use index::{is_scalar, port_after, port_at, scalar_after};
 pub use limits::{

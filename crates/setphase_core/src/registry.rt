@@ -112,6 +112,7 @@ impl<O: MibObject> Registry<O> {
     {
         let _objects = self.objects.as_slice();
         world.bridge.fdb().known();
+        world.bridge.known_statics();
     }
 
     /// The name of the object whose name begins a name, where there is one. It takes no memory.

@@ -2,4 +2,4 @@ use Rattle.setphase_core.proofs.Rising.{instances_rising}
 use Rattle.setphase_core.proofs.laws.instances_rise.Goals as goal
 
 pub returns : goal.returns
-returns c = λ rows w right kept. instances_rising rows w right kept.learned
+returns c = instances_rising

@@ -10,7 +10,7 @@ pub returns-clause-apart : goal.returns-clause-apart
 returns-clause-apart g c = names_apart (rows_of c.args.self.now) (search rules)
 
 pub returns-clause-servable : goal.returns-clause-servable
-returns-clause-servable g c = instances_servable (rows_of c.args.self.now) c.args.world.now (search rules) (search rules) (subst IsRising c.fdb.ensures.rows c.known.ensures.rising)
+returns-clause-servable g c = instances_servable (rows_of c.args.self.now) c.args.world.now (search rules) (search rules) (record { learned = subst IsRising c.fdb.ensures.rows c.known.ensures.rising; statics = c.known_statics.ensures.rising })
 
 pub returns-clause-open : goal.returns-clause-open
-returns-clause-open g c = λ passes. open_servable passes (rows_of c.args.self.now) c.args.world.now (search rules) (search rules) (subst IsRising c.fdb.ensures.rows c.known.ensures.rising)
+returns-clause-open g c = λ passes. open_servable passes (rows_of c.args.self.now) c.args.world.now (search rules) (search rules) (record { learned = subst IsRising c.fdb.ensures.rows c.known.ensures.rising; statics = c.known_statics.ensures.rising })

@@ -1,0 +1,134 @@
+//! dot1dStaticTable: by which ports frames to an address may go (RFC 4188).
+ghost use Rattle.std.specs.Prelude.{◌≡◌, ◌<◌, ◌^◌, ℕ, true, false, List, length, take, replicate};
+ghost use Rattle.std.specs.List.{AllByRecursion};
+ghost use Rattle.std.specs.Option.{option_copied, option_map};
+ghost use Rattle.fdb_core.specs.declared.static_row.StaticRow.{StaticRow as AnyRow};
+ghost use Rattle.fdb_core.specs.Statics.{numbers_of};
+ghost use Rattle.oid_core.specs.Order.{name_lt};
+ghost use Rattle.message_core.specs.declared.value.Value.{Value as AnyValue};
+ghost use Rattle.setphase_core.specs.Values.{by_static, value_at, index_after};
+ghost use Rattle.setphase_core.specs.Columns.{static_value};
+
+use crate::described::{Described, Descriptor};
+use crate::values::{integer, string};
+use bridge_core::Bridge;
+use fdb_core::{StaticIndex, StaticRow};
+use message_core::Value;
+use oid_core::same_name;
+use setphase_core::{Index, Static, World, Writable};
+use std::alloc::Global;
+
+/// The managed object of a column of dot1dStaticTable.
+pub type StaticColumn = Described<Static>;
+
+fn write_greatest(numbers: &mut [u32])
+    ensures { numbers.new ≡ replicate (length numbers.old) 4294967295 }
+{
+    numbers.fill(u32::MAX);
+}
+
+// Writes numbers, at most so many, that are below an index, but not below any other so many that are
+// below it, and says how many they are.
+fn write_below(numbers: &mut [u32], index: &[u32]) -> usize
+    ensures below { 0 < length index.now
+        → name_lt (take result numbers.new) index.now ≡ true }
+    ensures between { (other : List ℕ) → length other ≡ length numbers.old
+        → AllByRecursion (λ n. n < 2 ^ 32) other
+        → name_lt (take result numbers.new) other ≡ true → name_lt other index.now ≡ false }
+{
+    let Some((number, numbers)) = numbers.split_first_mut() else {
+        return 0;
+    };
+    match index {
+        [] | [0] => 0,
+        [last] => {
+            *number = *last - 1;
+            write_greatest(numbers);
+            numbers.len() + 1
+        }
+        [first, index @ ..] => {
+            *number = *first;
+            write_below(numbers, index) + 1
+        }
+    }
+}
+
+// The made row whose seven numbers are an index.
+fn static_there(bridge: &Bridge, at: &[u32]) -> Option<StaticRow>
+    ensures { (f : AnyRow → AnyValue) → value_at (by_static bridge.now.statics.rows f) at.now
+        ≡ option_map f result }
+{
+    bridge.known_statics();
+    if at.is_empty() {
+        return None;
+    }
+    let mut numbers = [0; 7];
+    let count = write_below(&mut numbers, at);
+    let row = bridge.next_static(&numbers[..count])?;
+    if same_name(&row.index.numbers(), at) {
+        Some(row)
+    } else {
+        None
+    }
+}
+
+// The seven numbers of a row as an index.
+fn index_of(row: StaticIndex) -> Index
+    ensures { result.items ≡ numbers_of row }
+{
+    let mut index = Index::new();
+    for number in &row.numbers() {
+        index.push(*number);
+    }
+    index
+}
+
+// The first index of a made row behind an index, or the first of all.
+fn static_after(bridge: &Bridge, after: Option<&[u32]>) -> Option<Index>
+    ensures { (f : AnyRow → AnyValue) → option_map (λ index. index.items) result
+        ≡ index_after (by_static bridge.now.statics.rows f) (option_copied after.entry) }
+{
+    let row = bridge.next_static(after.unwrap_or(&[]))?;
+    Some(index_of(row.index))
+}
+
+fn static_value(alloc: Global, which: Static, bridge: &Bridge, row: &StaticRow) -> Value
+    ensures { result ≡ static_value which bridge.now row.now }
+{
+    match which {
+        Static::Address => string(alloc, &row.index.address.0),
+        Static::ReceivePort => integer(u32::from(row.index.port)),
+        Static::AllowedToGoTo => string(alloc, row.ports.octets(bridge.ports()).as_slice()),
+        Static::Status => integer(3),
+    }
+}
+
+impl Descriptor for Static {
+    ghost use Rattle.setphase_core.specs.declared.column.Column.TheVariants as columns;
+
+    ghost column = { columns.Static };
+
+    fn prefix(self) -> &'static [u32] {
+        match self {
+            Static::Address => &[1, 3, 6, 1, 2, 1, 17, 5, 1, 1, 1],
+            Static::ReceivePort => &[1, 3, 6, 1, 2, 1, 17, 5, 1, 1, 2],
+            Static::AllowedToGoTo => &[1, 3, 6, 1, 2, 1, 17, 5, 1, 1, 3],
+            Static::Status => &[1, 3, 6, 1, 2, 1, 17, 5, 1, 1, 4],
+        }
+    }
+
+    #[tactic(auto, unfolding(setphase_core::specs::Columns::shown_by))]
+    fn read(self, alloc: Global, world: &World, at: &[u32]) -> Option<Value> {
+        let row = static_there(&world.bridge, at)?;
+        Some(static_value(alloc, self, &world.bridge, &row))
+    }
+
+    #[tactic(auto, unfolding(setphase_core::specs::Columns::shown_by))]
+    fn next(self, world: &World, after: Option<&[u32]>) -> Option<Index> {
+        static_after(&world.bridge, after)
+    }
+
+    fn writable(self) -> Option<Writable> {
+        None
+    }
+}
