@@ -15,7 +15,7 @@ use bridge_core::Bridge;
 use fdb_core::{StaticIndex, StaticRow};
 use message_core::Value;
 use oid_core::same_name;
-use setphase_core::{Index, Static, World, Writable};
+use setphase_core::{Index, IntegerTarget, Static, Target, World, Writable};
 use std::alloc::Global;
 
 /// The managed object of a column of dot1dStaticTable.
@@ -129,6 +129,15 @@ impl Descriptor for Static {
     }
 
     fn writable(self) -> Option<Writable> {
-        None
+        match self {
+            Static::Address | Static::ReceivePort => None,
+            Static::AllowedToGoTo => Some(Writable::Ports),
+            Static::Status => Some(Writable::Integer(IntegerTarget {
+                target: Target::Made,
+                least: 2,
+                most: 3,
+                step: 1,
+            })),
+        }
     }
 }

@@ -36,12 +36,14 @@ use Rattle.setphase_core.specs.declared.column.ExtPort.{ExtPort}
 use Rattle.setphase_core.specs.declared.column.ExtPort.TheVariants as ext_port
 use Rattle.setphase_core.specs.declared.column.Tp.{Tp}
 use Rattle.setphase_core.specs.declared.column.Tp.TheVariants as tp
+use Rattle.setphase_core.specs.declared.column.Static.{Static}
+use Rattle.setphase_core.specs.declared.column.Static.TheVariants as static_column
 use Rattle.setphase_core.specs.declared.column.Column.{Column}
 use Rattle.setphase_core.specs.declared.column.Column.TheVariants as column
 use Rattle.setphase_core.specs.Staging.{IsLegal}
 use Rattle.setphase_core.specs.Values.{port_index}
 use Rattle.setphase_core.proofs.StaticIndexes.{named_is_index}
-use Rattle.setphase_core.specs.Writing.{writable_of, takes, number_given, key_at, static_index, assignment_at, allowed_assignment, assignment_by, assignment_of, stp_writable, stp_port_writable, rapid_writable, ext_port_writable, tp_writable}
+use Rattle.setphase_core.specs.Writing.{writable_of, takes, number_given, key_at, static_index, assignment_at, allowed_assignment, assignment_by, assignment_of, stp_writable, stp_port_writable, rapid_writable, ext_port_writable, tp_writable, static_writable}
 
 -- What holds of every world whose bridge is one.
 pub record IsSound (w : World) : Type 0 where
@@ -128,6 +130,12 @@ tp_gives : (c : Tp) → GivesRange (tp_writable c)
 tp_gives tp.LearnedEntryDiscards = tt
 tp_gives tp.AgingTime = λ n t. (t.least, t.most)
 
+static_gives : (c : Static) → GivesRange (static_writable c)
+static_gives static_column.Address = tt
+static_gives static_column.ReceivePort = tt
+static_gives static_column.AllowedToGoTo = tt
+static_gives static_column.Status = λ n t. asked (n == 3)
+
 gives : (c : Column) → GivesRange (writable_of c)
 gives (column.Base c) = tt
 gives (column.BasePort c) = tt
@@ -138,7 +146,7 @@ gives (column.ExtPort c) = ext_port_gives c
 gives (column.Tp c) = tp_gives c
 gives (column.TpFdb c) = tt
 gives (column.TpPort c) = tt
-gives (column.Static c) = tt
+gives (column.Static c) = static_gives c
 
 within : (n m : ℕ) → (nat_le 1 n && nat_le n m) ≡ true → n ≤ m
 within n m is = grind (arith, nat_tests, is)

@@ -49,6 +49,8 @@ use Rattle.setphase_core.specs.declared.column.ExtPort.{ExtPort}
 use Rattle.setphase_core.specs.declared.column.ExtPort.TheVariants as ext_port
 use Rattle.setphase_core.specs.declared.column.Tp.{Tp}
 use Rattle.setphase_core.specs.declared.column.Tp.TheVariants as tp
+use Rattle.setphase_core.specs.declared.column.Static.{Static}
+use Rattle.setphase_core.specs.declared.column.Static.TheVariants as static_column
 use Rattle.setphase_core.specs.declared.column.Column.{Column}
 use Rattle.setphase_core.specs.declared.column.Column.TheVariants as column
 
@@ -106,6 +108,14 @@ tp_writable tp.LearnedEntryDiscards = None
 -- 4.2 dot1dTpAgingTime: seconds
 tp_writable tp.AgingTime = scalar_of bridge.Aging MIN_AGING MAX_AGING 1
 
+abbrev pub static_writable : Static → Option Writable
+-- 5.1.1.3 dot1dStaticAllowedToGoTo
+static_writable static_column.AllowedToGoTo = Some PortOctets
+-- 5.1.1.4 dot1dStaticStatus: 2 invalid, 3 permanent
+static_writable static_column.Status =
+    Some (Integers (record { target = target.Made; least = 2; most = 3; step = 1 }))
+static_writable other = None
+
 -- How the instances of a column are written; none where it is read-only.
 abbrev pub writable_of : Column → Option Writable
 writable_of (column.Base c) = None
@@ -117,7 +127,7 @@ writable_of (column.ExtPort c) = ext_port_writable c
 writable_of (column.Tp c) = tp_writable c
 writable_of (column.TpFdb c) = None
 writable_of (column.TpPort c) = None
-writable_of (column.Static c) = None
+writable_of (column.Static c) = static_writable c
 
 -- ---- what a variable writes
 
