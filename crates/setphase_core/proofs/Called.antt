@@ -246,3 +246,21 @@ pub plans_released : (cs : List Call) (os : List ObjectState) →
     FollowPlans cs (map object_after_release os) → FollowPlans cs os
 plans_released cs [] h = tt
 plans_released cs (o ∷ os) h = (by_plan_released cs o h.0, plans_released cs os h.1)
+
+by_plan_since : (cs : List Call) (o : ObjectState) → AreByPlan cs o →
+    AreByPlan cs (object_after_release o)
+by_plan_since [] o h = tt
+by_plan_since (c ∷ cs) o h = (
+  h.0,
+  subst (AreByPlan cs) (sym (released_called (is_prefix o.row.prefix c.name) c.fails o)) (by_plan_since cs (object_after_call c o) h.1),
+)
+
+-- What objects have reserved is nothing to their plans.
+pub plans_since : (cs : List Call) (os ns : List ObjectState) →
+    map object_after_release os ≡ map object_after_release ns → FollowPlans cs os → FollowPlans cs ns
+plans_since cs os ns same h =
+    plans_released cs ns (subst (FollowPlans cs) same (all_since os h))
+  where
+    all_since : (os : List ObjectState) → FollowPlans cs os → FollowPlans cs (map object_after_release os)
+    all_since [] h = tt
+    all_since (o ∷ os) h = (by_plan_since cs o h.0, all_since os h.1)

@@ -105,3 +105,11 @@ pub held_count-after : (calls : List Call) (os : List ObjectState) →
 held_count-after calls [] = refl
 held_count-after calls (o ∷ os) =
     omega (arith, held_count-after calls os, ap (length {A = Reservation}) (reserved_after_calls calls (object_after_release o)))
+
+pub held_count-released : (os : List ObjectState) → held_count (map object_after_release os) ≡ 0
+held_count-released [] = refl
+held_count-released (o ∷ os) = omega (arith, held_count-released os)
+
+-- A world that did not change differs in no setting.
+pub kept_itself : (w new : World) → new ≡ w → new ≡ with_settings_of new w
+kept_itself w new same = same ∙ ap (λ (v : World). with_settings_of v w) (sym same)

@@ -39,3 +39,4 @@ pub mod Told
 pub mod Kept
 pub mod StaticIndexes
 pub mod Reserving
+pub mod StaticLimits

@@ -13,7 +13,7 @@ use Rattle.setphase_core.specs.declared.staging.Staged.{Staged}
 use Rattle.setphase_core.specs.declared.world.World.{World}
 use Rattle.setphase_core.specs.Objects.{ObjectState, IsReserved, IsCommitted}
 use Rattle.setphase_core.specs.Outcomes.{SetNotes, world_by, world_after_set, stuck, has_key, firsts, committed_of, keys_of}
-use Rattle.setphase_core.specs.Settings.{put, HasSetting, HasStaticSetting, IsSettingInRange, bridge_keys, is_static}
+use Rattle.setphase_core.specs.Settings.{put, same_settings_of, HasSetting, HasStaticSetting, IsSettingInRange, bridge_keys, is_static}
 use Rattle.setphase_core.specs.Staging.{IsUnderWay, StandsReserved, StandsUndoable, HasRoomFor, assignments_of, static_count, object_at, entry_at}
 use Rattle.setphase_core.specs.Together.{assign, assignments}
 use Rattle.setphase_core.specs.Variables.{Written}
@@ -133,3 +133,11 @@ pub some_static : (ws : List Written) (es : List Staged) → assignments_of es �
     0 < static_count (assignments_of es) → 0 < static_count (assignments ws)
 some_static ws es is some =
     omega (arith, some, ap static_count is, firsts_static [] ws)
+
+-- ---- the other world, and back
+
+pub same_with : (p : ℕ) (w v : World) → same_settings_of w v ≡ same_settings_of (with_places p w) (with_places p v)
+same_with p w v = refl
+
+pub places_back : (p q : ℕ) (w : World) → p ≡ w.bridge.statics.places → with_places p (with_places q w) ≡ w
+places_back p q w is = ap (λ (n : ℕ). with_places n w) is

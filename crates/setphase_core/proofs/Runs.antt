@@ -1,5 +1,5 @@
 -- The run of a Set, from its tests to its end.
-use Rattle.std.proofs.Common.{◌≡◌, ℕ, ◌∙◌, sym, ap, subst, refl, Bool, true, false, cond, List, [], ◌∷◌, ◌++◌, map, take, slice_get, Option, Some, None}
+use Rattle.std.proofs.Common.{◌≡◌, ℕ, ◌∙◌, sym, ap, subst, refl, Bool, true, false, cond, List, [], ◌∷◌, ◌++◌, map, take, slice_get, Option, Some, None, Result, Ok, Err, IfOk, OnErr}
 use Rattle.std.specs.Option.{option_map, option_or}
 use Rattle.message_core.specs.declared.binding.Binding.{Binding}
 use Rattle.message_core.specs.declared.status.ErrorStatus.TheVariants as status
@@ -153,7 +153,7 @@ released-twice (o ∷ os) = ap (λ zs. object_after_release o ∷ zs) (released-
 pub fresh : (os ns : List ObjectState) → ns ≡ map object_after_release os → ns ≡ map object_after_release ns
 fresh os ns e = e ∙ sym (released-twice os) ∙ ap (map object_after_release) (sym e)
 
-after-released : (calls : List Call) (os : List ObjectState) →
+pub after-released : (calls : List Call) (os : List ObjectState) →
     map (object_after_set calls) (map object_after_release os) ≡ map (object_after_set calls) os
 after-released calls [] = refl
 after-released calls (o ∷ os) = ap (λ zs. object_after_set calls o ∷ zs) (after-released calls os)
@@ -169,3 +169,24 @@ pub dropped_plans : (os before : List ObjectState) (calls : List Call) → Follo
     before ≡ map object_after_release os → FollowPlans calls os
 dropped_plans os before calls planned released =
     plans_released calls os (subst (FollowPlans calls) released planned)
+
+-- ---- an answer, where there is memory for it
+
+pub ok_then : {X E : Type 0} {P Q : X → Type 0} (r : Result X E) → IfOk r P → ((x : X) → P x → Q x) → IfOk r Q
+ok_then (Ok x) p f = f x p
+ok_then (Err e) p f = tt
+
+pub ok_both : {X E : Type 0} {P Q R : X → Type 0} (r : Result X E) → IfOk r P → IfOk r Q →
+    ((x : X) → P x → Q x → R x) → IfOk r R
+ok_both (Ok x) p q f = f x p q
+ok_both (Err e) p q f = tt
+
+pub err_then : {X E P Q : Type 0} (r : Result X E) → OnErr r P → (P → Q) → OnErr r Q
+err_then (Ok x) p f = tt
+err_then (Err e) p f = f p
+
+-- Whatever the answer is, what follows from either holds.
+pub either_way : {X E P R : Type 0} {S : X → Type 0} (r : Result X E) → IfOk r S → OnErr r P →
+    ((x : X) → S x → R) → (P → R) → R
+either_way (Ok x) s p f g = f x s
+either_way (Err e) s p f g = g p

@@ -18,6 +18,7 @@ use Rattle.setphase_core.specs.Variables.{Written, writings_of, writings, variab
 use Rattle.setphase_core.specs.Together.{assign, assignments, contradicts, contradicting, is_timer, timer_numbers}
 use Rattle.setphase_core.specs.Staging.{object_at, assignments_of, assignment_of_entry, IsDistinct, IsLegal, AreLegal}
 use Rattle.setphase_core.specs.Tested.{first_in, value_among, standing_by, is_contradicting, staged_by, IsPassed, IsFaulty, AreStaged, ArePassed}
+use Rattle.setphase_core.specs.Writing.{assignments_in}
 use Rattle.setphase_core.proofs.Firsts.{first_in-append, is_first, is_repeated, is_contradicted, IsKnown, known_first, known_again, Agrees, agrees_more, agrees_last, value_last, contradicts_is, assign-append, put_among, distinct_last}
 use Rattle.setphase_core.proofs.Ranges.{IsSound, legal}
 use Rattle.setphase_core.proofs.Slotted.{reserves_more, few, staged_again, staged_first}
@@ -214,7 +215,7 @@ module _ (rows : List ObjectRow) (w : World) (view : List ℕ) (bs : List Bindin
       subst (λ zs. Entries rows w before.earlier es (before.earlier ++ written_now ∷ []) zs (is_contradicting v.standing)) (sym (passed.at.staged ∙ ap (λ n. staged_by v.standing es (record { object = passed.place; slot = passed.slot; number = n })) number))
       (entries_by rows w before.earlier es b.name passed.place passed.slot
       (subst (λ rs. IsOwnerPlace (prefixes_of rs) b.name (Some passed.place)) before.kept passed.at.owner)
-      (legal (object_at os passed.place).row.column w (drop (length (object_at os passed.place).row.prefix) b.name) b.value _ sound (within_ok w _ _ _ (placed_ok _ (object_at os passed.place).reserved passed.slot passed.at.answer).assigned))
+      (legal (object_at os passed.place).row.column w (drop (length (object_at os passed.place).row.prefix) b.name) b.value _ sound (within_ok w (assignments_in (object_at os passed.place).reserved) _ _ (placed_ok _ (object_at os passed.place).reserved passed.slot passed.at.answer).assigned))
       before.legal
       before.staged before.distinct before.known
       v.standing passed.at.standing)

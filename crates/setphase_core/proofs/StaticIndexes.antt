@@ -1,5 +1,5 @@
 -- The static row that an index names is one that the bridge may have.
-use Rattle.std.proofs.Common.{◌≡◌, ◌≢◌, ◌↔◌, ℕ, ◌≤◌, ◌<◌, Bool, true, false, not, ◌&&◌, cond, nat_le, nat_lt, List, [], ◌∷◌, length, refl, sym, ap, ◌∙◌, arith, Option, Some, None, IfSome, IsTrue}
+use Rattle.std.proofs.Common.{◌≡◌, ◌≢◌, ◌↔◌, ℕ, zero, suc, ◌≤◌, ◌<◌, Bool, true, false, not, ◌&&◌, cond, nat_le, nat_lt, List, [], ◌∷◌, length, slice_index_or, refl, sym, ap, ◌∙◌, arith, Option, Some, None, IfSome, IsTrue}
 use Rattle.std.specs.List.{AllByRecursion, list_all}
 use Rattle.std.proofs.lemmas.Bool.{and_parts}
 use Rattle.std.proofs.lemmas.Bool.Decides.{nat_tests}
@@ -108,9 +108,9 @@ no_port b octets i more =
     pick false = refl
 
 -- whether there may be a row of an index of octets is what a test of it says
-pub told_by : (b : BridgeState) (octets : List ℕ) (i : StaticIndex) (r : Bool) → are_octets octets ≡ true → i.address.0 ≡ octets → length octets ≡ 6 →
+pub named_by : (b : BridgeState) (octets : List ℕ) (i : StaticIndex) (r : Bool) → are_octets octets ≡ true → i.address.0 ≡ octets → length octets ≡ 6 →
     (IsTrue r ↔ IsStaticIndex b i) → cond r (Some i) None ≡ row_named b octets i
-told_by b octets i r are is six says = rw are (ap (λ (t : Bool). cond t (Some i) None) (same r says))
+named_by b octets i r are is six says = rw are (ap (λ (t : Bool). cond t (Some i) None) (same r says))
   where
     address : IsAddress i.address
     address = record {
@@ -118,18 +118,50 @@ told_by b octets i r are is six says = rw are (ap (λ (t : Bool). cond t (Some i
       octets = octets_from i.address.0 (ap are_octets is ∙ are);
     }
 
-    holds : (t : Bool) → t ≡ true → IsTrue t
-    holds true e = tt
-    holds false e = absurd (cc)
-
-    of_true : (t : Bool) → IsTrue t → t ≡ true
-    of_true true h = refl
-    of_true false h = absurd h
-
     same : (r : Bool) → (IsTrue r ↔ IsStaticIndex b i) → r ≡ may_have_row b i
-    same true says = sym (has_it b i (says.0 tt))
+    same true says = sym (has_it b i (says.0 refl))
     same false says = other (may_have_row b i) refl
       where
         other : (t : Bool) → may_have_row b i ≡ t → false ≡ t
         other false e = refl
-        other true e = absurd (says.1 (may_have_it b i address e))
+        other true e = let is : false ≡ true = says.1 (may_have_it b i address e) in absurd (cc)
+
+-- ---- seven numbers
+
+-- The first six of some numbers.
+abbrev pub six_of : List ℕ → List ℕ
+six_of at =
+    slice_index_or at 0 0 ∷ slice_index_or at 1 0 ∷ slice_index_or at 2 0
+    ∷ slice_index_or at 3 0 ∷ slice_index_or at 4 0 ∷ slice_index_or at 5 0 ∷ []
+
+abbrev pub index_by : List ℕ → StaticIndex
+index_by at = record { address = record { 0 = six_of at }; port = slice_index_or at 6 0 }
+
+pub by_seven : (b : BridgeState) (at : List ℕ) → length at ≡ 7 →
+    static_index b at ≡ row_named b (six_of at) (index_by at)
+by_seven b [] e = absurd (cc)
+by_seven b (o1 ∷ []) e = absurd (omega (arith, e))
+by_seven b (o1 ∷ o2 ∷ []) e = absurd (omega (arith, e))
+by_seven b (o1 ∷ o2 ∷ o3 ∷ []) e = absurd (omega (arith, e))
+by_seven b (o1 ∷ o2 ∷ o3 ∷ o4 ∷ []) e = absurd (omega (arith, e))
+by_seven b (o1 ∷ o2 ∷ o3 ∷ o4 ∷ o5 ∷ []) e = absurd (omega (arith, e))
+by_seven b (o1 ∷ o2 ∷ o3 ∷ o4 ∷ o5 ∷ o6 ∷ []) e = absurd (omega (arith, e))
+by_seven b (o1 ∷ o2 ∷ o3 ∷ o4 ∷ o5 ∷ o6 ∷ p ∷ []) e = refl
+by_seven b (o1 ∷ o2 ∷ o3 ∷ o4 ∷ o5 ∷ o6 ∷ p ∷ more ∷ at) e = absurd (omega (arith, e))
+
+pub six_again : (octets : List ℕ) → length octets ≡ 6 → six_of octets ≡ octets
+six_again [] e = absurd (cc)
+six_again (o1 ∷ []) e = absurd (omega (arith, e))
+six_again (o1 ∷ o2 ∷ []) e = absurd (omega (arith, e))
+six_again (o1 ∷ o2 ∷ o3 ∷ []) e = absurd (omega (arith, e))
+six_again (o1 ∷ o2 ∷ o3 ∷ o4 ∷ []) e = absurd (omega (arith, e))
+six_again (o1 ∷ o2 ∷ o3 ∷ o4 ∷ o5 ∷ []) e = absurd (omega (arith, e))
+six_again (o1 ∷ o2 ∷ o3 ∷ o4 ∷ o5 ∷ o6 ∷ []) e = refl
+six_again (o1 ∷ o2 ∷ o3 ∷ o4 ∷ o5 ∷ o6 ∷ p ∷ more) e = absurd (omega (arith, e))
+
+pub octet_below : (octets : List ℕ) (k : ℕ) → are_octets octets ≡ true → slice_index_or octets k 0 < 256
+octet_below [] k e = omega arith
+octet_below (o ∷ octets) zero e =
+    let both = and_parts (nat_lt o 256) (are_octets octets) e in grind (arith, nat_tests, both.0)
+octet_below (o ∷ octets) (suc k) e =
+    octet_below octets k (and_parts (nat_lt o 256) (are_octets octets) e).1

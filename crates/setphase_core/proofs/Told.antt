@@ -22,7 +22,8 @@ use Rattle.setphase_core.specs.declared.staging.VariableFault.{VariableFault}
 use Rattle.setphase_core.specs.declared.staging.VariableFault.TheVariants.{NoAccess, Refused}
 use Rattle.setphase_core.specs.declared.world.World.{World}
 use Rattle.setphase_core.specs.Objects.{ObjectRow}
-use Rattle.setphase_core.specs.Variables.{Written, writings_of, writings, assignment_for, with_room, variable, status_of, refusal_for, refusals_for, single_refusals}
+use Rattle.setphase_core.specs.Variables.{Written, writings_of, writings, assignment_for, with_room, variable, status_of, refusal_for, refusals_for, single_refusals, object_of, written_by}
+use Rattle.setphase_core.specs.Writing.{within_rows}
 use Rattle.setphase_core.specs.Together.{assign, assignments, contradicts, contradicting, numbers_where, lacks_row, lacking_row, is_timer, timer_numbers, timers_agree, disagreeing, joint_refusal, joint_refusals, refusal_of}
 use Rattle.setphase_core.specs.Outcomes.{SetNotes, CanFail, AreNotes}
 
@@ -212,7 +213,7 @@ singles_tell rows w view before earlier (b ∷ bs) =
     let families = w.policy.vacm.families in
     let answer = family_answer families view b.name in
     all_append (TellsFamily families) (refusals_for (before + 1) (variable rows w view earlier b)) (single_refusals rows w view (before + 1) more bs)
-    (answer_tells families (before + 1) earlier (assignment_for rows w b) (is_included answer) answer (family_named families (deciding_family families view b.name)))
+    (answer_tells families (before + 1) earlier (within_rows w (written_by (object_of rows b.name) earlier) (assignment_for rows w b)) (is_included answer) answer (family_named families (deciding_family families view b.name)))
     (singles_tell rows w view (before + 1) more bs)
 
 joint_tells : (families : List FamilyRow) (s : ErrorStatus) (numbers : List ℕ) → (s ≡ status.NoAccess → ⊥) →

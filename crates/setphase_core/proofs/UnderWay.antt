@@ -23,6 +23,7 @@ use Rattle.setphase_core.proofs.Commits.{put_entry, after_commit, after_called}
 use Rattle.setphase_core.proofs.Firsts.{is_first, distinct_last}
 use Rattle.setphase_core.proofs.Holding.{Holds, holds_reserved, holds_committed, holds_others, holds_made, holds_after_call}
 use Rattle.setphase_core.proofs.Puts.{keys-kept, range-kept}
+use Rattle.setphase_core.specs.Writing.{assignments_in}
 use Rattle.setphase_core.proofs.Ranges.{IsSound, legal}
 use Rattle.setphase_core.proofs.Slotted.{slice_get-append, slice_get-last, entry_at-append, entry_at-last}
 use Rattle.setphase_core.proofs.Writings.{placed_ok, owner_within, within_ok}
@@ -140,7 +141,7 @@ passed_more w view b os ns es fs t n v sound passed u =
     let placed = placed_ok _ (object_at os passed.place).reserved passed.slot passed.at.answer in
     subst (λ zs. IsUnderWay w zs fs (t + 1) n) (sym passed.at.reserved)
     (subst (λ xs. IsUnderWay w (with_slot w os passed.place passed.slot within) xs (t + 1) n) (sym passed.at.staged)
-    (staged_by_standing w os passed.place passed.slot within placed.place (legal _ w _ b.value _ sound (within_ok w _ _ _ placed.assigned)) es t n u v.standing passed.at.standing))
+    (staged_by_standing w os passed.place passed.slot within placed.place (legal _ w _ b.value _ sound (within_ok w (assignments_in (object_at os passed.place).reserved) _ _ placed.assigned)) es t n u v.standing passed.at.standing))
 
 -- ---- a commit
 

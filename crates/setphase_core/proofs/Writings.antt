@@ -61,7 +61,8 @@ pub within_ok : (w : World) (earlier : List Assignment) (r : Result Assignment S
 within_ok w earlier (Err f) a e = absurd (cc)
 within_ok w earlier (Ok b) a e = pick (makes_row w b.key b.value && not (has_rows_left w (b ∷ earlier))) e
   where
-    pick : (t : Bool) → cond {A = Result Assignment SetFault} t (Err ResourceUnavailable) (Ok b) ≡ Ok a → Ok b ≡ Ok a
+    pick : (t : Bool) → cond {A = Result Assignment SetFault} t (Err ResourceUnavailable) (Ok b) ≡ Ok a →
+        ◌≡◌ {A = Result Assignment SetFault} (Ok b) (Ok a)
     pick true e = absurd (cc)
     pick false e = e
 

@@ -361,6 +361,7 @@ fn commit_staged<O: MibObject>(
     ensures undos { NamesASetting result }
     ensures changed { IfSome (changed_in result)
         (λ changed. changed ≡ not (same_settings_of world.old world.new)) }
+    ensures places { world.new.bridge.statics.places ≡ world.old.bridge.statics.places }
     ensures notes { (ws : List Variable)
         → AreStaged (rows_of staging.old.registry.now) ws staging.old.staged.items
         → AreNotes ws (notes_in result) }

@@ -1,5 +1,5 @@
 //! How many static rows there may be (RFC 4188, dot1dStaticTable; a limit of this profile).
-ghost use Rattle.std.specs.Prelude.{◌≡◌, ◌&&◌, ◌∷◌, not, length};
+ghost use Rattle.std.specs.Prelude.{◌≡◌, ◌≤◌, ◌&&◌, ◌∷◌, not, length};
 ghost use Rattle.std.specs.List.{list_any};
 ghost use Rattle.setphase_core.specs.Settings.{same_setting};
 ghost use Rattle.setphase_core.specs.Writing.{makes_row, new_rows, each_once, has_rows_left, assignments_in};
@@ -33,7 +33,8 @@ fn is_made_by(world: &World, reserved: &[Reservation], key: SettingKey) -> bool
 
 // How many rows reserved slots make that are not there.
 fn count_new(world: &World, reserved: &[Reservation]) -> usize
-    ensures { result ≡ length (each_once (new_rows world.now (assignments_in reserved.now))) }
+    ensures count { result ≡ length (each_once (new_rows world.now (assignments_in reserved.now))) }
+    ensures most { result ≤ length reserved.now }
 {
     let Some((first, others)) = reserved.split_first() else {
         return 0;

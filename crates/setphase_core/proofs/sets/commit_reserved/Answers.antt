@@ -1,0 +1,48 @@
+use Rattle.std.proofs.Common.{◌≡◌, ◌∙◌, ℕ, ◌+◌, ◌≤◌, ap, sym, not, List, length, max, arith}
+use Rattle.bridge_core.specs.Bridge.{BridgeState}
+use Rattle.setphase_core.specs.declared.staging.Staged.{Staged}
+use Rattle.setphase_core.specs.declared.world.World.{World}
+use Rattle.setphase_core.specs.Settings.{bridge_keys, same_settings_of}
+use Rattle.setphase_core.specs.Together.{assign, assignments}
+use Rattle.setphase_core.specs.Outcomes.{notes_in, world_by}
+use Rattle.setphase_core.specs.Staging.{assignments_of}
+use Rattle.setphase_core.proofs.Reserving.{with_places, assign_with, after_with, after_places, same_with, places_back}
+use Rattle.setphase_core.proofs.sets.commit_reserved.Goals as goal
+
+pub commit_staged-outcome-requires-clause-changed : goal.commit_staged-outcome-requires-clause-changed
+commit_staged-outcome-requires-clause-changed g c =
+    let w : World = c.args.world.now in
+    let es = assignments_of c.args.staging.now.staged.items in
+    let places : ℕ = max w.bridge.statics.places (length w.bridge.statics.rows + c.count_static.result) in
+    let moved : record w { bridge = c.reserve_static.new.self } ≡ with_places places w =
+    ap (λ (b : BridgeState). record w { bridge = b }) c.in_ok-reserve_static.ensures.ok in
+    c.changes-changed.ensures
+    ∙ ap (λ (xs : List Staged). not (same_settings_of w (assign (assignments_of xs) w))) c.as_slice-staged.ensures.value
+    ∙ ap not (same_with places w (assign es w))
+    ∙ ap (λ (v : World). not (same_settings_of (with_places places w) v)) (sym (assign_with places es w))
+    ∙ ap (λ (v : World). not (same_settings_of v (assign es v))) (sym moved)
+
+pub hold_static-requires : goal.hold_static-requires
+hold_static-requires g c =
+    let w : World = c.args.world.now in
+    let reserved = ap (λ (b : BridgeState). b.statics.places) c.in_ok-reserve_static.ensures.ok in
+    omega (arith, c.static_places-places.ensures, reserved, c.commit_staged-outcome.ensures.places)
+
+pub returns-clause-world : goal.returns-clause-world
+returns-clause-world g c = λ ws staged agree.
+    let w : World = c.args.world.now in
+    let es = assignments_of c.args.staging.now.staged.items in
+    let notes = notes_in c.commit_staged-outcome.result in
+    let undos = bridge_keys notes.undos in
+    let places : ℕ = max w.bridge.statics.places (length w.bridge.statics.rows + c.count_static.result) in
+    let before : ℕ = c.static_places-places.result in
+    let after : World = c.commit_staged-outcome.new.world in
+    let moved : record w { bridge = c.reserve_static.new.self } ≡ with_places places w =
+    ap (λ (b : BridgeState). record w { bridge = b }) c.in_ok-reserve_static.ensures.ok in
+    let agreed : assign (assignments ws) (record w { bridge = c.reserve_static.new.self }) ≡ assign es (record w { bridge = c.reserve_static.new.self }) =
+    ap (assign (assignments ws)) moved ∙ assign_with places (assignments ws) w ∙ ap (with_places places) agree ∙ sym (assign_with places es w) ∙ sym (ap (assign es) moved) in
+    let ended : after ≡ with_places places (world_by ws w notes.commit undos) =
+    c.commit_staged-outcome.ensures.world ws staged agreed ∙ ap (λ (v : World). world_by ws v notes.commit undos) moved ∙ after_with places ws w notes.commit undos in
+    ap (λ (b : BridgeState). record after { bridge = b }) c.hold_static.ensures.held
+    ∙ ap (with_places before) ended
+    ∙ places_back before places (world_by ws w notes.commit undos) (c.static_places-places.ensures ∙ sym (after_places ws w notes.commit undos))
