@@ -1,5 +1,5 @@
 //! dot1dStaticTable: by which ports frames to an address may go (RFC 4188).
-ghost use Rattle.std.specs.Prelude.{◌≡◌, ◌<◌, ◌^◌, ℕ, true, false, List, length, take, replicate};
+ghost use Rattle.std.specs.Prelude.{◌≡◌, ◌<◌, ◌≤◌, ◌^◌, ℕ, true, false, List, length, take, replicate};
 ghost use Rattle.std.specs.List.{AllByRecursion};
 ghost use Rattle.std.specs.Option.{option_copied, option_map};
 ghost use Rattle.fdb_core.specs.declared.static_row.StaticRow.{StaticRow as AnyRow};
@@ -30,6 +30,7 @@ fn write_greatest(numbers: &mut [u32])
 // Writes numbers, at most so many, that are below an index, but not below any other so many that are
 // below it, and says how many they are.
 fn write_below(numbers: &mut [u32], index: &[u32]) -> usize
+    ensures count { result ≤ length numbers.new }
     ensures below { 0 < length index.now
         → name_lt (take result numbers.new) index.now ≡ true }
     ensures between { (other : List ℕ) → length other ≡ length numbers.old
@@ -39,18 +40,37 @@ fn write_below(numbers: &mut [u32], index: &[u32]) -> usize
     let Some((number, numbers)) = numbers.split_first_mut() else {
         return 0;
     };
-    match index {
-        [] | [0] => 0,
-        [last] => {
-            *number = *last - 1;
-            write_greatest(numbers);
-            numbers.len() + 1
-        }
-        [first, index @ ..] => {
-            *number = *first;
-            write_below(numbers, index) + 1
-        }
+    let Some((first, index)) = index.split_first() else {
+        return 0;
+    };
+    if !index.is_empty() {
+        *number = *first;
+        return write_below(numbers, index) + 1;
     }
+    if *first == 0 {
+        return 0;
+    }
+    *number = *first - 1;
+    write_greatest(numbers);
+    numbers.len() + 1
+}
+
+// Hands on the range of numbers. It does nothing.
+fn known_range(numbers: &[u32])
+    ensures { AllByRecursion (λ n. n < 2 ^ 32) numbers.now }
+{
+    let _count = numbers.len();
+}
+
+// The seven numbers of a row.
+fn numbers_of(row: &StaticRow) -> [u32; 7]
+    ensures value { result ≡ numbers_of row.now.index }
+    ensures seven { length result ≡ 7 }
+    ensures fit { AllByRecursion (λ n. n < 2 ^ 32) result }
+{
+    let numbers = row.index.numbers();
+    known_range(&numbers);
+    numbers
 }
 
 // The made row whose seven numbers are an index.
@@ -65,7 +85,7 @@ fn static_there(bridge: &Bridge, at: &[u32]) -> Option<StaticRow>
     let mut numbers = [0; 7];
     let count = write_below(&mut numbers, at);
     let row = bridge.next_static(&numbers[..count])?;
-    if same_name(&row.index.numbers(), at) {
+    if same_name(&numbers_of(&row), at) {
         Some(row)
     } else {
         None
@@ -83,13 +103,15 @@ fn index_of(row: StaticIndex) -> Index
     index
 }
 
-// The first index of a made row behind an index, or the first of all.
-fn static_after(bridge: &Bridge, after: Option<&[u32]>) -> Option<Index>
-    ensures { (f : AnyRow → AnyValue) → option_map (λ index. index.items) result
+// The made row of the first index behind this one, or of the first of all.
+fn row_after(bridge: &Bridge, after: Option<&[u32]>) -> Option<StaticRow>
+    ensures { (f : AnyRow → AnyValue) → option_map (λ row. numbers_of row.index) result
         ≡ index_after (by_static bridge.now.statics.rows f) (option_copied after.entry) }
 {
-    let row = bridge.next_static(after.unwrap_or(&[]))?;
-    Some(index_of(row.index))
+    match after {
+        None => bridge.next_static(&[]),
+        Some(after) => bridge.next_static(after),
+    }
 }
 
 fn static_value(alloc: Global, which: Static, bridge: &Bridge, row: &StaticRow) -> Value
@@ -125,7 +147,8 @@ impl Descriptor for Static {
 
     #[tactic(auto, unfolding(setphase_core::specs::Columns::shown_by))]
     fn next(self, world: &World, after: Option<&[u32]>) -> Option<Index> {
-        static_after(&world.bridge, after)
+        let row = row_after(&world.bridge, after)?;
+        Some(index_of(row.index))
     }
 
     fn writable(self) -> Option<Writable> {

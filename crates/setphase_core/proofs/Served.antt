@@ -1,6 +1,6 @@
 -- Each instance can be served: its name stands under 1.3, its value is no exception, and a name for
 -- value has an encoding.
-use Rattle.std.proofs.Common.{◌≡◌, ℕ, ◌<◌, ◌≤◌, Bool, true, cond, List, [], ◌∷◌, ◌++◌, map, None, zero, suc, ◌+◌, subst, sym, arith}
+use Rattle.std.proofs.Common.{◌≡◌, ℕ, ◌<◌, ◌≤◌, Bool, true, false, cond, List, [], ◌∷◌, ◌++◌, map, None, zero, suc, ◌+◌, subst, sym, arith}
 use Rattle.std.specs.List.{AllByRecursion}
 use Rattle.fdb_core.specs.declared.row.Row.{Row}
 use Rattle.fdb_core.specs.declared.static_row.StaticRow.{StaticRow}

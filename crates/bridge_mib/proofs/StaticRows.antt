@@ -1,6 +1,6 @@
 -- What the made static rows show under an index, and behind it; and the numbers in front of an index.
-use Rattle.std.proofs.Common.{◌≡◌, ◌≢◌, ℕ, zero, suc, ◌+◌, ◌-◌, ◌<◌, ◌≤◌, ◌^◌, Bool, true, false, cond, nat_eq, nat_lt, List, [], ◌∷◌, ◌++◌, length, map, take, find, Option, Some, None, option_map, refl, sym, ap, ◌∙◌, arith, ◌⊎◌, inl, inr}
-use Rattle.std.specs.Prelude.{slice_get, filter, replicate}
+use Rattle.std.proofs.Common.{◌≡◌, ◌≢◌, ℕ, zero, suc, ◌+◌, ◌-◌, ◌<◌, ◌≤◌, ◌^◌, Bool, true, false, cond, nat_eq, nat_lt, List, [], ◌∷◌, ◌++◌, length, get_or, map, take, find, Option, Some, None, option_map, refl, sym, ap, ◌∙◌, arith, ◌⊎◌, inl, inr}
+use Rattle.std.specs.Prelude.{◌==◌, slice_get, filter, replicate}
 use Rattle.std.specs.List.{AllByRecursion}
 use Rattle.std.specs.Ordering.{is_gt, nat_cmp}
 use Rattle.std.specs.Cmp.Lexicographic.{slice_cmp}
@@ -9,6 +9,7 @@ use Rattle.std.specs.declared.cmp.Ordering.TheVariants.{Less}
 use Rattle.std.proofs.lemmas.Bool.{ltb-true, ltb-false}
 use Rattle.std.proofs.lemmas.Bool.Decides.{eqb_tells, nat_tests}
 use Rattle.std.proofs.lemmas.Cmp.{same_from_slice_cmp}
+use Rattle.std.proofs.lemmas.List.{take_all}
 use Rattle.std.proofs.lemmas.Map.Keys.{sorted_head, sorted_tail}
 use Rattle.fdb_core.specs.declared.static_row.StaticRow.{StaticRow}
 use Rattle.fdb_core.specs.Statics.{numbers_of, index_cmp, IsRising, made_rows, next_made}
@@ -107,33 +108,31 @@ found_here r f at others false e h = rw e h
 pub found : (rows : List StaticRow) (f : StaticRow → Value) (low at : List ℕ) → IsRising rows → name_lt low at ≡ true → ((r : StaticRow) → next_made rows low ≡ Some r → name_lt (numbers r) at ≡ false) →
     value_at (by_static rows f) at ≡ option_map f (if_at at (next_made rows low))
 found [] f low at up lt from = refl
-found (r ∷ rows) f low at up lt from = step (is_gt (slice_cmp nat_cmp (numbers r) low)) r.made refl refl
+found (r ∷ rows) f low at up lt from = step (found rows f low at (sorted_tail order r rows up) lt) (is_gt (slice_cmp nat_cmp (numbers r) low)) r.made refl refl
   where
     order : StaticRow → StaticRow → Ordering
     order a b = index_cmp a.index b.index
 
-    rest : ((s : StaticRow) → next_made rows low ≡ Some s → name_lt (numbers s) at ≡ false) → value_at (by_static rows f) at ≡ option_map f (if_at at (next_made rows low))
-    rest = found rows f low at (sorted_tail order r rows up) lt
-
     test : is_gt (slice_cmp nat_cmp (numbers r) low) ≡ name_lt low (numbers r)
     test = gt_test (numbers r) low (slice_cmp nat_cmp (numbers r) low) refl
 
-    step : (above made : Bool) → is_gt (slice_cmp nat_cmp (numbers r) low) ≡ above → r.made ≡ made →
+    step : (((s : StaticRow) → next_made rows low ≡ Some s → name_lt (numbers s) at ≡ false) → value_at (by_static rows f) at ≡ option_map f (if_at at (next_made rows low))) →
+        (above made : Bool) → is_gt (slice_cmp nat_cmp (numbers r) low) ≡ above → r.made ≡ made →
         value_at (by_static (r ∷ rows) f) at ≡ option_map f (if_at at (next_made (r ∷ rows) low))
-    step true true a m =
+    step rest true true a m =
         let first : next_made (r ∷ rows) low ≡ Some r = rw a (rw m refl) in
         let head : made_rows (r ∷ rows) ≡ r ∷ made_rows rows = rw m refl in
         let none : value_at (by_static rows f) at ≡ None = none_behind r rows f at (sorted_head order r rows up) (from r first) in
         ap (λ (xs : List StaticRow). value_at (map (shown f) xs) at) head
         ∙ found_here r f at (made_rows rows) (name_eq (numbers r) at) refl none
         ∙ ap (λ (o : Option StaticRow). option_map f (if_at at o)) (sym first)
-    step true false a m =
+    step rest true false a m =
         let later : next_made (r ∷ rows) low ≡ next_made rows low = rw a (rw m refl) in
         let head : made_rows (r ∷ rows) ≡ made_rows rows = rw m refl in
         ap (λ (xs : List StaticRow). value_at (map (shown f) xs) at) head
         ∙ rest (λ s e. from s (later ∙ e))
         ∙ ap (λ (o : Option StaticRow). option_map f (if_at at o)) (sym later)
-    step false made a m =
+    step rest false made a m =
         let later : next_made (r ∷ rows) low ≡ next_made rows low = rw a refl in
         let other : name_eq (numbers r) at ≡ false = apart low (numbers r) at false true (sym test ∙ a) lt (λ e. true_not_false (sym e)) in
         left made m other
@@ -141,8 +140,8 @@ found (r ∷ rows) f low at up lt from = step (is_gt (slice_cmp nat_cmp (numbers
         ∙ ap (λ (o : Option StaticRow). option_map f (if_at at o)) (sym later)
       where
         left : (b : Bool) → r.made ≡ b → name_eq (numbers r) at ≡ false → value_at (by_static (r ∷ rows) f) at ≡ value_at (by_static rows f) at
-        left true e no = rw e (rw no refl)
-        left false e no = rw e refl
+        left true e away = rw e (rw away refl)
+        left false e away = rw e refl
 
 -- no index is empty
 pub none_empty : (rows : List StaticRow) (f : StaticRow → Value) → value_at (by_static rows f) [] ≡ None
@@ -241,3 +240,92 @@ below_more x low at h =
     let lt : nat_lt x x ≡ false = grind (arith, nat_tests) in
     let eq : nat_eq x x ≡ true = grind (arith, nat_tests) in
     rw lt (rw eq h)
+
+-- ---- the first made row above such numbers
+
+-- the row that is found is above them
+made_above : (rows : List StaticRow) (low : List ℕ) (row : StaticRow) → next_made rows low ≡ Some row → name_lt low (numbers row) ≡ true
+made_above [] low row e = absurd cc
+made_above (r ∷ rows) low row e = step (made_above rows low row) (is_gt (slice_cmp nat_cmp (numbers r) low)) r.made refl refl
+  where
+    test : is_gt (slice_cmp nat_cmp (numbers r) low) ≡ name_lt low (numbers r)
+    test = gt_test (numbers r) low (slice_cmp nat_cmp (numbers r) low) refl
+
+    step : (next_made rows low ≡ Some row → name_lt low (numbers row) ≡ true) → (above made : Bool) → is_gt (slice_cmp nat_cmp (numbers r) low) ≡ above → r.made ≡ made → name_lt low (numbers row) ≡ true
+    step rest true true a m =
+        let first : next_made (r ∷ rows) low ≡ Some r = rw a (rw m refl) in
+        let same : r ≡ row = one (sym first ∙ e) in
+        ap (λ (s : StaticRow). name_lt low (numbers s)) (sym same) ∙ sym test ∙ a
+      where
+        one : {x y : StaticRow} → Some x ≡ Some y → x ≡ y
+        one h = cc
+    step rest true false a m =
+        let later : next_made (r ∷ rows) low ≡ next_made rows low = rw a (rw m refl) in
+        rest (sym later ∙ e)
+    step rest false made a m =
+        let later : next_made (r ∷ rows) low ≡ next_made rows low = rw a refl in
+        rest (sym later ∙ e)
+
+-- Where there is none, there is no row of the index.
+pub read_none : (rows : List StaticRow) (f : StaticRow → Value) (low at : List ℕ) → IsRising rows → name_lt low at ≡ true → None ≡ next_made rows low → value_at (by_static rows f) at ≡ None
+read_none rows f low at up lt e =
+    found rows f low at up lt (λ r h. no_row (e ∙ h)) ∙ ap (λ (o : Option StaticRow). option_map f (if_at at o)) (sym e)
+  where
+    no_row : {r : StaticRow} {b : Bool} → None ≡ Some r → b ≡ false
+    no_row h = absurd cc
+
+-- Else it is the row of the index, or there is no such row.
+pub read_some : (rows : List StaticRow) (f : StaticRow → Value) (low at : List ℕ) (row : StaticRow) (same : Bool) → IsRising rows → name_lt low at ≡ true → NoneBetween 7 low at →
+    length (numbers row) ≡ 7 → AllByRecursion (λ n. n < 2 ^ 32) (numbers row) → Some row ≡ next_made rows low → same ≡ name_eq (numbers row) at →
+    value_at (by_static rows f) at ≡ option_map f (cond same (Some row) None)
+read_some rows f low at row same up lt between seven fit e is =
+    found rows f low at up lt (λ r h. ap (λ (s : StaticRow). name_lt (numbers s) at) (sym (one (e ∙ h))) ∙ from)
+    ∙ ap (λ (o : Option StaticRow). option_map f (if_at at o)) (sym e)
+    ∙ ap (λ (b : Bool). option_map f (cond b (Some row) None)) (sym is)
+  where
+    from : name_lt (numbers row) at ≡ false
+    from = between (numbers row) seven fit (made_above rows low row (sym e))
+
+    one : {x y : StaticRow} → Some x ≡ Some y → x ≡ y
+    one h = cc
+
+-- ---- as the functions have it
+
+not_zero : (n : ℕ) → (suc n == 0) ≡ false
+not_zero n = grind (arith, nat_tests)
+
+pub none_of_empty : (rows : List StaticRow) (f : StaticRow → Value) (at : List ℕ) (b : Bool) → b ≡ (length at == 0) → b ≡ true → value_at (by_static rows f) at ≡ None
+none_of_empty rows f [] b e h = none_empty rows f
+none_of_empty rows f (x ∷ at) b e h = absurd (true_not_false (sym h ∙ e ∙ not_zero (length at)))
+
+pub some_length : (at : List ℕ) (b : Bool) → b ≡ (length at == 0) → b ≡ false → 0 < length at
+some_length [] b e h = absurd (true_not_false (sym e ∙ h))
+some_length (x ∷ at) b e h = omega arith
+
+pub below_none : (at : List ℕ) → 0 < length at → name_lt [] at ≡ true
+below_none [] h = absurd (omega (arith, h))
+below_none (x ∷ at) h = refl
+
+pub between_empty : (count : ℕ) (low : List ℕ) → NoneBetween count low []
+between_empty count low other len is lt = refl
+
+-- the same of lists and numbers that are equal
+pub between_said : (whole count : ℕ) (low front at said : List ℕ) → whole ≡ count → front ≡ low → said ≡ at → NoneBetween count low at → NoneBetween whole front said
+between_said whole count low front at said e g h none other len is lt =
+    ap (name_lt other) h ∙ none other (len ∙ e) is (ap (λ (xs : List ℕ). name_lt xs other) (sym g) ∙ lt)
+
+pub empty_is : (xs : List ℕ) (b : Bool) → b ≡ (length xs == 0) → b ≡ true → xs ≡ []
+empty_is [] b e h = refl
+empty_is (x ∷ xs) b e h = absurd (true_not_false (sym h ∙ e ∙ not_zero (length xs)))
+
+pub more_is : (r x : ℕ) (low : List ℕ) → take (r + 1) (x ∷ low) ≡ x ∷ take r low
+more_is r x low =
+    let next : r + 1 ≡ suc r = omega arith in
+    ap (λ (k : ℕ). take k (x ∷ low)) next
+
+pub greatest_is : (y count : ℕ) (low : List ℕ) → low ≡ greatest count → take (length low + 1) (y ∷ low) ≡ y ∷ greatest count
+greatest_is y count low e = more_is (length low) y low ∙ ap (λ (xs : List ℕ). y ∷ xs) (take_all (length low) low (omega arith) ∙ e)
+
+pub all_fit : (xs : List ℕ) → ((i : ℕ) → get_or xs i 0 < 2 ^ 32) → AllByRecursion (λ n. n < 2 ^ 32) xs
+all_fit [] h = tt
+all_fit (x ∷ xs) h = (h 0, all_fit xs (λ i. h (suc i)))
