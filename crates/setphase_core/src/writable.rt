@@ -134,7 +134,11 @@ pub fn assignment_by(
         (Writable::Integer(target), Value::Integer(integer)) => {
             target.integer_assignment(world, at, *integer)
         }
-        (Writable::Ports, Value::OctetString(octets)) => ports_assignment(world, at, octets.as_slice()),
+        (Writable::Ports, Value::OctetString(octets)) => ports_assignment(
+            world,
+            at,
+            octets.as_slice(),
+        ),
         (Writable::Integer(_) | Writable::Ports, _) => Err(SetFault::WrongType),
     }
 }
