@@ -1,5 +1,5 @@
 -- The step of a Set, and the steps of other requests, from what was called.
-use Rattle.std.proofs.Common.{◌≡◌, ◌≢◌, ◌∙◌, ℕ, ℤ, pos, ◌<◌, ◌≤◌, true, false, List, [], length, map, Option, None, Result, Ok, Err, IfOk, IfSome, OnErr, ap, refl, sym, subst}
+use Rattle.std.proofs.Common.{◌≡◌, ◌≢◌, ◌∙◌, ℕ, ℤ, pos, ◌<◌, ◌≤◌, true, false, List, [], length, map, Option, Some, None, Result, Ok, Err, IfOk, IfSome, OnErr, ap, refl, sym, subst}
 use Rattle.std.specs.declared.alloc.AllocError.{AllocError}
 use Rattle.message_core.specs.Canon.{answer_to}
 use Rattle.message_core.specs.declared.limits.TheConstants.{MAX_COMMUNITY}

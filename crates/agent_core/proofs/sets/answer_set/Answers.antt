@@ -16,6 +16,7 @@ use Rattle.setphase_core.specs.Variables.{writings}
 use Rattle.setphase_core.specs.Together.{assignments, refusal_of}
 use Rattle.setphase_core.specs.Staging.{static_count}
 use Rattle.setphase_core.specs.Outcomes.{SetNotes, AreNotes, refusal_in, notes_in, changed_in, world_after_set}
+use Rattle.setphase_core.proofs.States.{on_err_always}
 use Rattle.setphase_core.specs.Calls.{calls_of, object_after_set, FollowPlans}
 use Rattle.agent_core.specs.Replies.{reply_within_limit}
 use Rattle.agent_core.specs.Sets.{MayFailInSet}
@@ -131,15 +132,15 @@ pub returns-in_err-outcome-clause-takes : goal.returns-in_err-outcome-clause-tak
 returns-in_err-outcome-clause-takes g c =
     let request : Request = c.args.request.now in
     let rows : List ObjectRow = rows_of c.args.registry.now in
-    short_set rows c.args.world.now c.args.view request (sym c.is_too_long.ensures.too_long ∙ c.if-is_too_long.false)
+    on_err_always c.from_residual.result (short_set rows c.args.world.now c.args.view request (sym c.is_too_long.ensures.too_long ∙ c.if-is_too_long.false)
     (subst (λ (bs : List Binding). refusal_of rows c.args.world.now c.args.view bs ≡ None) c.as_slice-bindings.ensures c.in_err-outcome.ensures.accepted)
-    (subst (λ (bs : List Binding). 0 < static_count (assignments (writings rows c.args.world.now bs))) c.as_slice-bindings.ensures c.in_err-outcome.ensures.writes_static)
+    (subst (λ (bs : List Binding). 0 < static_count (assignments (writings rows c.args.world.now bs))) c.as_slice-bindings.ensures c.in_err-outcome.ensures.writes_static))
 
 pub returns-in_err-answer-clause-takes : goal.returns-in_err-answer-clause-takes
 returns-in_err-answer-clause-takes g c =
     let request : Request = c.args.request.now in
     let rows : List ObjectRow = rows_of c.args.registry.now in
     let outcome : SetOutcome = c.in_ok-outcome.outcome in
-    short_audit rows c.args.world.now c.args.view request (refusal_in outcome) (sym c.is_too_long.ensures.too_long ∙ c.if-is_too_long.false)
+    on_err_always c.from_residual-in_err-answer.result (short_audit rows c.args.world.now c.args.view request (refusal_in outcome) (sym c.is_too_long.ensures.too_long ∙ c.if-is_too_long.false)
     (subst (λ (bs : List Binding). refusal_in outcome ≡ refusal_of rows c.args.world.now c.args.view bs) c.as_slice-bindings.ensures c.in_ok-outcome.ensures.refusal)
-    c.in_err-answer.ensures.takes
+    c.in_err-answer.ensures.takes)
