@@ -1,23 +1,56 @@
 -- Two variables of a Set that passed their tests are two entries, where the second is the first of its
--- setting.
-use Rattle.std.proofs.Common.{◌≡◌, ℕ, ◌+◌, ◌∙◌, ap, subst, List, [], ◌∷◌, ◌++◌, length, length-append}
+-- setting. No object writes a static row, so neither needs memory.
+use Rattle.std.proofs.Common.{◌≡◌, ℕ, zero, suc, ◌+◌, ◌<◌, ◌∙◌, ap, sym, subst, false, arith, List, [], ◌∷◌, ◌++◌, length, drop}
 use Rattle.message_core.specs.declared.binding.Binding.{Binding}
+use Rattle.setting_keys.specs.declared.SettingKey.{SettingKey}
+use Rattle.setting_keys.specs.declared.SettingKey.TheVariants.{Bridge, Made, Allowed}
+use Rattle.setting_keys.specs.declared.SettingValue.{SettingValue}
+use Rattle.setting_keys.specs.declared.SettingValue.TheVariants.{Number, Ports}
+use Rattle.setphase_core.specs.declared.object.Slot.{Slot}
 use Rattle.setphase_core.specs.declared.staging.Staged.{Staged}
 use Rattle.setphase_core.specs.declared.staging.Standing.TheVariants.{First}
 use Rattle.setphase_core.specs.declared.staging.TestedVariable.{TestedVariable}
 use Rattle.setphase_core.specs.declared.world.World.{World}
-use Rattle.setphase_core.specs.Objects.{ObjectState}
-use Rattle.setphase_core.specs.Tested.{staged_by, IsPassed}
+use Rattle.setphase_core.specs.Objects.{ObjectState, HasRoom}
+use Rattle.setphase_core.specs.Settings.{is_static}
+use Rattle.setphase_core.specs.Staging.{object_at, entry_at}
+use Rattle.setphase_core.specs.Tested.{staged_by, IsPassedAt, IsPassed}
+use Rattle.setphase_core.proofs.Ranges.{plain}
+use Rattle.setphase_core.proofs.Writings.{placed_ok}
 
-one_more : (es : List Staged) (e : Staged) → length (es ++ e ∷ []) ≡ length es + 1
-one_more es e = length-append es (e ∷ [])
+pub plain_room : (w : World) (k : SettingKey) (v : SettingValue) → is_static k ≡ false → HasRoom w k v
+plain_room w (Bridge k) (Number n) e = tt
+plain_room w (Bridge k) (Ports s) e = tt
+plain_room w (Made i) v e = absurd (cc)
+plain_room w (Allowed i) v e = absurd (cc)
 
-pub two_staged : (w : World) (view : List ℕ) (b d : Binding) (os ns zs : List ObjectState)
-    (es fs gs : List Staged) (n m : ℕ) (u v : TestedVariable) → es ≡ [] →
+passed_plain : (os ns : List ObjectState) (w : World) (b : Binding) (es fs : List Staged) (n p : ℕ)
+    (slot : Slot) (v : TestedVariable) → IsPassedAt os ns w b es fs n p slot v → is_static slot.key ≡ false
+passed_plain os ns w b es fs n p slot v at =
+    plain (object_at os p).row.column w (drop (length (object_at os p).row.prefix) b.name) b.value _ (placed_ok _ (object_at os p).reserved slot at.answer).assigned
+
+-- Two entries, none of them of a static row.
+pub record AreTwo (es : List Staged) : Type 0 where
+  pub count : length es ≡ 2
+  pub plain : (k : ℕ) → k < 2 → is_static (entry_at es k).slot.key ≡ false
+
+of_two : (e f : Staged) → is_static e.slot.key ≡ false → is_static f.slot.key ≡ false →
+    (k : ℕ) → k < 2 → is_static (entry_at (e ∷ f ∷ []) k).slot.key ≡ false
+of_two e f p q zero h = p
+of_two e f p q (suc zero) h = q
+of_two e f p q (suc (suc k)) h = absurd (omega (arith, h))
+
+pub two_staged : {w : World} {view : List ℕ} {b d : Binding} {os ns zs : List ObjectState}
+    {es fs gs : List Staged} {n m : ℕ} {u v : TestedVariable} → es ≡ [] →
     IsPassed os ns w view n b es fs u → IsPassed ns zs w view m d fs gs v → v.standing ≡ First →
-    length gs ≡ 2
-two_staged w view b d os ns zs es fs gs n m u v empty p₁ q first =
+    AreTwo gs
+two_staged {w} {view} {b} {d} {os} {ns} {zs} {es} {fs} {gs} {n} {m} {u} {v} empty p₁ q first =
     let p : IsPassed os ns w view n b [] fs u = subst (λ xs. IsPassed os ns w view n b xs fs u) empty p₁ in
-    let a : length fs ≡ 1 = ap length (p.at.staged ∙ ap (λ s. staged_by s [] (record { object = p.place; slot = p.slot; number = n + 1 })) p.at.standing) in
-    let c : length gs ≡ length fs + 1 = ap length (q.at.staged ∙ ap (λ s. staged_by s fs (record { object = q.place; slot = q.slot; number = m + 1 })) first) ∙ one_more fs (record { object = q.place; slot = q.slot; number = m + 1 }) in
-    c ∙ ap (λ k. k + 1) a
+    let e : Staged = record { object = p.place; slot = p.slot; number = n + 1 } in
+    let f : Staged = record { object = q.place; slot = q.slot; number = m + 1 } in
+    let one : fs ≡ e ∷ [] = p.at.staged ∙ ap (λ s. staged_by s [] e) p.at.standing in
+    let two : gs ≡ e ∷ f ∷ [] = q.at.staged ∙ ap (λ s. staged_by s fs f) first ∙ ap (λ xs. xs ++ f ∷ []) one in
+    subst AreTwo (sym two) (record {
+      count = omega arith;
+      plain = of_two e f (passed_plain _ _ _ _ _ _ _ _ _ _ p.at) (passed_plain _ _ _ _ _ _ _ _ _ _ q.at);
+    })

@@ -231,15 +231,27 @@ const TEXTS: [(&[&str], u8, &str, &str); 14] = [
     (&["agentd", "serve"], 2, "", NO_FILE_TEXT),
 ];
 
+// A run of these words ends with this status, and writes these texts.
+fn assert_writes<R: Files + AllocGlobal + Abort>(
+    rt: &R,
+    words: &[&str],
+    status: u8,
+    out: &str,
+    errors: &str,
+) -> Result<(), Fail> {
+    let run = ran(rt, words, GET)?;
+    assert_eq!(rt;
+        (run.status, run.out.as_slice(), run.errors.as_slice()),
+        (status, out.as_bytes(), errors.as_bytes()),
+        "{words:?}"
+    );
+    Ok(())
+}
+
 #[test]
 fn writes_its_texts(rt: HostRuntime) -> Result<(), Fail> {
     for (words, status, out, errors) in TEXTS {
-        let run = ran(&rt, words, GET)?;
-        assert_eq!(rt;
-            (run.status, run.out.as_slice(), run.errors.as_slice()),
-            (status, out.as_bytes(), errors.as_bytes()),
-            "{words:?}"
-        );
+        assert_writes(&rt, words, status, out, errors)?;
     }
     Ok(())
 }

@@ -1,16 +1,36 @@
-use Rattle.std.proofs.Common.{rules, ◌≡◌, ◌∙◌, length, ap, arith}
-use Rattle.setphase_core.specs.declared.staging.Staged.{Staged}
-use Rattle.mib_tests.proofs.Reserved.{two_staged}
+use Rattle.std.proofs.Common.{rules, ◌≡◌, ◌∙◌, ◌-◌, sym, subst, arith}
+use Rattle.setphase_core.specs.Staging.{entry_at}
+use Rattle.mib_tests.proofs.Reserved.{AreTwo, two_staged, plain_room}
 use Rattle.mib_tests.proofs.sets.undo_one_and_drop.Goals as goal
 
 pub commit_next-requires-clause-pending : goal.commit_next-requires-clause-pending
 commit_next-requires-clause-pending c =
-    let two : length c.stage-2.new.self.staged.items ≡ 2 = two_staged c.args.world.now c.of-all.result c.args.first.now c.args.second.now c.new-staging.result.registry.now c.stage.new.self.registry.now c.stage-2.new.self.registry.now c.new-staging.result.staged.items c.stage.new.self.staged.items c.stage-2.new.self.staged.items c.new-staging.result.tested c.stage.new.self.tested c.in-Ok._tested c.in-Ok-stage.tested c.new-staging.ensures.staged c.in-Ok.ensures.passed c.in-Ok-stage.ensures.passed (search rules) in
+    let two : AreTwo c.stage-2.new.self.staged.items = two_staged c.new-staging.ensures.staged c.in-Ok.ensures.passed c.in-Ok-stage.ensures.passed (search rules) in
     let none : c.stage-2.new.self.committed ≡ 0 = c.stage-2.ensures.committed ∙ c.stage.ensures.committed ∙ c.new-staging.ensures.committed in
-    omega (arith, two, none)
+    omega (arith, two.count, none)
+
+pub commit_next-requires-clause-room : goal.commit_next-requires-clause-room
+commit_next-requires-clause-room c =
+    let two : AreTwo c.stage-2.new.self.staged.items = two_staged c.new-staging.ensures.staged c.in-Ok.ensures.passed c.in-Ok-stage.ensures.passed (search rules) in
+    let none : c.stage-2.new.self.committed ≡ 0 = c.stage-2.ensures.committed ∙ c.stage.ensures.committed ∙ c.new-staging.ensures.committed in
+    let e = entry_at c.stage-2.new.self.staged.items c.stage-2.new.self.committed in
+    plain_room c.args.world.now e.slot.key e.slot.value (two.plain c.stage-2.new.self.committed (omega (arith, none)))
 
 pub commit_next-requires-2-clause-pending : goal.commit_next-requires-2-clause-pending
 commit_next-requires-2-clause-pending c =
-    let two : length c.stage-2.new.self.staged.items ≡ 2 = two_staged c.args.world.now c.of-all.result c.args.first.now c.args.second.now c.new-staging.result.registry.now c.stage.new.self.registry.now c.stage-2.new.self.registry.now c.new-staging.result.staged.items c.stage.new.self.staged.items c.stage-2.new.self.staged.items c.new-staging.result.tested c.stage.new.self.tested c.in-Ok._tested c.in-Ok-stage.tested c.new-staging.ensures.staged c.in-Ok.ensures.passed c.in-Ok-stage.ensures.passed (search rules) in
+    let two : AreTwo c.commit_next.new.self.staged.items = subst AreTwo (sym c.commit_next.ensures.staged) (two_staged c.new-staging.ensures.staged c.in-Ok.ensures.passed c.in-Ok-stage.ensures.passed (search rules)) in
     let none : c.stage-2.new.self.committed ≡ 0 = c.stage-2.ensures.committed ∙ c.stage.ensures.committed ∙ c.new-staging.ensures.committed in
-    omega (arith, two, none, c.in-Ok-commit_next.ensures.committed, ap (length {A = Staged}) c.commit_next.ensures.staged)
+    omega (arith, two.count, none, c.in-Ok-commit_next.ensures.committed)
+
+pub commit_next-requires-2-clause-room : goal.commit_next-requires-2-clause-room
+commit_next-requires-2-clause-room c =
+    let two : AreTwo c.commit_next.new.self.staged.items = subst AreTwo (sym c.commit_next.ensures.staged) (two_staged c.new-staging.ensures.staged c.in-Ok.ensures.passed c.in-Ok-stage.ensures.passed (search rules)) in
+    let none : c.stage-2.new.self.committed ≡ 0 = c.stage-2.ensures.committed ∙ c.stage.ensures.committed ∙ c.new-staging.ensures.committed in
+    let e = entry_at c.commit_next.new.self.staged.items c.commit_next.new.self.committed in
+    plain_room c.commit_next.new.world e.slot.key e.slot.value (two.plain c.commit_next.new.self.committed (omega (arith, none, c.in-Ok-commit_next.ensures.committed)))
+
+pub undo_last-requires-clause-room : goal.undo_last-requires-clause-room
+undo_last-requires-clause-room c = λ old stands.
+    let two : AreTwo c.commit_next-2.new.self.staged.items = subst AreTwo (sym (c.commit_next-2.ensures.staged ∙ c.commit_next.ensures.staged)) (two_staged c.new-staging.ensures.staged c.in-Ok.ensures.passed c.in-Ok-stage.ensures.passed (search rules)) in
+    let none : c.stage-2.new.self.committed ≡ 0 = c.stage-2.ensures.committed ∙ c.stage.ensures.committed ∙ c.new-staging.ensures.committed in
+    plain_room c.commit_next-2.new.world (entry_at c.commit_next-2.new.self.staged.items (c.commit_next-2.new.self.committed - 1)).slot.key old (two.plain (c.commit_next-2.new.self.committed - 1) (omega (arith, none, c.in-Ok-commit_next.ensures.committed, c.in-Ok-commit_next-2.ensures.committed)))
