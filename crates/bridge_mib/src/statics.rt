@@ -27,8 +27,8 @@ fn write_greatest(numbers: &mut [u32])
     numbers.fill(u32::MAX);
 }
 
-// Writes numbers, at most so many, that are below an index, but not below any other so many that are
-// below it, and says how many they are.
+// Writes numbers that come before an index, at most so many, and says how many they are. No list of
+// so many numbers stands between them and the index.
 fn write_below(numbers: &mut [u32], index: &[u32]) -> usize
     ensures count { result ≤ length numbers.new }
     ensures below { 0 < length index.now
