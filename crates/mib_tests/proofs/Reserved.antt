@@ -1,6 +1,6 @@
 -- Two variables of a Set that passed their tests are two entries, where the second is the first of its
--- setting. No object writes a static row, so neither needs memory.
-use Rattle.std.proofs.Common.{◌≡◌, ℕ, zero, suc, ◌+◌, ◌<◌, ◌∙◌, ap, sym, subst, false, arith, List, [], ◌∷◌, ◌++◌, length, drop}
+-- setting. Where neither writes a setting of a static row, neither needs memory.
+use Rattle.std.proofs.Common.{◌≡◌, ℕ, zero, suc, ◌+◌, ◌<◌, ◌∙◌, ap, sym, subst, false, arith, List, [], ◌∷◌, ◌++◌, length}
 use Rattle.message_core.specs.declared.binding.Binding.{Binding}
 use Rattle.setting_keys.specs.declared.SettingKey.{SettingKey}
 use Rattle.setting_keys.specs.declared.SettingKey.TheVariants.{Bridge, Made, Allowed}
@@ -13,10 +13,8 @@ use Rattle.setphase_core.specs.declared.staging.TestedVariable.{TestedVariable}
 use Rattle.setphase_core.specs.declared.world.World.{World}
 use Rattle.setphase_core.specs.Objects.{ObjectState, HasRoom}
 use Rattle.setphase_core.specs.Settings.{is_static}
-use Rattle.setphase_core.specs.Staging.{object_at, entry_at}
+use Rattle.setphase_core.specs.Staging.{entry_at}
 use Rattle.setphase_core.specs.Tested.{staged_by, IsPassedAt, IsPassed}
-use Rattle.setphase_core.proofs.Ranges.{plain}
-use Rattle.setphase_core.proofs.Writings.{placed_ok}
 
 pub plain_room : (w : World) (k : SettingKey) (v : SettingValue) → is_static k ≡ false → HasRoom w k v
 plain_room w (Bridge k) (Number n) e = tt
@@ -25,9 +23,9 @@ plain_room w (Made i) v e = absurd (cc)
 plain_room w (Allowed i) v e = absurd (cc)
 
 passed_plain : (os ns : List ObjectState) (w : World) (b : Binding) (es fs : List Staged) (n p : ℕ)
-    (slot : Slot) (v : TestedVariable) → IsPassedAt os ns w b es fs n p slot v → is_static slot.key ≡ false
-passed_plain os ns w b es fs n p slot v at =
-    plain (object_at os p).row.column w (drop (length (object_at os p).row.prefix) b.name) b.value _ (placed_ok _ (object_at os p).reserved slot at.answer).assigned
+    (slot : Slot) (v : TestedVariable) → IsPassedAt os ns w b es fs n p slot v → is_static v.key ≡ false →
+    is_static slot.key ≡ false
+passed_plain os ns w b es fs n p slot v at moves = ap is_static (sym at.key) ∙ moves
 
 -- Two entries, none of them of a static row.
 pub record AreTwo (es : List Staged) : Type 0 where
@@ -43,8 +41,8 @@ of_two e f p q (suc (suc k)) h = absurd (omega (arith, h))
 pub two_staged : {w : World} {view : List ℕ} {b d : Binding} {os ns zs : List ObjectState}
     {es fs gs : List Staged} {n m : ℕ} {u v : TestedVariable} → es ≡ [] →
     IsPassed os ns w view n b es fs u → IsPassed ns zs w view m d fs gs v → v.standing ≡ First →
-    AreTwo gs
-two_staged {w} {view} {b} {d} {os} {ns} {zs} {es} {fs} {gs} {n} {m} {u} {v} empty p₁ q first =
+    is_static u.key ≡ false → is_static v.key ≡ false → AreTwo gs
+two_staged {w} {view} {b} {d} {os} {ns} {zs} {es} {fs} {gs} {n} {m} {u} {v} empty p₁ q first moves others =
     let p : IsPassed os ns w view n b [] fs u = subst (λ xs. IsPassed os ns w view n b xs fs u) empty p₁ in
     let e : Staged = record { object = p.place; slot = p.slot; number = n + 1 } in
     let f : Staged = record { object = q.place; slot = q.slot; number = m + 1 } in
@@ -52,5 +50,5 @@ two_staged {w} {view} {b} {d} {os} {ns} {zs} {es} {fs} {gs} {n} {m} {u} {v} empt
     let two : gs ≡ e ∷ f ∷ [] = q.at.staged ∙ ap (λ s. staged_by s fs f) first ∙ ap (λ xs. xs ++ f ∷ []) one in
     subst AreTwo (sym two) (record {
       count = omega arith;
-      plain = of_two e f (passed_plain _ _ _ _ _ _ _ _ _ _ p.at) (passed_plain _ _ _ _ _ _ _ _ _ _ q.at);
+      plain = of_two e f (passed_plain _ _ _ _ _ _ _ _ _ _ p.at moves) (passed_plain _ _ _ _ _ _ _ _ _ _ q.at others);
     })

@@ -1,10 +1,14 @@
 //! Sets of dot1dStpPortEnable, whose device fails by plan, and what they release.
+ghost use Rattle.std.specs.Prelude.{◌≡◌};
+ghost use Rattle.setphase_core.specs.Settings.{is_static};
+
 use crate::worlds::{port, seen_world_of};
 use bridge_mib::{Planned, PortEnable};
 use message_core::{Binding, Value};
 use oid_core::Oid;
 use rstp_core::{Key, PortKey};
 use setphase_core::{Registry, SetOutcome, Staging, Standing, World, are_named, run_set};
+use setting_keys::SettingKey;
 use std::alloc::Global;
 use std::test::Fail;
 use vacm_core::Name;
@@ -90,7 +94,7 @@ fn ended(alloc: Global, plan: u64, ports: &[u32]) -> Result<(End, [u32; 3], usiz
     let mut registry = enables(alloc)?;
     registry.arm(plan);
     let bindings = disabling(alloc, ports)?;
-    let outcome = run_set(&mut registry, &mut world, &bindings, &Name::of("all"));
+    let outcome = run_set(&mut registry, &mut world, &bindings, &Name::of("all"))?;
     Ok((end_of(&outcome), enables_of(&world), registry.held()))
 }
 
@@ -138,6 +142,13 @@ fn stage_and_drop(
     staging.stage(world, &all, second).is_ok()
 }
 
+// Whether a setting is one of a static row: only such a one may take memory.
+fn is_static(key: SettingKey) -> bool
+    ensures { result ≡ is_static key }
+{
+    matches!(key, SettingKey::Made(_) | SettingKey::Allowed(_))
+}
+
 // Tests two variables of a Set, commits both, undoes the second, and drops the Set. Whether all of
 // that was done.
 fn undo_one_and_drop(
@@ -148,13 +159,19 @@ fn undo_one_and_drop(
 ) -> bool {
     let all = Name::of("all");
     let mut staging = Staging::new(registry);
-    let Ok(_tested) = staging.stage(world, &all, first) else {
+    let Ok(earlier) = staging.stage(world, &all, first) else {
         return false;
     };
     let Ok(tested) = staging.stage(world, &all, second) else {
         return false;
     };
     if tested.standing != Standing::First {
+        return false;
+    }
+    if is_static(earlier.key) {
+        return false;
+    }
+    if is_static(tested.key) {
         return false;
     }
     let Ok(()) = staging.commit_next(world) else {
