@@ -3,7 +3,9 @@ ghost use Rattle.std.specs.Prelude.{◌≡◌, ◌==◌, ℕ, ◌+◌, ◌≤◌
 ghost use Rattle.fdb_core.specs.Statics.{IsRising, no_statics, with_places_for, row_of, rows_of, put_row, without_row, made_rows, next_made, HasPlaceFor};
 
 use crate::static_row::{StaticIndex, StaticRow};
-use crate::static_rows::{count_made, keep_made, next_made_in, put_in, remove_from, row_at, rows_at};
+use crate::static_rows::{
+    count_made, keep_made, next_made_in, put_in, remove_from, row_at, rows_at,
+};
 use frame_core::Mac;
 use std::alloc::{AllocError, Global};
 use std::marker::Model;

@@ -60,7 +60,8 @@ impl MibObject for Plain {
 
     // It is never written: each test is refused, and reserves nothing.
     fn test(&mut self, world: &World, at: &[u32], value: &Value) -> Result<Slot, SetFault> {
-        self.slots.reserve(world, assignment_by(None, world, at, value))
+        self.slots
+            .reserve(world, assignment_by(None, world, at, value))
     }
 
     fn commit(&mut self, world: &mut World, slot: Slot) -> Result<(), DeviceFault> {

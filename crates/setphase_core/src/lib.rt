@@ -18,12 +18,13 @@
 //! [`Writable`], [`assignment_by`], [`Slots`]: how an object is written, what a variable of it
 //! writes, and what it reserved; for those who write objects.
 //! [`Column`] is what an object shows: [`Base`], [`BasePort`], [`Stp`], [`StpPort`], [`Rapid`],
-//! [`ExtPort`], [`Tp`], [`TpFdb`], [`TpPort`], [`Static`], by an [`Index`]. [`Target`] is the setting that an
-//! object writes, [`IntegerTarget`] with the INTEGERs that it takes, [`Assignment`] what a variable writes, [`Slot`] what a test reserves,
+//! [`ExtPort`], [`Tp`], [`TpFdb`], [`TpPort`], [`Static`], by an [`Index`]. [`Target`] is the setting
+//! that an object writes by INTEGERs, [`IntegerTarget`] with those that it takes; the ports of a static
+//! row are written by octets. [`Assignment`] is what a variable writes, [`Slot`] what a test reserves,
 //! [`Reservation`] what stands at a place; [`TestedVariable`], [`Standing`] and [`Staged`] are
 //! those of `Staging`. What is wrong is a [`SetFault`], [`VariableFault`], [`DeviceFault`] or
 //! [`RegistryFault`]. Bounds: [`MAX_INDEX`], [`MAX_SLOTS`], [`MAX_VARIABLES`], [`MAX_COST`],
-//! [`MAX_PATH_COST`], [`MAX_INFO`].
+//! [`MAX_PATH_COST`], [`MAX_INFO`], [`MAX_STATIC_ROWS`], [`MAX_PORT_OCTETS`].
 //!
 //! # Definitions
 //! `specs/Settings.antt`: the settings of a world as a finite map, those of its bridge and of its
@@ -49,7 +50,8 @@
 //! `proofs/Puts.antt`, that what is tested is legal in `proofs/Ranges.antt`, and that the same
 //! settings are equal in `proofs/Same.antt`. A setting that a device holds: `is_line` of
 //! `specs/Settings.antt`. A put that may take memory: `is_static` there, `HasRoom` of
-//! `specs/Objects.antt`, and `proofs/Room.antt`. Beside these the timers (`specs/Together.antt`, `src/sets.rt`) and what
+//! `specs/Objects.antt`, and `proofs/Room.antt`. Beside these the
+//! timers and the ports of rows that are not there (`specs/Together.antt`, `src/sets.rt`) and what
 //! could not be undone (`src/committing.rt`) go by kinds of keys, and say of a new one that it is
 //! none of theirs.
 //!
@@ -70,9 +72,7 @@
 //! the devices are called, but where it shows in which calls of one plan failed: of two objects, and
 //! of calls of which the plan says the same, no clause tells. That a step of `owner_steps` is a
 //! comparison: the clauses say how many there are at least and at most. Which number a call leaves
-//! for the next one as `near`. That the objects of a program are the 55. No object writes
-//! a static row so far (RFC 4188, dot1dStaticTable, 1.3.6.1.2.1.17.5.1): their settings are here, and
-//! no Set stages one.
+//! for the next one as `near`. That the objects of a program are the 55.
 #![tactic(auto)]
 
 mod boxed;
