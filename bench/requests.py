@@ -129,6 +129,11 @@ class Agent:
         print(f"  whole walk by GetNext: {1 / self.seconds(lines, replies):,.1f} walks a second")
 
 
+def static_set(rows, status):
+    """A Set that makes so many static rows, by status 3, or removes them, by 2."""
+    return f"set {COMMUNITY} " + ", ".join(f"dot1dStaticStatus.2.0.0.9.0.{row}.0 INTEGER {status}" for row in range(rows))
+
+
 def line_of(message):
     """The line of a request."""
     return f"request {message_of(message).hex()}\n".encode()
@@ -148,6 +153,9 @@ def measure_all(agent, rows):
     agent.measure("GetBulk of 60 names, 2147483647 repetitions", 86, f"bulk {COMMUNITY} 0 2147483647 60 x dot1dBaseNumPorts.0")
     agent.measure("Set that changes nothing", 1, f"set {COMMUNITY} {count} 6")
     agent.measure("two Sets that change a setting", 1, f"set {COMMUNITY} {count} 5", f"set {COMMUNITY} {count} 6")
+    agent.measure("two Sets that make and remove a static row", 1, static_set(1, 3), static_set(1, 2))
+    # As many as a reply holds.
+    agent.measure("two Sets that make and remove 59 static rows", 59, static_set(59, 3), static_set(59, 2))
     agent.measure("Set of 64 variables", 64, f"set {COMMUNITY} 64 x {count} 6")
 
 
