@@ -1,33 +1,37 @@
 //! What each object reserves of its 64 places.
 use crate::worlds::{port, world_of};
 use bridge_mib::Steady;
-use message_core::Value;
+use message_core::{Octets, Value};
 use object_list::{COLUMNS, Object};
-use setphase_core::{Column, ExtPort, MibObject, Rapid, SetFault, Stp, StpPort, Tp, World};
+use setphase_core::{Column, ExtPort, MibObject, Rapid, SetFault, Static, Stp, StpPort, Tp, World};
 use std::alloc::Global;
 use std::test::Fail;
 
 // An object that a Set writes, the index of an instance, an INTEGER that it takes, and one that it
 // does not.
-type Written = (Column, u32, i32, i32);
+type Written = (Column, &'static [u32], i32, i32);
 
-// The objects that a Set writes, by their names (RFC 4188, RFC 4318).
-const WRITTEN: [Written; 15] = [
-    (Column::Stp(Stp::Priority), 0, 61_440, 4_095),
-    (Column::Stp(Stp::BridgeMaxAge), 0, 600, 500),
-    (Column::Stp(Stp::BridgeHelloTime), 0, 1_000, 1_100),
-    (Column::Stp(Stp::BridgeForwardDelay), 0, 3_000, 3_100),
-    (Column::StpPort(StpPort::Priority), 1, 240, 8),
-    (Column::StpPort(StpPort::Enable), 1, 2, 3),
-    (Column::StpPort(StpPort::PathCost), 1, 65_535, 65_536),
-    (Column::StpPort(StpPort::PathCost32), 1, 200_000_000, 0),
-    (Column::Rapid(Rapid::Version), 0, 2, 1),
-    (Column::Rapid(Rapid::TxHoldCount), 0, 1, 0),
-    (Column::ExtPort(ExtPort::ProtocolMigration), 1, 1, 3),
-    (Column::ExtPort(ExtPort::AdminEdgePort), 1, 2, 0),
-    (Column::ExtPort(ExtPort::AdminPointToPoint), 1, 0, 3),
-    (Column::ExtPort(ExtPort::AdminPathCost), 1, 0, -1),
-    (Column::Tp(Tp::AgingTime), 0, 1_000_000, 9),
+// The index of a static row: frames to 02-00-00-00-01-01 by any port.
+const ROW: [u32; 7] = [2, 0, 0, 0, 1, 1, 0];
+
+// The objects that take INTEGERs of a Set, by their names (RFC 4188, RFC 4318).
+const WRITTEN: [Written; 16] = [
+    (Column::Stp(Stp::Priority), &[0], 61_440, 4_095),
+    (Column::Stp(Stp::BridgeMaxAge), &[0], 600, 500),
+    (Column::Stp(Stp::BridgeHelloTime), &[0], 1_000, 1_100),
+    (Column::Stp(Stp::BridgeForwardDelay), &[0], 3_000, 3_100),
+    (Column::StpPort(StpPort::Priority), &[1], 240, 8),
+    (Column::StpPort(StpPort::Enable), &[1], 2, 3),
+    (Column::StpPort(StpPort::PathCost), &[1], 65_535, 65_536),
+    (Column::StpPort(StpPort::PathCost32), &[1], 200_000_000, 0),
+    (Column::Rapid(Rapid::Version), &[0], 2, 1),
+    (Column::Rapid(Rapid::TxHoldCount), &[0], 1, 0),
+    (Column::ExtPort(ExtPort::ProtocolMigration), &[1], 1, 3),
+    (Column::ExtPort(ExtPort::AdminEdgePort), &[1], 2, 0),
+    (Column::ExtPort(ExtPort::AdminPointToPoint), &[1], 0, 3),
+    (Column::ExtPort(ExtPort::AdminPathCost), &[1], 0, -1),
+    (Column::Tp(Tp::AgingTime), &[0], 1_000_000, 9),
+    (Column::Static(Static::Status), &ROW, 3, 4),
 ];
 
 // A world of one port.
@@ -36,10 +40,10 @@ fn one_port(alloc: Global) -> Result<World, Fail> {
 }
 
 // The object of a column, of which a test of an instance took all 64 places.
-fn filled(world: &World, column: Column, at: u32, right: i32) -> Result<Object<Steady>, Fail> {
+fn filled(world: &World, column: Column, at: &[u32], right: i32) -> Result<Object<Steady>, Fail> {
     let mut object = Object::over(column, &mut Some(Steady));
     for _ in 0..64 {
-        if object.test(world, &[at], &Value::Integer(right)).is_err() {
+        if object.test(world, at, &Value::Integer(right)).is_err() {
             return Err(Fail::from("a place"));
         }
     }
@@ -53,9 +57,9 @@ fn faults(world: &World, written: Written) -> Result<([Option<SetFault>; 4], usi
     let (column, at, right, wrong) = written;
     let mut object = filled(world, column, at, right)?;
     let faults = [
-        object.test(world, &[at], &Value::Integer(right)).err(),
-        object.test(world, &[at], &Value::Gauge32(1)).err(),
-        object.test(world, &[at], &Value::Integer(wrong)).err(),
+        object.test(world, at, &Value::Integer(right)).err(),
+        object.test(world, at, &Value::Gauge32(1)).err(),
+        object.test(world, at, &Value::Integer(wrong)).err(),
         object.test(world, &[2], &Value::Integer(right)).err(),
     ];
     Ok((faults, object.held()))
@@ -77,9 +81,55 @@ fn has_64_places_and_tells_other_faults(rt: HostRuntime) -> Result<(), Fail> {
     Ok(())
 }
 
+// The octets of a set of ports.
+fn octets(alloc: Global, octets: &[u8]) -> Result<Value, Fail> {
+    Ok(Value::OctetString(Octets::from_slice(alloc, octets)?))
+}
+
+// The object of the ports of static rows, of which a test of a row took all 64 places.
+fn filled_by(world: &World, right: &Value) -> Result<Object<Steady>, Fail> {
+    let mut object = Object::over(ALLOWED, &mut Some(Steady));
+    for _ in 0..64 {
+        if object.test(world, &ROW, right).is_err() {
+            return Err(Fail::from("a place"));
+        }
+    }
+    Ok(object)
+}
+
+const ALLOWED: Column = Column::Static(Static::AllowedToGoTo);
+
+// All but the first keep their fault: another type, 513 octets, the bit of a port that there is not,
+// and a scalar's instance.
+const PORT_FAULTS: [Option<SetFault>; 5] = [
+    Some(SetFault::ResourceUnavailable),
+    Some(SetFault::WrongType),
+    Some(SetFault::WrongLength),
+    Some(SetFault::WrongValue),
+    Some(SetFault::NoCreation),
+];
+
+#[test]
+fn has_64_places_for_sets_of_ports(rt: HostRuntime) -> Result<(), Fail> {
+    let world = one_port(rt.alloc())?;
+    let right = octets(rt.alloc(), &[0x80])?;
+    let long = octets(rt.alloc(), &[0; 513])?;
+    let other = octets(rt.alloc(), &[0x40])?;
+    let mut object = filled_by(&world, &right)?;
+    let faults = [
+        object.test(&world, &ROW, &right).err(),
+        object.test(&world, &ROW, &Value::Integer(1)).err(),
+        object.test(&world, &ROW, &long).err(),
+        object.test(&world, &ROW, &other).err(),
+        object.test(&world, &[0], &right).err(),
+    ];
+    assert_eq!(rt; (faults, object.held()), (PORT_FAULTS, 64));
+    Ok(())
+}
+
 // Whether a Set writes an object.
 fn is_written(column: Column) -> bool {
-    WRITTEN.iter().any(|(written, ..)| *written == column)
+    column == ALLOWED || WRITTEN.iter().any(|(written, ..)| *written == column)
 }
 
 // The fault of the test of an INTEGER, and how many slots are reserved then.
@@ -90,7 +140,7 @@ fn tested(world: &World, column: Column) -> (Option<SetFault>, usize) {
 }
 
 #[test]
-fn reserves_nothing_of_the_40_others(rt: HostRuntime) -> Result<(), Fail> {
+fn reserves_nothing_of_the_38_others(rt: HostRuntime) -> Result<(), Fail> {
     let world = one_port(rt.alloc())?;
     for column in COLUMNS {
         if !is_written(column) {
