@@ -1,5 +1,5 @@
 -- The step of a Set, and the steps of other requests, from what was called.
-use Rattle.std.proofs.Common.{◌≡◌, ◌≢◌, ◌∙◌, ℕ, ℤ, pos, ◌<◌, ◌≤◌, true, false, List, [], length, map, Option, Some, None, Result, Ok, Err, IfOk, IfSome, OnErr, ap, refl, sym, subst}
+use Rattle.std.proofs.Common.{◌≡◌, ◌≢◌, ◌∙◌, ℕ, ℤ, pos, ◌≤◌, true, false, List, [], length, map, Option, Some, None, Result, Ok, Err, IfOk, IfSome, OnErr, ap, refl, sym, subst}
 use Rattle.std.specs.declared.alloc.AllocError.{AllocError}
 use Rattle.message_core.specs.Canon.{answer_to}
 use Rattle.message_core.specs.declared.limits.TheConstants.{MAX_COMMUNITY}
@@ -27,15 +27,14 @@ use Rattle.setphase_core.specs.declared.world.World.{World}
 use Rattle.setphase_core.specs.Objects.{ObjectRow, ObjectState, object_after_release}
 use Rattle.setphase_core.specs.Registry.{rows_of, prefixes_of, instances}
 use Rattle.setphase_core.specs.Variables.{Written, writings}
-use Rattle.setphase_core.specs.Together.{assignments, refusal_of}
-use Rattle.setphase_core.specs.Staging.{static_count}
+use Rattle.setphase_core.specs.Together.{refusal_of}
 use Rattle.setphase_core.specs.Outcomes.{SetNotes, refusal_in, notes_in, world_after_set}
 use Rattle.setphase_core.specs.Calls.{calls_of, object_after_set, FollowPlans}
 use Rattle.setphase_core.proofs.Called.{no_plans}
 use Rattle.agent_core.specs.Buffered.{Buffered}
 use Rattle.agent_core.specs.Denying.{denied_in}
 use Rattle.agent_core.specs.Replies.{reply_within_limit, refusal_reply, kind_reply}
-use Rattle.agent_core.specs.Sets.{SetStep, SetAnswer, is_too_long, too_long_reply, no_notes, set_answer, set_reply, set_step, settled_world, settling_bpdus, untested_step, tested_step, tested_step_by, IsToldOf, IsDenied, TakesInSet, TakesInSetBy, MayFailInSet, set_calls}
+use Rattle.agent_core.specs.Sets.{SetStep, SetAnswer, is_too_long, too_long_reply, no_notes, set_answer, set_reply, set_step, settled_world, settling_bpdus, untested_step, tested_step, tested_step_by, IsToldOf, IsDenied, TakesPlaces, TakesInSet, TakesInSetBy, MayFailInSet, set_calls}
 use Rattle.agent_core.specs.Answers.{calls_by, calls_in_view, request_calls, replied, Step, shown_of, outcome_by, outcome_of, world_by, world_after, with_count_of, drop_audit, reply_audit, step_of, step_by, reading_step, allowed_step, writing_step, IsSent, IsAnswered, IsReply, IsDone, IsTold, IsShort, IsStep, MayHave, MayFailBy, MayFailInView, TakesInView, notes_told, without_answer}
 use Rattle.agent_core.specs.declared.answered.Answered.{Answered}
 use Rattle.agent_core.specs.declared.answered.Answered.TheVariants as answered
@@ -323,21 +322,21 @@ module _ (objects : List ObjectState) (world : World) (request : Request) (row :
 
 -- Want of memory for the static rows of a Set is one of a Set that may take some.
 pub short_set : (rows : List ObjectRow) (world : World) (view : List ℕ) (request : Request) → is_too_long request ≡ false →
-    refusal_of rows world view request.bindings ≡ None → 0 < static_count (assignments (writings rows world request.bindings)) →
+    refusal_of rows world view request.bindings ≡ None → TakesPlaces world (writings rows world request.bindings) →
     TakesInSet rows world view request
 short_set rows world view request fits accepted some = record {
   fits = fits;
-  takes = subst (λ (o : Option Refusal). TakesInSetBy o (writings rows world request.bindings)) (sym accepted) some;
+  takes = subst (λ (o : Option Refusal). TakesInSetBy o world (writings rows world request.bindings)) (sym accepted) some;
 }
 
 -- So is want of memory for the audit of a variable to which the view gives no access.
-denied_takes : (o : Option Refusal) (ws : List Written) → IsDenied o → TakesInSetBy o ws
-denied_takes (Some refusal) ws denied = denied
-denied_takes None ws denied = absurd denied
+denied_takes : (o : Option Refusal) (world : World) (ws : List Written) → IsDenied o → TakesInSetBy o world ws
+denied_takes (Some refusal) world ws denied = denied
+denied_takes None world ws denied = absurd denied
 
 pub short_audit : (rows : List ObjectRow) (world : World) (view : List ℕ) (request : Request) (refusal : Option Refusal) → is_too_long request ≡ false →
     refusal ≡ refusal_of rows world view request.bindings → IsDenied refusal → TakesInSet rows world view request
 short_audit rows world view request refusal fits is denied = record {
   fits = fits;
-  takes = subst (λ (o : Option Refusal). TakesInSetBy o (writings rows world request.bindings)) is (denied_takes refusal (writings rows world request.bindings) denied);
+  takes = subst (λ (o : Option Refusal). TakesInSetBy o world (writings rows world request.bindings)) is (denied_takes refusal world (writings rows world request.bindings) denied);
 }

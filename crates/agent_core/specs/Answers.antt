@@ -289,7 +289,8 @@ pub record IsDone (step : Step) (told : Answered) (buffer : Buffered) (later : W
   pub objects_after : objects ≡ step.objects
   pub bpdus : buffer.bpdus ≡ step.bpdus
 
--- What a Set leaves of the objects where there was no memory for its audit: nothing is reserved.
+-- What a Set leaves of the objects where there was no memory for its audit or its static rows:
+-- nothing is reserved.
 abbrev pub without_answer : Kind → List ObjectState → List ObjectState
 without_answer Get objects = objects
 without_answer GetNext objects = objects

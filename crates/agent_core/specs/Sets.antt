@@ -1,5 +1,5 @@
 -- What answers a Set that is let in to a view, and what it leaves (RFC 3416, 4.2.5).
-use Rattle.std.specs.Prelude.{◌≡◌, ℕ, ◌<◌, pos, Bool, true, false, not, nat_lt, if◌then◌else◌, List, [], ◌∷◌, length, map, Option, Some, None, IsSome}
+use Rattle.std.specs.Prelude.{◌≡◌, ℕ, ◌+◌, ◌<◌, pos, Bool, true, false, not, nat_lt, if◌then◌else◌, List, [], ◌∷◌, length, map, Option, Some, None, IsSome}
 use Rattle.message_core.specs.Canon.{canon_reply, answer_to}
 use Rattle.message_core.specs.declared.limits.TheConstants.{MAX_REPLY}
 use Rattle.message_core.specs.declared.reply.Reply.{Reply}
@@ -20,7 +20,7 @@ use Rattle.setphase_core.specs.Settings.{same_settings_of}
 use Rattle.setphase_core.specs.Variables.{Written, writings}
 use Rattle.setphase_core.specs.Together.{assignments, refusal_of}
 use Rattle.setphase_core.specs.Staging.{static_count}
-use Rattle.setphase_core.specs.Outcomes.{SetNotes, AreNotes, refusal_in, notes_in, world_after_set}
+use Rattle.setphase_core.specs.Outcomes.{SetNotes, committed_of, AreNotes, refusal_in, notes_in, world_after_set}
 use Rattle.setphase_core.specs.Calls.{Call, calls_of, object_after_set}
 use Rattle.agent_core.specs.Denying.{denied_variable}
 use Rattle.agent_core.specs.Replies.{reply_within_limit}
@@ -190,13 +190,19 @@ IsDenied (Some refusal) = IsSome refusal.family
 IsDenied None = ⊥
 
 -- A Set whose answer may take memory: its audit names a variable to which the view gives no access;
--- or it is not refused, and one of its variables writes a setting of a static row.
-abbrev pub TakesInSetBy : Option Refusal → List Written → Type 0
-TakesInSetBy (Some refusal) ws = IsSome refusal.family
-TakesInSetBy None ws = 0 < static_count (assignments ws)
+-- or it is not refused, it writes a setting of a static row, and the bridge was not sure of memory for
+-- a row of each such setting.
+pub record TakesPlaces (world : World) (ws : List Written) : Type 0 where
+  pub some : 0 < static_count (assignments ws)
+  pub lacks : world.bridge.statics.places
+      < length world.bridge.statics.rows + static_count (assignments (committed_of ws))
+
+abbrev pub TakesInSetBy : Option Refusal → World → List Written → Type 0
+TakesInSetBy (Some refusal) world ws = IsSome refusal.family
+TakesInSetBy None world ws = TakesPlaces world ws
 
 pub record TakesInSet (rows : List ObjectRow) (world : World) (view : List ℕ)
     (request : Request) : Type 0 where
   pub fits : is_too_long request ≡ false
-  pub takes : TakesInSetBy (refusal_of rows world view request.bindings)
+  pub takes : TakesInSetBy (refusal_of rows world view request.bindings) world
       (writings rows world request.bindings)

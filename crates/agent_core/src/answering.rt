@@ -49,8 +49,9 @@ use vacm_core::Name;
 ///
 /// # Errors
 /// Only memory can fail: then the buffer is empty, the world is as before, and the request is one
-/// that is let in to a view and reads, or a Set that is refused with noAccess.
-/// A request that is dropped or refused, one without bindings and every other Set take none.
+/// that is authorized for a view and reads, or a Set that is refused with noAccess, or one that is
+/// not refused and writes a setting of a static row. A request that is dropped or refused, one
+/// without bindings and every other Set take none.
 pub fn answer<O: MibObject>(
     alloc: Global,
     registry: &mut Registry<O>,

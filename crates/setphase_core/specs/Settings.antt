@@ -102,7 +102,8 @@ is_line other = false
 abbrev pub IsLine : SettingKey → Type 0
 IsLine k = is_line k ≡ true
 
--- A setting of a static row: only such a one may take memory to be given a value.
+-- A setting of a static row: only such a one may need a place among those reserved to be given a
+-- value.
 abbrev pub is_static : SettingKey → Bool
 is_static (Bridge k) = false
 is_static (Made i) = true

@@ -113,8 +113,8 @@ pub trait MibObject: Drop {
     /// 4.2.5). It takes no memory.
     ///
     /// # Errors
-    /// The first fault of the variable; `ResourceUnavailable` where it has none and all places are
-    /// taken. Nothing is reserved then.
+    /// The first fault of the variable; `ResourceUnavailable` where it has none, and makes a static
+    /// row that is one too many or all places are taken. Nothing is reserved then.
     fn test(&mut self, world: &World, at: &[u32], value: &Value) -> Result<Slot, SetFault>
         ensures answer { result ≡ test_answer (state self.old).row.column world.now
             (state self.old).reserved at.now value.now }

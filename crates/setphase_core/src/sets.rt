@@ -1,13 +1,13 @@
 //! A Set: all variables are tested, then all are committed, and where a device fails the earlier
 //! ones are undone (RFC 3416, 4.2.5).
-ghost use Rattle.std.specs.Prelude.{◌≡◌, ◌↔◌, ◌<◌, ◌≤◌, ◌^◌, List, [], ◌∷◌, if◌then◌else◌, not, length, map, slice_get, Some, None, IfOk, IfErr, OnErr, IfNone, IfSome, IsSome};
+ghost use Rattle.std.specs.Prelude.{◌≡◌, ◌↔◌, ◌+◌, ◌<◌, ◌≤◌, ◌^◌, List, [], ◌∷◌, if◌then◌else◌, not, length, map, slice_get, Some, None, IfOk, IfErr, OnErr, IfNone, IfSome, IsSome};
 ghost use Rattle.vacm_core.specs.Families.{NamesFamilyOf};
 ghost use Rattle.setphase_core.specs.Objects.{object_after_release};
 ghost use Rattle.setphase_core.specs.Registry.{rows_of, held_count};
 ghost use Rattle.setphase_core.specs.Settings.{setting, HasSetting, same_settings_of, with_settings_of};
 ghost use Rattle.setphase_core.specs.Variables.{Written as Variable, status_of, refusal_for, single_refusals, writings};
 ghost use Rattle.setphase_core.specs.Together.{assign, assignments, is_timer, lacks_row, timer, timers_agree, joint_refusal, refusal_of};
-ghost use Rattle.setphase_core.specs.Outcomes.{refusal_in, notes_in, changed_in, world_after_set, AreNotes, NamesASetting};
+ghost use Rattle.setphase_core.specs.Outcomes.{committed_of, refusal_in, notes_in, changed_in, world_after_set, AreNotes, NamesASetting};
 ghost use Rattle.setphase_core.specs.Calls.{calls_of, object_after_set, FollowPlans};
 ghost use Rattle.setphase_core.specs.Staging.{assignments_of, static_count, IsDistinct, AreLegal, HasRoomFor, IsUnderWay};
 ghost use Rattle.setphase_core.specs.Tested.{first_in, first_lacking, is_contradicting, inconsistency, AreStaged, ArePassed, AreReady};
@@ -422,6 +422,9 @@ fn commit_reserved<O: MibObject>(
         → AreStaged (rows_of staging.old.registry.now) ws staging.old.staged.items
         → FollowPlans (calls_of None ws (notes_in outcome)) staging.old.registry.now) }
     ensures writes_static { OnErr result (0 < static_count (assignments_of staging.old.staged.items)) }
+    ensures lacks { OnErr result (world.old.bridge.statics.places
+        < length world.old.bridge.statics.rows
+        + static_count (assignments_of staging.old.staged.items)) }
     ensures unchanged { OnErr result (world.new ≡ world.old) }
     ensures uncalled { OnErr result (staging.new.registry.now ≡ staging.old.registry.now) }
 {
@@ -469,6 +472,9 @@ fn run_staged<O: MibObject>(
         view.now bindings.now ≡ None) }
     ensures writes_static { OnErr result (0 < static_count (assignments
         (writings (rows_of staging.old.registry.now) world.old bindings.now))) }
+    ensures lacks { OnErr result (world.old.bridge.statics.places
+        < length world.old.bridge.statics.rows + static_count (assignments (committed_of
+        (writings (rows_of staging.old.registry.now) world.old bindings.now)))) }
     ensures unchanged { OnErr result (world.new ≡ world.old) }
     ensures uncalled { OnErr result (map object_after_release staging.new.registry.now
         ≡ map object_after_release staging.old.registry.now) }
@@ -485,10 +491,11 @@ fn run_staged<O: MibObject>(
 ///
 /// # Errors
 ///
-/// `AllocError` where there is no memory for the static rows that the Set may bring in: it is not
-/// refused, and one of its variables writes a setting of a static row. Nothing is changed then, and
-/// no device was called. It is the only memory that a Set takes, and is taken before the first
-/// commit.
+/// `AllocError` where there is no memory for the static rows that the Set may bring in, one for each
+/// setting of a static row that it writes, also where it removes the row: it is not refused, it
+/// writes such a setting, and the bridge was not sure of that memory before. Nothing is changed
+/// then, and no device was called. It is the only memory that a Set takes, and is taken before the
+/// first commit.
 pub fn run_set<O: MibObject>(
     registry: &mut Registry<O>,
     world: &mut World,
@@ -526,6 +533,9 @@ pub fn run_set<O: MibObject>(
         (refusal_of (rows_of registry.old) world.old view.now bindings.now ≡ None) }
     ensures writes_static { OnErr result (0 < static_count (assignments
         (writings (rows_of registry.old) world.old bindings.now))) }
+    ensures lacks { OnErr result (world.old.bridge.statics.places
+        < length world.old.bridge.statics.rows + static_count (assignments (committed_of
+        (writings (rows_of registry.old) world.old bindings.now)))) }
     ensures unchanged { OnErr result (world.new ≡ world.old) }
     ensures uncalled { OnErr result (registry.new ≡ map object_after_release registry.old) }
 {

@@ -43,7 +43,8 @@ impl World {
     ///
     /// # Errors
     ///
-    /// `AllocError` where there is no memory for the copied learned rows or the copied policy.
+    /// `AllocError` where there is no memory for the copied learned or static rows, or the copied
+    /// policy.
     pub fn try_copy(&self, alloc: Global) -> Result<World, AllocError>
         ensures { IfOk result (λ copy. copy ≡ self.now) }
     {
@@ -61,7 +62,7 @@ impl World {
     ///
     /// # Errors
     ///
-    /// `AllocError` where there is no memory for the learned rows or the policy's rows.
+    /// `AllocError` where there is no memory for the learned or static rows, or the policy's rows.
     pub fn flat(&self, alloc: Global) -> Result<FlatWorld, AllocError>
         ensures { IfOk result (λ flat. flat ≡ self.now) }
     {

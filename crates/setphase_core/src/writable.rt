@@ -118,8 +118,8 @@ fn ports_assignment(world: &World, at: &[u32], octets: &[u8]) -> Result<Assignme
     Ok(Assignment { key, value })
 }
 
-/// What a variable of an object that is written so writes, or the first fault that the object's
-/// places do not decide; an object that is read-only refuses each (RFC 3416, 4.2.5). It takes no
+/// What a variable of an object that is written so writes, or the first fault that neither
+/// the limit of static rows nor the object's places decide; an object that is read-only refuses each (RFC 3416, 4.2.5). It takes no
 /// memory.
 pub fn assignment_by(
     writable: Option<Writable>,

@@ -1,4 +1,4 @@
-use Rattle.std.proofs.Common.{◌≡◌, ◌∙◌, ℕ, ◌<◌, ◌≤◌, [], List, length, map, Option, None, IfSome, unwrap_or, not, FitsSigned, w32, rules, ap, sym, subst}
+use Rattle.std.proofs.Common.{◌≡◌, ◌∙◌, ℕ, ◌≤◌, [], List, length, map, Option, None, IfSome, unwrap_or, not, FitsSigned, w32, rules, ap, sym, subst}
 use Rattle.std.proofs.lemmas.Int.{to_z-of_z}
 use Rattle.message_core.specs.Canon.{answer_to}
 use Rattle.message_core.specs.declared.binding.Binding.{Binding}
@@ -13,13 +13,12 @@ use Rattle.setphase_core.specs.Objects.{ObjectRow, ObjectState}
 use Rattle.setphase_core.specs.Registry.{rows_of}
 use Rattle.setphase_core.specs.Settings.{same_settings, same_settings_of}
 use Rattle.setphase_core.specs.Variables.{writings}
-use Rattle.setphase_core.specs.Together.{assignments, refusal_of}
-use Rattle.setphase_core.specs.Staging.{static_count}
+use Rattle.setphase_core.specs.Together.{refusal_of}
 use Rattle.setphase_core.specs.Outcomes.{SetNotes, AreNotes, refusal_in, notes_in, changed_in, world_after_set}
 use Rattle.setphase_core.proofs.States.{on_err_always}
 use Rattle.setphase_core.specs.Calls.{calls_of, object_after_set, FollowPlans}
 use Rattle.agent_core.specs.Replies.{reply_within_limit}
-use Rattle.agent_core.specs.Sets.{MayFailInSet}
+use Rattle.agent_core.specs.Sets.{MayFailInSet, TakesPlaces}
 use Rattle.agent_core.specs.Answers.{IsSent}
 use Rattle.agent_core.specs.declared.answered.Answered.{Answered}
 use Rattle.agent_core.specs.declared.answered.Answered.TheVariants as answered
@@ -134,7 +133,8 @@ returns-in_err-outcome-clause-takes g c =
     let rows : List ObjectRow = rows_of c.args.registry.now in
     on_err_always c.from_residual.result (short_set rows c.args.world.now c.args.view request (sym c.is_too_long.ensures.too_long ∙ c.if-is_too_long.false)
     (subst (λ (bs : List Binding). refusal_of rows c.args.world.now c.args.view bs ≡ None) c.as_slice-bindings.ensures c.in_err-outcome.ensures.accepted)
-    (subst (λ (bs : List Binding). 0 < static_count (assignments (writings rows c.args.world.now bs))) c.as_slice-bindings.ensures c.in_err-outcome.ensures.writes_static))
+    (subst (λ (bs : List Binding). TakesPlaces c.args.world.now (writings rows c.args.world.now bs)) c.as_slice-bindings.ensures
+    (record { some = c.in_err-outcome.ensures.writes_static; lacks = c.in_err-outcome.ensures.lacks })))
 
 pub returns-in_err-answer-clause-takes : goal.returns-in_err-answer-clause-takes
 returns-in_err-answer-clause-takes g c =

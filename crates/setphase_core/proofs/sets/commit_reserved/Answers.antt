@@ -1,11 +1,13 @@
-use Rattle.std.proofs.Common.{◌≡◌, ◌∙◌, ℕ, ◌+◌, ◌≤◌, ap, sym, not, List, length, max, arith}
+use Rattle.std.proofs.Common.{◌≡◌, ◌∙◌, ℕ, ◌+◌, ◌<◌, ◌≤◌, ◌⊎◌, inl, inr, true, false, ap, sym, not, List, length, max, arith}
+use Rattle.std.proofs.lemmas.Bool.{cases_lt}
 use Rattle.bridge_core.specs.Bridge.{BridgeState}
 use Rattle.setphase_core.specs.declared.staging.Staged.{Staged}
 use Rattle.setphase_core.specs.declared.world.World.{World}
 use Rattle.setphase_core.specs.Settings.{bridge_keys, same_settings_of}
 use Rattle.setphase_core.specs.Together.{assign, assignments}
 use Rattle.setphase_core.specs.Outcomes.{notes_in, world_by}
-use Rattle.setphase_core.specs.Staging.{assignments_of}
+use Rattle.setphase_core.specs.Staging.{assignments_of, static_count}
+use Rattle.setphase_core.proofs.States.{on_err_always}
 use Rattle.setphase_core.proofs.Reserving.{with_places, assign_with, after_with, after_places, same_with, places_back}
 use Rattle.setphase_core.proofs.sets.commit_reserved.Goals as goal
 
@@ -46,3 +48,20 @@ returns-clause-world g c = λ ws staged agree.
     ap (λ (b : BridgeState). record after { bridge = b }) c.hold_static.ensures.held
     ∙ ap (with_places before) ended
     ∙ places_back before places (world_by ws w notes.commit undos) (c.static_places-places.ensures ∙ sym (after_places ws w notes.commit undos))
+
+-- What is not within what was sure, was not sure.
+not_within : (p q : ℕ) → (q ≤ p → ⊥) → p < q
+not_within p q never = elim (cases_lt p q) [
+  | inl less ↦ less
+  | inr within ↦ absurd (never within)
+]
+
+pub returns-in_err-reserve_static-clause-lacks : goal.returns-in_err-reserve_static-clause-lacks
+returns-in_err-reserve_static-clause-lacks g c =
+    let w : World = c.args.world.now in
+    let es = c.args.staging.now.staged.items in
+    on_err_always c.from_residual.result
+    (not_within w.bridge.statics.places (length w.bridge.statics.rows + static_count (assignments_of es))
+    (λ within.
+    let is : false ≡ true = c.in_err-reserve_static.ensures.within (omega (arith, within, c.count_static.ensures.count, ap (λ (xs : List Staged). static_count (assignments_of xs)) c.as_slice-staged.ensures.value)) in
+    absurd (cc)))

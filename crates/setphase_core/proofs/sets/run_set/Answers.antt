@@ -1,4 +1,4 @@
-use Rattle.std.proofs.Common.{◌≡◌, ◌↔◌, ◌<◌, ◌≤◌, ◌∙◌, sym, ap, subst, List, length, map, Option, None, IfOk, OnErr, IfSome, IsSome, rules}
+use Rattle.std.proofs.Common.{◌≡◌, ◌↔◌, ◌+◌, ◌<◌, ◌≤◌, ◌∙◌, sym, ap, subst, List, length, map, Option, None, IfOk, OnErr, IfSome, IsSome, rules}
 use Rattle.message_core.specs.declared.status.ErrorStatus.TheVariants.{NoAccess}
 use Rattle.vacm_core.specs.Families.{NamesFamilyOf}
 use Rattle.setphase_core.specs.declared.sets.Refusal.{Refusal}
@@ -9,7 +9,7 @@ use Rattle.setphase_core.specs.Registry.{rows_of, held_count}
 use Rattle.setphase_core.specs.Variables.{Written, writings}
 use Rattle.setphase_core.specs.Together.{assignments, refusal_of}
 use Rattle.setphase_core.specs.Calls.{calls_of, object_after_set, FollowPlans}
-use Rattle.setphase_core.specs.Outcomes.{AreNotes, notes_in, refusal_in, world_after_set}
+use Rattle.setphase_core.specs.Outcomes.{AreNotes, committed_of, notes_in, refusal_in, world_after_set}
 use Rattle.setphase_core.specs.Settings.{with_settings_of}
 use Rattle.setphase_core.specs.Staging.{static_count}
 use Rattle.setphase_core.proofs.Released.{rows_of-released}
@@ -94,6 +94,13 @@ returns-clause-writes_static g c =
     let rows = rows_same c.args.registry.now c.new-staging.result.registry.now c.new-staging.ensures.registry in
     err_then c.run_staged.result c.run_staged.ensures.writes_static
     (subst (λ (rs : List ObjectRow). 0 < static_count (assignments (writings rs c.args.world.now c.args.bindings.now))) rows)
+
+pub returns-clause-lacks : goal.returns-clause-lacks
+returns-clause-lacks g c =
+    let w : World = c.args.world.now in
+    let rows = rows_same c.args.registry.now c.new-staging.result.registry.now c.new-staging.ensures.registry in
+    err_then c.run_staged.result c.run_staged.ensures.lacks
+    (subst (λ (rs : List ObjectRow). w.bridge.statics.places < length w.bridge.statics.rows + static_count (assignments (committed_of (writings rs c.args.world.now c.args.bindings.now)))) rows)
 
 pub returns-clause-uncalled : goal.returns-clause-uncalled
 returns-clause-uncalled g c =

@@ -1,4 +1,6 @@
-use Rattle.std.proofs.Common.{◌≡◌, ◌∙◌, ap, sym, refl, subst, List, map, Option, None}
+use Rattle.std.proofs.Common.{◌≡◌, ◌∙◌, ◌+◌, ◌<◌, ap, sym, refl, subst, List, length, map, Option, None}
+use Rattle.setphase_core.specs.declared.object.Assignment.{Assignment}
+use Rattle.setphase_core.specs.Staging.{static_count}
 use Rattle.setphase_core.specs.declared.sets.Refusal.{Refusal}
 use Rattle.setphase_core.specs.declared.staging.Staged.{Staged}
 use Rattle.setphase_core.specs.declared.world.World.{World}
@@ -74,3 +76,9 @@ returns-in-None-clause-writes_static g c =
     let ws : List Written = writings (rows_of c.args.staging.now.registry.now) c.args.world.now c.args.bindings.now in
     err_then c.commit_reserved.result c.commit_reserved.ensures.writes_static
     (some_static ws c.refused.new.staging.staged.items c.in-None.ensures.ready.staged.written)
+
+pub returns-in-None-clause-lacks : goal.returns-in-None-clause-lacks
+returns-in-None-clause-lacks g c =
+    let w : World = c.args.world.now in
+    err_then c.commit_reserved.result c.commit_reserved.ensures.lacks
+    (subst (λ (ps : List Assignment). w.bridge.statics.places < length w.bridge.statics.rows + static_count ps) c.in-None.ensures.ready.staged.written)
