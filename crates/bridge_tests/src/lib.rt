@@ -1,8 +1,9 @@
-//! Tests of a bridge from outside: learned addresses, the spanning tree, static rows, and where
-//! frames go.
+//! Tests of a bridge from outside: flat copies of it, which bridges there cannot be, and static rows
+//! that are not made or have no promised place. What is learned, where frames go and the spanning
+//! tree are rows of the stored scripts.
 //!
 //! # Entry points
-//! None: the tests call what `fdb_core`, `rstp_core` and `bridge_core` offer.
+//! None: the tests call what `bridge_core` offers.
 //!
 //! # Definitions
 //! None.
@@ -15,10 +16,6 @@
 #![tactic(auto)]
 
 #[cfg(test)]
-mod learned;
-#[cfg(test)]
-mod relay;
+mod bridge;
 #[cfg(test)]
 mod statics;
-#[cfg(test)]
-mod tree;
