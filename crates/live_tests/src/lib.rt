@@ -1,5 +1,5 @@
-//! Tests of whole runs over wires in memory, of the objects that come back from them, and of a policy
-//! that comes to a history.
+//! Tests of histories, and of runs over wires in memory: whole runs, the objects that come back from
+//! them, a policy that comes to a history, and lines that go on interval by interval.
 //!
 //! # Entry points
 //! None.
@@ -19,7 +19,13 @@ mod counted;
 #[cfg(test)]
 mod failing;
 #[cfg(test)]
+mod fixtures;
+#[cfg(test)]
 mod gated;
+#[cfg(test)]
+mod histories;
+#[cfg(test)]
+mod laps;
 #[cfg(test)]
 mod lending;
 #[cfg(test)]

@@ -1,5 +1,5 @@
 //! The octets of the messages that tests share, beside those of other encoders.
-use fixtures::message::{Held, get, octets_of, reply};
+use crate::fixtures::message::{Held, get, octets_of, reply};
 use std::test::Fail;
 
 // A Get of dot1dBaseNumPorts.0, and its reply of two ports.

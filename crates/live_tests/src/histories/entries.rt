@@ -1,5 +1,5 @@
 //! Entries one after another: their numbers, their receipts, and what they leave.
-use crate::support::{entered, history_of};
+use crate::histories::support::{entered, history_of};
 use bridge_mib::Planned;
 use history_core::{Event, Kept, Mismatch, Receipt, Tally};
 use object_list::objects;

@@ -1,6 +1,6 @@
 //! A worker, a port and a ticker of two rounds a lap, whose wires and pace give more than that.
-use crate::support::{LinesOver, history, lines_failing, plan};
-use crate::watch::{self, HoldWatch, Told, Totals};
+use crate::laps::support::{LinesOver, history, lines_failing, plan};
+use crate::laps::watch::{self, HoldWatch, Told, Totals};
 use bridge_mib::Planned;
 use history_core::Kept;
 use live_agent::End;
