@@ -1,5 +1,5 @@
 //! The settings of a world by key.
-use crate::worlds::opening_world;
+use crate::registries::worlds::opening_world;
 use rstp_core::{BridgeKey, Key};
 use setting_keys::{SettingKey, SettingValue};
 use std::test::Fail;

@@ -1,7 +1,7 @@
 //! Boxed objects.
-use crate::plain::make_plain;
-use crate::registry::walks;
-use crate::worlds::opening_world;
+use crate::registries::plain::make_plain;
+use crate::registries::registry::walks;
+use crate::registries::worlds::opening_world;
 use message_core::Value;
 use setphase_core::{MibObject, World};
 use std::alloc::Global;

@@ -1,9 +1,9 @@
 //! Walks that pass over objects as a whole.
 ghost use Rattle.std.specs.Prelude.{◌≡◌, ◌<◌};
 
-use crate::named::registry_of;
-use crate::plain::make_plain;
-use crate::worlds::opening_world;
+use crate::registries::named::registry_of;
+use crate::registries::plain::make_plain;
+use crate::registries::worlds::opening_world;
 use message_core::Binding;
 use oid_core::begins;
 use setphase_core::{MibObject, Passing, Registry, World};

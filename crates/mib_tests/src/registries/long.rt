@@ -1,8 +1,8 @@
 //! Objects of long names, and the names of their instances.
-use crate::named::registry_of;
-use crate::plain::Plain;
-use crate::registry::number_at;
-use crate::worlds::opening_world;
+use crate::registries::named::registry_of;
+use crate::registries::plain::Plain;
+use crate::registries::registry::number_at;
+use crate::registries::worlds::opening_world;
 use oid_core::MAX_NUMBERS;
 use setphase_core::{MAX_INDEX, Registry, Slots, World};
 use std::alloc::Global;

@@ -1,7 +1,7 @@
 //! Objects in the order of their names, and what they show together.
-use crate::named::registry_of;
-use crate::plain::make_plain;
-use crate::worlds::opening_world;
+use crate::registries::named::registry_of;
+use crate::registries::plain::make_plain;
+use crate::registries::worlds::opening_world;
 use message_core::{Binding, Value};
 use setphase_core::{MibObject, Registry, RegistryFault, World};
 use std::alloc::Global;
