@@ -26,8 +26,7 @@ leads Anywhere out = true
 leads (By r) out = r == out
 leads (Listed ports) out = has_port ports out
 
--- Whether a frame that came by a port may go out by the port `out`, if it may go by that: that forwards,
--- and they are two.
+-- Whether the port `out` is open to a frame that came by a port: it forwards, and they are two.
 abbrev pub is_open : ℕ → Tree → ℕ → Bool
 is_open port t out = is_forwarding (port_at t out).state && not (out == port)
 

@@ -68,8 +68,7 @@ pub fn find_way(
     }
 }
 
-// Whether a frame that came by a port goes out by another one, where it may go by that: the other one
-// forwards.
+// Whether a port is open to a frame that came by another one: it forwards, and it is not that port.
 fn is_open(port: u16, from: u16, tree: &Rstp) -> bool
     requires { HasPort tree.now port }
     ensures { result ≡ is_open from tree.now port }
@@ -77,7 +76,7 @@ fn is_open(port: u16, from: u16, tree: &Rstp) -> bool
     tree.state(port).is_forwarding() && port != from
 }
 
-// The same, where it may go by these ports.
+// The same, and that the port is one of these.
 fn is_listed(ports: &PortSet, port: u16, from: u16, tree: &Rstp) -> bool
     requires { HasPort tree.now port }
     ensures { result ≡ goes_by (has_port ports.now) from tree.now port }
