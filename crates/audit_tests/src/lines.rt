@@ -56,7 +56,7 @@ fn settings(keys: &[Key]) -> SettingKeys {
     settings
 }
 
-// The audit of a Set that could not put these settings back.
+// The audit of a Set that could not restore these settings.
 fn undo_failed(alloc: Global, keys: &[Key]) -> Result<Audit, Fail> {
     let row = row_of(Name::of("writers"));
     let view = Name::of("w");
