@@ -1,5 +1,6 @@
 //! Tests of histories, and of runs over wires in memory: whole runs, the objects that come back from
-//! them, a policy that comes to a history, and lines that go on interval by interval.
+//! them, a policy that comes to a history, and lines that go on interval by interval; and of the line
+//! of an audit that names all settings which may be unrestored.
 //!
 //! # Entry points
 //! None.
@@ -14,6 +15,8 @@
 //! Anything: it only tests.
 #![tactic(auto)]
 
+#[cfg(test)]
+mod audits;
 #[cfg(test)]
 mod counted;
 #[cfg(test)]
