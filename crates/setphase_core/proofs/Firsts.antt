@@ -1,10 +1,10 @@
 -- What variables write, and what is staged of it: the first of each setting.
-use Rattle.std.proofs.Common.{◌≡◌, ◌≢◌, ℕ, ◌∙◌, sym, ap, refl, Bool, true, false, not, cond, ◌&&◌, ◌||◌, List, [], ◌∷◌, ◌++◌, Option, Some, None, is_some, arith, append_assoc}
+use Rattle.std.proofs.Common.{◌≡◌, ◌≢◌, ℕ, ◌∙◌, sym, ap, refl, Bool, true, false, not, cond, ◌&&◌, ◌||◌, List, [], ◌∷◌, ◌++◌, Option, Some, None, is_some, append_assoc}
 use Rattle.setting_keys.specs.declared.SettingKey.{SettingKey}
 use Rattle.setting_keys.specs.declared.SettingValue.{SettingValue}
 use Rattle.setting_keys.specs.declared.SettingValue.TheVariants.{Number, Ports}
 use Rattle.std.specs.Bool.{Decides}
-use Rattle.std.proofs.lemmas.Bool.Decides.{Decides-eqb, Decides-like, nat_tests}
+use Rattle.std.proofs.lemmas.Bool.Decides.{Decides-eqb, Decides-like}
 use Rattle.std.proofs.lemmas.Slice.Eq.{slice_eq-Decides}
 use Rattle.fdb_core.specs.declared.port_set.PortSet.{PortSet}
 use Rattle.setphase_core.specs.declared.world.World.{World}

@@ -23,7 +23,7 @@ use Rattle.fdb_core.specs.PortSets.{IsOfPorts}
 use Rattle.fdb_core.specs.Statics.{row_of}
 use Rattle.fdb_core.proofs.StaticFound.{same_tables}
 use Rattle.bridge_core.specs.Bridge.{BridgeState, port_count}
-use Rattle.bridge_core.specs.Statics.{is_made_in, ports_of, is_made, allowed, with_static, set_made, set_allowed, HasStatics, AreStaticRows}
+use Rattle.bridge_core.specs.Statics.{is_made_in, ports_of, is_made, allowed, with_static, set_made, set_allowed, HasStatics}
 use Rattle.bridge_core.proofs.StaticKept.{allowed_ports, with_row}
 use Rattle.setphase_core.specs.Settings.{setting, put, HasSetting, HasStaticSetting, IsSettingInRange, made_number, made_by, same_index, same_setting, is_static, with_settings, with_rows}
 use Rattle.setphase_core.proofs.StaticPuts.{index-exact, index-itself, index-other, left_by, same_there, rising_with, made_twice, allowed_twice, made_again, allowed_again, made_either, allowed_either, both_either, made_after, ports_after, made_others, allowed_others, made_keeps_ports, allowed_keeps_made}

@@ -2,8 +2,6 @@
 use Rattle.std.proofs.Common.{◌≡◌, ℕ, ◌+◌, ◌<◌, ◌≤◌, ◌∙◌, sym, ap, subst, refl, Bool, true, false, cond, List, [], ◌∷◌, ◌++◌, length, max, arith, Option, Some, None}
 use Rattle.fdb_core.specs.Statics.{with_places_for}
 use Rattle.bridge_core.specs.Bridge.{BridgeState}
-use Rattle.bridge_core.specs.Statics.{HasStatics}
-use Rattle.bridge_core.specs.StaticIndexes.{IsStaticIndex}
 use Rattle.setting_keys.specs.declared.SettingKey.{SettingKey}
 use Rattle.setting_keys.specs.declared.SettingKey.TheVariants.{Bridge, Made, Allowed}
 use Rattle.setting_keys.specs.declared.SettingValue.{SettingValue}
@@ -11,10 +9,10 @@ use Rattle.setting_keys.specs.declared.SettingValue.TheVariants.{Number, Ports}
 use Rattle.setphase_core.specs.declared.object.Assignment.{Assignment}
 use Rattle.setphase_core.specs.declared.staging.Staged.{Staged}
 use Rattle.setphase_core.specs.declared.world.World.{World}
-use Rattle.setphase_core.specs.Objects.{ObjectState, IsReserved, IsCommitted}
-use Rattle.setphase_core.specs.Outcomes.{SetNotes, world_by, world_after_set, stuck, has_key, firsts, committed_of, keys_of}
-use Rattle.setphase_core.specs.Settings.{put, same_settings_of, HasSetting, HasStaticSetting, IsSettingInRange, bridge_keys, is_static}
-use Rattle.setphase_core.specs.Staging.{IsUnderWay, StandsReserved, StandsUndoable, HasRoomFor, assignments_of, static_count, object_at, entry_at}
+use Rattle.setphase_core.specs.Objects.{ObjectState, IsCommitted}
+use Rattle.setphase_core.specs.Outcomes.{world_by, world_after_set, stuck, has_key, firsts, committed_of, keys_of}
+use Rattle.setphase_core.specs.Settings.{put, same_settings_of, HasSetting, IsSettingInRange}
+use Rattle.setphase_core.specs.Staging.{IsUnderWay, StandsUndoable, HasRoomFor, assignments_of, static_count, object_at, entry_at}
 use Rattle.setphase_core.specs.Together.{assign, assignments}
 use Rattle.setphase_core.specs.Variables.{Written}
 use Rattle.setphase_core.proofs.Room.{places-assign}

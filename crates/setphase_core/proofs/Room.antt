@@ -1,7 +1,5 @@
 -- Memory for the static rows that a Set brings in.
-use Rattle.std.proofs.Common.{◌≡◌, ℕ, zero, suc, ◌+◌, ◌<◌, ◌≤◌, ◌∙◌, sym, ap, subst, refl, Bool, true, false, cond, List, [], ◌∷◌, ◌++◌, length, take, drop, arith, add_assoc}
-use Rattle.fdb_core.specs.declared.port_set.PortSet.{PortSet}
-use Rattle.fdb_core.specs.declared.static_row.StaticRow.{StaticRow}
+use Rattle.std.proofs.Common.{◌≡◌, ℕ, zero, suc, ◌+◌, ◌<◌, ◌≤◌, ◌∙◌, sym, ap, subst, refl, Bool, true, false, cond, List, [], ◌∷◌, ◌++◌, length, take, drop, arith}
 use Rattle.bridge_core.specs.Bridge.{port_count}
 use Rattle.bridge_core.specs.Statics.{is_made, allowed}
 use Rattle.setting_keys.specs.declared.SettingKey.{SettingKey}

@@ -130,6 +130,3 @@ none_staged es w n all same =
 
 -- ---- what could not be undone
 
-pub writers_none : (ws : List Written) → writers_of [] ws ≡ []
-writers_none [] = refl
-writers_none (x ∷ ws) = writers_none ws

@@ -1,8 +1,8 @@
 -- Static rows to which another is put, as settings see it: what is made of each index, and which
 -- ports are allowed to it.
-use Rattle.std.proofs.Common.{◌≡◌, ◌≢◌, ℕ, zero, suc, ◌+◌, ◌-◌, ◌<◌, ◌≤◌, Bool, true, false, not, ◌||◌, cond, List, [], ◌∷◌, ◌++◌, length, get_or, take, map, Option, Some, None, refl, sym, ap, subst, ◌∙◌, arith, length-append}
-use Rattle.std.specs.Prelude.{nat_lt, filter}
-use Rattle.std.specs.List.{range_with_len, list_all}
+use Rattle.std.proofs.Common.{◌≡◌, ◌≢◌, ℕ, suc, ◌+◌, ◌-◌, ◌<◌, ◌≤◌, Bool, true, false, not, ◌||◌, cond, List, [], ◌∷◌, ◌++◌, length, get_or, take, map, Option, Some, None, refl, sym, ap, subst, ◌∙◌, arith, length-append}
+use Rattle.std.specs.Prelude.{nat_lt}
+use Rattle.std.specs.List.{range_with_len}
 use Rattle.std.specs.Ordering.{is_lt, is_eq, is_gt}
 use Rattle.std.specs.declared.cmp.Ordering.{Ordering}
 use Rattle.std.specs.declared.cmp.Ordering.TheVariants.{Less, Equal, Greater}
@@ -20,7 +20,7 @@ use Rattle.fdb_core.proofs.StaticOrder.{same_index as index_is}
 use Rattle.fdb_core.proofs.StaticFound.{its_own, others_keep, none_left, others_left, found_index, same_tables}
 use Rattle.fdb_core.proofs.StaticKept.{rising_put, rising_without}
 use Rattle.bridge_core.specs.Statics.{is_made_in, ports_of, says, rows_with, IsStaticRow, AreStaticRows}
-use Rattle.bridge_core.proofs.StaticKept.{first_of_ports, allowed_ports}
+use Rattle.bridge_core.proofs.StaticKept.{allowed_ports}
 use Rattle.setphase_core.specs.Settings.{same_index}
 
 -- ---- indexes

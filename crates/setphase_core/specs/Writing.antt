@@ -1,10 +1,9 @@
 -- How a Set writes each object, as RFC 4188 (BRIDGE-MIB) and RFC 4318 (RSTP-MIB) have it: which
 -- setting, which INTEGERs, and what the test of a variable answers (RFC 3416, 4.2.5). Above each
 -- row stand its name under 1.3.6.1.2.1.17 and its descriptor; all other objects are read-only.
-use Rattle.std.specs.Prelude.{ℕ, ◌+◌, ◌%◌, ◌==◌, ◌&&◌, ◌<◌, nat_le, nat_lt, ℤ, pos, negsuc, Bool, true, false, not, if◌then◌else◌, List, [], ◌∷◌, ◌++◌, length, map, filter, Option, Some, None, Result, Ok, Err}
+use Rattle.std.specs.Prelude.{ℕ, ◌+◌, ◌%◌, ◌==◌, ◌&&◌, ◌<◌, nat_le, nat_lt, ℤ, pos, negsuc, Bool, false, not, if◌then◌else◌, List, [], ◌∷◌, ◌++◌, length, map, filter, Option, Some, None, Result, Ok, Err}
 use Rattle.std.specs.List.{list_all, list_any}
 use Rattle.std.specs.Option.{option_map}
-use Rattle.frame_core.specs.declared.mac.Mac.{Mac}
 use Rattle.frame_core.specs.Octets.{same_mac}
 use Rattle.fdb_core.specs.declared.static_row.StaticIndex.{StaticIndex}
 use Rattle.fdb_core.specs.PortSets.{ports_in, has_other_port}

@@ -1,4 +1,4 @@
-use Rattle.std.proofs.Common.{◌≡◌, ◌≢◌, ◌∙◌, sym, true, false, rules, arith, length}
+use Rattle.std.proofs.Common.{◌≡◌, ◌≢◌, ◌∙◌, sym, true, false, arith, length}
 use Rattle.setphase_core.specs.Settings.{setting, same_value}
 use Rattle.setphase_core.specs.Staging.{entry_at}
 use Rattle.setphase_core.proofs.Equal.{value_equal}

@@ -2,10 +2,8 @@ use Rattle.std.proofs.Common.{◌≡◌, ◌∙◌, ◌-◌, ℕ, ap, sym, refl,
 use Rattle.setphase_core.specs.declared.staging.Staged.{Staged}
 use Rattle.setphase_core.specs.declared.world.World.{World}
 use Rattle.setphase_core.specs.Objects.{ObjectState}
-use Rattle.setphase_core.specs.Registry.{rows_of}
 use Rattle.setting_keys.specs.declared.SettingKey.{SettingKey}
 use Rattle.setphase_core.specs.Settings.{bridge_keys, same_settings_of}
-use Rattle.setphase_core.specs.Variables.{Written}
 use Rattle.setphase_core.specs.Together.{assign, assignments}
 use Rattle.setphase_core.specs.Calls.{calls_by, object_after_set, FollowPlans}
 use Rattle.setphase_core.specs.Outcomes.{CanFail, stuck}

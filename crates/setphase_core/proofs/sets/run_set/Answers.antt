@@ -1,19 +1,17 @@
-use Rattle.std.proofs.Common.{◌≡◌, ◌↔◌, ◌+◌, ◌<◌, ◌≤◌, ◌∙◌, sym, ap, subst, List, length, map, Option, None, IfOk, OnErr, IfSome, IsSome, rules}
+use Rattle.std.proofs.Common.{◌≡◌, ◌↔◌, ◌+◌, ◌<◌, ◌≤◌, ◌∙◌, sym, ap, subst, List, length, map, IfSome, IsSome, rules}
 use Rattle.message_core.specs.declared.status.ErrorStatus.TheVariants.{NoAccess}
 use Rattle.vacm_core.specs.Families.{NamesFamilyOf}
 use Rattle.setphase_core.specs.declared.sets.Refusal.{Refusal}
-use Rattle.setphase_core.specs.declared.sets.SetOutcome.{SetOutcome}
 use Rattle.setphase_core.specs.declared.world.World.{World}
 use Rattle.setphase_core.specs.Objects.{ObjectRow, ObjectState, object_after_release}
 use Rattle.setphase_core.specs.Registry.{rows_of, held_count}
-use Rattle.setphase_core.specs.Variables.{Written, writings}
+use Rattle.setphase_core.specs.Variables.{writings}
 use Rattle.setphase_core.specs.Together.{assignments, refusal_of}
 use Rattle.setphase_core.specs.Calls.{calls_of, object_after_set, FollowPlans}
 use Rattle.setphase_core.specs.Outcomes.{AreNotes, committed_of, notes_in, refusal_in, world_after_set}
-use Rattle.setphase_core.specs.Settings.{with_settings_of}
 use Rattle.setphase_core.specs.Staging.{static_count}
 use Rattle.setphase_core.proofs.Released.{rows_of-released}
-use Rattle.setphase_core.proofs.Runs.{fresh, released-twice, dropped, dropped_plans, ok_then, ok_both, err_then, either_way}
+use Rattle.setphase_core.proofs.Runs.{fresh, released-twice, dropped, dropped_plans, ok_then, err_then, either_way}
 use Rattle.setphase_core.proofs.Told.{refusal_numbered, failed_numbered, refusal_family, refusal_no_access}
 use Rattle.setphase_core.proofs.Kept.{set_keeps, rows_of-after, held_count-after, held_count-released, kept_itself}
 use Rattle.setphase_core.proofs.sets.run_set.Goals as goal
