@@ -1,17 +1,5 @@
-//! What the tests share.
-use message_core::{Binding, DropCause, Value, decode};
-use std::alloc::{AllocError, Global};
-use std::process::Abort;
-use std::test::Fail;
-
-/// A copy of the one binding that a request has.
-pub fn binding_in(alloc: Global, datagram: &[u8]) -> Result<Binding, Fail> {
-    let request = decode(alloc, datagram)?;
-    match request.bindings.as_slice() {
-        [binding] => Ok(binding.try_copy(alloc)?),
-        _ => Err(Fail::from("one binding")),
-    }
-}
+//! What a value is: its type, and its number, its octets or its sub-identifiers.
+use message_core::Value;
 
 /// The type of a value and its number, its octets or its sub-identifiers.
 pub type Shown<'a> = (&'static str, u64, &'a [u8], &'a [u32]);
@@ -72,41 +60,4 @@ pub fn shown(value: &Value) -> Shown {
         octets_of(value),
         numbers_of(value),
     )
-}
-
-/// What is written, the first octets of a buffer, is a datagram.
-pub fn assert_written(rt: &impl Abort, buffer: &[u8], len: usize, datagram: &[u8]) {
-    assert_eq!(rt; buffer.get(..len), Some(datagram), "{datagram:?}");
-}
-
-// Another octet at a place, where there is one.
-fn put(octets: &mut [u8], place: usize, octet: u8) {
-    if let Some(found) = octets.get_mut(place) {
-        *found = octet;
-    }
-}
-
-/// A datagram in which these octets are others.
-pub fn changed(
-    alloc: Global,
-    datagram: &[u8],
-    changes: &[(usize, u8)],
-) -> Result<Vec<u8>, AllocError> {
-    let mut other = datagram.to_vec(alloc)?;
-    for (place, octet) in changes {
-        put(&mut other, *place, *octet);
-    }
-    Ok(other)
-}
-
-/// What drops a datagram in which these octets are others, and which has some more behind it.
-pub fn cause_with(
-    alloc: Global,
-    datagram: &[u8],
-    changes: &[(usize, u8)],
-    end: &[u8],
-) -> Result<Option<DropCause>, Fail> {
-    let mut other = changed(alloc, datagram, changes)?;
-    other.extend_from_slice(end)?;
-    Ok(decode(alloc, &other).err())
 }
