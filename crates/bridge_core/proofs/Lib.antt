@@ -1,5 +1,6 @@
 pub mod Counts
 pub mod Walks
+pub mod Single
 pub mod Changes
 pub mod Ways
 pub mod Relayed

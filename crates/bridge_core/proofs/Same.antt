@@ -2,6 +2,7 @@
 use Rattle.std.proofs.Common.{◌≡◌, Bool, List, refl, ap, rules}
 use Rattle.std.specs.Bool.{Decides}
 use Rattle.std.specs.Cmp.{booleans_Decides}
+use Rattle.std.specs.Cmp.Lexicographic.{pointwise}
 use Rattle.std.proofs.lemmas.Bool.Decides.{Decides-and, Decides-like}
 use Rattle.std.proofs.lemmas.Slice.Eq.{slice_eq-Decides}
 use Rattle.fdb_core.specs.declared.row.Row.{Row}
@@ -35,3 +36,6 @@ static-Decides r s =
     (λ h i. record { index = h.0 i; made = h.1.0 i; ports = h.1.1 i })
     (λ e. (ap (λ (x : StaticRow). x.index) e, (ap (λ (x : StaticRow). x.made) e, ap (λ (x : StaticRow). x.ports) e)))
     (Decides-and _ _ (index-Decides _ _) (Decides-and _ _ (booleans_Decides _ _) (ports-Decides _ _)))
+
+pub static_rows : (rows others : List StaticRow) (r : Bool) → r ≡ pointwise same_static.eq-value.it rows others → Decides r (rows ≡ others)
+static_rows rows others r e = slice_eq-Decides static-Decides rows others r e

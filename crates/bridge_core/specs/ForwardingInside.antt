@@ -26,7 +26,11 @@ leads Anywhere out = true
 leads (By r) out = r == out
 leads (Listed ports) out = has_port ports out
 
+-- Whether the port `out` is open to a frame that came by a port: it forwards, and they are two.
+abbrev pub is_open : ℕ → Tree → ℕ → Bool
+is_open port t out = is_forwarding (port_at t out).state && not (out == port)
+
 -- Whether a frame that came by a port goes out by the port `out`, where it may go by a port that
 -- passes the test.
 abbrev pub goes_by : (ℕ → Bool) → ℕ → Tree → ℕ → Bool
-goes_by way port t out = is_forwarding (port_at t out).state && not (out == port) && way out
+goes_by way port t out = is_open port t out && way out

@@ -1,5 +1,5 @@
 -- Which configurations make a bridge, and what it is at first.
-use Rattle.std.specs.Prelude.{ℕ, ◌==◌, ◌||◌, Bool, not, nat_lt, if◌then◌else◌, List, [], length, replicate, Option, Some, None}
+use Rattle.std.specs.Prelude.{◌==◌, ◌||◌, not, nat_lt, if◌then◌else◌, List, [], length, replicate, Option, Some, None}
 use Rattle.std.specs.List.{list_all}
 use Rattle.frame_core.specs.declared.mac.Mac.{Mac}
 use Rattle.frame_core.specs.Octets.{is_group}

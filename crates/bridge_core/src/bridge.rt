@@ -298,11 +298,8 @@ impl Bridge {
         ensures after { self.new ≡ set_made index made self.old }
         ensures ports { port_count self.new ≡ port_count self.old }
     {
-        let before = statics::is_made(&self.statics, index);
         let count = self.tree.ports();
-        let ports = statics::allowed(&self.statics, index, count);
-        statics::put(&mut self.statics, count, StaticRow { index, made, ports });
-        before
+        statics::put_made(&mut self.statics, count, index, made)
     }
 
     /// Sets the ports that are allowed to frames of the index, and answers those before. They count
@@ -317,10 +314,7 @@ impl Bridge {
         ensures ports { port_count self.new ≡ port_count self.old }
     {
         let count = self.tree.ports();
-        let before = statics::allowed(&self.statics, index, count);
-        let made = statics::is_made(&self.statics, index);
-        statics::put(&mut self.statics, count, StaticRow { index, made, ports });
-        before
+        statics::put_allowed(&mut self.statics, count, index, ports)
     }
 
     /// The first made static row whose seven numbers, the octets of its address and its port, are

@@ -92,12 +92,27 @@ impl FlatBridge {
             && self.learned.as_slice() == other.learned.as_slice()
     }
 
+    // Whether the static rows of the two bridges are equal.
+    fn same_statics(&self, other: &FlatBridge) -> bool
+        ensures { IsTrue result ↔ (self.now.statics.rows ≡ other.now.statics.rows) }
+    {
+        same_rows(self.statics.as_slice(), other.statics.as_slice())
+    }
+
     /// Whether the two bridges are equal in all that they keep: settings, spanning tree, learned
     /// rows with their ages, static rows, and counters; for how many static rows they are sure of
     /// memory is not looked at. It takes no memory.
     pub fn same(&self, other: &FlatBridge) -> bool
         ensures { IsTrue result ↔ (without_places self.now ≡ without_places other.now) }
     {
-        self.same_but_statics(other) && self.statics.as_slice() == other.statics.as_slice()
+        self.same_but_statics(other) && self.same_statics(other)
     }
+}
+
+// Whether the rows are equal.
+#[tactic(auto, using(crate::proofs::Same::static_rows))]
+fn same_rows(rows: &[StaticRow], others: &[StaticRow]) -> bool
+    ensures { IsTrue result ↔ (rows.now ≡ others.now) }
+{
+    rows == others
 }

@@ -1,9 +1,11 @@
 //! By which ports a frame goes out (IEEE 802.1D-2004 7.7, 7.9, 7.12).
-ghost use Rattle.std.specs.Prelude.{◌≡◌, ◌≤◌, ◌<◌, ◌+◌, ℕ, length, [], ◌∷◌, ◌++◌, if◌then◌else◌, None};
+ghost use Rattle.std.specs.Prelude.{◌≡◌, ◌↔◌, ◌≤◌, ◌<◌, ◌+◌, ℕ, length, [], ◌∷◌, ◌++◌, if◌then◌else◌, None, IsTrue};
+ghost use Rattle.fdb_core.specs.PortSets.{has_port};
+ghost use Rattle.rstp_settings.specs.Table.{IsPortOf};
 ghost use Rattle.rstp_core.specs.Tree.{HasPort};
 ghost use Rattle.bridge_core.specs.Counting.{with_frame_out, sent_where};
 ghost use Rattle.bridge_core.specs.Forwarding.{is_reserved, may_go, ports_where};
-ghost use Rattle.bridge_core.specs.ForwardingInside.{is_way, leads, goes_by};
+ghost use Rattle.bridge_core.specs.ForwardingInside.{is_way, leads, is_open, goes_by};
 
 use crate::counters::PortCounters;
 use crate::statics::find_listed;
@@ -23,21 +25,6 @@ pub enum Way {
     By(u16),
     /// By the ports of a static row.
     Listed(PortSet),
-}
-
-impl Way {
-    /// Whether a frame may go by this port.
-    fn leads(self, port: u16) -> bool
-        requires { 1 ≤ port }
-        ensures { result ≡ leads self port }
-    {
-        match self {
-            Way::Nowhere => false,
-            Way::Anywhere => true,
-            Way::By(one) => one == port,
-            Way::Listed(ports) => ports.has(port),
-        }
-    }
 }
 
 /// Whether an address is one of 0180C2000000 to 0180C200000F, which no bridge forwards (7.12.6).
@@ -81,11 +68,27 @@ pub fn find_way(
     }
 }
 
-fn goes_by(way: Way, from: u16, tree: &Rstp, port: u16) -> bool
+// Whether a port is open to a frame that came by another one: it forwards, and it is not that port.
+fn is_open(port: u16, from: u16, tree: &Rstp) -> bool
     requires { HasPort tree.now port }
-    ensures { result ≡ goes_by (leads way) from tree.now port }
+    ensures { result ≡ is_open from tree.now port }
 {
-    tree.state(port).is_forwarding() && port != from && way.leads(port)
+    tree.state(port).is_forwarding() && port != from
+}
+
+// The same, and that the port is one of these.
+fn is_listed(ports: &PortSet, port: u16, from: u16, tree: &Rstp) -> bool
+    requires { HasPort tree.now port }
+    ensures { result ≡ goes_by (has_port ports.now) from tree.now port }
+{
+    is_open(port, from, tree) && ports.has(port)
+}
+
+// Whether there is a port of this number, where there are so many.
+fn is_port(port: u16, count: usize) -> bool
+    ensures { IsTrue result ↔ IsPortOf count port }
+{
+    port >= 1 && port as usize <= count
 }
 
 fn send_one(
@@ -106,8 +109,74 @@ fn send_one(
     }
 }
 
+// Sends a frame by the port of this number, where there is one and it is open.
+#[tactic(auto, using(crate::proofs::Single::ports_by_one, crate::proofs::Single::sent_by_one, crate::proofs::Single::ports_by_none, crate::proofs::Single::sent_by_none))]
+fn send_to_one(
+    one: u16,
+    from: u16,
+    tree: &Rstp,
+    counters: &mut [PortCounters],
+) -> ArrayVec<u16, MAX_PORTS>
+    requires { length counters.old ≡ length tree.now.ports }
+    ensures egress { result.items ≡ ports_where (goes_by (leads (Way.By one)) from tree.now)
+        (length tree.now.ports) }
+    ensures counters { counters.new
+        ≡ sent_where (goes_by (leads (Way.By one)) from tree.now) counters.old }
+{
+    let mut egress = ArrayVec::new();
+    if !is_port(one, counters.len()) {
+        return egress;
+    }
+    let goes = is_open(one, from, tree);
+    send_one(goes, one, &mut counters[one as usize - 1], &mut egress);
+    egress
+}
+
+// Sends a frame by all open ports.
+fn send_to_all(from: u16, tree: &Rstp, counters: &mut [PortCounters]) -> ArrayVec<u16, MAX_PORTS>
+    requires ports { length counters.old ≡ length tree.now.ports }
+    requires few { length tree.now.ports ≤ MAX_PORTS }
+    ensures egress { result.items ≡ ports_where (goes_by (leads Way.Anywhere) from tree.now)
+        (length tree.now.ports) }
+    ensures counters { counters.new
+        ≡ sent_where (goes_by (leads Way.Anywhere) from tree.now) counters.old }
+{
+    let mut egress = ArrayVec::new();
+    for i in 0..counters.len() {
+        let port = i as u16 + 1;
+        let goes = is_open(port, from, tree);
+        send_one(goes, port, &mut counters[i], &mut egress);
+    }
+    egress
+}
+
+// Sends a frame by the open ports among those of a static row.
+fn send_to_listed(
+    ports: &PortSet,
+    from: u16,
+    tree: &Rstp,
+    counters: &mut [PortCounters],
+) -> ArrayVec<u16, MAX_PORTS>
+    requires ports { length counters.old ≡ length tree.now.ports }
+    requires few { length tree.now.ports ≤ MAX_PORTS }
+    ensures egress { result.items ≡ ports_where (goes_by (has_port ports.now) from tree.now)
+        (length tree.now.ports) }
+    ensures counters { counters.new
+        ≡ sent_where (goes_by (has_port ports.now) from tree.now) counters.old }
+{
+    let mut egress = ArrayVec::new();
+    for i in 0..counters.len() {
+        let port = i as u16 + 1;
+        let goes = is_listed(ports, port, from, tree);
+        send_one(goes, port, &mut counters[i], &mut egress);
+    }
+    egress
+}
+
 /// Sends a frame by the forwarding ports to which the way leads, but for the port by which it came:
-/// counts it there, and answers their numbers, rising.
+/// counts it there, and answers their numbers, rising. All ports are gone over only where the way may
+/// lead to more than one.
+#[tactic(auto, using(crate::proofs::Single::ports_nowhere, crate::proofs::Single::sent_nowhere))]
 pub fn send_out(
     way: Way,
     from: u16,
@@ -120,11 +189,10 @@ pub fn send_out(
         (length tree.now.ports) }
     ensures counters { counters.new ≡ sent_where (goes_by (leads way) from tree.now) counters.old }
 {
-    let mut egress = ArrayVec::new();
-    for i in 0..counters.len() {
-        let port = i as u16 + 1;
-        let goes = goes_by(way, from, tree, port);
-        send_one(goes, port, &mut counters[i], &mut egress);
+    match way {
+        Way::Nowhere => ArrayVec::new(),
+        Way::By(one) => send_to_one(one, from, tree, counters),
+        Way::Anywhere => send_to_all(from, tree, counters),
+        Way::Listed(ports) => send_to_listed(&ports, from, tree, counters),
     }
-    egress
 }

@@ -34,9 +34,9 @@ pub fn allowed(statics: &StaticTable, index: StaticIndex, count: usize) -> PortS
     }
 }
 
-/// Puts a row at a bridge of so many ports, where it says something; else removes the one of its
-/// index.
-pub fn put(statics: &mut StaticTable, count: usize, row: StaticRow)
+// Puts a row at a bridge of so many ports, where it says something; else removes the one of its
+// index.
+fn put(statics: &mut StaticTable, count: usize, row: StaticRow)
     requires count { count ≤ MAX_SET_PORTS }
     requires place { says count row.made row.ports ≡ true → HasPlaceFor statics.old row.index }
     ensures { statics.new ≡ record statics.old { rows = rows_with count row statics.old.rows } }
@@ -46,6 +46,53 @@ pub fn put(statics: &mut StaticTable, count: usize, row: StaticRow)
     } else {
         statics.remove(row.index);
     }
+}
+
+/// Makes the row of the index, or makes it no more, at a bridge of so many ports, and answers whether
+/// it was made. Its ports stay as they are.
+pub fn put_made(statics: &mut StaticTable, count: usize, index: StaticIndex, made: bool) -> bool
+    requires count { count ≤ MAX_SET_PORTS }
+    requires place { says count made (ports_of count (row_of statics.old.rows index)) ≡ true
+        → HasPlaceFor statics.old index }
+    ensures before { result ≡ is_made_in (row_of statics.old.rows index) }
+    ensures after { statics.new ≡ record statics.old {
+      rows = rows_with count (record {
+        index = index;
+        made = made;
+        ports = ports_of count (row_of statics.old.rows index);
+      }) statics.old.rows;
+    } }
+{
+    let before = is_made(statics, index);
+    let ports = allowed(statics, index, count);
+    put(statics, count, StaticRow { index, made, ports });
+    before
+}
+
+/// Sets the ports that are allowed to the index, at a bridge of so many ports, and answers those
+/// before. Its row is made as it was.
+pub fn put_allowed(
+    statics: &mut StaticTable,
+    count: usize,
+    index: StaticIndex,
+    ports: PortSet,
+) -> PortSet
+    requires count { count ≤ MAX_SET_PORTS }
+    requires place { says count (is_made_in (row_of statics.old.rows index)) ports ≡ true
+        → HasPlaceFor statics.old index }
+    ensures before { result ≡ ports_of count (row_of statics.old.rows index) }
+    ensures after { statics.new ≡ record statics.old {
+      rows = rows_with count (record {
+        index = index;
+        made = is_made_in (row_of statics.old.rows index);
+        ports = ports;
+      }) statics.old.rows;
+    } }
+{
+    let before = allowed(statics, index, count);
+    let made = is_made(statics, index);
+    put(statics, count, StaticRow { index, made, ports });
+    before
 }
 
 /// Drops the rows that are not made: the ports that were set for them are all ports again.

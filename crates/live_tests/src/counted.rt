@@ -2,10 +2,10 @@
 //! calls that it gets before and behind.
 use crate::support::{asking, history_over, lines_of, run};
 use bridge_mib::{LineDriver, PortEnable};
-use fixtures::message::Held::Integer;
-use fixtures::message::{Message, Pdu};
-use fixtures::names::{ENABLE_1, ENABLE_2, PRIORITY};
-use fixtures::worlds::built_in;
+use crate::fixtures::message::Held::Integer;
+use crate::fixtures::message::{Message, Pdu};
+use crate::fixtures::names::{ENABLE_1, ENABLE_2, PRIORITY};
+use crate::fixtures::worlds::built_in;
 use history_core::Kept;
 use object_list::{COLUMNS, ColumnDescriptor, ENABLE, PlainObject};
 use setphase_core::{DeviceFault, MibObject};

@@ -1,5 +1,6 @@
-//! Tests of whole runs over wires in memory, of the objects that come back from them, and of a policy
-//! that comes to a history.
+//! Tests of histories, and of runs over wires in memory: whole runs, the objects that come back from
+//! them, a policy that comes to a history, and lines that go on interval by interval; and of the line
+//! of an audit that names all settings which may be unrestored.
 //!
 //! # Entry points
 //! None.
@@ -15,11 +16,19 @@
 #![tactic(auto)]
 
 #[cfg(test)]
+mod audits;
+#[cfg(test)]
 mod counted;
 #[cfg(test)]
 mod failing;
 #[cfg(test)]
+mod fixtures;
+#[cfg(test)]
 mod gated;
+#[cfg(test)]
+mod histories;
+#[cfg(test)]
+mod laps;
 #[cfg(test)]
 mod lending;
 #[cfg(test)]

@@ -4,10 +4,10 @@ ghost use Rattle.message_core.specs.Encodable.{AreEncodable};
 
 use crate::support::{Shown, policed};
 use agent_core::Buffer;
-use fixtures::message::Held::{Integer, NoObject, Null};
-use fixtures::message::{Message, get, octets_of, reply};
-use fixtures::names::STATE_2;
-use fixtures::policies::{MASKED, WHOLE_BRIDGE, policy_of};
+use crate::fixtures::message::Held::{Integer, NoObject, Null};
+use crate::fixtures::message::{Message, get, octets_of, reply};
+use crate::fixtures::names::STATE_2;
+use crate::fixtures::policies::{MASKED, WHOLE_BRIDGE, policy_of};
 use history_core::{Applied, Kept, ReceiptEvent};
 use live_lock::{Live, Run, Share};
 use message_core::{Request, decode};

@@ -7,9 +7,9 @@ use crate::support::{
     FLOODED, PEER_OF_PORT_2, Shown, asking, carrying, count_of, lines_of, of_edges, peer, run,
 };
 use agent_core::Buffer;
-use fixtures::message::Held::{Integer, Null};
-use fixtures::message::{Message, Pdu, octets_of};
-use fixtures::names::{LEARNED_PORT, PRIORITY, SINCE, STATE_1};
+use crate::fixtures::message::Held::{Integer, Null};
+use crate::fixtures::message::{Message, Pdu, octets_of};
+use crate::fixtures::names::{LEARNED_PORT, PRIORITY, SINCE, STATE_1};
 use history_core::{Applied, Event, Kept, Receipt, ReceiptEvent};
 use live_agent::{Item, Ran};
 use live_run::Runs;

@@ -3,10 +3,10 @@ use crate::support::{
     FLOODED, LinesOver, MANAGER, PEER_OF_PORT_2, Shown, asking, carrying, count_of, lines_of,
     of_edges, of_fast_hello, packets_to, peer, policed, run,
 };
-use fixtures::message::Held::{Integer, NoObject, Null};
-use fixtures::message::{Message, Pdu, octets_of};
-use fixtures::names::{HELLO, PRIORITY};
-use fixtures::policies::MASKED;
+use crate::fixtures::message::Held::{Integer, NoObject, Null};
+use crate::fixtures::message::{Message, Pdu, octets_of};
+use crate::fixtures::names::{HELLO, PRIORITY};
+use crate::fixtures::policies::MASKED;
 use history_core::Kept;
 use live_agent::OpenGate;
 use live_run::Report;

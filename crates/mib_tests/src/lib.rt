@@ -1,6 +1,7 @@
 //! Tests of the 55 objects of a bridge: what a registry makes of them as boxed ones, in how many
-//! comparisons it finds the object of a name, what each of them reserves for a Set, and Sets of one
-//! of them whose device fails.
+//! comparisons it finds the object of a name, what each of them reserves for a Set, Sets of one of
+//! them whose device fails, and Sets of as many static rows as there are places. And of the registry
+//! and of settings by key, with objects made by hand.
 //!
 //! # Entry points
 //! None: the tests call what `object_list` and `setphase_core` offer.
@@ -22,6 +23,10 @@ mod owners;
 #[cfg(test)]
 mod places;
 #[cfg(test)]
+mod registries;
+#[cfg(test)]
 mod sets;
+#[cfg(test)]
+mod static_sets;
 #[cfg(test)]
 mod worlds;

@@ -4,7 +4,7 @@ use Rattle.std.specs.Prelude.{Option, None}
 use Rattle.frame_core.specs.declared.bpdu.Bpdu.{Bpdu}
 use Rattle.bridge_core.specs.Bridge.{BridgeState}
 use Rattle.bridge_core.specs.Forwarding.{egress_of}
-use Rattle.bridge_core.specs.Events.{data_result, after_forwarding, no_bpdus}
+use Rattle.bridge_core.specs.Events.{data_result, after_forwarding}
 use Rattle.bridge_core.proofs.bridge.pass_on.Goals as goal
 
 pub returns-clause-gives : goal.returns-clause-gives

@@ -1,7 +1,6 @@
 use Rattle.std.proofs.Common.{ℕ, sym, subst, ap, ◌∙◌}
-use Rattle.fdb_core.specs.PortSets.{IsOfPorts}
-use Rattle.fdb_core.specs.Statics.{Statics}
-use Rattle.bridge_core.specs.Statics.{AreStaticRows}
+use Rattle.fdb_core.specs.Statics.{Statics, row_of}
+use Rattle.bridge_core.specs.Statics.{AreStaticRows, ports_of}
 use Rattle.bridge_core.proofs.StaticKept.{allowed_ports, with_row}
 use Rattle.bridge_core.proofs.bridge.Bridge.put_made.Goals as goal
 
@@ -12,8 +11,7 @@ invariant_of-self c =
     let n = c.ports-count.result in
     let count = h.set ∙ sym c.ports-count.ensures.count in
     let are : AreStaticRows n rows = subst (λ (k : ℕ). AreStaticRows k rows) count h.telling in
-    let value = subst (IsOfPorts n) (sym c.allowed-ports.ensures) (allowed_ports n rows c.args.index are) in
-    let left = with_row n (record { index = c.args.index; made = c.args.made; ports = c.allowed-ports.result }) rows value are in
+    let left = with_row n (record { index = c.args.index; made = c.args.made; ports = ports_of n (row_of rows c.args.index) }) rows (allowed_ports n rows c.args.index are) are in
     record {
       configured = h.configured;
       set = h.set;
@@ -21,5 +19,5 @@ invariant_of-self c =
       least = h.least;
       most = h.most;
       limit = h.limit;
-      telling = subst (λ (k : ℕ). AreStaticRows k c.put.new.statics.rows) (sym count) (subst (AreStaticRows n) (sym (ap (λ (t : Statics). t.rows) c.put.ensures)) left);
+      telling = subst (λ (k : ℕ). AreStaticRows k c.put_made.new.statics.rows) (sym count) (subst (AreStaticRows n) (sym (ap (λ (t : Statics). t.rows) c.put_made.ensures.after)) left);
     }

@@ -1,0 +1,23 @@
+use Rattle.std.proofs.Common.{arith, rules, ◌∙◌, sym, ℕ, ◌+◌, Bool}
+use Rattle.bridge_core.specs.declared.forwarding.Way.TheVariants.{Anywhere}
+use Rattle.bridge_core.specs.ForwardingInside.{leads, goes_by}
+use Rattle.bridge_core.proofs.Counts.{count_step, sent_whole}
+use Rattle.bridge_core.proofs.Walks.{walk_step, ports_none}
+use Rattle.bridge_core.proofs.Single.{by_any}
+use Rattle.bridge_core.proofs.forwarding.send_to_all.Goals as goal
+
+pub loop-i-init : goal.loop-i-init
+loop-i-init c = record { counters = search rules; egress = c.new-egress.ensures ∙ sym (ports_none _); few = rw c.new-egress.ensures (omega arith) }
+
+pub loop-i-preserved : goal.loop-i-preserved
+loop-i-preserved c =
+    let test : ℕ → Bool = goes_by (leads Anywhere) c.args.from c.args.tree.now in
+    let goes = c.is_open-goes.ensures ∙ by_any c.args.from c.args.tree.now (c.loop-i.i + 1) in
+    record {
+      counters = count_step test _ _ c.loop-i.i _ c.is_open-goes.result c.loop-i-test.true c.loop-i.invariant.counters goes c.send_one.ensures.counters;
+      egress = walk_step test _ _ c.loop-i.i c.is_open-goes.result c.loop-i.invariant.egress goes c.send_one.ensures.egress;
+      few = omega (arith, c.send_one.ensures.most, c.loop-i.invariant.few);
+    }
+
+pub returns-clause-counters : goal.returns-clause-counters
+returns-clause-counters c = sent_whole _ _ _ c.loop-i.i c.loop-i-test.false c.loop-i.invariant.counters

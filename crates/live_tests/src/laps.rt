@@ -1,0 +1,4 @@
+//! Lines that go on interval by interval, over wires in memory.
+mod lines;
+mod support;
+mod watch;
