@@ -20,4 +20,4 @@ mod datagrams;
 #[cfg(test)]
 mod responses;
 #[cfg(test)]
-mod shown;
+mod values;

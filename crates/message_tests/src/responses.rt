@@ -1,6 +1,6 @@
 //! Replies that are read, and why others are not.
 use crate::datagrams::{ALL_TYPES, ERROR, EXCEPTIONS, LONG_COMMUNITY, LONG_NAME, REPLY};
-use crate::shown::{Shown, shown};
+use crate::values::{Shown, shown};
 use message_core::{Binding, DropCause, ErrorStatus, Reply, decode_reply, encode_reply};
 use std::alloc::{AllocError, Global};
 use std::process::Abort;
