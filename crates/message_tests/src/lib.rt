@@ -1,5 +1,6 @@
-//! Tests of messages: requests and replies that are read, written or dropped, beside those of other
-//! encoders.
+//! Tests of replies that are read and written again, beside those of other encoders. What requests
+//! are of, and what their replies are, stands in stored scripts (`tools/scripts/datagrams.rows`,
+//! `values.rows`, `names.rows`, `lines.rows`).
 //!
 //! # Entry points
 //! None: the tests call what `message_core` offers.
@@ -15,22 +16,8 @@
 #![tactic(auto)]
 
 #[cfg(test)]
-mod asked;
-#[cfg(test)]
-mod copies;
-#[cfg(test)]
 mod datagrams;
 #[cfg(test)]
-mod faults;
-#[cfg(test)]
-mod long_datagrams;
-#[cfg(test)]
-mod replies;
-#[cfg(test)]
-mod requests;
-#[cfg(test)]
 mod responses;
-#[cfg(test)]
-mod support;
 #[cfg(test)]
 mod values;

@@ -1,9 +1,8 @@
 //! Replies that are read, and why others are not.
-use crate::datagrams::{ALL_TYPES, ERROR, EXCEPTIONS, REPLY};
-use crate::long_datagrams::{LONG, LONG_COMMUNITY, LONG_NAME, NUMBERS};
-use crate::support::{Shown, assert_written, changed, shown};
+use crate::datagrams::{ALL_TYPES, ERROR, EXCEPTIONS, LONG_COMMUNITY, LONG_NAME, REPLY};
+use crate::values::{Shown, shown};
 use message_core::{Binding, DropCause, ErrorStatus, Reply, decode_reply, encode_reply};
-use std::alloc::Global;
+use std::alloc::{AllocError, Global};
 use std::process::Abort;
 use std::test::Fail;
 
@@ -73,6 +72,11 @@ fn again(
     Ok(encode_reply(&reply, buffer)?)
 }
 
+// What is written, the first octets of a buffer, is a datagram.
+fn assert_written(rt: &impl Abort, buffer: &[u8], len: usize, datagram: &[u8]) {
+    assert_eq!(rt; buffer.get(..len), Some(datagram), "{datagram:?}");
+}
+
 // Replies, their heads, and their values.
 const READ: [(&[u8], Head, &[Shown]); 4] = [
     (&REPLY, (1, ErrorStatus::NoError, 0, 1), &TWO),
@@ -89,6 +93,22 @@ fn reads_as_others_write(rt: HostRuntime) -> Result<(), Fail> {
         assert_written(&rt, &buffer, len, datagram);
     }
     Ok(())
+}
+
+// Another octet at a place, where there is one.
+fn put(octets: &mut [u8], place: usize, octet: u8) {
+    if let Some(found) = octets.get_mut(place) {
+        *found = octet;
+    }
+}
+
+// A datagram in which these octets are others.
+fn changed(alloc: Global, datagram: &[u8], changes: &[(usize, u8)]) -> Result<Vec<u8>, AllocError> {
+    let mut other = datagram.to_vec(alloc)?;
+    for (place, octet) in changes {
+        put(&mut other, *place, *octet);
+    }
+    Ok(other)
 }
 
 // The number of the error-status of a reply whose octet at a place is another, or what drops it.
@@ -146,8 +166,8 @@ fn lens_of(alloc: Global, request: &[u8], tag: usize) -> Result<(usize, usize), 
 #[test]
 fn reads_what_takes_memory(rt: HostRuntime) -> Result<(), Fail> {
     for (request, tag, lens) in [
-        (LONG_COMMUNITY.as_slice(), 32, (LONG.len() - 1, 10)),
-        (&LONG_NAME, PDU_TAG, (6, NUMBERS.len())),
+        (LONG_COMMUNITY.as_slice(), 32, (25, 10)),
+        (&LONG_NAME, PDU_TAG, (6, 26)),
     ] {
         assert_eq!(rt; lens_of(rt.alloc(), request, tag)?, lens, "{request:?}");
     }

@@ -1,65 +1,63 @@
-//! Names and values that are read and copied (RFC 2578, section 7.1).
-use crate::datagrams::{
-    GET, SET_COUNTER32, SET_COUNTER64, SET_GAUGE32, SET_INTEGER, SET_IP_ADDRESS,
-    SET_OBJECT_IDENTIFIER, SET_OCTET_STRING, SET_OPAQUE, SET_TIME_TICKS,
-};
-use crate::long_datagrams::{
-    LONG, LONG_NAME, LONG_OBJECT_IDENTIFIER, LONG_OCTET_STRING, LONG_OPAQUE, NUMBERS,
-};
-use crate::support::{Shown, binding_in, shown};
-use message_core::Binding;
-use std::process::Abort;
-use std::test::Fail;
+//! What a value is: its type, and its number, its octets or its sub-identifiers.
+use message_core::Value;
 
-// The name in a Get, and that in each Set but of no long name.
-const PORTS: [u32; 10] = [1, 3, 6, 1, 2, 1, 17, 1, 2, 0];
+/// The type of a value and its number, its octets or its sub-identifiers.
+pub type Shown<'a> = (&'static str, u64, &'a [u8], &'a [u32]);
 
-const ONE: [u32; 8] = [1, 3, 6, 1, 4, 1, 1, 1];
-
-const OPAQUE: [u8; 7] = [0x9f, 0x78, 0x04, 0x42, 0xf6, 0, 0];
-
-const GREATEST: [u32; 8] = [1, 3, 6, 1, 2, 1, 17, u32::MAX];
-
-// Datagrams, their names, and their values.
-const ROWS: [(&[u8], &[u32], Shown); 14] = [
-    (&GET, &PORTS, ("NULL", 0, &[], &[])),
-    (&LONG_NAME, &NUMBERS, ("NULL", 0, &[], &[])),
-    (&SET_INTEGER, &ONE, ("INTEGER, minus", 129, &[], &[])),
-    (&SET_COUNTER32, &ONE, ("Counter32", 4_294_967_295, &[], &[])),
-    (&SET_GAUGE32, &ONE, ("Gauge32", 70_000, &[], &[])),
-    (&SET_TIME_TICKS, &ONE, ("TimeTicks", 8_640_000, &[], &[])),
-    (&SET_COUNTER64, &ONE, ("Counter64", u64::MAX, &[], &[])),
-    (&SET_OCTET_STRING, &ONE, ("OCTET STRING", 0, b"bridge", &[])),
-    (&SET_OPAQUE, &ONE, ("Opaque", 0, &OPAQUE, &[])),
-    (
-        &SET_IP_ADDRESS,
-        &ONE,
-        ("IpAddress", 0, &[192, 0, 2, 1], &[]),
-    ),
-    (&LONG_OCTET_STRING, &ONE, ("OCTET STRING", 0, &LONG, &[])),
-    (&LONG_OPAQUE, &ONE, ("Opaque", 0, &LONG, &[])),
-    (
-        &SET_OBJECT_IDENTIFIER,
-        &ONE,
-        ("OBJECT IDENTIFIER", 0, &[], &GREATEST),
-    ),
-    (
-        &LONG_OBJECT_IDENTIFIER,
-        &ONE,
-        ("OBJECT IDENTIFIER", 0, &[], &NUMBERS),
-    ),
-];
-
-fn assert_binding(rt: &impl Abort, binding: &Binding, name: &[u32], value: Shown) {
-    assert_eq!(rt; binding.name.as_slice(), name, "{value:?}");
-    assert_eq!(rt; shown(&binding.value), value);
+fn type_of(value: &Value) -> &'static str {
+    match value {
+        Value::Integer(number) if *number < 0 => "INTEGER, minus",
+        Value::Integer(_) => "INTEGER",
+        Value::OctetString(_) => "OCTET STRING",
+        Value::Null => "NULL",
+        Value::ObjectIdentifier(_) => "OBJECT IDENTIFIER",
+        Value::IpAddress(_) => "IpAddress",
+        Value::Counter32(_) => "Counter32",
+        Value::Gauge32(_) => "Gauge32",
+        Value::TimeTicks(_) => "TimeTicks",
+        Value::Opaque(_) => "Opaque",
+        Value::Counter64(_) => "Counter64",
+        Value::NoSuchObject => "noSuchObject",
+        Value::NoSuchInstance => "noSuchInstance",
+        Value::EndOfMibView => "endOfMibView",
+    }
 }
 
-#[test]
-fn reads_names_and_values(rt: HostRuntime) -> Result<(), Fail> {
-    for (datagram, name, value) in ROWS {
-        let binding = binding_in(rt.alloc(), datagram)?;
-        assert_binding(&rt, &binding, name, value);
+// The number of a value, or 0 where it has none.
+fn number_of(value: &Value) -> u64 {
+    match value {
+        Value::Integer(number) => u64::from(number.unsigned_abs()),
+        Value::Counter32(count) => u64::from(*count),
+        Value::Gauge32(level) => u64::from(*level),
+        Value::TimeTicks(ticks) => u64::from(*ticks),
+        Value::Counter64(count) => *count,
+        _ => 0,
     }
-    Ok(())
+}
+
+// The octets of a value, or none.
+fn octets_of(value: &Value) -> &[u8] {
+    match value {
+        Value::OctetString(octets) | Value::Opaque(octets) => octets.as_slice(),
+        Value::IpAddress(address) => address.as_slice(),
+        _ => &[],
+    }
+}
+
+// The sub-identifiers of a value, or none.
+fn numbers_of(value: &Value) -> &[u32] {
+    match value {
+        Value::ObjectIdentifier(name) => name.as_slice(),
+        _ => &[],
+    }
+}
+
+/// What a value is.
+pub fn shown(value: &Value) -> Shown {
+    (
+        type_of(value),
+        number_of(value),
+        octets_of(value),
+        numbers_of(value),
+    )
 }

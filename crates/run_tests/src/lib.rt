@@ -1,5 +1,6 @@
-//! Tests of scripts over any session: which lines there are, when they are read and what is
-//! written, and words, numbers and hexadecimal.
+//! Tests of scripts over a session, a reader and a writer of their own: in how many reads and with
+//! how many flushes what is said is written. Lines, words, numbers and hexadecimal stand in stored
+//! scripts (`tools/scripts/lines.rows`), and streams that fail in `program.rows` there.
 //!
 //! # Entry points
 //! None: the tests call what `script_core` offers.
@@ -18,5 +19,3 @@
 mod running;
 #[cfg(test)]
 mod support;
-#[cfg(test)]
-mod words;

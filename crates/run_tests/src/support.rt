@@ -1,4 +1,4 @@
-//! A session, readers and writers that the tests share.
+//! A session, a reader and a writer.
 ghost use Rattle.std.specs.Prelude.{◌≡◌, ◌⊎◌, ◌++◌, codes};
 ghost use Rattle.script_core.specs.declared.fault.LineFault.{LineFault};
 
@@ -35,22 +35,17 @@ impl Session for Shouter {
     }
 }
 
-/// Gives so many octets a read, and then fails if it is told to. Counts its reads.
+/// Gives three octets a read, and counts its reads.
 #[derive(Drop)]
 pub struct Slow<'a> {
     pub octets: &'a [u8],
-    pub size: usize,
-    pub fails: bool,
     pub reads: usize,
 }
 
 impl Read for Slow<'_> {
     fn read(&mut self, buf: &mut [u8]) -> io::Result<usize> {
         self.reads = self.reads.wrapping_add(1);
-        let size = self.octets.len().min(buf.len()).min(self.size);
-        if size == 0 && self.fails {
-            return Err(Error::from(ErrorKind::Other));
-        }
+        let size = self.octets.len().min(buf.len()).min(3);
         let (given, rest) = self.octets.split_at(size);
         buf[..size].copy_from_slice(given);
         self.octets = rest;
@@ -58,39 +53,13 @@ impl Read for Slow<'_> {
     }
 }
 
-/// Counts its writes and flushes, and takes no more than it is told.
-#[derive(Drop)]
-pub struct Counted {
-    pub writes: usize,
-    pub flushes: usize,
-    pub most: usize,
-    pub octets: Vec<u8>,
-}
-
-impl Write for Counted {
-    fn write(&mut self, buf: &[u8]) -> io::Result<usize> {
-        if self.writes >= self.most || self.octets.extend_from_slice(buf).is_err() {
-            return Err(Error::from(ErrorKind::Other));
-        }
-        self.writes += 1;
-        Ok(buf.len())
-    }
-
-    // A flush before anything was written fails.
-    fn flush(&mut self) -> io::Result<()> {
-        if self.flushes >= self.writes {
-            return Err(Error::from(ErrorKind::Other));
-        }
-        self.flushes += 1;
-        Ok(())
-    }
-}
-
-/// Takes two octets a write until it has no room, and is interrupted before each.
+/// Takes two octets a write until it has taken the most, and is interrupted before each. Counts its
+/// flushes.
 #[derive(Drop)]
 pub struct Narrow {
     pub is_interrupted: bool,
-    pub room: usize,
+    pub most: usize,
+    pub flushes: usize,
     pub octets: Vec<u8>,
 }
 
@@ -100,15 +69,16 @@ impl Write for Narrow {
         if self.is_interrupted {
             return Err(Error::from(ErrorKind::Interrupted));
         }
-        let size = buf.len().min(self.room).min(2);
+        let size = buf.len().min(self.most).min(2);
         if self.octets.extend_from_slice(&buf[..size]).is_err() {
             return Err(Error::from(ErrorKind::Other));
         }
-        self.room -= size;
+        self.most -= size;
         Ok(size)
     }
 
     fn flush(&mut self) -> io::Result<()> {
+        self.flushes = self.flushes.wrapping_add(1);
         Ok(())
     }
 }
