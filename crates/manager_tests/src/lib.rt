@@ -1,7 +1,7 @@
-//! Tests of asks and walks over a wire in memory, and of the program that does them.
+//! A test of outputs that no run of the program has.
 //!
 //! # Entry points
-//! None: the tests call what `manager_core` and `manager_words` offer.
+//! None: the test calls what `manager_words` offers.
 //!
 //! # Definitions
 //! None.
@@ -10,24 +10,8 @@
 //! None.
 //!
 //! # Not claimed
-//! Anything but what each test compares.
+//! Anything but what the test compares.
 #![tactic(auto)]
 
 #[cfg(test)]
-mod asks;
-#[cfg(test)]
-mod datagrams;
-#[cfg(test)]
 mod outputs;
-#[cfg(test)]
-mod programs;
-#[cfg(test)]
-mod refusals;
-#[cfg(test)]
-mod requests;
-#[cfg(test)]
-mod running;
-#[cfg(test)]
-mod texts;
-#[cfg(test)]
-mod walks;
