@@ -1,5 +1,5 @@
 //! Scripts over octets in memory: what is written, in how many reads and with how many flushes.
-use crate::support::{Narrow, Shouter, Slow};
+use crate::streams::{Narrow, Shouter, Slow};
 use script_core::{MAX_READS, RunFault, run_script};
 use std::alloc::Global;
 
