@@ -34,7 +34,7 @@ then_assoc Less p q = refl
 then_assoc Equal p q = refl
 then_assoc Greater p q = refl
 
-cmp_append : (a b x y : List ℕ) → length a ≡ length b → slice_cmp nat_cmp (a ++ x) (b ++ y) ≡ ordering_then (slice_cmp nat_cmp a b) (slice_cmp nat_cmp x y)
+pub cmp_append : (a b x y : List ℕ) → length a ≡ length b → slice_cmp nat_cmp (a ++ x) (b ++ y) ≡ ordering_then (slice_cmp nat_cmp a b) (slice_cmp nat_cmp x y)
 cmp_append [] [] x y e = refl
 cmp_append [] (v ∷ b) x y e = absurd (omega arith)
 cmp_append (u ∷ a) [] x y e = absurd (omega arith)

@@ -14,6 +14,7 @@ pub mod GroupRows
 pub mod ViewRows
 pub mod Tied
 pub mod FamilyIndexes
+pub mod OfView
 pub mod Marks
 pub mod Puts
 pub mod SameIndexes

@@ -9,6 +9,7 @@ pub mod Best
 pub mod Changes
 pub mod Families
 pub mod FamilyIndex
+pub mod OfView
 pub mod Hiding
 pub mod Access
 pub mod Orders

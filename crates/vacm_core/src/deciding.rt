@@ -34,10 +34,13 @@ pub fn agrees(mask: &[u8], subtree: &[u32], name: &[u32]) -> bool
     behind(name, subtree).is_some() || agrees_by_bits(mask, subtree, name)
 }
 
-// The same, number by number.
-fn agrees_by_bits(mask: &[u8], subtree: &[u32], name: &[u32]) -> bool
+/// The same, number by number.
+pub fn agrees_by_bits(mask: &[u8], subtree: &[u32], name: &[u32]) -> bool
     ensures { result ≡ agrees_from 0 mask.now subtree.now name.now }
 {
+    if name.len() < subtree.len() {
+        return false;
+    }
     for (k, part) in subtree.iter().enumerate() {
         if !agrees_at(mask, k, *part, name) {
             return false;
@@ -50,7 +53,7 @@ fn agrees_at(mask: &[u8], k: usize, part: u32, name: &[u32]) -> bool
     ensures { result ≡ agrees_at mask.now k part name.now }
 {
     match name.get(k) {
-        Some(asked) => !mask_bit(mask, k) || part == *asked,
+        Some(asked) => part == *asked || !mask_bit(mask, k),
         None => false,
     }
 }

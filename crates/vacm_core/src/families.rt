@@ -7,7 +7,7 @@ ghost use Rattle.vacm_core.specs.Tables.{KeysDiffer};
 ghost use Rattle.vacm_core.specs.Access.{has_view};
 ghost use Rattle.vacm_core.specs.Families.{deciding_family};
 ghost use Rattle.vacm_core.specs.FamilyIndex.{next_family, family_at};
-ghost use Rattle.vacm_core.specs.Keys.{IsIndex, view_key};
+ghost use Rattle.vacm_core.specs.Keys.{IsIndex, view_key, index_key};
 ghost use Rattle.vacm_core.specs.Changes.{with_mask, with_type};
 ghost use Rattle.vacm_core.specs.Trees.{leads, reaches, counting_part, way_of, IsPlaced, IsNumbered, IsTreeOf, IsTreeBut, AreNumbered};
 ghost use Rattle.vacm_core.specs.declared.tree.Step.{Step};
@@ -15,7 +15,7 @@ ghost use Rattle.vacm_core.specs.declared.limits.TheConstants.{MAX_MASK};
 ghost use Rattle.vacm_core.specs.declared.tables.FamilyRow.{FamilyRow};
 
 use crate::by_index::{self, numbers_by_index};
-use crate::contest::deciding_row;
+use crate::by_view::last_of_view;
 use crate::copying::copied_rows;
 use crate::deciding::{FamilyContest, mask_bit};
 use crate::index::{Keyed, index_of, with_key};
@@ -37,9 +37,17 @@ use std::marker::Model;
 // How many steps a way has at most: how many octets a view's name has, those, and a subtree.
 const MOST_STEPS: usize = 1 + MAX_NAME + MAX_NUMBERS;
 
-// How many forks of the tree are entered for a name at most for each row, before the rows are looked at
-// in turn.
-const FORKS_PER_ROW: usize = 2;
+// The most rows of which the one that decides is sought without their tree.
+const FEW_ROWS: usize = 12;
+
+// The same where ways part first at a place that some mask leaves open.
+const FEW_OPEN_ROWS: usize = 64;
+
+// How many steps a walk of the tree may take, of however few rows, before it gives up.
+const LEAST_STEPS: usize = 12;
+
+// For how many rows it may take one more.
+const ROWS_PER_STEP: usize = 16;
 
 impl Keyed for FamilyRow {
     ghost key = { view_key };
@@ -160,7 +168,8 @@ impl Families {
         ensures place { result ≡ deciding_family self.now view.now name.now }
         ensures within { ForSome result (λ n. n < length self.now) }
     {
-        deciding_family(&self.tree, self.rows.as_slice(), view, name)
+        let index = self.table_index.as_slice();
+        deciding_family(&self.tree, self.rows.as_slice(), index, view, name)
     }
 
     /// The number of the row whose index is the first that is greater than these numbers.
@@ -356,23 +365,54 @@ fn tree_of(alloc: Global, rows: &[FamilyRow]) -> Result<Radix, AllocError>
     packed(alloc, &tree)
 }
 
-// The number of the family row of a view that decides on a name, of those in their tree. Where masks
-// leave so much open that the walk of the tree gives up, the rows are looked at in turn.
-fn deciding_family(tree: &Radix, rows: &[FamilyRow], view: &Name, name: &Oid) -> Option<usize>
+// The number of the family row of a view that decides on a name, of those in their tree, unless the
+// walk of the tree gives up, since masks leave much open.
+fn walked(tree: &Radix, rows: &[FamilyRow], view: &Name, name: &[u32]) -> Option<Option<usize>>
     requires tree { IsTreeOf (reaches tree.now) rows.now }
+    requires differ { KeysDiffer same_family rows.now }
+    requires short { length name.now ≤ MAX_NUMBERS }
+    ensures place { ForSome result (λ best. best ≡ deciding_family rows.now view.now name.now) }
+    ensures within { ForSome result (λ best. ForSome best (λ n. n < length rows.now)) }
+{
+    let contest = FamilyContest { view, name };
+    let mut numbers = ArrayVec::new();
+    put_numbers(&mut numbers, view, name);
+    let mut left = LEAST_STEPS + rows.len() / ROWS_PER_STEP;
+    let best = best_below(tree, &contest, rows, numbers.as_slice(), None, &mut left);
+    if left == 0 { None } else { Some(best) }
+}
+
+// Whether rows are so few that a scan takes no longer than a walk of their tree.
+fn are_few(tree: &Radix, rows: &[FamilyRow]) -> bool {
+    let few = if tree.starts_loose() {
+        FEW_OPEN_ROWS
+    } else {
+        FEW_ROWS
+    };
+    rows.len() <= few
+}
+
+// The number of the family row of a view that decides on a name: by the tree of the rows or, of few
+// rows and where its walk gives up, by the rows of the view in the order of their indexes.
+fn deciding_family(
+    tree: &Radix,
+    rows: &[FamilyRow],
+    index: &[usize],
+    view: &Name,
+    name: &Oid,
+) -> Option<usize>
+    requires tree { IsTreeOf (reaches tree.now) rows.now }
+    requires index { IsIndex index_key rows.now index.now }
     requires differ { KeysDiffer same_family rows.now }
     ensures place { result ≡ deciding_family rows.now view.now name.now }
     ensures within { ForSome result (λ n. n < length rows.now) }
 {
     let name = name.as_slice();
-    let contest = FamilyContest { view, name };
-    let mut numbers = ArrayVec::new();
-    put_numbers(&mut numbers, view, name);
-    let mut left = rows.len().saturating_mul(FORKS_PER_ROW).saturating_add(1);
-    let best = best_below(tree, &contest, rows, numbers.as_slice(), None, &mut left);
-    if left == 0 {
-        deciding_row(&contest, rows)
-    } else {
-        best
+    if are_few(tree, rows) {
+        return last_of_view(rows, index, view, name);
+    }
+    match walked(tree, rows, view, name) {
+        Some(best) => best,
+        None => last_of_view(rows, index, view, name),
     }
 }

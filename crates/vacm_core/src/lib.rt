@@ -27,8 +27,9 @@
 //! lengths, fields and keys of rows, the first fault, and where checking the rows takes memory.
 //! `specs/Repeats.antt`: the first row that has the key of an earlier one, and the numbers of rows
 //! in the order of their keys. `specs/Trees.antt`, inside the crate: which family rows a tree leads to, by which numbers. A
-//! `Vacm` keeps a radix tree of its family rows, and `Vacm::in_view` goes by it: the row that it
-//! finds is the one that decides among all of them. `specs/Keys.antt`, inside the crate too: the
+//! `Vacm` keeps a radix tree of its family rows, and `Vacm::in_view` goes by it, or by the order of
+//! their indexes (`specs/OfView.antt`, inside the crate too): the row that it finds is the one that
+//! decides among all of them. `specs/Keys.antt`, inside the crate too: the
 //! order of rows by their keys, by which a `Vacm` finds a group row, the access rows of a group,
 //! whether a view has a family, and a family row by its index. `specs/Masks.antt`: how a mask is
 //! kept. `specs/Tables.antt`, `specs/Rows.antt`: the tables as they are kept, and the rows that
@@ -53,14 +54,17 @@
 //! How long a decision takes: `Vacm::decide` finds the group row by halves, and looks at the access
 //! rows of the group, and at the contexts up to the one asked for. It looks by halves whether the
 //! view has a family. `Vacm::hides_all` looks at each family row, `Vacm::in_view` at those that its
-//! tree leads to, or, where so many places are open that it enters more forks of the tree than two for
-//! each row, at each row in turn: at most some twice the time of a scan at 100 rows and more.
+//! tree leads to. Where so many places are open that a walk of the tree would enter a large part of
+//! it, and where there are few rows, it goes over the rows of the view that are no longer than
+//! the name, found by halves, from the longest on until one has the name; so it takes at most some
+//! twice the time of a scan of the view's rows, but where a view has a few of many rows.
 //! `Vacm::put_mask` goes along the way of its row where the mask before had no 0, else along that of
 //! each row, some 0.3 ms at 1,000 rows.
 //! A run of numbers of which a put mask leaves one open is passed whole, while any does.
 #![tactic(auto)]
 
 mod by_index;
+mod by_view;
 mod checking;
 mod contest;
 mod copying;

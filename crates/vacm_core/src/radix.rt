@@ -93,6 +93,25 @@ fn all_count(steps: &[Step]) -> bool
 }
 
 impl Radix {
+    /// Whether there is no row.
+    pub fn is_empty(&self) -> bool
+        ensures { IsTrue result → self.now ≡ Radix.Empty }
+    {
+        matches!(self, Radix::Empty)
+    }
+
+    /// Whether some step at the first place where ways part does not count.
+    pub fn starts_loose(&self) -> bool {
+        let first = match self {
+            Radix::Run(run) => &run.below,
+            _ => self,
+        };
+        match first {
+            Radix::Fork(node) => node.loose,
+            _ => false,
+        }
+    }
+
     /// Marks each place on a way where its step does not count.
     pub fn mark(&mut self, way: &[Step])
         ensures kept { (other : List Step) (row : ℕ) → reaches self.old other row ≡ true

@@ -1,12 +1,15 @@
 //! The best of the rows of these numbers, and of the rows of a tree whose way a name fits.
-ghost use Rattle.std.specs.Prelude.{◌≡◌, ◌<◌, ◌≤◌, ◌&&◌, ℕ, List, Contains, true, Some, length};
+ghost use Rattle.std.specs.Prelude.{◌≡◌, ◌<◌, ◌≤◌, ◌&&◌, ◌==◌, ℕ, List, Contains, true, Some, length};
 ghost use Rattle.std.specs.Option.{ForSome};
 ghost use Rattle.vacm_core.specs.Best.{takes_over};
 ghost use Rattle.vacm_core.specs.Trees.{reaches, fits, IsFit, Covers, IsLater};
 ghost use Rattle.vacm_core.specs.declared.tree.Step.{Step};
 
 use crate::contest::{Contest, takes_over};
-use crate::radix::Radix;
+use crate::radix::{Branch, Radix};
+
+/// How many steps a fork takes from which a name may go on in several ways.
+const LOOSE_STEPS: usize = 16;
 
 // Whether a row is better than the best so far, and passes.
 fn is_better<C: Contest>(contest: &C, rows: &[C::Row], best: Option<usize>, row: &C::Row) -> bool
@@ -48,9 +51,28 @@ pub fn best_among<C: Contest>(contest: &C, rows: &[C::Row], numbers: &[usize]) -
     best
 }
 
+// How many steps a loose fork takes.
+fn loose_steps(node: &Branch) -> usize {
+    if node.less.is_empty() && node.greater.is_empty() {
+        1
+    } else {
+        LOOSE_STEPS
+    }
+}
+
+// Counts so many steps off those that are left, and answers whether none is left then.
+fn is_spent(left: &mut usize, steps: usize) -> bool
+    ensures fewer { left.new ≤ left.old }
+    ensures spent { result ≡ (left.new == 0) }
+{
+    *left = left.saturating_sub(steps);
+    *left == 0
+}
+
 /// The best of the rows so far and those of a tree whose way a name fits, in which the deepest are
-/// looked at first. It takes no memory. It enters at most as many forks as are left, less one: where
-/// none is left afterwards, it gave up, and there may be a better row.
+/// looked at first. It takes no memory. It takes fewer steps than are left, one for each fork that it
+/// enters and [`LOOSE_STEPS`] where it may go on in several ways: where none is left afterwards, it gave
+/// up, and there may be a better row.
 pub fn best_below<C: Contest>(
     tree: &Radix,
     contest: &C,
@@ -79,11 +101,10 @@ pub fn best_below<C: Contest>(
     let [first, after @ ..] = name else {
         return best;
     };
-    *left = left.saturating_sub(1);
-    if *left == 0 {
-        return best;
-    }
     if node.loose {
+        if is_spent(left, loose_steps(node)) {
+            return best;
+        }
         let best = best_below(&node.less, contest, rows, name, best, left);
         let best = best_below(&node.greater, contest, rows, name, best, left);
         if !node.loose_equal && *first != node.part {
@@ -91,6 +112,9 @@ pub fn best_below<C: Contest>(
         }
         let best = best_below(&node.equal, contest, rows, after, best, left);
         return better(contest, rows, best, node.row);
+    }
+    if is_spent(left, 1) {
+        return best;
     }
     if *first < node.part {
         return best_below(&node.less, contest, rows, name, best, left);

@@ -1,7 +1,18 @@
-use Rattle.std.proofs.Common.{◌+◌, ◌&&◌, Bool, drop, sym, ap, ◌∙◌}
+use Rattle.std.proofs.Common.{◌+◌, ◌&&◌, Bool, drop, sym, ap, ◌∙◌, arith, inl, inr}
+use Rattle.std.proofs.lemmas.Bool.{cases_Bool}
 use Rattle.vacm_core.specs.Families.{agrees_from}
-use Rattle.vacm_core.proofs.Agrees.{agrees_step, agrees_end}
+use Rattle.vacm_core.proofs.Agrees.{agrees_step, agrees_end, agrees_found}
 use Rattle.vacm_core.proofs.deciding.agrees_by_bits.Goals as goal
+
+pub returns-then-name-subtree : goal.returns-then-name-subtree
+returns-then-name-subtree c =
+    let mask = c.args.mask.now in
+    let subtree = c.args.subtree.now in
+    let name = c.args.name.now in
+    elim (cases_Bool (agrees_from 0 mask subtree name)) [
+      | inl agrees ↦ let long = (agrees_found 0 mask subtree name agrees).0 in absurd (omega (arith, long, c.if-name-subtree.true))
+      | inr not ↦ sym not
+    ]
 
 pub returns-then-not-agrees_at : goal.returns-then-not-agrees_at
 returns-then-not-agrees_at c =

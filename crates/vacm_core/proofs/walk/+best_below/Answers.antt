@@ -25,12 +25,12 @@ returns-then-deref-clause-found g t c still way n e f =
     let last = c.better.ensures in
     elim (turns c.args.tree.now node c.in-Fork.is way c.args.name.now n e f (omega arith)) [
       | inl less ↦ last.later.kept n (equal.later.kept n (greater.later.kept n
-          (c.best_below-best.ensures.found (omega (arith, still, greater.fewer, equal.fewer)) way n (subst (λ (m : Branch). reaches m.less way n ≡ true) (sym c.deref-then-deref.ensures) less) f)))
+          (c.best_below-best.ensures.found (omega (arith, still, greater.fewer, equal.fewer)) way n (subst (λ (m : Branch). reaches m.less way n ≡ true) (sym c.deref-then-deref-2.ensures) less) f)))
       | inr (inl more) ↦ last.later.kept n (equal.later.kept n
-          (greater.found (omega (arith, still, equal.fewer)) way n (subst (λ (m : Branch). reaches m.greater way n ≡ true) (sym c.deref-then-deref-2.ensures) more) f))
-      | inr (inr (inl here)) ↦ last.here n (ap (λ (m : Branch). m.row) c.deref-then-deref-5.ensures ∙ here)
+          (greater.found (omega (arith, still, equal.fewer)) way n (subst (λ (m : Branch). reaches m.greater way n ≡ true) (sym c.deref-then-deref-3.ensures) more) f))
+      | inr (inr (inl here)) ↦ last.here n (ap (λ (m : Branch). m.row) c.deref-then-deref-6.ensures ∙ here)
       | inr (inr (inr on)) ↦ last.later.kept n
-          (equal.found still on.rest n (subst (λ (m : Branch). reaches m.equal on.rest n ≡ true) (sym c.deref-then-deref-4.ensures) on.leads) on.fits)
+          (equal.found still on.rest n (subst (λ (m : Branch). reaches m.equal on.rest n ≡ true) (sym c.deref-then-deref-5.ensures) on.leads) on.fits)
     ]
 
 pub returns-in-Some-clause-found : goal.returns-in-Some-clause-found

@@ -1,23 +1,23 @@
-use Rattle.std.proofs.Common.{◌≡◌, ℕ, true, List, ◌++◌, sym, ap, subst, ◌∙◌, arith}
+use Rattle.std.proofs.Common.{◌≡◌, ℕ, true, List, ◌++◌, sym, subst, ◌∙◌, arith}
 use Rattle.std.specs.Cmp.Lexicographic.{same_text}
-use Rattle.std.proofs.lemmas.Option.{get_or_from_slice_get, slice_get_within}
+use Rattle.std.proofs.lemmas.Option.{get_or_from_slice_get, slice_get_within, same_Some}
 use Rattle.vacm_core.specs.declared.tables.FamilyRow.{FamilyRow}
 use Rattle.vacm_core.specs.Rows.{same_family}
-use Rattle.vacm_core.specs.Families.{matches, family_beats, deciding_family}
+use Rattle.vacm_core.specs.Families.{matches, family_beats}
 use Rattle.vacm_core.specs.Orders.{family_order}
 use Rattle.vacm_core.specs.Trees.{reaches, fits, view_way, subtree_way, Covers, IsPlaced}
 use Rattle.vacm_core.proofs.Agrees.{and_true}
 use Rattle.vacm_core.proofs.Ties.{one_only, family_ties}
 use Rattle.vacm_core.proofs.FamilyWays.{fits_way}
 use Rattle.vacm_core.proofs.Unbeaten.{decides}
-use Rattle.vacm_core.proofs.families.deciding_family.Goals as goal
+use Rattle.vacm_core.proofs.families.walked.Goals as goal
 
 pub returns-else-left-eq0-clause-place : goal.returns-else-left-eq0-clause-place
-returns-else-left-eq0-clause-place c =
+returns-else-left-eq0-clause-place c found is =
     let tree = c.args.tree.now in
     let rows : List FamilyRow = c.args.rows.now in
     let view = c.args.view.now in
-    let name = c.as_slice-name.result.now in
+    let name = c.args.name.now in
     let best = c.best_below-best in
     let asked = c.as_slice.ensures.value ∙ c.put_numbers.ensures in
     let all : (n : ℕ) → Covers (matches view name) family_beats rows best.result n = λ n row at pass.
@@ -27,6 +27,6 @@ returns-else-left-eq0-clause-place c =
     let there = subst (λ (v : List ℕ). reaches tree (view_way v ++ subtree_way 0 row.mask row.subtree) n ≡ true) (same_text row.view view (sym parts.0)) placed.leads in
     let fit = subst (λ (l : List ℕ). fits way l ≡ true) (sym asked) (fits_way view row.mask row.subtree name parts.1) in
     best.ensures.found (omega (arith, c.if-left-eq0.false)) way n there fit row at pass in
-    decides family_order (matches view name) rows
+    sym (same_Some best.result found is)
+    ∙ decides family_order (matches view name) rows
     (one_only (matches view name) family_beats same_family rows c.requires.differ (family_ties view name)) best.result best.ensures.later.fit all
-    ∙ ap (λ (l : List ℕ). deciding_family rows view l) c.as_slice-name.ensures.value
