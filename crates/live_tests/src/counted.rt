@@ -1,11 +1,11 @@
 //! The history that a run hands back has the very objects that were handed in: a device counts the
 //! calls that it gets before and behind.
-use crate::support::{asking, history_over, lines_of, run};
-use bridge_mib::{LineDriver, PortEnable};
 use crate::fixtures::message::Held::Integer;
 use crate::fixtures::message::{Message, Pdu};
 use crate::fixtures::names::{ENABLE_1, ENABLE_2, PRIORITY};
 use crate::fixtures::worlds::built_in;
+use crate::support::{asking, history_over, lines_of, run};
+use bridge_mib::{LineDriver, PortEnable};
 use history_core::Kept;
 use object_list::{COLUMNS, ColumnDescriptor, ENABLE, PlainObject};
 use setphase_core::{DeviceFault, MibObject};

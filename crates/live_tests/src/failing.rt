@@ -1,8 +1,8 @@
 //! Runs in which one call of one wire fails.
-use crate::support::{FLOODED, LinesOver, asking, carrying, of_edges, open, run};
 use crate::fixtures::message::Held::Null;
 use crate::fixtures::message::get;
 use crate::fixtures::names::PORTS;
+use crate::support::{FLOODED, LinesOver, asking, carrying, of_edges, open, run};
 use live_agent::{OpenGate, Paced};
 use live_run::{Lines, RunFault};
 use std::alloc::Global;

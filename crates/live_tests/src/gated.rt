@@ -1,8 +1,8 @@
 //! Two workers at the same time, of which a gate holds one until the other's call is answered.
-use crate::support::{LinesOver, MANAGER, asking, count_of, lines_under, of_edges, peer, run};
 use crate::fixtures::message::Held::{Integer, Null};
 use crate::fixtures::message::{get, octets_of, of, reply, set};
 use crate::fixtures::names::PRIORITY;
+use crate::support::{LinesOver, MANAGER, asking, count_of, lines_under, of_edges, peer, run};
 use live_agent::{Gate, Gated};
 use std::alloc::Global;
 use std::sync::{Mutex, Wait};

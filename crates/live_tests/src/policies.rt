@@ -2,12 +2,12 @@
 ghost use Rattle.std.specs.Prelude.{◌≡◌, ◌<◌, IfOk};
 ghost use Rattle.message_core.specs.Encodable.{AreEncodable};
 
-use crate::support::{Shown, policed};
-use agent_core::Buffer;
 use crate::fixtures::message::Held::{Integer, NoObject, Null};
 use crate::fixtures::message::{Message, get, octets_of, reply};
 use crate::fixtures::names::STATE_2;
 use crate::fixtures::policies::{MASKED, WHOLE_BRIDGE, policy_of};
+use crate::support::{Shown, policed};
+use agent_core::Buffer;
 use history_core::{Applied, Kept, ReceiptEvent};
 use live_lock::{Live, Run, Share};
 use message_core::{Request, decode};

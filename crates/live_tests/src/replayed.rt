@@ -3,13 +3,13 @@ ghost use Rattle.std.specs.Prelude.{IfOk};
 ghost use Rattle.message_core.specs.Encodable.{AreEncodable};
 ghost use Rattle.history_core.specs.Steps.{IsEncodable};
 
+use crate::fixtures::message::Held::{Integer, Null};
+use crate::fixtures::message::{Message, Pdu, octets_of};
+use crate::fixtures::names::{LEARNED_PORT, PRIORITY, SINCE, STATE_1};
 use crate::support::{
     FLOODED, PEER_OF_PORT_2, Shown, asking, carrying, count_of, lines_of, of_edges, peer, run,
 };
 use agent_core::Buffer;
-use crate::fixtures::message::Held::{Integer, Null};
-use crate::fixtures::message::{Message, Pdu, octets_of};
-use crate::fixtures::names::{LEARNED_PORT, PRIORITY, SINCE, STATE_1};
 use history_core::{Applied, Event, Kept, Receipt, ReceiptEvent};
 use live_agent::{Item, Ran};
 use live_run::Runs;

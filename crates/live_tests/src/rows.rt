@@ -1,12 +1,12 @@
 //! Whole runs over wires in memory.
-use crate::support::{
-    FLOODED, LinesOver, MANAGER, PEER_OF_PORT_2, Shown, asking, carrying, count_of, lines_of,
-    of_edges, of_fast_hello, packets_to, peer, policed, run,
-};
 use crate::fixtures::message::Held::{Integer, NoObject, Null};
 use crate::fixtures::message::{Message, Pdu, octets_of};
 use crate::fixtures::names::{HELLO, PRIORITY};
 use crate::fixtures::policies::MASKED;
+use crate::support::{
+    FLOODED, LinesOver, MANAGER, PEER_OF_PORT_2, Shown, asking, carrying, count_of, lines_of,
+    of_edges, of_fast_hello, packets_to, peer, policed, run,
+};
 use history_core::Kept;
 use live_agent::OpenGate;
 use live_run::Report;

@@ -1,8 +1,8 @@
 //! Histories, wires and plans to test with.
-use bridge_core::Bridge;
-use bridge_mib::Planned;
 use crate::fixtures::message::{Message, octets_of};
 use crate::fixtures::worlds::{Served, all_of, bridge_of, built_in_for, edges, port};
+use bridge_core::Bridge;
+use bridge_mib::Planned;
 use frame_core::Mac;
 use history_core::Kept;
 use live_agent::{Gate, Gated, OpenGate, Paced, Plan};

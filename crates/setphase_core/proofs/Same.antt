@@ -129,4 +129,3 @@ none_staged es w n all same =
     same_itself_of w (assign (assignments_of es) w) (sym (same ∙ ap (λ ps. assign ps w) (taken_all es n all)))
 
 -- ---- what could not be undone
-

@@ -1,10 +1,10 @@
 //! The base of a history, and its last number.
-use crate::histories::support::{entered, history_of, request_of};
-use agent_core::Buffer;
-use bridge_mib::Planned;
 use crate::fixtures::message::Held::Null;
 use crate::fixtures::message::get;
 use crate::fixtures::names::PORTS;
+use crate::histories::support::{entered, history_of, request_of};
+use agent_core::Buffer;
+use bridge_mib::Planned;
 use history_core::{Applied, Event, Kept, MAX_ENTRIES, Receipt, Tally};
 use object_list::objects;
 use setphase_core::MibObject;

@@ -2,9 +2,9 @@
 ghost use Rattle.std.specs.Prelude.{IfOk};
 ghost use Rattle.history_core.specs.Steps.{IsEncodable};
 
-use agent_core::Buffer;
 use crate::fixtures::message::{Message, octets_of};
 use crate::fixtures::worlds::{Served, built_in};
+use agent_core::Buffer;
 use history_core::{Applied, Event, Kept, Receipt};
 use message_core::decode;
 use setphase_core::{MibObject, Registry, are_named};

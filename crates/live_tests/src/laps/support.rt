@@ -1,9 +1,9 @@
 //! A history, a plan and lines to test with.
-use bridge_mib::Planned;
 use crate::fixtures::message::Held::Null;
 use crate::fixtures::message::{get, octets_of};
 use crate::fixtures::names::PORTS;
 use crate::fixtures::worlds::built_in;
+use bridge_mib::Planned;
 use frame_core::Mac;
 use history_core::Kept;
 use live_agent::{Gated, OpenGate, Paced, Plan};
