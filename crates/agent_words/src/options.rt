@@ -1,5 +1,6 @@
 //! The words of `agentd`, and what its help says of them.
-ghost use Rattle.std.specs.Prelude.{[], codes, IfOk};
+ghost use Rattle.std.specs.Prelude.{[], codes, IfOk, IsOkAnd};
+ghost use Rattle.clap.specs.Words.{AddsSubcommand};
 ghost use Rattle.agent_words.specs.Options.{config_option, forever_flag, file_shape, serve_shape, agent_shape, agent_app};
 ghost use Rattle.agent_words.specs.Built.{IsArgument, HasWords};
 
@@ -50,13 +51,19 @@ command, or if FILE cannot be read or is refused.";
 pub(crate) fn agent_command<'a>(alloc: Global) -> Result<Command<'a>, AllocError>
     ensures { IfOk result (HasWords agent_app) }
 {
-    let script = script_command(alloc)?;
-    let check = check_command(alloc)?;
-    let serve = serve_command(alloc)?;
-    agent_options(alloc)
-        .subcommand(script)?
-        .subcommand(check)?
-        .subcommand(serve)
+    let agent = added(agent_options(alloc), script_command(alloc))?;
+    let agent = added(agent, check_command(alloc))?;
+    added(agent, serve_command(alloc))
+}
+
+// A command with a subcommand more, where that is made.
+fn added<'a>(
+    agent: Command<'a>,
+    subcommand: Result<Command<'a>, AllocError>,
+) -> Result<Command<'a>, AllocError>
+    ensures { IfOk result (λ r. IsOkAnd subcommand.entry (λ s. AddsSubcommand agent.entry s r)) }
+{
+    agent.subcommand(subcommand?)
 }
 
 // What stands in front of a subcommand.

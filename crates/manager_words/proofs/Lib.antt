@@ -4,5 +4,7 @@ pub mod Given
 pub mod Listed
 pub mod Passed
 pub mod Refused
+pub mod Ruled
 pub mod Simple
 pub mod Spelled
+pub mod Worded

@@ -1,23 +1,38 @@
 //! The words of a manager, and what its help says of them.
-ghost use Rattle.std.specs.Prelude.{[], codes, IfOk};
+ghost use Rattle.std.specs.Prelude.{[], codes, IfOk, IsOkAnd};
+ghost use Rattle.clap.specs.Words.{AddsSubcommand};
 ghost use Rattle.manager_words.specs.Options.{one_word, some_words, bulk_number, tries_option, request_shape, names_shape, bulk_shape, walk_shape, set_shape, manager_shape, manager_app};
 ghost use Rattle.manager_words.specs.Built.{IsArgument, HasWords};
 
 use clap::{Arg, Command, value_parser};
 use std::alloc::{AllocError, Global};
 
+/// What help says of `get`.
+const GET_HELP: &str = "Prints the values under names";
+
+/// What help says of `next`.
+const NEXT_HELP: &str = "Prints the first instance behind each name";
+
 /// The words of a manager: a subcommand for each kind of request.
 pub(crate) fn manager_command<'a>(alloc: Global) -> Result<Command<'a>, AllocError>
     ensures { IfOk result (HasWords manager_app) }
 {
-    let get = names_command(alloc, "get", "Prints the values under names")?;
-    let next = names_command(alloc, "next", "Prints the first instance behind each name")?;
-    manager_options(alloc)?
-        .subcommand(get)?
-        .subcommand(next)?
-        .subcommand(bulk_command(alloc)?)?
-        .subcommand(walk_command(alloc)?)?
-        .subcommand(set_command(alloc)?)
+    let manager = manager_options(alloc)?;
+    let manager = added(manager, names_command(alloc, "get", GET_HELP))?;
+    let manager = added(manager, names_command(alloc, "next", NEXT_HELP))?;
+    let manager = added(manager, bulk_command(alloc))?;
+    let manager = added(manager, walk_command(alloc))?;
+    added(manager, set_command(alloc))
+}
+
+// A command with a request more, where that is made.
+fn added<'a>(
+    manager: Command<'a>,
+    request: Result<Command<'a>, AllocError>,
+) -> Result<Command<'a>, AllocError>
+    ensures { IfOk result (λ r. IsOkAnd request.entry (λ s. AddsSubcommand manager.entry s r)) }
+{
+    manager.subcommand(request?)
 }
 
 // What stands in front of a request.
@@ -48,19 +63,17 @@ fn names_command<'a>(
 fn bulk_command<'a>(alloc: Global) -> Result<Command<'a>, AllocError>
     ensures { IfOk result (HasWords (record { top = bulk_shape; subs = [] })) }
 {
-    let first = bulk_number(
-        alloc,
-        "N",
-        "Non-repeaters: so many names, from the first, are asked for once, 0 to 2147483647",
-    );
-    let second = bulk_number(
-        alloc,
-        "M",
-        "Max-repetitions: how often the other names are asked for, 0 to 2147483647",
-    );
     request_command(alloc, "bulk", "Prints what a GetBulk answers")?
-        .arg(first)?
-        .arg(second)?
+        .arg(bulk_number(
+            alloc,
+            "N",
+            "Non-repeaters: so many names, from the first, are asked for once, 0 to 2147483647",
+        ))?
+        .arg(bulk_number(
+            alloc,
+            "M",
+            "Max-repetitions: how often the other names are asked for, 0 to 2147483647",
+        ))?
         .arg(names(alloc))
 }
 
@@ -68,25 +81,25 @@ fn bulk_command<'a>(alloc: Global) -> Result<Command<'a>, AllocError>
 fn walk_command<'a>(alloc: Global) -> Result<Command<'a>, AllocError>
     ensures { IfOk result (HasWords (record { top = walk_shape; subs = [] })) }
 {
-    let root = one_word(alloc, "NAME", NAME_HELP);
-    request_command(alloc, "walk", "Prints all instances below a name")?.arg(root)
+    request_command(alloc, "walk", "Prints all instances below a name")?.arg(one_word(
+        alloc, "NAME", NAME_HELP,
+    ))
 }
 
 // `set`: settings.
 fn set_command<'a>(alloc: Global) -> Result<Command<'a>, AllocError>
     ensures { IfOk result (HasWords (record { top = set_shape; subs = [] })) }
 {
-    let settings = some_words(
-        alloc,
-        "SETTING",
-        "NAME=i:NUMBER for an INTEGER, NAME=x:HEX for an OCTET STRING",
-    );
     request_command(
         alloc,
         "set",
         "Sets values, and prints what the agent answers",
     )?
-    .arg(settings)
+    .arg(some_words(
+        alloc,
+        "SETTING",
+        "NAME=i:NUMBER for an INTEGER, NAME=x:HEX for an OCTET STRING",
+    ))
 }
 
 // What each request has: the tries, the agent and the community.
@@ -97,21 +110,19 @@ fn request_command<'a>(
 ) -> Result<Command<'a>, AllocError>
     ensures { IfOk result (HasWords (record { top = request_shape name.entry.now []; subs = [] })) }
 {
-    let address = one_word(
-        alloc,
-        "ADDRESS",
-        "The agent's address and port, as 127.0.0.1:161 or [::1]:161",
-    );
-    let community = one_word(
-        alloc,
-        "COMMUNITY",
-        "The community, up to 255 octets; behind '--' if it begins with '-'",
-    );
     Command::new(alloc, name)
         .about(about)
         .arg(tries_option(alloc))?
-        .arg(address)?
-        .arg(community)
+        .arg(one_word(
+            alloc,
+            "ADDRESS",
+            "The agent's address and port, as 127.0.0.1:161 or [::1]:161",
+        ))?
+        .arg(one_word(
+            alloc,
+            "COMMUNITY",
+            "The community, up to 255 octets; behind '--' if it begins with '-'",
+        ))
 }
 
 /// What help says of a name.

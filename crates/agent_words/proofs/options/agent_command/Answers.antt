@@ -13,6 +13,6 @@ returns c =
     let check = file_shape (codes "check") in
     let one = with_subcommand none script in
     let two = with_subcommand one check in
-    let h1 = added none script c.agent_options.result c.in_ok-script.script c.in_ok-subcommand.field-0 c.agent_options.ensures c.in_ok-script.ensures c.in_ok-subcommand.ensures in
-    let h2 = added one check c.in_ok-subcommand.field-0 c.in_ok-check.check c.in_ok-subcommand-2.field-0 h1 c.in_ok-check.ensures c.in_ok-subcommand-2.ensures in
-    IfOk-weaker c.subcommand-3.result _ (HasWords (with_subcommand two serve_shape)) (λ n adds. added two serve_shape c.in_ok-subcommand-2.field-0 c.in_ok-serve.serve n h2 c.in_ok-serve.ensures adds) c.subcommand-3.ensures
+    let h1 = added none script c.agent_options.result c.script_command.result c.in_ok-agent.agent c.agent_options.ensures c.script_command.ensures c.in_ok-agent.ensures in
+    let h2 = added one check c.in_ok-agent.agent c.check_command.result c.in_ok-agent-2.agent h1 c.check_command.ensures c.in_ok-agent-2.ensures in
+    IfOk-weaker c.added-3.result _ (HasWords (with_subcommand two serve_shape)) (λ n adds. added two serve_shape c.in_ok-agent-2.agent c.serve_command.result n h2 c.serve_command.ensures adds) c.added-3.ensures

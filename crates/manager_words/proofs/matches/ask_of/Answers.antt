@@ -1,5 +1,4 @@
 use Rattle.std.proofs.Common.{pos}
-use Rattle.message_core.specs.declared.request.Kind.TheVariants as kind
 use Rattle.manager_words.specs.Requests.{IsAskOf, AreNames, rows_in}
 use Rattle.manager_words.proofs.Asks.{asks_of, one_names}
 use Rattle.manager_words.proofs.Passed.{passed}

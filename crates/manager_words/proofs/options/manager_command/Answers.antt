@@ -15,8 +15,8 @@ returns c =
     let two = with_subcommand one next in
     let three = with_subcommand two bulk_shape in
     let four = with_subcommand three walk_shape in
-    let h1 = added none get c.in_ok-manager_options.field-0 c.in_ok-get.get c.in_ok-subcommand.field-0 c.in_ok-manager_options.ensures c.in_ok-get.ensures c.in_ok-subcommand.ensures in
-    let h2 = added one next c.in_ok-subcommand.field-0 c.in_ok-next.next c.in_ok-subcommand-2.field-0 h1 c.in_ok-next.ensures c.in_ok-subcommand-2.ensures in
-    let h3 = added two bulk_shape c.in_ok-subcommand-2.field-0 c.in_ok-bulk_command.field-0 c.in_ok-subcommand-3.field-0 h2 c.in_ok-bulk_command.ensures c.in_ok-subcommand-3.ensures in
-    let h4 = added three walk_shape c.in_ok-subcommand-3.field-0 c.in_ok-walk_command.field-0 c.in_ok-subcommand-4.field-0 h3 c.in_ok-walk_command.ensures c.in_ok-subcommand-4.ensures in
-    IfOk-weaker c.subcommand-5.result _ (HasWords (with_subcommand four set_shape)) (λ n adds. added four set_shape c.in_ok-subcommand-4.field-0 c.in_ok-set_command.field-0 n h4 c.in_ok-set_command.ensures adds) c.subcommand-5.ensures
+    let h1 = added none get c.in_ok-manager.manager c.names_command.result c.in_ok-manager-2.manager c.in_ok-manager.ensures c.names_command.ensures c.in_ok-manager-2.ensures in
+    let h2 = added one next c.in_ok-manager-2.manager c.names_command-2.result c.in_ok-manager-3.manager h1 c.names_command-2.ensures c.in_ok-manager-3.ensures in
+    let h3 = added two bulk_shape c.in_ok-manager-3.manager c.bulk_command.result c.in_ok-manager-4.manager h2 c.bulk_command.ensures c.in_ok-manager-4.ensures in
+    let h4 = added three walk_shape c.in_ok-manager-4.manager c.walk_command.result c.in_ok-manager-5.manager h3 c.walk_command.ensures c.in_ok-manager-5.ensures in
+    IfOk-weaker c.added-5.result _ (HasWords (with_subcommand four set_shape)) (λ n adds. added four set_shape c.in_ok-manager-5.manager c.set_command.result n h4 c.set_command.ensures adds) c.added-5.ensures
