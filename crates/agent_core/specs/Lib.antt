@@ -5,6 +5,7 @@ pub mod Buffered
 pub mod Bulk
 pub mod Fitting
 pub mod Sending
+pub mod Standing
 pub mod Replies
 pub mod Sets
 pub mod Answers

@@ -19,8 +19,7 @@ use crate::nexts::get_next_all;
 use crate::sent_reply::SentReply;
 use crate::served::Served;
 use crate::sets::answer_set;
-use crate::source::{Source, View};
-use crate::views::{EveryName, PolicyView};
+use crate::source::Source;
 use crate::whole::Whole;
 use audit_core::{Audit, DeniedBindings, Unrestored, UnrestoredRoom};
 use decision::{AccessKey, Cause, Decision, decide};
@@ -277,8 +276,7 @@ fn send_served<O: MibObject, L: Ledger>(
         vacm,
         view,
     };
-    let view = PolicyView { vacm, view };
-    send_kind(alloc, &source, &view, request, buffer, &mut steps)
+    send_kind(alloc, &source, request, buffer, &mut steps)
 }
 
 // Puts the reply to a request where every name is seen into the buffer. It is for a Get, which looks
@@ -305,14 +303,13 @@ fn send_undenied<O: MibObject, L: Ledger>(
 {
     let mut steps: Steps<L> = Steps::new(blank);
     let source = Whole { registry, world };
-    send_kind(alloc, &source, &EveryName, request, buffer, &mut steps)
+    send_kind(alloc, &source, request, buffer, &mut steps)
 }
 
 // Answers a request by its kind, from any source and under any view.
-fn send_kind<S: Source<L>, V: View, L: Ledger>(
+fn send_kind<S: Source<L>, L: Ledger>(
     alloc: Global,
     source: &S,
-    view: &V,
     request: &Request,
     buffer: &mut Buffer,
     steps: &mut Steps<L>,
@@ -321,7 +318,7 @@ fn send_kind<S: Source<L>, V: View, L: Ledger>(
     requires encodable { AreEncodable request.now.bindings }
     requires reads { request.now.kind ≢ Kind.Set }
     ensures sent { IfOk result (λ sent.
-        IsSent (kind_reply (S.objects source.now) (V.shows view.now)
+        IsSent (kind_reply (S.objects source.now) (S.shows source.now)
         (S.instances source.now) request.now request.now.kind) sent buffer.new.reply) }
     ensures bpdus { buffer.new.bpdus ≡ buffer.old.bpdus }
     ensures err { OnErr result (buffer.new ≡ buffer.old) }
@@ -329,9 +326,9 @@ fn send_kind<S: Source<L>, V: View, L: Ledger>(
     let asked = request.bindings.as_slice();
     source.known();
     let answers = match request.kind {
-        Kind::Get => get_all(alloc, source, view, asked, steps)?,
-        Kind::GetNext => get_next_all(alloc, source, view, asked, steps)?,
-        Kind::GetBulk => get_bulk(alloc, source, view, request, steps)?,
+        Kind::Get => get_all(alloc, source, asked, steps)?,
+        Kind::GetNext => get_next_all(alloc, source, asked, steps)?,
+        Kind::GetBulk => get_bulk(alloc, source, request, steps)?,
         Kind::Set => unreachable!(),
     };
     Ok(buffer.put(request, ErrorStatus::NoError, 0, answers.as_slice()))

@@ -10,9 +10,9 @@ ghost use Rattle.agent_core.specs.Bulk.{all_end, repetitions, further, bulk_list
 ghost use Rattle.agent_core.specs.Fitting.{fitting_front, fit_into, most_successors, IsFilled};
 ghost use Rattle.message_core.specs.declared.binding.Binding.{Binding};
 
-use crate::nexts::get_next_near;
+use crate::nexts::get_next_from;
 use crate::sent::Sent;
-use crate::source::{NOWHERE, Successors, View};
+use crate::source::Successors;
 use message_core::{Binding, Bindings, Request, Value, bindings_room};
 use oid_core::Oid;
 use std::alloc::{AllocError, Global};
@@ -20,60 +20,60 @@ use std::sync::ledger::Ledger;
 use steps::Steps;
 
 // Sends what GetNext answers under a name where there is room for it, and says whether there was.
-fn send_next<S: Successors<L>, V: View, L: Ledger>(
+fn send_next<S: Successors<L>, L: Ledger>(
     alloc: Global,
     source: &S,
-    view: &V,
     name: &Oid,
-    near: &mut usize,
     sent: &mut Sent,
     steps: &mut Steps<L>,
 ) -> Result<bool, AllocError>
     requires { HasRoot name.now }
     ensures taken { IfOk result (λ taken. IsTrue taken →
-        sent.new.bindings ≡ sent.old.bindings ++ next_answer (visible (V.shows view.now)
+        sent.new.bindings ≡ sent.old.bindings ++ next_answer (visible (S.shows source.now)
         (S.instances source.now)) name.now ∷ []) }
     ensures full { IfOk result (λ taken. taken ≡ false → sent.new.bindings ≡ sent.old.bindings) }
     ensures fits { IfOk result (λ taken.
         taken ≡ fit_into sent.old.room (sent.old.bindings ++ next_answer
-        (visible (V.shows view.now) (S.instances source.now)) name.now ∷ [])) }
+        (visible (S.shows source.now) (S.instances source.now)) name.now ∷ [])) }
     ensures room { sent.new.room ≡ sent.old.room }
     ensures err { OnErr result (sent.new.bindings ≡ sent.old.bindings) }
-    ensures work { steps.new ≤ steps.old + most_looks (V.shows view.now) (S.instances source.now) }
+    ensures work { steps.new ≤ steps.old + most_looks (S.shows source.now) (S.instances source.now) }
 {
-    let row = get_next_near(alloc, source, view, name, near, steps)?;
-    sent.offer(row)
+    let mut stand = match sent.stand(1) {
+        Some(other) => source.start_beside(name, other),
+        None => source.start(name),
+    };
+    let row = get_next_from(alloc, source, name, &mut stand, steps)?;
+    sent.offer(row, stand)
 }
 
 // Sends one repetition, GetNext of the name of each of these bindings, as far as there is room, and
 // says whether there was room for all of it.
-fn repeat_once<S: Successors<L>, V: View, L: Ledger>(
+fn repeat_once<S: Successors<L>, L: Ledger>(
     alloc: Global,
     source: &S,
-    view: &V,
     asked: &[Binding],
-    near: &mut usize,
     sent: &mut Sent,
     steps: &mut Steps<L>,
 ) -> Result<bool, AllocError>
     requires { AreEncodable asked.now }
     ensures whole { IfOk result (λ whole. IsTrue whole →
         sent.new.bindings ≡ sent.old.bindings ++ next_answers
-        (visible (V.shows view.now) (S.instances source.now)) (names_of asked.now)) }
+        (visible (S.shows source.now) (S.instances source.now)) (names_of asked.now)) }
     ensures cut { IfOk result (λ whole. whole ≡ false → (more : List Binding) →
         IsFilled sent.new.room (sent.old.bindings ++ (next_answers
-        (visible (V.shows view.now) (S.instances source.now)) (names_of asked.now) ++ more))
+        (visible (S.shows source.now) (S.instances source.now)) (names_of asked.now) ++ more))
         sent.new.bindings) }
     ensures room { sent.new.room ≡ sent.old.room }
-    ensures work { let most = most_looks (V.shows view.now) (S.instances source.now) in
+    ensures work { let most = most_looks (S.shows source.now) (S.instances source.now) in
         steps.new + length sent.old.bindings * most
         ≤ steps.old + (length sent.new.bindings + 1) * most }
-    ensures whole_work { let most = most_looks (V.shows view.now) (S.instances source.now) in
+    ensures whole_work { let most = most_looks (S.shows source.now) (S.instances source.now) in
         IfOk result (λ whole. IsTrue whole →
         steps.new + length sent.old.bindings * most ≤ steps.old + length sent.new.bindings * most) }
 {
     for binding in asked {
-        if !send_next(alloc, source, view, &binding.name, near, sent, steps)? {
+        if !send_next(alloc, source, &binding.name, sent, steps)? {
             return Ok(false);
         }
     }
@@ -82,12 +82,10 @@ fn repeat_once<S: Successors<L>, V: View, L: Ledger>(
 
 // Sends what GetNext answers under the name of the binding so many places back, where there is room
 // for it, and says whether there was.
-fn send_successor<S: Successors<L>, V: View, L: Ledger>(
+fn send_successor<S: Successors<L>, L: Ledger>(
     alloc: Global,
     source: &S,
-    view: &V,
     back: usize,
-    near: &mut usize,
     sent: &mut Sent,
     steps: &mut Steps<L>,
 ) -> Result<bool, AllocError>
@@ -96,31 +94,33 @@ fn send_successor<S: Successors<L>, V: View, L: Ledger>(
     ensures taken { let name = get_or (names_of sent.old.bindings)
         (length sent.old.bindings - back) [] in
         IfOk result (λ taken. IsTrue taken →
-        sent.new.bindings ≡ sent.old.bindings ++ next_answer (visible (V.shows view.now)
+        sent.new.bindings ≡ sent.old.bindings ++ next_answer (visible (S.shows source.now)
         (S.instances source.now)) name ∷ []) }
     ensures full { IfOk result (λ taken. taken ≡ false → sent.new.bindings ≡ sent.old.bindings) }
     ensures fits { let name = get_or (names_of sent.old.bindings)
         (length sent.old.bindings - back) [] in
         IfOk result (λ taken.
         taken ≡ fit_into sent.old.room (sent.old.bindings ++ next_answer
-        (visible (V.shows view.now) (S.instances source.now)) name ∷ [])) }
+        (visible (S.shows source.now) (S.instances source.now)) name ∷ [])) }
     ensures room { sent.new.room ≡ sent.old.room }
     ensures err { OnErr result (sent.new.bindings ≡ sent.old.bindings) }
-    ensures work { steps.new ≤ steps.old + most_looks (V.shows view.now) (S.instances source.now) }
+    ensures work { steps.new ≤ steps.old + most_looks (S.shows source.now) (S.instances source.now) }
 {
     let before = &sent.last(back)[0];
-    let row = get_next_near(alloc, source, view, &before.name, near, steps)?;
-    sent.offer(row)
+    let mut stand = match sent.stand(back) {
+        Some(stand) => *stand,
+        None => source.start(&before.name),
+    };
+    let row = get_next_from(alloc, source, &before.name, &mut stand, steps)?;
+    sent.offer(row, stand)
 }
 
 // Sends one repetition more, GetNext of the names of the one that was sent last, which has so many
 // bindings, as far as there is room, and says whether there was room for all of it.
-fn repeat_last<S: Successors<L>, V: View, L: Ledger>(
+fn repeat_last<S: Successors<L>, L: Ledger>(
     alloc: Global,
     source: &S,
-    view: &V,
     columns: usize,
-    near: &mut usize,
     sent: &mut Sent,
     steps: &mut Steps<L>,
 ) -> Result<bool, AllocError>
@@ -128,22 +128,22 @@ fn repeat_last<S: Successors<L>, V: View, L: Ledger>(
     ensures whole { let last = drop (length sent.old.bindings - columns) sent.old.bindings in
         IfOk result (λ whole. IsTrue whole →
         sent.new.bindings ≡ sent.old.bindings ++ next_answers
-        (visible (V.shows view.now) (S.instances source.now)) (names_of last)) }
+        (visible (S.shows source.now) (S.instances source.now)) (names_of last)) }
     ensures cut { let last = drop (length sent.old.bindings - columns) sent.old.bindings in
         IfOk result (λ whole. whole ≡ false → (more : List Binding) →
         IsFilled sent.new.room (sent.old.bindings ++ (next_answers
-        (visible (V.shows view.now) (S.instances source.now)) (names_of last) ++ more))
+        (visible (S.shows source.now) (S.instances source.now)) (names_of last) ++ more))
         sent.new.bindings) }
     ensures room { sent.new.room ≡ sent.old.room }
-    ensures work { let most = most_looks (V.shows view.now) (S.instances source.now) in
+    ensures work { let most = most_looks (S.shows source.now) (S.instances source.now) in
         steps.new + length sent.old.bindings * most
         ≤ steps.old + (length sent.new.bindings + 1) * most }
-    ensures whole_work { let most = most_looks (V.shows view.now) (S.instances source.now) in
+    ensures whole_work { let most = most_looks (S.shows source.now) (S.instances source.now) in
         IfOk result (λ whole. IsTrue whole →
         steps.new + length sent.old.bindings * most ≤ steps.old + length sent.new.bindings * most) }
 {
     for column in 0..columns {
-        if !send_successor(alloc, source, view, columns, near, sent, steps)? {
+        if !send_successor(alloc, source, columns, sent, steps)? {
             return Ok(false);
         }
     }
@@ -162,22 +162,20 @@ fn has_ended(row: &[Binding]) -> bool
 //
 // Each but the last sends a binding for each name and so takes room: there are no more repetitions
 // than bindings that fit, and one, whatever `most` is.
-fn go_on<S: Successors<L>, V: View, L: Ledger>(
+fn go_on<S: Successors<L>, L: Ledger>(
     alloc: Global,
     source: &S,
-    view: &V,
     columns: usize,
     most: u32,
-    near: &mut usize,
     sent: &mut Sent,
     steps: &mut Steps<L>,
 ) -> Result<(), AllocError>
     requires { columns ≤ length sent.old.bindings }
     ensures filled { let last = drop (length sent.old.bindings - columns) sent.old.bindings in
         OnOk result (IsFilled sent.old.room (sent.old.bindings ++ further
-        (visible (V.shows view.now) (S.instances source.now)) most last) sent.new.bindings) }
+        (visible (S.shows source.now) (S.instances source.now)) most last) sent.new.bindings) }
     ensures room { sent.new.room ≡ sent.old.room }
-    ensures work { let most = most_looks (V.shows view.now) (S.instances source.now) in
+    ensures work { let most = most_looks (S.shows source.now) (S.instances source.now) in
         steps.new + length sent.old.bindings * most
         ≤ steps.old + (length sent.new.bindings + 1) * most }
 {
@@ -185,7 +183,7 @@ fn go_on<S: Successors<L>, V: View, L: Ledger>(
         if has_ended(sent.last(columns)) {
             return Ok(());
         }
-        if !repeat_last(alloc, source, view, columns, near, sent, steps)? {
+        if !repeat_last(alloc, source, columns, sent, steps)? {
             return Ok(());
         }
     }
@@ -193,10 +191,9 @@ fn go_on<S: Successors<L>, V: View, L: Ledger>(
 }
 
 // Sends up to `most` repetitions from the names of these bindings on, as far as there is room.
-fn repeat<S: Successors<L>, V: View, L: Ledger>(
+fn repeat<S: Successors<L>, L: Ledger>(
     alloc: Global,
     source: &S,
-    view: &V,
     asked: &[Binding],
     most: u32,
     sent: &mut Sent,
@@ -204,37 +201,33 @@ fn repeat<S: Successors<L>, V: View, L: Ledger>(
 ) -> Result<(), AllocError>
     requires { AreEncodable asked.now }
     ensures filled { OnOk result (IsFilled sent.old.room (sent.old.bindings ++ repetitions
-        (visible (V.shows view.now)
+        (visible (S.shows source.now)
         (S.instances source.now)) most (names_of asked.now)) sent.new.bindings) }
     ensures room { sent.new.room ≡ sent.old.room }
-    ensures work { let most = most_looks (V.shows view.now) (S.instances source.now) in
+    ensures work { let most = most_looks (S.shows source.now) (S.instances source.now) in
         steps.new + length sent.old.bindings * most
         ≤ steps.old + (length sent.new.bindings + 1) * most }
 {
     if most == 0 {
         return Ok(());
     }
-    let mut near = NOWHERE;
-    if !repeat_once(alloc, source, view, asked, &mut near, sent, steps)? {
+    if !repeat_once(alloc, source, asked, sent, steps)? {
         return Ok(());
     }
     go_on(
         alloc,
         source,
-        view,
         asked.len(),
         most - 1,
-        &mut near,
         sent,
         steps,
     )
 }
 
 // Sends the first `once` names once, and the others up to `most` times, as far as there is room.
-fn send_list<S: Successors<L>, V: View, L: Ledger>(
+fn send_list<S: Successors<L>, L: Ledger>(
     alloc: Global,
     source: &S,
-    view: &V,
     once: usize,
     most: u32,
     asked: &[Binding],
@@ -244,19 +237,18 @@ fn send_list<S: Successors<L>, V: View, L: Ledger>(
     requires once { once ≤ length asked.now }
     requires encodable { AreEncodable asked.now }
     ensures filled { OnOk result (IsFilled sent.old.room (sent.old.bindings ++ bulk_list
-        (visible (V.shows view.now) (S.instances source.now)) once most
+        (visible (S.shows source.now) (S.instances source.now)) once most
         (names_of asked.now)) sent.new.bindings) }
     ensures room { sent.new.room ≡ sent.old.room }
-    ensures work { let most = most_looks (V.shows view.now) (S.instances source.now) in
+    ensures work { let most = most_looks (S.shows source.now) (S.instances source.now) in
         steps.new + length sent.old.bindings * most
         ≤ steps.old + (length sent.new.bindings + 1) * most }
 {
     let (first, columns) = asked.split_at(once);
-    let mut near = NOWHERE;
-    if !repeat_once(alloc, source, view, first, &mut near, sent, steps)? {
+    if !repeat_once(alloc, source, first, sent, steps)? {
         return Ok(());
     }
-    repeat(alloc, source, view, columns, most, sent, steps)
+    repeat(alloc, source, columns, most, sent, steps)
 }
 
 // A number of a request as a count, 0 where it is negative.
@@ -288,29 +280,28 @@ fn max_repetitions(request: &Request) -> u32
 /// and for one more, whatever max-repetitions says; so at most `most_successors`, 246, times as
 /// many, also where memory fails. `most_looks` is one more than the instances that the view hides.
 /// Only memory can fail.
-pub fn get_bulk<S: Successors<L>, V: View, L: Ledger>(
+pub fn get_bulk<S: Successors<L>, L: Ledger>(
     alloc: Global,
     source: &S,
-    view: &V,
     request: &Request,
     steps: &mut Steps<L>,
 ) -> Result<Bindings, AllocError>
     requires community { length request.now.community ≤ MAX_COMMUNITY }
     requires encodable { AreEncodable request.now.bindings }
     ensures answer { IfOk result (λ sent.
-        sent ≡ fitting_front request.now (asked_list (visible (V.shows view.now)
+        sent ≡ fitting_front request.now (asked_list (visible (S.shows source.now)
         (S.instances source.now)) request.now)) }
     ensures encodable { IfOk result (λ sent. AreEncodable sent) }
-    ensures work { let most = most_looks (V.shows view.now) (S.instances source.now) in
+    ensures work { let most = most_looks (S.shows source.now) (S.instances source.now) in
         IfOk result (λ sent. steps.new ≤ steps.old + (length sent + 1) * most) }
-    ensures most_work { steps.new ≤ steps.old + most_successors * most_looks (V.shows view.now)
+    ensures most_work { steps.new ≤ steps.old + most_successors * most_looks (S.shows source.now)
         (S.instances source.now) }
 {
     let asked = request.bindings.as_slice();
     let once = non_repeaters(request);
     let most = max_repetitions(request);
     let mut sent = Sent::new(alloc, bindings_room(request));
-    let filled = send_list(alloc, source, view, once, most, asked, &mut sent, steps);
+    let filled = send_list(alloc, source, once, most, asked, &mut sent, steps);
     let bindings = sent.into_bindings();
     filled?;
     Ok(bindings)

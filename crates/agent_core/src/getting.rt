@@ -9,7 +9,7 @@ ghost use Rattle.agent_core.specs.Reading.{visible, get_answer, get_answers, is_
 ghost use Rattle.agent_core.specs.Looking.{most_looks};
 
 use crate::reading::next_shown;
-use crate::source::{NOWHERE, Source, View};
+use crate::source::Source;
 use message_core::{Binding, Bindings, Value};
 use oid_core::Oid;
 use std::alloc::{AllocError, Global};
@@ -17,40 +17,38 @@ use std::sync::ledger::Ledger;
 use steps::Steps;
 
 // The value under a name, where the view shows it.
-fn shown_value<S: Source<L>, V: View, L: Ledger>(
+fn shown_value<S: Source<L>, L: Ledger>(
     alloc: Global,
     source: &S,
-    view: &V,
     name: &Oid,
 ) -> Result<Option<Value>, AllocError>
     ensures { IfOk result (λ found.
-        found ≡ value_of (visible (V.shows view.now) (S.instances source.now)) name.now) }
+        found ≡ value_of (visible (S.shows source.now) (S.instances source.now)) name.now) }
 {
-    if !view.has_name(name) {
+    if !source.has_name(name) {
         return Ok(None);
     }
     source.get(alloc, name)
 }
 
 // Whether the view shows an instance whose name begins so.
-fn shows_below<S: Source<L>, V: View, L: Ledger>(
+fn shows_below<S: Source<L>, L: Ledger>(
     alloc: Global,
     source: &S,
-    view: &V,
     object: &Oid,
     steps: &mut Steps<L>,
 ) -> Result<bool, AllocError>
     ensures answer { IfOk result (λ b.
         b ≡ list_any (λ row. is_prefix object.now row.name)
-        (visible (V.shows view.now) (S.instances source.now))) }
-    ensures work { steps.new ≤ steps.old + most_looks (V.shows view.now) (S.instances source.now) }
+        (visible (S.shows source.now) (S.instances source.now))) }
+    ensures work { steps.new ≤ steps.old + most_looks (S.shows source.now) (S.instances source.now) }
 {
     source.known();
-    if let Some(_itself) = shown_value(alloc, source, view, object)? {
+    if let Some(_itself) = shown_value(alloc, source, object)? {
         return Ok(true);
     }
-    let mut near = NOWHERE;
-    match next_shown(alloc, source, view, object, &mut near, steps)? {
+    let mut stand = source.start(object);
+    match next_shown(alloc, source, object, &mut stand, steps)? {
         Some(row) => Ok(object.is_prefix(&row.name)),
         None => Ok(false),
     }
@@ -58,18 +56,17 @@ fn shows_below<S: Source<L>, V: View, L: Ledger>(
 
 // Whether an object begins the name, and the name is in the view or the view shows an instance of
 // that object.
-fn knows_object<S: Source<L>, V: View, L: Ledger>(
+fn knows_object<S: Source<L>, L: Ledger>(
     alloc: Global,
     source: &S,
-    view: &V,
     shown: bool,
     name: &Oid,
     steps: &mut Steps<L>,
 ) -> Result<bool, AllocError>
     ensures answer { IfOk result (λ b.
-        b ≡ is_known shown (visible (V.shows view.now) (S.instances source.now))
+        b ≡ is_known shown (visible (S.shows source.now) (S.instances source.now))
         (object_of (S.objects source.now) name.now)) }
-    ensures work { steps.new ≤ steps.old + most_looks (V.shows view.now) (S.instances source.now) }
+    ensures work { steps.new ≤ steps.old + most_looks (S.shows source.now) (S.instances source.now) }
 {
     let Some(object) = source.object(alloc, name)? else {
         return Ok(false);
@@ -77,7 +74,7 @@ fn knows_object<S: Source<L>, V: View, L: Ledger>(
     if shown {
         return Ok(true);
     }
-    shows_below(alloc, source, view, &object, steps)
+    shows_below(alloc, source, &object, steps)
 }
 
 // What stands under a name that has no value.
@@ -95,26 +92,25 @@ fn missing(known: bool) -> Value
 /// memory can fail.
 ///
 /// It looks for one successor at most, to see whether an object has an instance in the view.
-pub fn get<S: Source<L>, V: View, L: Ledger>(
+pub fn get<S: Source<L>, L: Ledger>(
     alloc: Global,
     source: &S,
-    view: &V,
     name: &Oid,
     steps: &mut Steps<L>,
 ) -> Result<Binding, AllocError>
     ensures answer { IfOk result (λ b.
-        b ≡ get_answer (S.objects source.now) (V.shows view.now name.now)
-        (visible (V.shows view.now) (S.instances source.now)) name.now) }
-    ensures work { steps.new ≤ steps.old + most_looks (V.shows view.now) (S.instances source.now) }
+        b ≡ get_answer (S.objects source.now) (S.shows source.now name.now)
+        (visible (S.shows source.now) (S.instances source.now)) name.now) }
+    ensures work { steps.new ≤ steps.old + most_looks (S.shows source.now) (S.instances source.now) }
 {
     let Ok(asked) = name.try_copy(alloc) else {
         return Err(AllocError);
     };
-    if let Some(value) = shown_value(alloc, source, view, name)? {
+    if let Some(value) = shown_value(alloc, source, name)? {
         return Ok(Binding { name: asked, value });
     }
-    let shown = view.has_name(name);
-    let known = knows_object(alloc, source, view, shown, name, steps)?;
+    let shown = source.has_name(name);
+    let known = knows_object(alloc, source, shown, name, steps)?;
     Ok(Binding {
         name: asked,
         value: missing(known),
@@ -122,22 +118,21 @@ pub fn get<S: Source<L>, V: View, L: Ledger>(
 }
 
 /// What Get answers to each asked name, in order (RFC 3416, 4.2.1). Only memory can fail.
-pub fn get_all<S: Source<L>, V: View, L: Ledger>(
+pub fn get_all<S: Source<L>, L: Ledger>(
     alloc: Global,
     source: &S,
-    view: &V,
     asked: &[Binding],
     steps: &mut Steps<L>,
 ) -> Result<Bindings, AllocError>
     ensures answers { IfOk result (λ answers.
-        answers ≡ get_answers (S.objects source.now) (V.shows view.now) (S.instances source.now)
+        answers ≡ get_answers (S.objects source.now) (S.shows source.now) (S.instances source.now)
         asked.now) }
-    ensures work { steps.new ≤ steps.old + length asked.now * most_looks (V.shows view.now)
+    ensures work { steps.new ≤ steps.old + length asked.now * most_looks (S.shows source.now)
         (S.instances source.now) }
 {
     let mut answers = Bindings::new(alloc);
     for binding in asked {
-        answers.push(get(alloc, source, view, &binding.name, steps)?)?;
+        answers.push(get(alloc, source, &binding.name, steps)?)?;
     }
     Ok(answers)
 }

@@ -48,7 +48,6 @@ mod sent_reply;
 mod served;
 mod sets;
 mod source;
-mod views;
 mod whole;
 
 pub use answered::Answered;
@@ -58,5 +57,4 @@ pub use buffer::Buffer;
 pub use bulk::get_bulk;
 pub use getting::get;
 pub use nexts::get_next;
-pub use source::{NOWHERE, Source, Successors, View};
-pub use views::PolicyView;
+pub use source::{Source, Stand, Successors, View};

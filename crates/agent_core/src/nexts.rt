@@ -7,7 +7,7 @@ ghost use Rattle.agent_core.specs.Reading.{visible, next_answer, next_answers, e
 ghost use Rattle.agent_core.specs.Looking.{most_looks};
 
 use crate::reading::next_shown;
-use crate::source::{NOWHERE, Successors, View};
+use crate::source::{Stand, Successors};
 use message_core::{Binding, Bindings, Value};
 use oid_core::Oid;
 use std::alloc::{AllocError, Global};
@@ -30,25 +30,30 @@ fn end_under(alloc: Global, name: &Oid) -> Result<Binding, AllocError>
 /// What GetNext answers under a name (RFC 3416, 4.2.2), over the instances that the view shows.
 /// Only memory can fail.
 ///
-/// It looks at the source at most once for each instance that the view hides, and once more. `near`
-/// is the source's note of a walk (`Successors::next`).
-pub fn get_next_near<S: Successors<L>, V: View, L: Ledger>(
+/// It looks at the source at most once for each instance that the view hides, and once more. The walk
+/// stands at the name, and then at that of the binding.
+pub fn get_next_from<S: Successors<L>, L: Ledger>(
     alloc: Global,
     source: &S,
-    view: &V,
     name: &Oid,
-    near: &mut usize,
+    stand: &mut Stand,
     steps: &mut Steps<L>,
 ) -> Result<Binding, AllocError>
+    requires { S.stands source.now stand.old name.now }
     ensures answer { IfOk result (λ b.
-        b ≡ next_answer (visible (V.shows view.now) (S.instances source.now)) name.now) }
+        b ≡ next_answer (visible (S.shows source.now) (S.instances source.now)) name.now) }
     ensures encodable { IfOk result (λ b. HasRoot name.now → IsEncodableBinding b) }
-    ensures work { steps.new ≤ steps.old + most_looks (V.shows view.now) (S.instances source.now) }
+    ensures stands { IfOk result (λ b. S.stands source.now stand.new b.name) }
+    ensures work { steps.new ≤ steps.old + most_looks (S.shows source.now) (S.instances source.now) }
 {
     source.known();
-    match next_shown(alloc, source, view, name, near, steps)? {
+    let asked = *stand;
+    match next_shown(alloc, source, name, stand, steps)? {
         Some(row) => Ok(row),
-        None => end_under(alloc, name),
+        None => {
+            *stand = asked;
+            end_under(alloc, name)
+        }
     }
 }
 
@@ -56,40 +61,38 @@ pub fn get_next_near<S: Successors<L>, V: View, L: Ledger>(
 /// Only memory can fail.
 ///
 /// It looks at the source at most once for each instance that the view hides, and once more.
-pub fn get_next<S: Successors<L>, V: View, L: Ledger>(
+pub fn get_next<S: Successors<L>, L: Ledger>(
     alloc: Global,
     source: &S,
-    view: &V,
     name: &Oid,
     steps: &mut Steps<L>,
 ) -> Result<Binding, AllocError>
     ensures answer { IfOk result (λ b.
-        b ≡ next_answer (visible (V.shows view.now) (S.instances source.now)) name.now) }
+        b ≡ next_answer (visible (S.shows source.now) (S.instances source.now)) name.now) }
     ensures encodable { IfOk result (λ b. HasRoot name.now → IsEncodableBinding b) }
-    ensures work { steps.new ≤ steps.old + most_looks (V.shows view.now) (S.instances source.now) }
+    ensures work { steps.new ≤ steps.old + most_looks (S.shows source.now) (S.instances source.now) }
 {
-    let mut near = NOWHERE;
-    get_next_near(alloc, source, view, name, &mut near, steps)
+    let mut stand = source.start(name);
+    get_next_from(alloc, source, name, &mut stand, steps)
 }
 
 /// What GetNext answers under each asked name, in order (RFC 3416, 4.2.2), by the looks of one
 /// successor for each. Only memory can fail.
-pub fn get_next_all<S: Successors<L>, V: View, L: Ledger>(
+pub fn get_next_all<S: Successors<L>, L: Ledger>(
     alloc: Global,
     source: &S,
-    view: &V,
     asked: &[Binding],
     steps: &mut Steps<L>,
 ) -> Result<Bindings, AllocError>
     ensures answers { IfOk result (λ answers.
-        answers ≡ next_answers (visible (V.shows view.now) (S.instances source.now))
+        answers ≡ next_answers (visible (S.shows source.now) (S.instances source.now))
         (names_of asked.now)) }
-    ensures work { steps.new ≤ steps.old + length asked.now * most_looks (V.shows view.now)
+    ensures work { steps.new ≤ steps.old + length asked.now * most_looks (S.shows source.now)
         (S.instances source.now) }
 {
     let mut answers = Bindings::new(alloc);
     for binding in asked {
-        answers.push(get_next(alloc, source, view, &binding.name, steps)?)?;
+        answers.push(get_next(alloc, source, &binding.name, steps)?)?;
     }
     Ok(answers)
 }

@@ -1,10 +1,10 @@
 //! The next instance that a view shows.
-ghost use Rattle.std.specs.Prelude.{◌≡◌, ◌≤◌, ◌+◌, IfOk};
+ghost use Rattle.std.specs.Prelude.{◌≡◌, ◌≤◌, ◌+◌, IfOk, IfSome};
 ghost use Rattle.message_core.specs.Instances.{next_of};
 ghost use Rattle.agent_core.specs.Reading.{visible};
 ghost use Rattle.agent_core.specs.Looking.{most_looks};
 
-use crate::source::{Successors, View};
+use crate::source::{Stand, Successors};
 use message_core::Binding;
 use oid_core::Oid;
 use std::alloc::{AllocError, Global};
@@ -12,26 +12,29 @@ use std::sync::ledger::Ledger;
 use steps::Steps;
 
 /// The first instance after a name that the view shows (RFC 3416, 4.2.2). Each look at the source
-/// is a step: one for each hidden instance that is passed over, and one more. Only memory can fail.
-pub fn next_shown<S: Successors<L>, V: View, L: Ledger>(
+/// is a step: one for each hidden instance that is passed over, and one more. The walk stands at what
+/// is found then. Only memory can fail.
+pub fn next_shown<S: Successors<L>, L: Ledger>(
     alloc: Global,
     source: &S,
-    view: &V,
     name: &Oid,
-    near: &mut usize,
+    stand: &mut Stand,
     steps: &mut Steps<L>,
 ) -> Result<Option<Binding>, AllocError>
+    requires { S.stands source.now stand.old name.now }
     ensures found { IfOk result (λ found.
-        found ≡ next_of (visible (V.shows view.now) (S.instances source.now)) name.now) }
-    ensures work { steps.new ≤ steps.old + most_looks (V.shows view.now) (S.instances source.now) }
+        found ≡ next_of (visible (S.shows source.now) (S.instances source.now)) name.now) }
+    ensures stands { IfOk result (λ found.
+        IfSome found (λ b. S.stands source.now stand.new b.name)) }
+    ensures work { steps.new ≤ steps.old + most_looks (S.shows source.now) (S.instances source.now) }
 {
     source.known();
-    let mut found = source.next(alloc, name, near, steps)?;
+    let mut found = source.next(alloc, name, stand, steps)?;
     while let Some(row) = found {
-        if view.has_name(&row.name) {
+        if source.is_shown(&row.name, stand) {
             return Ok(Some(row));
         }
-        found = next_row(alloc, source, row, near, steps)?;
+        found = next_row(alloc, source, row, stand, steps)?;
     }
     Ok(None)
 }
@@ -42,11 +45,14 @@ fn next_row<S: Successors<L>, L: Ledger>(
     alloc: Global,
     source: &S,
     row: Binding,
-    near: &mut usize,
+    stand: &mut Stand,
     steps: &mut Steps<L>,
 ) -> Result<Option<Binding>, AllocError>
+    requires { S.stands source.now stand.old row.name }
     ensures found { IfOk result (λ found. found ≡ next_of (S.instances source.now) row.name) }
+    ensures stands { IfOk result (λ found.
+        IfSome found (λ b. S.stands source.now stand.new b.name)) }
     ensures work { steps.new ≡ steps.old + 1 }
 {
-    source.next(alloc, &row.name, near, steps)
+    source.next(alloc, &row.name, stand, steps)
 }

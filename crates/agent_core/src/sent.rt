@@ -4,15 +4,22 @@ ghost use Rattle.message_core.specs.Encodable.{IsEncodableBinding, AreEncodable}
 ghost use Rattle.message_core.specs.declared.limits.TheConstants.{MAX_REPLY};
 ghost use Rattle.agent_core.specs.Fitting.{total, fit_into};
 
+use crate::source::Stand;
+use arrayvec::ArrayVec;
 use message_core::{Binding, Bindings, encoded_len};
 use std::alloc::{AllocError, Global};
 use std::marker::Model;
+
+// Of how many bindings a walk's stand is kept: of the columns of a repetition, but for one of more.
+const MAX_STANDS: usize = 16;
 
 /// The bindings of a GetBulk's reply so far, and the octets that they may have (RFC 3416, 4.2.3: as
 /// many as fit).
 #[derive(Drop)]
 pub struct Sent {
     bindings: Vec<Binding>,
+    // Where walks stand at the names of the last of them, the last one first.
+    stands: ArrayVec<Stand, MAX_STANDS>,
     used: usize,
     room: usize,
 }
@@ -22,20 +29,29 @@ impl Model for Sent {
 
     ghost Value = { Sending };
 
-    ghost view = { λ s. record { room = s.room; bindings = s.bindings.items } };
+    ghost view = { λ s. record {
+      room = s.room;
+      bindings = s.bindings.items;
+      stands = s.stands.items;
+    } };
 
     ghost invariant = { λ s.
-        IsSending (record { room = s.room; bindings = s.bindings.items }) s.used };
+        IsSending (record {
+          room = s.room;
+          bindings = s.bindings.items;
+          stands = s.stands.items;
+        }) s.used };
 }
 
 impl Sent {
     /// No bindings, and room for so many octets.
     pub fn new(alloc: Global, room: usize) -> Sent
         requires { room ≤ MAX_REPLY }
-        ensures { result ≡ record { room = room; bindings = [] } }
+        ensures { result ≡ record { room = room; bindings = []; stands = [] } }
     {
         Sent {
             bindings: Vec::new(alloc),
+            stands: ArrayVec::new(),
             used: 0,
             room,
         }
@@ -43,21 +59,23 @@ impl Sent {
 
     /// Adds a binding where there is room for it (RFC 3416, 4.2.3), and says whether there was.
     /// Only memory can fail; then nothing changes but that the binding is let go.
-    pub fn offer(&mut self, binding: Binding) -> Result<bool, AllocError>
+    pub fn offer(&mut self, binding: Binding, stand: Stand) -> Result<bool, AllocError>
         requires { IsEncodableBinding binding }
         ensures taken { IfOk result (λ taken. IsTrue taken →
             self.new.bindings ≡ self.old.bindings ++ binding ∷ []) }
-        ensures full { IfOk result (λ taken. taken ≡ false →
-            self.new.bindings ≡ self.old.bindings) }
+        ensures stand { IfOk result (λ taken. IsTrue taken →
+            self.new.stands ≡ self.old.stands ++ stand ∷ []) }
+        ensures full { IfOk result (λ taken. taken ≡ false → self.new ≡ self.old) }
         ensures fits { IfOk result (λ taken.
             taken ≡ fit_into self.old.room (self.old.bindings ++ binding ∷ [])) }
         ensures room { self.new.room ≡ self.old.room }
-        ensures err { OnErr result (self.new.bindings ≡ self.old.bindings) }
+        ensures err { OnErr result (self.new ≡ self.old) }
     {
         let Some(len) = encoded_len(&binding, self.room - self.used) else {
             return Ok(false);
         };
         self.bindings.push(binding)?;
+        self.keep(stand);
         self.used += len;
         Ok(true)
     }
@@ -72,6 +90,22 @@ impl Sent {
         &all[all.len() - count..]
     }
 
+    // Keeps where a walk stands at the name of the last binding.
+    fn keep(&mut self, stand: Stand) {
+        if self.stands.is_full() {
+            self.stands.pop();
+        }
+        self.stands.insert(0, stand);
+    }
+
+    /// Where a walk stands at the name of the binding so many places back, where that is kept.
+    pub fn stand(&self, back: usize) -> Option<&Stand>
+        requires { 1 ≤ back }
+        ensures { option_copied result ≡ slice_get self.now.stands (back - 1) }
+    {
+        self.stands.as_slice().get(back - 1)
+    }
+
     /// The bindings. Takes no memory.
     pub fn into_bindings(self) -> Bindings
         ensures value { result ≡ self.bindings }
@@ -80,6 +114,7 @@ impl Sent {
     {
         let Sent {
             bindings,
+            stands: _,
             used: _,
             room: _,
         } = self;

@@ -1,21 +1,26 @@
 //! Managed objects and the world that they show, as what requests are answered from.
-ghost use Rattle.std.specs.Prelude.{◌≡◌, ◌≤◌, ◌<◌, length, IfOk};
+ghost use Rattle.std.specs.Prelude.{◌≡◌, ◌≤◌, ◌<◌, ℕ, List, length, IfOk};
 ghost use Rattle.oid_core.specs.declared.limits.TheConstants.{MAX_NUMBERS};
 ghost use Rattle.message_core.specs.Instances.{next_of};
 ghost use Rattle.vacm_core.specs.Hiding.{hides_all};
 ghost use Rattle.setphase_core.specs.Registry.{rows_of, prefixes_of, AreApart};
 ghost use Rattle.setphase_core.specs.Passing.{open_instances};
+ghost use Rattle.setphase_core.specs.Searching.{IsPlace};
+ghost use Rattle.vacm_core.specs.Families.{in_view};
+ghost use Rattle.std.specs.Option.{option_copied};
 ghost use Rattle.agent_core.specs.Reading.{object_of};
+ghost use Rattle.agent_core.specs.Standing.{IsStand};
+ghost use Rattle.setphase_core.specs.Walking.{first_place};
 
-use crate::source::{NOWHERE, Source, Successors};
+use crate::source::{NOWHERE, Source, Stand, Successors, View, first_place};
 use message_core::{Binding, Value};
 use oid_core::{Oid, OidFault};
-use setphase_core::{MibObject, Passing, Registry, World};
+use setphase_core::{MibObject, Passing, Registry, Successor, World};
 use std::alloc::{AllocError, Global};
 use std::marker::Brand;
 use std::sync::ledger::{Blank, Ledger};
 use steps::Steps;
-use vacm_core::{Name, Vacm};
+use vacm_core::{FrontAnswer, Name, Vacm};
 
 /// Managed objects, and the world that they show (RFC 3416, 4.2: the variables to which an agent
 /// has access), but for the objects that a view is seen to hide whole: these are passed over.
@@ -62,29 +67,6 @@ pub(crate) fn object_in<O: MibObject>(
     }
 }
 
-// The first instance after a name, but for those of the objects that are passed over. These are
-// counted in the ledger of the blank, and by no clause here.
-fn next_uncounted<O: MibObject, L: Ledger>(
-    alloc: Global,
-    source: &Served<'_, O>,
-    name: &Oid,
-    near: &mut usize,
-    blank: Blank,
-) -> Result<Option<Binding>, AllocError>
-    requires name { blank.name ≡ L.name }
-    requires parts { blank.parts ≡ L.parts }
-    requires some { 0 < blank.parts }
-    ensures { IfOk result (λ found. found ≡ next_of (open_instances
-        (hides_all source.now.vacm.now.families source.now.view.now)
-        (rows_of source.now.registry.now) source.now.world.now) name.now) }
-{
-    let mut passed: Steps<L> = Steps::new(blank);
-    let name = name.as_slice();
-    source
-        .registry
-        .next_open(alloc, source.world, name, near, source, &mut passed)
-}
-
 impl<O: MibObject> Passing for Served<'_, O> {
     ghost use Rattle.vacm_core.specs.Hiding.{hides_all};
 
@@ -95,28 +77,106 @@ impl<O: MibObject> Passing for Served<'_, O> {
     }
 }
 
+impl<O: MibObject> Served<'_, O> {
+    // The first instance after a name, but for those of the objects that are passed over. These are
+    // counted in the ledger of the blank, and by no clause here.
+    fn next_uncounted<L: Ledger>(
+        &self,
+        alloc: Global,
+        name: &Oid,
+        stand: &Stand,
+        blank: Blank,
+    ) -> Result<Option<Successor>, AllocError>
+        requires stands { IsStand (in_view self.now.vacm.now.families self.now.view.now)
+            (prefixes_of (rows_of self.now.registry.now)) stand.now name.now }
+        requires name { blank.name ≡ L.name }
+        requires parts { blank.parts ≡ L.parts }
+        requires some { 0 < blank.parts }
+        ensures found { IfOk result (λ found. option_map (λ f. f.binding) found ≡ next_of
+            (open_instances (hides_all self.now.vacm.now.families self.now.view.now)
+            (rows_of self.now.registry.now) self.now.world.now) name.now) }
+        ensures place { IfOk result (λ found. IfSome found (λ f.
+            IsPlace (prefixes_of (rows_of self.now.registry.now)) f.binding.name (Ok f.place))) }
+        ensures behind { IfOk result (λ found. IfSome found (λ f.
+            first_place stand.now.place ≤ f.place)) }
+    {
+        let mut passed: Steps<L> = Steps::new(blank);
+        let name = name.as_slice();
+        let Stand { place, until } = *stand;
+        self.registry
+            .next_open(alloc, self.world, name, place, until, self, &mut passed)
+    }
+}
+
+impl<O: MibObject> View for Served<'_, O> {
+    ghost use Rattle.vacm_core.specs.Families.{in_view};
+
+    ghost shows = { λ s name. in_view s.vacm.now.families s.view.now name };
+
+    fn has_name(&self, name: &Oid) -> bool {
+        self.vacm.in_view(self.view, name).is_included()
+    }
+}
+
 impl<O: MibObject, L: Ledger> Successors<L> for Served<'_, O> {
+    ghost use Rattle.vacm_core.specs.Families.{in_view};
     ghost use Rattle.vacm_core.specs.Hiding.{hides_all};
-    ghost use Rattle.setphase_core.specs.Registry.{rows_of};
+    ghost use Rattle.setphase_core.specs.Registry.{rows_of, prefixes_of};
     ghost use Rattle.setphase_core.specs.Passing.{open_instances};
+    ghost use Rattle.agent_core.specs.Standing.{IsStand};
 
     ghost instances = { λ s. open_instances (hides_all s.vacm.now.families s.view.now)
         (rows_of s.registry.now) s.world.now };
 
+    ghost stands = { λ s. IsStand (in_view s.vacm.now.families s.view.now)
+        (prefixes_of (rows_of s.registry.now)) };
+
     fn known(&self) {
         self.registry.known(self.world);
+    }
+
+    fn start(&self, name: &Oid) -> Stand {
+        let place = self.registry.place_near(name.as_slice(), NOWHERE);
+        Stand { place, until: 0 }
+    }
+
+    fn start_beside(&self, name: &Oid, other: &Stand) -> Stand {
+        let near = first_place(other.place);
+        let place = self.registry.place_near(name.as_slice(), near);
+        let until = if near <= first_place(place) { other.until } else { 0 };
+        Stand { place, until }
     }
 
     fn next(
         &self,
         alloc: Global,
         name: &Oid,
-        near: &mut usize,
+        stand: &mut Stand,
         steps: &mut Steps<L>,
     ) -> Result<Option<Binding>, AllocError> {
         // A step is one look here: the objects that it passes over have a ledger of their own.
         steps.tick();
-        next_uncounted::<O, Brand>(alloc, self, name, near, Blank::new(1))
+        let found = self.next_uncounted::<Brand>(alloc, name, stand, Blank::new(1))?;
+        let Some(Successor { binding, place }) = found else {
+            return Ok(None);
+        };
+        stand.place = Ok(place);
+        Ok(Some(binding))
+    }
+
+    fn is_shown(&self, name: &Oid, stand: &mut Stand) -> bool {
+        let Ok(place) = stand.place else {
+            return self.has_name(name);
+        };
+        if place < stand.until {
+            return true;
+        }
+        let FrontAnswer { answer, front } = self.vacm.in_view_under(self.view, name);
+        if let (true, Some(count)) = (answer.is_included(), front) {
+            let front = &name.as_slice()[..count];
+            stand.until = self.registry.begun_until(front, place);
+        }
+        answer.is_included()
     }
 }
 
@@ -132,13 +192,13 @@ impl<O: MibObject, L: Ledger> Source<L> for Served<'_, O> {
     fn get(&self, alloc: Global, name: &Oid) -> Result<Option<Value>, AllocError> {
         self.registry.known(self.world);
         let name = name.as_slice();
-        let mut near = NOWHERE;
-        let Some(prefix) = self.registry.owner_near(name, &mut near) else {
+        let place = self.registry.place_near(name, NOWHERE);
+        let Some(prefix) = self.registry.owner_at(name, place) else {
             return Ok(None);
         };
-        if self.passes_over(prefix) {
+        if self.vacm.hides_all(self.view, prefix) {
             return Ok(None);
         }
-        Ok(self.registry.read_near(alloc, self.world, name, near))
+        Ok(self.registry.read_at(alloc, self.world, name, place))
     }
 }

@@ -1,5 +1,6 @@
 //! What a walk and a request are answered from, and what a view shows, as traits.
-ghost use Rattle.std.specs.Prelude.{◌≡◌, ◌+◌, IfOk};
+ghost use Rattle.std.specs.Prelude.{◌≡◌, ◌+◌, IfOk, IfSome};
+ghost use Rattle.setphase_core.specs.Walking.{first_place};
 
 use message_core::{Binding, Value};
 use oid_core::Oid;
@@ -7,8 +8,37 @@ use std::alloc::{AllocError, Global};
 use std::sync::ledger::Ledger;
 use steps::Steps;
 
-/// The note of a walk that has found nothing yet.
-pub const NOWHERE: usize = usize::MAX;
+/// Near no object: a search for a name has no place to begin at.
+pub(crate) const NOWHERE: usize = usize::MAX;
+
+/// Where a walk stands at a name: the place of the name among the objects, and up to where it is
+/// known that the view shows them whole.
+#[derive(Clone, Copy, Debug, PartialEq, Eq)]
+pub struct Stand {
+    /// The place of the object whose name begins the name, or of the first object behind it.
+    pub place: Result<usize, usize>,
+    /// Of the objects from that place on and in front of this one the view shows every name.
+    pub until: usize,
+}
+
+impl Default for Stand {
+    fn default() -> Stand {
+        Stand {
+            place: Err(0),
+            until: 0,
+        }
+    }
+}
+
+// The place of the first object that may have an instance behind a name, by the place of the name.
+pub(crate) fn first_place(place: Result<usize, usize>) -> usize
+    ensures { result ≡ first_place place }
+{
+    match place {
+        Ok(place) => place,
+        Err(place) => place,
+    }
+}
 
 /// A view of names (RFC 3415, 2.4): which of them may be read.
 pub trait View {
@@ -22,36 +52,58 @@ pub trait View {
         ensures { result ≡ shows self.now name.now };
 }
 
-/// Instances in the order of their names, each of which can be served, as a walk sees them: it may
-/// ask for the one after a name, and each time is a step in the ledger that the trait names. A
-/// function of this bound alone asks for no value, and counts its looks in no other ledger.
-pub trait Successors<L: Ledger> {
-    ghost use Rattle.std.specs.Prelude.{List};
+/// Instances in the order of their names, each of which can be served, as a walk sees them, and the
+/// view that shows some of them: the walk may ask for the instance after a name, and each time is a
+/// step in the ledger that the trait names. A function of this bound alone asks for no value, and
+/// counts its steps in no other ledger.
+pub trait Successors<L: Ledger>: View {
+    ghost use Rattle.std.specs.Prelude.{List, ℕ};
     ghost use Rattle.message_core.specs.Instances.{IsServable, next_of};
     ghost use Rattle.message_core.specs.declared.binding.Binding.{Binding};
+    ghost use Rattle.agent_core.specs.declared.source.Stand.{Stand};
 
     // All instances.
     ghost instances: { Self → List Binding };
+
+    // Whether a walk stands at a name.
+    ghost stands: { Self → Stand → List ℕ → Type 0 };
 
     /// Hands on that the names rise and that each instance can be served. It does nothing, and only
     /// proofs want it.
     fn known(&self)
         ensures { IsServable (instances self.now) };
 
-    /// A copy of the first instance after a name, where there is one (RFC 3416, 4.2.2). It is one
-    /// step. Only memory can fail.
-    ///
-    /// `near` is the source's own note of where it found the name before, and may be any number;
-    /// only time hangs on it.
+    /// Where a walk from a name stands. It takes no memory.
+    fn start(&self, name: &Oid) -> Stand
+        ensures { stands self.now result name.now };
+
+    /// The same, beside a walk that stands at another name. It takes less time where the two names
+    /// have one object or neighbours.
+    fn start_beside(&self, name: &Oid, other: &Stand) -> Stand
+        requires { (at : List ℕ) × stands self.now other.now at }
+        ensures { stands self.now result name.now };
+
+    /// A copy of the first instance after a name, where there is one (RFC 3416, 4.2.2), at which the
+    /// walk stands then. It is one step. Only memory can fail.
     fn next(
         &self,
         alloc: Global,
         name: &Oid,
-        near: &mut usize,
+        stand: &mut Stand,
         steps: &mut Steps<L>,
     ) -> Result<Option<Binding>, AllocError>
+        requires { stands self.now stand.old name.now }
         ensures found { IfOk result (λ found. found ≡ next_of (instances self.now) name.now) }
+        ensures stands { IfOk result (λ found.
+            IfSome found (λ b. stands self.now stand.new b.name)) }
         ensures work { steps.new ≡ steps.old + 1 };
+
+    /// Whether the view shows a name at which a walk stands. The view is asked only where the walk
+    /// does not know it yet.
+    fn is_shown(&self, name: &Oid, stand: &mut Stand) -> bool
+        requires { stands self.now stand.old name.now }
+        ensures shown { result ≡ Self.shows self.now name.now }
+        ensures stands { stands self.now stand.new name.now };
 }
 
 /// The same instances with their values, and the objects that they belong to, none of which begins

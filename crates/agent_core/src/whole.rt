@@ -3,7 +3,7 @@
 ghost use Rattle.std.specs.Prelude.{◌≡◌};
 
 use crate::served::object_in;
-use crate::source::{Source, Successors};
+use crate::source::{NOWHERE, Source, Stand, Successors, View};
 use message_core::{Binding, Value};
 use oid_core::Oid;
 use setphase_core::{MibObject, Registry, World};
@@ -21,25 +21,58 @@ pub struct Whole<'a, O: MibObject> {
     pub world: &'a World,
 }
 
+impl<O: MibObject> View for Whole<'_, O> {
+    ghost use Rattle.std.specs.Prelude.{true};
+
+    ghost shows = { λ s name. true };
+
+    fn has_name(&self, _name: &Oid) -> bool {
+        true
+    }
+}
+
 impl<O: MibObject, L: Ledger> Successors<L> for Whole<'_, O> {
-    ghost use Rattle.setphase_core.specs.Registry.{rows_of};
+    ghost use Rattle.setphase_core.specs.Registry.{rows_of, prefixes_of};
+    ghost use Rattle.setphase_core.specs.Searching.{IsPlace};
     ghost use Rattle.agent_core.specs.Answers.{shown_of};
 
     ghost instances = { λ s. (shown_of (rows_of s.registry.now) s.world.now).instances };
 
+    ghost stands = { λ s stand name.
+        IsPlace (prefixes_of (rows_of s.registry.now)) name stand.place };
+
     fn known(&self) {
         self.registry.known(self.world);
+    }
+
+    fn start(&self, name: &Oid) -> Stand {
+        let place = self.registry.place_near(name.as_slice(), NOWHERE);
+        Stand { place, until: 0 }
+    }
+
+    fn start_beside(&self, name: &Oid, _other: &Stand) -> Stand {
+        let place = self.registry.place_near(name.as_slice(), NOWHERE);
+        Stand { place, until: 0 }
     }
 
     fn next(
         &self,
         alloc: Global,
         name: &Oid,
-        _near: &mut usize,
+        stand: &mut Stand,
         steps: &mut Steps<L>,
     ) -> Result<Option<Binding>, AllocError> {
         steps.tick();
-        self.registry.next(alloc, self.world, name.as_slice())
+        let Some(found) = self.registry.next(alloc, self.world, name.as_slice())? else {
+            return Ok(None);
+        };
+        let place = self.registry.place_near(found.name.as_slice(), NOWHERE);
+        *stand = Stand { place, until: 0 };
+        Ok(Some(found))
+    }
+
+    fn is_shown(&self, _name: &Oid, _stand: &mut Stand) -> bool {
+        true
     }
 }
 

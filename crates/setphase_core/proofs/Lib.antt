@@ -6,7 +6,6 @@ pub mod Places
 pub mod Searches
 pub mod Found
 pub mod Next
-pub mod Values
 pub mod Passed
 pub mod Rising
 pub mod Served

@@ -181,18 +181,6 @@ next_past row w n h k = next_behind row w n ∙ ap (option_map (under row.prefix
     neither false true e f = absurd (cc)
     neither false false e f = refl
 
--- so such an object has no index there
-pub name_nowhere : (row : ObjectRow) (w : World) (n : List ℕ) → is_prefix row.prefix n ≡ false → name_lt n row.prefix ≡ false → None ≡ option_map (λ b. b.name) (next_of (instances_under row w) n)
-name_nowhere row w n h k = sym (ap (option_map (λ b. b.name)) (next_past row w n h k))
-
-pub next_drop : (rows : List ObjectRow) (w : World) (n : List ℕ) (s : ℕ) → ((k : ℕ) → k < s → is_prefix (prefix_at (prefixes_of rows) k) n ≡ false) → ((k : ℕ) → k < s → name_lt n (prefix_at (prefixes_of rows) k) ≡ false) → s ≤ length rows →
-    next_of (instances (drop s rows) w) n ≡ next_of (instances rows w) n
-next_drop rows w n zero h k l = refl
-next_drop [] w n (suc s) h k l = absurd (omega (arith, l))
-next_drop (row ∷ rows) w n (suc s) h k l =
-    next_drop rows w n s (λ j m. h (suc j) (omega (arith, m))) (λ j m. k (suc j) (omega (arith, m))) (omega (arith, l))
-    ∙ sym (next-cons row rows w n ∙ ap (λ x. option_or x (next_of (instances rows w) n)) (next_past row w n (h 0 (omega arith)) (k 0 (omega arith))))
-
 -- ---- what a body that found an instance answers
 
 pub made_is : (x : Binding) (name : List ℕ) (value : Value) → x.name ≡ name → Some x.value ≡ Some value → x ≡ record { name = name; value = value }
@@ -217,17 +205,6 @@ first_here row rows w n x e = sym (next-cons row rows w n ∙ ap (λ o. option_o
 pub first_later : (row : ObjectRow) (rows : List ObjectRow) (w : World) (n : List ℕ) → None ≡ next_of (instances_under row w) n → next_of (instances (row ∷ rows) w) n ≡ next_of (instances rows w) n
 first_later row rows w n e = next-cons row rows w n ∙ ap (λ o. option_or o (next_of (instances rows w) n)) (sym e)
 
-pub short_here : (row : ObjectRow) (rows : List ObjectRow) (w : World) (n : List ℕ) (most : ℕ) → IfSome (next_of (instances (row ∷ rows) w) n) (λ x. length x.name ≤ most) → IfSome (next_of (instances_under row w) n) (λ x. length x.name ≤ most)
-short_here row rows w n most h = pick (next_of (instances_under row w) n) (next_of (instances rows w) n) (subst (λ o. IfSome o (λ x. length x.name ≤ most)) (next-cons row rows w n) h)
-  where
-    pick : (a b : Option Binding) → IfSome (option_or a b) (λ x. length x.name ≤ most) → IfSome a (λ x. length x.name ≤ most)
-    pick None b k = tt
-    pick (Some x) b k = k
-
 pub next-nil : (w : World) (n : List ℕ) → next_of (instances [] w) n ≡ None
 next-nil w n = ap (λ xs. next_of xs n) (instances-nil w)
 
--- an option that is no Some
-pub none_of : {X : Type 0} (o : Option X) → ((x : X) → o ≡ Some x → ⊥) → None ≡ o
-none_of None h = refl
-none_of (Some x) h = absurd (h x refl)

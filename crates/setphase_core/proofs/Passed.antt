@@ -1,6 +1,7 @@
 -- A walk that passes over objects: what it finds, and how many objects it passes over.
 use Rattle.std.proofs.Common.{◌≡◌, ℕ, zero, suc, ◌+◌, ◌<◌, ◌≤◌, Bool, true, false, not, ◌&&◌, ◌||◌, cond, List, [], ◌∷◌, ◌++◌, map, filter, length, drop, find, refl, sym, ap, subst, ◌∙◌, arith, Option, Some, None, IfSome}
 use Rattle.std.specs.List.{AllByRecursion, count_by}
+use Rattle.std.specs.Option.{option_map}
 use Rattle.std.proofs.lemmas.Bool.{or_parts, false≢true}
 use Rattle.std.proofs.lemmas.List.{append-nil}
 use Rattle.std.proofs.lemmas.List.Elements.{filter-append}
@@ -17,12 +18,13 @@ use Rattle.setphase_core.specs.Objects.{ObjectRow}
 use Rattle.setphase_core.specs.Registry.{prefixes_of, first_fault, AreNamed, IsKept, under, instances_under, instances}
 use Rattle.setphase_core.specs.Searching.{prefix_at, may_follow, IsStart}
 use Rattle.setphase_core.specs.Passing.{open_rows, open_instances, passed_after, passed_ahead, PassesHidden}
+use Rattle.setphase_core.specs.Walking.{IsWalked}
 use Rattle.setphase_core.proofs.Below.{is_below, below_from, below_lt, below_more, below_lt_then, above_not_lt, above_not_begun}
 use Rattle.setphase_core.proofs.Ordered.{AreOrdered, ordered_from}
 use Rattle.setphase_core.proofs.Found.{instances-cons, instances-nil}
 use Rattle.setphase_core.proofs.Rising.{all_append}
 use Rattle.setphase_core.proofs.Served.{instances_servable}
-use Rattle.setphase_core.proofs.Next.{next-nil, next_past, first_here, first_later, short_here}
+use Rattle.setphase_core.proofs.Next.{next-nil, next_past, first_here, first_later, named_some}
 
 -- ---- which objects may have an instance after a name
 
@@ -257,11 +259,6 @@ module _ (passes : List ℕ → Bool) where
     pub open_later : passes row.prefix ≡ false → None ≡ next_of (instances_under row w) n → found_open rest w n ≡ found_open rows w n
     open_later h e = sym (found_later row rest w n h e) ∙ ap (λ (rs : List ObjectRow). found_open rs w n) (sym parts)
 
-    pub short_open : (most : ℕ) → passes row.prefix ≡ false → IfSome (found_open rows w n) (λ x. length x.name ≤ most) → IfSome (next_of (instances_under row w) n) (λ x. length x.name ≤ most)
-    short_open most h k =
-        short_here row (open_rows passes rest) w n most
-        (subst (λ (o : Option Binding). IfSome o (λ x. length x.name ≤ most)) (ap (λ (rs : List ObjectRow). found_open rs w n) parts ∙ found_kept row rest w n h) k)
-
     pub walked_passed : (old now new : ℕ) → first_fault rows ≡ None → passes row.prefix ≡ true → now ≡ old + 1 → (first_fault rest ≡ None → Walked rest w n now new) → Walked rows w n old new
     walked_passed old now new e h tick more =
         let ordered : first_fault (row ∷ rest) ≡ None = subst (λ (rs : List ObjectRow). first_fault rs ≡ None) parts e in
@@ -273,38 +270,41 @@ module _ (passes : List ℕ → Bool) where
         let ordered : first_fault (row ∷ rest) ≡ None = subst (λ (rs : List ObjectRow). first_fault rs ≡ None) parts e in
         subst (λ (rs : List ObjectRow). Walked rs w n old old) (sym parts) (steps_here row rest w n x old ordered h is)
 
-    -- where there is no memory for the name of the instance, there is one
-    pub walked_short : (most old : ℕ) → first_fault rows ≡ None → passes row.prefix ≡ false → (IfSome (next_of (instances_under row w) n) (λ x. length x.name ≤ most) → false ≡ true) → Walked rows w n old old
-    walked_short most old e h fails = pick (next_of (instances_under row w) n) refl
-      where
-        pick : (o : Option Binding) → next_of (instances_under row w) n ≡ o → Walked rows w n old old
-        pick None is = absurd (false≢true (fails (subst (λ (o : Option Binding). IfSome o (λ x. length x.name ≤ most)) (sym is) tt)))
-        pick (Some x) is = walked_here x old e h (sym is)
-
     pub walked_later : (old new : ℕ) → first_fault rows ≡ None → passes row.prefix ≡ false → None ≡ next_of (instances_under row w) n → (first_fault rest ≡ None → Walked rest w n old new) → Walked rows w n old new
     walked_later old new e h is more =
         let ordered : first_fault (row ∷ rest) ≡ None = subst (λ (rs : List ObjectRow). first_fault rs ≡ None) parts e in
         subst (λ (rs : List ObjectRow). Walked rs w n old new) (sym parts) (steps_later row rest w n old new h is (more (ordered_tail row rest ordered)))
 
-  -- What a walk over objects keeps: what is found is what the objects that are left show, and the
-  -- steps that these take complete those of all.
-  pub record IsWalked (rows left : List ObjectRow) (w : World) (n : List ℕ) (old now : ℕ) : Type 0 where
-    pub found : found_open left w n ≡ found_open rows w n
-    pub work : (new : ℕ) → (first_fault left ≡ None → Walked left w n now new) → first_fault rows ≡ None → Walked rows w n old new
+  -- nothing is walked yet
+  pub walk_start : (rows : List ObjectRow) (w : World) (n : List ℕ) (old : ℕ) → IsWalked passes rows rows w n old old
+  walk_start rows w n old = record { found = refl; work = λ new more e. more e }
 
-  module _ (rows left : List ObjectRow) (row : ObjectRow) (rest : List ObjectRow) (w : World) (n : List ℕ) (parts : left ≡ row ∷ rest) (old now later : ℕ) (walked : IsWalked rows left w n old now) where
-    pub walk_passed : passes row.prefix ≡ true → later ≡ now + 1 → IsWalked rows rest w n old later
+  module _ (rows left : List ObjectRow) (row : ObjectRow) (rest : List ObjectRow) (w : World) (n : List ℕ) (parts : left ≡ row ∷ rest) (old now later : ℕ) (walked : IsWalked passes rows left w n old now) where
+    pub walk_passed : passes row.prefix ≡ true → later ≡ now + 1 → IsWalked passes rows rest w n old later
     walk_passed h tick = record {
       found = sym (ap (λ (rs : List ObjectRow). found_open rs w n) parts ∙ found_passed row rest w n h) ∙ walked.found;
       work = λ new more e. walked.work new (λ o. walked_passed left row rest w n parts now later new o h tick more) e;
     }
 
-    pub walk_later : passes row.prefix ≡ false → None ≡ next_of (instances_under row w) n → later ≡ now → IsWalked rows rest w n old later
+    pub walk_later : passes row.prefix ≡ false → None ≡ next_of (instances_under row w) n → later ≡ now → IsWalked passes rows rest w n old later
     walk_later h is same = record {
       found = open_later left row rest w n parts h is ∙ walked.found;
       work = λ new more e. walked.work new (λ o. walked_later left row rest w n parts now new o h is
           (λ f. subst (λ (s : ℕ). Walked rest w n s new) same (more f))) e;
     }
+
+  -- the object has the first instance behind the name
+  module _ (rows left : List ObjectRow) (row : ObjectRow) (rest : List ObjectRow) (w : World) (n : List ℕ) (parts : left ≡ row ∷ rest) (old now : ℕ) (walked : IsWalked passes rows left w n old now) (index : List ℕ) (kept : passes row.prefix ≡ false)
+      (is : Some (row.prefix ++ index) ≡ option_map (λ b. b.name) (next_of (instances_under row w) n)) where
+    pub walk_found : found_open rows w n ≡ next_of (instances_under row w) n
+    walk_found =
+        let b = named_some row w n index is in
+        sym walked.found ∙ sym (open_here left row rest w n parts _ kept (sym b.next)) ∙ sym b.next
+
+    pub walk_work : first_fault rows ≡ None → Walked rows w n old now
+    walk_work e =
+        let b = named_some row w n index is in
+        walked.work now (λ o. walked_here left row rest w n parts _ now o kept (sym b.next)) e
 
   -- behind all objects nothing is found, and no step is left
   pub walked_end : (left : List ObjectRow) (w : World) (n : List ℕ) (steps : ℕ) → left ≡ [] → Walked left w n steps steps

@@ -42,6 +42,17 @@ module _ {O : Type 0} (state : O → ObjectState) where
   rows_end (x ∷ objects) zero h = absurd (omega (arith, h))
   rows_end (x ∷ objects) (suc i) h = rows_end objects i (omega (arith, h))
 
+  -- the same of their rows
+  pub split_there : (objects : List O) (i : ℕ) (x : O) → i < length objects → x ≡ get_or objects i x → drop i (rows_of (map state objects)) ≡ (state x).row ∷ drop (i + 1) (rows_of (map state objects))
+  split_there objects i x h e = sym (rows_drop i objects) ∙ rows_split objects i x h e ∙ ap (λ rs. (state x).row ∷ rs) (rows_drop (i + 1) objects)
+
+  pub split_end : (objects : List O) (i : ℕ) → length objects ≤ i → drop i (rows_of (map state objects)) ≡ []
+  split_end objects i h = sym (rows_drop i objects) ∙ rows_end objects i h
+
+  pub rows_count : (objects : List O) → length (rows_of (map state objects)) ≡ length objects
+  rows_count [] = refl
+  rows_count (x ∷ objects) = ap (λ n. suc n) (rows_count objects)
+
   pub named_there : (objects : List O) (i : ℕ) (x : O) → AreNamed (rows_of (map state objects)) → i < length objects → x ≡ get_or objects i x → IsNamed (state x).row
   named_there [] i x h l e = absurd (omega (arith, l))
   named_there (y ∷ objects) zero x h l e = subst (λ (z : O). IsNamed (state z).row) (sym e) h.0

@@ -9,6 +9,7 @@ pub mod Names
 pub mod Searching
 pub mod Registry
 pub mod Passing
+pub mod Walking
 pub mod Opening
 pub mod InUse
 pub mod Variables

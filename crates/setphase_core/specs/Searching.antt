@@ -50,6 +50,14 @@ pub record IsStart (prefixes : List (List ℕ)) (name : List ℕ) (place : ℕ) 
   pub behind : (k : ℕ) → place ≤ k → k < length prefixes
       → may_follow name (prefix_at prefixes k) ≡ true
 
+-- The names from a place on and in front of an end begin with a front, and the one at the end, if
+-- there is one, does not.
+pub record AreBegun (prefixes : List (List ℕ)) (front : List ℕ) (place end : ℕ) : Type 0 where
+  pub after : place ≤ end
+  pub within : end ≤ length prefixes
+  pub begun : (k : ℕ) → place ≤ k → k < end → is_prefix front (prefix_at prefixes k) ≡ true
+  pub ended : end < length prefixes → is_prefix front (prefix_at prefixes end) ≡ false
+
 -- The comparisons with objects' names without which the object of a name cannot be known: one with
 -- the name that begins it; or, where none does, one with a name that is not greater, and one with a
 -- greater name, where there are such.

@@ -109,7 +109,7 @@ pub use limits::{
 pub use named::are_named;
 pub use object::{Assignment, DeviceFault, Index, MibObject, Reservation, SetFault, Slot};
 pub use passing::Passing;
-pub use registry::{Registry, RegistryFault};
+pub use registry::{Registry, RegistryFault, Successor};
 pub use sets::{Refusal, SetOutcome, run_set};
 pub use slots::Slots;
 pub use staging::{Staged, Staging, Standing, TestedVariable, VariableFault};

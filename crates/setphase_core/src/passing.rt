@@ -1,16 +1,14 @@
 //! A walk that passes over objects as a whole.
-ghost use Rattle.std.specs.Prelude.{◌≡◌, ◌+◌, map, None, IfOk, IsOk};
-ghost use Rattle.std.specs.List.{count_by};
+ghost use Rattle.std.specs.Prelude.{◌≡◌, ◌<◌, ◌+◌, length, map, drop, true, None};
+ghost use Rattle.oid_core.specs.Order.{is_prefix};
 ghost use Rattle.message_core.specs.Instances.{next_of};
-ghost use Rattle.setphase_core.specs.Registry.{rows_of, prefixes_of, first_fault, AreNamed, HasShortName};
+ghost use Rattle.setphase_core.specs.Registry.{rows_of, prefixes_of, first_fault};
 ghost use Rattle.setphase_core.specs.Passing.{open_instances, passed_after, passed_ahead};
-ghost use Rattle.setphase_core.specs.Searching.{IsStart};
+ghost use Rattle.setphase_core.specs.Searching.{prefix_at, IsPlace};
+ghost use Rattle.setphase_core.specs.Walking.{AreAhead, AreOpen, first_place, IsFound, IsWalk, IsPassedOrFound};
 
-use crate::object::MibObject;
-use crate::walk::next_under;
+use crate::object::{Index, MibObject};
 use crate::world::World;
-use message_core::Binding;
-use std::alloc::{AllocError, Global};
 use std::sync::ledger::Ledger;
 use steps::Steps;
 
@@ -26,60 +24,107 @@ pub trait Passing {
         ensures { result ≡ passes self.now prefix.now };
 }
 
-/// The first instance behind a name, by the place of the first object that may show it, but for the
-/// objects that are passed over, each of which is a step.
-pub fn next_open_from<O: MibObject, P: Passing, L: Ledger>(
-    alloc: Global,
+/// Where an instance stands: the place of its object, and its index.
+#[derive(Drop)]
+pub struct Spot {
+    /// The place of the object.
+    pub place: usize,
+    /// The index of the instance.
+    pub index: Index,
+}
+
+// The first instance behind a name of the object at a place, whose name begins that name, but where
+// it is passed over, which is a step.
+fn own_spot<O: MibObject, P: Passing, L: Ledger>(
+    objects: &[O],
+    world: &World,
+    name: &[u32],
+    place: usize,
+    until: usize,
+    passing: &P,
+    steps: &mut Steps<L>,
+) -> Option<Spot>
+    requires within { place < length objects.now }
+    requires begun { is_prefix (prefix_at (prefixes_of (rows_of (map O.state objects.now))) place)
+        name.now ≡ true }
+    requires until { AreOpen (P.passes passing.now)
+        (prefixes_of (rows_of (map O.state objects.now))) place until }
+    ensures { IsPassedOrFound (P.passes passing.now) (rows_of (map O.state objects.now)) world.now
+        name.now place steps.old steps.new result }
+{
+    let object = &objects[place];
+    let prefix = object.prefix();
+    if place >= until && passing.passes_over(prefix) {
+        steps.tick();
+        return None;
+    }
+    let index = object.next(world, Some(&name[prefix.len()..]))?;
+    Some(Spot { place, index })
+}
+
+// The first instance of the objects from a place on, whose names are all greater than a name, but
+// for those that are passed over, each of which is a step.
+fn spot_behind<O: MibObject, P: Passing, L: Ledger>(
     objects: &[O],
     world: &World,
     name: &[u32],
     start: usize,
+    until: usize,
     passing: &P,
     steps: &mut Steps<L>,
-) -> Result<Option<Binding>, AllocError>
+) -> Option<Spot>
+    requires ahead { AreAhead (prefixes_of (rows_of (map O.state objects.now))) name.now start }
+    requires until { AreOpen (P.passes passing.now)
+        (prefixes_of (rows_of (map O.state objects.now))) start until }
+    ensures found { IsFound (P.passes passing.now) (rows_of (map O.state objects.now)) world.now
+        name.now start result }
+    ensures work { let rows = drop start (rows_of (map O.state objects.now)) in
+        first_fault rows ≡ None →
+        IsWalk (P.passes passing.now) rows world.now name.now steps.old steps.new }
+{
+    for place in start..objects.len() {
+        let object = &objects[place];
+        if place >= until && passing.passes_over(object.prefix()) {
+            steps.tick();
+        } else if let Some(index) = object.next(world, None) {
+            return Some(Spot { place, index });
+        }
+    }
+    None
+}
+
+/// Where the first instance behind a name stands, by the place of the name, but for those of the
+/// objects that are passed over, each of which is a step. It is
+/// known that those from there on and in front of another place are not.
+pub fn next_spot<O: MibObject, P: Passing, L: Ledger>(
+    objects: &[O],
+    world: &World,
+    name: &[u32],
+    place: Result<usize, usize>,
+    until: usize,
+    passing: &P,
+    steps: &mut Steps<L>,
+) -> Option<Spot>
     requires ordered { first_fault (rows_of (map O.state objects.now)) ≡ None }
-    requires named { AreNamed (rows_of (map O.state objects.now)) }
-    requires start { IsStart (prefixes_of (rows_of (map O.state objects.now))) name.now start }
-    ensures found { IfOk result (λ found. found ≡ next_of (open_instances (P.passes passing.now)
-        (rows_of (map O.state objects.now)) world.now) name.now) }
-    ensures inline { HasShortName (next_of (open_instances (P.passes passing.now)
-        (rows_of (map O.state objects.now)) world.now) name.now) → IsOk result }
+    requires place { IsPlace (prefixes_of (rows_of (map O.state objects.now))) name.now place }
+    requires until { AreOpen (P.passes passing.now)
+        (prefixes_of (rows_of (map O.state objects.now))) (first_place place) until }
+    ensures found { IsFound (P.passes passing.now) (rows_of (map O.state objects.now)) world.now
+        name.now 0 result }
     ensures work { let rows = rows_of (map O.state objects.now) in
         let passes = P.passes passing.now in
         steps.new + passed_ahead passes rows
         (next_of (open_instances passes rows world.now) name.now)
         ≡ steps.old + passed_after passes rows name.now }
 {
-    next_open_in(alloc, &objects[start..], world, name, passing, steps)
-}
-
-// The first instance of these objects behind a name, but for those that are passed over, each of
-// which is a step.
-fn next_open_in<O: MibObject, P: Passing, L: Ledger>(
-    alloc: Global,
-    objects: &[O],
-    world: &World,
-    name: &[u32],
-    passing: &P,
-    steps: &mut Steps<L>,
-) -> Result<Option<Binding>, AllocError>
-    requires { AreNamed (rows_of (map O.state objects.now)) }
-    ensures found { IfOk result (λ found. found ≡ next_of (open_instances (P.passes passing.now)
-        (rows_of (map O.state objects.now)) world.now) name.now) }
-    ensures inline { HasShortName (next_of (open_instances (P.passes passing.now)
-        (rows_of (map O.state objects.now)) world.now) name.now) → IsOk result }
-    ensures work { let rows = rows_of (map O.state objects.now) in
-        let passes = P.passes passing.now in
-        first_fault rows ≡ None → steps.new + passed_ahead passes rows
-        (next_of (open_instances passes rows world.now) name.now)
-        ≡ steps.old + count_by (λ row. passes row.prefix) rows }
-{
-    for object in objects {
-        if passing.passes_over(object.prefix()) {
-            steps.tick();
-        } else if let Some(found) = next_under(alloc, object, world, name)? {
-            return Ok(Some(found));
+    match place {
+        Err(behind) => spot_behind(objects, world, name, behind, until, passing, steps),
+        Ok(own) => {
+            let spot = own_spot(objects, world, name, own, until, passing, steps);
+            if spot.is_some() {
+                return spot;
+            }
+            spot_behind(objects, world, name, own + 1, until, passing, steps)
         }
     }
-    Ok(None)
 }

@@ -1,21 +1,22 @@
 //! Objects in the order of their names.
-ghost use Rattle.std.specs.Prelude.{◌≡◌, ◌≤◌, ◌+◌, ◌-◌, ◌*◌, ◌^◌, ℕ, Bool, List, length, map, Some, None, IfOk, IsOk, MatchResult};
-ghost use Rattle.std.specs.Option.{option_copied};
+ghost use Rattle.std.specs.Prelude.{◌≡◌, ◌<◌, ◌≤◌, ◌+◌, ◌-◌, ◌*◌, ◌^◌, ℕ, Bool, List, length, map, Some, None, Ok, IfOk, IfSome, IsOk, MatchResult};
+ghost use Rattle.std.specs.Option.{option_copied, option_map};
 ghost use Rattle.message_core.specs.Instances.{next_of, value_of, IsServable};
 ghost use Rattle.setphase_core.specs.Registry.{rows_of, prefixes_of, first_fault, AreApart, AreNamed, HasShortName, owner_of, instances};
 ghost use Rattle.setphase_core.specs.Passing.{open_instances, passed_after, passed_ahead};
-ghost use Rattle.setphase_core.specs.Searching.{least_comparisons};
+ghost use Rattle.setphase_core.specs.Searching.{IsPlace, AreBegun, least_comparisons};
+ghost use Rattle.setphase_core.specs.Walking.{AreOpen, first_place};
 
 use crate::object::MibObject;
-use crate::passing::{Passing, next_open_from};
-use crate::search::{owner_name, place_by_search, place_near, place_of, start_of, value_there};
-use crate::walk::next_from;
+use crate::passing::{Passing, Spot, next_spot};
+use crate::search::{begun_until, owner_name, place_by_search, place_near, place_of, value_there};
+use crate::walk::instance_of;
 use crate::world::World;
 use message_core::{Binding, Value};
 use oid_core::{begins, precedes};
 use std::alloc::{AllocError, Global};
-use std::marker::Model;
-use std::sync::ledger::Ledger;
+use std::marker::{Brand, Model};
+use std::sync::ledger::{Blank, Ledger};
 use steps::Steps;
 use thiserror::Error;
 
@@ -28,6 +29,28 @@ pub enum RegistryFault {
     /// The name of an object is the next one's, or begins it.
     #[error("the name of an object begins another's")]
     Nested,
+}
+
+/// An instance that a walk found.
+#[derive(Drop)]
+pub struct Successor {
+    /// The instance.
+    pub binding: Binding,
+    /// The place of its object.
+    pub place: usize,
+}
+
+// The test that passes over no object.
+struct PassesNone;
+
+impl Passing for PassesNone {
+    ghost use Rattle.std.specs.Prelude.{false};
+
+    ghost passes = { λ p prefix. false };
+
+    fn passes_over(&self, _prefix: &[u32]) -> bool {
+        false
+    }
 }
 
 /// Managed objects by rising name, none of whose names begins another's. It is seen as the list of
@@ -123,19 +146,33 @@ impl<O: MibObject> Registry<O> {
         owner_name(objects, name, place_by_search(objects, name))
     }
 
-    /// The same, by a place near which the object may stand. It takes no memory.
+    /// The place of a name among the objects: that of the object whose name begins it, or, where
+    /// none does, of the first object whose name is greater, or of the end. It takes no memory.
     ///
     /// `near` may be any number, and only time hangs on it: where it is the place of that object,
-    /// or the one before, no search is made. A number is left there for the next call, on which
-    /// only time hangs as well. It is meant to be the object's place, or where no object has the
-    /// name, the place of the first one behind it. No clause holds it; a test does.
-    pub fn owner_near(&self, name: &[u32], near: &mut usize) -> Option<&[u32]>
+    /// or the one before, no search is made.
+    pub fn place_near(&self, name: &[u32], near: usize) -> Result<usize, usize>
+        ensures { IsPlace (prefixes_of (rows_of self.now)) name.now result }
+    {
+        place_near(self.objects.as_slice(), name, near)
+    }
+
+    /// The place behind the objects from a place on whose names begin with a front. It takes no
+    /// memory.
+    pub fn begun_until(&self, front: &[u32], place: usize) -> usize
+        requires { place ≤ length self.now }
+        ensures { AreBegun (prefixes_of (rows_of self.now)) front.now place result }
+    {
+        begun_until(self.objects.as_slice(), front, place)
+    }
+
+    /// The name of the object whose name begins a name, by the place of the name. It takes no
+    /// memory.
+    pub fn owner_at(&self, name: &[u32], place: Result<usize, usize>) -> Option<&[u32]>
+        requires { IsPlace (prefixes_of (rows_of self.now)) name.now place }
         ensures { option_copied result ≡ owner_of (rows_of self.now) name.now }
     {
-        let objects = self.objects.as_slice();
-        let place = place_near(objects, name, *near);
-        *near = start_of(objects, name, place);
-        owner_name(objects, name, place)
+        owner_name(self.objects.as_slice(), name, place)
     }
 
     /// The same as `owner`, by counted steps, one for each comparison with an object's name: of n
@@ -160,23 +197,18 @@ impl<O: MibObject> Registry<O> {
         value_there(alloc, objects, world, name, place_by_search(objects, name))
     }
 
-    /// The same, by a place near which the object may stand. It takes no memory.
-    ///
-    /// `near` may be any number, and only time hangs on it: where it is the place of the object
-    /// whose name begins this one, or the one before, no search is made. The number that
-    /// `owner_near` leaves for the same name is meant to be that place.
-    pub fn read_near(
+    /// The same, by the place of the name. It takes no memory.
+    pub fn read_at(
         &self,
         alloc: Global,
         world: &World,
         name: &[u32],
-        near: usize,
+        place: Result<usize, usize>,
     ) -> Option<Value>
+        requires { IsPlace (prefixes_of (rows_of self.now)) name.now place }
         ensures { result ≡ value_of (instances (rows_of self.now) world.now) name.now }
     {
-        let objects = self.objects.as_slice();
-        let place = place_near(objects, name, near);
-        value_there(alloc, objects, world, name, place)
+        value_there(alloc, self.objects.as_slice(), world, name, place)
     }
 
     /// The first instance after a name, where there is one: the objects are asked for one successor
@@ -193,31 +225,59 @@ impl<O: MibObject> Registry<O> {
         ensures inline { HasShortName (next_of (instances (rows_of self.now) world.now) name.now)
             → IsOk result }
     {
-        let objects = self.objects.as_slice();
-        let place = place_by_search(objects, name);
-        next_from(alloc, objects, world, name, start_of(objects, name, place))
+        let place = place_by_search(self.objects.as_slice(), name);
+        self.next_uncounted::<Brand>(alloc, world, name, place, Blank::new(1))
+    }
+
+    // The same, by the place of the name, where nobody counts: the ledger is that of the blank.
+    fn next_uncounted<L: Ledger>(
+        &self,
+        alloc: Global,
+        world: &World,
+        name: &[u32],
+        place: Result<usize, usize>,
+        blank: Blank,
+    ) -> Result<Option<Binding>, AllocError>
+        requires place { IsPlace (prefixes_of (rows_of self.now)) name.now place }
+        requires name { blank.name ≡ L.name }
+        requires parts { blank.parts ≡ L.parts }
+        requires some { 0 < blank.parts }
+        ensures found { IfOk result (λ found.
+            found ≡ next_of (instances (rows_of self.now) world.now) name.now) }
+        ensures inline { HasShortName (next_of (instances (rows_of self.now) world.now) name.now)
+            → IsOk result }
+    {
+        let mut steps: Steps<L> = Steps::new(blank);
+        let found = self.next_open(alloc, world, name, place, 0, &PassesNone, &mut steps)?;
+        Ok(found.map(|f| f.binding))
     }
 
     /// The first instance after a name, where there is one, among those of the objects that are not
-    /// passed over. It takes memory as `next` does. It is one step, and one for each object that is
+    /// passed over, by the place of the name; with it comes the place of its object, which is that
+    /// of its name. It takes memory as `next` does. It is one step, and one for each object that is
     /// passed over between the name and the instance, or the end: so the steps, and the objects
     /// ahead that are to be passed over, are together as many as before, and one more.
     ///
-    /// `near` may be any number, and only time hangs on it: where it is the place of the object
-    /// whose name begins this one, or the one before, no search is made. A number is left there as
-    /// by `owner_near`: the object's place, or where no object has the name, the place of the first
-    /// one behind it. A walk hands it on to its next call.
+    /// Of the objects from the place on and in front of `until` it is known that none is passed over.
+    /// No name is compared: an object behind the place of a name is asked for its first instance.
     pub fn next_open<P: Passing, L: Ledger>(
         &self,
         alloc: Global,
         world: &World,
         name: &[u32],
-        near: &mut usize,
+        place: Result<usize, usize>,
+        until: usize,
         passing: &P,
         steps: &mut Steps<L>,
-    ) -> Result<Option<Binding>, AllocError>
-        ensures found { IfOk result (λ found. found ≡ next_of
+    ) -> Result<Option<Successor>, AllocError>
+        requires place { IsPlace (prefixes_of (rows_of self.now)) name.now place }
+        requires until { AreOpen (P.passes passing.now) (prefixes_of (rows_of self.now))
+            (first_place place) until }
+        ensures found { IfOk result (λ found. option_map (λ f. f.binding) found ≡ next_of
             (open_instances (P.passes passing.now) (rows_of self.now) world.now) name.now) }
+        ensures place { IfOk result (λ found. IfSome found (λ f.
+            IsPlace (prefixes_of (rows_of self.now)) f.binding.name (Ok f.place))) }
+        ensures behind { IfOk result (λ found. IfSome found (λ f. first_place place ≤ f.place)) }
         ensures inline { HasShortName (next_of
             (open_instances (P.passes passing.now) (rows_of self.now) world.now) name.now)
             → IsOk result }
@@ -226,9 +286,12 @@ impl<O: MibObject> Registry<O> {
             ≡ steps.old + passed_after (P.passes passing.now) (rows_of self.now) name.now + 1 }
     {
         let objects = self.objects.as_slice();
-        let start = start_of(objects, name, place_near(objects, name, *near));
-        *near = start;
         steps.tick();
-        next_open_from(alloc, objects, world, name, start, passing, steps)
+        let Some(spot) = next_spot(objects, world, name, place, until, passing, steps) else {
+            return Ok(None);
+        };
+        let Spot { place, index } = spot;
+        let binding = instance_of(alloc, &objects[place], world, &index)?;
+        Ok(Some(Successor { binding, place }))
     }
 }

@@ -4,7 +4,7 @@ ghost use Rattle.std.specs.Option.{option_copied};
 ghost use Rattle.oid_core.specs.Order.{is_prefix};
 ghost use Rattle.message_core.specs.Instances.{value_of};
 ghost use Rattle.setphase_core.specs.Registry.{rows_of, prefixes_of, first_fault, owner_of, instances, instances_under};
-ghost use Rattle.setphase_core.specs.Searching.{prefix_at, IsSide, IsPlace, IsStart, least_comparisons};
+ghost use Rattle.setphase_core.specs.Searching.{prefix_at, IsSide, IsPlace, AreBegun, least_comparisons};
 
 use crate::object::MibObject;
 use crate::world::World;
@@ -133,18 +133,6 @@ pub fn owner_name<'a, O: MibObject>(
     }
 }
 
-/// The place of the first object that may show an instance behind a name.
-pub fn start_of<O: MibObject>(objects: &[O], name: &[u32], place: Result<usize, usize>) -> usize
-    requires ordered { first_fault (rows_of (map O.state objects.now)) ≡ None }
-    requires place { IsPlace (prefixes_of (rows_of (map O.state objects.now))) name.now place }
-    ensures { IsStart (prefixes_of (rows_of (map O.state objects.now))) name.now result }
-{
-    match place {
-        Ok(place) => place,
-        Err(behind) => behind,
-    }
-}
-
 /// The value of the instance of that name, by the place of the name.
 pub fn value_there<O: MibObject>(
     alloc: Global,
@@ -174,4 +162,35 @@ fn value_under<O: MibObject>(
 {
     let rest = &name[object.prefix().len()..];
     object.read(alloc, world, rest)
+}
+
+// Whether the name of the object at a place begins with a front.
+fn is_begun<O: MibObject>(objects: &[O], front: &[u32], place: usize) -> bool
+    requires { place < length objects.now }
+    ensures { result ≡ is_prefix front.now
+        (prefix_at (prefixes_of (rows_of (map O.state objects.now))) place) }
+{
+    begins(front, objects[place].prefix())
+}
+
+/// The place behind the objects from a place on whose names begin with a front, found by halves.
+pub fn begun_until<O: MibObject>(objects: &[O], front: &[u32], place: usize) -> usize
+    requires ordered { first_fault (rows_of (map O.state objects.now)) ≡ None }
+    requires within { place ≤ length objects.now }
+    ensures { AreBegun (prefixes_of (rows_of (map O.state objects.now))) front.now place result }
+{
+    if place == objects.len() || !is_begun(objects, front, place) {
+        return place;
+    }
+    let mut low = place + 1;
+    let mut high = objects.len();
+    while low < high {
+        let middle = low + (high - low) / 2;
+        if is_begun(objects, front, middle) {
+            low = middle + 1;
+        } else {
+            high = middle;
+        }
+    }
+    low
 }

@@ -101,5 +101,5 @@ pub use same::Same;
 pub use tables::{AccessRow, FamilyRow, GroupRow, Level};
 pub use text::{Octets, Text};
 pub use vacm::Vacm;
-pub use verdict::{Ask, FamilyAnswer, Verdict, ViewType};
+pub use verdict::{Ask, FamilyAnswer, FrontAnswer, Verdict, ViewType};
 pub use written::{VacmRows, WrittenAccess, WrittenFamily, WrittenGroup};

@@ -11,7 +11,7 @@ use crate::limits::MAX_FAMILY;
 use crate::name::{Mask, Name};
 use crate::rows::Rows;
 use crate::tables::{AccessRow, FamilyRow, GroupRow};
-use crate::verdict::{Ask, FamilyAnswer, Verdict};
+use crate::verdict::{Ask, FamilyAnswer, FrontAnswer, Verdict};
 use crate::written::VacmRows;
 use crate::{deciding, hiding};
 use oid_core::Oid;
@@ -215,6 +215,17 @@ impl Vacm {
             Some(n) => self.answer_of(n),
             None => FamilyAnswer::NoRow,
         }
+    }
+
+    /// stub
+    pub fn in_view_under(&self, view: &Name, name: &Oid) -> FrontAnswer
+    {
+        let answer = self.in_view(view, name);
+        let front = match answer {
+            FamilyAnswer::Included(n) => Some(self.family_row(n).subtree.as_slice().len()),
+            _ => None,
+        };
+        FrontAnswer { answer, front }
     }
 
     /// Puts the mask of the family row of this number, and gives the one that it had

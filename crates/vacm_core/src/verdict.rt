@@ -63,3 +63,12 @@ impl FamilyAnswer {
         matches!(self, FamilyAnswer::Included(_))
     }
 }
+
+/// stub
+#[derive(Clone, Copy, Debug, PartialEq, Eq)]
+pub struct FrontAnswer {
+    /// stub
+    pub answer: FamilyAnswer,
+    /// stub
+    pub front: Option<usize>,
+}
