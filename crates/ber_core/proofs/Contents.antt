@@ -23,6 +23,11 @@ kept_low a b rest some low = stays a b rest (low_stays a b some low)
 kept_high : (a b : ℕ) (rest : List ℕ) → a * 256 + b < 65408 → 128 ≤ a → b < 256 → length (shortest (a ∷ b ∷ rest)) ≡ suc (suc (length rest))
 kept_high a b rest few high fits = stays a b rest (high_stays a b few high fits)
 
+pub few_stay : (content : List ℕ) → length content < 2 → shortest content ≡ content
+few_stay [] few = refl
+few_stay (a ∷ []) few = refl
+few_stay (a ∷ b ∷ rest) few = absurd (omega (arith, few))
+
 taken : (a b : ℕ) (rest : List ℕ) → is_spare a b ≡ true → shortest (a ∷ b ∷ rest) ≡ shortest (b ∷ rest)
 taken a b rest e = rw e refl
 
