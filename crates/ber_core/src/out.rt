@@ -133,13 +133,16 @@ impl<'a> Out<'a> {
     /// Writes a Counter32, a Gauge32 or TimeTicks under its tag (RFC 2578, 7.1).
     ///
     /// `NoRoom` where it does not fit.
+    #[tactic(auto, using(crate::proofs::Contents::unsigned_of_four))]
     pub fn put_u32(&mut self, tag: Tag, value: u32) -> Result<(), BerFault>
         ensures same_reference { self.new.room.ghost_name ≡ self.old.room.ghost_name }
         ensures puts { Prepends self.old self.new result (canon_tlv tag.0 (canon_unsigned value)) }
         ensures front { OnOk result (KeepsFront self.old self.new) }
         ensures err { OnErr result (self.new ≡ self.old) }
     {
-        self.put_u64(tag, u64::from(value))
+        let bytes = value.to_be_bytes();
+        let octets = [0, bytes[0], bytes[1], bytes[2], bytes[3]];
+        self.put_tlv(tag, shortest_of(&octets))
     }
 
     /// Writes a Counter64 under its tag (RFC 2578, 7.1.10).

@@ -19,20 +19,15 @@ tlv_short : (tag : ℕ) (content : List ℕ) → length content < 2 ^ 32 → len
 unfolding canon_tlv
 tlv_short tag content fits = omega (arith, length_short (canon_length (length content)) (length content) (canon_length_encodes (length content) fits), length-append (canon_length (length content)) content)
 
-pub int_short : (z : ℤ) → length (canon_int z) ≤ 10
+pub integer_few : (z : ℤ) → length (canon_integer z) ≤ 4
 unfolding canon_integer
-int_short z =
+integer_few z =
     let octets = to_be_bytes w32 (of_z w32 z) in
     let len = shortest_len octets (omega arith) in
-    let few : length (canon_integer z) ≤ 4 = omega (arith, len.1) in
-    omega (arith, few, tlv_short tags.integer (canon_integer z) (omega (arith, few)))
+    omega (arith, len.1)
 
--- an INTEGER in front of nothing
-pub int_fits : (z : ℤ) (old : List ℕ) (room : ℕ) → 16 ≤ room → old ≡ [] → room < length (canon_int z ++ old) → ⊥
-int_fits z old room enough none past = omega (arith, enough, ap length none, past, length-append (canon_int z) old, int_short z)
-
-pub int_most : (z : ℤ) (new old : List ℕ) (n : ℕ) → n ≡ length new → new ≡ canon_int z ++ old → old ≡ [] → n ≤ 10
-int_most z new old n count is none = omega (arith, count, ap length is, ap length none, length-append (canon_int z) old, int_short z)
+pub int_short : (z : ℤ) → length (canon_int z) ≤ 10
+int_short z = omega (arith, integer_few z, tlv_short tags.integer (canon_integer z) (omega (arith, integer_few z)))
 
 body_short : (id first second : ℤ) → length (canon_body id first second []) ≤ 36
 unfolding canon_body canon_tail

@@ -3,25 +3,20 @@ ghost use Rattle.std.specs.Prelude.{◌≡◌, ◌≤◌, ◌<◌, ◌+◌, ◌�
 ghost use Rattle.ber_core.specs.Encoding.{canon_tlv};
 ghost use Rattle.message_core.specs.Tags as tags;
 ghost use Rattle.message_core.specs.Encodable.{IsEncodableBinding};
-ghost use Rattle.message_core.specs.Canon.{canon_int, canon_binding, canon_bindings, canon_reply, answer_to};
+ghost use Rattle.message_core.specs.Canon.{canon_binding, canon_bindings, canon_reply, answer_to};
 ghost use Rattle.message_core.specs.declared.binding.Binding.{Binding};
 
 use crate::binding::Binding;
-use crate::lengths::{name_len, tlv_len, value_len};
+use crate::lengths::{integer_len, len_within, name_len, tlv_len, value_len};
 use crate::limits::{MAX_COMMUNITY, MAX_REPLY};
 use crate::request::Request;
 use crate::status::ErrorStatus;
-use crate::tag;
-use ber_core::{Out, Tag};
 
 // A tag and the length of 256 to 65,535 octets (X.690, 8.1.3.5).
 const LONG_HEAD: usize = 4;
 
 // The version of a message (RFC 1901, section 3).
 const VERSION: i32 = 1;
-
-// Room for an INTEGER of 32 bits.
-const INTEGER_ROOM: usize = 16;
 
 /// The octets of a binding's shortest encoding, where they are at most `most`; else there is no
 /// answer.
@@ -38,26 +33,6 @@ pub fn encoded_len(binding: &Binding, most: usize) -> Option<usize>
     match value_len(&binding.value, most) {
         None => None,
         Some(value) => len_within(tlv_len(name + value), most),
-    }
-}
-
-// This length, where it is at most `most`.
-fn len_within(len: usize, most: usize) -> Option<usize>
-    ensures { MatchOption result (most < len) (λ same. (same ≡ len) × (same ≤ most)) }
-{
-    if len <= most { Some(len) } else { None }
-}
-
-// The octets of an INTEGER with its tag and its length.
-fn integer_len(number: i32) -> usize
-    ensures len { result ≡ length (canon_int number) }
-    ensures most { result ≤ 10 }
-{
-    let mut room = [0u8; INTEGER_ROOM];
-    let mut out = Out::new(&mut room);
-    match out.put_i32(Tag(tag::INTEGER), number) {
-        Ok(()) => out.len(),
-        Err(_) => unreachable!(),
     }
 }
 
