@@ -7,6 +7,7 @@ pub mod Searches
 pub mod Found
 pub mod Next
 pub mod Passed
+pub mod Walks
 pub mod Rising
 pub mod Served
 pub mod Indexes

@@ -307,6 +307,9 @@ module _ (passes : List ℕ → Bool) where
         walked.work now (λ o. walked_here left row rest w n parts _ now o kept (sym b.next)) e
 
   -- behind all objects nothing is found, and no step is left
+  pub found_none : (left : List ObjectRow) (w : World) (n : List ℕ) → left ≡ [] → found_open left w n ≡ None
+  found_none left w n e = ap (λ (rs : List ObjectRow). found_open rs w n) e ∙ sym (found_end w n)
+
   pub walked_end : (left : List ObjectRow) (w : World) (n : List ℕ) (steps : ℕ) → left ≡ [] → Walked left w n steps steps
   walked_end left w n steps e = subst (λ (rs : List ObjectRow). Walked rs w n steps steps) (sym e) (ap (λ (o : Option Binding). steps + passed_ahead passes [] o) (sym (found_end w n)))
 

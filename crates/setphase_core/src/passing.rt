@@ -1,8 +1,9 @@
 //! A walk that passes over objects as a whole.
-ghost use Rattle.std.specs.Prelude.{◌≡◌, ◌<◌, ◌+◌, length, map, drop, true, None};
-ghost use Rattle.oid_core.specs.Order.{is_prefix};
+ghost use Rattle.std.specs.Prelude.{◌≡◌, ◌<◌, ◌+◌, ◌++◌, length, map, drop, true, false, None};
+ghost use Rattle.std.specs.Option.{option_map};
+ghost use Rattle.oid_core.specs.Order.{name_lt, is_prefix};
 ghost use Rattle.message_core.specs.Instances.{next_of};
-ghost use Rattle.setphase_core.specs.Registry.{rows_of, prefixes_of, first_fault};
+ghost use Rattle.setphase_core.specs.Registry.{rows_of, prefixes_of, first_fault, instances_under};
 ghost use Rattle.setphase_core.specs.Passing.{open_instances, passed_after, passed_ahead};
 ghost use Rattle.setphase_core.specs.Searching.{prefix_at, IsPlace};
 ghost use Rattle.setphase_core.specs.Walking.{AreAhead, AreOpen, first_place, IsFound, IsWalk, IsPassedOrFound};
@@ -33,6 +34,37 @@ pub struct Spot {
     pub index: Index,
 }
 
+// Whether the object at a place is passed over. It is known that those in front of another place are
+// not.
+fn is_passed<O: MibObject, P: Passing>(object: &O, place: usize, until: usize, passing: &P) -> bool
+    requires { place < until → P.passes passing.now (O.state object.now).row.prefix ≡ false }
+    ensures { result ≡ P.passes passing.now (O.state object.now).row.prefix }
+{
+    place >= until && passing.passes_over(object.prefix())
+}
+
+// The index of the first instance behind a name of an object whose name begins it.
+fn index_below<O: MibObject>(object: &O, world: &World, name: &[u32]) -> Option<Index>
+    requires { is_prefix (O.state object.now).row.prefix name.now ≡ true }
+    ensures { let row = (O.state object.now).row in
+        option_map (λ index. row.prefix ++ index.items) result
+        ≡ option_map (λ b. b.name) (next_of (instances_under row world.now) name.now) }
+{
+    let rest = &name[object.prefix().len()..];
+    object.next(world, Some(rest))
+}
+
+// The same of an object whose name is greater.
+fn index_ahead<O: MibObject>(object: &O, world: &World, _name: &[u32]) -> Option<Index>
+    requires apart { is_prefix (O.state object.now).row.prefix _name.now ≡ false }
+    requires ahead { name_lt _name.now (O.state object.now).row.prefix ≡ true }
+    ensures { let row = (O.state object.now).row in
+        option_map (λ index. row.prefix ++ index.items) result
+        ≡ option_map (λ b. b.name) (next_of (instances_under row world.now) _name.now) }
+{
+    object.next(world, None)
+}
+
 // The first instance behind a name of the object at a place, whose name begins that name, but where
 // it is passed over, which is a step.
 fn own_spot<O: MibObject, P: Passing, L: Ledger>(
@@ -53,12 +85,11 @@ fn own_spot<O: MibObject, P: Passing, L: Ledger>(
         name.now place steps.old steps.new result }
 {
     let object = &objects[place];
-    let prefix = object.prefix();
-    if place >= until && passing.passes_over(prefix) {
+    if is_passed(object, place, until, passing) {
         steps.tick();
         return None;
     }
-    let index = object.next(world, Some(&name[prefix.len()..]))?;
+    let index = index_below(object, world, name)?;
     Some(Spot { place, index })
 }
 
@@ -84,9 +115,9 @@ fn spot_behind<O: MibObject, P: Passing, L: Ledger>(
 {
     for place in start..objects.len() {
         let object = &objects[place];
-        if place >= until && passing.passes_over(object.prefix()) {
+        if is_passed(object, place, until, passing) {
             steps.tick();
-        } else if let Some(index) = object.next(world, None) {
+        } else if let Some(index) = index_ahead(object, world, name) {
             return Some(Spot { place, index });
         }
     }
@@ -120,9 +151,8 @@ pub fn next_spot<O: MibObject, P: Passing, L: Ledger>(
     match place {
         Err(behind) => spot_behind(objects, world, name, behind, until, passing, steps),
         Ok(own) => {
-            let spot = own_spot(objects, world, name, own, until, passing, steps);
-            if spot.is_some() {
-                return spot;
+            if let Some(spot) = own_spot(objects, world, name, own, until, passing, steps) {
+                return Some(spot);
             }
             spot_behind(objects, world, name, own + 1, until, passing, steps)
         }

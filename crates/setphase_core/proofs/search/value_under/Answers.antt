@@ -1,6 +1,4 @@
-use Rattle.std.proofs.Common.{◌≡◌, ◌≤◌, true, sym, ap, ◌∙◌, length, drop, List, ℕ, arith, length-append}
-use Rattle.oid_core.specs.Order.{is_prefix}
-use Rattle.oid_core.proofs.OrderLaws.{prefix_found}
+use Rattle.std.proofs.Common.{◌≡◌, ◌≤◌, sym, ap, ◌∙◌, length, drop, List, ℕ, arith}
 use Rattle.setphase_core.specs.Objects.{ObjectRow}
 use Rattle.setphase_core.specs.Values.{value_at}
 use Rattle.setphase_core.specs.Columns.{shown_by}
@@ -8,17 +6,11 @@ use Rattle.setphase_core.proofs.Places.{rest_of}
 use Rattle.setphase_core.proofs.Found as found
 use Rattle.setphase_core.proofs.search.value_under.Goals as goal
 
--- the object's name is no longer than the name
-fits : (p n : List ℕ) → is_prefix p n ≡ true → length p ≤ length n
-fits p n h =
-    let begun = prefix_found p n h in
-    omega (arith, ap (λ (xs : List ℕ). length xs) begun.parts, length-append p begun.rest)
-
 pub slice_bounds-rest-count : goal.slice_bounds-rest-count
-slice_bounds-rest-count g c = omega (arith, ap (λ (xs : List ℕ). length xs) c.prefix.ensures, fits (g.O.MibObject.state c.args.object.now).row.prefix c.args.name.now c.requires)
+slice_bounds-rest-count g c = omega (arith, ap (λ (xs : List ℕ). length xs) c.prefix.ensures, found.begun_fits (g.O.MibObject.state c.args.object.now).row.prefix c.args.name.now c.requires)
 
 pub slice_bounds-rest-start : goal.slice_bounds-rest-start
-slice_bounds-rest-start g c = omega (arith, ap (λ (xs : List ℕ). length xs) c.prefix.ensures, fits (g.O.MibObject.state c.args.object.now).row.prefix c.args.name.now c.requires)
+slice_bounds-rest-start g c = omega (arith, ap (λ (xs : List ℕ). length xs) c.prefix.ensures, found.begun_fits (g.O.MibObject.state c.args.object.now).row.prefix c.args.name.now c.requires)
 
 pub returns : goal.returns
 returns g c =

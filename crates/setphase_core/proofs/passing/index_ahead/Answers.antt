@@ -1,0 +1,8 @@
+use Rattle.setphase_core.specs.Objects.{ObjectRow}
+use Rattle.setphase_core.proofs.Next.{name_before}
+use Rattle.setphase_core.proofs.passing.index_ahead.Goals as goal
+
+pub returns : goal.returns
+returns g c =
+    let row : ObjectRow = (g.O.MibObject.state c.args.object.now).row in
+    name_before (λ index. index.items) row c.args.world.now c.args._name.now _ c.requires.apart c.requires.ahead c.next.ensures

@@ -1,0 +1,22 @@
+use Rattle.std.proofs.Common.{◌≡◌, ◌≤◌, sym, ap, ◌∙◌, length, drop, true, Some, List, ℕ, arith}
+use Rattle.oid_core.specs.Order.{is_prefix}
+use Rattle.setphase_core.specs.Objects.{ObjectRow}
+use Rattle.setphase_core.specs.Values.{index_after}
+use Rattle.setphase_core.specs.Columns.{shown_by}
+use Rattle.setphase_core.proofs.Places.{rest_of}
+use Rattle.setphase_core.proofs.Next.{name_begun}
+use Rattle.setphase_core.proofs.Found.{begun_fits}
+use Rattle.setphase_core.proofs.passing.index_below.Goals as goal
+
+pub slice_bounds-rest-count : goal.slice_bounds-rest-count
+slice_bounds-rest-count g c = omega (arith, ap (λ (xs : List ℕ). length xs) c.prefix.ensures, begun_fits (g.O.MibObject.state c.args.object.now).row.prefix c.args.name.now c.requires)
+
+pub slice_bounds-rest-start : goal.slice_bounds-rest-start
+slice_bounds-rest-start g c = omega (arith, ap (λ (xs : List ℕ). length xs) c.prefix.ensures, begun_fits (g.O.MibObject.state c.args.object.now).row.prefix c.args.name.now c.requires)
+
+pub returns : goal.returns
+returns g c =
+    let row : ObjectRow = (g.O.MibObject.state c.args.object.now).row in
+    name_begun (λ index. index.items) row c.args.world.now c.args.name.now _ c.requires
+    (c.next.ensures
+    ∙ ap (λ (n : List ℕ). index_after (shown_by row.column c.args.world.now) (Some n)) (rest_of (length c.prefix.result.now) c.args.name.now ∙ ap (λ (p : List ℕ). drop (length p) c.args.name.now) c.prefix.ensures))
