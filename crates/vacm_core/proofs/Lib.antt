@@ -6,6 +6,8 @@ pub mod Sound
 pub mod Ties
 pub mod Again
 pub mod HiddenNames
+pub mod Apart
+pub mod FrontNames
 pub mod Ways
 pub mod FamilyWays
 pub mod Unbeaten

@@ -11,6 +11,7 @@ pub mod Families
 pub mod FamilyIndex
 pub mod OfView
 pub mod Hiding
+pub mod Fronts
 pub mod Access
 pub mod Orders
 pub mod Trees

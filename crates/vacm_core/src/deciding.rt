@@ -49,7 +49,9 @@ pub fn agrees_by_bits(mask: &[u8], subtree: &[u32], name: &[u32]) -> bool
     true
 }
 
-fn agrees_at(mask: &[u8], k: usize, part: u32, name: &[u32]) -> bool
+/// Whether a name has a number at a place, and it is the part of a subtree or the bit of the place is
+/// 0.
+pub fn agrees_at(mask: &[u8], k: usize, part: u32, name: &[u32]) -> bool
     ensures { result ≡ agrees_at mask.now k part name.now }
 {
     match name.get(k) {

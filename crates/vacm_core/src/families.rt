@@ -7,6 +7,7 @@ ghost use Rattle.vacm_core.specs.Tables.{KeysDiffer};
 ghost use Rattle.vacm_core.specs.Access.{has_view};
 ghost use Rattle.vacm_core.specs.Families.{deciding_family};
 ghost use Rattle.vacm_core.specs.FamilyIndex.{next_family, family_at};
+ghost use Rattle.vacm_core.specs.Fronts.{IsShortestFront};
 ghost use Rattle.vacm_core.specs.Keys.{IsIndex, view_key, index_key};
 ghost use Rattle.vacm_core.specs.Changes.{with_mask, with_type};
 ghost use Rattle.vacm_core.specs.Trees.{leads, reaches, counting_part, way_of, IsPlaced, IsNumbered, IsTreeOf, IsTreeBut, AreNumbered};
@@ -18,6 +19,7 @@ use crate::by_index::{self, numbers_by_index};
 use crate::by_view::last_of_view;
 use crate::copying::copied_rows;
 use crate::deciding::{FamilyContest, mask_bit};
+use crate::front;
 use crate::index::{Keyed, index_of, with_key};
 use crate::limits::MAX_NAME;
 use crate::name::{Mask, Name};
@@ -170,6 +172,15 @@ impl Families {
     {
         let index = self.table_index.as_slice();
         deciding_family(&self.tree, self.rows.as_slice(), index, view, name)
+    }
+
+    /// The shortest front of a name under which the answer by the row that decides holds.
+    pub fn shortest_front(&self, view: &Name, name: &Oid, decides: Option<usize>) -> Option<usize>
+        requires decides { decides ≡ deciding_family self.now view.now name.now }
+        requires within { ForSome decides (λ n. n < length self.now) }
+        ensures { IsShortestFront self.now view.now name.now result }
+    {
+        front::shortest_front(self.rows.as_slice(), view, name.as_slice(), decides)
     }
 
     /// The number of the row whose index is the first that is greater than these numbers.

@@ -6,23 +6,27 @@
 //! request up to its names, `Vacm::in_view` the answer on a name. Each names its row.
 //! `Vacm::next_family` and `Vacm::family_at` find a family row by its index in
 //! vacmViewTreeFamilyTable; `Vacm::put_mask` and `Vacm::put_type` change it where it stands, and give
-//! what it had. `Vacm::hides_all` tells where a view is seen to hide every name that begins with a prefix. None
-//! of these but `new` takes memory. `Vacm::try_copy` is a copy, and `Vacm::rows` the rows as they
-//! are written, of which [`Same`] tells whether two are the same. [`checked_rows`] checks a table
-//! of any rows that are [`Written`], [`copied_rows`] copies any that are [`CopiedAs`] others, and
-//! [`deciding_row`] finds the row that decides a [`Contest`]; `community_core` uses all three.
+//! what it had. `Vacm::in_view_under` gives with the answer on a name the shortest front of the name
+//! under which the answer holds for every name. `Vacm::hides_all` tells where a view is seen to hide
+//! every name that begins with a prefix. None of these but `new` takes memory. `Vacm::try_copy` is a
+//! copy, and `Vacm::rows` the rows as they are written, of which [`Same`] tells whether two are the
+//! same. [`checked_rows`] checks a table of any rows that are [`Written`], [`copied_rows`] copies any
+//! that are [`CopiedAs`] others, and [`deciding_row`] finds the row that decides a [`Contest`];
+//! `community_core` uses all three.
 //! Written: [`VacmRows`] of [`WrittenGroup`], [`WrittenAccess`] and [`WrittenFamily`], with
 //! [`Text`] and [`Octets`]; kept: [`Rows`] of [`GroupRow`], [`AccessRow`] with a [`Level`], and
 //! [`FamilyRow`], with [`Name`] and [`Mask`]. An [`Ask`] with its [`ViewType`] gets a [`Verdict`],
-//! a name a [`FamilyAnswer`]. A [`TableFault`] is want of memory, or the [`VacmTable`], the row and
-//! what is [`Wrong`]. Bounds: [`MAX_NAME`], [`MAX_MASK`], [`MAX_FAMILY`], [`MAX_MODEL`].
+//! a name a [`FamilyAnswer`], and with its front a [`FrontAnswer`]. A [`TableFault`] is want of
+//! memory, or the [`VacmTable`], the row and what is [`Wrong`]. Bounds: [`MAX_NAME`], [`MAX_MASK`],
+//! [`MAX_FAMILY`], [`MAX_MODEL`].
 //!
 //! # Definitions
 //! `specs/Access.antt`: which access rows may decide and which beats which; `specs/Families.antt`:
 //! which families have a name; `specs/FamilyIndex.antt`: the index of a family row, and which row
 //! comes behind some numbers; `specs/Changes.antt`: the rows with another mask or type;
-//! `specs/Hiding.antt`: when a view is seen to hide every name that
-//! begins with a prefix; `specs/Best.antt`,
+//! `specs/Hiding.antt`: when a view is seen to hide every name that begins with a prefix;
+//! `specs/Fronts.antt`: the shortest front of a name under which the answer on it holds for every
+//! name, and, inside the crate, the rows that it goes by; `specs/Best.antt`,
 //! `specs/Orders.antt`: the row that no row beats; `specs/Faults.antt`, `specs/Rules.antt`:
 //! lengths, fields and keys of rows, the first fault, and where checking the rows takes memory.
 //! `specs/Repeats.antt`: the first row that has the key of an earlier one, and the numbers of rows
@@ -58,6 +62,7 @@
 //! it, and where there are few rows, it goes over the rows of the view that are no longer than
 //! the name, found by halves, from the longest on until one has the name; so it takes at most some
 //! twice the time of a scan of the view's rows, but where a view has a few of many rows.
+//! `Vacm::in_view_under` takes the time of `Vacm::in_view`, and then looks at each family row once.
 //! `Vacm::put_mask` goes along the way of its row where the mask before had no 0, else along that of
 //! each row, some 0.3 ms at 1,000 rows.
 //! A run of numbers of which a put mask leaves one open is passed whole, while any does.
@@ -71,6 +76,7 @@ mod copying;
 mod deciding;
 mod families;
 mod fault;
+mod front;
 mod hiding;
 mod index;
 pub mod laws;

@@ -1,5 +1,5 @@
 //! The tables of access control.
-ghost use Rattle.std.specs.Prelude.{◌≡◌, ◌≢◌, ◌<◌, ◌≤◌, ◌+◌, ℕ, List, length, false, IsTrue, IfOk, IfErr, OnOk, slice_get, option_map, find, Some};
+ghost use Rattle.std.specs.Prelude.{◌≡◌, ◌≢◌, ◌<◌, ◌≤◌, ◌+◌, ℕ, List, length, false, true, take, IsTrue, IfOk, IfErr, IfSome, OnOk, slice_get, option_map, find, Some};
 ghost use Rattle.std.specs.Option.{ForSome};
 
 use crate::checking::checked_rows;
@@ -73,9 +73,10 @@ impl Vacm {
     ghost use Rattle.vacm_core.specs.Best.{IsUnbeatenAt};
     ghost use Rattle.vacm_core.specs.Tables.{tables_of, rows_of};
     ghost use Rattle.vacm_core.specs.Faults.{AreAllRight, IsFault, TakesMemory};
-    ghost use Rattle.vacm_core.specs.Families.{family_answer, in_view, by_type, matches, family_beats, NamesFamilyOf};
+    ghost use Rattle.vacm_core.specs.Families.{family_answer, is_included, in_view, by_type, by_family, matches, family_beats, NamesFamilyOf};
     ghost use Rattle.vacm_core.specs.FamilyIndex.{next_family, family_at};
     ghost use Rattle.vacm_core.specs.Changes.{with_mask, with_type};
+    ghost use Rattle.vacm_core.specs.Fronts.{IsShortestFront};
     ghost use Rattle.vacm_core.specs.Hiding.{hides_all};
     ghost use Rattle.oid_core.specs.Order.{is_prefix};
     ghost use Rattle.vacm_core.specs.Access.{is_of, verdict_of, by_access, by_view, deciding_access, candidate, access_beats, NamesRowOf};
@@ -211,21 +212,27 @@ impl Vacm {
         ensures answer { result ≡ family_answer self.now.families view.now name.now }
         ensures row { NamesFamilyOf self.now.families result }
     {
-        match self.families.deciding(view, name) {
-            Some(n) => self.answer_of(n),
-            None => FamilyAnswer::NoRow,
-        }
+        self.answer_by(self.families.deciding(view, name))
     }
 
-    /// stub
+    /// Whether a name is in a view, and by which family row; and the shortest front of the name under
+    /// which this answer holds for every name (RFC 3415, vacmViewTreeFamilyTable). There is no front
+    /// where a name that begins with this one has another answer. It takes no memory, and goes over
+    /// the rows once beside what [`Vacm::in_view`] goes over.
     pub fn in_view_under(&self, view: &Name, name: &Oid) -> FrontAnswer
+        ensures answer { result.answer ≡ family_answer self.now.families view.now name.now }
+        ensures row { NamesFamilyOf self.now.families result.answer }
+        ensures front { IsShortestFront self.now.families view.now name.now result.front }
+        ensures shown { IfSome result.front (λ k. (k ≤ length name.now)
+            × (is_included result.answer ≡ true → (other : List ℕ) →
+            is_prefix (take k name.now) other ≡ true
+            → in_view self.now.families view.now other ≡ true)) }
     {
-        let answer = self.in_view(view, name);
-        let front = match answer {
-            FamilyAnswer::Included(n) => Some(self.family_row(n).subtree.as_slice().len()),
-            _ => None,
-        };
-        FrontAnswer { answer, front }
+        let decides = self.families.deciding(view, name);
+        FrontAnswer {
+            answer: self.answer_by(decides),
+            front: self.families.shortest_front(view, name, decides),
+        }
     }
 
     /// Puts the mask of the family row of this number, and gives the one that it had
@@ -287,6 +294,18 @@ impl Vacm {
             → in_view self.now.families view.now name ≡ false }
     {
         hiding::hides_all(self.families.as_slice(), view, prefix)
+    }
+
+    // The answer of the family row that decides, where one does.
+    fn answer_by(&self, decides: Option<usize>) -> FamilyAnswer
+        requires { ForSome decides (λ n. n < length self.now.families) }
+        ensures answer { result ≡ by_family self.now.families decides }
+        ensures row { NamesFamilyOf self.now.families result }
+    {
+        match decides {
+            Some(n) => self.answer_of(n),
+            None => FamilyAnswer::NoRow,
+        }
     }
 
     // The answer of the family row of this number.

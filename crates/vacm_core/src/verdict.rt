@@ -64,11 +64,13 @@ impl FamilyAnswer {
     }
 }
 
-/// stub
+/// The decision on a name in a view, and the front of the name under which it is the same. A front is
+/// the first numbers of a name, and goes by how many they are.
 #[derive(Clone, Copy, Debug, PartialEq, Eq)]
 pub struct FrontAnswer {
-    /// stub
+    /// The decision on the name.
     pub answer: FamilyAnswer,
-    /// stub
+    /// The shortest front such that the decision is the same, by the same row, on every name that
+    /// begins with it. There is none where some name that begins with the whole name gets another.
     pub front: Option<usize>,
 }
