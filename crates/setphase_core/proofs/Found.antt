@@ -1,8 +1,9 @@
 -- The value under a name among the instances of several objects: it stands under the object whose
 -- name begins the name.
-use Rattle.std.proofs.Common.{◌≡◌, ℕ, zero, suc, Bool, true, false, cond, nat_eq, List, [], ◌∷◌, ◌++◌, map, length, drop, find, get_or, refl, ap, ◌∙◌, arith, Option, Some, None, option_map}
+use Rattle.std.proofs.Common.{◌≡◌, ℕ, zero, suc, Bool, true, false, cond, nat_eq, List, [], ◌∷◌, ◌++◌, map, length, drop, find, get_or, refl, ap, ◌∙◌, ◌≤◌, length-append, arith, Option, Some, None, option_map}
 use Rattle.std.specs.Option.{option_or}
 use Rattle.oid_core.specs.Order.{name_eq, is_prefix}
+use Rattle.oid_core.proofs.OrderLaws.{prefix_found}
 use Rattle.message_core.specs.declared.binding.Binding.{Binding}
 use Rattle.message_core.specs.declared.value.Value.{Value}
 use Rattle.message_core.specs.Instances.{value_of}
@@ -12,6 +13,12 @@ use Rattle.setphase_core.specs.Columns.{shown_by}
 use Rattle.setphase_core.specs.Objects.{ObjectRow}
 use Rattle.setphase_core.specs.Registry.{prefixes_of, under, instances_under, instances}
 use Rattle.setphase_core.specs.Searching.{IsOwnerPlace}
+
+-- a name that begins another one is no longer
+pub begun_fits : (p n : List ℕ) → is_prefix p n ≡ true → length p ≤ length n
+begun_fits p n h =
+    let begun = prefix_found p n h in
+    omega (arith, ap (λ (xs : List ℕ). length xs) begun.parts, length-append p begun.rest)
 
 pub instances-cons : (row : ObjectRow) (rows : List ObjectRow) (w : World) → instances (row ∷ rows) w ≡ instances_under row w ++ instances rows w
 unfolding instances

@@ -4,6 +4,7 @@ pub mod Below
 pub mod Ordered
 pub mod Places
 pub mod Searches
+pub mod Begun
 pub mod Found
 pub mod Next
 pub mod Passed

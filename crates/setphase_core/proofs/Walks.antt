@@ -1,16 +1,17 @@
 -- What a walk finds, by the place from which on it goes.
-use Rattle.std.proofs.Common.{◌≡◌, ℕ, ◌+◌, ◌<◌, ◌≤◌, Bool, true, false, ◌||◌, List, length, drop, refl, sym, ◌∙◌, arith, Option, Some, None, Ok, Err}
+use Rattle.std.proofs.Common.{◌≡◌, ℕ, ◌+◌, ◌<◌, ◌≤◌, Bool, true, false, ◌||◌, List, ◌∷◌, [], ◌++◌, length, drop, refl, sym, ap, ◌∙◌, arith, Option, Some, None, IfSome, Ok, Err}
 use Rattle.message_core.specs.Instances.{next_of}
 use Rattle.oid_core.specs.Order.{name_lt, is_prefix}
 use Rattle.setphase_core.specs.declared.world.World.{World}
 use Rattle.setphase_core.specs.declared.passing.Spot.{Spot}
 use Rattle.setphase_core.specs.Objects.{ObjectRow}
-use Rattle.setphase_core.specs.Registry.{prefixes_of}
-use Rattle.setphase_core.specs.Passing.{open_instances}
+use Rattle.setphase_core.specs.Registry.{prefixes_of, instances}
+use Rattle.setphase_core.specs.Passing.{open_rows, open_instances}
 use Rattle.setphase_core.specs.Searching.{prefix_at, IsOwnerPlace, IsPlace}
 use Rattle.setphase_core.specs.Walking.{AreAhead, IsFound}
+use Rattle.oid_core.proofs.OrderLaws.{prefix_of}
 use Rattle.setphase_core.proofs.Ordered.{AreOrdered}
-use Rattle.setphase_core.proofs.Searches.{start_found}
+use Rattle.setphase_core.proofs.Searches.{start_found, owner_found}
 
 -- nothing was found
 pub none_of : {X : Type 0} (o : Option X) → ((x : X) → o ≡ Some x → ⊥) → o ≡ None
@@ -37,8 +38,29 @@ pub found_whole : (passes : List ℕ → Bool) (rows : List ObjectRow) (w : Worl
 found_whole passes rows w n start None e h = sym e ∙ h
 found_whole passes rows w n start (Some spot) e h = record {
   row = h.row;
+  after = omega arith;
   within = h.within;
   at = h.at;
   index = h.index;
   first = sym e ∙ h.first;
 }
+
+-- it stands behind that place
+pub found_after : (passes : List ℕ → Bool) (rows : List ObjectRow) (w : World) (n : List ℕ) (start first : ℕ) (o : Option Spot) → first ≤ start → IsFound passes rows w n start o → IfSome o (λ s. first ≤ s.place)
+found_after passes rows w n start first None l h = tt
+found_after passes rows w n start first (Some spot) l h = omega (arith, l, h.after)
+
+-- ---- the instance at a spot
+
+-- the name that is made there begins with that of the object at the place
+pub made_place : (prefixes : List (List ℕ)) (row : ObjectRow) (place : ℕ) (name index : List ℕ) → AreOrdered prefixes → place < length prefixes → prefix_at prefixes place ≡ row.prefix → name ≡ row.prefix ++ index → IsOwnerPlace prefixes name (Some place)
+made_place prefixes row place name index ordered within at is =
+    owner_found prefixes name place ordered within (ap (is_prefix (prefix_at prefixes place)) is ∙ ap (λ (p : List ℕ). is_prefix p (row.prefix ++ index)) at ∙ prefix_of row.prefix index)
+
+-- no object is passed over where none is to be
+none_passed : (rows : List ObjectRow) → open_rows (λ p. false) rows ≡ rows
+none_passed [] = refl
+none_passed (row ∷ rows) = ap (λ rs. row ∷ rs) (none_passed rows)
+
+pub next_of_all : (rows : List ObjectRow) (w : World) (n : List ℕ) → next_of (open_instances (λ p. false) rows w) n ≡ next_of (instances rows w) n
+next_of_all rows w n = ap (λ (rs : List ObjectRow). next_of (instances rs w) n) (none_passed rows)

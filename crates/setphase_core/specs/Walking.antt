@@ -50,6 +50,7 @@ pub record IsWalked (passes : List ℕ → Bool) (rows left : List ObjectRow) (w
 pub record IsSpot (passes : List ℕ → Bool) (rows : List ObjectRow) (w : World) (name : List ℕ)
     (start : ℕ) (spot : Spot) : Type 0 where
   pub row : ObjectRow
+  pub after : start ≤ spot.place
   pub within : spot.place < length rows
   pub at : get_or rows spot.place row ≡ row
   pub index : Some (row.prefix ++ spot.index.items)

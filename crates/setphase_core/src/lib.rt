@@ -109,9 +109,10 @@ pub use limits::{
 pub use named::are_named;
 pub use object::{Assignment, DeviceFault, Index, MibObject, Reservation, SetFault, Slot};
 pub use passing::Passing;
-pub use registry::{Registry, RegistryFault, Successor};
+pub use registry::{Registry, RegistryFault};
 pub use sets::{Refusal, SetOutcome, run_set};
 pub use slots::Slots;
 pub use staging::{Staged, Staging, Standing, TestedVariable, VariableFault};
+pub use walk::Successor;
 pub use world::World;
 pub use writable::{IntegerTarget, Target, Writable, assignment_by};

@@ -1,5 +1,5 @@
 //! A walk that passes over objects as a whole.
-ghost use Rattle.std.specs.Prelude.{◌≡◌, ◌<◌, ◌+◌, ◌++◌, length, map, drop, true, false, None};
+ghost use Rattle.std.specs.Prelude.{◌≡◌, ◌<◌, ◌≤◌, ◌+◌, ◌++◌, length, map, drop, true, false, None, IfSome};
 ghost use Rattle.std.specs.Option.{option_map};
 ghost use Rattle.oid_core.specs.Order.{name_lt, is_prefix};
 ghost use Rattle.message_core.specs.Instances.{next_of};
@@ -142,6 +142,7 @@ pub fn next_spot<O: MibObject, P: Passing, L: Ledger>(
         (prefixes_of (rows_of (map O.state objects.now))) (first_place place) until }
     ensures found { IsFound (P.passes passing.now) (rows_of (map O.state objects.now)) world.now
         name.now 0 result }
+    ensures behind { IfSome result (λ spot. first_place place ≤ spot.place) }
     ensures work { let rows = rows_of (map O.state objects.now) in
         let passes = P.passes passing.now in
         steps.new + passed_ahead passes rows

@@ -8,9 +8,9 @@ ghost use Rattle.setphase_core.specs.Searching.{IsPlace, AreBegun, least_compari
 ghost use Rattle.setphase_core.specs.Walking.{AreOpen, first_place};
 
 use crate::object::MibObject;
-use crate::passing::{Passing, Spot, next_spot};
+use crate::passing::Passing;
 use crate::search::{begun_until, owner_name, place_by_search, place_near, place_of, value_there};
-use crate::walk::instance_of;
+use crate::walk::{Successor, next_from};
 use crate::world::World;
 use message_core::{Binding, Value};
 use oid_core::{begins, precedes};
@@ -29,15 +29,6 @@ pub enum RegistryFault {
     /// The name of an object is the next one's, or begins it.
     #[error("the name of an object begins another's")]
     Nested,
-}
-
-/// An instance that a walk found.
-#[derive(Drop)]
-pub struct Successor {
-    /// The instance.
-    pub binding: Binding,
-    /// The place of its object.
-    pub place: usize,
 }
 
 // The test that passes over no object.
@@ -248,8 +239,10 @@ impl<O: MibObject> Registry<O> {
             → IsOk result }
     {
         let mut steps: Steps<L> = Steps::new(blank);
-        let found = self.next_open(alloc, world, name, place, 0, &PassesNone, &mut steps)?;
-        Ok(found.map(|f| f.binding))
+        match self.next_open(alloc, world, name, place, 0, &PassesNone, &mut steps)? {
+            Some(Successor { binding, place: _ }) => Ok(Some(binding)),
+            None => Ok(None),
+        }
     }
 
     /// The first instance after a name, where there is one, among those of the objects that are not
@@ -287,11 +280,6 @@ impl<O: MibObject> Registry<O> {
     {
         let objects = self.objects.as_slice();
         steps.tick();
-        let Some(spot) = next_spot(objects, world, name, place, until, passing, steps) else {
-            return Ok(None);
-        };
-        let Spot { place, index } = spot;
-        let binding = instance_of(alloc, &objects[place], world, &index)?;
-        Ok(Some(Successor { binding, place }))
+        next_from(alloc, objects, world, name, place, until, passing, steps)
     }
 }

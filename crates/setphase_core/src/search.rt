@@ -179,7 +179,10 @@ pub fn begun_until<O: MibObject>(objects: &[O], front: &[u32], place: usize) -> 
     requires within { place ≤ length objects.now }
     ensures { AreBegun (prefixes_of (rows_of (map O.state objects.now))) front.now place result }
 {
-    if place == objects.len() || !is_begun(objects, front, place) {
+    if place >= objects.len() {
+        return place;
+    }
+    if !is_begun(objects, front, place) {
         return place;
     }
     let mut low = place + 1;

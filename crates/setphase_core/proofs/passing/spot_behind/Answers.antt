@@ -39,6 +39,7 @@ returns-in-Some-clause-found g c =
     let index = ap (option_map (λ index. row.prefix ++ index.items)) (sym c.in-Some.is) ∙ c.index_ahead.ensures in
     record {
       row = row;
+      after = c.loop-place.auto.place;
       within = omega (arith, c.loop-place-test.true, rows_count g.O.MibObject.state c.args.objects.now);
       at = row_there g.O.MibObject.state c.args.objects.now c.loop-place.place c.index-objects-place.result row c.loop-place-test.true c.index-objects-place.is;
       index = index;
