@@ -16,3 +16,4 @@ pub mod Denials
 pub mod Owners
 pub mod Passed
 pub mod Undenied
+pub mod Stands

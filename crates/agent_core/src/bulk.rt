@@ -7,17 +7,49 @@ ghost use Rattle.message_core.specs.Instances.{names_of};
 ghost use Rattle.agent_core.specs.Reading.{visible, next_answer, next_answers};
 ghost use Rattle.agent_core.specs.Looking.{most_looks};
 ghost use Rattle.agent_core.specs.Bulk.{all_end, repetitions, further, bulk_list, count_of, asked_list};
+ghost use Rattle.agent_core.specs.Sending.{AreStands};
 ghost use Rattle.agent_core.specs.Fitting.{fitting_front, fit_into, most_successors, IsFilled};
 ghost use Rattle.message_core.specs.declared.binding.Binding.{Binding};
 
 use crate::nexts::get_next_from;
 use crate::sent::Sent;
-use crate::source::Successors;
+use crate::source::{Stand, Successors};
 use message_core::{Binding, Bindings, Request, Value, bindings_room};
 use oid_core::Oid;
 use std::alloc::{AllocError, Global};
 use std::sync::ledger::Ledger;
 use steps::Steps;
+
+// Where a walk from a name stands, beside the last one that was sent.
+fn stand_at<S: Successors<L>, L: Ledger>(source: &S, sent: &Sent, name: &Oid) -> Stand
+    requires { AreStands (S.stands source.now) sent.now.stands (names_of sent.now.bindings) }
+    ensures { S.stands source.now result name.now }
+{
+    match sent.stand(1) {
+        Some(other) => source.start_beside(name, other),
+        None => source.start(name),
+    }
+}
+
+// Where the walk stands at the name of the binding so many places back.
+fn stand_back<S: Successors<L>, L: Ledger>(
+    source: &S,
+    sent: &Sent,
+    back: usize,
+    name: &Oid,
+) -> Stand
+    requires stands { AreStands (S.stands source.now) sent.now.stands
+        (names_of sent.now.bindings) }
+    requires some { 1 ≤ back }
+    requires name { name.now ≡ get_or (names_of sent.now.bindings)
+        (length sent.now.bindings - back) [] }
+    ensures { S.stands source.now result name.now }
+{
+    match sent.stand(back) {
+        Some(stand) => *stand,
+        None => source.start(name),
+    }
+}
 
 // Sends what GetNext answers under a name where there is room for it, and says whether there was.
 fn send_next<S: Successors<L>, L: Ledger>(
@@ -27,7 +59,8 @@ fn send_next<S: Successors<L>, L: Ledger>(
     sent: &mut Sent,
     steps: &mut Steps<L>,
 ) -> Result<bool, AllocError>
-    requires { HasRoot name.now }
+    requires stands { AreStands (S.stands source.now) sent.old.stands (names_of sent.old.bindings) }
+    requires root { HasRoot name.now }
     ensures taken { IfOk result (λ taken. IsTrue taken →
         sent.new.bindings ≡ sent.old.bindings ++ next_answer (visible (S.shows source.now)
         (S.instances source.now)) name.now ∷ []) }
@@ -35,14 +68,12 @@ fn send_next<S: Successors<L>, L: Ledger>(
     ensures fits { IfOk result (λ taken.
         taken ≡ fit_into sent.old.room (sent.old.bindings ++ next_answer
         (visible (S.shows source.now) (S.instances source.now)) name.now ∷ [])) }
+    ensures stands { AreStands (S.stands source.now) sent.new.stands (names_of sent.new.bindings) }
     ensures room { sent.new.room ≡ sent.old.room }
     ensures err { OnErr result (sent.new.bindings ≡ sent.old.bindings) }
     ensures work { steps.new ≤ steps.old + most_looks (S.shows source.now) (S.instances source.now) }
 {
-    let mut stand = match sent.stand(1) {
-        Some(other) => source.start_beside(name, other),
-        None => source.start(name),
-    };
+    let mut stand = stand_at(source, sent, name);
     let row = get_next_from(alloc, source, name, &mut stand, steps)?;
     sent.offer(row, stand)
 }
@@ -56,7 +87,8 @@ fn repeat_once<S: Successors<L>, L: Ledger>(
     sent: &mut Sent,
     steps: &mut Steps<L>,
 ) -> Result<bool, AllocError>
-    requires { AreEncodable asked.now }
+    requires stands { AreStands (S.stands source.now) sent.old.stands (names_of sent.old.bindings) }
+    requires encodable { AreEncodable asked.now }
     ensures whole { IfOk result (λ whole. IsTrue whole →
         sent.new.bindings ≡ sent.old.bindings ++ next_answers
         (visible (S.shows source.now) (S.instances source.now)) (names_of asked.now)) }
@@ -64,6 +96,7 @@ fn repeat_once<S: Successors<L>, L: Ledger>(
         IsFilled sent.new.room (sent.old.bindings ++ (next_answers
         (visible (S.shows source.now) (S.instances source.now)) (names_of asked.now) ++ more))
         sent.new.bindings) }
+    ensures stands { AreStands (S.stands source.now) sent.new.stands (names_of sent.new.bindings) }
     ensures room { sent.new.room ≡ sent.old.room }
     ensures work { let most = most_looks (S.shows source.now) (S.instances source.now) in
         steps.new + length sent.old.bindings * most
@@ -89,6 +122,7 @@ fn send_successor<S: Successors<L>, L: Ledger>(
     sent: &mut Sent,
     steps: &mut Steps<L>,
 ) -> Result<bool, AllocError>
+    requires stands { AreStands (S.stands source.now) sent.old.stands (names_of sent.old.bindings) }
     requires some { 1 ≤ back }
     requires there { back ≤ length sent.old.bindings }
     ensures taken { let name = get_or (names_of sent.old.bindings)
@@ -102,15 +136,13 @@ fn send_successor<S: Successors<L>, L: Ledger>(
         IfOk result (λ taken.
         taken ≡ fit_into sent.old.room (sent.old.bindings ++ next_answer
         (visible (S.shows source.now) (S.instances source.now)) name ∷ [])) }
+    ensures stands { AreStands (S.stands source.now) sent.new.stands (names_of sent.new.bindings) }
     ensures room { sent.new.room ≡ sent.old.room }
     ensures err { OnErr result (sent.new.bindings ≡ sent.old.bindings) }
     ensures work { steps.new ≤ steps.old + most_looks (S.shows source.now) (S.instances source.now) }
 {
     let before = &sent.last(back)[0];
-    let mut stand = match sent.stand(back) {
-        Some(stand) => *stand,
-        None => source.start(&before.name),
-    };
+    let mut stand = stand_back(source, sent, back, &before.name);
     let row = get_next_from(alloc, source, &before.name, &mut stand, steps)?;
     sent.offer(row, stand)
 }
@@ -124,7 +156,8 @@ fn repeat_last<S: Successors<L>, L: Ledger>(
     sent: &mut Sent,
     steps: &mut Steps<L>,
 ) -> Result<bool, AllocError>
-    requires { columns ≤ length sent.old.bindings }
+    requires stands { AreStands (S.stands source.now) sent.old.stands (names_of sent.old.bindings) }
+    requires columns { columns ≤ length sent.old.bindings }
     ensures whole { let last = drop (length sent.old.bindings - columns) sent.old.bindings in
         IfOk result (λ whole. IsTrue whole →
         sent.new.bindings ≡ sent.old.bindings ++ next_answers
@@ -134,6 +167,7 @@ fn repeat_last<S: Successors<L>, L: Ledger>(
         IsFilled sent.new.room (sent.old.bindings ++ (next_answers
         (visible (S.shows source.now) (S.instances source.now)) (names_of last) ++ more))
         sent.new.bindings) }
+    ensures stands { AreStands (S.stands source.now) sent.new.stands (names_of sent.new.bindings) }
     ensures room { sent.new.room ≡ sent.old.room }
     ensures work { let most = most_looks (S.shows source.now) (S.instances source.now) in
         steps.new + length sent.old.bindings * most
@@ -170,10 +204,12 @@ fn go_on<S: Successors<L>, L: Ledger>(
     sent: &mut Sent,
     steps: &mut Steps<L>,
 ) -> Result<(), AllocError>
-    requires { columns ≤ length sent.old.bindings }
+    requires stands { AreStands (S.stands source.now) sent.old.stands (names_of sent.old.bindings) }
+    requires columns { columns ≤ length sent.old.bindings }
     ensures filled { let last = drop (length sent.old.bindings - columns) sent.old.bindings in
         OnOk result (IsFilled sent.old.room (sent.old.bindings ++ further
         (visible (S.shows source.now) (S.instances source.now)) most last) sent.new.bindings) }
+    ensures stands { AreStands (S.stands source.now) sent.new.stands (names_of sent.new.bindings) }
     ensures room { sent.new.room ≡ sent.old.room }
     ensures work { let most = most_looks (S.shows source.now) (S.instances source.now) in
         steps.new + length sent.old.bindings * most
@@ -199,10 +235,12 @@ fn repeat<S: Successors<L>, L: Ledger>(
     sent: &mut Sent,
     steps: &mut Steps<L>,
 ) -> Result<(), AllocError>
-    requires { AreEncodable asked.now }
+    requires stands { AreStands (S.stands source.now) sent.old.stands (names_of sent.old.bindings) }
+    requires encodable { AreEncodable asked.now }
     ensures filled { OnOk result (IsFilled sent.old.room (sent.old.bindings ++ repetitions
         (visible (S.shows source.now)
         (S.instances source.now)) most (names_of asked.now)) sent.new.bindings) }
+    ensures stands { AreStands (S.stands source.now) sent.new.stands (names_of sent.new.bindings) }
     ensures room { sent.new.room ≡ sent.old.room }
     ensures work { let most = most_looks (S.shows source.now) (S.instances source.now) in
         steps.new + length sent.old.bindings * most
@@ -234,11 +272,13 @@ fn send_list<S: Successors<L>, L: Ledger>(
     sent: &mut Sent,
     steps: &mut Steps<L>,
 ) -> Result<(), AllocError>
+    requires stands { AreStands (S.stands source.now) sent.old.stands (names_of sent.old.bindings) }
     requires once { once ≤ length asked.now }
     requires encodable { AreEncodable asked.now }
     ensures filled { OnOk result (IsFilled sent.old.room (sent.old.bindings ++ bulk_list
         (visible (S.shows source.now) (S.instances source.now)) once most
         (names_of asked.now)) sent.new.bindings) }
+    ensures stands { AreStands (S.stands source.now) sent.new.stands (names_of sent.new.bindings) }
     ensures room { sent.new.room ≡ sent.old.room }
     ensures work { let most = most_looks (S.shows source.now) (S.instances source.now) in
         steps.new + length sent.old.bindings * most

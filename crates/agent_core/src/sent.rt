@@ -1,8 +1,10 @@
 //! The bindings of a GetBulk that fit so far (RFC 3416, 4.2.3).
-ghost use Rattle.std.specs.Prelude.{◌≡◌, ◌≤◌, ◌-◌, ◌++◌, [], ◌∷◌, IfOk, OnErr, IsTrue, true, false, length, drop};
+ghost use Rattle.std.specs.Prelude.{◌≡◌, ◌≤◌, ◌-◌, ◌++◌, [], ◌∷◌, IfOk, OnErr, IsTrue, true, false, length, drop, nat_le, slice_get, if◌then◌else◌, None};
+ghost use Rattle.std.specs.Option.{option_copied};
 ghost use Rattle.message_core.specs.Encodable.{IsEncodableBinding, AreEncodable};
 ghost use Rattle.message_core.specs.declared.limits.TheConstants.{MAX_REPLY};
 ghost use Rattle.agent_core.specs.Fitting.{total, fit_into};
+ghost use Rattle.agent_core.specs.Sending.{kept};
 
 use crate::source::Stand;
 use arrayvec::ArrayVec;
@@ -10,15 +12,16 @@ use message_core::{Binding, Bindings, encoded_len};
 use std::alloc::{AllocError, Global};
 use std::marker::Model;
 
-// Of how many bindings a walk's stand is kept: of the columns of a repetition, but for one of more.
-const MAX_STANDS: usize = 16;
+/// Of how many bindings it is kept where a walk stands: of the columns of a repetition, but for one
+/// of more.
+pub const MAX_STANDS: usize = 16;
 
 /// The bindings of a GetBulk's reply so far, and the octets that they may have (RFC 3416, 4.2.3: as
 /// many as fit).
 #[derive(Drop)]
 pub struct Sent {
     bindings: Vec<Binding>,
-    // Where walks stand at the names of the last of them, the last one first.
+    // Where walks stand at the names of the last of them.
     stands: ArrayVec<Stand, MAX_STANDS>,
     used: usize,
     room: usize,
@@ -64,7 +67,7 @@ impl Sent {
         ensures taken { IfOk result (λ taken. IsTrue taken →
             self.new.bindings ≡ self.old.bindings ++ binding ∷ []) }
         ensures stand { IfOk result (λ taken. IsTrue taken →
-            self.new.stands ≡ self.old.stands ++ stand ∷ []) }
+            self.new.stands ≡ kept self.old.stands stand) }
         ensures full { IfOk result (λ taken. taken ≡ false → self.new ≡ self.old) }
         ensures fits { IfOk result (λ taken.
             taken ≡ fit_into self.old.room (self.old.bindings ++ binding ∷ [])) }
@@ -75,7 +78,7 @@ impl Sent {
             return Ok(false);
         };
         self.bindings.push(binding)?;
-        self.keep(stand);
+        keep(&mut self.stands, stand);
         self.used += len;
         Ok(true)
     }
@@ -90,20 +93,14 @@ impl Sent {
         &all[all.len() - count..]
     }
 
-    // Keeps where a walk stands at the name of the last binding.
-    fn keep(&mut self, stand: Stand) {
-        if self.stands.is_full() {
-            self.stands.pop();
-        }
-        self.stands.insert(0, stand);
-    }
-
     /// Where a walk stands at the name of the binding so many places back, where that is kept.
     pub fn stand(&self, back: usize) -> Option<&Stand>
         requires { 1 ≤ back }
-        ensures { option_copied result ≡ slice_get self.now.stands (back - 1) }
+        ensures { option_copied result ≡ (if nat_le back (length self.now.stands)
+            then slice_get self.now.stands (length self.now.stands - back) else None) }
     {
-        self.stands.as_slice().get(back - 1)
+        let all = self.stands.as_slice();
+        all.get(all.len().checked_sub(back)?)
     }
 
     /// The bindings. Takes no memory.
@@ -120,4 +117,15 @@ impl Sent {
         } = self;
         Bindings::from_vec(bindings)
     }
+}
+
+// Keeps where a walk stands at the name of the last binding, in place of the first one where all
+// places are taken.
+fn keep(stands: &mut ArrayVec<Stand, MAX_STANDS>, stand: Stand)
+    ensures { stands.new.items ≡ kept stands.old.items stand }
+{
+    if stands.is_full() {
+        stands.remove(0);
+    }
+    stands.push(stand);
 }

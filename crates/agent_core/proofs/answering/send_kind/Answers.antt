@@ -22,11 +22,11 @@ put-requires-clause-encodable g c =
     elim c.match-request.branch [
       | in-Get+in_ok-answers-in-Get w ↦
           (let all : AreEncodable w.in_ok-answers-in-Get.answers = rw (w.in_ok-answers-in-Get.ensures.answers, c.as_slice-asked.ensures)
-          (answers_encodable (g.S.Source.objects c.args.source.now) (g.V.View.shows c.args.view.now) (g.S.Successors.instances c.args.source.now) c.args.request.now.bindings c.known.ensures.encodable c.requires.encodable) in
+          (answers_encodable (g.S.Source.objects c.args.source.now) (g.S.View.shows c.args.source.now) (g.S.Successors.instances c.args.source.now) c.args.request.now.bindings c.known.ensures.encodable c.requires.encodable) in
           subst AreEncodable (sym (c.as_slice.ensures ∙ w.answers-is)) all)
       | in-GetNext+in_ok-answers-in-GetNext w ↦
           (let all : AreEncodable w.in_ok-answers-in-GetNext.answers = rw (w.in_ok-answers-in-GetNext.ensures.answers, c.as_slice-asked.ensures)
-          (nexts_encodable (g.V.View.shows c.args.view.now) (g.S.Successors.instances c.args.source.now) c.args.request.now.bindings c.known.ensures.encodable c.requires.encodable) in
+          (nexts_encodable (g.S.View.shows c.args.source.now) (g.S.Successors.instances c.args.source.now) c.args.request.now.bindings c.known.ensures.encodable c.requires.encodable) in
           subst AreEncodable (sym (c.as_slice.ensures ∙ w.answers-is)) all)
       | in-GetBulk+in_ok-answers-in-GetBulk w ↦
           subst AreEncodable (sym (c.as_slice.ensures ∙ w.answers-is)) w.in_ok-answers-in-GetBulk.ensures.encodable
@@ -35,18 +35,18 @@ put-requires-clause-encodable g c =
 pub returns-clause-sent : goal.returns-clause-sent
 returns-clause-sent g c =
     let result : List Binding → Type 0 = λ (bs : List Binding). IsSent (reply_within_limit (answer_to c.args.request.now NoError (pos 0) bs)) c.put.result c.put.new.self.reply in
-    let by_kind : Kind → Type 0 = λ (k : Kind). IsSent (kind_reply (g.S.Source.objects c.args.source.now) (g.V.View.shows c.args.view.now) (g.S.Successors.instances c.args.source.now) c.args.request.now k) c.put.result c.put.new.self.reply in
+    let by_kind : Kind → Type 0 = λ (k : Kind). IsSent (kind_reply (g.S.Source.objects c.args.source.now) (g.S.View.shows c.args.source.now) (g.S.Successors.instances c.args.source.now) c.args.request.now k) c.put.result c.put.new.self.reply in
     elim c.match-request.branch [
       | in-Get+in_ok-answers-in-Get w ↦
-          (let list : c.as_slice.result.now ≡ get_answers (g.S.Source.objects c.args.source.now) (g.V.View.shows c.args.view.now) (g.S.Successors.instances c.args.source.now) c.args.request.now.bindings =
+          (let list : c.as_slice.result.now ≡ get_answers (g.S.Source.objects c.args.source.now) (g.S.View.shows c.args.source.now) (g.S.Successors.instances c.args.source.now) c.args.request.now.bindings =
           (c.as_slice.ensures ∙ w.answers-is) ∙ rw (w.in_ok-answers-in-Get.ensures.answers, c.as_slice-asked.ensures) refl in
           subst by_kind (sym w.in-Get.is) (subst result list c.put.ensures.sent))
       | in-GetNext+in_ok-answers-in-GetNext w ↦
-          (let list : c.as_slice.result.now ≡ next_answers (visible (g.V.View.shows c.args.view.now) (g.S.Successors.instances c.args.source.now)) (names_of c.args.request.now.bindings) =
+          (let list : c.as_slice.result.now ≡ next_answers (visible (g.S.View.shows c.args.source.now) (g.S.Successors.instances c.args.source.now)) (names_of c.args.request.now.bindings) =
           (c.as_slice.ensures ∙ w.answers-is) ∙ rw (w.in_ok-answers-in-GetNext.ensures.answers, c.as_slice-asked.ensures) refl in
           subst by_kind (sym w.in-GetNext.is) (subst result list c.put.ensures.sent))
       | in-GetBulk+in_ok-answers-in-GetBulk w ↦
-          (let all : List Binding = asked_list (visible (g.V.View.shows c.args.view.now) (g.S.Successors.instances c.args.source.now)) c.args.request.now in
+          (let all : List Binding = asked_list (visible (g.S.View.shows c.args.source.now) (g.S.Successors.instances c.args.source.now)) c.args.request.now in
           subst by_kind (sym w.in-GetBulk.is)
           (subst (λ (reply : Reply). IsSent reply c.put.result c.put.new.self.reply)
           (ap (λ (bs : List Binding). reply_within_limit (answer_to c.args.request.now NoError (pos 0) bs)) ((c.as_slice.ensures ∙ w.answers-is) ∙ w.in_ok-answers-in-GetBulk.ensures.answer)

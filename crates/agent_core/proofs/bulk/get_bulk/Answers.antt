@@ -12,7 +12,7 @@ use Rattle.agent_core.proofs.bulk.get_bulk.Goals as goal
 
 pub returns-clause-answer : goal.returns-clause-answer
 returns-clause-answer g c =
-    let rows : List Binding = visible (g.V.View.shows c.args.view.now) (g.S.Successors.instances c.args.source.now) in
+    let rows : List Binding = visible (g.S.View.shows c.args.source.now) (g.S.Successors.instances c.args.source.now) in
     let request = c.args.request.now in
     let most : c.max_repetitions-most.result ≡ count_of request.second = c.max_repetitions-most.ensures in
     let asked : c.as_slice-asked.result.now ≡ request.bindings = c.as_slice-asked.ensures in
@@ -30,14 +30,14 @@ returns-clause-answer g c =
 -- a successor is looked for for each binding that is sent, and one more
 pub returns-clause-work : goal.returns-clause-work
 returns-clause-work g c =
-    let most : ℕ = most_looks (g.V.View.shows c.args.view.now) (g.S.Successors.instances c.args.source.now) in
+    let most : ℕ = most_looks (g.S.View.shows c.args.source.now) (g.S.Successors.instances c.args.source.now) in
     let sent : List Binding = c.send_list-filled.new.sent.bindings in
     let looks : c.send_list-filled.new.steps ≤ c.args.steps.now + (length sent + 1) * most = omega (arith, c.send_list-filled.ensures.work) in
     subst (λ (bs : List Binding). c.send_list-filled.new.steps ≤ c.args.steps.now + (length bs + 1) * most) (sym c.into_bindings-bindings.ensures.value) looks
 
 pub returns-clause-most_work : goal.returns-clause-most_work
 returns-clause-most_work g c =
-    let most : ℕ = most_looks (g.V.View.shows c.args.view.now) (g.S.Successors.instances c.args.source.now) in
+    let most : ℕ = most_looks (g.S.View.shows c.args.source.now) (g.S.Successors.instances c.args.source.now) in
     let sent : List Binding = c.send_list-filled.new.sent.bindings in
     let room : c.new-sent.result.room ≡ c.bindings_room.result = ap (λ s. s.room) c.new-sent.ensures in
     let within : total sent ≤ c.bindings_room.result = subst (λ r. total sent ≤ r) (c.send_list-filled.ensures.room ∙ room) c.into_bindings-bindings.ensures.within in
@@ -47,7 +47,7 @@ returns-clause-most_work g c =
 -- the same where memory fails
 pub returns-in_err-filled-clause-most_work : goal.returns-in_err-filled-clause-most_work
 returns-in_err-filled-clause-most_work g c =
-    let most : ℕ = most_looks (g.V.View.shows c.args.view.now) (g.S.Successors.instances c.args.source.now) in
+    let most : ℕ = most_looks (g.S.View.shows c.args.source.now) (g.S.Successors.instances c.args.source.now) in
     let sent : List Binding = c.send_list-filled.new.sent.bindings in
     let room : c.new-sent.result.room ≡ c.bindings_room.result = ap (λ s. s.room) c.new-sent.ensures in
     let within : total sent ≤ c.bindings_room.result = subst (λ r. total sent ≤ r) (c.send_list-filled.ensures.room ∙ room) c.into_bindings-bindings.ensures.within in

@@ -9,30 +9,31 @@ use Rattle.agent_core.proofs.bulk.go_on.Goals as goal
 
 pub returns-then-has_ended-clause-filled : goal.returns-then-has_ended-clause-filled
 returns-then-has_ended-clause-filled g c =
-    further_ended (visible (g.V.View.shows c.args.view.now) (g.S.Successors.instances c.args.source.now)) (c.args.most - c.loop-i.i) c.args.sent.now.room (drop (length c.loop-i.sent.bindings - c.args.columns) c.loop-i.sent.bindings) _ c.loop-i.sent.bindings c.loop-i.invariant.all (ap all_end (sym c.last.ensures.value) ∙ sym c.has_ended.ensures ∙ c.if-has_ended.true)
+    further_ended (visible (g.S.View.shows c.args.source.now) (g.S.Successors.instances c.args.source.now)) (c.args.most - c.loop-i.i) c.args.sent.now.room (drop (length c.loop-i.sent.bindings - c.args.columns) c.loop-i.sent.bindings) _ c.loop-i.sent.bindings c.loop-i.invariant.all (ap all_end (sym c.last.ensures.value) ∙ sym c.has_ended.ensures ∙ c.if-has_ended.true)
 
 pub returns-then-not-branch-clause-filled : goal.returns-then-not-branch-clause-filled
 returns-then-not-branch-clause-filled g c =
     let cut : c.in_ok-repeat_last.field-0 ≡ false = search rules in
-    repeat_cut (visible (g.V.View.shows c.args.view.now) (g.S.Successors.instances c.args.source.now)) (c.args.most - c.loop-i.i) (c.args.most - (c.loop-i.i + 1)) c.repeat_last.new.sent.room c.args.sent.now.room (names_of (drop (length c.loop-i.sent.bindings - c.args.columns) c.loop-i.sent.bindings)) _ c.loop-i.sent.bindings c.repeat_last.new.sent.bindings (omega (arith, c.loop-i-test.true)) (search rules)
-    (further_going (visible (g.V.View.shows c.args.view.now) (g.S.Successors.instances c.args.source.now)) (c.args.most - c.loop-i.i) (drop (length c.loop-i.sent.bindings - c.args.columns) c.loop-i.sent.bindings) _ c.loop-i.sent.bindings c.loop-i.invariant.all (ap all_end (sym c.last.ensures.value) ∙ sym c.has_ended.ensures ∙ c.if-has_ended.false)) (c.in_ok-repeat_last.ensures.cut cut)
+    repeat_cut (visible (g.S.View.shows c.args.source.now) (g.S.Successors.instances c.args.source.now)) (c.args.most - c.loop-i.i) (c.args.most - (c.loop-i.i + 1)) c.repeat_last.new.sent.room c.args.sent.now.room (names_of (drop (length c.loop-i.sent.bindings - c.args.columns) c.loop-i.sent.bindings)) _ c.loop-i.sent.bindings c.repeat_last.new.sent.bindings (omega (arith, c.loop-i-test.true)) (search rules)
+    (further_going (visible (g.S.View.shows c.args.source.now) (g.S.Successors.instances c.args.source.now)) (c.args.most - c.loop-i.i) (drop (length c.loop-i.sent.bindings - c.args.columns) c.loop-i.sent.bindings) _ c.loop-i.sent.bindings c.loop-i.invariant.all (ap all_end (sym c.last.ensures.value) ∙ sym c.has_ended.ensures ∙ c.if-has_ended.false)) (c.in_ok-repeat_last.ensures.cut cut)
 
 pub loop-i-preserved : goal.loop-i-preserved
 loop-i-preserved g c =
     let whole : c.in_ok-repeat_last.field-0 ≡ true = search rules in
-    let is : c.repeat_last.new.sent.bindings ≡ c.loop-i.sent.bindings ++ next_answers (visible (g.V.View.shows c.args.view.now) (g.S.Successors.instances c.args.source.now)) (names_of (drop (length c.loop-i.sent.bindings - c.args.columns) c.loop-i.sent.bindings)) = c.in_ok-repeat_last.ensures.whole whole in
+    let is : c.repeat_last.new.sent.bindings ≡ c.loop-i.sent.bindings ++ next_answers (visible (g.S.View.shows c.args.source.now) (g.S.Successors.instances c.args.source.now)) (names_of (drop (length c.loop-i.sent.bindings - c.args.columns) c.loop-i.sent.bindings)) = c.in_ok-repeat_last.ensures.whole whole in
     let count : c.args.columns ≡ length (names_of (drop (length c.loop-i.sent.bindings - c.args.columns) c.loop-i.sent.bindings)) = last_names c.loop-i.sent.bindings c.args.columns c.loop-i.invariant.columns in
     record {
-      all = repeat_more (visible (g.V.View.shows c.args.view.now) (g.S.Successors.instances c.args.source.now)) (c.args.most - c.loop-i.i) (c.args.most - (c.loop-i.i + 1)) c.args.columns (names_of (drop (length c.loop-i.sent.bindings - c.args.columns) c.loop-i.sent.bindings)) _ c.loop-i.sent.bindings c.repeat_last.new.sent.bindings (omega (arith, c.loop-i-test.true)) (further_going (visible (g.V.View.shows c.args.view.now) (g.S.Successors.instances c.args.source.now)) (c.args.most - c.loop-i.i) (drop (length c.loop-i.sent.bindings - c.args.columns) c.loop-i.sent.bindings) _ c.loop-i.sent.bindings c.loop-i.invariant.all (ap all_end (sym c.last.ensures.value) ∙ sym c.has_ended.ensures ∙ c.if-has_ended.false)) is count;
+      all = repeat_more (visible (g.S.View.shows c.args.source.now) (g.S.Successors.instances c.args.source.now)) (c.args.most - c.loop-i.i) (c.args.most - (c.loop-i.i + 1)) c.args.columns (names_of (drop (length c.loop-i.sent.bindings - c.args.columns) c.loop-i.sent.bindings)) _ c.loop-i.sent.bindings c.repeat_last.new.sent.bindings (omega (arith, c.loop-i-test.true)) (further_going (visible (g.S.View.shows c.args.source.now) (g.S.Successors.instances c.args.source.now)) (c.args.most - c.loop-i.i) (drop (length c.loop-i.sent.bindings - c.args.columns) c.loop-i.sent.bindings) _ c.loop-i.sent.bindings c.loop-i.invariant.all (ap all_end (sym c.last.ensures.value) ∙ sym c.has_ended.ensures ∙ c.if-has_ended.false)) is count;
+      stands = c.in_ok-repeat_last.ensures.stands;
       room = search rules;
       work = omega (arith, c.loop-i.invariant.work, c.in_ok-repeat_last.ensures.whole_work whole);
-      columns = last_count (visible (g.V.View.shows c.args.view.now) (g.S.Successors.instances c.args.source.now)) (names_of (drop (length c.loop-i.sent.bindings - c.args.columns) c.loop-i.sent.bindings)) c.args.columns c.loop-i.sent.bindings c.repeat_last.new.sent.bindings count is;
+      columns = last_count (visible (g.S.View.shows c.args.source.now) (g.S.Successors.instances c.args.source.now)) (names_of (drop (length c.loop-i.sent.bindings - c.args.columns) c.loop-i.sent.bindings)) c.args.columns c.loop-i.sent.bindings c.repeat_last.new.sent.bindings count is;
     }
 
 pub returns-clause-filled : goal.returns-clause-filled
 returns-clause-filled g c =
-    further_done (visible (g.V.View.shows c.args.view.now) (g.S.Successors.instances c.args.source.now)) (c.args.most - c.loop-i.i) c.args.sent.now.room (drop (length c.loop-i.sent.bindings - c.args.columns) c.loop-i.sent.bindings) _ c.loop-i.sent.bindings _ refl (omega arith) c.loop-i.invariant.all
+    further_done (visible (g.S.View.shows c.args.source.now) (g.S.Successors.instances c.args.source.now)) (c.args.most - c.loop-i.i) c.args.sent.now.room (drop (length c.loop-i.sent.bindings - c.args.columns) c.loop-i.sent.bindings) _ c.loop-i.sent.bindings _ refl (omega arith) c.loop-i.invariant.all
 
 pub returns-clause-work : goal.returns-clause-work
 returns-clause-work g c =
-    beside_within c.args.steps.now c.loop-i.steps (length c.args.sent.now.bindings) (length c.loop-i.sent.bindings) (most_looks (g.V.View.shows c.args.view.now) (g.S.Successors.instances c.args.source.now)) c.loop-i.invariant.work
+    beside_within c.args.steps.now c.loop-i.steps (length c.args.sent.now.bindings) (length c.loop-i.sent.bindings) (most_looks (g.S.View.shows c.args.source.now) (g.S.Successors.instances c.args.source.now)) c.loop-i.invariant.work

@@ -6,19 +6,19 @@ use Rattle.agent_core.proofs.bulk.repeat.Goals as goal
 
 pub returns-then-most-eq0-clause-filled : goal.returns-then-most-eq0-clause-filled
 returns-then-most-eq0-clause-filled g c =
-    repeat_none (visible (g.V.View.shows c.args.view.now) (g.S.Successors.instances c.args.source.now)) c.args.most c.args.sent.now.room (names_of c.args.asked.now) c.args.sent.now.bindings (omega arith)
+    repeat_none (visible (g.S.View.shows c.args.source.now) (g.S.Successors.instances c.args.source.now)) c.args.most c.args.sent.now.room (names_of c.args.asked.now) c.args.sent.now.bindings (omega arith)
 
 pub returns-then-not-branch-clause-filled : goal.returns-then-not-branch-clause-filled
 returns-then-not-branch-clause-filled g c =
-    repeat_cut (visible (g.V.View.shows c.args.view.now) (g.S.Successors.instances c.args.source.now)) c.args.most (c.args.most - 1) c.repeat_once.new.sent.room c.args.sent.now.room (names_of c.args.asked.now) _ c.args.sent.now.bindings c.repeat_once.new.sent.bindings (omega arith) (search rules)
+    repeat_cut (visible (g.S.View.shows c.args.source.now) (g.S.Successors.instances c.args.source.now)) c.args.most (c.args.most - 1) c.repeat_once.new.sent.room c.args.sent.now.room (names_of c.args.asked.now) _ c.args.sent.now.bindings c.repeat_once.new.sent.bindings (omega arith) (search rules)
     refl (c.in_ok-repeat_once.ensures.cut c.if-not-branch.true)
 
-pub go_on-requires : goal.go_on-requires
-go_on-requires g c =
-    last_count (visible (g.V.View.shows c.args.view.now) (g.S.Successors.instances c.args.source.now)) (names_of c.args.asked.now) (length c.args.asked.now) c.args.sent.now.bindings c.repeat_once.new.sent.bindings (sym (names-length c.args.asked.now)) (c.in_ok-repeat_once.ensures.whole c.if-not-branch.false)
+pub go_on-requires-clause-columns : goal.go_on-requires-clause-columns
+go_on-requires-clause-columns g c =
+    last_count (visible (g.S.View.shows c.args.source.now) (g.S.Successors.instances c.args.source.now)) (names_of c.args.asked.now) (length c.args.asked.now) c.args.sent.now.bindings c.repeat_once.new.sent.bindings (sym (names-length c.args.asked.now)) (c.in_ok-repeat_once.ensures.whole c.if-not-branch.false)
 
 pub returns-clause-filled : goal.returns-clause-filled
 returns-clause-filled g c =
     filled_ok c.go_on.result c.repeat_once.new.sent.room c.args.sent.now.room _ _ c.go_on.new.sent.bindings c.in_ok-repeat_once.ensures.room
-    (sym (repeat_more (visible (g.V.View.shows c.args.view.now) (g.S.Successors.instances c.args.source.now)) c.args.most (c.args.most - 1) (length c.args.asked.now) (names_of c.args.asked.now) _ c.args.sent.now.bindings c.repeat_once.new.sent.bindings (omega arith) refl (c.in_ok-repeat_once.ensures.whole c.if-not-branch.false) (sym (names-length c.args.asked.now))))
+    (sym (repeat_more (visible (g.S.View.shows c.args.source.now) (g.S.Successors.instances c.args.source.now)) c.args.most (c.args.most - 1) (length c.args.asked.now) (names_of c.args.asked.now) _ c.args.sent.now.bindings c.repeat_once.new.sent.bindings (omega arith) refl (c.in_ok-repeat_once.ensures.whole c.if-not-branch.false) (sym (names-length c.args.asked.now))))
     c.go_on.ensures.filled

@@ -7,41 +7,42 @@ use Rattle.agent_core.specs.Looking.{most_looks}
 use Rattle.agent_core.proofs.Looks.{beside_within, pushed_looks, cut_looks}
 use Rattle.agent_core.proofs.bulk.repeat_once.Goals as goal
 
-pub send_next-requires : goal.send_next-requires
-send_next-requires g c =
-    let encodable : IsEncodableBinding c.binding-item.result = subst IsEncodableBinding (sym c.binding-item.is) (all_at IsEncodableBinding c.args.asked.now c.loop-binding.binding-index c.binding-item.result c.requires c.loop-binding-test.true) in
+pub send_next-requires-clause-root : goal.send_next-requires-clause-root
+send_next-requires-clause-root g c =
+    let encodable : IsEncodableBinding c.binding-item.result = subst IsEncodableBinding (sym c.binding-item.is) (all_at IsEncodableBinding c.args.asked.now c.loop-binding.binding-index c.binding-item.result c.requires.encodable c.loop-binding-test.true) in
     encodable.name
 
 pub returns-then-not-branch-clause-cut : goal.returns-then-not-branch-clause-cut
 returns-then-not-branch-clause-cut g c = λ _ more.
-    once_cut (visible (g.V.View.shows c.args.view.now) (g.S.Successors.instances c.args.source.now)) (names_of c.args.asked.now) c.loop-binding.binding-index c.binding-item.result.name c.send_next.new.sent.room c.args.sent.now.bindings c.loop-binding.sent.bindings c.send_next.new.sent.bindings more
+    once_cut (visible (g.S.View.shows c.args.source.now) (g.S.Successors.instances c.args.source.now)) (names_of c.args.asked.now) c.loop-binding.binding-index c.binding-item.result.name c.send_next.new.sent.room c.args.sent.now.bindings c.loop-binding.sent.bindings c.send_next.new.sent.bindings more
     (omega (arith, c.loop-binding-test.true, names-length c.args.asked.now)) (names-at c.args.asked.now c.loop-binding.binding-index c.binding-item.result c.loop-binding-test.true c.binding-item.is) c.loop-binding.invariant.whole (search rules) (search rules)
 
 pub loop-binding-preserved : goal.loop-binding-preserved
 loop-binding-preserved g c = record {
   whole =
-      once_more (visible (g.V.View.shows c.args.view.now) (g.S.Successors.instances c.args.source.now)) (names_of c.args.asked.now) c.loop-binding.binding-index c.binding-item.result.name c.args.sent.now.bindings c.loop-binding.sent.bindings c.send_next.new.sent.bindings
+      once_more (visible (g.S.View.shows c.args.source.now) (g.S.Successors.instances c.args.source.now)) (names_of c.args.asked.now) c.loop-binding.binding-index c.binding-item.result.name c.args.sent.now.bindings c.loop-binding.sent.bindings c.send_next.new.sent.bindings
       (omega (arith, c.loop-binding-test.true, names-length c.args.asked.now)) (names-at c.args.asked.now c.loop-binding.binding-index c.binding-item.result c.loop-binding-test.true c.binding-item.is) c.loop-binding.invariant.whole (search rules);
+  stands = c.in_ok-send_next.ensures.stands;
   room = search rules;
   work =
-      pushed_looks c.args.steps.now c.loop-binding.steps c.send_next.new.steps (most_looks (g.V.View.shows c.args.view.now) (g.S.Successors.instances c.args.source.now))
-      c.args.sent.now.bindings c.loop-binding.sent.bindings c.send_next.new.sent.bindings (next_answer (visible (g.V.View.shows c.args.view.now) (g.S.Successors.instances c.args.source.now)) c.binding-item.result.name)
+      pushed_looks c.args.steps.now c.loop-binding.steps c.send_next.new.steps (most_looks (g.S.View.shows c.args.source.now) (g.S.Successors.instances c.args.source.now))
+      c.args.sent.now.bindings c.loop-binding.sent.bindings c.send_next.new.sent.bindings (next_answer (visible (g.S.View.shows c.args.source.now) (g.S.Successors.instances c.args.source.now)) c.binding-item.result.name)
       c.loop-binding.invariant.work c.in_ok-send_next.ensures.work (search rules);
 }
 
 pub returns-in_err-send_next-clause-work : goal.returns-in_err-send_next-clause-work
 returns-in_err-send_next-clause-work g c =
-    cut_looks c.args.steps.now c.loop-binding.steps c.send_next.new.steps (most_looks (g.V.View.shows c.args.view.now) (g.S.Successors.instances c.args.source.now))
+    cut_looks c.args.steps.now c.loop-binding.steps c.send_next.new.steps (most_looks (g.S.View.shows c.args.source.now) (g.S.Successors.instances c.args.source.now))
     c.args.sent.now.bindings c.loop-binding.sent.bindings c.send_next.new.sent.bindings c.loop-binding.invariant.work (search rules) (search rules)
 
 pub returns-then-not-branch-clause-work : goal.returns-then-not-branch-clause-work
 returns-then-not-branch-clause-work g c =
-    cut_looks c.args.steps.now c.loop-binding.steps c.send_next.new.steps (most_looks (g.V.View.shows c.args.view.now) (g.S.Successors.instances c.args.source.now))
+    cut_looks c.args.steps.now c.loop-binding.steps c.send_next.new.steps (most_looks (g.S.View.shows c.args.source.now) (g.S.Successors.instances c.args.source.now))
     c.args.sent.now.bindings c.loop-binding.sent.bindings c.send_next.new.sent.bindings c.loop-binding.invariant.work (search rules) (search rules)
 
 pub returns-clause-work : goal.returns-clause-work
 returns-clause-work g c =
-    beside_within c.args.steps.now c.loop-binding.steps (length c.args.sent.now.bindings) (length c.loop-binding.sent.bindings) (most_looks (g.V.View.shows c.args.view.now) (g.S.Successors.instances c.args.source.now)) c.loop-binding.invariant.work
+    beside_within c.args.steps.now c.loop-binding.steps (length c.args.sent.now.bindings) (length c.loop-binding.sent.bindings) (most_looks (g.S.View.shows c.args.source.now) (g.S.Successors.instances c.args.source.now)) c.loop-binding.invariant.work
 
 pub returns-clause-whole_work : goal.returns-clause-whole_work
 returns-clause-whole_work g c = λ _. c.loop-binding.invariant.work

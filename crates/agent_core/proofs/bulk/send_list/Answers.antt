@@ -7,22 +7,22 @@ use Rattle.agent_core.specs.Bulk.{repetitions}
 use Rattle.agent_core.proofs.Fits.{all_take, all_drop, list_parts, list_whole, filled_at, filled_ok}
 use Rattle.agent_core.proofs.bulk.send_list.Goals as goal
 
-pub repeat_once-requires : goal.repeat_once-requires
-repeat_once-requires g c = subst AreEncodable (sym c.split_at.ensures.front) (all_take IsEncodableBinding c.args.asked.now c.args.once c.requires.encodable)
+pub repeat_once-requires-clause-encodable : goal.repeat_once-requires-clause-encodable
+repeat_once-requires-clause-encodable g c = subst AreEncodable (sym c.split_at.ensures.front) (all_take IsEncodableBinding c.args.asked.now c.args.once c.requires.encodable)
 
 pub returns-then-not-branch-clause-filled : goal.returns-then-not-branch-clause-filled
 returns-then-not-branch-clause-filled g c =
-    let rows : List Binding = visible (g.V.View.shows c.args.view.now) (g.S.Successors.instances c.args.source.now) in
+    let rows : List Binding = visible (g.S.View.shows c.args.source.now) (g.S.Successors.instances c.args.source.now) in
     filled_at c.repeat_once.new.sent.room c.args.sent.now.room _ _ c.repeat_once.new.sent.bindings c.in_ok-repeat_once.ensures.room
     (ap (λ z. c.args.sent.now.bindings ++ z) (list_parts rows c.args.once c.args.most c.args.asked.now c.split_at.result.0.now c.split_at.result.1.now c.split_at.ensures.front c.split_at.ensures.back))
     (c.in_ok-repeat_once.ensures.cut c.if-not-branch.true (repetitions rows c.args.most (names_of c.split_at.result.1.now)))
 
-pub repeat-requires : goal.repeat-requires
-repeat-requires g c = subst AreEncodable (sym c.split_at.ensures.back) (all_drop IsEncodableBinding c.args.asked.now c.args.once c.requires.encodable)
+pub repeat-requires-clause-encodable : goal.repeat-requires-clause-encodable
+repeat-requires-clause-encodable g c = subst AreEncodable (sym c.split_at.ensures.back) (all_drop IsEncodableBinding c.args.asked.now c.args.once c.requires.encodable)
 
 pub returns-clause-filled : goal.returns-clause-filled
 returns-clause-filled g c =
-    let rows : List Binding = visible (g.V.View.shows c.args.view.now) (g.S.Successors.instances c.args.source.now) in
+    let rows : List Binding = visible (g.S.View.shows c.args.source.now) (g.S.Successors.instances c.args.source.now) in
     filled_ok c.repeat.result c.repeat_once.new.sent.room c.args.sent.now.room _ _ c.repeat.new.sent.bindings c.in_ok-repeat_once.ensures.room
     (list_whole rows c.args.once c.args.most c.args.asked.now c.split_at.result.0.now c.split_at.result.1.now c.args.sent.now.bindings c.repeat_once.new.sent.bindings
     (c.in_ok-repeat_once.ensures.whole c.if-not-branch.false) c.split_at.ensures.front c.split_at.ensures.back)

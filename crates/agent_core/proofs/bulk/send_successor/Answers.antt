@@ -8,7 +8,7 @@ use Rattle.agent_core.proofs.bulk.send_successor.Goals as goal
 
 pub returns-clause-fits : goal.returns-clause-fits
 returns-clause-fits g c =
-    let rows : List Binding = (visible (g.V.View.shows c.args.view.now) (g.S.Successors.instances c.args.source.now)) in
+    let rows : List Binding = (visible (g.S.View.shows c.args.source.now) (g.S.Successors.instances c.args.source.now)) in
     let name : c.index-last-0.result.name ≡ (get_or (names_of c.args.sent.now.bindings) (length c.args.sent.now.bindings - c.args.back) []) = first_name c.args.sent.now.bindings c.args.back c.last.result.now c.index-last-0.result c.requires.some c.requires.there c.last.ensures.value c.index-last-0.is in
     let row : c.in_ok-row.row ≡ next_answer rows (get_or (names_of c.args.sent.now.bindings) (length c.args.sent.now.bindings - c.args.back) []) = c.in_ok-row.ensures.answer ∙ ap (next_answer rows) name in
     subst (λ (b : Binding). IfOk c.offer.result (λ taken. taken ≡ fit_into c.args.sent.now.room (c.args.sent.now.bindings ++ b ∷ []))) row c.offer.ensures.fits

@@ -5,6 +5,6 @@ use Rattle.agent_core.proofs.getting.get_all.Given as goal
 
 abbrev pub invariant-loop-binding : goal.invariant-loop-binding
 invariant-loop-binding g l = record {
-  answers : l.answers ≡ get_answers (g.S.Source.objects l.source) (g.V.View.shows l.view) (g.S.Successors.instances l.source) (take l.binding-index l.asked);
-  work : l.steps ≤ l.fn.steps + l.binding-index * most_looks (g.V.View.shows l.view) (g.S.Successors.instances l.source);
+  answers : l.answers ≡ get_answers (g.S.Source.objects l.source) (g.S.View.shows l.source) (g.S.Successors.instances l.source) (take l.binding-index l.asked);
+  work : l.steps ≤ l.fn.steps + l.binding-index * most_looks (g.S.View.shows l.source) (g.S.Successors.instances l.source);
 }

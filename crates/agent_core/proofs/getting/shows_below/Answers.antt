@@ -7,20 +7,20 @@ use Rattle.agent_core.proofs.getting.shows_below.Goals as goal
 
 pub returns-in-Some-clause-answer : goal.returns-in-Some-clause-answer
 returns-in-Some-clause-answer g c =
-    let rows : List Binding = visible (g.V.View.shows c.args.view.now) (g.S.Successors.instances c.args.source.now) in
+    let rows : List Binding = visible (g.S.View.shows c.args.source.now) (g.S.Successors.instances c.args.source.now) in
     sym (below-itself c.args.object.now rows c.in-Some._itself (sym (c.in_ok-_itself.ensures) ∙ c.in-Some.is))
 
 pub returns-in-Some-2-clause-answer : goal.returns-in-Some-2-clause-answer
 returns-in-Some-2-clause-answer g c =
-    let rows : List Binding = visible (g.V.View.shows c.args.view.now) (g.S.Successors.instances c.args.source.now) in
+    let rows : List Binding = visible (g.S.View.shows c.args.source.now) (g.S.Successors.instances c.args.source.now) in
     let none : value_of rows c.args.object.now ≡ None = sym (c.in_ok-_itself.ensures) ∙ c.in_default.is in
     let next : next_of rows c.args.object.now ≡ Some c.in-Some-2.row = sym (c.in_ok-row.ensures.found) ∙ c.in-Some-2.is in
     c.is_prefix.ensures.test
-    ∙ sym (below-first c.args.object.now rows (visible-rising (g.V.View.shows c.args.view.now) (g.S.Successors.instances c.args.source.now) c.known.ensures.rising) none ∙ ap (first_below c.args.object.now) next)
+    ∙ sym (below-first c.args.object.now rows (visible-rising (g.S.View.shows c.args.source.now) (g.S.Successors.instances c.args.source.now) c.known.ensures.rising) none ∙ ap (first_below c.args.object.now) next)
 
 pub returns-in-None-clause-answer : goal.returns-in-None-clause-answer
 returns-in-None-clause-answer g c =
-    let rows : List Binding = visible (g.V.View.shows c.args.view.now) (g.S.Successors.instances c.args.source.now) in
+    let rows : List Binding = visible (g.S.View.shows c.args.source.now) (g.S.Successors.instances c.args.source.now) in
     let none : value_of rows c.args.object.now ≡ None = sym (c.in_ok-_itself.ensures) ∙ c.in_default.is in
     let next : next_of rows c.args.object.now ≡ None = sym (c.in_ok-row.ensures.found) ∙ c.in-None.is in
-    sym (below-first c.args.object.now rows (visible-rising (g.V.View.shows c.args.view.now) (g.S.Successors.instances c.args.source.now) c.known.ensures.rising) none ∙ ap (first_below c.args.object.now) next)
+    sym (below-first c.args.object.now rows (visible-rising (g.S.View.shows c.args.source.now) (g.S.Successors.instances c.args.source.now) c.known.ensures.rising) none ∙ ap (first_below c.args.object.now) next)

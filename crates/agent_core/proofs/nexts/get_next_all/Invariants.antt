@@ -6,6 +6,6 @@ use Rattle.agent_core.proofs.nexts.get_next_all.Given as goal
 
 abbrev pub invariant-loop-binding : goal.invariant-loop-binding
 invariant-loop-binding g l = record {
-  answers : l.answers ≡ next_answers (visible (g.V.View.shows l.view) (g.S.Successors.instances l.source)) (names_of (take l.binding-index l.asked));
-  work : l.steps ≤ l.fn.steps + l.binding-index * most_looks (g.V.View.shows l.view) (g.S.Successors.instances l.source);
+  answers : l.answers ≡ next_answers (visible (g.S.View.shows l.source) (g.S.Successors.instances l.source)) (names_of (take l.binding-index l.asked));
+  work : l.steps ≤ l.fn.steps + l.binding-index * most_looks (g.S.View.shows l.source) (g.S.Successors.instances l.source);
 }

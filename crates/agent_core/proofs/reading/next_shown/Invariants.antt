@@ -1,4 +1,4 @@
-use Rattle.std.proofs.Common.{◌≡◌, ◌≤◌, ◌+◌, length, find}
+use Rattle.std.proofs.Common.{◌≡◌, ◌≤◌, ◌+◌, length, find, IfSome}
 use Rattle.message_core.specs.Instances.{next_of}
 use Rattle.agent_core.specs.Reading.{visible}
 use Rattle.agent_core.specs.Looking.{hidden_count, most_looks}
@@ -8,10 +8,11 @@ use Rattle.agent_core.proofs.reading.next_shown.Given as goal
 -- the answer is the first instance in the view from the one that was found on; the hidden ones from there on are still to be passed over
 abbrev pub invariant-loop-found : goal.invariant-loop-found
 invariant-loop-found g l =
-    let shows = g.V.View.shows l.view in
+    let shows = g.S.View.shows l.source in
     let rows = g.S.Successors.instances l.source in
     record {
       answer : next_of (visible shows rows) l.name ≡ find (λ row. shows row.name) (from rows l.found);
+      stands : IfSome l.found (λ b. g.S.Successors.stands l.source l.stand b.name);
       work : l.steps + hidden_count shows (from rows l.found) ≤ l.fn.steps + most_looks shows rows;
     }
 
