@@ -17,3 +17,4 @@ pub mod Owners
 pub mod Passed
 pub mod Undenied
 pub mod Stands
+pub mod Shown

@@ -1,14 +1,16 @@
 -- Where walks stand at the names of the last bindings.
-use Rattle.std.proofs.Common.{◌≡◌, ℕ, zero, suc, ◌+◌, ◌-◌, ◌<◌, ◌≤◌, List, [], ◌∷◌, ◌++◌, length, drop, get_or, length-append, length-drop, refl, sym, ap, subst, subst2, ◌∙◌, arith, Option, Some, None, true, false, Bool, nat_le, inl, inr}
+use Rattle.std.proofs.Common.{◌≡◌, ℕ, zero, suc, ◌+◌, ◌-◌, ◌<◌, ◌≤◌, List, [], ◌∷◌, ◌++◌, length, drop, get_or, length-append, length-drop, refl, sym, ap, subst, ◌∙◌, arith, Option, Some, None, Result, Ok, Err, IfOk, IsTrue, true, false, Bool, nat_le, inl, inr}
 use Rattle.std.proofs.lemmas.Option.{get_or_from_slice_get}
 use Rattle.std.proofs.lemmas.Bool.Decides.{leb_tells}
 use Rattle.std.proofs.lemmas.List.{get_or_append_left, get_or-drop}
 use Rattle.std.proofs.Math.Seq.{get_or-append_seam}
-use Rattle.std.specs.Prelude.{slice_get, if◌then◌else◌}
+use Rattle.std.proofs.lemmas.List.{map-append}
+use Rattle.std.specs.Prelude.{slice_get, if◌then◌else◌, OnErr}
 use Rattle.message_core.specs.declared.binding.Binding.{Binding}
 use Rattle.message_core.specs.Instances.{names_of}
 use Rattle.agent_core.specs.declared.source.Stand.{Stand}
-use Rattle.agent_core.specs.Sending.{AreStands}
+use Rattle.agent_core.specs.declared.sent.TheConstants.{MAX_STANDS}
+use Rattle.agent_core.specs.Sending.{Sending, kept, AreStands}
 
 module _ (P : Stand → List ℕ → Type 0) where
   pub no_stands : AreStands P [] []
@@ -48,6 +50,17 @@ module _ (P : Stand → List ℕ → Type 0) where
               ap (λ i. get_or (names ++ name ∷ []) i []) n ∙ get_or_append_left names (name ∷ []) [] (length names - suc k) (omega (arith, l, lens, cut, h.within)) in
           subst (λ n. P (get_or (drop d kept ++ stand ∷ []) (length (drop d kept ++ stand ∷ []) - suc (suc k)) x) n) (sym last)
           (subst (λ s. P s (get_or names (length names - suc k) [])) (sym first) (h.each k x (omega (arith, l, lens, cut))))
+
+  -- behind an offer
+  pub offered : {E : Type 0} (result : Result Bool E) (old new : Sending) (b : Binding) (s : Stand) → AreStands P old.stands (names_of old.bindings) → P s b.name →
+      IfOk result (λ taken. IsTrue taken → new.bindings ≡ old.bindings ++ b ∷ []) → IfOk result (λ taken. IsTrue taken → new.stands ≡ kept old.stands s) →
+      IfOk result (λ taken. taken ≡ false → new ≡ old) → OnErr result (new ≡ old) → AreStands P new.stands (names_of new.bindings)
+  offered (Ok true) old new b s h is bindings stands full err =
+      let names : names_of new.bindings ≡ names_of old.bindings ++ b.name ∷ [] = ap names_of (bindings refl) ∙ map-append (λ (x : Binding). x.name) old.bindings (b ∷ []) in
+      subst (λ ns. AreStands P new.stands ns) (sym names) (subst (λ ks. AreStands P ks (names_of old.bindings ++ b.name ∷ [])) (sym (stands refl))
+      (one_more (length old.stands + 1 - MAX_STANDS) old.stands s (names_of old.bindings) b.name h is))
+  offered (Ok false) old new b s h is bindings stands full err = subst (λ (x : Sending). AreStands P x.stands (names_of x.bindings)) (sym (full refl)) h
+  offered (Err e) old new b s h is bindings stands full err = subst (λ (x : Sending). AreStands P x.stands (names_of x.bindings)) (sym err) h
 
   -- the one so many places back
   pub stand_there : (kept : List Stand) (names : List (List ℕ)) (back : ℕ) (stand : Stand) → AreStands P kept names → 1 ≤ back →

@@ -1,12 +1,12 @@
 //! Managed objects and the world that they show, as what requests are answered from.
-ghost use Rattle.std.specs.Prelude.{◌≡◌, ◌≤◌, ◌<◌, ℕ, List, length, IfOk};
+ghost use Rattle.std.specs.Prelude.{◌≡◌, ◌≤◌, ◌<◌, length, take, Some, None, Ok, IfOk, IfSome, if◌then◌else◌, option_map};
 ghost use Rattle.oid_core.specs.declared.limits.TheConstants.{MAX_NUMBERS};
 ghost use Rattle.message_core.specs.Instances.{next_of};
 ghost use Rattle.vacm_core.specs.Hiding.{hides_all};
 ghost use Rattle.setphase_core.specs.Registry.{rows_of, prefixes_of, AreApart};
 ghost use Rattle.setphase_core.specs.Passing.{open_instances};
 ghost use Rattle.setphase_core.specs.Searching.{IsPlace};
-ghost use Rattle.vacm_core.specs.Families.{in_view};
+ghost use Rattle.vacm_core.specs.Families.{in_view, is_included};
 ghost use Rattle.std.specs.Option.{option_copied};
 ghost use Rattle.agent_core.specs.Reading.{object_of};
 ghost use Rattle.agent_core.specs.Standing.{IsStand};
@@ -65,6 +65,18 @@ pub(crate) fn object_in<O: MibObject>(
         None => Ok(None),
         Some(prefix) => Ok(Some(object_name(alloc, prefix)?)),
     }
+}
+
+// The front of a name of which the view shows every name, by the answer on the name.
+fn shown_front<'a>(under: &FrontAnswer, name: &'a Oid) -> Option<&'a [u32]>
+    requires { IfSome under.now.front (λ count. count ≤ length name.now) }
+    ensures { option_copied result ≡ (if is_included under.now.answer
+        then option_map (λ count. take count name.now) under.now.front else None) }
+{
+    if !under.answer.is_included() {
+        return None;
+    }
+    Some(&name.as_slice()[..under.front?])
 }
 
 impl<O: MibObject> Passing for Served<'_, O> {
@@ -171,12 +183,11 @@ impl<O: MibObject, L: Ledger> Successors<L> for Served<'_, O> {
         if place < stand.until {
             return true;
         }
-        let FrontAnswer { answer, front } = self.vacm.in_view_under(self.view, name);
-        if let (true, Some(count)) = (answer.is_included(), front) {
-            let front = &name.as_slice()[..count];
+        let under = self.vacm.in_view_under(self.view, name);
+        if let Some(front) = shown_front(&under, name) {
             stand.until = self.registry.begun_until(front, place);
         }
-        answer.is_included()
+        under.answer.is_included()
     }
 }
 
