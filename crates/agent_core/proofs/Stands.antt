@@ -44,10 +44,10 @@ module _ (P : Stand → List ℕ → Type 0) where
           let n : length (names ++ name ∷ []) - suc (suc k) ≡ length names - suc k = omega (arith, lenn) in
           let at : d + (length (drop d kept) - suc k) ≡ length kept - suc k = omega (arith, cut, l, lens) in
           let first : get_or (drop d kept ++ stand ∷ []) (length (drop d kept ++ stand ∷ []) - suc (suc k)) x ≡ get_or kept (length kept - suc k) x =
-              ap (λ i. get_or (drop d kept ++ stand ∷ []) i x) s ∙ get_or_append_left (drop d kept) (stand ∷ []) x (length (drop d kept) - suc k) (omega (arith, l, lens))
-              ∙ get_or-drop d kept (length (drop d kept) - suc k) x ∙ ap (λ i. get_or kept i x) at in
+          ap (λ i. get_or (drop d kept ++ stand ∷ []) i x) s ∙ get_or_append_left (drop d kept) (stand ∷ []) x (length (drop d kept) - suc k) (omega (arith, l, lens))
+          ∙ get_or-drop d kept (length (drop d kept) - suc k) x ∙ ap (λ i. get_or kept i x) at in
           let last : get_or (names ++ name ∷ []) (length (names ++ name ∷ []) - suc (suc k)) [] ≡ get_or names (length names - suc k) [] =
-              ap (λ i. get_or (names ++ name ∷ []) i []) n ∙ get_or_append_left names (name ∷ []) [] (length names - suc k) (omega (arith, l, lens, cut, h.within)) in
+          ap (λ i. get_or (names ++ name ∷ []) i []) n ∙ get_or_append_left names (name ∷ []) [] (length names - suc k) (omega (arith, l, lens, cut, h.within)) in
           subst (λ n. P (get_or (drop d kept ++ stand ∷ []) (length (drop d kept ++ stand ∷ []) - suc (suc k)) x) n) (sym last)
           (subst (λ s. P s (get_or names (length names - suc k) [])) (sym first) (h.each k x (omega (arith, l, lens, cut))))
 

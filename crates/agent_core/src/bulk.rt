@@ -252,14 +252,7 @@ fn repeat<S: Successors<L>, L: Ledger>(
     if !repeat_once(alloc, source, asked, sent, steps)? {
         return Ok(());
     }
-    go_on(
-        alloc,
-        source,
-        asked.len(),
-        most - 1,
-        sent,
-        steps,
-    )
+    go_on(alloc, source, asked.len(), most - 1, sent, steps)
 }
 
 // Sends the first `once` names once, and the others up to `most` times, as far as there is room.

@@ -7,12 +7,13 @@
 //! is counted, a Set changes all its variables or none but what could not be undone, and is handed
 //! the room in which its audit names that. For time alone, objects that the view is seen to hide
 //! whole are passed over.
-//! [`short_reply`] writes the reply for a want of memory, and takes none. Under any [`View`]
-//! [`get`] answers from any [`Source`], and [`get_next`] and [`get_bulk`] from any [`Successors`],
-//! of which they can ask nothing but the next instance: each such look is a step. [`Answered`] is
-//! what `answer` gives, with an [`Audit`], whose line [`audit_line`] writes; [`PolicyView`] the
-//! [`View`] of the tables of access control, [`NOWHERE`] the note of a walk that has found nothing
-//! yet.
+//! [`short_reply`] writes the reply for a want of memory, and takes none. [`get`] answers from
+//! any [`Source`], and [`get_next`] and [`get_bulk`] from any [`Successors`], each of which is a
+//! [`View`] too: they can ask it for nothing but the next instance and whether the view shows a name,
+//! and each next instance is a step. A walk stands at a name ([`Stand`]): at the place of the name
+//! among the objects, and knows of those from there on how far the view shows them whole. Each column
+//! of a GetBulk walks by itself. [`Answered`] is what `answer` gives, with an [`Audit`], whose line
+//! [`audit_line`] writes.
 //!
 //! # Definitions
 //! `specs/Answers.antt`: what objects show of a world, and the step; `specs/Replies.antt`: replies
@@ -20,7 +21,7 @@
 //! is visible, Get and GetNext; `specs/Looking.antt`: the looks that a successor takes;
 //! `specs/Bulk.antt`, `specs/Fitting.antt`: GetBulk; `specs/Denying.antt`: denied bindings;
 //! `specs/Buffered.antt`: what a buffer holds; `specs/Sending.antt`: bindings that are to be sent,
-//! and their room.
+//! and their room; `specs/Standing.antt`: where a walk stands, and what it knows of a view there.
 //!
 //! # Laws
 //! In [`laws`]: replies hang on nothing but what is visible, those of Get also on the objects and on

@@ -155,7 +155,11 @@ impl<O: MibObject, L: Ledger> Successors<L> for Served<'_, O> {
     fn start_beside(&self, name: &Oid, other: &Stand) -> Stand {
         let near = first_place(other.place);
         let place = self.registry.place_near(name.as_slice(), near);
-        let until = if near <= first_place(place) { other.until } else { 0 };
+        let until = if near <= first_place(place) {
+            other.until
+        } else {
+            0
+        };
         Stand { place, until }
     }
 

@@ -207,4 +207,3 @@ first_later row rows w n e = next-cons row rows w n ∙ ap (λ o. option_or o (n
 
 pub next-nil : (w : World) (n : List ℕ) → next_of (instances [] w) n ≡ None
 next-nil w n = ap (λ xs. next_of xs n) (instances-nil w)
-

@@ -6,9 +6,10 @@
 //! key; `try_copy`, and `flat`, which gives a [`FlatWorld`] with `same`, to be kept and compared.
 //! [`MibObject`]: a managed object: what it shows, by `prefix`, `read` and `next`; and what a Set
 //! does to it, by `test`, `commit`, `undo`, `release`, `held` and `arm`; a boxed one is one too.
-//! [`Registry`]: objects by rising name, with `owner`, `read`, `next`; `owner_near`, `read_near`,
-//! by a place near which the object may stand; `owner_steps`, which counts its steps; and
-//! `next_open`, which passes over objects as a whole by a test of their names, a [`Passing`];
+//! [`Registry`]: objects by rising name, with `owner`, `read`, `next`; `place_near`, the place of a
+//! name among them, by which `owner_at`, `read_at` and `next_open` go; `begun_until`, up to where
+//! their names begin with a front; `owner_steps`, which counts its steps. `next_open` passes over
+//! objects as a whole by a test of their names, a [`Passing`], and gives a [`Successor`].
 //! `known` hands on that no object's name begins another's and that what they show can be served;
 //! `held`, `release` and `arm` of all objects. [`are_named`]: whether objects have names that a
 //! registry asks for, of objects of which nothing else is known.
@@ -39,6 +40,8 @@
 //! `specs/Tested.antt`: what stands between its steps; `specs/Searching.antt`: where a name stands
 //! among those of objects, and how many comparisons it takes at least to know that;
 //! `specs/Passing.antt`: the objects that a walk does not pass over, and how many it does;
+//! `specs/Walking.antt`, inside the crate but for what is known ahead of a walk: what it finds, and
+//! its steps;
 //! `specs/Opening.antt`: all that a bridge of two ports shows as it opens; `specs/InUse.antt`: all
 //! that a bridge of four ports shows, made by hand as if in use.
 //!
@@ -71,8 +74,8 @@
 //! device, or with one that takes no plans, never fails, and which of its calls fail. In which order
 //! the devices are called, but where it shows in which calls of one plan failed: of two objects, and
 //! of calls of which the plan says the same, no clause tells. That a step of `owner_steps` is a
-//! comparison: the clauses say how many there are at least and at most. Which number a call leaves
-//! for the next one as `near`. That the objects of a program are the 55.
+//! comparison: the clauses say how many there are at least and at most. How long `place_near` takes
+//! by the number `near`. That the objects of a program are the 55.
 #![tactic(auto)]
 
 mod boxed;

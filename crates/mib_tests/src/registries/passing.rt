@@ -4,7 +4,6 @@ ghost use Rattle.std.specs.Prelude.{◌≡◌, ◌<◌};
 use crate::registries::named::registry_of;
 use crate::registries::plain::make_plain;
 use crate::registries::worlds::opening_world;
-use message_core::Binding;
 use oid_core::begins;
 use setphase_core::{MibObject, Passing, Registry, World};
 use std::alloc::Global;
@@ -41,9 +40,9 @@ fn open_after<O: MibObject, L: Ledger>(
     requires some { 0 < blank.parts }
 {
     let mut steps: Steps<L> = Steps::new(blank);
-    let mut near = 0;
-    match registry.next_open(alloc, world, name, &mut near, &Hidden(hidden), &mut steps)? {
-        Some(Binding { name, value: _ }) => match name.as_slice() {
+    let place = registry.place_near(name, 0);
+    match registry.next_open(alloc, world, name, place, 0, &Hidden(hidden), &mut steps)? {
+        Some(found) => match found.binding.name.as_slice() {
             [_, _, object, index] => Ok((*object, *index)),
             _ => Ok((0, 0)),
         },

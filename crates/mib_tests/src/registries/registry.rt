@@ -52,7 +52,19 @@ fn reads<O: MibObject>(alloc: Global, registry: &Registry<O>, world: &World) -> 
     ]
 }
 
-// The same, by a place near which the objects may stand.
+// The last number of the value under a name, by the place of the name, which is sought near a place.
+fn read_near<O: MibObject>(
+    alloc: Global,
+    registry: &Registry<O>,
+    world: &World,
+    name: &[u32],
+    near: usize,
+) -> i32 {
+    let place = registry.place_near(name, near);
+    number_in(registry.read_at(alloc, world, name, place))
+}
+
+// The same of four names.
 fn reads_near<O: MibObject>(
     alloc: Global,
     registry: &Registry<O>,
@@ -60,10 +72,10 @@ fn reads_near<O: MibObject>(
     near: usize,
 ) -> [i32; 4] {
     [
-        number_in(registry.read_near(alloc, world, &[1, 3, 1, 0], near)),
-        number_in(registry.read_near(alloc, world, &[1, 3, 2, 2], near)),
-        number_in(registry.read_near(alloc, world, &[1, 3, 2, 3], near)),
-        number_in(registry.read_near(alloc, world, &[1, 3, 3, 0], near)),
+        read_near(alloc, registry, world, &[1, 3, 1, 0], near),
+        read_near(alloc, registry, world, &[1, 3, 2, 2], near),
+        read_near(alloc, registry, world, &[1, 3, 2, 3], near),
+        read_near(alloc, registry, world, &[1, 3, 3, 0], near),
     ]
 }
 
@@ -132,15 +144,21 @@ fn last_of(owner: Option<&[u32]>) -> u32 {
     }
 }
 
-// The same of the owner of a name near this place, and the place that is left.
-fn owner_near<O: MibObject>(registry: &Registry<O>, name: &[u32], near: usize) -> (u32, usize) {
-    let mut place = near;
-    let owner = last_of(registry.owner_near(name, &mut place));
-    (owner, place)
+// The same of the owner of a name, and the place of the name, which is sought near a place.
+fn owner_near<O: MibObject>(
+    registry: &Registry<O>,
+    name: &[u32],
+    near: usize,
+) -> (u32, Result<usize, usize>) {
+    let place = registry.place_near(name, near);
+    (last_of(registry.owner_at(name, place)), place)
 }
 
-// The owners of four names, near this place, and the places that are left.
-fn owners_near<O: MibObject>(registry: &Registry<O>, near: usize) -> [(u32, usize); 4] {
+// The owners of four names, and their places.
+fn owners_near<O: MibObject>(
+    registry: &Registry<O>,
+    near: usize,
+) -> [(u32, Result<usize, usize>); 4] {
     [
         owner_near(registry, &[1, 3, 2, 7], near),
         owner_near(registry, &[1, 3, 1], near),
@@ -161,7 +179,7 @@ fn finds_the_owner_of_a_name(rt: HostRuntime) -> Result<(), Fail> {
     for near in [0, 1, 2, usize::MAX] {
         assert_eq!(rt;
             owners_near(&registry, near),
-            [(2, 1), (1, 0), (0, 2), (0, 0)]
+            [(2, Ok(1)), (1, Ok(0)), (0, Err(2)), (0, Err(0))]
         );
     }
     Ok(())
