@@ -5,7 +5,7 @@ use Rattle.std.proofs.lemmas.Bool.{and_right, eq-eqb, ne_eqb}
 use Rattle.rstp_settings.specs.Table.{IsPortOf}
 use Rattle.rstp_core.specs.Tree.{Tree}
 use Rattle.bridge_core.specs.declared.counters.PortCounters.{PortCounters}
-use Rattle.bridge_core.specs.declared.forwarding.Way.TheVariants.{Nowhere, Anywhere, By}
+use Rattle.bridge_core.specs.declared.forwarding.Way.TheVariants.{Nowhere, By}
 use Rattle.bridge_core.specs.Bridge.{no_counters}
 use Rattle.bridge_core.specs.Counting.{with_frame_out, sent_from, sent_where}
 use Rattle.bridge_core.specs.Forwarding.{ports_where}
@@ -15,10 +15,6 @@ use Rattle.bridge_core.proofs.Walks.{ports_more, ports_none}
 and_true : (b : Bool) → (b && true) ≡ b
 and_true true = refl
 and_true false = refl
-
--- a way that leads anywhere is by the open ports
-pub by_any : (from : ℕ) (t : Tree) (q : ℕ) → is_open from t q ≡ goes_by (leads Anywhere) from t q
-by_any from t q = sym (and_true (is_open from t q))
 
 -- a way that leads by one port is by that, where it is open, and by no other
 by_that : (from : ℕ) (t : Tree) (one : ℕ) → goes_by (leads (By one)) from t one ≡ is_open from t one

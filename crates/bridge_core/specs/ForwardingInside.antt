@@ -24,7 +24,7 @@ abbrev pub leads : Way → ℕ → Bool
 leads Nowhere out = false
 leads Anywhere out = true
 leads (By r) out = r == out
-leads (Listed ports) out = has_port ports out
+leads (Listed ports) out = has_port ports.now out
 
 -- Whether the port `out` is open to a frame that came by a port: it forwards, and they are two.
 abbrev pub is_open : ℕ → Tree → ℕ → Bool

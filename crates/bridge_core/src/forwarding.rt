@@ -1,6 +1,5 @@
 //! By which ports a frame goes out (IEEE 802.1D-2004 7.7, 7.9, 7.12).
 ghost use Rattle.std.specs.Prelude.{◌≡◌, ◌↔◌, ◌≤◌, ◌<◌, ◌+◌, ℕ, length, [], ◌∷◌, ◌++◌, if◌then◌else◌, None, IsTrue};
-ghost use Rattle.fdb_core.specs.PortSets.{has_port};
 ghost use Rattle.rstp_settings.specs.Table.{IsPortOf};
 ghost use Rattle.rstp_core.specs.Tree.{HasPort};
 ghost use Rattle.bridge_core.specs.Counting.{with_frame_out, sent_where};
@@ -16,7 +15,7 @@ use rstp_core::{MAX_PORTS, Rstp, State};
 
 /// By which ports a frame may go, of those that forward and are not its own.
 #[derive(Clone, Copy, Debug, PartialEq, Eq)]
-pub enum Way {
+pub enum Way<'a> {
     /// By no port.
     Nowhere,
     /// By each of them.
@@ -24,7 +23,7 @@ pub enum Way {
     /// By the port of this number.
     By(u16),
     /// By the ports of a static row.
-    Listed(PortSet),
+    Listed(&'a PortSet),
 }
 
 /// Whether an address is one of 0180C2000000 to 0180C200000F, which no bridge forwards (7.12.6).
@@ -36,26 +35,28 @@ pub fn is_reserved(address: Mac) -> bool
 
 // The way of a frame to an address for which no static row is listed: to the port at which it is
 // learned, or anywhere.
-fn find_learned(fdb: &Fdb, destination: Mac) -> Way
+fn find_learned<'a>(fdb: &Fdb, destination: Mac) -> Way<'a>
     ensures { (out : ℕ) → leads result out ≡ may_go None fdb.now.rows destination out }
 {
     if destination.is_group() {
-        Way::Anywhere
-    } else {
-        fdb.find(destination).map_or(Way::Anywhere, Way::By)
+        return Way::Anywhere;
+    }
+    match fdb.find(destination) {
+        Some(port) => Way::By(port),
+        None => Way::Anywhere,
     }
 }
 
 /// By which ports a frame to this destination may go, where it came by this port, of this state. An
 /// empty static table is not searched.
-pub fn find_way(
+pub fn find_way<'a>(
     fdb: &Fdb,
-    statics: &StaticTable,
+    statics: &'a StaticTable,
     own: Mac,
     state: State,
     from: u16,
     destination: Mac,
-) -> Way
+) -> Way<'a>
     ensures { (out : ℕ) → leads result out
         ≡ is_way fdb.now.rows statics.now.rows own state from destination out }
 {
@@ -63,7 +64,7 @@ pub fn find_way(
         return Way::Nowhere;
     }
     match find_listed(statics, from, destination) {
-        Some(row) => Way::Listed(row.ports),
+        Some(row) => Way::Listed(&row.ports),
         None => find_learned(fdb, destination),
     }
 }
@@ -76,12 +77,25 @@ fn is_open(port: u16, from: u16, tree: &Rstp) -> bool
     tree.state(port).is_forwarding() && port != from
 }
 
-// The same, and that the port is one of these.
-fn is_listed(ports: &PortSet, port: u16, from: u16, tree: &Rstp) -> bool
-    requires { HasPort tree.now port }
-    ensures { result ≡ goes_by (has_port ports.now) from tree.now port }
+// Whether a way leads to a port.
+fn leads(way: &Way<'_>, port: u16) -> bool
+    requires { 1 ≤ port }
+    ensures { result ≡ leads way.now port }
 {
-    is_open(port, from, tree) && ports.has(port)
+    match way {
+        Way::Nowhere => false,
+        Way::Anywhere => true,
+        Way::By(one) => *one == port,
+        Way::Listed(ports) => ports.has(port),
+    }
+}
+
+// Whether a frame that came by a port goes out by another one.
+fn goes_by(way: &Way<'_>, port: u16, from: u16, tree: &Rstp) -> bool
+    requires { HasPort tree.now port }
+    ensures { result ≡ goes_by (leads way.now) from tree.now port }
+{
+    is_open(port, from, tree) && leads(way, port)
 }
 
 // Whether there is a port of this number, where there are so many.
@@ -116,83 +130,69 @@ fn send_to_one(
     from: u16,
     tree: &Rstp,
     counters: &mut [PortCounters],
-) -> ArrayVec<u16, MAX_PORTS>
-    requires { length counters.old ≡ length tree.now.ports }
-    ensures egress { result.items ≡ ports_where (goes_by (leads (Way.By one)) from tree.now)
+    egress: &mut ArrayVec<u16, MAX_PORTS>,
+)
+    requires ports { length counters.old ≡ length tree.now.ports }
+    requires empty { egress.old.items ≡ [] }
+    ensures egress { egress.new.items ≡ ports_where (goes_by (leads (Way.By one)) from tree.now)
         (length tree.now.ports) }
     ensures counters { counters.new
         ≡ sent_where (goes_by (leads (Way.By one)) from tree.now) counters.old }
 {
-    let mut egress = ArrayVec::new();
-    if !is_port(one, counters.len()) {
-        return egress;
+    if is_port(one, counters.len()) {
+        let goes = is_open(one, from, tree);
+        send_one(goes, one, &mut counters[one as usize - 1], egress);
     }
-    let goes = is_open(one, from, tree);
-    send_one(goes, one, &mut counters[one as usize - 1], &mut egress);
-    egress
 }
 
-// Sends a frame by all open ports.
-fn send_to_all(from: u16, tree: &Rstp, counters: &mut [PortCounters]) -> ArrayVec<u16, MAX_PORTS>
-    requires ports { length counters.old ≡ length tree.now.ports }
-    requires few { length tree.now.ports ≤ MAX_PORTS }
-    ensures egress { result.items ≡ ports_where (goes_by (leads Way.Anywhere) from tree.now)
-        (length tree.now.ports) }
-    ensures counters { counters.new
-        ≡ sent_where (goes_by (leads Way.Anywhere) from tree.now) counters.old }
-{
-    let mut egress = ArrayVec::new();
-    for i in 0..counters.len() {
-        let port = i as u16 + 1;
-        let goes = is_open(port, from, tree);
-        send_one(goes, port, &mut counters[i], &mut egress);
-    }
-    egress
-}
-
-// Sends a frame by the open ports among those of a static row.
-fn send_to_listed(
-    ports: &PortSet,
+// Sends a frame by the open ports to which the way leads. It goes over all ports.
+fn send_to_each(
+    way: &Way<'_>,
     from: u16,
     tree: &Rstp,
     counters: &mut [PortCounters],
-) -> ArrayVec<u16, MAX_PORTS>
+    egress: &mut ArrayVec<u16, MAX_PORTS>,
+)
     requires ports { length counters.old ≡ length tree.now.ports }
     requires few { length tree.now.ports ≤ MAX_PORTS }
-    ensures egress { result.items ≡ ports_where (goes_by (has_port ports.now) from tree.now)
+    requires empty { egress.old.items ≡ [] }
+    ensures egress { egress.new.items ≡ ports_where (goes_by (leads way.now) from tree.now)
         (length tree.now.ports) }
     ensures counters { counters.new
-        ≡ sent_where (goes_by (has_port ports.now) from tree.now) counters.old }
+        ≡ sent_where (goes_by (leads way.now) from tree.now) counters.old }
 {
-    let mut egress = ArrayVec::new();
     for i in 0..counters.len() {
         let port = i as u16 + 1;
-        let goes = is_listed(ports, port, from, tree);
-        send_one(goes, port, &mut counters[i], &mut egress);
+        let goes = goes_by(way, port, from, tree);
+        send_one(goes, port, &mut counters[i], egress);
     }
-    egress
 }
 
 /// Sends a frame by the forwarding ports to which the way leads, but for the port by which it came:
 /// counts it there, and answers their numbers, rising. All ports are gone over only where the way may
-/// lead to more than one.
+/// lead to more than one. Each such way is named at its call, so that no port asks again which it is.
 #[tactic(auto, using(crate::proofs::Single::ports_nowhere, crate::proofs::Single::sent_nowhere))]
 pub fn send_out(
-    way: Way,
+    way: Way<'_>,
     from: u16,
     tree: &Rstp,
     counters: &mut [PortCounters],
 ) -> ArrayVec<u16, MAX_PORTS>
     requires ports { length counters.old ≡ length tree.now.ports }
     requires few { length tree.now.ports ≤ MAX_PORTS }
-    ensures egress { result.items ≡ ports_where (goes_by (leads way) from tree.now)
+    ensures egress { result.items ≡ ports_where (goes_by (leads way.entry) from tree.now)
         (length tree.now.ports) }
-    ensures counters { counters.new ≡ sent_where (goes_by (leads way) from tree.now) counters.old }
+    ensures counters { counters.new
+        ≡ sent_where (goes_by (leads way.entry) from tree.now) counters.old }
 {
+    let mut egress = ArrayVec::new();
     match way {
-        Way::Nowhere => ArrayVec::new(),
-        Way::By(one) => send_to_one(one, from, tree, counters),
-        Way::Anywhere => send_to_all(from, tree, counters),
-        Way::Listed(ports) => send_to_listed(&ports, from, tree, counters),
+        Way::Nowhere => {}
+        Way::By(one) => send_to_one(one, from, tree, counters, &mut egress),
+        Way::Anywhere => send_to_each(&Way::Anywhere, from, tree, counters, &mut egress),
+        Way::Listed(ports) => {
+            send_to_each(&Way::Listed(ports), from, tree, counters, &mut egress);
+        }
     }
+    egress
 }

@@ -1,5 +1,6 @@
 //! The static rows of a bridge, as a table (IEEE 802.1D-2004 7.9.1).
 ghost use Rattle.std.specs.Prelude.{◌≡◌, ◌==◌, ◌≢◌, ◌↔◌, ◌≤◌, true, false, find, IsTrue};
+ghost use Rattle.std.specs.Option.{option_copied};
 ghost use Rattle.fdb_core.specs.Statics.{row_of, made_rows, HasPlaceFor};
 ghost use Rattle.bridge_core.specs.Forwarding.{is_reserved};
 ghost use Rattle.bridge_core.specs.Statics.{is_made_in, ports_of, says, rows_with, if_made, listed};
@@ -103,23 +104,26 @@ pub fn drop_unmade(statics: &mut StaticTable)
 }
 
 // The first row of a port.
-fn find_port(rows: &[StaticRow], port: u16) -> Option<StaticRow>
-    ensures { result ≡ find (λ r. r.index.port == port) rows.now }
+fn find_port(rows: &[StaticRow], port: u16) -> Option<&StaticRow>
+    ensures { option_copied result ≡ find (λ r. r.index.port == port) rows.now }
 {
-    rows.iter().find(|row| row.index.port == port).copied()
+    rows.iter().find(|row| row.index.port == port)
 }
 
 // The first row of a port, where it is made.
-fn find_made(rows: &[StaticRow], port: u16) -> Option<StaticRow>
-    ensures { result ≡ if_made (find (λ r. r.index.port == port) rows.now) }
+fn find_made(rows: &[StaticRow], port: u16) -> Option<&StaticRow>
+    ensures { option_copied result ≡ if_made (find (λ r. r.index.port == port) rows.now) }
 {
-    find_port(rows, port).filter(|row| row.made)
+    match find_port(rows, port) {
+        Some(row) if row.made => Some(row),
+        _ => None,
+    }
 }
 
 /// The row that decides about frames to an address that come by a port: the made row of that port,
 /// or else that of all ports. A table without rows is not searched.
-pub fn find_listed(statics: &StaticTable, from: u16, address: Mac) -> Option<StaticRow>
-    ensures { result ≡ listed statics.now.rows from address }
+pub fn find_listed(statics: &StaticTable, from: u16, address: Mac) -> Option<&StaticRow>
+    ensures { option_copied result ≡ listed statics.now.rows from address }
 {
     if statics.is_empty() {
         return None;

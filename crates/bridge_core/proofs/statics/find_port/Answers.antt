@@ -1,4 +1,4 @@
-use Rattle.std.proofs.Common.{rules, ◌∙◌}
+use Rattle.std.proofs.Common.{rules}
 use Rattle.std.specs.Prelude.{◌==◌}
 use Rattle.std.proofs.lemmas.Iterator.{YieldsList-from_slice}
 use Rattle.std.proofs.lemmas.Iterator.Search.{find_from_yields_List}
@@ -7,5 +7,4 @@ use Rattle.bridge_core.proofs.statics.find_port.Goals as goal
 -- the closure gives whether a row is of the port
 pub returns : goal.returns
 returns c =
-    let found = find_from_yields_List (λ r. r.index.port == c.args.port) _ _ c.find.result c.find.ensures.ran (YieldsList-from_slice c.args.rows.now cc) (λ x b q called. search rules) in
-    c.copied.ensures ∙ found
+    find_from_yields_List (λ r. r.index.port == c.args.port) _ _ c.find.result c.find.ensures.ran (YieldsList-from_slice c.args.rows.now cc) (λ x b q called. search rules)
