@@ -74,7 +74,7 @@ fn send_next<S: Successors<L>, L: Ledger>(
     ensures work { steps.new ≤ steps.old + most_looks (S.shows source.now) (S.instances source.now) }
 {
     let mut stand = stand_at(source, sent, name);
-    let row = get_next_from(alloc, source, name, &mut stand, steps)?;
+    let row = get_next_from(alloc, source, name, true, &mut stand, steps)?;
     sent.offer(row, stand)
 }
 
@@ -143,7 +143,7 @@ fn send_successor<S: Successors<L>, L: Ledger>(
 {
     let before = &sent.last(back)[0];
     let mut stand = stand_back(source, sent, back, &before.name);
-    let row = get_next_from(alloc, source, &before.name, &mut stand, steps)?;
+    let row = get_next_from(alloc, source, &before.name, true, &mut stand, steps)?;
     sent.offer(row, stand)
 }
 

@@ -48,7 +48,7 @@ fn shows_below<S: Source<L>, L: Ledger>(
         return Ok(true);
     }
     let mut stand = source.start(object);
-    match next_shown(alloc, source, object, &mut stand, steps)? {
+    match next_shown(alloc, source, object, false, &mut stand, steps)? {
         Some(row) => Ok(object.is_prefix(&row.name)),
         None => Ok(false),
     }

@@ -31,11 +31,13 @@ fn end_under(alloc: Global, name: &Oid) -> Result<Binding, AllocError>
 /// Only memory can fail.
 ///
 /// It looks at the source at most once for each instance that the view hides, and once more. The walk
-/// stands at the name, and then at that of the binding.
+/// stands at the name, and then at that of the binding; where it goes on, it keeps what it learns of
+/// the view.
 pub fn get_next_from<S: Successors<L>, L: Ledger>(
     alloc: Global,
     source: &S,
     name: &Oid,
+    goes_on: bool,
     stand: &mut Stand,
     steps: &mut Steps<L>,
 ) -> Result<Binding, AllocError>
@@ -48,7 +50,7 @@ pub fn get_next_from<S: Successors<L>, L: Ledger>(
 {
     source.known();
     let asked = *stand;
-    match next_shown(alloc, source, name, stand, steps)? {
+    match next_shown(alloc, source, name, goes_on, stand, steps)? {
         Some(row) => Ok(row),
         None => {
             *stand = asked;
@@ -73,7 +75,7 @@ pub fn get_next<S: Successors<L>, L: Ledger>(
     ensures work { steps.new ≤ steps.old + most_looks (S.shows source.now) (S.instances source.now) }
 {
     let mut stand = source.start(name);
-    get_next_from(alloc, source, name, &mut stand, steps)
+    get_next_from(alloc, source, name, false, &mut stand, steps)
 }
 
 /// What GetNext answers under each asked name, in order (RFC 3416, 4.2.2), by the looks of one

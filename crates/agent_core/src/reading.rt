@@ -11,6 +11,25 @@ use std::alloc::{AllocError, Global};
 use std::sync::ledger::Ledger;
 use steps::Steps;
 
+// Whether the view shows a name at which a walk stands. A walk that goes on keeps what it learns of the
+// view.
+fn is_shown<S: Successors<L>, L: Ledger>(
+    source: &S,
+    name: &Oid,
+    goes_on: bool,
+    stand: &mut Stand,
+) -> bool
+    requires { S.stands source.now stand.old name.now }
+    ensures shown { result ≡ S.shows source.now name.now }
+    ensures stands { S.stands source.now stand.new name.now }
+{
+    if goes_on {
+        source.is_shown(name, stand)
+    } else {
+        source.has_name(name)
+    }
+}
+
 /// The first instance after a name that the view shows (RFC 3416, 4.2.2). Each look at the source
 /// is a step: one for each hidden instance that is passed over, and one more. The walk stands at what
 /// is found then. Only memory can fail.
@@ -18,6 +37,7 @@ pub fn next_shown<S: Successors<L>, L: Ledger>(
     alloc: Global,
     source: &S,
     name: &Oid,
+    goes_on: bool,
     stand: &mut Stand,
     steps: &mut Steps<L>,
 ) -> Result<Option<Binding>, AllocError>
@@ -31,7 +51,7 @@ pub fn next_shown<S: Successors<L>, L: Ledger>(
     source.known();
     let mut found = source.next(alloc, name, stand, steps)?;
     while let Some(row) = found {
-        if source.is_shown(&row.name, stand) {
+        if is_shown(source, &row.name, goes_on, stand) {
             return Ok(Some(row));
         }
         found = next_row(alloc, source, row, stand, steps)?;
