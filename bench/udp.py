@@ -323,4 +323,5 @@ def main():
         sys.exit(measure(bench) > 0)
 
 
-main()
+if __name__ == "__main__":
+    main()
