@@ -37,9 +37,9 @@ module _ (families : List FamilyRow) (view : List ℕ) where
   open_there prefixes stand name h = λ k l m n. not_hidden (prefix_at prefixes k) (h.until k l m n)
 
 -- the objects whose names begin with a front of which each name is shown are shown whole
-pub open_stand : (shows : List ℕ → Bool) (prefixes : List (List ℕ)) (stand : Stand) (name front : List ℕ) (place end : ℕ) → IsStand shows prefixes stand name → stand.place ≡ Ok place → AreBegun prefixes front place end →
-    ((other : List ℕ) → is_prefix front other ≡ true → shows other ≡ true) → IsStand shows prefixes (record stand { until = end }) name
-open_stand shows prefixes stand name front place end h at begun all = record {
+pub open_stand : (shows : List ℕ → Bool) (prefixes : List (List ℕ)) (stand : Stand) (name front : List ℕ) (place end : ℕ) (asked : Option ℕ) → IsStand shows prefixes stand name → stand.place ≡ Ok place → AreBegun prefixes front place end →
+    ((other : List ℕ) → is_prefix front other ≡ true → shows other ≡ true) → IsStand shows prefixes (record stand { until = end; asked = asked }) name
+open_stand shows prefixes stand name front place end asked h at begun all = record {
   place = h.place;
   until = λ k l m n other begins. all other (prefix_then front (prefix_at prefixes k) other (begun.begun k (subst (λ p. first_place p ≤ k) at l) m) begins);
 }

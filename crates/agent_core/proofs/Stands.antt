@@ -1,6 +1,6 @@
 -- Where walks stand at the names of the last bindings.
 use Rattle.std.proofs.Common.{◌≡◌, ℕ, zero, suc, ◌+◌, ◌-◌, ◌<◌, ◌≤◌, List, [], ◌∷◌, ◌++◌, length, drop, get_or, length-append, length-drop, refl, sym, ap, subst, ◌∙◌, arith, Option, Some, None, Result, Ok, Err, IfOk, IsTrue, true, false, Bool, nat_le, inl, inr}
-use Rattle.std.proofs.lemmas.Option.{get_or_from_slice_get}
+use Rattle.std.proofs.lemmas.Option.{get_or_from_slice_get, slice_get-get_or}
 use Rattle.std.proofs.lemmas.Bool.Decides.{leb_tells}
 use Rattle.std.proofs.lemmas.List.{get_or_append_left, get_or-drop}
 use Rattle.std.proofs.Math.Seq.{get_or-append_seam}
@@ -72,3 +72,25 @@ module _ (P : Stand → List ℕ → Type 0) where
         subst (λ s. P s (get_or names (length names - suc k) [])) (get_or_from_slice_get kept (length kept - suc k) stand stand there) (h.each k stand (omega (arith, b.1)))
     | inr b ↦ let none : Some stand ≡ None = rw b.0 at e in absurd (cc)
   ]
+
+-- the one that was kept so many places back is found
+pub stand_is : (kept : List Stand) (back : ℕ) (stand : Stand) → back ≤ length kept → Some stand ≡ (if nat_le back (length kept) then slice_get kept (length kept - back) else None) → stand ≡ get_or kept (length kept - back) stand
+stand_is kept back stand l e = elim (leb_tells back (length kept)) [
+  | inl b ↦
+      let there : slice_get kept (length kept - back) ≡ Some stand = sym (rw b.0 at e) in
+      sym (get_or_from_slice_get kept (length kept - back) stand stand there)
+  | inr b ↦ let none : Some stand ≡ None = rw b.0 at e in absurd (cc)
+]
+
+pub no_stand : (kept : List Stand) (back : ℕ) → 1 ≤ back → back ≤ length kept → None ≡ (if nat_le back (length kept) then slice_get kept (length kept - back) else None) → ⊥
+no_stand kept back some l e = elim (leb_tells back (length kept)) [
+  | inl b ↦
+      let none : None ≡ slice_get kept (length kept - back) = rw b.0 at e in
+      let there : slice_get kept (length kept - back) ≡ Some (get_or kept (length kept - back) (first kept l some)) = slice_get-get_or kept (length kept - back) (first kept l some) (omega (arith, some, l)) in
+      absurd (cc)
+  | inr b ↦ absurd (omega (arith, b.1, l))
+]
+  where
+    first : (ks : List Stand) → back ≤ length ks → 1 ≤ back → Stand
+    first [] h k = absurd (omega (arith, h, k))
+    first (s ∷ ks) h k = s

@@ -20,7 +20,8 @@ use std::alloc::{AllocError, Global};
 use std::sync::ledger::Ledger;
 use steps::Steps;
 
-// Where a walk from a name stands, beside the last one that was sent.
+// Where a walk stands at a name, found beside the stand of the last binding that was sent, if that is
+// kept.
 fn stand_at<S: Successors<L>, L: Ledger>(source: &S, sent: &Sent, name: &Oid) -> Stand
     requires { AreStands (S.stands source.now) sent.now.stands (names_of sent.now.bindings) }
     ensures { S.stands source.now result name.now }
@@ -31,7 +32,7 @@ fn stand_at<S: Successors<L>, L: Ledger>(source: &S, sent: &Sent, name: &Oid) ->
     }
 }
 
-// Where the walk stands at the name of the binding so many places back.
+// Where the walk stands at the name of the binding so many places back: as it was kept, if it was.
 fn stand_back<S: Successors<L>, L: Ledger>(
     source: &S,
     sent: &Sent,
@@ -43,7 +44,9 @@ fn stand_back<S: Successors<L>, L: Ledger>(
     requires some { 1 ≤ back }
     requires name { name.now ≡ get_or (names_of sent.now.bindings)
         (length sent.now.bindings - back) [] }
-    ensures { S.stands source.now result name.now }
+    ensures stands { S.stands source.now result name.now }
+    ensures kept { back ≤ length sent.now.stands →
+        result ≡ get_or sent.now.stands (length sent.now.stands - back) result }
 {
     match sent.stand(back) {
         Some(stand) => *stand,

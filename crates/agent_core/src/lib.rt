@@ -32,7 +32,7 @@
 //! # Not claimed
 //! That memory was refused where want of it is answered; of objects whose devices take no plans,
 //! which calls of a Set failed, and so which variable is told as failed; what is passed over, and
-//! how often `answer` looks.
+//! how often `answer` looks, or asks the view.
 #![tactic(auto)]
 
 mod answered;

@@ -30,9 +30,9 @@ fn end_under(alloc: Global, name: &Oid) -> Result<Binding, AllocError>
 /// What GetNext answers under a name (RFC 3416, 4.2.2), over the instances that the view shows.
 /// Only memory can fail.
 ///
-/// It looks at the source at most once for each instance that the view hides, and once more. The walk
-/// stands at the name, and then at that of the binding; where it goes on, it keeps what it learns of
-/// the view.
+/// It looks at the source at most once for each instance that the view hides, and once more. The stand is
+/// at the name before the call, and at the binding's name after it. `goes_on` says whether the walk is
+/// continued behind the binding: then it keeps what it learns of the view. Only time depends on that.
 pub fn get_next_from<S: Successors<L>, L: Ledger>(
     alloc: Global,
     source: &S,
@@ -49,11 +49,11 @@ pub fn get_next_from<S: Successors<L>, L: Ledger>(
     ensures work { steps.new ≤ steps.old + most_looks (S.shows source.now) (S.instances source.now) }
 {
     source.known();
-    let asked = *stand;
+    let before = *stand;
     match next_shown(alloc, source, name, goes_on, stand, steps)? {
         Some(row) => Ok(row),
         None => {
-            *stand = asked;
+            *stand = before;
             end_under(alloc, name)
         }
     }

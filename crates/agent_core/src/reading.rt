@@ -31,8 +31,8 @@ fn is_shown<S: Successors<L>, L: Ledger>(
 }
 
 /// The first instance after a name that the view shows (RFC 3416, 4.2.2). Each look at the source
-/// is a step: one for each hidden instance that is passed over, and one more. The walk stands at what
-/// is found then. Only memory can fail.
+/// is a step: there are at most as many as the view hides instances, and one more. Where an instance is
+/// found, the walk then stands at its name. Only memory can fail.
 pub fn next_shown<S: Successors<L>, L: Ledger>(
     alloc: Global,
     source: &S,
@@ -59,8 +59,7 @@ pub fn next_shown<S: Successors<L>, L: Ledger>(
     Ok(None)
 }
 
-// The first instance after another one, which is let go here: in the loop it would be let go beside
-// what is found.
+// The first instance after a row. It takes the row, so that the row is let go here and not in the loop.
 fn next_row<S: Successors<L>, L: Ledger>(
     alloc: Global,
     source: &S,

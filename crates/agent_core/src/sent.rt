@@ -12,8 +12,8 @@ use message_core::{Binding, Bindings, encoded_len};
 use std::alloc::{AllocError, Global};
 use std::marker::Model;
 
-/// Of how many bindings it is kept where a walk stands: of the columns of a repetition, but for one
-/// of more.
+/// The number of last bindings for which it is kept where a walk stands. In a repetition of more
+/// columns each binding begins with a search.
 pub const MAX_STANDS: usize = 16;
 
 /// The bindings of a GetBulk's reply so far, and the octets that they may have (RFC 3416, 4.2.3: as
@@ -61,7 +61,8 @@ impl Sent {
     }
 
     /// Adds a binding where there is room for it (RFC 3416, 4.2.3), and says whether there was.
-    /// Only memory can fail; then nothing changes but that the binding is let go.
+    /// With it is kept where a walk stands at its name. A binding that is not added is let go. Only
+    /// memory can fail; then nothing changes.
     pub fn offer(&mut self, binding: Binding, stand: Stand) -> Result<bool, AllocError>
         requires { IsEncodableBinding binding }
         ensures taken { IfOk result (λ taken. IsTrue taken →
@@ -93,7 +94,8 @@ impl Sent {
         &all[all.len() - count..]
     }
 
-    /// Where a walk stands at the name of the binding so many places back, where that is kept.
+    /// Where a walk stands at the name of the binding so many places back, 1 for the last, where that is
+    /// kept.
     pub fn stand(&self, back: usize) -> Option<&Stand>
         requires { 1 ≤ back }
         ensures { option_copied result ≡ (if nat_le back (length self.now.stands)

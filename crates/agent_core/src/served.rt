@@ -22,8 +22,9 @@ use std::sync::ledger::{Blank, Ledger};
 use steps::Steps;
 use vacm_core::{FrontAnswer, Name, Vacm};
 
-/// Managed objects, and the world that they show (RFC 3416, 4.2: the variables to which an agent
-/// has access), but for the objects that a view is seen to hide whole: these are passed over.
+/// Managed objects, the world that they show (RFC 3416, 4.2: the variables to which an agent has
+/// access), and the view by which some instances are shown (RFC 3415, 2.4). Objects that the view is
+/// seen to hide whole are passed over.
 #[derive(Drop)]
 pub struct Served<'a, O: MibObject> {
     /// The objects.
@@ -67,7 +68,7 @@ pub(crate) fn object_in<O: MibObject>(
     }
 }
 
-// The front of a name of which the view shows every name, by the answer on the name.
+// The front of a name under which the view shows every name, by the answer on the name.
 fn shown_front<'a>(under: &FrontAnswer, name: &'a Oid) -> Option<&'a [u32]>
     requires { IfSome under.now.front (λ count. count ≤ length name.now) }
     ensures { option_copied result ≡ (if is_included under.now.answer
@@ -114,7 +115,11 @@ impl<O: MibObject> Served<'_, O> {
     {
         let mut passed: Steps<L> = Steps::new(blank);
         let name = name.as_slice();
-        let Stand { place, until } = *stand;
+        let Stand {
+            place,
+            until,
+            asked: _,
+        } = *stand;
         self.registry
             .next_open(alloc, self.world, name, place, until, self, &mut passed)
     }
@@ -148,8 +153,7 @@ impl<O: MibObject, L: Ledger> Successors<L> for Served<'_, O> {
     }
 
     fn start(&self, name: &Oid) -> Stand {
-        let place = self.registry.place_near(name.as_slice(), NOWHERE);
-        Stand { place, until: 0 }
+        Stand::at(self.registry.place_near(name.as_slice(), NOWHERE))
     }
 
     fn start_beside(&self, name: &Oid, other: &Stand) -> Stand {
@@ -160,7 +164,10 @@ impl<O: MibObject, L: Ledger> Successors<L> for Served<'_, O> {
         } else {
             0
         };
-        Stand { place, until }
+        Stand {
+            until,
+            ..Stand::at(place)
+        }
     }
 
     fn next(
@@ -187,6 +194,10 @@ impl<O: MibObject, L: Ledger> Successors<L> for Served<'_, O> {
         if place < stand.until {
             return true;
         }
+        if stand.asked == Some(place) {
+            return self.has_name(name);
+        }
+        stand.asked = Some(place);
         let under = self.vacm.in_view_under(self.view, name);
         if let Some(front) = shown_front(&under, name) {
             stand.until = self.registry.begun_until(front, place);

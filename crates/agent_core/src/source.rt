@@ -15,18 +15,34 @@ pub(crate) const NOWHERE: usize = usize::MAX;
 /// known that the view shows them whole.
 #[derive(Clone, Copy, Debug, PartialEq, Eq)]
 pub struct Stand {
-    /// The place of the object whose name begins the name, or of the first object behind it.
+    /// `Ok`: the place of the object whose name begins the name. `Err`: there is none, and this is the
+    /// place of the first object whose name is greater, or the end.
     pub place: Result<usize, usize>,
     /// Of the objects from that place on and in front of this one the view shows every name.
     pub until: usize,
+    /// The place of the object at which the view was asked last for a front. At that place no other
+    /// front is asked for. No clause depends on it, only time does.
+    pub asked: Option<usize>,
 }
 
+impl Stand {
+    /// Where a walk stands at the place of a name, when it knows nothing of the view.
+    pub fn at(place: Result<usize, usize>) -> Stand
+        ensures place { result.place ≡ place }
+        ensures until { result.until ≡ 0 }
+    {
+        Stand {
+            place,
+            until: 0,
+            asked: None,
+        }
+    }
+}
+
+// `ArrayVec` wants a default. It stands at no name.
 impl Default for Stand {
     fn default() -> Stand {
-        Stand {
-            place: Err(0),
-            until: 0,
-        }
+        Stand::at(Err(0))
     }
 }
 
@@ -77,14 +93,15 @@ pub trait Successors<L: Ledger>: View {
     fn start(&self, name: &Oid) -> Stand
         ensures { stands self.now result name.now };
 
-    /// The same, beside a walk that stands at another name. It takes less time where the two names
-    /// have one object or neighbours.
+    /// The same, beside a walk that stands at another name. It may take less time where both names
+    /// are under one object, or under neighbours.
     fn start_beside(&self, name: &Oid, other: &Stand) -> Stand
         requires { (at : List ℕ) × stands self.now other.now at }
         ensures { stands self.now result name.now };
 
     /// A copy of the first instance after a name, where there is one (RFC 3416, 4.2.2), at which the
-    /// walk stands then. It is one step. Only memory can fail.
+    /// walk stands then; where there is none, or memory fails, it stands at no known name. It is one
+    /// step. Only memory can fail.
     fn next(
         &self,
         alloc: Global,
@@ -98,16 +115,16 @@ pub trait Successors<L: Ledger>: View {
             IfSome found (λ b. stands self.now stand.new b.name)) }
         ensures work { steps.new ≡ steps.old + 1 };
 
-    /// Whether the view shows a name at which a walk stands. The view is asked only where the walk
-    /// does not know it yet.
+    /// Whether the view shows a name at which a walk stands. The view is asked only where it is not
+    /// known yet.
     fn is_shown(&self, name: &Oid, stand: &mut Stand) -> bool
         requires { stands self.now stand.old name.now }
         ensures shown { result ≡ Self.shows self.now name.now }
         ensures stands { stands self.now stand.new name.now };
 }
 
-/// The same instances with their values, and the objects that they belong to, none of which begins
-/// another.
+/// The same instances with their values, and the objects that they belong to, none of whose names
+/// begins another's.
 pub trait Source<L: Ledger>: Successors<L> {
     ghost use Rattle.std.specs.Prelude.{List, ℕ};
     ghost use Rattle.setphase_core.specs.Registry.{AreApart};

@@ -46,13 +46,11 @@ impl<O: MibObject, L: Ledger> Successors<L> for Whole<'_, O> {
     }
 
     fn start(&self, name: &Oid) -> Stand {
-        let place = self.registry.place_near(name.as_slice(), NOWHERE);
-        Stand { place, until: 0 }
+        Stand::at(self.registry.place_near(name.as_slice(), NOWHERE))
     }
 
     fn start_beside(&self, name: &Oid, _other: &Stand) -> Stand {
-        let place = self.registry.place_near(name.as_slice(), NOWHERE);
-        Stand { place, until: 0 }
+        Stand::at(self.registry.place_near(name.as_slice(), NOWHERE))
     }
 
     fn next(
@@ -67,7 +65,7 @@ impl<O: MibObject, L: Ledger> Successors<L> for Whole<'_, O> {
             return Ok(None);
         };
         let place = self.registry.place_near(found.name.as_slice(), NOWHERE);
-        *stand = Stand { place, until: 0 };
+        *stand = Stand::at(place);
         Ok(Some(found))
     }
 

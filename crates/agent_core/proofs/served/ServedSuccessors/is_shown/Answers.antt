@@ -15,7 +15,7 @@ returns-clause-stands g c =
     elim c.match-shown_front.branch [
       | in-Some w ↦
           subst (λ (s : Stand). IsStand shows names s c.args.name.now) (sym w.stand-is)
-          (open_stand shows names c.args.stand.now c.args.name.now w.in-Some.front.now c.in-Ok.place _ c.requires c.in-Ok.is w.begun_until-stand.ensures
+          (open_stand shows names c.args.stand.now c.args.name.now w.in-Some.front.now c.in-Ok.place _ _ c.requires c.in-Ok.is w.begun_until-stand.ensures
           (front_shown shows c.args.name.now w.in-Some.front.now c.in_view_under-under.result.front (is_included c.in_view_under-under.result.answer) (sym (ap option_copied w.in-Some.is) ∙ c.shown_front.ensures) c.in_view_under-under.ensures.shown))
-      | in_default-shown_front w ↦ subst (λ (s : Stand). IsStand shows names s c.args.name.now) (sym w.stand-is) c.requires
+      | in_default-shown_front w ↦ subst (λ (s : Stand). IsStand shows names s c.args.name.now) (sym w.stand-is) (record { place = c.requires.place; until = c.requires.until })
     ]
