@@ -13,7 +13,7 @@ serve:
 # manager by stored runs, in which the agent is played; last, where root has network namespaces, it tries the feeder, and by it the
 # agent between two hosts.
 # As many checks run at a time as there are processors, each in one job,
-# since a check in two takes some half more processor time (docs/PROOFS.md, Times). rt then looks at no free memory: have some 4 GB for each processor, or give a smaller RT_JOBS.
+# since a check in two takes some half more processor time. rt then looks at no free memory: have some 4 GB for each processor, or give a smaller RT_JOBS.
 test:
 	RT_JOBS=$${RT_JOBS:-$$(nproc)} rt ci
 	tools/stored-scripts
