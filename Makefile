@@ -9,11 +9,11 @@ serve:
 	tools/serve
 
 # Reads the words of the documents; proves every crate, tries the must-fail edits, runs the tests and the programs; then runs the agent
-# so built over the stored scripts and over a random one, and serves it over UDP, where the manager and, if it is there, Net-SNMP ask it; then runs the
-# manager by stored runs, in which the agent is played; last, where root has network namespaces, it tries the feeder, and by it the
-# agent between two hosts.
-# As many checks run at a time as there are processors, each in one job,
-# since a check in two takes some half more processor time. rt then looks at no free memory: have some 4 GB for each processor, or give a smaller RT_JOBS.
+# so built over the stored scripts and over a random one, and serves it over UDP, where the manager and, if it is there, Net-SNMP ask
+# it; then runs the manager by stored runs, in which the agent is played; last, where root has network namespaces, it tries the
+# feeder, and by it the agent between two hosts.
+# As many checks run at a time as there are processors, each in one job, since a check in two takes some half more processor time. rt
+# then takes no account of free memory: have some 4 GB for each processor, or give a smaller RT_JOBS.
 test:
 	tools/words
 	RT_JOBS=$${RT_JOBS:-$$(nproc)} rt ci
