@@ -9,7 +9,6 @@ pub mod StaticSplit
 pub mod StaticKept
 pub mod StaticFound
 pub mod StaticWalk
-pub mod Compared
 pub mod StaticOf
 pub mod StaticNext
 pub mod PortBits

@@ -1,6 +1,6 @@
 -- The static rows of one address.
-use Rattle.std.proofs.Common.{◌≡◌, ℕ, ◌-◌, ◌<◌, ◌≤◌, zero, suc, Bool, true, false, cond, not, ◌&&◌, List, [], ◌∷◌, ◌++◌, length, get_or, take, drop, refl, sym, ap, subst, ◌∙◌, arith}
-use Rattle.std.specs.Prelude.{filter, find, ◌==◌, Option, Some, None}
+use Rattle.std.proofs.Common.{◌≡◌, ℕ, ◌-◌, ◌<◌, ◌≤◌, zero, suc, Bool, true, false, cond, not, ◌&&◌, List, [], ◌∷◌, ◌++◌, length, get_or, take, drop, refl, sym, ap, ◌∙◌, arith}
+use Rattle.std.specs.Prelude.{filter, find, ◌==◌, Option, Some}
 use Rattle.std.specs.List.{AllByRecursion}
 use Rattle.std.specs.List.Sorted.{IsStrictlySortedBy, IsPartitionPoint}
 use Rattle.std.specs.Cmp.Lexicographic.{slice_cmp}
@@ -93,19 +93,18 @@ module _ (d : Mac) where
 
   -- the rows in front that are of the address are all, where the one behind them is not
   pub of_front : (xs : List StaticRow) (n : ℕ) → IsRising xs → AllByRecursion (λ r. is_from d r.index ≡ true) xs
-      → ((k : ℕ) → k < n → is_eq (mac_cmp (get_or xs k no_row).index.address d) ≡ true)
-      → (n < length xs → (length (get_or xs n no_row).index.address.0 ≡ length d.0) × (is_eq (mac_cmp (get_or xs n no_row).index.address d) ≡ false))
+      → ((k : ℕ) → k < n → same_mac (get_or xs k no_row).index.address d ≡ true)
+      → (n < length xs → (length (get_or xs n no_row).index.address.0 ≡ length d.0) × (same_mac (get_or xs n no_row).index.address d ≡ false))
       → take n xs ≡ rows_of xs d
   unfolding IsStrictlySortedBy
   of_front [] zero up from front stop = refl
   of_front [] (suc n) up from front stop = refl
   of_front (x ∷ xs) zero up from front stop =
       let here = stop (omega arith) in
-      let above : mac_cmp x.index.address d ≡ Greater = above_by x.index from.0 here.0 here.1 in
-      let other : same_mac x.index.address d ≡ false = sym (is_eq-slice_cmp x.index.address.0 d.0) ∙ here.1 in
-      sym (dropped x (rows_of xs d) (same_mac x.index.address d) other (none_of x.index here.0 above xs up.0))
+      let above : mac_cmp x.index.address d ≡ Greater = above_by x.index from.0 here.0 (is_eq-slice_cmp x.index.address.0 d.0 ∙ here.1) in
+      sym (dropped x (rows_of xs d) (same_mac x.index.address d) here.1 (none_of x.index here.0 above xs up.0))
   of_front (x ∷ xs) (suc n) up from front stop =
-      let same : same_mac x.index.address d ≡ true = sym (is_eq-slice_cmp x.index.address.0 d.0) ∙ front 0 (omega arith) in
+      let same : same_mac x.index.address d ≡ true = front 0 (omega arith) in
       let more : take n xs ≡ rows_of xs d = of_front xs n up.1 from.1 (λ k lt. front (suc k) (omega arith)) (λ lt. stop (omega arith)) in
       ap (λ l. x ∷ l) more ∙ sym (kept same)
     where

@@ -3,13 +3,12 @@ ghost use Rattle.std.specs.Prelude.{◌≡◌, ◌≤◌, ◌<◌, true, length,
 ghost use Rattle.std.specs.List.{AllByRecursion};
 ghost use Rattle.std.specs.Cmp.Lexicographic.{slice_cmp};
 ghost use Rattle.std.specs.Ordering.{nat_cmp, is_gt};
-ghost use Rattle.frame_core.specs.Octets.{mac_cmp};
+ghost use Rattle.frame_core.specs.Octets.{same_mac};
 ghost use Rattle.fdb_core.specs.StaticPlaces.{IsRowAt, IsGapAt, is_from};
 ghost use Rattle.fdb_core.specs.Statics.{numbers_of, IsRising, row_of, rows_of, put_row, without_row, made_rows, next_made};
 
 use crate::static_row::{StaticIndex, StaticRow};
 use frame_core::Mac;
-use std::cmp::Ordering;
 
 // Where the row of the index stands, or where it would.
 fn place_of(rows: &[StaticRow], index: StaticIndex) -> Result<usize, usize>
@@ -36,23 +35,19 @@ pub fn row_at(rows: &[StaticRow], index: StaticIndex) -> Option<StaticRow>
     }
 }
 
-// How two addresses compare, octet by octet; both have six. Four octets are compared at once, and
-// then two.
-fn compare(address: Mac, other: Mac) -> Ordering
-    ensures order { result ≡ mac_cmp address other }
-    ensures long { length address.0 ≡ length other.0 }
+// Whether an index is one of the address; both addresses have six octets.
+fn is_of(index: StaticIndex, address: Mac) -> bool
+    ensures is { result ≡ same_mac index.address address }
+    ensures long { length index.address.0 ≡ length address.0 }
 {
-    let [a, b, c, d, e, f] = address.0;
-    let [g, h, i, j, k, l] = other.0;
-    let parts = (u32::from_be_bytes([a, b, c, d]), u16::from_be_bytes([e, f]));
-    parts.cmp(&(u32::from_be_bytes([g, h, i, j]), u16::from_be_bytes([k, l])))
+    index.address == address
 }
 
 // Whether an index comes before all those of the address.
 fn is_before(index: StaticIndex, address: Mac) -> bool
     ensures { result ≡ not (is_from address index) }
 {
-    compare(index.address, address).is_lt()
+    index.address < address
 }
 
 // How many rows of the address stand in front, where no row is before them.
@@ -63,7 +58,7 @@ fn count_of(rows: &[StaticRow], address: Mac) -> usize
     ensures bound { result ≤ length rows.now }
 {
     for i in 0..rows.len() {
-        if compare(rows[i].index.address, address).is_ne() {
+        if !is_of(rows[i].index, address) {
             return i;
         }
     }

@@ -4,3 +4,4 @@ pub mod Sent
 pub mod Bits
 pub mod Readings
 pub mod Equal
+pub mod Compared

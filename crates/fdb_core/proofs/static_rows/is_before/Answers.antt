@@ -1,7 +1,8 @@
-use Rattle.std.proofs.Common.{ap, ◌∙◌}
-use Rattle.std.specs.Ordering.{is_lt}
+use Rattle.std.proofs.Common.{◌≡◌, length, rules, ◌∙◌}
 use Rattle.fdb_core.proofs.StaticOf.{before_by}
 use Rattle.fdb_core.proofs.static_rows.is_before.Goals as goal
 
 pub returns : goal.returns
-returns c = c.is_lt.ensures ∙ (ap is_lt c.compare.ensures.order ∙ before_by c.args.index c.args.address c.compare.ensures.long)
+returns c =
+    let six : length c.args.index.address.0 ≡ length c.args.address.0 = search rules in
+    c.lt.ensures ∙ before_by c.args.index c.args.address six
