@@ -49,7 +49,7 @@ fn shows_below<S: Source<L>, L: Ledger>(
     }
     let mut stand = source.start(object);
     match next_shown(alloc, source, object, false, &mut stand, steps)? {
-        Some(row) => Ok(object.is_prefix(&row.name)),
+        Some(spot) => Ok(object.is_prefix(&source.name(alloc, &spot)?)),
         None => Ok(false),
     }
 }

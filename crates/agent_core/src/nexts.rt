@@ -50,13 +50,14 @@ pub fn get_next_from<S: Successors<L>, L: Ledger>(
 {
     source.known();
     let before = *stand;
-    match next_shown(alloc, source, name, goes_on, stand, steps)? {
-        Some(row) => Ok(row),
-        None => {
-            *stand = before;
-            end_under(alloc, name)
-        }
-    }
+    let Some(spot) = next_shown(alloc, source, name, goes_on, stand, steps)? else {
+        *stand = before;
+        return end_under(alloc, name);
+    };
+    Ok(Binding {
+        name: source.name(alloc, &spot)?,
+        value: source.value(alloc, &spot),
+    })
 }
 
 /// What GetNext answers under a name (RFC 3416, 4.2.2), over the instances that the view shows.

@@ -1,12 +1,13 @@
 //! The next instance that a view shows.
 ghost use Rattle.std.specs.Prelude.{◌≡◌, ◌≤◌, ◌+◌, IfOk, IfSome};
+ghost use Rattle.std.specs.Option.{option_map};
 ghost use Rattle.message_core.specs.Instances.{next_of};
 ghost use Rattle.agent_core.specs.Reading.{visible};
 ghost use Rattle.agent_core.specs.Looking.{most_looks};
 
 use crate::source::{Stand, Successors};
-use message_core::Binding;
 use oid_core::Oid;
+use setphase_core::Spot;
 use std::alloc::{AllocError, Global};
 use std::sync::ledger::Ledger;
 use steps::Steps;
@@ -30,9 +31,31 @@ fn is_shown<S: Successors<L>, L: Ledger>(
     }
 }
 
-/// The first instance after a name that the view shows (RFC 3416, 4.2.2). Each look at the source
-/// is a step: there are at most as many as the view hides instances, and one more. Where an instance is
-/// found, the walk then stands at its name. Only memory can fail.
+// Whether the view shows the instance at a spot, at whose name a walk stands. Its name is made only
+// where the view has to be asked.
+fn is_shown_there<S: Successors<L>, L: Ledger>(
+    alloc: Global,
+    source: &S,
+    spot: &Spot,
+    goes_on: bool,
+    stand: &mut Stand,
+) -> Result<bool, AllocError>
+    requires there { S.is_there source.now spot.now }
+    requires stands { S.stands source.now stand.old (S.at source.now spot.now).name }
+    ensures shown { IfOk result (λ shown.
+        shown ≡ S.shows source.now (S.at source.now spot.now).name) }
+    ensures stands { S.stands source.now stand.new (S.at source.now spot.now).name }
+{
+    if goes_on && source.is_known_shown(stand) {
+        return Ok(true);
+    }
+    let name = source.name(alloc, spot)?;
+    Ok(is_shown(source, &name, goes_on, stand))
+}
+
+/// Where the first instance after a name stands that the view shows (RFC 3416, 4.2.2). Each lookup at
+/// the source is a step: there are at most as many as the view hides instances, and one more. Where an
+/// instance is found, the walk then stands at its name. Only memory can fail.
 pub fn next_shown<S: Successors<L>, L: Ledger>(
     alloc: Global,
     source: &S,
@@ -40,38 +63,44 @@ pub fn next_shown<S: Successors<L>, L: Ledger>(
     goes_on: bool,
     stand: &mut Stand,
     steps: &mut Steps<L>,
-) -> Result<Option<Binding>, AllocError>
+) -> Result<Option<Spot>, AllocError>
     requires { S.stands source.now stand.old name.now }
-    ensures found { IfOk result (λ found.
-        found ≡ next_of (visible (S.shows source.now) (S.instances source.now)) name.now) }
-    ensures stands { IfOk result (λ found.
-        IfSome found (λ b. S.stands source.now stand.new b.name)) }
+    ensures found { IfOk result (λ found. option_map (S.at source.now) found
+        ≡ next_of (visible (S.shows source.now) (S.instances source.now)) name.now) }
+    ensures there { IfOk result (λ found. IfSome found (S.is_there source.now)) }
+    ensures stands { IfOk result (λ found. IfSome found (λ spot.
+        S.stands source.now stand.new (S.at source.now spot).name)) }
     ensures work { steps.new ≤ steps.old + most_looks (S.shows source.now) (S.instances source.now) }
 {
     source.known();
-    let mut found = source.next(alloc, name, stand, steps)?;
-    while let Some(row) = found {
-        if is_shown(source, &row.name, goes_on, stand) {
-            return Ok(Some(row));
+    let mut found = source.next(name, stand, steps);
+    while let Some(spot) = found {
+        if is_shown_there(alloc, source, &spot, goes_on, stand)? {
+            return Ok(Some(spot));
         }
-        found = next_row(alloc, source, row, stand, steps)?;
+        found = next_behind(alloc, source, &spot, stand, steps)?;
     }
     Ok(None)
 }
 
-// The first instance after a row. It takes the row, so that the row is let go here and not in the loop.
-fn next_row<S: Successors<L>, L: Ledger>(
+// Where the first instance behind that at a spot stands.
+fn next_behind<S: Successors<L>, L: Ledger>(
     alloc: Global,
     source: &S,
-    row: Binding,
+    spot: &Spot,
     stand: &mut Stand,
     steps: &mut Steps<L>,
-) -> Result<Option<Binding>, AllocError>
-    requires { S.stands source.now stand.old row.name }
-    ensures found { IfOk result (λ found. found ≡ next_of (S.instances source.now) row.name) }
-    ensures stands { IfOk result (λ found.
-        IfSome found (λ b. S.stands source.now stand.new b.name)) }
-    ensures work { steps.new ≡ steps.old + 1 }
+) -> Result<Option<Spot>, AllocError>
+    requires there { S.is_there source.now spot.now }
+    requires stands { S.stands source.now stand.old (S.at source.now spot.now).name }
+    ensures found { IfOk result (λ found. option_map (S.at source.now) found
+        ≡ next_of (S.instances source.now) (S.at source.now spot.now).name) }
+    ensures there { IfOk result (λ found. IfSome found (S.is_there source.now)) }
+    ensures stands { IfOk result (λ found. IfSome found (λ spot.
+        S.stands source.now stand.new (S.at source.now spot).name)) }
+    ensures work { IfOk result (λ _. steps.new ≡ steps.old + 1) }
+    ensures few { steps.new ≤ steps.old + 1 }
 {
-    source.next(alloc, &row.name, stand, steps)
+    let name = source.name(alloc, spot)?;
+    Ok(source.next(&name, stand, steps))
 }

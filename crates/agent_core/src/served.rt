@@ -10,12 +10,12 @@ ghost use Rattle.vacm_core.specs.Families.{in_view, is_included};
 ghost use Rattle.std.specs.Option.{option_copied};
 ghost use Rattle.agent_core.specs.Reading.{object_of};
 ghost use Rattle.agent_core.specs.Standing.{IsStand};
-ghost use Rattle.setphase_core.specs.Walking.{first_place};
+ghost use Rattle.setphase_core.specs.Walking.{first_place, IsThere, instance_at};
 
 use crate::source::{NOWHERE, Source, Stand, Successors, View, first_place};
-use message_core::{Binding, Value};
+use message_core::Value;
 use oid_core::{Oid, OidFault};
-use setphase_core::{MibObject, Passing, Registry, Successor, World};
+use setphase_core::{MibObject, Passing, Registry, Spot, World};
 use std::alloc::{AllocError, Global};
 use std::marker::Brand;
 use std::sync::ledger::{Blank, Ledger};
@@ -95,23 +95,24 @@ impl<O: MibObject> Served<'_, O> {
     // counted in the ledger of the blank, and by no clause here.
     fn next_uncounted<L: Ledger>(
         &self,
-        alloc: Global,
         name: &Oid,
         stand: &Stand,
         blank: Blank,
-    ) -> Result<Option<Successor>, AllocError>
+    ) -> Option<Spot>
         requires stands { IsStand (in_view self.now.vacm.now.families self.now.view.now)
             (prefixes_of (rows_of self.now.registry.now)) stand.now name.now }
         requires name { blank.name ≡ L.name }
         requires parts { blank.parts ≡ L.parts }
         requires some { 0 < blank.parts }
-        ensures found { IfOk result (λ found. option_map (λ f. f.binding) found ≡ next_of
-            (open_instances (hides_all self.now.vacm.now.families self.now.view.now)
-            (rows_of self.now.registry.now) self.now.world.now) name.now) }
-        ensures place { IfOk result (λ found. IfSome found (λ f.
-            IsPlace (prefixes_of (rows_of self.now.registry.now)) f.binding.name (Ok f.place))) }
-        ensures behind { IfOk result (λ found. IfSome found (λ f.
-            first_place stand.now.place ≤ f.place)) }
+        ensures found { let rows = rows_of self.now.registry.now in
+            option_map (instance_at rows self.now.world.now) result ≡ next_of (open_instances
+            (hides_all self.now.vacm.now.families self.now.view.now) rows self.now.world.now)
+            name.now }
+        ensures there { IfSome result (IsThere (rows_of self.now.registry.now) self.now.world.now) }
+        ensures place { let rows = rows_of self.now.registry.now in IfSome result (λ spot.
+            IsPlace (prefixes_of rows) (instance_at rows self.now.world.now spot).name
+            (Ok spot.place)) }
+        ensures behind { IfSome result (λ spot. first_place stand.now.place ≤ spot.place) }
     {
         let mut passed: Steps<L> = Steps::new(blank);
         let name = name.as_slice();
@@ -121,7 +122,7 @@ impl<O: MibObject> Served<'_, O> {
             asked: _,
         } = *stand;
         self.registry
-            .next_open(alloc, self.world, name, place, until, self, &mut passed)
+            .next_open(self.world, name, place, until, self, &mut passed)
     }
 }
 
@@ -140,10 +141,15 @@ impl<O: MibObject, L: Ledger> Successors<L> for Served<'_, O> {
     ghost use Rattle.vacm_core.specs.Hiding.{hides_all};
     ghost use Rattle.setphase_core.specs.Registry.{rows_of, prefixes_of};
     ghost use Rattle.setphase_core.specs.Passing.{open_instances};
+    ghost use Rattle.setphase_core.specs.Walking.{IsThere, instance_at};
     ghost use Rattle.agent_core.specs.Standing.{IsStand};
 
     ghost instances = { λ s. open_instances (hides_all s.vacm.now.families s.view.now)
         (rows_of s.registry.now) s.world.now };
+
+    ghost at = { λ s. instance_at (rows_of s.registry.now) s.world.now };
+
+    ghost is_there = { λ s. IsThere (rows_of s.registry.now) s.world.now };
 
     ghost stands = { λ s. IsStand (in_view s.vacm.now.families s.view.now)
         (prefixes_of (rows_of s.registry.now)) };
@@ -170,30 +176,33 @@ impl<O: MibObject, L: Ledger> Successors<L> for Served<'_, O> {
         }
     }
 
-    fn next(
-        &self,
-        alloc: Global,
-        name: &Oid,
-        stand: &mut Stand,
-        steps: &mut Steps<L>,
-    ) -> Result<Option<Binding>, AllocError> {
-        // A step is one look here: the objects that it passes over have a ledger of their own.
+    fn next(&self, name: &Oid, stand: &mut Stand, steps: &mut Steps<L>) -> Option<Spot> {
+        // A step is one lookup here: the objects that it passes over have a ledger of their own.
         steps.tick();
-        let found = self.next_uncounted::<Brand>(alloc, name, stand, Blank::new(1))?;
-        let Some(Successor { binding, place }) = found else {
-            return Ok(None);
-        };
-        stand.place = Ok(place);
-        Ok(Some(binding))
+        let spot = self.next_uncounted::<Brand>(name, stand, Blank::new(1))?;
+        stand.place = Ok(spot.place);
+        Some(spot)
+    }
+
+    fn name(&self, alloc: Global, spot: &Spot) -> Result<Oid, AllocError> {
+        self.registry.name_at(alloc, spot)
+    }
+
+    fn value(&self, alloc: Global, spot: &Spot) -> Value {
+        self.registry.value_at(alloc, self.world, spot)
+    }
+
+    fn is_known_shown(&self, stand: &Stand) -> bool {
+        match stand.place {
+            Ok(place) => place < stand.until,
+            Err(_) => false,
+        }
     }
 
     fn is_shown(&self, name: &Oid, stand: &mut Stand) -> bool {
         let Ok(place) = stand.place else {
             return self.has_name(name);
         };
-        if place < stand.until {
-            return true;
-        }
         if stand.asked == Some(place) {
             return self.has_name(name);
         }

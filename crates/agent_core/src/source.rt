@@ -2,8 +2,9 @@
 ghost use Rattle.std.specs.Prelude.{◌≡◌, ◌+◌, IfOk, IfSome};
 ghost use Rattle.setphase_core.specs.Walking.{first_place};
 
-use message_core::{Binding, Value};
+use message_core::Value;
 use oid_core::Oid;
+use setphase_core::Spot;
 use std::alloc::{AllocError, Global};
 use std::sync::ledger::Ledger;
 use steps::Steps;
@@ -69,17 +70,24 @@ pub trait View {
 }
 
 /// Instances in the order of their names, each of which can be served, as a walk sees them, and the
-/// view that shows some of them: the walk may ask for the instance after a name, and each time is a
-/// step in the ledger that the trait names. A function of this bound alone asks for no value, and
-/// counts its steps in no other ledger.
+/// view that shows some of them: the walk may ask where the instance after a name stands, and each
+/// time is a step in the ledger that the trait names. Its name and its value are made where they are
+/// wanted. A function of this bound alone asks for no value under a name, and counts its steps in no
+/// other ledger.
 pub trait Successors<L: Ledger>: View {
-    ghost use Rattle.std.specs.Prelude.{List, ℕ};
+    ghost use Rattle.std.specs.Prelude.{List, ℕ, true, IfSome};
+    ghost use Rattle.std.specs.Option.{option_map};
+    ghost use Rattle.setphase_core.specs.declared.passing.Spot.{Spot};
     ghost use Rattle.message_core.specs.Instances.{IsServable, next_of};
     ghost use Rattle.message_core.specs.declared.binding.Binding.{Binding};
     ghost use Rattle.agent_core.specs.declared.source.Stand.{Stand};
 
     // All instances.
     ghost instances: { Self → List Binding };
+
+    // The instance at a spot, and whether one stands there.
+    ghost at: { Self → Spot → Binding };
+    ghost is_there: { Self → Spot → Type 0 };
 
     // Whether a walk stands at a name.
     ghost stands: { Self → Stand → List ℕ → Type 0 };
@@ -99,21 +107,30 @@ pub trait Successors<L: Ledger>: View {
         requires { (at : List ℕ) × stands self.now other.now at }
         ensures { stands self.now result name.now };
 
-    /// A copy of the first instance after a name, where there is one (RFC 3416, 4.2.2), at which the
-    /// walk stands then; where there is none, or memory fails, it stands at no known name. It is one
-    /// step. Only memory can fail.
-    fn next(
-        &self,
-        alloc: Global,
-        name: &Oid,
-        stand: &mut Stand,
-        steps: &mut Steps<L>,
-    ) -> Result<Option<Binding>, AllocError>
+    /// Where the first instance after a name stands, where there is one (RFC 3416, 4.2.2): the walk
+    /// stands at its name then; where there is none, it stands at no known name. It is one step, and
+    /// takes no memory.
+    fn next(&self, name: &Oid, stand: &mut Stand, steps: &mut Steps<L>) -> Option<Spot>
         requires { stands self.now stand.old name.now }
-        ensures found { IfOk result (λ found. found ≡ next_of (instances self.now) name.now) }
-        ensures stands { IfOk result (λ found.
-            IfSome found (λ b. stands self.now stand.new b.name)) }
+        ensures found { option_map (at self.now) result ≡ next_of (instances self.now) name.now }
+        ensures there { IfSome result (is_there self.now) }
+        ensures stands { IfSome result (λ spot. stands self.now stand.new (at self.now spot).name) }
         ensures work { steps.new ≡ steps.old + 1 };
+
+    /// The name of the instance at a spot. Only memory can fail.
+    fn name(&self, alloc: Global, spot: &Spot) -> Result<Oid, AllocError>
+        requires { is_there self.now spot.now }
+        ensures { IfOk result (λ name. name ≡ (at self.now spot.now).name) };
+
+    /// Its value. It takes no memory.
+    fn value(&self, alloc: Global, spot: &Spot) -> Value
+        requires { is_there self.now spot.now }
+        ensures { result ≡ (at self.now spot.now).value };
+
+    /// Whether it is known already that the view shows the name at which a walk stands.
+    fn is_known_shown(&self, stand: &Stand) -> bool
+        ensures { result ≡ true → (name : List ℕ) → stands self.now stand.now name →
+            Self.shows self.now name ≡ true };
 
     /// Whether the view shows a name at which a walk stands. The view is asked only where it is not
     /// known yet.

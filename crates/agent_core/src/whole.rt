@@ -4,9 +4,9 @@ ghost use Rattle.std.specs.Prelude.{◌≡◌};
 
 use crate::served::object_in;
 use crate::source::{NOWHERE, Source, Stand, Successors, View};
-use message_core::{Binding, Value};
+use message_core::Value;
 use oid_core::Oid;
-use setphase_core::{MibObject, Registry, World};
+use setphase_core::{MibObject, Registry, Spot, World};
 use std::alloc::{AllocError, Global};
 use std::sync::ledger::Ledger;
 use steps::Steps;
@@ -34,9 +34,14 @@ impl<O: MibObject> View for Whole<'_, O> {
 impl<O: MibObject, L: Ledger> Successors<L> for Whole<'_, O> {
     ghost use Rattle.setphase_core.specs.Registry.{rows_of, prefixes_of};
     ghost use Rattle.setphase_core.specs.Searching.{IsPlace};
+    ghost use Rattle.setphase_core.specs.Walking.{IsThere, instance_at};
     ghost use Rattle.agent_core.specs.Answers.{shown_of};
 
     ghost instances = { λ s. (shown_of (rows_of s.registry.now) s.world.now).instances };
+
+    ghost at = { λ s. instance_at (rows_of s.registry.now) s.world.now };
+
+    ghost is_there = { λ s. IsThere (rows_of s.registry.now) s.world.now };
 
     ghost stands = { λ s stand name.
         IsPlace (prefixes_of (rows_of s.registry.now)) name stand.place };
@@ -53,20 +58,23 @@ impl<O: MibObject, L: Ledger> Successors<L> for Whole<'_, O> {
         Stand::at(self.registry.place_near(name.as_slice(), NOWHERE))
     }
 
-    fn next(
-        &self,
-        alloc: Global,
-        name: &Oid,
-        stand: &mut Stand,
-        steps: &mut Steps<L>,
-    ) -> Result<Option<Binding>, AllocError> {
+    fn next(&self, name: &Oid, stand: &mut Stand, steps: &mut Steps<L>) -> Option<Spot> {
         steps.tick();
-        let Some(found) = self.registry.next(alloc, self.world, name.as_slice())? else {
-            return Ok(None);
-        };
-        let place = self.registry.place_near(found.name.as_slice(), NOWHERE);
-        *stand = Stand::at(place);
-        Ok(Some(found))
+        let spot = self.registry.next_spot(self.world, name.as_slice(), stand.place)?;
+        *stand = Stand::at(Ok(spot.place));
+        Some(spot)
+    }
+
+    fn name(&self, alloc: Global, spot: &Spot) -> Result<Oid, AllocError> {
+        self.registry.name_at(alloc, spot)
+    }
+
+    fn value(&self, alloc: Global, spot: &Spot) -> Value {
+        self.registry.value_at(alloc, self.world, spot)
+    }
+
+    fn is_known_shown(&self, _stand: &Stand) -> bool {
+        true
     }
 
     fn is_shown(&self, _name: &Oid, _stand: &mut Stand) -> bool {

@@ -9,6 +9,7 @@ pub mod Found
 pub mod Next
 pub mod Passed
 pub mod Walks
+pub mod AtSpots
 pub mod Rising
 pub mod Served
 pub mod Indexes

@@ -1,5 +1,5 @@
 -- The first instance behind a name, object by object.
-use Rattle.std.proofs.Common.{◌≡◌, ℕ, zero, suc, ◌+◌, ◌<◌, ◌≤◌, Bool, true, false, cond, nat_eq, nat_lt, List, [], ◌∷◌, ◌++◌, map, length, drop, find, refl, sym, ap, subst, ◌∙◌, arith, Option, Some, None, option_map, inl, inr, length-append, IfSome}
+use Rattle.std.proofs.Common.{◌≡◌, ℕ, ◌+◌, ◌≤◌, Bool, true, false, cond, nat_eq, nat_lt, List, [], ◌∷◌, ◌++◌, map, length, drop, find, refl, sym, ap, ◌∙◌, arith, Option, Some, None, option_map, inl, inr, length-append, IfSome}
 use Rattle.std.specs.Option.{option_or}
 use Rattle.std.proofs.lemmas.List.{append_cancel_left}
 use Rattle.std.proofs.lemmas.List.Folds.{find-append}
@@ -13,8 +13,7 @@ use Rattle.setphase_core.specs.declared.world.World.{World}
 use Rattle.setphase_core.specs.Values.{IndexedValue, value_at, first_after, index_after}
 use Rattle.setphase_core.specs.Columns.{shown_by}
 use Rattle.setphase_core.specs.Objects.{ObjectRow}
-use Rattle.setphase_core.specs.Registry.{prefixes_of, under, instances_under, instances}
-use Rattle.setphase_core.specs.Searching.{prefix_at}
+use Rattle.setphase_core.specs.Registry.{under, instances_under, instances}
 use Rattle.setphase_core.proofs.Found.{instances-cons, instances-nil}
 
 name_lt-prefix : (p e n : List ℕ) → name_lt n (p ++ e) ≡ cond (is_prefix p n) (name_lt (drop (length p) n) e) (name_lt n p)

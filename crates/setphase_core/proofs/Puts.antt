@@ -1,5 +1,5 @@
 -- The settings of a world as a finite map, from those of its bridge and from its static rows.
-use Rattle.std.proofs.Common.{◌≡◌, ◌≢◌, ℕ, ◌<◌, ◌≤◌, zero, suc, Bool, true, false, cond, nat_eq, List, length, refl, sym, ap, subst, ◌∙◌, ◌↔◌, arith}
+use Rattle.std.proofs.Common.{◌≡◌, ◌≢◌, ℕ, ◌≤◌, zero, suc, Bool, true, false, cond, nat_eq, List, length, refl, sym, ap, subst, ◌∙◌, ◌↔◌, arith}
 use Rattle.std.proofs.lemmas.Bool.Decides.{nat_tests}
 use Rattle.std.proofs.lemmas.List.{length-set}
 use Rattle.rstp_settings.specs.declared.key.PortValues.{PortValues}

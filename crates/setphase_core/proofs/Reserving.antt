@@ -9,10 +9,10 @@ use Rattle.setting_keys.specs.declared.SettingValue.TheVariants.{Number, Ports}
 use Rattle.setphase_core.specs.declared.object.Assignment.{Assignment}
 use Rattle.setphase_core.specs.declared.staging.Staged.{Staged}
 use Rattle.setphase_core.specs.declared.world.World.{World}
-use Rattle.setphase_core.specs.Objects.{ObjectState, IsCommitted}
-use Rattle.setphase_core.specs.Outcomes.{world_by, world_after_set, stuck, has_key, firsts, committed_of, keys_of}
+use Rattle.setphase_core.specs.Objects.{ObjectState}
+use Rattle.setphase_core.specs.Outcomes.{world_by, stuck, has_key, firsts, committed_of, keys_of}
 use Rattle.setphase_core.specs.Settings.{put, same_settings_of, HasSetting, IsSettingInRange}
-use Rattle.setphase_core.specs.Staging.{IsUnderWay, StandsUndoable, HasRoomFor, assignments_of, static_count, object_at, entry_at}
+use Rattle.setphase_core.specs.Staging.{IsUnderWay, HasRoomFor, assignments_of, static_count, entry_at}
 use Rattle.setphase_core.specs.Together.{assign, assignments}
 use Rattle.setphase_core.specs.Variables.{Written}
 use Rattle.setphase_core.proofs.Room.{places-assign}

@@ -17,12 +17,10 @@ use Rattle.setting_keys.specs.declared.SettingValue.TheVariants.{Number, Ports}
 use Rattle.setphase_core.specs.declared.object.Assignment.{Assignment}
 use Rattle.setphase_core.specs.declared.staging.Staged.{Staged}
 use Rattle.setphase_core.specs.declared.world.World.{World}
-use Rattle.setphase_core.specs.Outcomes.{writers_of}
 use Rattle.setphase_core.specs.Settings.{setting, put, same_index, same_settings, same_port_values, made_number, same_static_row, same_static_rows, same_settings_of}
 use Rattle.setphase_core.specs.Staging.{entry_at, assignment_of_entry, assignments_of, IsDistinct, IsLegal, AreLegal}
 use Rattle.setphase_core.specs.Tested.{value_among}
 use Rattle.setphase_core.specs.Together.{assign}
-use Rattle.setphase_core.specs.Variables.{Written}
 use Rattle.setphase_core.proofs.Assigns.{different, distinct_below, assign_more}
 use Rattle.setphase_core.proofs.Firsts.{same_itself, same_bool-Decides, same_ports-Decides}
 use Rattle.setphase_core.proofs.Puts.{put-again, ports-kept}

@@ -1,11 +1,11 @@
 -- What a walk finds, by the place from which on it goes.
-use Rattle.std.proofs.Common.{◌≡◌, ℕ, ◌+◌, ◌<◌, ◌≤◌, Bool, true, false, ◌||◌, List, ◌∷◌, [], ◌++◌, length, drop, refl, sym, ap, ◌∙◌, arith, Option, Some, None, IfSome, Ok, Err}
+use Rattle.std.proofs.Common.{◌≡◌, ℕ, ◌+◌, ◌<◌, ◌≤◌, Bool, true, false, ◌||◌, List, ◌∷◌, [], ◌++◌, length, drop, refl, sym, ap, ◌∙◌, arith, Option, Some, None, IfSome, Err}
 use Rattle.message_core.specs.Instances.{next_of}
 use Rattle.oid_core.specs.Order.{name_lt, is_prefix}
 use Rattle.setphase_core.specs.declared.world.World.{World}
 use Rattle.setphase_core.specs.declared.passing.Spot.{Spot}
 use Rattle.setphase_core.specs.Objects.{ObjectRow}
-use Rattle.setphase_core.specs.Registry.{prefixes_of, instances}
+use Rattle.setphase_core.specs.Registry.{instances}
 use Rattle.setphase_core.specs.Passing.{open_rows, open_instances}
 use Rattle.setphase_core.specs.Searching.{prefix_at, IsOwnerPlace, IsPlace}
 use Rattle.setphase_core.specs.Walking.{AreAhead, IsFound}

@@ -1,14 +1,18 @@
 -- What a walk over objects finds behind a name, and the steps that it takes.
-use Rattle.std.specs.Prelude.{◌≡◌, ℕ, ◌+◌, ◌<◌, ◌≤◌, Bool, true, false, List, ◌++◌, length, drop, get_or, Option, Some, None, Result, Ok, Err}
+use Rattle.std.specs.Prelude.{◌≡◌, ℕ, ◌+◌, ◌<◌, ◌≤◌, Bool, true, false, List, ◌++◌, length, drop, get_or, slice_get, unwrap_or, Option, Some, None, IsSome, Result, Ok, Err}
 use Rattle.std.specs.List.{count_by}
-use Rattle.std.specs.Option.{option_map}
+use Rattle.std.specs.Option.{option_map, option_and_then}
 use Rattle.oid_core.specs.Order.{name_lt, is_prefix}
 use Rattle.message_core.specs.declared.binding.Binding.{Binding}
+use Rattle.message_core.specs.declared.value.Value.{Value}
+use Rattle.message_core.specs.declared.value.Value.TheVariants.{NoSuchInstance}
 use Rattle.message_core.specs.Instances.{next_of}
 use Rattle.setphase_core.specs.declared.world.World.{World}
 use Rattle.setphase_core.specs.declared.passing.Spot.{Spot}
 use Rattle.setphase_core.specs.Objects.{ObjectRow}
-use Rattle.setphase_core.specs.Registry.{first_fault, instances_under}
+use Rattle.setphase_core.specs.Values.{value_at}
+use Rattle.setphase_core.specs.Columns.{shown_by}
+use Rattle.setphase_core.specs.Registry.{prefixes_of, first_fault, instances_under}
 use Rattle.setphase_core.specs.Passing.{open_instances, passed_ahead}
 use Rattle.setphase_core.specs.Searching.{prefix_at}
 
@@ -72,3 +76,21 @@ IsPassedOrFound passes rows w name place old new None =
 IsPassedOrFound passes rows w name place old new (Some spot) =
     IsSpot passes rows w name place spot
     × (first_fault (drop place rows) ≡ None → IsWalk passes (drop place rows) w name old new)
+
+-- The value at a spot, where an instance stands there.
+abbrev pub value_there : List ObjectRow → World → Spot → Option Value
+value_there rows w spot = option_and_then (λ row. value_at (shown_by row.column w) spot.index.items)
+    (slice_get rows spot.place)
+
+-- an instance stands there
+pub record IsThere (rows : List ObjectRow) (w : World) (spot : Spot) : Type 0 where
+  pub within : spot.place < length rows
+  pub value : IsSome (value_there rows w spot)
+
+-- The instance at a spot: its name is the object's name and the index. Where none stands there, its
+-- value is that there is none.
+abbrev pub instance_at : List ObjectRow → World → Spot → Binding
+instance_at rows w spot = record {
+  name = prefix_at (prefixes_of rows) spot.place ++ spot.index.items;
+  value = unwrap_or (value_there rows w spot) NoSuchInstance;
+}

@@ -9,7 +9,8 @@
 //! [`Registry`]: objects by rising name, with `owner`, `read`, `next`; `place_near`, the place of a
 //! name among them, by which `owner_at`, `read_at` and `next_open` go; `begun_until`, up to where
 //! their names begin with a front; `owner_steps`, which counts its steps. `next_open` passes over
-//! objects as a whole by a test of their names, a [`Passing`], and gives a [`Successor`].
+//! objects as a whole by a test of their names, a [`Passing`], and gives a [`Spot`]; `name_at` and `value_at` give the
+//! instance that stands there.
 //! `known` hands on that no object's name begins another's and that what they show can be served;
 //! `held`, `release` and `arm` of all objects. [`are_named`]: whether objects have names that a
 //! registry asks for, of objects of which nothing else is known.
@@ -94,11 +95,11 @@ mod registry;
 mod search;
 mod sets;
 mod slots;
+mod spots;
 mod staging;
 mod static_index;
 mod static_limit;
 mod testing;
-mod walk;
 mod world;
 mod writable;
 
@@ -111,11 +112,10 @@ pub use limits::{
 };
 pub use named::are_named;
 pub use object::{Assignment, DeviceFault, Index, MibObject, Reservation, SetFault, Slot};
-pub use passing::Passing;
+pub use passing::{Passing, Spot};
 pub use registry::{Registry, RegistryFault};
 pub use sets::{Refusal, SetOutcome, run_set};
 pub use slots::Slots;
 pub use staging::{Staged, Staging, Standing, TestedVariable, VariableFault};
-pub use walk::Successor;
 pub use world::World;
 pub use writable::{IntegerTarget, Target, Writable, assignment_by};

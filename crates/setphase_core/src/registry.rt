@@ -1,19 +1,20 @@
 //! Objects in the order of their names.
-ghost use Rattle.std.specs.Prelude.{◌≡◌, ◌<◌, ◌≤◌, ◌+◌, ◌-◌, ◌*◌, ◌^◌, ℕ, Bool, List, length, map, Some, None, Ok, IfOk, IfSome, IsOk, MatchResult};
+ghost use Rattle.std.specs.Prelude.{◌≡◌, ◌<◌, ◌≤◌, ◌+◌, ◌-◌, ◌*◌, ◌^◌, ◌++◌, ℕ, Bool, List, length, map, Some, None, Ok, IfOk, IfSome, IsOk, MatchResult};
 ghost use Rattle.std.specs.Option.{option_copied, option_map};
 ghost use Rattle.message_core.specs.Instances.{next_of, value_of, IsServable};
 ghost use Rattle.setphase_core.specs.Registry.{rows_of, prefixes_of, first_fault, AreApart, AreNamed, HasShortName, owner_of, instances};
 ghost use Rattle.setphase_core.specs.Passing.{open_instances, passed_after, passed_ahead};
-ghost use Rattle.setphase_core.specs.Searching.{IsPlace, AreBegun, least_comparisons};
-ghost use Rattle.setphase_core.specs.Walking.{AreOpen, first_place};
+ghost use Rattle.setphase_core.specs.Searching.{IsPlace, prefix_at, AreBegun, least_comparisons};
+ghost use Rattle.setphase_core.specs.Walking.{AreOpen, first_place, IsThere, instance_at};
+ghost use Rattle.oid_core.specs.declared.limits.TheConstants.{INLINE_NUMBERS};
 
 use crate::object::MibObject;
-use crate::passing::Passing;
-use crate::search::{begun_until, owner_name, place_by_search, place_near, place_of, value_there};
-use crate::walk::{Successor, next_from};
+use crate::passing::{Passing, Spot};
+use crate::search::{begun_until, owner_name, place_by_search, place_near, place_of, value_of_name};
+use crate::spots::{find_spot, name_there, value_there};
 use crate::world::World;
 use message_core::{Binding, Value};
-use oid_core::{begins, precedes};
+use oid_core::{Oid, begins, precedes};
 use std::alloc::{AllocError, Global};
 use std::marker::{Brand, Model};
 use std::sync::ledger::{Blank, Ledger};
@@ -185,7 +186,7 @@ impl<O: MibObject> Registry<O> {
         ensures { result ≡ value_of (instances (rows_of self.now) world.now) name.now }
     {
         let objects = self.objects.as_slice();
-        value_there(alloc, objects, world, name, place_by_search(objects, name))
+        value_of_name(alloc, objects, world, name, place_by_search(objects, name))
     }
 
     /// The same, by the place of the name. It takes no memory.
@@ -199,7 +200,7 @@ impl<O: MibObject> Registry<O> {
         requires { IsPlace (prefixes_of (rows_of self.now)) name.now place }
         ensures { result ≡ value_of (instances (rows_of self.now) world.now) name.now }
     {
-        value_there(alloc, self.objects.as_slice(), world, name, place)
+        value_of_name(alloc, self.objects.as_slice(), world, name, place)
     }
 
     /// The first instance after a name, where there is one: the objects are asked for one successor
@@ -217,69 +218,106 @@ impl<O: MibObject> Registry<O> {
             → IsOk result }
     {
         let place = place_by_search(self.objects.as_slice(), name);
-        self.next_uncounted::<Brand>(alloc, world, name, place, Blank::new(1))
+        let Some(spot) = self.next_spot(world, name, place) else {
+            return Ok(None);
+        };
+        let name = self.name_at(alloc, &spot)?;
+        let value = self.value_at(alloc, world, &spot);
+        Ok(Some(Binding { name, value }))
     }
 
-    // The same, by the place of the name, where nobody counts: the ledger is that of the blank.
+    /// Where the first instance after a name stands, where there is one, by the place of the name. It
+    /// takes no memory.
+    pub fn next_spot(
+        &self,
+        world: &World,
+        name: &[u32],
+        place: Result<usize, usize>,
+    ) -> Option<Spot>
+        requires { IsPlace (prefixes_of (rows_of self.now)) name.now place }
+        ensures found { option_map (instance_at (rows_of self.now) world.now) result
+            ≡ next_of (instances (rows_of self.now) world.now) name.now }
+        ensures there { IfSome result (IsThere (rows_of self.now) world.now) }
+        ensures place { IfSome result (λ spot. IsPlace (prefixes_of (rows_of self.now))
+            (instance_at (rows_of self.now) world.now spot).name (Ok spot.place)) }
+    {
+        self.next_uncounted::<Brand>(world, name, place, Blank::new(1))
+    }
+
+    // The same, where nobody counts: the ledger is that of the blank.
     fn next_uncounted<L: Ledger>(
         &self,
-        alloc: Global,
         world: &World,
         name: &[u32],
         place: Result<usize, usize>,
         blank: Blank,
-    ) -> Result<Option<Binding>, AllocError>
+    ) -> Option<Spot>
         requires place { IsPlace (prefixes_of (rows_of self.now)) name.now place }
         requires name { blank.name ≡ L.name }
         requires parts { blank.parts ≡ L.parts }
         requires some { 0 < blank.parts }
-        ensures found { IfOk result (λ found.
-            found ≡ next_of (instances (rows_of self.now) world.now) name.now) }
-        ensures inline { HasShortName (next_of (instances (rows_of self.now) world.now) name.now)
-            → IsOk result }
+        ensures found { option_map (instance_at (rows_of self.now) world.now) result
+            ≡ next_of (instances (rows_of self.now) world.now) name.now }
+        ensures there { IfSome result (IsThere (rows_of self.now) world.now) }
+        ensures place { IfSome result (λ spot. IsPlace (prefixes_of (rows_of self.now))
+            (instance_at (rows_of self.now) world.now spot).name (Ok spot.place)) }
     {
         let mut steps: Steps<L> = Steps::new(blank);
-        match self.next_open(alloc, world, name, place, 0, &PassesNone, &mut steps)? {
-            Some(Successor { binding, place: _ }) => Ok(Some(binding)),
-            None => Ok(None),
-        }
+        self.next_open(world, name, place, 0, &PassesNone, &mut steps)
     }
 
-    /// The first instance after a name, where there is one, among those of the objects that are not
-    /// passed over, by the place of the name; with it comes the place of its object, which is that
-    /// of its name. It takes memory as `next` does. It is one step, and one for each object that is
-    /// passed over between the name and the instance, or the end: so the steps, and the objects
-    /// ahead that are to be passed over, are together as many as before, and one more.
+    /// Where the first instance after a name stands, where there is one, among those of the objects
+    /// that are not passed over, by the place of the name. It takes no memory. It is one step, and one
+    /// for each object that is passed over between the name and the instance, or the end: so the
+    /// steps, and the objects ahead that are to be passed over, are together as many as before, and
+    /// one more.
     ///
     /// Of the objects from the place on and in front of `until` it is known that none is passed over.
     /// No name is compared: an object behind the place of a name is asked for its first instance.
     pub fn next_open<P: Passing, L: Ledger>(
         &self,
-        alloc: Global,
         world: &World,
         name: &[u32],
         place: Result<usize, usize>,
         until: usize,
         passing: &P,
         steps: &mut Steps<L>,
-    ) -> Result<Option<Successor>, AllocError>
+    ) -> Option<Spot>
         requires place { IsPlace (prefixes_of (rows_of self.now)) name.now place }
         requires until { AreOpen (P.passes passing.now) (prefixes_of (rows_of self.now))
             (first_place place) until }
-        ensures found { IfOk result (λ found. option_map (λ f. f.binding) found ≡ next_of
-            (open_instances (P.passes passing.now) (rows_of self.now) world.now) name.now) }
-        ensures place { IfOk result (λ found. IfSome found (λ f.
-            IsPlace (prefixes_of (rows_of self.now)) f.binding.name (Ok f.place))) }
-        ensures behind { IfOk result (λ found. IfSome found (λ f. first_place place ≤ f.place)) }
-        ensures inline { HasShortName (next_of
-            (open_instances (P.passes passing.now) (rows_of self.now) world.now) name.now)
-            → IsOk result }
+        ensures found { option_map (instance_at (rows_of self.now) world.now) result ≡ next_of
+            (open_instances (P.passes passing.now) (rows_of self.now) world.now) name.now }
+        ensures there { IfSome result (IsThere (rows_of self.now) world.now) }
+        ensures place { IfSome result (λ spot. IsPlace (prefixes_of (rows_of self.now))
+            (instance_at (rows_of self.now) world.now spot).name (Ok spot.place)) }
+        ensures behind { IfSome result (λ spot. first_place place ≤ spot.place) }
         ensures work { steps.new + passed_ahead (P.passes passing.now) (rows_of self.now) (next_of
             (open_instances (P.passes passing.now) (rows_of self.now) world.now) name.now)
             ≡ steps.old + passed_after (P.passes passing.now) (rows_of self.now) name.now + 1 }
     {
         let objects = self.objects.as_slice();
         steps.tick();
-        next_from(alloc, objects, world, name, place, until, passing, steps)
+        find_spot(objects, world, name, place, until, passing, steps)
+    }
+
+    /// The name of the instance at a spot. It takes memory only where it has more than
+    /// `oid_core::INLINE_NUMBERS` numbers.
+    pub fn name_at(&self, alloc: Global, spot: &Spot) -> Result<Oid, AllocError>
+        requires { spot.now.place < length self.now }
+        ensures name { IfOk result (λ name. name
+            ≡ prefix_at (prefixes_of (rows_of self.now)) spot.now.place ++ spot.now.index.items) }
+        ensures inline { length (prefix_at (prefixes_of (rows_of self.now)) spot.now.place
+            ++ spot.now.index.items) ≤ INLINE_NUMBERS → IsOk result }
+    {
+        name_there(alloc, self.objects.as_slice(), spot)
+    }
+
+    /// The value of the instance at a spot. It takes no memory.
+    pub fn value_at(&self, alloc: Global, world: &World, spot: &Spot) -> Value
+        requires { IsThere (rows_of self.now) world.now spot.now }
+        ensures { result ≡ (instance_at (rows_of self.now) world.now spot.now).value }
+    {
+        value_there(alloc, self.objects.as_slice(), world, spot)
     }
 }

@@ -134,7 +134,7 @@ pub fn owner_name<'a, O: MibObject>(
 }
 
 /// The value of the instance of that name, by the place of the name.
-pub fn value_there<O: MibObject>(
+pub fn value_of_name<O: MibObject>(
     alloc: Global,
     objects: &[O],
     world: &World,

@@ -41,12 +41,12 @@ fn open_after<O: MibObject, L: Ledger>(
 {
     let mut steps: Steps<L> = Steps::new(blank);
     let place = registry.place_near(name, 0);
-    match registry.next_open(alloc, world, name, place, 0, &Hidden(hidden), &mut steps)? {
-        Some(found) => match found.binding.name.as_slice() {
-            [_, _, object, index] => Ok((*object, *index)),
-            _ => Ok((0, 0)),
-        },
-        None => Ok((0, 0)),
+    let Some(spot) = registry.next_open(world, name, place, 0, &Hidden(hidden), &mut steps) else {
+        return Ok((0, 0));
+    };
+    match registry.name_at(alloc, &spot)?.as_slice() {
+        [_, _, object, index] => Ok((*object, *index)),
+        _ => Ok((0, 0)),
     }
 }
 

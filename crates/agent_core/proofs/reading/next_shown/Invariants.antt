@@ -1,4 +1,5 @@
 use Rattle.std.proofs.Common.{◌≡◌, ◌≤◌, ◌+◌, length, find, IfSome}
+use Rattle.std.specs.Option.{option_map}
 use Rattle.message_core.specs.Instances.{next_of}
 use Rattle.agent_core.specs.Reading.{visible}
 use Rattle.agent_core.specs.Looking.{hidden_count, most_looks}
@@ -10,11 +11,13 @@ abbrev pub invariant-loop-found : goal.invariant-loop-found
 invariant-loop-found g l =
     let shows = g.S.View.shows l.source in
     let rows = g.S.Successors.instances l.source in
+    let at = option_map (g.S.Successors.at l.source) l.found in
     record {
-      answer : next_of (visible shows rows) l.name ≡ find (λ row. shows row.name) (from rows l.found);
-      stands : IfSome l.found (λ b. g.S.Successors.stands l.source l.stand b.name);
-      work : l.steps + hidden_count shows (from rows l.found) ≤ l.fn.steps + most_looks shows rows;
+      answer : next_of (visible shows rows) l.name ≡ find (λ row. shows row.name) (from rows at);
+      there : IfSome l.found (g.S.Successors.is_there l.source);
+      stands : IfSome l.found (λ spot. g.S.Successors.stands l.source l.stand (g.S.Successors.at l.source spot).name);
+      work : l.steps + hidden_count shows (from rows at) ≤ l.fn.steps + most_looks shows rows;
     }
 
 abbrev pub decreases-loop-found : goal.decreases-loop-found
-decreases-loop-found g l = length (from (g.S.Successors.instances l.source) l.found)
+decreases-loop-found g l = length (from (g.S.Successors.instances l.source) (option_map (g.S.Successors.at l.source) l.found))

@@ -1,5 +1,4 @@
-use Rattle.std.proofs.Common.{◌≡◌, ◌≤◌, sym, ap, ◌∙◌, length, drop, true, Some, List, ℕ, arith}
-use Rattle.oid_core.specs.Order.{is_prefix}
+use Rattle.std.proofs.Common.{ap, ◌∙◌, length, drop, Some, List, ℕ, arith}
 use Rattle.setphase_core.specs.Objects.{ObjectRow}
 use Rattle.setphase_core.specs.Values.{index_after}
 use Rattle.setphase_core.specs.Columns.{shown_by}

@@ -1,15 +1,12 @@
-use Rattle.std.proofs.Common.{◌≡◌, ◌≤◌, ◌+◌, ◌∙◌, Bool, List, ℕ, map, drop, length, Result, Ok, Err, Some, None, IfSome, sym, subst, arith}
-use Rattle.message_core.specs.Instances.{next_of}
-use Rattle.setphase_core.specs.declared.passing.Spot.{Spot}
+use Rattle.std.proofs.Common.{◌≤◌, ◌+◌, ◌∙◌, Bool, List, ℕ, map, Result, Some, IfSome, sym, subst, arith}
 use Rattle.setphase_core.specs.Objects.{ObjectRow}
-use Rattle.setphase_core.specs.Registry.{rows_of, prefixes_of, first_fault}
-use Rattle.setphase_core.specs.Passing.{open_instances}
-use Rattle.setphase_core.specs.Searching.{IsOwnerPlace, IsPlace}
+use Rattle.setphase_core.specs.Registry.{rows_of, prefixes_of}
+use Rattle.setphase_core.specs.Searching.{IsPlace}
 use Rattle.setphase_core.specs.Walking.{first_place, IsPassedOrFound}
 use Rattle.setphase_core.proofs.Ordered.{ordered_from}
 use Rattle.setphase_core.proofs.Searches.{start_found, start_behind}
 use Rattle.setphase_core.proofs.Passed as passed
-use Rattle.setphase_core.proofs.Walks.{none_of, ahead_behind, ahead_own, found_whole, found_after}
+use Rattle.setphase_core.proofs.Walks.{none_of, ahead_own, found_whole, found_after}
 use Rattle.setphase_core.proofs.passing.next_spot.Goals as goal
 
 pub returns-in-Err-clause-found : goal.returns-in-Err-clause-found

@@ -1,10 +1,8 @@
-use Rattle.std.proofs.Common.{◌≡◌, ◌<◌, ◌∙◌, ◌+◌, Bool, true, false, List, ◌∷◌, ◌++◌, ℕ, map, drop, length, None, refl, sym, ap, subst, arith}
+use Rattle.std.proofs.Common.{◌≡◌, ◌∙◌, Bool, false, List, ◌++◌, ℕ, map, drop, refl, sym, ap, subst, arith}
 use Rattle.std.specs.Option.{option_map}
 use Rattle.oid_core.specs.Order.{is_prefix}
-use Rattle.message_core.specs.Instances.{next_of}
-use Rattle.setphase_core.specs.declared.passing.Spot.{Spot}
 use Rattle.setphase_core.specs.Objects.{ObjectRow}
-use Rattle.setphase_core.specs.Registry.{rows_of, prefixes_of, instances_under}
+use Rattle.setphase_core.specs.Registry.{rows_of}
 use Rattle.setphase_core.specs.Walking.{IsPassedOrFound}
 use Rattle.setphase_core.proofs.Places.{prefix_there, prefixes_length, row_there, rows_count, split_there}
 use Rattle.setphase_core.proofs.Next.{named_none}

@@ -1,4 +1,4 @@
-use Rattle.std.proofs.Common.{◌≡◌, ◌≤◌, sym, ap, ◌∙◌, length, drop, List, ℕ, arith}
+use Rattle.std.proofs.Common.{sym, ap, ◌∙◌, length, drop, List, ℕ, arith}
 use Rattle.setphase_core.specs.Objects.{ObjectRow}
 use Rattle.setphase_core.specs.Values.{value_at}
 use Rattle.setphase_core.specs.Columns.{shown_by}

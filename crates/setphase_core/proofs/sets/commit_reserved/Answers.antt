@@ -1,4 +1,4 @@
-use Rattle.std.proofs.Common.{◌≡◌, ◌∙◌, ℕ, ◌+◌, ◌<◌, ◌≤◌, ◌⊎◌, inl, inr, true, false, ap, sym, not, List, length, max, arith}
+use Rattle.std.proofs.Common.{◌≡◌, ◌∙◌, ℕ, ◌+◌, ◌<◌, ◌≤◌, inl, inr, true, false, ap, sym, not, List, length, max, arith}
 use Rattle.std.proofs.lemmas.Bool.{cases_lt}
 use Rattle.bridge_core.specs.Bridge.{BridgeState}
 use Rattle.setphase_core.specs.declared.staging.Staged.{Staged}

@@ -1,4 +1,4 @@
-use Rattle.std.proofs.Common.{◌≡◌, arith}
+use Rattle.std.proofs.Common.{arith}
 use Rattle.setphase_core.proofs.StaticLimits.{few_fit}
 use Rattle.setphase_core.proofs.static_limit.is_within_rows.Goals as goal
 

@@ -6,7 +6,7 @@ use Rattle.setphase_core.specs.Registry.{rows_of, prefixes_of, instances_under}
 use Rattle.setphase_core.specs.Searching.{IsPlace, IsOwnerPlace}
 use Rattle.setphase_core.proofs.Places.{prefixes_length, prefix_there, row_there}
 use Rattle.setphase_core.proofs.Found as found
-use Rattle.setphase_core.proofs.search.value_there.Goals as goal
+use Rattle.setphase_core.proofs.search.value_of_name.Goals as goal
 
 pub value_under-requires : goal.value_under-requires
 value_under-requires g c =
