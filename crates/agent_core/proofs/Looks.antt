@@ -58,11 +58,6 @@ first_look shows rows name found start now h is one =
     let f : hidden_count shows (after name rows) ≤ hidden_count shows rows = hidden_filter shows _ rows in
     omega (arith, c, f, one)
 
--- a first look that finds no memory
-pub one_look : (shows : List ℕ → Bool) (rows : List Binding) (start now : ℕ) → now ≡ start + 1 → now ≤ start + most_looks shows rows
-unfolding most_looks
-one_look shows rows start now one = omega (arith, one)
-
 -- an instance that is passed over is hidden
 hidden_here : (shows : List ℕ → Bool) (rows : List Binding) (found : Option Binding) (row : Binding) → found ≡ Some row → shows row.name ≡ false →
     hidden_count shows (from rows found) ≡ 1 + hidden_count shows (after row.name rows)
@@ -78,13 +73,6 @@ next_look shows rows found next row now later most h here is hides before one =
     let past : hidden_count shows (from rows found) ≡ 1 + hidden_count shows (after row.name rows) = hidden_here shows rows found row here hides in
     let step : hidden_count shows (from rows next) ≡ hidden_count shows (after row.name rows) = ap (hidden_count shows) (from_step rows next row row.name h refl is) in
     omega (arith, past, step, before, one)
-
--- a look more that finds no memory
-pub last_look : (shows : List ℕ → Bool) (rows : List Binding) (found : Option Binding) (row : Binding) (now later most : ℕ) → found ≡ Some row → shows row.name ≡ false →
-    now + hidden_count shows (from rows found) ≤ most → later ≡ now + 1 → later ≤ most
-last_look shows rows found row now later most here hides before one =
-    let past : hidden_count shows (from rows found) ≡ 1 + hidden_count shows (after row.name rows) = hidden_here shows rows found row here hides in
-    omega (arith, past, before, one)
 
 -- nothing is hidden
 all_seen : (shows : List ℕ → Bool) (rows : List Binding) → All (λ row. shows row.name ≡ true) rows → hidden_count shows rows ≡ 0

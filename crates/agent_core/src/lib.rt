@@ -9,10 +9,11 @@
 //! whole are passed over.
 //! [`short_reply`] writes the reply for a want of memory, and takes none. [`get`] answers from
 //! any [`Source`], and [`get_next`] and [`get_bulk`] from any [`Successors`], each of which is a
-//! [`View`] too: they can ask it for nothing but the next instance and whether the view shows a name,
-//! and each next instance is a step. A walk stands at a name ([`Stand`]): at the place of the name
-//! among the objects, and knows of those from there on how far the view shows them whole. Each column
-//! of a GetBulk walks by itself. [`Answered`] is what `answer` gives, with an [`Audit`], whose line
+//! [`View`] too: they can ask it for nothing but where the next instance stands, for its name and its
+//! value, and whether the view shows a name; each next instance is a step. The name and the value of
+//! an instance are made where it is sent. A walk stands at a name ([`Stand`]): at the place of the
+//! name among the objects, and knows of those from there on how far the view shows them whole. Each
+//! column of a GetBulk walks by itself. [`Answered`] is what `answer` gives, with an [`Audit`], whose line
 //! [`audit_line`] writes.
 //!
 //! # Definitions
