@@ -9,3 +9,4 @@ pub mod Standing
 pub mod Replies
 pub mod Sets
 pub mod Answers
+pub mod Making

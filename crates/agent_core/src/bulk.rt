@@ -1,17 +1,18 @@
 //! GetBulk: non-repeaters, repetitions, and where they stop (RFC 3416, 4.2.3).
 ghost use Rattle.std.specs.Prelude.{◌≡◌, ◌≤◌, ◌+◌, ◌-◌, ◌*◌, ◌++◌, [], ◌∷◌, List, false, length, min, get_or, IfOk, OnOk, OnErr, IsTrue, drop};
 ghost use Rattle.oid_core.specs.Name.{HasRoot};
-ghost use Rattle.message_core.specs.Encodable.{AreEncodable};
+ghost use Rattle.message_core.specs.Encodable.{AreEncodable, IsEncodableBinding};
 ghost use Rattle.message_core.specs.declared.limits.TheConstants.{MAX_COMMUNITY};
 ghost use Rattle.message_core.specs.Instances.{names_of};
 ghost use Rattle.agent_core.specs.Reading.{visible, next_answer, next_answers};
 ghost use Rattle.agent_core.specs.Looking.{most_looks};
 ghost use Rattle.agent_core.specs.Bulk.{all_end, repetitions, further, bulk_list, count_of, asked_list};
-ghost use Rattle.agent_core.specs.Sending.{AreStands};
+ghost use Rattle.agent_core.specs.Sending.{kept, AreStands};
+ghost use Rattle.agent_core.specs.Making.{binding_of, IsMade};
 ghost use Rattle.agent_core.specs.Fitting.{fitting_front, fit_into, most_successors, IsFilled};
 ghost use Rattle.message_core.specs.declared.binding.Binding.{Binding};
 
-use crate::nexts::get_next_from;
+use crate::nexts::{NextAnswer, find_next};
 use crate::sent::Sent;
 use crate::source::{Stand, Successors};
 use message_core::{Binding, Bindings, Request, Value, bindings_room};
@@ -54,6 +55,36 @@ fn stand_back<S: Successors<L>, L: Ledger>(
     }
 }
 
+// Sends the binding of an answer where there is room for it, and says whether there was. Where a walk
+// stands at its name is kept.
+fn offer_answer<S: Successors<L>, L: Ledger>(
+    alloc: Global,
+    source: &S,
+    answer: NextAnswer,
+    stand: Stand,
+    sent: &mut Sent,
+) -> Result<bool, AllocError>
+    requires there { IsMade (S.is_there source.now) answer }
+    requires encodable { IsEncodableBinding (binding_of (S.at source.now) answer) }
+    ensures taken { IfOk result (λ taken. IsTrue taken →
+        sent.new.bindings ≡ sent.old.bindings ++ binding_of (S.at source.now) answer ∷ []) }
+    ensures stand { IfOk result (λ taken. IsTrue taken →
+        sent.new.stands ≡ kept sent.old.stands stand) }
+    ensures full { IfOk result (λ taken. taken ≡ false → sent.new ≡ sent.old) }
+    ensures fits { IfOk result (λ taken. taken ≡ fit_into sent.old.room
+        (sent.old.bindings ++ binding_of (S.at source.now) answer ∷ [])) }
+    ensures room { sent.new.room ≡ sent.old.room }
+    ensures err { OnErr result (sent.new ≡ sent.old) }
+{
+    match answer {
+        NextAnswer::Instance(spot) => {
+            let name = source.name(alloc, &spot)?;
+            sent.offer(name, source.value(alloc, &spot), stand)
+        }
+        NextAnswer::End(name) => sent.offer(name, Value::EndOfMibView, stand),
+    }
+}
+
 // Sends what GetNext answers under a name where there is room for it, and says whether there was.
 fn send_next<S: Successors<L>, L: Ledger>(
     alloc: Global,
@@ -77,8 +108,8 @@ fn send_next<S: Successors<L>, L: Ledger>(
     ensures work { steps.new ≤ steps.old + most_looks (S.shows source.now) (S.instances source.now) }
 {
     let mut stand = stand_at(source, sent, name);
-    let row = get_next_from(alloc, source, name, true, &mut stand, steps)?;
-    sent.offer(row, stand)
+    let answer = find_next(alloc, source, name, true, &mut stand, steps)?;
+    offer_answer(alloc, source, answer, stand, sent)
 }
 
 // Sends one repetition, GetNext of the name of each of these bindings, as far as there is room, and
@@ -146,8 +177,8 @@ fn send_successor<S: Successors<L>, L: Ledger>(
 {
     let before = &sent.last(back)[0];
     let mut stand = stand_back(source, sent, back, &before.name);
-    let row = get_next_from(alloc, source, &before.name, true, &mut stand, steps)?;
-    sent.offer(row, stand)
+    let answer = find_next(alloc, source, &before.name, true, &mut stand, steps)?;
+    offer_answer(alloc, source, answer, stand, sent)
 }
 
 // Sends one repetition more, GetNext of the names of the one that was sent last, which has so many

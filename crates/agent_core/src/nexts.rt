@@ -3,67 +3,89 @@ ghost use Rattle.std.specs.Prelude.{◌≡◌, ◌+◌, ◌*◌, ◌≤◌, IfOk
 ghost use Rattle.oid_core.specs.Name.{HasRoot};
 ghost use Rattle.message_core.specs.Encodable.{IsEncodableBinding};
 ghost use Rattle.message_core.specs.Instances.{names_of};
-ghost use Rattle.agent_core.specs.Reading.{visible, next_answer, next_answers, end_under};
+ghost use Rattle.agent_core.specs.Reading.{visible, next_answer, next_answers};
+ghost use Rattle.agent_core.specs.Making.{binding_of, IsMade};
 ghost use Rattle.agent_core.specs.Looking.{most_looks};
 
 use crate::reading::next_shown;
 use crate::source::{Stand, Successors};
 use message_core::{Binding, Bindings, Value};
 use oid_core::Oid;
+use setphase_core::Spot;
 use std::alloc::{AllocError, Global};
 use std::sync::ledger::Ledger;
 use steps::Steps;
 
-// endOfMibView under a name.
-fn end_under(alloc: Global, name: &Oid) -> Result<Binding, AllocError>
-    ensures { IfOk result (λ b. b ≡ end_under name.now) }
-{
-    let Ok(name) = name.try_copy(alloc) else {
-        return Err(AllocError);
-    };
-    Ok(Binding {
-        name,
-        value: Value::EndOfMibView,
-    })
+/// What GetNext answers under a name, before its binding is made.
+#[derive(Drop)]
+pub enum NextAnswer {
+    /// The instance that stands at this spot.
+    Instance(Spot),
+    /// endOfMibView under the asked name, of which this is a copy.
+    End(Oid),
 }
 
-/// What GetNext answers under a name (RFC 3416, 4.2.2), over the instances that the view shows.
-/// Only memory can fail.
+/// What GetNext answers under a name (RFC 3416, 4.2.2), over the instances that the view shows,
+/// before its binding is made. Only memory can fail.
 ///
-/// It looks at the source at most once for each instance that the view hides, and once more. The stand is
+/// It asks the source at most once for each instance that the view hides, and once more. The stand is
 /// at the name before the call, and at the binding's name after it. `goes_on` says whether the walk is
 /// continued behind the binding: then it keeps what it learns of the view. Only time depends on that.
-pub fn get_next_from<S: Successors<L>, L: Ledger>(
+pub fn find_next<S: Successors<L>, L: Ledger>(
     alloc: Global,
     source: &S,
     name: &Oid,
     goes_on: bool,
     stand: &mut Stand,
     steps: &mut Steps<L>,
-) -> Result<Binding, AllocError>
+) -> Result<NextAnswer, AllocError>
     requires { S.stands source.now stand.old name.now }
-    ensures answer { IfOk result (λ b.
-        b ≡ next_answer (visible (S.shows source.now) (S.instances source.now)) name.now) }
-    ensures encodable { IfOk result (λ b. HasRoot name.now → IsEncodableBinding b) }
-    ensures stands { IfOk result (λ b. S.stands source.now stand.new b.name) }
+    ensures answer { IfOk result (λ answer. binding_of (S.at source.now) answer
+        ≡ next_answer (visible (S.shows source.now) (S.instances source.now)) name.now) }
+    ensures there { IfOk result (IsMade (S.is_there source.now)) }
+    ensures encodable { IfOk result (λ answer.
+        HasRoot name.now → IsEncodableBinding (binding_of (S.at source.now) answer)) }
+    ensures stands { IfOk result (λ answer.
+        S.stands source.now stand.new (binding_of (S.at source.now) answer).name) }
     ensures work { steps.new ≤ steps.old + most_looks (S.shows source.now) (S.instances source.now) }
 {
     source.known();
     let before = *stand;
-    let Some(spot) = next_shown(alloc, source, name, goes_on, stand, steps)? else {
-        *stand = before;
-        return end_under(alloc, name);
-    };
-    Ok(Binding {
-        name: source.name(alloc, &spot)?,
-        value: source.value(alloc, &spot),
-    })
+    if let Some(spot) = next_shown(alloc, source, name, goes_on, stand, steps)? {
+        return Ok(NextAnswer::Instance(spot));
+    }
+    *stand = before;
+    match name.try_copy(alloc) {
+        Ok(name) => Ok(NextAnswer::End(name)),
+        Err(_) => Err(AllocError),
+    }
+}
+
+// The binding of an answer. Only memory can fail.
+fn make_binding<S: Successors<L>, L: Ledger>(
+    alloc: Global,
+    source: &S,
+    answer: NextAnswer,
+) -> Result<Binding, AllocError>
+    requires { IsMade (S.is_there source.now) answer }
+    ensures { IfOk result (λ b. b ≡ binding_of (S.at source.now) answer) }
+{
+    match answer {
+        NextAnswer::Instance(spot) => Ok(Binding {
+            name: source.name(alloc, &spot)?,
+            value: source.value(alloc, &spot),
+        }),
+        NextAnswer::End(name) => Ok(Binding {
+            name,
+            value: Value::EndOfMibView,
+        }),
+    }
 }
 
 /// What GetNext answers under a name (RFC 3416, 4.2.2), over the instances that the view shows.
 /// Only memory can fail.
 ///
-/// It looks at the source at most once for each instance that the view hides, and once more.
+/// It asks the source at most once for each instance that the view hides, and once more.
 pub fn get_next<S: Successors<L>, L: Ledger>(
     alloc: Global,
     source: &S,
@@ -76,7 +98,8 @@ pub fn get_next<S: Successors<L>, L: Ledger>(
     ensures work { steps.new ≤ steps.old + most_looks (S.shows source.now) (S.instances source.now) }
 {
     let mut stand = source.start(name);
-    get_next_from(alloc, source, name, false, &mut stand, steps)
+    let answer = find_next(alloc, source, name, false, &mut stand, steps)?;
+    make_binding(alloc, source, answer)
 }
 
 /// What GetNext answers under each asked name, in order (RFC 3416, 4.2.2), by the looks of one

@@ -1,14 +1,17 @@
 //! The bindings of a GetBulk that fit so far (RFC 3416, 4.2.3).
-ghost use Rattle.std.specs.Prelude.{◌≡◌, ◌≤◌, ◌-◌, ◌++◌, [], ◌∷◌, IfOk, OnErr, IsTrue, true, false, length, drop, nat_le, slice_get, if◌then◌else◌, None};
+ghost use Rattle.std.specs.Prelude.{List, MatchOption, ◌≡◌, ◌≤◌, ◌<◌, ◌-◌, ◌++◌, [], ◌∷◌, IfOk, OnErr, IsTrue, true, false, length, drop, nat_le, slice_get, if◌then◌else◌, None};
 ghost use Rattle.std.specs.Option.{option_copied};
 ghost use Rattle.message_core.specs.Encodable.{IsEncodableBinding, AreEncodable};
 ghost use Rattle.message_core.specs.declared.limits.TheConstants.{MAX_REPLY};
+ghost use Rattle.message_core.specs.Canon.{canon_binding};
+ghost use Rattle.message_core.specs.declared.binding.Binding.{Binding};
 ghost use Rattle.agent_core.specs.Fitting.{total, fit_into};
 ghost use Rattle.agent_core.specs.Sending.{kept};
 
 use crate::source::Stand;
 use arrayvec::ArrayVec;
-use message_core::{Binding, Bindings, encoded_len};
+use message_core::{Binding, Bindings, Value, encoded_len};
+use oid_core::Oid;
 use std::alloc::{AllocError, Global};
 use std::marker::Model;
 
@@ -60,25 +63,27 @@ impl Sent {
         }
     }
 
-    /// Adds a binding where there is room for it (RFC 3416, 4.2.3), and says whether there was.
-    /// With it is kept where a walk stands at its name. A binding that is not added is let go. Only
-    /// memory can fail; then nothing changes.
-    pub fn offer(&mut self, binding: Binding, stand: Stand) -> Result<bool, AllocError>
-        requires { IsEncodableBinding binding }
+    /// Adds the binding of a name and a value where there is room for it (RFC 3416, 4.2.3), and says
+    /// whether there was. It is made in its place, and measured there; one that does not fit is
+    /// removed again. With it is kept where a walk stands at its name. Only memory can fail; then
+    /// nothing changes.
+    pub fn offer(&mut self, name: Oid, value: Value, stand: Stand) -> Result<bool, AllocError>
+        requires { IsEncodableBinding (record { name = name; value = value }) }
         ensures taken { IfOk result (λ taken. IsTrue taken →
-            self.new.bindings ≡ self.old.bindings ++ binding ∷ []) }
+            self.new.bindings ≡ self.old.bindings ++ record { name = name; value = value } ∷ []) }
         ensures stand { IfOk result (λ taken. IsTrue taken →
             self.new.stands ≡ kept self.old.stands stand) }
         ensures full { IfOk result (λ taken. taken ≡ false → self.new ≡ self.old) }
-        ensures fits { IfOk result (λ taken.
-            taken ≡ fit_into self.old.room (self.old.bindings ++ binding ∷ [])) }
+        ensures fits { IfOk result (λ taken. taken ≡ fit_into self.old.room
+            (self.old.bindings ++ record { name = name; value = value } ∷ [])) }
         ensures room { self.new.room ≡ self.old.room }
         ensures err { OnErr result (self.new ≡ self.old) }
     {
-        let Some(len) = encoded_len(&binding, self.room - self.used) else {
+        self.bindings.push(Binding { name, value })?;
+        let Some(len) = last_len(self.bindings.as_slice(), self.room - self.used) else {
+            self.bindings.pop();
             return Ok(false);
         };
-        self.bindings.push(binding)?;
         keep(&mut self.stands, stand);
         self.used += len;
         Ok(true)
@@ -119,6 +124,18 @@ impl Sent {
         } = self;
         Bindings::from_vec(bindings)
     }
+}
+
+// How many octets the last binding has, where these are no more than so many.
+fn last_len(bindings: &[Binding], most: usize) -> Option<usize>
+    requires some { 1 ≤ length bindings.now }
+    requires encodable { AreEncodable bindings.now }
+    requires most { most ≤ MAX_REPLY }
+    ensures { (front : List Binding) (last : Binding) → bindings.now ≡ front ++ last ∷ [] →
+        MatchOption result (most < length (canon_binding last))
+        (λ len. (len ≡ length (canon_binding last)) × (len ≤ most)) }
+{
+    encoded_len(&bindings[bindings.len() - 1], most)
 }
 
 // Keeps where a walk stands at the name of the last binding, in place of the first one where all

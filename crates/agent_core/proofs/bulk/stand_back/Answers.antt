@@ -1,4 +1,4 @@
-use Rattle.std.proofs.Common.{◌-◌, ◌∙◌, List, [], length, get_or, sym, ap, subst, ℕ}
+use Rattle.std.proofs.Common.{◌-◌, ◌∙◌, List, [], get_or, sym, ap, subst, ℕ}
 use Rattle.message_core.specs.Instances.{names_of}
 use Rattle.agent_core.proofs.Fits.{names-length}
 use Rattle.agent_core.proofs.Stands.{stand_there, stand_is, no_stand}
