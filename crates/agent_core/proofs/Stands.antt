@@ -9,7 +9,6 @@ use Rattle.std.specs.Prelude.{slice_get, if◌then◌else◌, OnErr}
 use Rattle.message_core.specs.declared.binding.Binding.{Binding}
 use Rattle.message_core.specs.Instances.{names_of}
 use Rattle.agent_core.specs.declared.source.Stand.{Stand}
-use Rattle.agent_core.specs.declared.sent.TheConstants.{MAX_STANDS}
 use Rattle.agent_core.specs.Sending.{Sending, kept, AreStands}
 
 module _ (P : Stand → List ℕ → Type 0) where
@@ -53,12 +52,12 @@ module _ (P : Stand → List ℕ → Type 0) where
 
   -- behind an offer
   pub offered : {E : Type 0} (result : Result Bool E) (old new : Sending) (b : Binding) (s : Stand) → AreStands P old.stands (names_of old.bindings) → P s b.name →
-      IfOk result (λ taken. IsTrue taken → new.bindings ≡ old.bindings ++ b ∷ []) → IfOk result (λ taken. IsTrue taken → new.stands ≡ kept old.stands s) →
+      IfOk result (λ taken. IsTrue taken → new.bindings ≡ old.bindings ++ b ∷ []) → IfOk result (λ taken. IsTrue taken → new.stands ≡ kept old.most_stands old.stands s) →
       IfOk result (λ taken. taken ≡ false → new ≡ old) → OnErr result (new ≡ old) → AreStands P new.stands (names_of new.bindings)
   offered (Ok true) old new b s h is bindings stands full err =
       let names : names_of new.bindings ≡ names_of old.bindings ++ b.name ∷ [] = ap names_of (bindings refl) ∙ map-append (λ (x : Binding). x.name) old.bindings (b ∷ []) in
       subst (λ ns. AreStands P new.stands ns) (sym names) (subst (λ ks. AreStands P ks (names_of old.bindings ++ b.name ∷ [])) (sym (stands refl))
-      (one_more (length old.stands + 1 - MAX_STANDS) old.stands s (names_of old.bindings) b.name h is))
+      (one_more (length old.stands + 1 - old.most_stands) old.stands s (names_of old.bindings) b.name h is))
   offered (Ok false) old new b s h is bindings stands full err = subst (λ (x : Sending). AreStands P x.stands (names_of x.bindings)) (sym (full refl)) h
   offered (Err e) old new b s h is bindings stands full err = subst (λ (x : Sending). AreStands P x.stands (names_of x.bindings)) (sym err) h
 

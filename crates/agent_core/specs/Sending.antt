@@ -1,5 +1,5 @@
 -- Bindings that are to be sent, and the octets that there is room for.
-use Rattle.std.specs.Prelude.{◌≡◌, ℕ, suc, ◌+◌, ◌-◌, ◌<◌, ◌≤◌, List, [], ◌∷◌, ◌++◌, length, drop, get_or}
+use Rattle.std.specs.Prelude.{◌≡◌, ℕ, suc, min, max, ◌+◌, ◌-◌, ◌<◌, ◌≤◌, List, [], ◌∷◌, ◌++◌, length, drop, get_or}
 use Rattle.message_core.specs.Encodable.{AreEncodable}
 use Rattle.message_core.specs.declared.binding.Binding.{Binding}
 use Rattle.message_core.specs.declared.limits.TheConstants.{MAX_REPLY}
@@ -11,8 +11,9 @@ pub record Sending : Type 0 where
   -- the octets that the bindings may have
   pub room : ℕ
   pub bindings : List Binding
-  -- where a walk stands at the name of each
+  -- where walks stand at the names of the last of them, and for how many that is kept
   pub stands : List Stand
+  pub most_stands : ℕ
 
 -- bindings of so many octets, which fit into the room
 pub record IsSending (sending : Sending) (used : ℕ) : Type 0 where
@@ -20,10 +21,19 @@ pub record IsSending (sending : Sending) (used : ℕ) : Type 0 where
   pub within : used ≤ sending.room
   pub most : sending.room ≤ MAX_REPLY
   pub encodable : AreEncodable sending.bindings
+  pub kept_some : 1 ≤ sending.most_stands
+  pub kept_most : sending.most_stands ≤ MAX_STANDS
+  pub kept_within : length sending.stands ≤ sending.most_stands
 
--- The last places where walks stand, and one more: the first one makes way where all are taken.
-abbrev pub kept : List Stand → Stand → List Stand
-kept stands stand = drop (length stands + 1 - MAX_STANDS) stands ++ stand ∷ []
+-- The last places where walks stand, and one more: the first one makes way where there are as many as
+-- are kept.
+abbrev pub kept : ℕ → List Stand → Stand → List Stand
+kept most stands stand = drop (length stands + 1 - most) stands ++ stand ∷ []
+
+-- For how many bindings that is: for those of one repetition, for one at least, and for no more than
+-- there are places.
+abbrev pub stands_of : ℕ → ℕ
+stands_of columns = max 1 (min columns MAX_STANDS)
 
 -- The walks that are kept stand at the names of the last bindings.
 pub record AreStands (stands : Stand → List ℕ → Type 0) (kept : List Stand)

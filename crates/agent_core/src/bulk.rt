@@ -69,7 +69,7 @@ fn offer_answer<S: Successors<L>, L: Ledger>(
     ensures taken { IfOk result (λ taken. IsTrue taken →
         sent.new.bindings ≡ sent.old.bindings ++ binding_of (S.at source.now) answer ∷ []) }
     ensures stand { IfOk result (λ taken. IsTrue taken →
-        sent.new.stands ≡ kept sent.old.stands stand) }
+        sent.new.stands ≡ kept sent.old.most_stands sent.old.stands stand) }
     ensures full { IfOk result (λ taken. taken ≡ false → sent.new ≡ sent.old) }
     ensures fits { IfOk result (λ taken. taken ≡ fit_into sent.old.room
         (sent.old.bindings ++ binding_of (S.at source.now) answer ∷ [])) }
@@ -367,7 +367,8 @@ pub fn get_bulk<S: Successors<L>, L: Ledger>(
     let asked = request.bindings.as_slice();
     let once = non_repeaters(request);
     let most = max_repetitions(request);
-    let mut sent = Sent::new(alloc, bindings_room(request));
+    let columns = asked.len() - once;
+    let mut sent = Sent::new(alloc, bindings_room(request), columns);
     let filled = send_list(alloc, source, once, most, asked, &mut sent, steps);
     let bindings = sent.into_bindings();
     filled?;

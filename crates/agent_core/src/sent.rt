@@ -6,7 +6,7 @@ ghost use Rattle.message_core.specs.declared.limits.TheConstants.{MAX_REPLY};
 ghost use Rattle.message_core.specs.Canon.{canon_binding};
 ghost use Rattle.message_core.specs.declared.binding.Binding.{Binding};
 ghost use Rattle.agent_core.specs.Fitting.{total, fit_into};
-ghost use Rattle.agent_core.specs.Sending.{kept};
+ghost use Rattle.agent_core.specs.Sending.{kept, stands_of};
 
 use crate::source::Stand;
 use arrayvec::ArrayVec;
@@ -15,8 +15,8 @@ use oid_core::Oid;
 use std::alloc::{AllocError, Global};
 use std::marker::Model;
 
-/// The number of last bindings for which it is kept where a walk stands. In a repetition of more
-/// columns each binding begins with a search.
+/// The most last bindings for which it is kept where a walk stands. In a repetition of more columns
+/// each binding begins with a search.
 pub const MAX_STANDS: usize = 16;
 
 /// The bindings of a GetBulk's reply so far, and the octets that they may have (RFC 3416, 4.2.3: as
@@ -24,8 +24,9 @@ pub const MAX_STANDS: usize = 16;
 #[derive(Drop)]
 pub struct Sent {
     bindings: Vec<Binding>,
-    // Where walks stand at the names of the last of them.
+    // Where walks stand at the names of the last of them, and for how many that is kept.
     stands: ArrayVec<Stand, MAX_STANDS>,
+    most_stands: usize,
     used: usize,
     room: usize,
 }
@@ -39,6 +40,7 @@ impl Model for Sent {
       room = s.room;
       bindings = s.bindings.items;
       stands = s.stands.items;
+      most_stands = s.most_stands;
     } };
 
     ghost invariant = { λ s.
@@ -46,18 +48,26 @@ impl Model for Sent {
           room = s.room;
           bindings = s.bindings.items;
           stands = s.stands.items;
+          most_stands = s.most_stands;
         }) s.used };
 }
 
 impl Sent {
-    /// No bindings, and room for so many octets.
-    pub fn new(alloc: Global, room: usize) -> Sent
+    /// No bindings, and a buffer for so many octets. A repetition has so many columns: where walks
+    /// stand is kept for as many bindings.
+    pub fn new(alloc: Global, room: usize, columns: usize) -> Sent
         requires { room ≤ MAX_REPLY }
-        ensures { result ≡ record { room = room; bindings = []; stands = [] } }
+        ensures { result ≡ record {
+          room = room;
+          bindings = [];
+          stands = [];
+          most_stands = stands_of columns;
+        } }
     {
         Sent {
             bindings: Vec::new(alloc),
             stands: ArrayVec::new(),
+            most_stands: columns.min(MAX_STANDS).max(1),
             used: 0,
             room,
         }
@@ -72,7 +82,7 @@ impl Sent {
         ensures taken { IfOk result (λ taken. IsTrue taken →
             self.new.bindings ≡ self.old.bindings ++ record { name = name; value = value } ∷ []) }
         ensures stand { IfOk result (λ taken. IsTrue taken →
-            self.new.stands ≡ kept self.old.stands stand) }
+            self.new.stands ≡ kept self.old.most_stands self.old.stands stand) }
         ensures full { IfOk result (λ taken. taken ≡ false → self.new ≡ self.old) }
         ensures fits { IfOk result (λ taken. taken ≡ fit_into self.old.room
             (self.old.bindings ++ record { name = name; value = value } ∷ [])) }
@@ -84,7 +94,7 @@ impl Sent {
             self.bindings.pop();
             return Ok(false);
         };
-        keep(&mut self.stands, stand);
+        keep(&mut self.stands, self.most_stands, stand);
         self.used += len;
         Ok(true)
     }
@@ -119,6 +129,7 @@ impl Sent {
         let Sent {
             bindings,
             stands: _,
+            most_stands: _,
             used: _,
             room: _,
         } = self;
@@ -138,12 +149,15 @@ fn last_len(bindings: &[Binding], most: usize) -> Option<usize>
     encoded_len(&bindings[bindings.len() - 1], most)
 }
 
-// Keeps where a walk stands at the name of the last binding, in place of the first one where all
-// places are taken.
-fn keep(stands: &mut ArrayVec<Stand, MAX_STANDS>, stand: Stand)
-    ensures { stands.new.items ≡ kept stands.old.items stand }
+// Keeps where a walk stands at the name of the last binding, in place of the first one where there are
+// as many as are kept.
+fn keep(stands: &mut ArrayVec<Stand, MAX_STANDS>, most: usize, stand: Stand)
+    requires some { 1 ≤ most }
+    requires most { most ≤ MAX_STANDS }
+    requires within { length stands.old.items ≤ most }
+    ensures { stands.new.items ≡ kept most stands.old.items stand }
 {
-    if stands.is_full() {
+    if stands.len() >= most {
         stands.remove(0);
     }
     stands.push(stand);
