@@ -93,12 +93,7 @@ impl<O: MibObject> Passing for Served<'_, O> {
 impl<O: MibObject> Served<'_, O> {
     // The first instance after a name, but for those of the objects that are passed over. These are
     // counted in the ledger of the blank, and by no clause here.
-    fn next_uncounted<L: Ledger>(
-        &self,
-        name: &Oid,
-        stand: &Stand,
-        blank: Blank,
-    ) -> Option<Spot>
+    fn next_uncounted<L: Ledger>(&self, name: &Oid, stand: &Stand, blank: Blank) -> Option<Spot>
         requires stands { IsStand (in_view self.now.vacm.now.families self.now.view.now)
             (prefixes_of (rows_of self.now.registry.now)) stand.now name.now }
         requires name { blank.name ≡ L.name }

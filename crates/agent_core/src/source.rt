@@ -87,6 +87,7 @@ pub trait Successors<L: Ledger>: View {
 
     // The instance at a spot, and whether one stands there.
     ghost at: { Self → Spot → Binding };
+
     ghost is_there: { Self → Spot → Type 0 };
 
     // Whether a walk stands at a name.

@@ -60,7 +60,9 @@ impl<O: MibObject, L: Ledger> Successors<L> for Whole<'_, O> {
 
     fn next(&self, name: &Oid, stand: &mut Stand, steps: &mut Steps<L>) -> Option<Spot> {
         steps.tick();
-        let spot = self.registry.next_spot(self.world, name.as_slice(), stand.place)?;
+        let spot = self
+            .registry
+            .next_spot(self.world, name.as_slice(), stand.place)?;
         *stand = Stand::at(Ok(spot.place));
         Some(spot)
     }

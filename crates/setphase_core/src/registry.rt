@@ -10,7 +10,9 @@ ghost use Rattle.oid_core.specs.declared.limits.TheConstants.{INLINE_NUMBERS};
 
 use crate::object::MibObject;
 use crate::passing::{Passing, Spot};
-use crate::search::{begun_until, owner_name, place_by_search, place_near, place_of, value_of_name};
+use crate::search::{
+    begun_until, owner_name, place_by_search, place_near, place_of, value_of_name,
+};
 use crate::spots::{find_spot, name_there, value_there};
 use crate::world::World;
 use message_core::{Binding, Value};
