@@ -1,4 +1,6 @@
 pub mod Comparing
+pub mod Encoded
+pub mod Forms
 pub mod Happening
 pub mod History
 pub mod Keeping

@@ -1,14 +1,15 @@
 //! What is kept of one event.
 use crate::egress::Egress;
-use crate::event::Event;
+use crate::kept_event::KeptEvent;
 use audit_core::Audit;
 use message_core::Octets;
 
 /// What is kept of one event.
 #[derive(Drop)]
 pub struct Entry {
-    /// The event.
-    pub event: Event,
+    /// The event. A request with variable bindings is kept as its shortest encoding, if that has
+    /// at most `MAX_REQUEST` octets.
+    pub event: KeptEvent,
     /// Whether there was no memory for the learned row of a frame's source.
     pub no_room: bool,
     /// The number of the variable whose commit failed in a Set, where a device failed (RFC 3416,

@@ -197,7 +197,8 @@ fn replies_in(
 }
 
 // What an answered request came to, where these octets are its reply, if it has one, and the settings
-// that could not be put back are copied into this room.
+// that could not be put back are copied into this room. The entry keeps the copy of the audit, whose
+// list of denied bindings takes no more memory than it needs.
 fn come_to(
     alloc: Global,
     answered: Answered,
@@ -214,15 +215,15 @@ fn come_to(
     match answered {
         Answered::Reply(_, audit, failed) => {
             let (reply, told_reply) = replies;
-            happened.told_audit = Some(audit.try_copy_in(alloc, room)?);
-            happened.audit = Some(audit);
+            happened.audit = Some(audit.try_copy_in(alloc, room)?);
+            happened.told_audit = Some(audit);
             happened.failed = failed;
             happened.reply = Some(reply);
             happened.told_reply = Some(told_reply);
         }
         Answered::NoReply(audit) => {
-            happened.told_audit = Some(audit.try_copy_in(alloc, room)?);
-            happened.audit = Some(audit);
+            happened.audit = Some(audit.try_copy_in(alloc, room)?);
+            happened.told_audit = Some(audit);
         }
     }
     Ok(())

@@ -4,10 +4,12 @@ ghost use Rattle.history_core.specs.Keeping.{due_base, world_in, entry_of, recei
 
 use crate::applied::Applied;
 use crate::comparing::{Mismatch, Tally, compare};
+use crate::duplicate::Duplicate;
 use crate::entries::Entries;
 use crate::entry::Entry;
 use crate::event::{Event, ReceiptEvent};
 use crate::happening::{Happened, cause_in, happen, put_failure, quiet};
+use crate::kept_event::{KeptEvent, parted};
 use crate::limits::MAX_ENTRIES;
 use crate::receipt::Receipt;
 use agent_core::Buffer;
@@ -70,13 +72,14 @@ impl<O: MibObject> Model for Kept<O> {
 // What is ready before an event happens.
 #[derive(Drop)]
 struct Ready {
-    told: ReceiptEvent,
+    duplicate: Duplicate,
     base: Option<Box<FlatWorld>>,
 }
 
 impl<O: MibObject> Kept<O> {
     ghost use Rattle.history_core.specs.Steps.{IsEncodable};
     ghost use Rattle.history_core.specs.Receipts.{told_of, TakesMemory};
+    ghost use Rattle.history_core.specs.Encoded.{IsDuplicateOf};
     ghost use Rattle.std.specs.Prelude.{MatchResult};
     ghost use Rattle.history_core.specs.Comparing.{IsTallied, BreaksFirst};
     ghost use Rattle.history_core.specs.History.{IsHistory, Applies, fresh, history_after_arm, next_of};
@@ -194,25 +197,25 @@ impl<O: MibObject> Kept<O> {
         self.registry.arm(plan);
     }
 
-    // All that an event asks for beside its own growths: what its receipt tells of it, and a flat
-    // copy of the world where the base is to move.
+    // All that an event asks for beside its own growths: what stands for it a second time, and a
+    // flat copy of the world where the base is to move.
     fn prepare(
         &self,
         alloc: Global,
-        told: Result<ReceiptEvent, AllocError>,
+        duplicate: Result<Duplicate, AllocError>,
     ) -> Result<Ready, AllocError>
-        ensures told { IfOk result (λ ready. told ≡ Ok ready.told) }
+        ensures duplicate { IfOk result (λ ready. duplicate ≡ Ok ready.duplicate) }
         ensures base { IfOk result (λ ready. world_in ready.base ≡ due_base self.now) }
         ensures takes { OnErr result
-            ((length self.now.entries ≡ MAX_ENTRIES) ⊎ IsErr told) }
+            ((length self.now.entries ≡ MAX_ENTRIES) ⊎ IsErr duplicate) }
     {
-        let told = told?;
+        let duplicate = duplicate?;
         let base = if self.entries.len() == MAX_ENTRIES {
             Some(flat_copy(alloc, &self.world)?)
         } else {
             None
         };
-        Ok(Ready { told, base })
+        Ok(Ready { duplicate, base })
     }
 
     /// One event happens, and is entered: one entry more, at the next number. The buffer holds the
@@ -228,22 +231,22 @@ impl<O: MibObject> Kept<O> {
         requires { IsEncodable event }
         ensures { Applies self.old event result self.new buffer.new }
     {
-        let told = event.told(alloc);
-        self.apply_told(alloc, event, told, buffer)
+        let duplicate = Duplicate::of(alloc, &event);
+        self.apply_duplicated(alloc, event, duplicate, buffer)
     }
 
-    /// The same, of an event of which was asked before what its receipt tells of it: so this copy
-    /// need not be made under a lock.
-    pub fn apply_told(
+    /// The same, of an event whose duplicate was made before ([`Duplicate::of`]), so that no memory
+    /// for it is taken under a lock.
+    pub fn apply_duplicated(
         &mut self,
         alloc: Global,
         event: Event,
-        told: Result<ReceiptEvent, AllocError>,
+        duplicate: Result<Duplicate, AllocError>,
         buffer: &mut Buffer,
     ) -> Applied
         requires encodable { IsEncodable event }
-        requires told { IfOk told (λ t. t ≡ told_of event) }
-        requires takes { OnErr told (TakesMemory (told_of event)) }
+        requires duplicate { IfOk duplicate (λ d. IsDuplicateOf event d) }
+        requires takes { OnErr duplicate (TakesMemory (told_of event)) }
         ensures { Applies self.old event result self.new buffer.new }
     {
         buffer.clear();
@@ -251,7 +254,7 @@ impl<O: MibObject> Kept<O> {
         if number == u64::MAX {
             return Applied::HistoryFull(event);
         }
-        let Ok(ready) = self.prepare(alloc, told) else {
+        let Ok(ready) = self.prepare(alloc, duplicate) else {
             put_failure(&self.world, &event, buffer);
             return Applied::Short(event);
         };
@@ -265,12 +268,13 @@ impl<O: MibObject> Kept<O> {
             put_failure(world, &event, buffer);
             return Applied::Short(event);
         };
-        let Ready { told, base } = ready;
+        let Ready { duplicate, base } = ready;
+        let (kept_event, told) = parted(event, duplicate);
         let Made {
             entry,
             receipt,
             audit,
-        } = made_of(number, event, told, happened);
+        } = made_of(number, kept_event, told, happened);
         let Kept {
             entries,
             base: old_base,
@@ -299,7 +303,7 @@ struct Made {
 }
 
 // What is made of an event that came to this, under this number.
-fn made_of(number: u64, event: Event, told: ReceiptEvent, happened: Happened) -> Made
+fn made_of(number: u64, event: KeptEvent, told: ReceiptEvent, happened: Happened) -> Made
     ensures entry { result.entry ≡ entry_of event happened }
     ensures receipt { result.receipt ≡ receipt_of number told happened }
     ensures audit { result.audit ≡ happened.told_audit }

@@ -2,10 +2,12 @@
 //!
 //! # Entry points
 //! [`Kept`]: a world, the objects that show it, and what is kept of its history, by `new`, or by
-//! `resume` from a number on; `apply` has one event happen and enters it, as does `apply_told`,
-//! which is handed what the receipt tells of it; `compare` looks whether receipts agree with what
-//! is kept, and `entries`, `base`, `world` and the two numbers show it. [`Event`]: what happens;
-//! [`Applied`]: what became of it. [`Entry`]: what is kept of one event. [`Receipt`]: what its
+//! `resume` from a number on; `apply` has one event happen and enters it, as does
+//! `apply_duplicated`, whose caller made the [`Duplicate`] before: what stands for the event a second
+//! time. `compare` looks whether receipts agree with what is kept, and `entries`, `base`, `world` and
+//! the two numbers show it. [`Event`]: what happens; [`Applied`]: what became of it. [`Entry`]: what
+//! is kept of one event. [`KeptEvent`]: the event as its entry keeps it, a request with variable
+//! bindings as its shortest encoding, if that has at most `MAX_REQUEST` octets. [`Receipt`]: what its
 //! caller is told of it, with `try_copy`, and `same`, which takes no memory. [`compare`] says
 //! whether receipts agree with any entries, or names the first that does not. A [`Tally`] says how
 //! many agree and how many are older, a [`Mismatch`] which does not. [`Egress`] has the ports by
@@ -15,9 +17,10 @@
 //! # Definitions
 //! `specs/Steps.antt`: what an event makes of a world and its objects, and what comes out;
 //! `specs/History.antt`: what is kept, when it is legal, and what an event adds;
+//! `specs/Encoded.antt`: which requests are kept encoded, and which request octets encode;
 //! `specs/Receipts.antt`: what a receipt tells of an event, when it takes memory, and when it
-//! stands; `specs/Comparing.antt`: when receipts agree with what is kept. `specs/Happening.antt`
-//! and `specs/Keeping.antt` speak of parts of `apply` inside the crate.
+//! stands; `specs/Comparing.antt`: when receipts agree with what is kept. `specs/Happening.antt`,
+//! `specs/Keeping.antt` and `specs/Forms.antt` speak of parts inside the crate.
 //!
 //! # Laws
 //! On [`Kept::legal`]: each entry is that of the step at its place, and replaying the entries from
@@ -36,21 +39,26 @@
 
 mod applied;
 mod comparing;
+mod duplicate;
 mod egress;
 mod entries;
 mod entry;
 mod event;
 mod happening;
 mod kept;
+mod kept_event;
 pub mod laws;
 mod limits;
+mod ranges;
 mod receipt;
 
 pub use applied::Applied;
 pub use comparing::{Mismatch, Tally, compare};
+pub use duplicate::Duplicate;
 pub use egress::Egress;
 pub use entry::Entry;
 pub use event::{Event, ReceiptEvent};
 pub use kept::Kept;
+pub use kept_event::KeptEvent;
 pub use limits::MAX_ENTRIES;
 pub use receipt::Receipt;

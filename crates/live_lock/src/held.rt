@@ -1,6 +1,7 @@
 //! What lies under the lock: the history, the book of what was entered since the start, and how much
 //! that is.
 ghost use Rattle.std.specs.Prelude.{◌≡◌, ◌+◌, ◌<◌, ◌≤◌, IfOk, OnErr};
+ghost use Rattle.history_core.specs.Encoded.{IsDuplicateOf};
 ghost use Rattle.history_core.specs.History.{IsHistory};
 ghost use Rattle.history_core.specs.Receipts.{told_of, TakesMemory};
 ghost use Rattle.history_core.specs.Steps.{IsEncodable};
@@ -11,7 +12,7 @@ ghost use Rattle.live_lock.specs.Rising.{Rises};
 use crate::run::{Base, Run};
 use crate::share::Share;
 use agent_core::Buffer;
-use history_core::{Applied, Event, Kept, ReceiptEvent};
+use history_core::{Applied, Duplicate, Event, Kept};
 use rising::{Blank, Latest};
 use setphase_core::MibObject;
 use std::alloc::{AllocError, Global};
@@ -101,20 +102,20 @@ impl<O: MibObject, L: Run> Held<O, L> {
         (held, Share::new(made, reached, moved))
     }
 
-    /// One event happens, and its entry is counted. What its receipt tells of it was copied before.
-    /// The share then knows of all entries.
+    /// One event happens, and its entry is counted. Its duplicate was made before. The share then
+    /// knows of all entries.
     pub fn apply(
         &mut self,
         alloc: Global,
         share: &mut Share<L>,
         event: Event,
-        told: Result<ReceiptEvent, AllocError>,
+        duplicate: Result<Duplicate, AllocError>,
         buffer: &mut Buffer,
     ) -> Applied
         requires part { 0 < share.old.parts }
         requires encodable { IsEncodable event }
-        requires told { IfOk told (λ t. t ≡ told_of event) }
-        requires takes { OnErr told (TakesMemory (told_of event)) }
+        requires duplicate { IfOk duplicate (λ d. IsDuplicateOf event d) }
+        requires takes { OnErr duplicate (TakesMemory (told_of event)) }
         ensures place { TakesPlace L.start share.old.amount event result buffer.new }
         ensures told { IsToldOf event result buffer.new }
         ensures rises { Rises L.start share.old.known result share.new.known }
@@ -131,7 +132,7 @@ impl<O: MibObject, L: Run> Held<O, L> {
         } = self;
         kept.legal();
         let base_before = kept.base_number();
-        let applied = kept.apply_told(alloc, event, told, buffer);
+        let applied = kept.apply_duplicated(alloc, event, duplicate, buffer);
         let base_after = kept.base_number();
         share.enter(
             book,

@@ -14,7 +14,7 @@ use crate::share::Share;
 use agent_core::Buffer;
 use community_core::Policy;
 use frame_core::FrameIn;
-use history_core::{Applied, Event, Kept};
+use history_core::{Applied, Duplicate, Event, Kept};
 use message_core::Request;
 use rising::Blank;
 use setphase_core::MibObject;
@@ -183,7 +183,8 @@ impl<O: MibObject, L: Run> Live<O, L> {
         self.held.lock(rt)
     }
 
-    // One event takes its place, under the lock. What its receipt tells of it is copied before.
+    // One event takes its place, under the lock. Its duplicate, for its entry or its receipt, is made
+    // before.
     fn apply<R: Wait>(
         &self,
         rt: &R,
@@ -201,8 +202,9 @@ impl<O: MibObject, L: Run> Live<O, L> {
         ensures amount { share.new.amount ≡ share.old.amount + entry_count result }
         ensures parts { share.new.parts ≡ share.old.parts }
     {
-        let told = event.told(alloc);
-        self.locked(rt).apply(alloc, share, event, told, buffer)
+        let duplicate = Duplicate::of(alloc, &event);
+        self.locked(rt)
+            .apply(alloc, share, event, duplicate, buffer)
     }
 
     /// How far the history was past its start at some time: by no fewer entries than the caller had

@@ -1,5 +1,9 @@
 //! Receipts, their copies and their comparison with what is kept.
-use history_core::{Egress, Entry, Event, Mismatch, Receipt, ReceiptEvent, Tally, compare};
+ghost use Rattle.history_core.specs.Steps.{IsEncodable};
+
+use history_core::{
+    Egress, Entry, Event, KeptEvent, Mismatch, Receipt, ReceiptEvent, Tally, compare,
+};
 use message_core::{Octets, decode};
 use std::alloc::Global;
 use std::test::Fail;
@@ -14,15 +18,17 @@ const GET: &[u8] = &[
 // A reply that is not held inline.
 const REPLY: &[u8] = &[7; 30];
 
-fn entry(event: Event) -> Entry {
-    Entry {
-        event,
+fn entry(alloc: Global, event: Event) -> Result<Entry, Fail>
+    requires { IsEncodable event }
+{
+    Ok(Entry {
+        event: KeptEvent::of(alloc, event)?,
         no_room: false,
         failed: None,
         egress: Egress::none(),
         reply: None,
         audit: None,
-    }
+    })
 }
 
 fn receipt(number: u64, event: ReceiptEvent) -> Receipt {
@@ -45,9 +51,9 @@ fn link(number: u64) -> Receipt {
 // A second, a link that goes up, a second.
 fn entries(alloc: Global) -> Result<Vec<Entry>, Fail> {
     let mut entries = Vec::new(alloc);
-    entries.push(entry(Event::Tick))?;
-    entries.push(entry(Event::Link { port: 1, up: true }))?;
-    entries.push(entry(Event::Tick))?;
+    entries.push(entry(alloc, Event::Tick)?)?;
+    entries.push(entry(alloc, Event::Link { port: 1, up: true })?)?;
+    entries.push(entry(alloc, Event::Tick)?)?;
     Ok(entries)
 }
 
@@ -113,5 +119,27 @@ fn tells_of_a_request(rt: HostRuntime) -> Result<(), Fail> {
         event.is_told_by(&ReceiptEvent::Tick),
     );
     assert_eq!(rt; by, (true, false));
+    Ok(())
+}
+
+// The encoding of GET is the shortest, so it is what an entry keeps.
+#[test]
+fn keeps_a_request_as_its_encoding(rt: HostRuntime) -> Result<(), Fail> {
+    let event = match decode(rt.alloc(), GET) {
+        Ok(request) => Event::Request(request),
+        Err(_) => return Err(Fail::from("a request")),
+    };
+    let told = event.told(rt.alloc())?;
+    let other = replied(rt.alloc(), 4)?;
+    let kept = KeptEvent::of(rt.alloc(), event)?;
+    let again = kept.request(rt.alloc())?.ok_or("the request")?;
+    let by = (
+        kept.encoded() == Some(GET),
+        kept.is_told_by(&told),
+        kept.is_told_by(&other.event),
+        kept.is_told_by(&ReceiptEvent::Tick),
+        kept.is_told_by(&ReceiptEvent::Request(again)),
+    );
+    assert_eq!(rt; by, (true, true, true, false, true));
     Ok(())
 }

@@ -1,4 +1,4 @@
-use Rattle.std.proofs.Common.{◌≡◌, List, sym, subst}
+use Rattle.std.proofs.Common.{List, sym, subst}
 use Rattle.setphase_core.specs.Objects.{ObjectState}
 use Rattle.history_core.specs.History.{History, IsHistory}
 use Rattle.history_core.proofs.Histories.{armed-ok}

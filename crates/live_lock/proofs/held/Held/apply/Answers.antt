@@ -11,8 +11,8 @@ invariant_of-self g c =
     let base = c.enter.ensures.base in
     let before = c.base_number-base_before.ensures in
     let after = c.base_number-base_after.ensures in
-    let onward = applied-onward _ _ _ _ _ c.apply_told-applied.ensures in (
-      applied-held g.L.Run.start _ _ c.self.inside.book.total _ c.args.event c.apply_told-applied.result _ c.legal.ensures.at_rest c.self.invariant.0 c.apply_told-applied.ensures (total ∙ ap (λ n. c.self.inside.book.total + n) c.entries_of.ensures),
+    let onward = applied-onward _ _ _ _ _ c.apply_duplicated-applied.ensures in (
+      applied-held g.L.Run.start _ _ c.self.inside.book.total _ c.args.event c.apply_duplicated-applied.result _ c.legal.ensures.at_rest c.self.invariant.0 c.apply_duplicated-applied.ensures (total ∙ ap (λ n. c.self.inside.book.total + n) c.entries_of.ensures),
       c.self.invariant.1,
       c.self.invariant.2,
       omega arith,
@@ -22,16 +22,16 @@ invariant_of-self g c =
 pub returns-clause-place : goal.returns-clause-place
 returns-clause-place g c = record {
   before = c.self.inside.kept;
-  later = c.apply_told-applied.new.self;
+  later = c.apply_duplicated-applied.new.self;
   count = c.self.inside.book.total;
   held = c.self.invariant.0;
   behind = c.enter.ensures.behind;
   legal = c.legal.ensures;
-  applies = c.apply_told-applied.ensures;
+  applies = c.apply_duplicated-applied.ensures;
 }
 
 pub returns-clause-told : goal.returns-clause-told
-returns-clause-told g c = applied-told _ _ _ _ _ c.apply_told-applied.ensures
+returns-clause-told g c = applied-told _ _ _ _ _ c.apply_duplicated-applied.ensures
 
 pub returns-clause-rises : goal.returns-clause-rises
 returns-clause-rises g c =
@@ -40,4 +40,4 @@ returns-clause-rises g c =
     let known = c.enter.ensures.known.0 in
     let latest = c.enter.ensures.latest in
     let count = c.entries_of.ensures in
-    applied-rises g.L.Run.start _ _ c.self.inside.book.total _ _ c.args.event c.apply_told-applied.result _ c.self.invariant.0 c.apply_told-applied.ensures (omega arith) (omega arith)
+    applied-rises g.L.Run.start _ _ c.self.inside.book.total _ _ c.args.event c.apply_duplicated-applied.result _ c.self.invariant.0 c.apply_duplicated-applied.ensures (omega arith) (omega arith)

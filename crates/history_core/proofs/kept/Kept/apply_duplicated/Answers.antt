@@ -1,13 +1,10 @@
-use Rattle.std.proofs.Common.{◌≡◌, ◌≢◌, ◌∙◌, ◌<◌, ◌^◌, sym, ap, subst, arith}
-use Rattle.std.specs.Prelude.{Result, IfOk}
-use Rattle.std.specs.declared.alloc.AllocError.{AllocError}
-use Rattle.history_core.specs.Receipts.{told_of}
-use Rattle.history_core.specs.declared.event.ReceiptEvent.{ReceiptEvent}
+use Rattle.std.proofs.Common.{◌≢◌, ◌∙◌, ◌<◌, ◌^◌, sym, ap, subst, arith}
+use Rattle.history_core.specs.declared.event.Event.{Event}
 use Rattle.history_core.specs.History.{History, next_of, last_number, Applies}
-use Rattle.history_core.specs.Keeping.{due_base}
+use Rattle.history_core.specs.Keeping.{due_base, entry_of}
 use Rattle.history_core.specs.declared.applied.Applied.{Applied}
 use Rattle.history_core.proofs.Applying.{left-ok, applies-ok}
-use Rattle.history_core.proofs.kept.Kept.apply_told.Goals as goal
+use Rattle.history_core.proofs.kept.Kept.apply_duplicated.Goals as goal
 
 pub invariant_of-self-2 : goal.invariant_of-self-2
 invariant_of-self-2 g c =
@@ -17,7 +14,8 @@ invariant_of-self-2 g c =
     let other : next_of h ≢ last_number = (λ e. c.if-number.false (number ∙ e)) in
     let below : next_of h < 2 ^ 64 = c.self.invariant.fits in
     let base = c.in-Ok.ensures.base ∙ ap due_base (sym c.self.view_is) in
-    let t = left-ok h c.args.event c.happen.new.happened _ _ _ _ _ _ _ _ _ c.self.invariant number (omega (arith, below, other)) base c.in-Ok-happen.ensures.happens c.made_of-entry.ensures.entry c.enter.ensures in
+    let made = c.made_of-entry.ensures.entry ∙ ap (λ (e : Event). entry_of e c.happen.new.happened) c.parted-kept_event.ensures.kept in
+    let t = left-ok h c.args.event c.happen.new.happened _ _ _ _ _ _ _ _ _ c.self.invariant number (omega (arith, below, other)) base c.in-Ok-happen.ensures.happens made c.enter.ensures in
     t.1
 
 pub returns : goal.returns
@@ -31,10 +29,9 @@ returns g c =
     let below : next_of h < last_number = omega (arith, most, other) in
     let base = c.in-Ok.ensures.base ∙ ap due_base (sym c.self.view_is) in
     let happens = c.in-Ok-happen.ensures.happens in
-    let t = left-ok h c.args.event c.happen.new.happened _ _ _ _ _ _ _ _ _ c.self.invariant number below base happens c.made_of-entry.ensures.entry c.enter.ensures in
-    let told : c.in-Ok.ready.told ≡ told_of c.args.event =
-    subst (λ (x : Result ReceiptEvent AllocError). IfOk x (λ t. t ≡ told_of c.args.event)) c.in-Ok.ensures.told c.requires.told in
-    let applied = applies-ok h c.args.event c.happen.new.happened c.happen.new.world c.happen.new.registry c.happen.new.buffer c.next_number-number.result c.in-Ok.ready.told c.made_of-entry.result.receipt c.made_of-entry.result.audit later
-    below happens number told c.made_of-entry.ensures.receipt c.made_of-entry.ensures.audit t.0 in
+    let made = c.made_of-entry.ensures.entry ∙ ap (λ (e : Event). entry_of e c.happen.new.happened) c.parted-kept_event.ensures.kept in
+    let t = left-ok h c.args.event c.happen.new.happened _ _ _ _ _ _ _ _ _ c.self.invariant number below base happens made c.enter.ensures in
+    let applied = applies-ok h c.args.event c.happen.new.happened c.happen.new.world c.happen.new.registry c.happen.new.buffer c.next_number-number.result c.parted-kept_event.result.1 c.made_of-entry.result.receipt c.made_of-entry.result.audit later
+    below happens number c.parted-kept_event.ensures.told c.made_of-entry.ensures.receipt c.made_of-entry.ensures.audit t.0 in
     subst (λ (x : History). Applies x c.args.event c.applied.result later c.happen.new.buffer) c.self.view_is
     (subst (λ (x : Applied). Applies h c.args.event x later c.happen.new.buffer) (sym c.applied.ensures) applied)
