@@ -4,7 +4,7 @@ use live_agent::End;
 use live_laps::{Book, LineName, Watch, Worked};
 use live_lock::Counts;
 use live_run::{Report, RunFault};
-use log::{Log, error, info};
+use log::{Log, error, info, warn};
 use std::io;
 use std::sync::Wait;
 use wire_core::WireFault;
@@ -39,14 +39,15 @@ pub fn tell_not_begun<R: Log>(rt: &R, why: &io::Error) {
     error!(rt; "not begun: {}", why);
 }
 
-/// Logs how lines go on, by this log: at the end of each lap of the ticker what all did so far, by the
-/// book of all lines, in a line of level Info as that of [`tell_report`]; where a line ends, which and
-/// why, in a line of level Error.
+/// Logs how lines go on, by this log: at the end of each interval of the ticker what all did so far, by
+/// the book of all lines, in a line of level Info as that of [`tell_report`]; where a fault ended an
+/// interval, which line's and why, and how many there were so far, in a line of level Warn; where a
+/// line ends, which and why, in a line of level Error.
 #[derive(Drop)]
 pub struct Teller<'r, R> {
     /// By which it logs.
     pub rt: &'r R,
-    /// What the laps of all workers came to.
+    /// What the intervals of all workers came to.
     pub book: &'r Book,
 }
 
@@ -80,6 +81,21 @@ impl<R: Log> Watch for Teller<'_, R> {
         );
     }
 
+    fn failed(&mut self, line: LineName, end: End, faults: u64) {
+        let why = why_ended(end);
+        match line {
+            // Workers are counted from 0; people count from 1.
+            LineName::Worker(number) => {
+                let number = number.saturating_add(1);
+                warn!(self.rt; "worker {}: {}, {} so far", number, why, faults)
+            }
+            LineName::Port(number) => {
+                warn!(self.rt; "port {}: {}, {} so far", number, why, faults)
+            }
+            LineName::Ticker => warn!(self.rt; "the clock: {}, {} so far", why, faults),
+        }
+    }
+
     fn ended(&mut self, line: LineName, end: End) {
         let why = why_ended(end);
         match line {
@@ -93,7 +109,7 @@ impl<R: Log> Watch for Teller<'_, R> {
     }
 }
 
-// Why a line ended.
+// Why a line, or an interval of it, ended.
 fn why_ended(end: End) -> &'static str {
     match end {
         End::Rounds => "its rounds are over",

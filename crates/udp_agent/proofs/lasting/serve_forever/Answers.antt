@@ -7,5 +7,6 @@ returns g c = record {
   run = c.in_ok-lines.lines;
   bound = c.in_ok-lines.ensures.lines;
   watch = _;
+  pace = _;
   served = c.in_ok-ends.ensures;
 }
