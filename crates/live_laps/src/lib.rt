@@ -7,7 +7,7 @@
 //! ended. Each line has a [`Watch`] ([`Watched`]), to which each interval of a worker and of the
 //! ticker, each fault and the line's end is reported, and a pace, by which it waits behind a fault
 //! before it begins anew. A [`LineName`] is what a line is called, a [`Worked`] what intervals of
-//! workers came to, a [`Book`] what all did so far.
+//! workers came to, with its [`Drops`] by cause, a [`Book`] what all did so far.
 //!
 //! # Definitions
 //! `specs/Lines.antt`: the lines of a run; `specs/Notes.antt`: what is reported to a watch;
@@ -34,7 +34,7 @@ mod line;
 mod serving;
 mod watch;
 
-pub use book::{Book, Worked};
+pub use book::{Book, Drops, Worked};
 pub use line::{Line, LineName, Watched, lines_of};
 pub use serving::serve_laps;
 pub use watch::Watch;

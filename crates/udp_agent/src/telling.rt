@@ -1,7 +1,7 @@
 //! Logs what a run did, why it has no report, and how lines go on.
 use crate::serving::ServeFault;
 use live_agent::End;
-use live_laps::{Book, LineName, Watch, Worked};
+use live_laps::{Book, Drops, LineName, Watch, Worked};
 use live_lock::Counts;
 use live_run::{Report, RunFault};
 use log::{Log, error, info, warn};
@@ -40,7 +40,7 @@ pub fn tell_not_begun<R: Log>(rt: &R, why: &io::Error) {
 }
 
 /// Logs how lines go on, by this log: at the end of each interval of the ticker what all did so far, by
-/// the book of all lines, in a line of level Info as that of [`tell_report`]; where a fault ended an
+/// the book of all lines, in a line of level Info as that of [`tell_report`], and the drops by cause in another; where a fault ended an
 /// interval, which line's and why, and how many there were so far, in a line of level Warn; where a
 /// line ends, which and why, in a line of level Error.
 #[derive(Drop)]
@@ -49,6 +49,21 @@ pub struct Teller<'r, R> {
     pub rt: &'r R,
     /// What the intervals of all workers came to.
     pub book: &'r Book,
+}
+
+impl<R: Log> Teller<'_, R> {
+    // Logs how many datagrams each cause dropped.
+    fn tell_drops(&self, drops: Drops) {
+        info!(
+            self.rt;
+            "drops TooLong {} Malformed {} BadVersion {} BadKind {} Memory {}",
+            drops.too_long,
+            drops.malformed,
+            drops.bad_version,
+            drops.bad_kind,
+            drops.memory
+        );
+    }
 }
 
 impl<R: Log> Watch for Teller<'_, R> {
@@ -79,6 +94,7 @@ impl<R: Log> Watch for Teller<'_, R> {
             counts.older,
             worked.drops
         );
+        self.tell_drops(worked.by_cause);
     }
 
     fn failed(&mut self, line: LineName, end: End, faults: u64) {

@@ -59,13 +59,15 @@ fn failed_at<R: Threads + Wait + Clock + Sync>(
     watched(rt, alloc, 0, lines_failing(alloc, call, 0)?)
 }
 
-// Totals of so many entries, requests and drops, in which the base has not moved.
+// Totals of so many entries, requests and drops, all of which held no message, in which the base has
+// not moved.
 fn totals(entries: u64, requests: u64, drops: u64) -> Totals {
     Totals {
         entries,
         requests,
         older: 0,
         drops,
+        malformed: drops,
     }
 }
 

@@ -23,6 +23,8 @@ pub struct Totals {
     pub older: u64,
     /// The datagrams that came to a worker and held no request.
     pub drops: u64,
+    /// Those of them that held no message.
+    pub malformed: u64,
 }
 
 /// What a watch was told of a worker, a port and a ticker.
@@ -54,6 +56,7 @@ const NOTHING: Told = Told {
         requests: 0,
         older: 0,
         drops: 0,
+        malformed: 0,
     },
     worker: None,
     port: None,
@@ -156,6 +159,7 @@ impl<R: Wait + Clock> Watch for HoldWatch<'_, R> {
             requests: worked.requests,
             older: counts.older,
             drops: worked.drops,
+            malformed: worked.by_cause.malformed,
         };
         self.kept.told.lock(rt).lap(totals);
         for _ in 0..TURNS {
