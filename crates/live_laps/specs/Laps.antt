@@ -76,23 +76,8 @@ pub record Place (A W T V P : Type 0) : Type 0 where
 abbrev pub place_of : {A W T V P : Type 0} → Watched A W T V P → ℕ → Place A W T V P
 place_of watched amount = record { watched = watched; amount = amount }
 
-module _ {A W T V P : Type 0} (worker_did : A → List Deed → A → Type 0) (worker_failures : A → ℕ)
-    (went : W → List Act → W → Type 0) (failures : W → ℕ)
-    (ticker_did : T → List Deed → T → Type 0) (ticker_failures : T → ℕ)
-    (watch_went : V → List Note → V → Type 0) (pace_went : P → List Bool → P → Type 0)
-    (s : Setting) (rounds : ℕ) where
-  -- An interval from one place to another that ended so, and was reported once to the watch. The pace
-  -- and the count of faults are the same.
-  pub record IsNotedLap (a b : Place A W T V P) (how : End) : Type 0 where
-    pub trace : List Item
-    pub lap : IsLap worker_did worker_failures went failures ticker_did ticker_failures s rounds
-        a.watched.line b.watched.line a.amount b.amount trace how
-    pub notes : List Note
-    pub noted : IsNoted s.start b.watched.line b.amount trace notes
-    pub told : watch_went a.watched.watch notes b.watched.watch
-    pub pace_is : b.watched.pace ≡ a.watched.pace
-    pub faults_are : b.watched.faults ≡ a.watched.faults
-
+module _ {A W T V P : Type 0} (watch_went : V → List Note → V → Type 0)
+    (pace_went : P → List Bool → P → Type 0) where
   -- A fault that ended an interval so: it was counted, and reported once to the watch with that count,
   -- and the pace answered this once.
   pub record HasFailed (a b : Watched A W T V P) (how : End) (answer : Bool) : Type 0 where
@@ -111,11 +96,28 @@ module _ {A W T V P : Type 0} (worker_did : A → List Deed → A → Type 0) (w
   GoesOn a b (Wire fault) answer = HasFailed a b (Wire fault) answer
   GoesOn a b Memory answer = HasFailed a b Memory answer
 
+module _ {A W T V P : Type 0} (worker_did : A → List Deed → A → Type 0) (worker_failures : A → ℕ)
+    (went : W → List Act → W → Type 0) (failures : W → ℕ)
+    (ticker_did : T → List Deed → T → Type 0) (ticker_failures : T → ℕ)
+    (watch_went : V → List Note → V → Type 0) (pace_went : P → List Bool → P → Type 0)
+    (s : Setting) (rounds : ℕ) where
+  -- An interval from one place to another that ended so, and was reported once to the watch. The pace
+  -- and the count of faults are the same.
+  pub record IsNotedLap (a b : Place A W T V P) (how : End) : Type 0 where
+    pub trace : List Item
+    pub lap : IsLap worker_did worker_failures went failures ticker_did ticker_failures s rounds
+        a.watched.line b.watched.line a.amount b.amount trace how
+    pub notes : List Note
+    pub noted : IsNoted s.start b.watched.line b.amount trace notes
+    pub told : watch_went a.watched.watch notes b.watched.watch
+    pub pace_is : b.watched.pace ≡ a.watched.pace
+    pub faults_are : b.watched.faults ≡ a.watched.faults
+
   -- An interval that ended so, and what is behind it: the next, or none.
   pub record HasPassedOn (a b : Place A W T V P) (how : End) (answer : Bool) : Type 0 where
     pub between : Watched A W T V P
     pub interval : IsNotedLap a (place_of between b.amount) how
-    pub behind : GoesOn between b.watched how answer
+    pub behind : GoesOn watch_went pace_went between b.watched how answer
 
   -- Intervals lead from one place to another, each from the place to which the one before it led, and
   -- behind each the line went on: that of the latest first.
