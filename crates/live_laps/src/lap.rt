@@ -149,7 +149,8 @@ pub fn go_on<
     for _ in 0..u64::MAX {
         let end = pass(rt, plan, live, &mut share, &mut watched);
         if !goes_on(&mut watched, end) {
-            watched.watch.ended(watched.line.name(), end);
+            let name = watched.line.name();
+            watched.watch.ended(name, end);
             return (share, watched, end);
         }
     }
