@@ -70,16 +70,7 @@ fn note_lap<O: MibObject, L: Run, A, W, T, V: Watch, R: Wait>(
 }
 
 // One interval of a line, which is reported to its watch: how it ended. Its trace is dropped.
-fn pass<
-    O: MibObject,
-    L: Run,
-    A: GatedWire,
-    W: Wire,
-    T: PacedWire,
-    V: Watch,
-    P: Pace,
-    R: Wait,
->(
+fn pass<O: MibObject, L: Run, A: GatedWire, W: Wire, T: PacedWire, V: Watch, P: Pace, R: Wait>(
     rt: &R,
     plan: &Plan,
     live: &Live<O, L>,
@@ -122,16 +113,7 @@ fn goes_on<A, W, T, V: Watch, P: Pace>(watched: &mut Watched<A, W, T, V, P>, end
 /// A line goes on interval by interval until one ends it, or 2^64 - 1 are done. Each interval is
 /// reported once to its watch; so is each fault, behind which the line waits by its pace; and so is
 /// the end. The trace of an interval is dropped when it was reported.
-pub fn go_on<
-    O: MibObject,
-    L: Run,
-    A: GatedWire,
-    W: Wire,
-    T: PacedWire,
-    V: Watch,
-    P: Pace,
-    R: Wait,
->(
+pub fn go_on<O: MibObject, L: Run, A: GatedWire, W: Wire, T: PacedWire, V: Watch, P: Pace, R: Wait>(
     rt: &R,
     plan: &Plan,
     live: &Live<O, L>,

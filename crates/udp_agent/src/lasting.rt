@@ -117,7 +117,8 @@ pub fn serve_forever<'r, O: MibObject + Send, R: Threads + Wait + Net + Clock + 
         setup.now kept result }
 {
     let plan = plan_of(alloc, setup)?;
-    let lines = at_whole_seconds(bind_lines(rt, rt, alloc, setup)?, rt)?;
+    let bound = bind_lines(rt, rt, alloc, setup)?;
+    let lines = at_whole_seconds(bound, rt)?;
     let book = Book::new();
     let watch = Teller { rt, book: &book };
     // Of want of memory `?` makes an error of the system.

@@ -101,7 +101,10 @@ fn lines_go_on_beside_one_that_fails(rt: HostRuntime) -> Result<(), Fail> {
     assert_eq!(rt; ends, Some((RECEIVE, End::Closed, End::Closed)));
     assert_eq!(rt; (entries, told.laps, told.totals), (4, 2, totals(4, 0, 0)));
     assert_eq!(rt; ends_told(&told), (Some(RECEIVE), CLOSED, CLOSED));
-    assert_eq!(rt; (told.worker_fault, told.port_fault), (Some((RECEIVE, 1)), None));
+    assert_eq!(rt;
+        (told.worker_fault, told.port_fault),
+        (Some((RECEIVE, 1)), None)
+    );
     let (ends, entries, told) = failed_at(&rt, rt.alloc(), 6)?;
     assert_eq!(rt; ends, Some((SEND, End::Closed, End::Closed)));
     assert_eq!(rt; (entries, told.laps, told.totals), (7, 2, totals(7, 3, 0)));
@@ -132,7 +135,10 @@ fn port_goes_on_behind_a_fault(rt: HostRuntime) -> Result<(), Fail> {
         let (ends, entries, told) = watched(&rt, alloc, 1, lines_failing(alloc, 0, call)?)?;
         assert_eq!(rt; ends, Some((End::Closed, End::Closed, End::Closed)));
         assert_eq!(rt; (entries, told.totals), (9, totals(9, 5, 1)));
-        assert_eq!(rt; (told.worker_fault, told.port_fault), (None, Some((RECEIVE, 1))));
+        assert_eq!(rt;
+            (told.worker_fault, told.port_fault),
+            (None, Some((RECEIVE, 1)))
+        );
     }
     Ok(())
 }
@@ -146,7 +152,10 @@ fn broken_lines_end_with_their_pace(rt: HostRuntime) -> Result<(), Fail> {
         let (ends, entries, told) = watched(&rt, alloc, waits, lines_broken(alloc)?)?;
         let last = Some((RECEIVE, waits + 1));
         assert_eq!(rt; ends, Some((RECEIVE, RECEIVE, End::Closed)));
-        assert_eq!(rt; (entries, told.worker_fault, told.port_fault), (4, last, last));
+        assert_eq!(rt;
+            (entries, told.worker_fault, told.port_fault),
+            (4, last, last)
+        );
         assert_eq!(rt; ends_told(&told), (Some(RECEIVE), Some(RECEIVE), CLOSED));
     }
     Ok(())
