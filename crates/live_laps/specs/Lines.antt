@@ -13,20 +13,24 @@ name_of (Worker number wire) = name.Worker number
 name_of (Port number is_begun wire) = name.Port number
 name_of (Ticker wire) = name.Ticker
 
--- the workers over these wires, numbered from this number on, each with such a watch
-abbrev pub workers_from : {A W T V : Type 0} → V → ℕ → List A → List (Watched A W T V)
-workers_from watch number [] = []
-workers_from watch number (wire ∷ wires) =
-    record { line = Worker number wire; watch = watch } ∷ workers_from watch (number + 1) wires
+-- a line that has not begun, with such a watch and such a pace
+abbrev pub beginning : {A W T V P : Type 0} → V → P → Line A W T → Watched A W T V P
+beginning watch pace line = record { line = line; watch = watch; pace = pace; faults = 0 }
+
+-- the workers over these wires, numbered from this number on, each with such a watch and such a pace
+abbrev pub workers_from : {A W T V P : Type 0} → V → P → ℕ → List A → List (Watched A W T V P)
+workers_from watch pace number [] = []
+workers_from watch pace number (wire ∷ wires) =
+    beginning watch pace (Worker number wire) ∷ workers_from watch pace (number + 1) wires
 
 -- the same of ports, no link of which is up
-abbrev pub ports_from : {A W T V : Type 0} → V → ℕ → List W → List (Watched A W T V)
-ports_from watch number [] = []
-ports_from watch number (wire ∷ wires) =
-    record { line = Port number false wire; watch = watch } ∷ ports_from watch (number + 1) wires
+abbrev pub ports_from : {A W T V P : Type 0} → V → P → ℕ → List W → List (Watched A W T V P)
+ports_from watch pace number [] = []
+ports_from watch pace number (wire ∷ wires) =
+    beginning watch pace (Port number false wire) ∷ ports_from watch pace (number + 1) wires
 
 -- all lines of a run: its workers, counted from 0, its ports, from 1 on, and the ticker
-abbrev pub all_lines : {A W T V : Type 0} → V → Lines A W T → List (Watched A W T V)
-all_lines watch run = workers_from watch 0 run.workers.items
-    ++ (ports_from watch 1 run.ports.items
-    ++ record { line = Ticker run.ticker; watch = watch } ∷ [])
+abbrev pub all_lines : {A W T V P : Type 0} → V → P → Lines A W T → List (Watched A W T V P)
+all_lines watch pace run = workers_from watch pace 0 run.workers.items
+    ++ (ports_from watch pace 1 run.ports.items
+    ++ beginning watch pace (Ticker run.ticker) ∷ [])

@@ -18,7 +18,7 @@ use setphase_core::MibObject;
 use std::marker::Brand;
 use std::sync::{Wait, ledger};
 use std::thread::{Threads, join};
-use wire_core::Wire;
+use wire_core::{Pace, Wire};
 
 // Each line in a thread beside the others. Gives back the share, the lines, and how each ended, in
 // their order.
@@ -29,20 +29,21 @@ fn run_lines<
     W: Wire + Send,
     T: PacedWire + Send,
     V: Watch + Send,
+    P: Pace + Send,
     R: Threads + Wait + Sync,
 >(
     rt: &R,
     plan: &Plan,
     live: &Live<O, L>,
     share: Share<L>,
-    lines: Vec<Watched<A, W, T, V>>,
+    lines: Vec<Watched<A, W, T, V, P>>,
     ends: Vec<End>,
-) -> (Share<L>, Vec<Watched<A, W, T, V>>, Vec<End>)
+) -> (Share<L>, Vec<Watched<A, W, T, V, P>>, Vec<End>)
     requires shared { MayShare O.row L.row O.MibObject L.start L.base_rise L.name L.parts L.rise }
     requires parts { vec_len lines < share.parts }
     requires empty { ends.items ≡ [] }
     requires room { vec_len lines ≤ vec_capacity ends }
-    ensures lines { AllGoneOn A.did A.failures W.went W.failures T.did T.failures V.went
+    ensures lines { AllGoneOn A.did A.failures W.went W.failures T.did T.failures V.went P.went
         (setting_of L.start plan.now) plan.now.rounds lines.items result.1.items result.2.items share.amount result.0.amount }
     ensures parts { result.0.parts ≡ share.parts }
     ensures lens { (vec_len result.1 ≡ vec_len lines) × (vec_len result.2 ≡ vec_len lines) }
@@ -57,18 +58,18 @@ fn run_lines<
     let mine = share.split_off(1);
     let (one, others) = join(
         rt,
-        move || -> (Share<L>, Watched<A, W, T, V>, End)
+        move || -> (Share<L>, Watched<A, W, T, V, P>, End)
             requires { 0 < mine.parts }
-            ensures laps { HasGoneOn A.did A.failures W.went W.failures T.did T.failures V.went
+            ensures laps { HasGoneOn A.did A.failures W.went W.failures T.did T.failures V.went P.went
                 (setting_of L.start plan.entry.now) plan.entry.now.rounds (place_of line mine.amount)
                 (place_of result.1 result.0.amount) result.2 }
             ensures parts { result.0.parts ≡ mine.parts }
         { go_on(rt, plan, live, mine, line) },
-        move || -> (Share<L>, Vec<Watched<A, W, T, V>>, Vec<End>)
+        move || -> (Share<L>, Vec<Watched<A, W, T, V, P>>, Vec<End>)
             requires { IsSync R.row × MayShare O.row L.row O.MibObject L.start L.base_rise L.name L.parts L.rise
                 × (vec_len lines < share.parts)
                 × (ends.items ≡ []) × (vec_len lines ≤ vec_capacity ends) }
-            ensures lines { AllGoneOn A.did A.failures W.went W.failures T.did T.failures V.went
+            ensures lines { AllGoneOn A.did A.failures W.went W.failures T.did T.failures V.went P.went
                 (setting_of L.start plan.entry.now) plan.entry.now.rounds lines.items
                 result.1.items result.2.items share.amount result.0.amount }
             ensures parts { result.0.parts ≡ share.parts }
@@ -94,6 +95,7 @@ fn run_over<
     W: Wire + Send,
     T: PacedWire + Send,
     V: Watch + Send,
+    P: Pace + Send,
     R: Threads + Wait + Sync,
 >(
     rt: &R,
@@ -102,9 +104,9 @@ fn run_over<
     blank: ledger::Blank,
     number: Blank,
     moved: Blank,
-    lines: Vec<Watched<A, W, T, V>>,
+    lines: Vec<Watched<A, W, T, V, P>>,
     ends: Vec<End>,
-) -> (Kept<O>, Vec<Watched<A, W, T, V>>, Vec<End>)
+) -> (Kept<O>, Vec<Watched<A, W, T, V, P>>, Vec<End>)
     requires name { blank.name ≡ L.name }
     requires all { blank.parts ≡ L.parts }
     requires number { number.name ≡ L.rise }
@@ -113,7 +115,7 @@ fn run_over<
     requires parts { vec_len lines < blank.parts }
     requires empty { ends.items ≡ [] }
     requires room { vec_len lines ≤ vec_capacity ends }
-    ensures { HaveGoneOn A.did A.failures W.went W.failures T.did T.failures V.went plan.now L.start result.0 lines.items
+    ensures { HaveGoneOn A.did A.failures W.went W.failures T.did T.failures V.went P.went plan.now L.start result.0 lines.items
         result.1.items result.2.items }
 {
     let (live, share) = Live::<O, L>::new(kept, blank, number, moved);
@@ -122,31 +124,32 @@ fn run_over<
     (kept, lines, ends)
 }
 
-/// Runs all lines over a history at the same time, each in a thread of its own, lap by lap, until all
-/// have ended. The history comes back, and so do the lines.
+/// Runs all lines over a history at the same time, each in a thread of its own, interval by
+/// interval, until all have ended. The history comes back, and so do the lines.
 pub fn run_from<
     O: MibObject + Send,
     A: GatedWire + Send,
     W: Wire + Send,
     T: PacedWire + Send,
     V: Watch + Send,
+    P: Pace + Send,
     R: Threads + Wait + Sync,
 >(
     rt: &R,
     plan: &Plan,
     kept: Kept<O>,
-    lines: Vec<Watched<A, W, T, V>>,
+    lines: Vec<Watched<A, W, T, V, P>>,
     ends: Vec<End>,
-) -> (Kept<O>, Vec<Watched<A, W, T, V>>, Vec<End>)
+) -> (Kept<O>, Vec<Watched<A, W, T, V, P>>, Vec<End>)
     requires few { vec_len lines < 2 ^ 32 }
     requires empty { ends.items ≡ [] }
     requires room { vec_len lines ≤ vec_capacity ends }
-    ensures { HaveGoneOn A.did A.failures W.went W.failures T.did T.failures V.went plan.now kept result.0 lines.items
+    ensures { HaveGoneOn A.did A.failures W.went W.failures T.did T.failures V.went P.went plan.now kept result.0 lines.items
         result.1.items result.2.items }
 {
     // A part for each line, and one for who starts them.
     let blank = ledger::Blank::new(lines.len() as u64 + 1);
-    run_over::<O, Brand, A, W, T, V, R>(
+    run_over::<O, Brand, A, W, T, V, P, R>(
         rt,
         plan,
         kept,

@@ -1,23 +1,28 @@
-//! The laps of a line.
-ghost use Rattle.std.specs.Prelude.{◌≡◌, ◌≢◌, ◌<◌, [], ◌∷◌, List, true, false};
-ghost use Rattle.live_agent.specs.declared.trace.End.TheVariants.{Rounds};
+//! The intervals of a line.
+ghost use Rattle.std.specs.Prelude.{◌≡◌, ◌<◌, List};
 ghost use Rattle.live_agent.specs.Lines.{setting_of};
-ghost use Rattle.live_laps.specs.Laps.{IsLap, IsNoted, HasGoneOn, place_of};
-ghost use Rattle.live_laps.specs.Lines.{name_of};
-ghost use Rattle.live_laps.specs.Notes.{Note, line_ended};
+ghost use Rattle.live_laps.specs.Laps.{is_first_entered, IsLap, IsNoted, IsNotedLap, HasFailed, GoesOn, HasGoneOn, place_of};
+ghost use Rattle.live_laps.specs.Notes.{Note};
 
 use crate::book::worked_in;
 use crate::line::{Line, Watched};
 use crate::watch::Watch;
 use live_agent::{
-    End, GatedWire, PacedWire, Plan, Ran, port_lap, port_run, ticker_run, worker_run,
+    End, GatedWire, Item, PacedWire, Plan, Ran, port_lap, port_run, ticker_run, worker_run,
 };
 use live_lock::{Live, Run, Share};
 use setphase_core::MibObject;
 use std::sync::Wait;
-use wire_core::Wire;
+use wire_core::{Pace, Wire};
 
-// One lap of a line. A port's first begins with its link.
+// Whether the first event or datagram of a trace was entered.
+fn is_first_entered(items: &[Item]) -> bool
+    ensures { result ≡ is_first_entered items.now }
+{
+    matches!(items, [Item::Entered(_), ..])
+}
+
+// One interval of a line. A port's begins with its link until that was entered.
 fn run_lap<O: MibObject, L: Run, A: GatedWire, W: Wire, T: PacedWire, R: Wait>(
     rt: &R,
     plan: &Plan,
@@ -34,14 +39,15 @@ fn run_lap<O: MibObject, L: Run, A: GatedWire, W: Wire, T: PacedWire, R: Wait>(
         Line::Worker(number, wire) => worker_run(rt, plan, live, share, wire, *number),
         Line::Port(number, true, wire) => port_lap(rt, plan, live, share, wire, *number),
         Line::Port(number, is_begun, wire) => {
-            *is_begun = true;
-            port_run(rt, plan, live, share, wire, *number)
+            let ran = port_run(rt, plan, live, share, wire, *number);
+            *is_begun = is_first_entered(ran.trace.as_slice());
+            ran
         }
         Line::Ticker(wire) => ticker_run(rt, plan, live, share, wire),
     }
 }
 
-// Tells a watch of a lap that has ended.
+// Reports to a watch an interval that has ended.
 fn note_lap<O: MibObject, L: Run, A, W, T, V: Watch, R: Wait>(
     rt: &R,
     live: &Live<O, L>,
@@ -63,44 +69,72 @@ fn note_lap<O: MibObject, L: Run, A, W, T, V: Watch, R: Wait>(
     }
 }
 
-// Tells a watch where a lap that ended so ends its line, and says whether it does.
-fn note_end<A, W, T, V: Watch>(watch: &mut V, line: &Line<A, W, T>, end: End) -> bool
-    ensures over { result ≡ true → (end ≢ Rounds)
-        × V.went watch.old (line_ended (name_of line.now) end ∷ []) watch.new }
-    ensures goes_on { result ≡ false → (end ≡ Rounds) × (watch.new ≡ watch.old) }
+// One interval of a line, which is reported to its watch: how it ended. Its trace is dropped.
+fn pass<O: MibObject, L: Run, A: GatedWire, W: Wire, T: PacedWire, V: Watch, P: Pace, R: Wait>(
+    rt: &R,
+    plan: &Plan,
+    live: &Live<O, L>,
+    share: &mut Share<L>,
+    watched: &mut Watched<A, W, T, V, P>,
+) -> End
+    requires { 0 < share.old.parts }
+    ensures interval { IsNotedLap A.did A.failures W.went W.failures T.did T.failures V.went P.went
+        (setting_of L.start plan.now) plan.now.rounds (place_of watched.old share.old.amount)
+        (place_of watched.new share.new.amount) result }
+    ensures parts { share.new.parts ≡ share.old.parts }
 {
-    if matches!(end, End::Rounds) {
-        return false;
-    }
-    watch.ended(line.name(), end);
-    true
+    let ran = run_lap(rt, plan, live, share, &mut watched.line);
+    note_lap(rt, live, share, &mut watched.watch, &watched.line, &ran);
+    ran.end
 }
 
-/// A line goes on lap by lap until one ends it, or 2^64 - 1 are done. Each lap is reported once to its
-/// watch, and so is the end. The trace of a lap is dropped when the next begins.
-pub fn go_on<O: MibObject, L: Run, A: GatedWire, W: Wire, T: PacedWire, V: Watch, R: Wait>(
+// A fault has ended an interval: counts it, reports it to the watch, and waits as the pace does.
+// Whether the line begins anew.
+fn fail<A, W, T, V: Watch, P: Pace>(watched: &mut Watched<A, W, T, V, P>, end: End) -> bool
+    ensures { HasFailed V.went P.went watched.old watched.new end result }
+{
+    let name = watched.line.name();
+    watched.faults = watched.faults.saturating_add(1);
+    watched.watch.failed(name, end, watched.faults);
+    watched.pace.next()
+}
+
+// Whether a line goes on behind an interval that ended so.
+fn goes_on<A, W, T, V: Watch, P: Pace>(watched: &mut Watched<A, W, T, V, P>, end: End) -> bool
+    ensures { GoesOn V.went P.went watched.old watched.new end result }
+{
+    match end {
+        End::Rounds => true,
+        End::Closed | End::Full => false,
+        End::Wire(_) | End::Memory => fail(watched, end),
+    }
+}
+
+/// A line goes on interval by interval until one ends it, or 2^64 - 1 are done. Each interval is
+/// reported once to its watch; so is each fault, behind which the line waits by its pace; and so is
+/// the end. The trace of an interval is dropped when it was reported.
+pub fn go_on<O: MibObject, L: Run, A: GatedWire, W: Wire, T: PacedWire, V: Watch, P: Pace, R: Wait>(
     rt: &R,
     plan: &Plan,
     live: &Live<O, L>,
     share: Share<L>,
-    watched: Watched<A, W, T, V>,
-) -> (Share<L>, Watched<A, W, T, V>, End)
+    watched: Watched<A, W, T, V, P>,
+) -> (Share<L>, Watched<A, W, T, V, P>, End)
     requires { 0 < share.parts }
-    ensures laps { HasGoneOn A.did A.failures W.went W.failures T.did T.failures V.went
+    ensures laps { HasGoneOn A.did A.failures W.went W.failures T.did T.failures V.went P.went
         (setting_of L.start plan.now) plan.now.rounds (place_of watched share.amount)
         (place_of result.1 result.0.amount) result.2 }
     ensures parts { result.0.parts ≡ share.parts }
 {
     let mut share = share;
-    let Watched { line, watch } = watched;
-    let mut line = line;
-    let mut watch = watch;
+    let mut watched = watched;
     for _ in 0..u64::MAX {
-        let ran = run_lap(rt, plan, live, &mut share, &mut line);
-        note_lap(rt, live, &mut share, &mut watch, &line, &ran);
-        if note_end(&mut watch, &line, ran.end) {
-            return (share, Watched { line, watch }, ran.end);
+        let end = pass(rt, plan, live, &mut share, &mut watched);
+        if !goes_on(&mut watched, end) {
+            let name = watched.line.name();
+            watched.watch.ended(name, end);
+            return (share, watched, end);
         }
     }
-    (share, Watched { line, watch }, End::Rounds)
+    (share, watched, End::Rounds)
 }

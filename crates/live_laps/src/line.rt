@@ -1,30 +1,35 @@
-//! A line that goes on lap by lap.
+//! A line that goes on interval by interval.
 ghost use Rattle.std.specs.Prelude.{◌≡◌, ◌+◌, ◌<◌, ◌-◌, ◌^◌, ◌++◌, IfOk, OnOk, vec_len};
 ghost use Rattle.live_laps.specs.Lines.{name_of, workers_from, ports_from, all_lines};
 
 use crate::watch::Watch;
 use live_run::Lines;
 use std::alloc::{AllocError, Global};
+use wire_core::Pace;
 
-/// A line that goes on lap by lap.
+/// A line that goes on interval by interval.
 #[derive(Drop)]
 pub enum Line<A, W, T> {
     /// The worker of this number, counted from 0, over its wire, with its gate.
     Worker(usize, A),
-    /// The port of this number, counted from 1, over its wire; whether its first lap, which its link
-    /// begins, was begun.
+    /// The port of this number, counted from 1, over its wire; whether its link went up. Until it has,
+    /// the link begins each interval.
     Port(u16, bool, W),
     /// The ticker, over its wire, with its pace.
     Ticker(T),
 }
 
-/// A line, and who is told how it goes on.
+/// A line, to whom it is reported how it goes on, and how it waits behind a fault.
 #[derive(Drop)]
-pub struct Watched<A, W, T, V> {
+pub struct Watched<A, W, T, V, P> {
     /// The line.
     pub line: Line<A, W, T>,
-    /// Who is told.
+    /// To whom it is reported.
     pub watch: V,
+    /// The pace by which the line waits behind a fault, and which says whether it begins anew.
+    pub pace: P,
+    /// How many of its intervals a fault has ended so far. The count stops at `u64::MAX`.
+    pub faults: u64,
 }
 
 /// What a line is called.
@@ -52,14 +57,15 @@ impl<A, W, T> Line<A, W, T> {
 }
 
 // Adds the workers' lines.
-fn add_workers<A: Drop, W: Drop, T: Drop, V: Watch>(
-    lines: &mut Vec<Watched<A, W, T, V>>,
+fn add_workers<A: Drop, W: Drop, T: Drop, V: Watch, P: Pace + Copy>(
+    lines: &mut Vec<Watched<A, W, T, V, P>>,
     wires: Vec<A>,
     watch: &V,
+    pace: P,
 ) -> Result<(), AllocError>
     requires few { vec_len wires < 2 ^ 16 }
     ensures lines { OnOk result (lines.new.items
-        ≡ lines.old.items ++ workers_from watch.now 0 wires.items) }
+        ≡ lines.old.items ++ workers_from watch.now pace 0 wires.items) }
     ensures len { OnOk result (vec_len lines.new ≡ vec_len lines.old + vec_len wires) }
 {
     let mut number = 0usize;
@@ -67,6 +73,8 @@ fn add_workers<A: Drop, W: Drop, T: Drop, V: Watch>(
         lines.push(Watched {
             line: Line::Worker(number, wire),
             watch: watch.another(),
+            pace,
+            faults: 0,
         })?;
         number += 1;
     }
@@ -74,14 +82,15 @@ fn add_workers<A: Drop, W: Drop, T: Drop, V: Watch>(
 }
 
 // Adds the ports' lines.
-fn add_ports<A: Drop, W: Drop, T: Drop, V: Watch>(
-    lines: &mut Vec<Watched<A, W, T, V>>,
+fn add_ports<A: Drop, W: Drop, T: Drop, V: Watch, P: Pace + Copy>(
+    lines: &mut Vec<Watched<A, W, T, V, P>>,
     wires: Vec<W>,
     watch: &V,
+    pace: P,
 ) -> Result<(), AllocError>
     requires few { vec_len wires < 2 ^ 16 - 1 }
     ensures lines { OnOk result (lines.new.items
-        ≡ lines.old.items ++ ports_from watch.now 1 wires.items) }
+        ≡ lines.old.items ++ ports_from watch.now pace 1 wires.items) }
     ensures len { OnOk result (vec_len lines.new ≡ vec_len lines.old + vec_len wires) }
 {
     let mut number = 1u16;
@@ -89,31 +98,37 @@ fn add_ports<A: Drop, W: Drop, T: Drop, V: Watch>(
         lines.push(Watched {
             line: Line::Port(number, false, wire),
             watch: watch.another(),
+            pace,
+            faults: 0,
         })?;
         number += 1;
     }
     Ok(())
 }
 
-/// The lines of a run, none of whose ports' links is up yet, each with such a watch.
+/// The lines of a run, none of whose ports' links is up yet, each with such a watch, and with such a
+/// pace for its waits behind faults.
 ///
 /// # Errors
 /// That there is no memory for their list.
-pub fn lines_of<A: Drop, W: Drop, T: Drop, V: Watch>(
+pub fn lines_of<A: Drop, W: Drop, T: Drop, V: Watch, P: Pace + Copy>(
     alloc: Global,
     run: Lines<A, W, T>,
     watch: V,
-) -> Result<Vec<Watched<A, W, T, V>>, AllocError>
+    pace: P,
+) -> Result<Vec<Watched<A, W, T, V, P>>, AllocError>
     requires few { (vec_len run.workers < 2 ^ 16) × (vec_len run.ports < 2 ^ 16 - 1) }
-    ensures lines { IfOk result (λ lines. lines.items ≡ all_lines watch run) }
+    ensures lines { IfOk result (λ lines. lines.items ≡ all_lines watch pace run) }
     ensures few { IfOk result (λ lines. vec_len lines < 2 ^ 32) }
 {
     let mut lines = Vec::new(alloc);
-    add_workers(&mut lines, run.workers, &watch)?;
-    add_ports(&mut lines, run.ports, &watch)?;
+    add_workers(&mut lines, run.workers, &watch, pace)?;
+    add_ports(&mut lines, run.ports, &watch, pace)?;
     lines.push(Watched {
         line: Line::Ticker(run.ticker),
         watch,
+        pace,
+        faults: 0,
     })?;
     Ok(lines)
 }

@@ -11,7 +11,7 @@ use setphase_core::MibObject;
 use std::alloc::{AllocError, Global};
 use std::sync::Wait;
 use std::thread::Threads;
-use wire_core::Wire;
+use wire_core::{Pace, Wire};
 
 // Room for how so many lines ended.
 fn room_for(alloc: Global, lines: usize) -> Result<Vec<End>, AllocError>
@@ -21,11 +21,13 @@ fn room_for(alloc: Global, lines: usize) -> Result<Vec<End>, AllocError>
     Vec::with_capacity(alloc, lines)
 }
 
-/// Runs lines over a history at the same time, each in a thread of its own. Each goes on lap by lap,
-/// until its wire is closed or fails (the ticker: its pace ends), no number is left for an entry, or
-/// there is no memory for a lap's trace, or until 2^64 - 1 laps are done. Each lap of a worker and of
-/// the ticker, and the line's end, is reported to the line's watch. Where the system makes no thread more, a line begins once
-/// those that it was to run beside have ended, which is never while they go on.
+/// Runs lines over a history at the same time, each in a thread of its own. Each goes on interval by
+/// interval, until its wire is closed (the ticker: its pace ends), or no number is left for an entry,
+/// or until 2^64 - 1 intervals are done. Where an interval ends by a fault of its wire, or for want of
+/// memory, the line waits as its own pace does, and begins the next, or ends where that pace says
+/// `false`. Each interval of a worker and of the ticker, each fault and the line's end is reported to
+/// the line's watch. Where the system makes no thread more, a line begins once those that it was to
+/// run beside have ended, which is never while they go on.
 ///
 /// Gives back the history, the lines, and how each ended.
 ///
@@ -37,19 +39,20 @@ pub fn serve_laps<
     W: Wire + Send,
     T: PacedWire + Send,
     V: Watch + Send,
+    P: Pace + Send,
     R: Threads + Wait + Sync,
 >(
     rt: &R,
     plan: &Plan,
     kept: Kept<O>,
-    lines: Vec<Watched<A, W, T, V>>,
+    lines: Vec<Watched<A, W, T, V, P>>,
 ) -> (
     Kept<O>,
-    Vec<Watched<A, W, T, V>>,
+    Vec<Watched<A, W, T, V, P>>,
     Result<Vec<End>, AllocError>,
 )
     requires few { vec_len lines < 2 ^ 32 }
-    ensures { ServesLaps A.did A.failures W.went W.failures T.did T.failures V.went plan.now kept result.0 lines.items result.1.items
+    ensures { ServesLaps A.did A.failures W.went W.failures T.did T.failures V.went P.went plan.now kept result.0 lines.items result.1.items
         result.2 }
 {
     match room_for(plan.alloc, lines.len()) {

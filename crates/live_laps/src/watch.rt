@@ -12,7 +12,7 @@ use std::sync::Wait;
 /// What it was called with is a relation, as what a wire does is one.
 pub trait Watch: Drop {
     ghost use Rattle.std.specs.Prelude.{◌≡◌, List, [], ◌∷◌, ◌++◌};
-    ghost use Rattle.live_laps.specs.Notes.{Note, lap_worked, lap_ticked, line_ended};
+    ghost use Rattle.live_laps.specs.Notes.{Note, lap_worked, lap_ticked, line_failed, line_ended};
 
     // These notes, in this order, lead from one state of it to another.
     ghost went: { Self → List Note → Self → Type 0 };
@@ -28,6 +28,12 @@ pub trait Watch: Drop {
     /// At the end of each lap of the ticker: how far the history was past its start at some time.
     fn ticked<R: Wait>(&mut self, rt: &R, counts: Counts)
         ensures { went self.old (lap_ticked counts ∷ []) self.new };
+
+    /// Where a fault of the line's wire, or want of memory, ended an interval, before the line waits:
+    /// which line, why, and how many of its intervals have ended so with this one. The count stops at
+    /// `u64::MAX`.
+    fn failed(&mut self, line: LineName, end: End, faults: u64)
+        ensures { went self.old (line_failed line end faults ∷ []) self.new };
 
     /// Where the line ends.
     fn ended(&mut self, line: LineName, end: End)

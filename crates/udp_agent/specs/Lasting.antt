@@ -1,4 +1,4 @@
--- What comes of serving lines that go on lap by lap.
+-- What comes of serving lines that go on interval by interval.
 use Rattle.std.specs.Prelude.{◌||◌, ℕ, Bool, true, false, List, [], ◌∷◌, Result, Ok, Err, Vec}
 use Rattle.std.specs.declared.alloc.AllocError.{AllocError}
 use Rattle.std.specs.declared.alloc.Global.{Global}
@@ -30,22 +30,22 @@ abbrev pub is_any_failure : List End → Bool
 is_any_failure [] = false
 is_any_failure (end ∷ ends) = is_failure end || is_any_failure ends
 
-module _ {A W T V : Type 0} (worker_did : A → List Deed → A → Type 0) (worker_failures : A → ℕ)
+module _ {A W T V P : Type 0} (worker_did : A → List Deed → A → Type 0) (worker_failures : A → ℕ)
     (went : W → List Act → W → Type 0) (failures : W → ℕ)
     (ticker_did : T → List Deed → T → Type 0) (ticker_failures : T → ℕ)
-    (watch_went : V → List Note → V → Type 0) where
-  -- All these lines, each with such a watch, went on lap by lap over this history, by this plan, and
-  -- each ended so.
-  pub record HaveServed (watch : V) (plan : Plan) (start : History) (run : Lines A W T) (ends : List End) : Type 0 where
+    (watch_went : V → List Note → V → Type 0) (pace_went : P → List Bool → P → Type 0) where
+  -- All these lines, each with such a watch and such a pace, went on interval by interval over this
+  -- history, by this plan, and each ended so.
+  pub record HaveServed (watch : V) (pace : P) (plan : Plan) (start : History) (run : Lines A W T) (ends : List End) : Type 0 where
     pub later : History
-    pub left : List (Watched A W T V)
+    pub left : List (Watched A W T V P)
     pub gone_on : HaveGoneOn worker_did worker_failures went failures ticker_did ticker_failures
-        watch_went plan start later (all_lines watch run) left ends
+        watch_went pace_went plan start later (all_lines watch pace run) left ends
 
   -- What comes of lines that are to go on: nothing is said of where there was no memory to begin with.
-  abbrev pub IsServingForever : V → Plan → History → Lines A W T → Result (Vec End Global) AllocError → Type 0
-  IsServingForever watch plan start run (Ok ends) = HaveServed watch plan start run ends.items
-  IsServingForever watch plan start run (Err refused) = Unit {0}
+  abbrev pub IsServingForever : V → P → Plan → History → Lines A W T → Result (Vec End Global) AllocError → Type 0
+  IsServingForever watch pace plan start run (Ok ends) = HaveServed watch pace plan start run ends.items
+  IsServingForever watch pace plan start run (Err refused) = Unit {0}
 
   -- Lines of this setup went on, by its plan.
   pub record IsServedForeverBy (setup : Setup) (start : History) (ends : List End) : Type 0 where
@@ -54,7 +54,8 @@ module _ {A W T V : Type 0} (worker_did : A → List Deed → A → Type 0) (wor
     pub run : Lines A W T
     pub bound : AreLines setup run
     pub watch : V
-    pub served : HaveServed watch plan start run ends
+    pub pace : P
+    pub served : HaveServed watch pace plan start run ends
 
   -- What comes of a setup that is served without an end: nothing is said of where its sockets could
   -- not be bound, or where there was no memory to begin with.

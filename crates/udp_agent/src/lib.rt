@@ -6,8 +6,8 @@
 //! configured; [`serve`] binds its sockets ([`bind_lines`]) and runs its lines over a history by
 //! its plan ([`plan_of`], [`serve_lines`]), each in a thread of its own; [`tell_report`] logs what
 //! they did, [`tell_fault`] why there is no report, a [`ServeFault`]. [`serve_forever`] does the
-//! same without an end ([`serve_lines_forever`]), and logs as it goes on; [`any_failed`] says
-//! whether a line failed, [`tell_not_begun`] logs why nothing was served.
+//! same without an end ([`serve_lines_forever`], over [`LastingLines`]), and logs as it goes on;
+//! [`any_failed`] says whether a line failed, [`tell_not_begun`] logs why nothing was served.
 //!
 //! # Definitions
 //! `specs/Setups.antt`: what a setup holds; `specs/Binding.antt`: its lines, and what they have in
@@ -18,7 +18,7 @@
 //! # Laws
 //! On [`serve`] and [`serve_lines`]: what a whole run of the lines promises
 //! (`live_run::serve_run`). On [`serve_forever`] and [`serve_lines_forever`]: what lines that go on
-//! lap by lap promise (`live_laps::serve_laps`).
+//! interval by interval promise (`live_laps::serve_laps`).
 //!
 //! # Not claimed
 //! To which addresses sockets are bound; what UDP delivers; that a run ends; the text that is
@@ -32,7 +32,7 @@ mod setup;
 mod telling;
 
 pub use binding::{UdpLines, UdpTicker, UdpWorker, bind_lines, plan_of};
-pub use lasting::{any_failed, serve_forever, serve_lines_forever};
+pub use lasting::{LastingLines, LastingTicker, any_failed, serve_forever, serve_lines_forever};
 pub use serving::{ServeFault, serve, serve_lines};
 pub use setup::{Setup, setup_of};
 pub use telling::{Teller, tell_fault, tell_not_begun, tell_report};

@@ -1,10 +1,10 @@
 //! Logs what a run did, why it has no report, and how lines go on.
 use crate::serving::ServeFault;
 use live_agent::End;
-use live_laps::{Book, LineName, Watch, Worked};
+use live_laps::{Book, Drops, LineName, Watch, Worked};
 use live_lock::Counts;
 use live_run::{Report, RunFault};
-use log::{Log, error, info};
+use log::{Log, error, info, warn};
 use std::io;
 use std::sync::Wait;
 use wire_core::WireFault;
@@ -39,15 +39,31 @@ pub fn tell_not_begun<R: Log>(rt: &R, why: &io::Error) {
     error!(rt; "not begun: {}", why);
 }
 
-/// Logs how lines go on, by this log: at the end of each lap of the ticker what all did so far, by the
-/// book of all lines, in a line of level Info as that of [`tell_report`]; where a line ends, which and
-/// why, in a line of level Error.
+/// Logs how lines go on, by this log: at the end of each interval of the ticker what all did so far, by
+/// the book of all lines, in a line of level Info as that of [`tell_report`], and the drops by cause in another; where a fault ended an
+/// interval, which line's and why, and how many there were so far, in a line of level Warn; where a
+/// line ends, which and why, in a line of level Error.
 #[derive(Drop)]
 pub struct Teller<'r, R> {
     /// By which it logs.
     pub rt: &'r R,
-    /// What the laps of all workers came to.
+    /// What the intervals of all workers came to.
     pub book: &'r Book,
+}
+
+impl<R: Log> Teller<'_, R> {
+    // Logs how many datagrams each cause dropped.
+    fn tell_drops(&self, drops: Drops) {
+        info!(
+            self.rt;
+            "drops TooLong {} Malformed {} BadVersion {} BadKind {} Memory {}",
+            drops.too_long,
+            drops.malformed,
+            drops.bad_version,
+            drops.bad_kind,
+            drops.memory
+        );
+    }
 }
 
 impl<R: Log> Watch for Teller<'_, R> {
@@ -78,6 +94,22 @@ impl<R: Log> Watch for Teller<'_, R> {
             counts.older,
             worked.drops
         );
+        self.tell_drops(worked.by_cause);
+    }
+
+    fn failed(&mut self, line: LineName, end: End, faults: u64) {
+        let why = why_ended(end);
+        match line {
+            // Workers are counted from 0; people count from 1.
+            LineName::Worker(number) => {
+                let number = number.saturating_add(1);
+                warn!(self.rt; "worker {}: {}, {} so far", number, why, faults)
+            }
+            LineName::Port(number) => {
+                warn!(self.rt; "port {}: {}, {} so far", number, why, faults)
+            }
+            LineName::Ticker => warn!(self.rt; "the clock: {}, {} so far", why, faults),
+        }
     }
 
     fn ended(&mut self, line: LineName, end: End) {
@@ -93,7 +125,7 @@ impl<R: Log> Watch for Teller<'_, R> {
     }
 }
 
-// Why a line ended.
+// Why a line, or an interval of it, ended.
 fn why_ended(end: End) -> &'static str {
     match end {
         End::Rounds => "its rounds are over",

@@ -4,9 +4,10 @@
 //! # Entry points
 //! [`Wire`] gives datagrams and sends some: [`MemoryWire`] gives what it was handed, [`UdpWire`]
 //! what comes to a bound socket, [`FailingWire`] fails at one call and else hands on. [`Pace`] says
-//! how long ticks go on: [`CountPace`] so many times, [`SecondPace`] each second. A [`Packet`] is a
-//! datagram and its peer, [`Received`] what a receive gave, [`Given`] what a wire in memory is to
-//! give; what goes wrong is a [`WireFault`]. A receive over UDP is set to wait
+//! how long ticks go on: [`CountPace`] so many times, [`SecondPace`] each second behind what the tick
+//! before took, [`WholeSecondPace`] at each whole second since its start. A [`Packet`] is a datagram
+//! and its peer, [`Received`] what a receive gave, [`Given`] what a wire in memory is to give; what
+//! goes wrong is a [`WireFault`]. A receive over UDP is set to wait
 //! [`RECEIVE_WAIT_MILLIS`] milliseconds.
 //!
 //! # Definitions
@@ -30,6 +31,6 @@ mod wire;
 
 pub use failing::FailingWire;
 pub use memory::{Given, MemoryWire};
-pub use pace::{CountPace, Pace, SecondPace};
+pub use pace::{CountPace, Pace, SecondPace, WholeSecondPace};
 pub use udp::{RECEIVE_WAIT_MILLIS, UdpWire};
 pub use wire::{Packet, Received, Wire, WireFault};

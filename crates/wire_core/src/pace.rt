@@ -1,9 +1,11 @@
 //! What says how long ticks go on.
-ghost use Rattle.std.specs.Prelude.{◌≡◌};
+ghost use Rattle.std.specs.Prelude.{◌≡◌, ◌*◌, ◌-◌};
+ghost use Rattle.std.specs.Duration.{as_nanos};
 
+use std::io;
 use std::marker::Model;
 use std::thread;
-use std::time::{Clock, Duration};
+use std::time::{Clock, Duration, Instant};
 
 /// Says, once for each tick, whether ticks go on.
 ///
@@ -28,7 +30,7 @@ pub trait Pace: Drop {
 }
 
 /// A pace of a number of ticks, which waits for nothing. It is seen as how many are left.
-#[derive(Drop)]
+#[derive(Clone, Copy, Drop)]
 pub struct CountPace {
     left: u64,
 }
@@ -39,6 +41,8 @@ impl Model for CountPace {
     ghost Value = { ℕ };
 
     ghost view = { λ pace. pace.left };
+
+    ghost inverse = { λ left. record { left = left } };
 }
 
 impl CountPace {
@@ -75,7 +79,7 @@ impl Pace for CountPace {
 }
 
 /// A pace of a tick each second, without end. It waits by the clock that it was handed.
-#[derive(Drop)]
+#[derive(Clone, Copy, Drop)]
 pub struct SecondPace<C> {
     clock: C,
 }
@@ -99,6 +103,64 @@ impl<C: Clock + Drop> Pace for SecondPace<C> {
 
     fn next(&mut self) -> bool {
         thread::sleep(&self.clock, Duration::from_secs(1));
+        true
+    }
+}
+
+/// A pace of a tick at each whole second since its start, without end: the tick of this number, from
+/// 1 on, comes so many seconds after the start, however long what lies between two ticks takes. Where
+/// that time is past, it does not wait: for each second that passed there is one tick. It waits by the
+/// clock that it was handed, and where that cannot be read, for a second.
+#[derive(Drop)]
+pub struct WholeSecondPace<C> {
+    clock: C,
+    start: Instant,
+    ticks: u64,
+}
+
+impl<C: Clock + Drop> WholeSecondPace<C> {
+    /// One that starts now by this clock, which may be a reference to the runtime.
+    ///
+    /// # Errors
+    /// That of the clock.
+    pub fn new(clock: C) -> io::Result<WholeSecondPace<C>> {
+        let start = Instant::now(&clock)?;
+        Ok(WholeSecondPace {
+            clock,
+            start,
+            ticks: 0,
+        })
+    }
+
+    // How long it is from now until the tick of this number.
+    fn wait_for(&self, tick: u64) -> Duration {
+        match self.start.elapsed(&self.clock) {
+            Ok(passed) => wait_between(passed, tick),
+            Err(_) => Duration::from_secs(1),
+        }
+    }
+}
+
+// How long it is, when so much has passed since the start, until so many seconds have.
+fn wait_between(passed: Duration, seconds: u64) -> Duration
+    ensures { as_nanos result ≡ seconds * 1000000000 - as_nanos passed }
+{
+    Duration::from_secs(seconds).saturating_sub(passed)
+}
+
+impl<C: Clock + Drop> Pace for WholeSecondPace<C> {
+    ghost use Rattle.wire_core.specs.Pacing.{GoesOnForEver};
+    ghost use Rattle.wire_core.specs.PacingLaws.{endless_goes_on};
+
+    ghost went = { λ _ answers _. GoesOnForEver answers };
+
+    ghost starts = { λ _. tt };
+
+    ghost goes_on = { λ _ _ _ xs ys before after. endless_goes_on xs ys before after };
+
+    fn next(&mut self) -> bool {
+        self.ticks = self.ticks.saturating_add(1);
+        thread::sleep(&self.clock, self.wait_for(self.ticks));
         true
     }
 }

@@ -1,17 +1,14 @@
-//! A worker, a port and a ticker of two rounds a lap, whose wires and pace give more than that.
-use crate::laps::support::{LinesOver, history, lines_failing, plan};
+//! A worker, a port and a ticker of two rounds an interval, whose wires and pace give more than that.
+use crate::laps::support::{LinesOver, history, lines_broken, lines_failing, plan};
 use crate::laps::watch::{self, HoldWatch, Told, Totals};
-use bridge_mib::Planned;
-use history_core::Kept;
 use live_agent::End;
 use live_laps::{Watch, lines_of, serve_laps};
-use object_list::Object;
 use std::alloc::Global;
 use std::sync::Wait;
 use std::test::Fail;
 use std::thread::Threads;
 use std::time::Clock;
-use wire_core::WireFault;
+use wire_core::{CountPace, WireFault};
 
 // How the worker, the port and the ticker of a run ended.
 type Ends = (End, End, End);
@@ -24,46 +21,53 @@ fn three(ends: &[End]) -> Option<Ends> {
     }
 }
 
-// How the lines of a run end, and how many entries there are.
+// How the lines of a run end that may each wait so often behind a fault, and how many entries there
+// are.
 fn run<V: Watch + Send, R: Threads + Wait + Sync>(
     rt: &R,
     alloc: Global,
     watch: V,
-    history: Kept<Object<Planned>>,
+    waits: u64,
     lines: LinesOver,
 ) -> Result<(Option<Ends>, u64), Fail> {
     if lines.workers.len() > 1 || lines.ports.len() > 1 {
         return Err(Fail::from("three lines"));
     }
-    let lines = lines_of(alloc, lines, watch)?;
-    let (history, _, ends) = serve_laps(rt, &plan(alloc), history, lines);
+    let lines = lines_of(alloc, lines, watch, CountPace::new(waits))?;
+    let (history, _, ends) = serve_laps(rt, &plan(alloc), history(alloc)?, lines);
     Ok((three(ends?.as_slice()), history.next_number()))
 }
 
-// The same of a run in which a call of the worker's wire fails, and what its watch was told.
+// The same of lines with a watch, and what that was told.
+fn watched<R: Threads + Wait + Clock + Sync>(
+    rt: &R,
+    alloc: Global,
+    waits: u64,
+    lines: LinesOver,
+) -> Result<(Option<Ends>, u64, Told), Fail> {
+    let kept = watch::Kept::new();
+    let (ends, entries) = run(rt, alloc, HoldWatch::new(rt, &kept), waits, lines)?;
+    Ok((ends, entries, kept.told(rt)))
+}
+
+// The same of a run in which a call of the worker's wire fails, and no line may wait.
 fn failed_at<R: Threads + Wait + Clock + Sync>(
     rt: &R,
     alloc: Global,
     call: u64,
 ) -> Result<(Option<Ends>, u64, Told), Fail> {
-    let kept = watch::Kept::new();
-    let (ends, entries) = run(
-        rt,
-        alloc,
-        HoldWatch::new(rt, &kept),
-        history(alloc)?,
-        lines_failing(alloc, call)?,
-    )?;
-    Ok((ends, entries, kept.told(rt)))
+    watched(rt, alloc, 0, lines_failing(alloc, call, 0)?)
 }
 
-// Totals of so many entries, requests and drops, in which the base has not moved.
+// Totals of so many entries, requests and drops, all of which held no message, in which the base has
+// not moved.
 fn totals(entries: u64, requests: u64, drops: u64) -> Totals {
     Totals {
         entries,
         requests,
         older: 0,
         drops,
+        malformed: drops,
     }
 }
 
@@ -78,8 +82,8 @@ const RECEIVE: End = End::Wire(WireFault::Receive);
 
 const SEND: End = End::Wire(WireFault::Send);
 
-// Five requests, one link, though the port makes two laps, and three seconds, of which the ticker
-// makes two laps.
+// Five requests, one link, though the port makes two intervals, and three seconds, of which the
+// ticker makes two intervals.
 #[test]
 fn lines_go_on_until_they_are_closed(rt: HostRuntime) -> Result<(), Fail> {
     let (ends, entries, told) = failed_at(&rt, rt.alloc(), 0)?;
@@ -89,17 +93,70 @@ fn lines_go_on_until_they_are_closed(rt: HostRuntime) -> Result<(), Fail> {
     Ok(())
 }
 
-// The worker's first receive fails, or its third reply, which is in its second lap: it ends, and the
-// others go on.
+// The worker's first receive fails, or its third reply, which is in its second interval: it may not
+// wait and ends, and the others go on.
 #[test]
 fn lines_go_on_beside_one_that_fails(rt: HostRuntime) -> Result<(), Fail> {
     let (ends, entries, told) = failed_at(&rt, rt.alloc(), 1)?;
     assert_eq!(rt; ends, Some((RECEIVE, End::Closed, End::Closed)));
     assert_eq!(rt; (entries, told.laps, told.totals), (4, 2, totals(4, 0, 0)));
     assert_eq!(rt; ends_told(&told), (Some(RECEIVE), CLOSED, CLOSED));
+    assert_eq!(rt;
+        (told.worker_fault, told.port_fault),
+        (Some((RECEIVE, 1)), None)
+    );
     let (ends, entries, told) = failed_at(&rt, rt.alloc(), 6)?;
     assert_eq!(rt; ends, Some((SEND, End::Closed, End::Closed)));
     assert_eq!(rt; (entries, told.laps, told.totals), (7, 2, totals(7, 3, 0)));
     assert_eq!(rt; ends_told(&told), (Some(SEND), CLOSED, CLOSED));
+    Ok(())
+}
+
+// At each call at which the worker's wire fails, it goes on: five requests are entered, the link is
+// up once, and all lines end where their wires and the pace do.
+#[test]
+fn worker_goes_on_behind_a_fault(rt: HostRuntime) -> Result<(), Fail> {
+    let alloc = rt.alloc();
+    for call in 1..12 {
+        let (ends, entries, told) = watched(&rt, alloc, 1, lines_failing(alloc, call, 0)?)?;
+        assert_eq!(rt; ends, Some((End::Closed, End::Closed, End::Closed)));
+        assert_eq!(rt; (entries, told.totals), (9, totals(9, 5, 1)));
+        assert_eq!(rt; told.worker_fault.map(|fault| fault.1), Some(1));
+        assert_eq!(rt; (told.port_fault, told.ticker_fault), (None, None));
+    }
+    Ok(())
+}
+
+// So does the port, whose link, which was entered, is not entered again.
+#[test]
+fn port_goes_on_behind_a_fault(rt: HostRuntime) -> Result<(), Fail> {
+    let alloc = rt.alloc();
+    for call in 1..5 {
+        let (ends, entries, told) = watched(&rt, alloc, 1, lines_failing(alloc, 0, call)?)?;
+        assert_eq!(rt; ends, Some((End::Closed, End::Closed, End::Closed)));
+        assert_eq!(rt; (entries, told.totals), (9, totals(9, 5, 1)));
+        assert_eq!(rt;
+            (told.worker_fault, told.port_fault),
+            (None, Some((RECEIVE, 1)))
+        );
+    }
+    Ok(())
+}
+
+// Wires that do nothing but fail: each fault is counted, and that behind which the pace has ended is
+// the last.
+#[test]
+fn broken_lines_end_with_their_pace(rt: HostRuntime) -> Result<(), Fail> {
+    let alloc = rt.alloc();
+    for waits in 0..4 {
+        let (ends, entries, told) = watched(&rt, alloc, waits, lines_broken(alloc)?)?;
+        let last = Some((RECEIVE, waits + 1));
+        assert_eq!(rt; ends, Some((RECEIVE, RECEIVE, End::Closed)));
+        assert_eq!(rt;
+            (entries, told.worker_fault, told.port_fault),
+            (4, last, last)
+        );
+        assert_eq!(rt; ends_told(&told), (Some(RECEIVE), Some(RECEIVE), CLOSED));
+    }
     Ok(())
 }

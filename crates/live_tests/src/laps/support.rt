@@ -37,7 +37,7 @@ pub fn history(alloc: Global) -> Result<Kept<Object<Planned>>, Fail> {
     Ok(kept.ok().ok_or("room")?)
 }
 
-/// A plan of two rounds a lap, over a bridge whose ports have no peers.
+/// A plan of two rounds an interval, over a bridge whose ports have no peers.
 pub fn plan(alloc: Global) -> Plan {
     Plan {
         alloc,
@@ -67,16 +67,24 @@ fn quiet(alloc: Global) -> Result<MemoryWire, Fail> {
     Ok(wire)
 }
 
-/// A worker that is asked five times, and whose wire fails at this call, or at none where it is 0; a
-/// port that hears nothing; and a ticker of three seconds.
-pub fn lines_failing(alloc: Global, call: u64) -> Result<LinesOver, Fail> {
+// A wire that fails ten times, and is closed behind that.
+fn broken(alloc: Global) -> Result<MemoryWire, Fail> {
+    let mut wire = MemoryWire::new(alloc);
+    for _ in 0..10 {
+        wire.give(Given::Fault)?;
+    }
+    Ok(wire)
+}
+
+// A worker and a port over these wires, and a ticker of three seconds.
+fn lines_over(alloc: Global, worker: Wires, port: Wires) -> Result<LinesOver, Fail> {
     let mut workers = Vec::new(alloc);
     workers.push(Gated {
-        wire: FailingWire::new(asking(alloc)?, call),
+        wire: worker,
         gate: OpenGate,
     })?;
     let mut ports = Vec::new(alloc);
-    ports.push(FailingWire::new(quiet(alloc)?, 0))?;
+    ports.push(port)?;
     Ok(Lines {
         workers,
         ports,
@@ -85,4 +93,19 @@ pub fn lines_failing(alloc: Global, call: u64) -> Result<LinesOver, Fail> {
             pace: CountPace::new(3),
         },
     })
+}
+
+/// A worker that is asked five times, and whose wire fails at this call, or at none where it is 0; a
+/// port that hears nothing, whose wire does the same at another; and a ticker of three seconds.
+pub fn lines_failing(alloc: Global, call: u64, port_call: u64) -> Result<LinesOver, Fail> {
+    let worker = FailingWire::new(asking(alloc)?, call);
+    let port = FailingWire::new(quiet(alloc)?, port_call);
+    lines_over(alloc, worker, port)
+}
+
+/// A worker and a port whose wires do nothing but fail, and a ticker of three seconds.
+pub fn lines_broken(alloc: Global) -> Result<LinesOver, Fail> {
+    let worker = FailingWire::new(broken(alloc)?, 0);
+    let port = FailingWire::new(broken(alloc)?, 0);
+    lines_over(alloc, worker, port)
 }

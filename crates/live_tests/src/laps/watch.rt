@@ -23,6 +23,8 @@ pub struct Totals {
     pub older: u64,
     /// The datagrams that came to a worker and held no request.
     pub drops: u64,
+    /// Those of them that held no message.
+    pub malformed: u64,
 }
 
 /// What a watch was told of a worker, a port and a ticker.
@@ -38,6 +40,12 @@ pub struct Told {
     pub port: Option<End>,
     /// How the ticker ended.
     pub ticker: Option<End>,
+    /// The latest fault of the worker, and how many there were.
+    pub worker_fault: Option<(End, u64)>,
+    /// The same of the port.
+    pub port_fault: Option<(End, u64)>,
+    /// The same of the ticker.
+    pub ticker_fault: Option<(End, u64)>,
 }
 
 // Nothing.
@@ -48,10 +56,14 @@ const NOTHING: Told = Told {
         requests: 0,
         older: 0,
         drops: 0,
+        malformed: 0,
     },
     worker: None,
     port: None,
     ticker: None,
+    worker_fault: None,
+    port_fault: None,
+    ticker_fault: None,
 };
 
 impl Told {
@@ -59,6 +71,15 @@ impl Told {
     fn lap(&mut self, totals: Totals) {
         self.laps = self.laps.saturating_add(1);
         self.totals = totals;
+    }
+
+    // A fault ended an interval of a line.
+    fn failed(&mut self, line: LineName, end: End, faults: u64) {
+        match line {
+            LineName::Worker(_) => self.worker_fault = Some((end, faults)),
+            LineName::Port(_) => self.port_fault = Some((end, faults)),
+            LineName::Ticker => self.ticker_fault = Some((end, faults)),
+        }
     }
 
     // A line ended.
@@ -138,6 +159,7 @@ impl<R: Wait + Clock> Watch for HoldWatch<'_, R> {
             requests: worked.requests,
             older: counts.older,
             drops: worked.drops,
+            malformed: worked.by_cause.malformed,
         };
         self.kept.told.lock(rt).lap(totals);
         for _ in 0..TURNS {
@@ -146,6 +168,10 @@ impl<R: Wait + Clock> Watch for HoldWatch<'_, R> {
             }
             thread::sleep(self.rt, Duration::from_millis(TURN_MILLIS));
         }
+    }
+
+    fn failed(&mut self, line: LineName, end: End, faults: u64) {
+        self.kept.told.lock(self.rt).failed(line, end, faults);
     }
 
     fn ended(&mut self, line: LineName, end: End) {
