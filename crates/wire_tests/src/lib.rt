@@ -15,4 +15,6 @@
 #![tactic(auto)]
 
 #[cfg(test)]
+mod paces;
+#[cfg(test)]
 mod wires;
