@@ -2,10 +2,9 @@
 ghost use Rattle.std.specs.Prelude.{◌≡◌, ◌*◌, ◌-◌};
 ghost use Rattle.std.specs.Duration.{as_nanos};
 
-use std::io;
 use std::marker::Model;
-use std::thread;
 use std::time::{Clock, Duration, Instant};
+use std::{io, thread};
 
 /// Says, once for each tick, whether ticks go on.
 ///

@@ -66,7 +66,10 @@ fn ticks_come_at_whole_seconds(rt: HostRuntime) -> Result<(), Fail> {
     clock.set(6730);
     let second = slept(&mut pace, &clock)?;
     clock.set(7500);
-    assert_eq!(rt; (first, second, slept(&mut pace, &clock)?), (1000, 770, 1000));
+    assert_eq!(rt;
+        (first, second, slept(&mut pace, &clock)?),
+        (1000, 770, 1000)
+    );
     Ok(())
 }
 
