@@ -2,11 +2,13 @@
 ghost use Rattle.std.specs.Prelude.{◌≡◌, ◌<◌, ◌^◌, ◌-◌, true, false, vec_len};
 ghost use Rattle.udp_agent.specs.Lasting.{is_failure, is_any_failure, IsServingForever, IsServedForever};
 
-use crate::binding::{UdpTicker, UdpWorker, bind_lines, plan_of};
+use crate::binding::plan_of;
+use crate::lasting_binding::{LastingWorker, bind_lasting};
+use crate::ready::log_ready;
 use crate::setup::Setup;
 use crate::telling::Teller;
 use history_core::Kept;
-use live_agent::{End, GatedWire, PacedWire, Plan};
+use live_agent::{End, GatedWire, Paced, PacedWire, Plan};
 use live_laps::{Book, Watch, lines_of, serve_laps};
 use live_run::Lines;
 use log::Log;
@@ -14,10 +16,13 @@ use setphase_core::MibObject;
 use std::alloc::{AllocError, Global};
 use std::io;
 use std::net::Net;
-use std::sync::Wait;
+use std::sync::{Arc, Wait};
 use std::thread::Threads;
 use std::time::Clock;
-use wire_core::{UdpWire, Wire};
+use wire_core::{LastingWire, SecondPace, SendingSockets, Wire};
+
+/// The wire of the ticker of an agent without an end, at a pace of a tick each second by a clock.
+pub type LastingTicker<C> = Paced<LastingWire<C>, SecondPace<C>>;
 
 // Whether a line that ended so failed: by its wire, or for want of memory.
 fn is_failure(end: End) -> bool
@@ -65,9 +70,10 @@ pub fn serve_lines_forever<
     answer
 }
 
-/// Serves an agent over UDP without an end: binds the sockets of a setup, and runs its lines over a
-/// history as [`serve_lines_forever`] does. At the end of each lap of the ticker it logs what all did
-/// so far, and where a line ends, why.
+/// Serves an agent of this version over UDP without an end: binds the sockets of a setup, logs what it
+/// serves, and runs its lines over a history as [`serve_lines_forever`] does. No send of theirs fails:
+/// a datagram that the system refuses is lost. At the end of each lap of the ticker it logs what all
+/// did so far, and where a line ends, why.
 ///
 /// # Errors
 /// That of the system where a socket could not be bound, or that there was no memory for what the
@@ -75,17 +81,24 @@ pub fn serve_lines_forever<
 pub fn serve_forever<'r, O: MibObject + Send, R: Threads + Wait + Net + Clock + Log + Sync>(
     rt: &'r R,
     alloc: Global,
+    version: &str,
     setup: &Setup,
     kept: Kept<O>,
 ) -> io::Result<Vec<End>>
-    ensures { IsServedForever ⟦<UdpWorker as GatedWire>⟧.did ⟦<UdpWorker as Wire>⟧.failures
-        ⟦<UdpWire as Wire>⟧.went ⟦<UdpWire as Wire>⟧.failures
-        ⟦<UdpTicker<&'r R> as PacedWire>⟧.did ⟦<UdpTicker<&'r R> as Wire>⟧.failures
+    ensures { IsServedForever
+        ⟦<LastingWorker<&'r R> as GatedWire>⟧.did ⟦<LastingWorker<&'r R> as Wire>⟧.failures
+        ⟦<LastingWire<&'r R> as Wire>⟧.went ⟦<LastingWire<&'r R> as Wire>⟧.failures
+        ⟦<LastingTicker<&'r R> as PacedWire>⟧.did ⟦<LastingTicker<&'r R> as Wire>⟧.failures
         ⟦<Teller<'r, R> as Watch>⟧.went
         setup.now kept result }
 {
     let plan = plan_of(alloc, setup)?;
-    let lines = bind_lines(rt, rt, alloc, setup)?;
+    let sending = Arc::new(
+        alloc,
+        SendingSockets::bind(rt, alloc, plan.peers.as_slice())?,
+    )?;
+    let lines = bind_lasting(rt, rt, SecondPace::new(rt), alloc, setup, &sending)?;
+    log_ready(rt, version, setup);
     let book = Book::new();
     let watch = Teller { rt, book: &book };
     // Of want of memory `?` makes an error of the system.
