@@ -3,15 +3,19 @@ use Rattle.std.proofs.Common.{ℕ, List, Option, Result, Ok, Err, inl, inr, ◌�
 use Rattle.configuration.specs.declared.configuration.Configuration.{Configuration}
 use Rattle.configuration.specs.declared.fault.ConfigurationFault.{ConfigurationFault}
 use Rattle.configuration.specs.Configurations.{IsConfigurationIn}
+use Rattle.udp_agent.specs.Setups.{IsUnserved}
+use Rattle.udp_agent.specs.declared.setup.Unserved.{Unserved}
 use Rattle.agent_program.specs.declared.failure.Failure.{Failure}
 use Rattle.agent_program.specs.declared.failure.Failure.TheVariants.{NotText, CannotRead, Refused, Input, Output, Run as RunFailed}
 use Rattle.agent_program.specs.Telling.{ok_text, fault_text, IsCutOff, IsTold, IsFaultFound, IsFaultTold, IsChecked}
 
 -- a right configuration was told so
-pub right_told : {O : Type 0} (contents : O → Option (List ℕ)) (octets : List ℕ) (c : Configuration) (writer writer' : O) (ended : Result (Unit {0}) Failure)
-    → IsConfigurationIn octets c → IsTold contents ok_text writer writer' ended → IsChecked contents octets writer writer' ended
-right_told contents octets c writer writer' (Ok done) said told = record { configuration = c; said = said; told = told }
-right_told contents octets c writer writer' (Err failure) said told = inl (record { configuration = c; said = said; told = told })
+pub right_told : {O : Type 0} (contents : O → Option (List ℕ)) (octets : List ℕ) (c : Configuration) (why : Option Unserved) (text : List ℕ) (writer writer' : O) (ended : Result (Unit {0}) Failure)
+    → IsConfigurationIn octets c → IsUnserved c.ports.items c.serve why → text ≡ ok_text why → IsTold contents text writer writer' ended → IsChecked contents octets writer writer' ended
+right_told contents octets c why text writer writer' (Ok done) said unserved is told =
+    record { configuration = c; said = said; why = why; unserved = unserved; told = subst (λ t. IsTold contents t writer writer' (Ok done)) is told }
+right_told contents octets c why text writer writer' (Err failure) said unserved is told =
+    inl (record { configuration = c; said = said; why = why; unserved = unserved; told = subst (λ t. IsTold contents t writer writer' (Err failure)) is told })
 
 -- a fault was told
 pub wrong_told : {O : Type 0} (contents : O → Option (List ℕ)) (octets : List ℕ) (fault : ConfigurationFault) (writer writer' : O) (failure : Failure)

@@ -1,5 +1,5 @@
 -- What is written of a text, and what a check tells of octets.
-use Rattle.std.specs.Prelude.{◌≡◌, ◌≢◌, ◌⊎◌, ℕ, codes, List, ◌++◌, Option, Result, Ok, Err}
+use Rattle.std.specs.Prelude.{◌≡◌, ◌≢◌, ◌⊎◌, ℕ, codes, List, ◌++◌, Option, Some, None, Result, Ok, Err}
 use Rattle.std.specs.Io.KnownBytes.{Appends}
 use Rattle.policy_text.specs.Texts.{HasContent}
 use Rattle.configuration.specs.declared.configuration.Configuration.{Configuration}
@@ -7,6 +7,9 @@ use Rattle.configuration.specs.declared.fault.ConfigurationFault.{ConfigurationF
 use Rattle.configuration.specs.declared.fault.ConfigurationFault.TheVariants.{Memory}
 use Rattle.configuration.specs.Configurations.{IsConfigurationIn, IsFaultIn}
 use Rattle.configuration.specs.Sentences.{sentence}
+use Rattle.udp_agent.specs.Setups.{IsUnserved}
+use Rattle.udp_agent.specs.declared.setup.Unserved.{Unserved}
+use Rattle.udp_agent.specs.declared.setup.Unserved.TheVariants.{NoServe, NoSockets}
 use Rattle.agent_program.specs.declared.files.NotRead.{NotRead}
 use Rattle.agent_program.specs.declared.files.NotRead.TheVariants.{Memory as FileMemory, Unreadable}
 use Rattle.agent_program.specs.declared.failure.Failure.{Failure}
@@ -14,10 +17,14 @@ use Rattle.agent_program.specs.declared.failure.Failure.TheVariants.{NotText, Ca
 use Rattle.agent_program.specs.Endings.{TakesFront}
 use Rattle.agent_program.specs.Files.{IsReadOf}
 
--- what is said of a configuration, and of a fault
-abbrev pub ok_text : List ℕ
-ok_text = codes "configuration ok\n"
+-- what is said of a configuration: a script can run by it, and it can be served, or why it cannot
+abbrev pub ok_text : Option Unserved → List ℕ
+ok_text None = codes "configuration ok for script and serve\n"
+ok_text (Some NoServe) = codes "configuration ok for script, not for serve: no [serve]\n"
+ok_text (Some NoSockets) =
+    codes "configuration ok for script, not for serve: a port without listen or peer\n"
 
+-- what is said of a fault
 abbrev pub fault_text : ConfigurationFault → List ℕ
 fault_text fault = sentence fault ++ codes "\n"
 
@@ -61,11 +68,14 @@ module _ {O : Type 0} (contents : O → Option (List ℕ)) where
     pub found : IsFaultFound octets fault
     pub told : IsFaultTold fault writer writer' failure
 
-  -- the octets are a configuration, and that is told, whole or until the output failed
+  -- the octets are a configuration, and that is told, and whether it can be served, whole or until
+  -- the output failed
   pub record IsRightTold (octets : List ℕ) (writer writer' : O) (ended : Result (Unit {0}) Failure) : Type 0 where
     pub configuration : Configuration
     pub said : IsConfigurationIn octets configuration
-    pub told : IsTold ok_text writer writer' ended
+    pub why : Option Unserved
+    pub unserved : IsUnserved configuration.ports.items configuration.serve why
+    pub told : IsTold (ok_text why) writer writer' ended
 
   -- What a check of octets comes to.
   abbrev pub IsChecked : List ℕ → O → O → Result (Unit {0}) Failure → Type 0

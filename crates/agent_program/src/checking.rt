@@ -1,6 +1,6 @@
-//! Tells whether octets are a configuration.
+//! Tells whether octets are a configuration, and whether it can be served.
 ghost use Rattle.std.specs.Prelude.{◌≡◌, IfOk, string_bytes};
-ghost use Rattle.agent_program.specs.Telling.{fault_text, IsFaultTold, IsChecked, IsFileChecked};
+ghost use Rattle.agent_program.specs.Telling.{ok_text, fault_text, IsFaultTold, IsChecked, IsFileChecked};
 ghost use Rattle.agent_program.specs.Files.{read_view};
 
 use crate::failure::{Failure, tell};
@@ -8,9 +8,26 @@ use crate::files::NotRead;
 use configuration::{ConfigurationFault, configuration_in, sentence};
 use std::alloc::{AllocError, Global};
 use std::io::Write;
+use udp_agent::{Unserved, why_unserved};
 
-/// What is said of a configuration.
-const OK_TEXT: &[u8] = b"configuration ok\n";
+// What is said of a configuration: by each a script can run.
+const SERVED_TEXT: &[u8] = b"configuration ok for script and serve\n";
+
+const NO_SERVE_TEXT: &[u8] = b"configuration ok for script, not for serve: no [serve]\n";
+
+const NO_SOCKETS_TEXT: &[u8] =
+    b"configuration ok for script, not for serve: a port without listen or peer\n";
+
+// What is said of a configuration that cannot be served for this reason, or can be.
+fn ok_text(why: Option<Unserved>) -> &'static [u8]
+    ensures { result.now ≡ ok_text why }
+{
+    match why {
+        None => SERVED_TEXT,
+        Some(Unserved::NoServe) => NO_SERVE_TEXT,
+        Some(Unserved::NoSockets) => NO_SOCKETS_TEXT,
+    }
+}
 
 // What is said of a fault, as a line.
 fn fault_text(alloc: Global, fault: ConfigurationFault) -> Result<String, AllocError>
@@ -34,8 +51,8 @@ fn tell_fault<'a, O: Write>(alloc: Global, fault: ConfigurationFault, writer: &m
     }
 }
 
-/// Tells whether octets are a configuration: `configuration ok`, or its first fault in one
-/// sentence.
+/// Tells whether octets are a configuration: `configuration ok for script`, with whether it can be
+/// served, or why not, or its first fault in one sentence.
 ///
 /// # Errors
 /// `Refused` where they are none, or where there is no memory to read them, and the sentence is
@@ -49,7 +66,10 @@ pub fn check_octets<'a, O: Write>(
     ensures { IsChecked O.contents octets.now writer.old writer.new result }
 {
     match configuration_in(alloc, octets) {
-        Ok(_) => tell(OK_TEXT, writer),
+        Ok(configuration) => {
+            let why = why_unserved(configuration.ports.as_slice(), &configuration.serve);
+            tell(ok_text(why), writer)
+        }
         Err(fault) => Err(tell_fault(alloc, fault, writer)),
     }
 }

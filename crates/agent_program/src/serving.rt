@@ -19,8 +19,10 @@ use std::net::Net;
 use std::sync::Wait;
 use std::thread::Threads;
 use std::time::Clock;
-use udp_agent::{LastingTicker, ServeFault, Setup, Teller, UdpTicker, UdpWorker, setup_of};
-use wire_core::{Pace, SecondPace, UdpWire, Wire};
+use udp_agent::{
+    LastingTicker, LastingWorker, ServeFault, Setup, Teller, UdpTicker, UdpWorker, setup_of,
+};
+use wire_core::{LastingWire, Pace, SecondPace, UdpWire, Wire};
 
 /// What a configuration opens to be served.
 #[derive(Drop)]
@@ -107,24 +109,26 @@ pub fn serve_opened<'r, M: MibObject + Send, R: Threads + Wait + Net + Clock + S
     udp_agent::serve(rt, alloc, &opened.setup, kept)
 }
 
-/// The same without an end: each line begins its rounds anew when they are done, and a second after its
-/// socket failed or there was no memory, until no number is left for an entry. It is logged how they
-/// go on.
+/// The same without an end, by an agent of this version: each line begins its rounds anew when they
+/// are done, and a second after its socket failed or there was no memory, until no number is left for
+/// an entry. It is logged what is served, and how the lines go on.
 ///
 /// # Errors
 /// As of [`udp_agent::serve_forever`]; also that there was no memory for the history.
 pub fn serve_opened_forever<'r, M: MibObject + Send, R: Threads + Wait + Net + Clock + Log + Sync>(
     rt: &'r R,
     alloc: Global,
+    version: &str,
     registry: Registry<M>,
     opened: Opened,
 ) -> io::Result<Vec<End>>
-    ensures { IsServedForever ⟦<UdpWorker as GatedWire>⟧.did ⟦<UdpWorker as Wire>⟧.failures
-        ⟦<UdpWire as Wire>⟧.went ⟦<UdpWire as Wire>⟧.failures
+    ensures { IsServedForever
+        ⟦<LastingWorker<&'r R> as GatedWire>⟧.did ⟦<LastingWorker<&'r R> as Wire>⟧.failures
+        ⟦<LastingWire<&'r R> as Wire>⟧.went ⟦<LastingWire<&'r R> as Wire>⟧.failures
         ⟦<LastingTicker<&'r R> as PacedWire>⟧.did ⟦<LastingTicker<&'r R> as Wire>⟧.failures
         ⟦<Teller<'r, R> as Watch>⟧.went ⟦<SecondPace<&'r R> as Pace>⟧.went
         opened.setup (fresh registry opened.world 0) result }
 {
     let kept = begin(alloc, registry, opened.world)?;
-    udp_agent::serve_forever(rt, alloc, &opened.setup, kept)
+    udp_agent::serve_forever(rt, alloc, version, &opened.setup, kept)
 }

@@ -4,6 +4,7 @@
 //! [`read_words`] gives what words ask for, [`Asked`], and where it is to serve, for how long:
 //! [`Lasting`]. Words that are no command it answers, with help, the version or what is wrong with
 //! them, and says how: [`Answered`]. [`asks_to_serve`] says whether it is asked to serve an agent.
+//! [`VERSION`] is the version that they are answered with.
 //!
 //! # Definitions
 //! `specs/Options.antt`: the words, as clap reads them; `specs/Built.antt`: what is built of them;
@@ -24,4 +25,5 @@ mod options;
 mod program;
 
 pub use asked::{Asked, Lasting, asks_to_serve};
+pub use options::VERSION;
 pub use program::{Answered, read_words};

@@ -8,6 +8,9 @@ use clap::builder::ValueParser;
 use clap::{Arg, ArgAction, Command};
 use std::alloc::{AllocError, Global};
 
+/// The version of `agentd`.
+pub const VERSION: &str = "0.1";
+
 /// What stands below the help.
 const AFTER_HELP: &str =
     "Without a command the script runs by the built-in configuration: address 02000000000A, two ports,
@@ -73,7 +76,7 @@ fn agent_options<'a>(alloc: Global) -> Command<'a>
     Command::new(alloc, "agentd")
         .about("An SNMPv2c agent of a bridge, driven by a script or served over UDP")
         .after_help(AFTER_HELP)
-        .version("0.1")
+        .version(VERSION)
         .disable_help_subcommand(true)
 }
 

@@ -23,7 +23,7 @@ use agent_program::{
     Failure, Opened, ReadFile, SystemFiles, collect_words, end_answered, report, run_asked,
     serve_opened, serve_opened_forever,
 };
-use agent_words::{Asked, Lasting, asks_to_serve, read_words};
+use agent_words::{Asked, Lasting, VERSION, asks_to_serve, read_words};
 use bridge_mib::{Planned, PortEnable, Steady};
 use log::Log;
 use object_list::{COLUMNS, ColumnDescriptor, ENABLE, PlainObject};
@@ -145,7 +145,7 @@ fn serve_forever<M: MibObject + Send, R: Threads + Wait + Net + Clock + Log + Sy
     registry: Registry<M>,
     opened: Opened,
 ) -> Result<(), Failure<'static>> {
-    match serve_opened_forever(rt, alloc, registry, opened) {
+    match serve_opened_forever(rt, alloc, VERSION, registry, opened) {
         Ok(ends) if any_failed(ends.as_slice()) => Err(Failure::Run),
         Ok(_) => Ok(()),
         Err(why) => {

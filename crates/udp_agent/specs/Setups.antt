@@ -1,10 +1,12 @@
 -- What a setup holds, and when there is one.
-use Rattle.std.specs.Prelude.{◌≡◌, List, Option, Some, All}
+use Rattle.std.specs.Prelude.{◌≡◌, List, Option, Some, None, All}
 use Rattle.std.specs.declared.net.socket_addr.SocketAddr.{SocketAddr}
 use Rattle.frame_core.specs.declared.mac.Mac.{Mac}
 use Rattle.configuration.specs.declared.configuration.Port.{Port}
 use Rattle.configuration.specs.declared.configuration.Serve.{Serve}
 use Rattle.udp_agent.specs.declared.setup.Setup.{Setup}
+use Rattle.udp_agent.specs.declared.setup.Unserved.{Unserved}
+use Rattle.udp_agent.specs.declared.setup.Unserved.TheVariants.{NoServe, NoSockets}
 
 -- it is said of a port where its frames come in, and where they go
 pub record HasSockets (port : Port) : Type 0 where
@@ -25,3 +27,9 @@ pub record IsSetup (address : Mac) (ports : List Port) (serve : Option Serve) (s
   pub ports_are : setup.ports.items ≡ ports
   pub serve_is : serve ≡ Some setup.serve
   pub sockets : All HasSockets ports
+
+-- why ports and such a word of how to serve make no setup, if they make none
+abbrev pub IsUnserved : List Port → Option Serve → Option Unserved → Type 0
+IsUnserved ports serve None = HasSetup ports serve
+IsUnserved ports serve (Some NoServe) = serve ≡ None
+IsUnserved ports serve (Some NoSockets) = All HasSockets ports → ⊥

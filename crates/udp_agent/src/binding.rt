@@ -49,7 +49,7 @@ fn bind_ports<R: Net>(rt: &R, alloc: Global, ports: &[Port]) -> io::Result<Vec<U
 }
 
 // An address that is said.
-fn address_of(said: Option<SocketAddr>) -> io::Result<SocketAddr>
+pub(crate) fn address_of(said: Option<SocketAddr>) -> io::Result<SocketAddr>
     ensures { IfOk result (λ address. said ≡ Some address) }
 {
     match said {
@@ -94,7 +94,7 @@ pub fn plan_of(alloc: Global, setup: &Setup) -> io::Result<Plan>
 }
 
 // Lines, unless there are more of them than can be numbered.
-fn few<A: Drop, W: Drop, T: Drop>(lines: Lines<A, W, T>) -> io::Result<Lines<A, W, T>>
+pub(crate) fn few<A: Drop, W: Drop, T: Drop>(lines: Lines<A, W, T>) -> io::Result<Lines<A, W, T>>
     ensures same { IfOk result (λ few. few ≡ lines) }
     ensures few { IfOk result (λ lines.
         (vec_len lines.workers < 2 ^ 16 - 1) × (vec_len lines.ports < 2 ^ 16 - 1)) }

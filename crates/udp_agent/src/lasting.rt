@@ -2,7 +2,9 @@
 ghost use Rattle.std.specs.Prelude.{◌≡◌, ◌<◌, ◌^◌, ◌-◌, true, false, vec_len, IfOk};
 ghost use Rattle.udp_agent.specs.Lasting.{is_failure, is_any_failure, IsServingForever, IsServedForever};
 
-use crate::binding::{UdpLines, UdpWorker, bind_lines, plan_of};
+use crate::binding::plan_of;
+use crate::lasting_binding::{LastingWorker, bind_lasting};
+use crate::ready::log_ready;
 use crate::setup::Setup;
 use crate::telling::Teller;
 use history_core::Kept;
@@ -14,38 +16,14 @@ use setphase_core::MibObject;
 use std::alloc::{AllocError, Global};
 use std::io;
 use std::net::Net;
-use std::sync::Wait;
+use std::sync::{Arc, Wait};
 use std::thread::Threads;
 use std::time::Clock;
-use wire_core::{Pace, SecondPace, UdpWire, WholeSecondPace, Wire};
+use wire_core::{LastingWire, Pace, SecondPace, SendingSockets, WholeSecondPace, Wire};
 
-/// The wire of the ticker over UDP without an end, at a pace of a tick at each whole second since its
-/// start by a clock.
-pub type LastingTicker<C> = Paced<UdpWire, WholeSecondPace<C>>;
-
-/// The lines of an agent over UDP without an end.
-pub type LastingLines<C> = Lines<UdpWorker, UdpWire, LastingTicker<C>>;
-
-// The same workers and ports, and over the ticker's wire one that ticks at each whole second from now
-// on by this clock.
-fn at_whole_seconds<C: Clock + Drop, D: Clock + Drop>(
-    lines: UdpLines<C>,
-    clock: D,
-) -> io::Result<LastingLines<D>>
-    ensures workers { IfOk result (λ lasting. lasting.workers ≡ lines.workers) }
-    ensures ports { IfOk result (λ lasting. lasting.ports ≡ lines.ports) }
-    ensures wire { IfOk result (λ lasting. lasting.ticker.wire ≡ lines.ticker.wire) }
-{
-    let pace = WholeSecondPace::new(clock)?;
-    Ok(Lines {
-        workers: lines.workers,
-        ports: lines.ports,
-        ticker: Paced {
-            wire: lines.ticker.wire,
-            pace,
-        },
-    })
-}
+/// The wire of the ticker of an agent without an end, at a pace of a tick at each whole second since
+/// its start by a clock.
+pub type LastingTicker<C> = Paced<LastingWire<C>, WholeSecondPace<C>>;
 
 // Whether a line that ended so failed: by its wire, or for want of memory.
 fn is_failure(end: End) -> bool
@@ -96,10 +74,11 @@ pub fn serve_lines_forever<
     answer
 }
 
-/// Serves an agent over UDP without an end: binds the sockets of a setup, and runs its lines over a
-/// history as [`serve_lines_forever`] does. A line waits for a second behind a fault of its socket or
-/// want of memory, and begins anew. At the end of each interval of the ticker it logs what all did so
-/// far; where a fault ended an interval, and where a line ends, why.
+/// Serves an agent of this version over UDP without an end: binds the sockets of a setup, logs what it
+/// serves, and runs its lines over a history as [`serve_lines_forever`] does. No send of theirs fails:
+/// a datagram that the system refuses is lost. A line waits for a second behind a fault of its socket
+/// or want of memory, and begins anew. At the end of each interval of the ticker it logs what all did so
+/// far, and what was lost; where a fault ended an interval, and where a line ends, why.
 ///
 /// # Errors
 /// That of the system where a socket could not be bound, or that there was no memory for what the
@@ -107,20 +86,31 @@ pub fn serve_lines_forever<
 pub fn serve_forever<'r, O: MibObject + Send, R: Threads + Wait + Net + Clock + Log + Sync>(
     rt: &'r R,
     alloc: Global,
+    version: &str,
     setup: &Setup,
     kept: Kept<O>,
 ) -> io::Result<Vec<End>>
-    ensures { IsServedForever ⟦<UdpWorker as GatedWire>⟧.did ⟦<UdpWorker as Wire>⟧.failures
-        ⟦<UdpWire as Wire>⟧.went ⟦<UdpWire as Wire>⟧.failures
+    ensures { IsServedForever
+        ⟦<LastingWorker<&'r R> as GatedWire>⟧.did ⟦<LastingWorker<&'r R> as Wire>⟧.failures
+        ⟦<LastingWire<&'r R> as Wire>⟧.went ⟦<LastingWire<&'r R> as Wire>⟧.failures
         ⟦<LastingTicker<&'r R> as PacedWire>⟧.did ⟦<LastingTicker<&'r R> as Wire>⟧.failures
         ⟦<Teller<'r, R> as Watch>⟧.went ⟦<SecondPace<&'r R> as Pace>⟧.went
         setup.now kept result }
 {
     let plan = plan_of(alloc, setup)?;
-    let bound = bind_lines(rt, rt, alloc, setup)?;
-    let lines = at_whole_seconds(bound, rt)?;
+    let sending = Arc::new(
+        alloc,
+        SendingSockets::bind(rt, alloc, plan.peers.as_slice())?,
+    )?;
+    let pace = WholeSecondPace::new(rt)?;
+    let lines = bind_lasting(rt, rt, pace, alloc, setup, &sending)?;
+    log_ready(rt, version, setup);
     let book = Book::new();
-    let watch = Teller { rt, book: &book };
+    let watch = Teller {
+        rt,
+        book: &book,
+        losses: sending.losses(),
+    };
     // Of want of memory `?` makes an error of the system.
     let ends = serve_lines_forever(rt, &plan, watch, SecondPace::new(rt), kept, lines)?;
     Ok(ends)

@@ -3,11 +3,13 @@
 //!
 //! # Entry points
 //! [`Setup`] says where, and how many rounds a line makes, and [`setup_of`] makes one of what is
-//! configured; [`serve`] binds its sockets ([`bind_lines`]) and runs its lines over a history by
+//! configured; where it makes none, [`why_unserved`] says why, an [`Unserved`]. [`serve`] binds its sockets ([`bind_lines`]) and runs its lines over a history by
 //! its plan ([`plan_of`], [`serve_lines`]), each in a thread of its own; [`tell_report`] logs what
 //! they did, [`tell_fault`] why there is no report, a [`ServeFault`]. [`serve_forever`] does the
-//! same without an end ([`serve_lines_forever`], over [`LastingLines`]), and logs as it goes on;
-//! [`any_failed`] says whether a line failed, [`tell_not_begun`] logs why nothing was served.
+//! same without an end ([`serve_lines_forever`]), over lines of its own ([`bind_lasting`]) at which no
+//! send fails, logs what it serves ([`log_ready`]), and logs as it goes on; [`log_losses`] logs what
+//! could not be sent, [`any_failed`] says whether a line failed, [`tell_not_begun`] logs why nothing
+//! was served.
 //!
 //! # Definitions
 //! `specs/Setups.antt`: what a setup holds; `specs/Binding.antt`: its lines, and what they have in
@@ -21,18 +23,24 @@
 //! interval by interval promise (`live_laps::serve_laps`).
 //!
 //! # Not claimed
-//! To which addresses sockets are bound; what UDP delivers; that a run ends; the text that is
-//! logged.
+//! To which addresses sockets are bound, and by which one a datagram goes; what UDP delivers; that a
+//! run ends; the text that is logged; that what could not be sent is.
 #![tactic(auto)]
 
 mod binding;
 mod lasting;
+mod lasting_binding;
+mod losses;
+mod ready;
 mod serving;
 mod setup;
 mod telling;
 
 pub use binding::{UdpLines, UdpTicker, UdpWorker, bind_lines, plan_of};
-pub use lasting::{LastingLines, LastingTicker, any_failed, serve_forever, serve_lines_forever};
+pub use lasting::{LastingTicker, any_failed, serve_forever, serve_lines_forever};
+pub use lasting_binding::{LastingLines, LastingWorker, bind_lasting};
+pub use losses::log_losses;
+pub use ready::log_ready;
 pub use serving::{ServeFault, serve, serve_lines};
-pub use setup::{Setup, setup_of};
+pub use setup::{Setup, Unserved, setup_of, why_unserved};
 pub use telling::{Teller, tell_fault, tell_not_begun, tell_report};

@@ -1,6 +1,6 @@
 //! Where an agent is served, and how many rounds its lines make.
 ghost use Rattle.std.specs.Prelude.{◌≡◌, true, false, All, IfSome, IsNone};
-ghost use Rattle.udp_agent.specs.Setups.{HasSockets, IsSetup, HasSetup};
+ghost use Rattle.udp_agent.specs.Setups.{HasSockets, IsSetup, HasSetup, IsUnserved};
 
 use arrayvec::ArrayVec;
 use configuration::{Port, Serve};
@@ -57,4 +57,25 @@ pub fn setup_of(
         ports,
         serve,
     })
+}
+
+/// Why a configuration cannot be served.
+#[derive(Clone, Copy, Debug, PartialEq, Eq, Drop)]
+pub enum Unserved {
+    /// It does not say how to serve.
+    NoServe,
+    /// It does not say of each port where its frames come in, and where they go.
+    NoSockets,
+}
+
+/// Why a configuration with these ports, which says so how to serve, cannot be served; none where
+/// [`setup_of`] gives a setup.
+pub fn why_unserved(ports: &[Port], serve: &Option<Serve>) -> Option<Unserved>
+    ensures { IsUnserved ports.now serve.now result }
+{
+    match serve {
+        None => Some(Unserved::NoServe),
+        Some(_) if !have_sockets(ports) => Some(Unserved::NoSockets),
+        Some(_) => None,
+    }
 }

@@ -1,4 +1,5 @@
 //! Logs what a run did, why it has no report, and how lines go on.
+use crate::losses::log_losses;
 use crate::serving::ServeFault;
 use live_agent::End;
 use live_laps::{Book, Drops, LineName, Watch, Worked};
@@ -7,7 +8,7 @@ use live_run::{Report, RunFault};
 use log::{Log, error, info, warn};
 use std::io;
 use std::sync::Wait;
-use wire_core::WireFault;
+use wire_core::{Losses, WireFault};
 
 /// Logs what a run did, in one line of level Info: `entries E requests Q older O drops D`.
 pub fn tell_report<R: Log>(rt: &R, report: &Report) {
@@ -49,6 +50,8 @@ pub struct Teller<'r, R> {
     pub rt: &'r R,
     /// What the intervals of all workers came to.
     pub book: &'r Book,
+    /// What could not be sent.
+    pub losses: &'r Losses,
 }
 
 impl<R: Log> Teller<'_, R> {
@@ -77,6 +80,7 @@ impl<R: Log> Watch for Teller<'_, R> {
         Teller {
             rt: self.rt,
             book: self.book,
+            losses: self.losses,
         }
     }
 
@@ -95,6 +99,7 @@ impl<R: Log> Watch for Teller<'_, R> {
             worked.drops
         );
         self.tell_drops(worked.by_cause);
+        log_losses(self.rt, self.losses);
     }
 
     fn failed(&mut self, line: LineName, end: End, faults: u64) {

@@ -5,3 +5,6 @@ pub mod Failing
 pub mod FailingLaws
 pub mod Pacing
 pub mod PacingLaws
+pub mod Losses
+pub mod Lasting
+pub mod LastingLaws

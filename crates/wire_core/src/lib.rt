@@ -3,34 +3,48 @@
 //!
 //! # Entry points
 //! [`Wire`] gives datagrams and sends some: [`MemoryWire`] gives what it was handed, [`UdpWire`]
-//! what comes to a bound socket, [`FailingWire`] fails at one call and else hands on. [`Pace`] says
-//! how long ticks go on: [`CountPace`] so many times, [`SecondPace`] each second behind what the tick
-//! before took, [`WholeSecondPace`] at each whole second since its start. A [`Packet`] is a datagram
-//! and its peer, [`Received`] what a receive gave, [`Given`] what a wire in memory is to give; what
-//! goes wrong is a [`WireFault`]. A receive over UDP is set to wait
-//! [`RECEIVE_WAIT_MILLIS`] milliseconds.
+//! what comes to a bound socket, [`FailingWire`] fails at one call and else hands on. [`LastingWire`]
+//! is one over a bound socket at which no send fails: the peers of ports have [`SendingSockets`],
+//! which all such wires share, and a datagram that the system refuses is counted among its
+//! [`Losses`], by its [`Cause`] ([`cause_of`] an error). [`Pace`] says how long ticks go on:
+//! [`CountPace`] so many times, [`SecondPace`] each second behind what the tick before took,
+//! [`WholeSecondPace`] at each whole second since its start. A [`Packet`] is a datagram and its peer,
+//! [`Received`] what a receive gave, [`Given`] what a wire in memory is to give; what goes wrong is a
+//! [`WireFault`]. A receive over UDP is set to wait [`RECEIVE_WAIT_MILLIS`] milliseconds, and at a
+//! lasting wire [`FAULT_WAIT_MILLIS`] behind an error of a socket that is there. Errors above
+//! [`MAX_ERROR_NUMBER`] have one count together.
 //!
 //! # Definitions
 //! `specs/Acts.antt`: what a wire did, act by act, and its count of failures; `specs/Memory.antt`:
 //! what a wire in memory gives and keeps; `specs/Failing.antt`: which acts a failing wire hands on;
-//! `specs/Pacing.antt`: what a pace answers; `specs/FailingLaws.antt`, `specs/MemoryLaws.antt`,
+//! `specs/Lasting.antt`: acts of which no send failed; `specs/Losses.antt`: why a datagram was lost,
+//! and which errors say that a socket is gone; `specs/Pacing.antt`: what a pace answers;
+//! `specs/FailingLaws.antt`, `specs/LastingLaws.antt`, `specs/MemoryLaws.antt`,
 //! `specs/PacingLaws.antt`: that acts of each behind one another are one list.
 //!
 //! # Laws
 //! Of each wire and pace, on its trait: no acts lead nowhere, and acts behind acts are one list.
 //!
 //! # Not claimed
-//! What UDP delivers, and how long a wait is: a wire over UDP tells its count of failures alone.
+//! What UDP delivers, and how long a wait is: a wire over UDP tells its count of failures alone, and
+//! a lasting one also that no send failed. By which socket a datagram goes; that a datagram that was
+//! lost is counted, and what a count of [`Losses`] is; the system's words for a cause.
 #![tactic(auto)]
 
 mod failing;
+mod lasting;
+mod losses;
 mod memory;
 mod pace;
+mod sockets;
 mod udp;
 mod wire;
 
 pub use failing::FailingWire;
+pub use lasting::{FAULT_WAIT_MILLIS, LastingWire};
+pub use losses::{Cause, Losses, MAX_ERROR_NUMBER, cause_of};
 pub use memory::{Given, MemoryWire};
 pub use pace::{CountPace, Pace, SecondPace, WholeSecondPace};
+pub use sockets::SendingSockets;
 pub use udp::{RECEIVE_WAIT_MILLIS, UdpWire};
 pub use wire::{Packet, Received, Wire, WireFault};

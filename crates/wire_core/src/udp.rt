@@ -87,7 +87,7 @@ impl Wire for UdpWire {
 
 // Whether a read that ended so only gave nothing: its time ran out, a signal came, or a peer
 // refused an earlier datagram (an ICMP answer, which tells nothing of this socket's own state).
-fn gave_nothing(kind: ErrorKind) -> bool {
+pub(crate) fn gave_nothing(kind: ErrorKind) -> bool {
     matches!(
         kind,
         ErrorKind::WouldBlock

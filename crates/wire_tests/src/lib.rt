@@ -1,5 +1,5 @@
-//! Tests of wires and paces by their traits: in memory, over UDP on this machine, and failing at a
-//! call.
+//! Tests of wires and paces by their traits: in memory, over UDP on this machine, without an end, and
+//! failing at a call.
 //!
 //! # Entry points
 //! None: the tests call what `wire_core` offers.

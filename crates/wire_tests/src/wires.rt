@@ -1,9 +1,11 @@
 //! What each wire gives and what each pace answers, by their traits.
 use std::alloc::Global;
 use std::net::{IpAddr, Ipv4Addr, Ipv6Addr, SocketAddr};
+use std::sync::Arc;
 use std::test::*;
 use wire_core::{
-    CountPace, FailingWire, Given, MemoryWire, Pace, Received, SecondPace, UdpWire, Wire, WireFault,
+    Cause, CountPace, FailingWire, Given, LastingWire, MemoryWire, Pace, Received, SecondPace,
+    SendingSockets, UdpWire, Wire, WireFault,
 };
 
 fn loopback(port: u16) -> SocketAddr {
@@ -118,6 +120,39 @@ fn udp_loses_what_nobody_can_take(rt: HostRuntime) -> Result<(), Fail> {
     let received = receipt(&mut wire);
     let wanted = (Ok(()), Err(WireFault::Send), Ok(()));
     assert_eq!(rt; (sent, received), (wanted, Ok(Some((own.port(), 1, 2)))));
+    Ok(())
+}
+
+// The number of the error by which the system refuses to send to port 0.
+const INVALID_ARGUMENT: Cause = Cause::Number(22);
+
+// What is refused is lost, and counted once by its cause; what goes to a peer with a socket of its
+// own comes from there.
+#[test]
+fn lasting_wire_loses_what_is_refused(rt: HostRuntime) -> Result<(), Fail> {
+    let alloc = rt.alloc();
+    let mut peer = UdpWire::bind(&rt, alloc, loopback(0))?;
+    let at = peer.local_addr()?;
+    let sending = Arc::new(alloc, SendingSockets::bind(&rt, alloc, &[at])?)?;
+    let mut wire = LastingWire::bind(&rt, alloc, loopback(0), &sending, &rt)?;
+    let own = wire.local_addr()?;
+    let refused = (wire.send(loopback(0), &[1]), wire.send(loopback(0), &[1]));
+    let sent = (wire.send(own, &[2]), wire.send(at, &[3, 4]));
+    let losses = sending.losses();
+    let counted = (
+        losses.take(INVALID_ARGUMENT),
+        losses.take(INVALID_ARGUMENT),
+        losses.take(Cause::Other),
+    );
+    let by_another = receipt(&mut peer).map(|given| given.map(|(port, len, first)| (
+        port == own.port(),
+        len,
+        first,
+    )));
+    assert_eq!(rt; (refused, sent), ((Ok(()), Ok(())), (Ok(()), Ok(()))));
+    assert_eq!(rt; counted, (2, 0, 0));
+    assert_eq!(rt; receipt(&mut wire), Ok(Some((own.port(), 1, 2))));
+    assert_eq!(rt; by_another, Ok(Some((false, 2, 3))));
     Ok(())
 }
 

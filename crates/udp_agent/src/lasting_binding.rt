@@ -1,0 +1,99 @@
+//! Binds the sockets of a setup that is served without an end.
+ghost use Rattle.std.specs.Prelude.{◌≡◌, ◌<◌, ◌-◌, ◌^◌, IfOk, length, vec_len};
+ghost use Rattle.udp_agent.specs.Binding.{AreLines};
+
+use crate::binding::{address_of, few};
+use crate::setup::Setup;
+use configuration::{Port, Serve};
+use live_agent::{Gated, OpenGate, Paced};
+use live_run::Lines;
+use std::alloc::Global;
+use std::io::{self, ErrorKind};
+use std::net::Net;
+use std::sync::Arc;
+use std::time::Clock;
+use wire_core::{LastingWire, Pace, SendingSockets};
+
+/// The wire of a worker of an agent without an end, which no gate holds.
+pub type LastingWorker<C> = Gated<LastingWire<C>, OpenGate>;
+
+/// The lines of an agent without an end, whose ticks go at this pace.
+pub type LastingLines<C, P> = Lines<LastingWorker<C>, LastingWire<C>, Paced<LastingWire<C>, P>>;
+
+// The wires of the threads that answer requests, which share one socket.
+fn bind_workers<R: Net, C: Clock + Copy + Drop>(
+    rt: &R,
+    clock: C,
+    alloc: Global,
+    serve: &Serve,
+    sending: &Arc<SendingSockets, Global>,
+) -> io::Result<Vec<LastingWorker<C>>>
+    ensures { IfOk result (λ workers. vec_len workers ≡ serve.now.workers) }
+{
+    let socket = LastingWire::bind(rt, alloc, serve.snmp, sending, clock)?;
+    let mut workers = Vec::new(alloc);
+    for _ in 0..serve.workers {
+        workers.push(Gated {
+            wire: socket.share()?,
+            gate: OpenGate,
+        })?;
+    }
+    Ok(workers)
+}
+
+// The wires of the ports, each over a socket of its own.
+fn bind_ports<R: Net, C: Clock + Copy + Drop>(
+    rt: &R,
+    clock: C,
+    alloc: Global,
+    ports: &[Port],
+    sending: &Arc<SendingSockets, Global>,
+) -> io::Result<Vec<LastingWire<C>>>
+    ensures { IfOk result (λ wires. vec_len wires ≡ length ports.now) }
+{
+    let mut wires = Vec::new(alloc);
+    for port in ports {
+        let listen = address_of(port.listen)?;
+        wires.push(LastingWire::bind(rt, alloc, listen, sending, clock)?)?;
+    }
+    Ok(wires)
+}
+
+// The wire of the ticker, over the socket of port 1.
+fn share_first<C: Clock + Copy>(ports: &[LastingWire<C>]) -> io::Result<LastingWire<C>> {
+    match ports.first() {
+        Some(port) => port.share(),
+        None => Err(io::Error::from(ErrorKind::InvalidInput)),
+    }
+}
+
+/// The lines of a setup that is served without an end: over sockets as those of `bind_lines`, but no
+/// send fails, and frames go by these sending sockets. The ticker ticks at this pace; receives that
+/// fail wait by this clock. A clause says how many lines there are; which sockets they share is tested.
+///
+/// # Errors
+/// As of `bind_lines`.
+pub fn bind_lasting<R: Net, C: Clock + Copy + Drop, P: Pace>(
+    rt: &R,
+    clock: C,
+    pace: P,
+    alloc: Global,
+    setup: &Setup,
+    sending: &Arc<SendingSockets, Global>,
+) -> io::Result<LastingLines<C, P>>
+    ensures lines { IfOk result (AreLines setup.now) }
+    ensures few { IfOk result (λ lines.
+        (vec_len lines.workers < 2 ^ 16 - 1) × (vec_len lines.ports < 2 ^ 16 - 1)) }
+{
+    let workers = bind_workers(rt, clock, alloc, &setup.serve, sending)?;
+    let ports = bind_ports(rt, clock, alloc, setup.ports.as_slice(), sending)?;
+    let ticker = Paced {
+        wire: share_first(ports.as_slice())?,
+        pace,
+    };
+    few(Lines {
+        workers,
+        ports,
+        ticker,
+    })
+}

@@ -1,0 +1,20 @@
+//! Logs how many datagrams were lost.
+use log::{Log, warn};
+use wire_core::{Cause, Losses, MAX_ERROR_NUMBER};
+
+/// Logs how many datagrams could not be sent since it was last logged, in a line of level Warn for
+/// each cause that occurred: `N sends lost: WHY`, by the system's words for its number.
+pub fn log_losses<R: Log>(rt: &R, losses: &Losses) {
+    for number in 1..=MAX_ERROR_NUMBER {
+        log_cause(rt, losses, Cause::Number(number));
+    }
+    log_cause(rt, losses, Cause::Other);
+}
+
+// Logs how many were lost by one cause, if any were.
+fn log_cause<R: Log>(rt: &R, losses: &Losses, cause: Cause) {
+    let sends = losses.take(cause);
+    if sends > 0 {
+        warn!(rt; "{} sends lost: {}", sends, cause);
+    }
+}

@@ -1,0 +1,69 @@
+//! Logs what is served, once all sockets are bound.
+use crate::setup::Setup;
+use configuration::Port;
+use frame_core::Mac;
+use log::{Log, info};
+use std::fmt;
+use std::fmt::{Display, Formatter};
+
+/// Logs what an agent of this version serves, in one line of level Info: `agentd VERSION serves
+/// ADDRESS: requests at SOCKET by N workers; port 1 at LISTEN to PEER, port 2 at LISTEN to PEER`.
+pub fn log_ready<R: Log>(rt: &R, version: &str, setup: &Setup) {
+    info!(rt; "agentd {} serves {}", version, Served(setup));
+}
+
+// What a setup says.
+#[derive(Drop)]
+struct Served<'a>(&'a Setup);
+
+impl Display for Served<'_> {
+    fn fmt<W: fmt::Write>(&self, f: &mut Formatter<W>) -> fmt::Result {
+        let setup = self.0;
+        write!(
+            f,
+            "{}: requests at {} by {} workers",
+            Hyphenated(setup.address),
+            setup.serve.snmp,
+            setup.serve.workers
+        )?;
+        for (index, port) in setup.ports.iter().enumerate() {
+            let mark = if index == 0 { ';' } else { ',' };
+            // Ports are counted from 1.
+            write!(
+                f,
+                "{} port {}{}",
+                mark,
+                index.saturating_add(1),
+                Sockets(port)
+            )?;
+        }
+        Ok(())
+    }
+}
+
+// The sockets of a port, as far as they are said.
+#[derive(Drop)]
+struct Sockets<'a>(&'a Port);
+
+impl Display for Sockets<'_> {
+    fn fmt<W: fmt::Write>(&self, f: &mut Formatter<W>) -> fmt::Result {
+        if let Some(listen) = self.0.listen {
+            write!(f, " at {}", listen)?;
+        }
+        if let Some(peer) = self.0.peer {
+            write!(f, " to {}", peer)?;
+        }
+        Ok(())
+    }
+}
+
+// An address by its octets, with hyphens between them.
+#[derive(Drop)]
+struct Hyphenated(Mac);
+
+impl Display for Hyphenated {
+    fn fmt<W: fmt::Write>(&self, f: &mut Formatter<W>) -> fmt::Result {
+        let [a, b, c, d, e, g] = self.0.0;
+        write!(f, "{a:02X}-{b:02X}-{c:02X}-{d:02X}-{e:02X}-{g:02X}")
+    }
+}

@@ -1,0 +1,130 @@
+//! A wire over a UDP socket, for an agent that is served without an end.
+ghost use Rattle.std.specs.Prelude.{◌≡◌, true, false};
+ghost use Rattle.std.specs.IoError.{raw_os_error};
+ghost use Rattle.wire_core.specs.Losses.{IsGone};
+
+use crate::sockets::SendingSockets;
+use crate::udp::{RECEIVE_WAIT_MILLIS, gave_nothing};
+use crate::wire::{Received, Wire, WireFault, count_failure};
+use std::alloc::Global;
+use std::net::{Net, SocketAddr, UdpSocket};
+use std::sync::Arc;
+use std::time::{Clock, Duration};
+use std::{io, thread};
+
+/// How long a receive waits that failed though its socket is there, in milliseconds: 5.
+pub const FAULT_WAIT_MILLIS: u64 = 5;
+
+// How long a send waits for the system's buffer, in microseconds. A shorter wait would be none.
+const SEND_WAIT_MICROS: u64 = 1;
+
+// No open file has the descriptor.
+const EBADF: i32 = 9;
+
+// What the descriptor is of is no socket.
+const ENOTSOCK: i32 = 88;
+
+// The socket takes no datagrams.
+const EOPNOTSUPP: i32 = 95;
+
+/// A wire over a bound UDP socket, which it may share with others. A receive waits for
+/// `RECEIVE_WAIT_MILLIS`, and gives nothing then. It fails only where the socket is gone; at any
+/// other error it waits for `FAULT_WAIT_MILLIS`, and gives nothing.
+///
+/// No send fails. What goes to the peer of a port goes by that peer's own socket, anything else by
+/// this one, at which a send waits as short as the system lets it. A datagram that the system refuses
+/// is lost, and counted by its cause among the [`SendingSockets`]' losses.
+#[derive(Drop)]
+pub struct LastingWire<C> {
+    socket: Arc<UdpSocket, Global>,
+    sending: Arc<SendingSockets, Global>,
+    clock: C,
+    failures: u64,
+}
+
+impl<C: Clock + Copy> LastingWire<C> {
+    /// Binds a socket to an address, beside these sending sockets, with a clock by which a receive
+    /// that failed waits. Takes memory for what its wires share.
+    ///
+    /// # Errors
+    /// That of the system, or of a refused growth.
+    pub fn bind<R: Net>(
+        rt: &R,
+        alloc: Global,
+        address: SocketAddr,
+        sending: &Arc<SendingSockets, Global>,
+        clock: C,
+    ) -> io::Result<LastingWire<C>> {
+        let socket = UdpSocket::bind(rt, address)?;
+        socket.set_read_timeout(Some(Duration::from_millis(RECEIVE_WAIT_MILLIS)))?;
+        socket.set_write_timeout(Some(Duration::from_micros(SEND_WAIT_MICROS)))?;
+        Ok(LastingWire {
+            socket: Arc::new(alloc, socket)?,
+            sending: Arc::try_clone(sending)?,
+            clock,
+            failures: 0,
+        })
+    }
+
+    /// Another wire over the same socket, with a count of failures of its own. A datagram that
+    /// comes is given to one of them.
+    ///
+    /// # Errors
+    /// That there are as many wires over the socket as can be counted.
+    pub fn share(&self) -> io::Result<LastingWire<C>> {
+        Ok(LastingWire {
+            socket: Arc::try_clone(&self.socket)?,
+            sending: Arc::try_clone(&self.sending)?,
+            clock: self.clock,
+            failures: 0,
+        })
+    }
+
+    /// The address to which its socket is bound.
+    ///
+    /// # Errors
+    /// That of the system.
+    pub fn local_addr(&self) -> io::Result<SocketAddr> {
+        self.socket.local_addr()
+    }
+}
+
+impl<C: Clock + Drop> Wire for LastingWire<C> {
+    ghost use Rattle.wire_core.specs.Lasting.{NoSendFails};
+    ghost use Rattle.wire_core.specs.LastingLaws.{goes_on};
+
+    ghost went = { λ _ acts _. NoSendFails acts };
+
+    ghost failures = { λ w. w.failures };
+
+    ghost starts = { λ _. tt };
+
+    ghost goes_on = { λ _ _ _ xs ys before after. goes_on xs ys before after };
+
+    fn receive(&mut self, into: &mut [u8]) -> Result<Received, WireFault> {
+        match self.socket.recv_from(into) {
+            Ok((len, peer)) => Ok(Received::Datagram(len, peer)),
+            Err(error) if is_gone(&error) => {
+                Err(count_failure(&mut self.failures, WireFault::Receive))
+            }
+            Err(error) if gave_nothing(error.kind()) => Ok(Received::Nothing),
+            Err(_) => {
+                thread::sleep(&self.clock, Duration::from_millis(FAULT_WAIT_MILLIS));
+                Ok(Received::Nothing)
+            }
+        }
+    }
+
+    fn send(&mut self, peer: SocketAddr, octets: &[u8]) -> Result<(), WireFault> {
+        self.sending.send(&self.socket, peer, octets);
+        Ok(())
+    }
+}
+
+// Whether an error says that the socket is gone.
+fn is_gone(error: &io::Error) -> bool
+    ensures yes { result ≡ true → IsGone (raw_os_error error.now) }
+    ensures no { result ≡ false → IsGone (raw_os_error error.now) → ⊥ }
+{
+    matches!(error.raw_os_error(), Some(EBADF | ENOTSOCK | EOPNOTSUPP))
+}
