@@ -1,4 +1,4 @@
-.PHONY: run serve lab test bench growths scripts udp-session wrong-bodies
+.PHONY: run serve lab test bench growths scripts udp-session hostile wrong-bodies
 
 # Answers some worked lines. It compiles and runs, and proves nothing.
 run:
@@ -45,6 +45,11 @@ udp-session:
 	cd crates/agentd && rt run < stdin > /dev/null
 	cd crates/manager && (rt run 2> /dev/null || test $$? -eq 2)
 	tools/udp-session
+
+# Builds agentd, proved, serves it, and sends it a million changed datagrams and frames, and requests as large as it takes.
+hostile:
+	cd crates/agentd && rt run < stdin > /dev/null
+	tools/hostile
 
 # Builds agentd, proved, and tries it as root, in network namespaces, between hosts, beside a Linux bridge and beside Open vSwitch.
 lab:
