@@ -1,5 +1,5 @@
 -- What the words of a command line ask for.
-use Rattle.std.specs.Prelude.{◌≡◌, ℕ, Bool, true, false, codes, if◌then◌else◌, List, [], Option, Some, None, option_and_then}
+use Rattle.std.specs.Prelude.{◌≡◌, ℕ, Bool, true, false, codes, if◌then◌else◌, List, [], Option, Some, None, option_and_then, option_map}
 use Rattle.std.specs.Str.{bytes_eq}
 use Rattle.clap.specs.Words.{Row, Text, first_of, found_of, one_of, rows_of, fault_of, subcommand_of}
 use Rattle.clap.specs.declared.parser.matches.ArgMatches.{ArgMatches}
@@ -28,22 +28,25 @@ abbrev pub is_set : Option Text → Bool
 is_set None = false
 is_set (Some value) = bytes_eq value (codes "true")
 
--- for how long an agent is served, by whether `--forever` is given
-abbrev pub lasting_by : Bool → Lasting
-lasting_by forever = if forever then Forever else Rounds
+-- for how long an agent is served, by whether `--forever` and whether `--audit` is given: the audit of
+-- each request is written only by an agent without an end
+abbrev pub lasting_by : Bool → Bool → Option Lasting
+lasting_by true audit = Some (Forever audit)
+lasting_by false true = None
+lasting_by false false = Some Rounds
 
--- what a subcommand asks for of a file, for so long where it serves
-abbrev pub asking_with : Text → Lasting → List ℕ → Option Asking
+-- what a subcommand asks for of a file, for so long where it serves, if the flags say for how long
+abbrev pub asking_with : Text → Option Lasting → List ℕ → Option Asking
 asking_with name lasting file =
     if bytes_eq name (codes "script") then Some (script file)
     else if bytes_eq name (codes "check") then Some (check file)
-    else if bytes_eq name (codes "serve") then Some (serve file lasting)
+    else if bytes_eq name (codes "serve") then option_map (serve file) lasting
     else None
 
 -- the same by the rows of its matches
 abbrev pub asking_by : Text → List Row → Option Asking
 asking_by name rows = option_and_then
-    (asking_with name (lasting_by (is_set (one_of (codes "forever") rows))))
+    (asking_with name (lasting_by (is_set (one_of (codes "forever") rows)) (is_set (one_of (codes "audit") rows))))
     (first_of (codes "FILE") rows)
 
 -- what matches ask for: without a subcommand the script by the built-in configuration

@@ -13,19 +13,27 @@ config_option = record (new_rule (codes "FILE")) {
   required = true;
 }
 
--- `--forever`
-abbrev pub forever_flag : Rule
-forever_flag = record (new_rule (codes "forever")) {
-  long = Some (codes "forever");
+-- a flag of this name, which stands or not
+abbrev pub flag_rule : Text → Rule
+flag_rule name = record (new_rule name) {
+  long = Some name;
   action = Some SetTrue;
 }
+
+-- `--forever`
+abbrev pub forever_flag : Rule
+forever_flag = flag_rule (codes "forever")
+
+-- `--audit`
+abbrev pub audit_flag : Rule
+audit_flag = flag_rule (codes "audit")
 
 -- what is done with a file
 abbrev pub file_shape : Text → Shape
 file_shape name = record (new_shape name) { rules = config_option ∷ [] }
 
 abbrev pub serve_shape : Shape
-serve_shape = record (new_shape (codes "serve")) { rules = config_option ∷ (forever_flag ∷ []) }
+serve_shape = record (new_shape (codes "serve")) { rules = config_option ∷ (forever_flag ∷ (audit_flag ∷ [])) }
 
 -- what stands in front of that
 abbrev pub agent_shape : Shape

@@ -21,7 +21,10 @@ pub enum Lasting {
     /// Until each of its lines has made its rounds.
     Rounds,
     /// Without an end: each line begins its rounds anew.
-    Forever,
+    Forever {
+        /// Whether the audit of each request is written to standard output.
+        audit: bool,
+    },
 }
 
 /// Whether it is asked to serve an agent.

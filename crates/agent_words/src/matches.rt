@@ -26,14 +26,14 @@ fn asked_by<'a>(name: &str, entered: &ArgMatches<'a>) -> Option<Asked<'a>>
     }
 }
 
-// What a subcommand asks for of a file.
-fn asked_with<'a>(name: &str, lasting: Lasting, file: &'a str) -> Option<Asked<'a>>
+// What a subcommand asks for of a file, for so long where it serves, if the flags say for how long.
+fn asked_with<'a>(name: &str, lasting: Option<Lasting>, file: &'a str) -> Option<Asked<'a>>
     ensures { option_map asked_view result ≡ asking_with name.now lasting file.now }
 {
     match name {
         "script" => Some(Asked::Script(file)),
         "check" => Some(Asked::Check(file)),
-        "serve" => Some(Asked::Serve(file, lasting)),
+        "serve" => lasting.map(|lasting| Asked::Serve(file, lasting)),
         _ => None,
     }
 }
@@ -45,20 +45,22 @@ fn file_in<'a>(entered: &ArgMatches<'a>) -> Option<&'a str>
     entered.get_str("FILE")
 }
 
-// For how long an agent is to be served.
-fn lasting_in(entered: &ArgMatches<'_>) -> Lasting
-    ensures { result ≡ lasting_by (is_set (one_of (codes "forever") (rows_in entered.now))) }
+// For how long an agent is to be served, if the flags say it: the audit of each request is written
+// only by an agent without an end.
+fn lasting_in(entered: &ArgMatches<'_>) -> Option<Lasting>
+    ensures { let rows = rows_in entered.now in
+        result ≡ lasting_by (is_set (one_of (codes "forever") rows)) (is_set (one_of (codes "audit") rows)) }
 {
-    if is_forever(entered) {
-        Lasting::Forever
-    } else {
-        Lasting::Rounds
+    match (is_given(entered, "forever"), is_given(entered, "audit")) {
+        (true, audit) => Some(Lasting::Forever { audit }),
+        (false, false) => Some(Lasting::Rounds),
+        (false, true) => None,
     }
 }
 
-// Whether `--forever` is given.
-fn is_forever(entered: &ArgMatches<'_>) -> bool
-    ensures { result ≡ is_set (one_of (codes "forever") (rows_in entered.now)) }
+// Whether the flag of this name is given.
+fn is_given(entered: &ArgMatches<'_>, flag: &str) -> bool
+    ensures { result ≡ is_set (one_of flag.now (rows_in entered.now)) }
 {
-    entered.get_one::<bool>("forever").unwrap_or(false)
+    entered.get_one::<bool>(flag).unwrap_or(false)
 }

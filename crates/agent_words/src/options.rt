@@ -1,7 +1,7 @@
 //! The words of `agentd`, and what its help says of them.
 ghost use Rattle.std.specs.Prelude.{[], codes, IfOk, IsOkAnd};
 ghost use Rattle.clap.specs.Words.{AddsSubcommand};
-ghost use Rattle.agent_words.specs.Options.{config_option, forever_flag, file_shape, serve_shape, agent_shape, agent_app};
+ghost use Rattle.agent_words.specs.Options.{config_option, flag_rule, file_shape, serve_shape, agent_shape, agent_app};
 ghost use Rattle.agent_words.specs.Built.{IsArgument, HasWords};
 
 use clap::builder::ValueParser;
@@ -46,6 +46,11 @@ When all are done, what was done is logged on standard error: entries E requests
 
 With --forever each begins its rounds anew when they are done. That line comes each time the clock is
 done, and one where a thread, a port or the clock ends, with its reason; the others go on.
+
+With --audit, which wants --forever, one line on standard output says of each request that was
+answered or dropped: its number in the agent's order, who asked, the request-id, and the audit, as
+17 192.0.2.7:40000 12 get 0 0 ok access(readers,,2,1) view bridge. Where standard output takes them
+too slowly, or fails, the agent goes on, and logs how many lines were lost.
 
 Exit status: 0; 1 if nothing could be served, or if one of them failed; 2 if the words are no
 command, or if FILE cannot be read or is refused.";
@@ -104,7 +109,7 @@ fn check_command<'a>(alloc: Global) -> Result<Command<'a>, AllocError>
     )
 }
 
-// `serve`: an agent by a file, for its rounds or without an end.
+// `serve`: an agent by a file, for its rounds or without an end, and then with or without audits.
 fn serve_command<'a>(alloc: Global) -> Result<Command<'a>, AllocError>
     ensures { IfOk result (HasWords (record { top = serve_shape; subs = [] })) }
 {
@@ -114,7 +119,12 @@ fn serve_command<'a>(alloc: Global) -> Result<Command<'a>, AllocError>
         "Serves the agent of FILE over UDP: its requests and its ports' frames",
         SERVE_HELP,
     )?
-    .arg(forever_flag(alloc))
+    .arg(flag(alloc, "forever", "Serve without an end"))?
+    .arg(flag(
+        alloc,
+        "audit",
+        "Write the audit of each request to standard output; wants --forever",
+    ))
 }
 
 // What is done with a file.
@@ -143,12 +153,12 @@ fn config_option<'a>(alloc: Global) -> Arg<'a>
         .help("The configuration, a TOML document")
 }
 
-// `--forever`.
-fn forever_flag<'a>(alloc: Global) -> Arg<'a>
-    ensures { IsArgument forever_flag result }
+// A flag of this name, with its help.
+fn flag<'a>(alloc: Global, name: &'a str, help: &'a str) -> Arg<'a>
+    ensures { IsArgument (flag_rule name.entry.now) result }
 {
-    Arg::new(alloc, "forever")
-        .long("forever")
+    Arg::new(alloc, name)
+        .long(name)
         .action(ArgAction::SetTrue)
-        .help("Serve without an end")
+        .help(help)
 }

@@ -57,15 +57,16 @@ fn asked_by<'a>(alloc: Global, words: &'a [String]) -> Result<Asked<'a>, Error>
     let matches = agent.try_get_matches_from_mut(words)?;
     match asked_in(&matches) {
         Some(asked) => Ok(asked),
-        None => Err(no_command(&mut agent)),
+        None => Err(audit_alone(&mut agent)),
     }
 }
 
-// The error of matches that say nothing, with the usage.
-fn no_command(agent: &mut Command<'_>) -> Error
+// The error of matches that ask for nothing, with the usage: of those that clap lets pass, `--audit`
+// without `--forever`.
+fn audit_alone(agent: &mut Command<'_>) -> Error
     ensures { (kind_of result ≡ OutOfMemory) ⊎ (kind_of result ≡ ValueValidation) }
 {
-    match agent.error(ErrorKind::ValueValidation, "no command") {
+    match agent.error(ErrorKind::ValueValidation, "--audit wants --forever") {
         Ok(error) => error,
         Err(error) => Error::from(error),
     }

@@ -16,4 +16,4 @@ returns-in-Some-clause-asked c =
 pub returns-clause-refused : goal.returns-clause-refused
 returns-clause-refused c =
     let words = map (string_bytes {Z = Global}) c.args.words.now in
-    none_said (app_of c.in_ok-agent.agent) words c.in_ok-matches.matches c.asked_in.result c.no_command.result c.in_ok-agent.ensures.words c.in_ok-matches.ensures.kinds c.in_ok-matches.ensures.ok.2 c.asked_in.ensures c.in-None.is c.no_command.ensures
+    none_said (app_of c.in_ok-agent.agent) words c.in_ok-matches.matches c.asked_in.result c.audit_alone.result c.in_ok-agent.ensures.words c.in_ok-matches.ensures.kinds c.in_ok-matches.ensures.ok.2 c.asked_in.ensures c.in-None.is c.audit_alone.ensures
