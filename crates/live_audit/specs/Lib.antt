@@ -1,0 +1,4 @@
+pub mod AuditLines
+pub mod Backlogs
+pub mod RecordLaws
+pub mod Records

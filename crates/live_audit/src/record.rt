@@ -1,0 +1,85 @@
+//! A gate that keeps the lines of its requests in memory.
+ghost use Rattle.std.specs.Prelude.{◌≡◌, ◌++◌, [], Some, None, string_bytes, option_map, IfSome, IfOk};
+ghost use Rattle.live_audit.specs.AuditLines.{audit_line};
+ghost use Rattle.live_audit.specs.declared.record.RecordedAudits.{RecordedAudits};
+
+use crate::line::audited_line;
+use audit_core::Audit;
+use live_agent::{AnsweredRequest, Gate};
+use std::alloc::{AllocError, Global};
+use std::marker::Model;
+use std::sync::Wait;
+
+/// A gate that keeps the lines of its requests in memory, in order; seen as these lines, or nothing
+/// once there was no memory for one: from then on it keeps none.
+#[derive(Drop)]
+pub struct RecordedAudits {
+    alloc: Global,
+    lines: Option<String>,
+}
+
+impl Model for RecordedAudits {
+    ghost use Rattle.std.specs.Prelude.{ℕ, List, Option, option_map, string_bytes};
+
+    ghost Value = { Option (List ℕ) };
+
+    ghost view = { λ r. option_map string_bytes r.lines };
+}
+
+impl RecordedAudits {
+    /// No lines yet. Takes no memory.
+    pub fn new(alloc: Global) -> RecordedAudits
+        ensures { result ≡ Some [] }
+    {
+        RecordedAudits {
+            alloc,
+            lines: Some(String::new(alloc)),
+        }
+    }
+
+    /// The lines, or nothing where there was no memory for one.
+    pub fn lines(&self) -> Option<&str>
+        ensures { option_map (λ lines. lines.now) result ≡ self.now }
+    {
+        match &self.lines {
+            Some(lines) => Some(lines.as_str()),
+            None => None,
+        }
+    }
+}
+
+// Lines with that of a request behind them, if there is memory for it.
+fn with_line(
+    alloc: Global,
+    lines: String,
+    request: AnsweredRequest,
+    audit: &Audit,
+) -> Result<String, AllocError>
+    ensures { IfOk result (λ more. string_bytes more
+        ≡ string_bytes lines ++ audit_line request audit.now) }
+{
+    let mut lines = lines;
+    let line = audited_line(alloc, request, audit)?;
+    lines.push_str(&line)?;
+    Ok(lines)
+}
+
+impl Gate for RecordedAudits {
+    ghost use Rattle.live_audit.specs.Records.{GoesRecorded};
+    ghost use Rattle.live_audit.specs.RecordLaws.{starts, goes_on};
+
+    ghost went = { GoesRecorded };
+
+    ghost starts = { starts };
+
+    ghost goes_on = { goes_on };
+
+    fn before<R: Wait>(&mut self, _rt: &R, _worker: usize) {}
+
+    fn after<R: Wait>(&mut self, _rt: &R, _worker: usize, request: AnsweredRequest, audit: &Audit) {
+        self.lines = match self.lines.take() {
+            Some(lines) => with_line(self.alloc, lines, request, audit).ok(),
+            None => None,
+        };
+    }
+}
