@@ -1,4 +1,4 @@
-//! What a worker's interval came to, and what all came to, under a lock of its own.
+//! What a worker did in an interval, and what all workers did, under a lock of its own.
 ghost use Rattle.std.specs.Prelude.{◌≡◌, ◌+◌, ◌++◌, ◌∷◌, [], List};
 ghost use Rattle.live_agent.specs.Turns.{entered_in};
 ghost use Rattle.live_run.specs.Reports.{refused_in, count_up_to_max};
@@ -24,7 +24,7 @@ pub struct Drops {
     pub memory: u64,
 }
 
-/// What intervals of workers came to.
+/// What workers did in intervals.
 #[derive(Clone, Copy, Debug, PartialEq, Eq, Drop)]
 pub struct Worked {
     /// The requests that they entered.
@@ -69,7 +69,7 @@ fn dropped(item: &Item, cause: DropCause) -> u64
     }
 }
 
-// What one event or datagram that was refused comes to by cause.
+// The same by cause.
 fn drops_of(item: &Item) -> Drops
     ensures { result ≡ drops_in (item.now ∷ []) }
 {
@@ -95,7 +95,7 @@ impl Drops {
     }
 }
 
-// What one event, or one datagram that was refused, comes to.
+// The counts of one event, or of one datagram that was refused.
 fn worked_of(item: &Item) -> Worked
     ensures { result ≡ worked_in (item.now ∷ []) }
 {
@@ -145,7 +145,7 @@ impl Worked {
     }
 }
 
-/// What intervals of workers came to so far, for the watches of all lines.
+/// What workers did in intervals so far, for the watches of all lines.
 #[derive(Drop)]
 pub struct Book {
     worked: Mutex<Worked>,

@@ -17,7 +17,7 @@ use setphase_core::MibObject;
 use std::sync::Wait;
 use wire_core::{Pace, Wire};
 
-// One interval of a line: how it ended, and what it came to. A port's begins with its link until that
+// One interval of a line: how it ended, and its counts. A port's begins with its link until that
 // was entered.
 fn run_lap<O: MibObject, L: Run, A: GatedWire, W: Wire, T: PacedWire, R: Wait>(
     rt: &R,
@@ -111,7 +111,7 @@ fn goes_on<A, W, T, V: Watch, P: Pace>(watched: &mut Watched<A, W, T, V, P>, end
 
 /// A line goes on interval by interval until one ends it, or 2^64 - 1 are done. Each interval is
 /// reported once to its watch; so is each fault, behind which the line waits by its pace; and so is
-/// the end. Nothing is kept of an interval but what it came to.
+/// the end. Nothing is kept of an interval but its counts.
 pub fn go_on<O: MibObject, L: Run, A: GatedWire, W: Wire, T: PacedWire, V: Watch, P: Pace, R: Wait>(
     rt: &R,
     plan: &Plan,

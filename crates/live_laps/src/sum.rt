@@ -1,4 +1,4 @@
-//! What the items of an interval come to.
+//! The counts of the items of an interval.
 ghost use Rattle.std.specs.Prelude.{◌≡◌, Unit, [], List};
 ghost use Rattle.live_agent.specs.declared.trace.Item.{Item as AnyItem};
 ghost use Rattle.live_laps.specs.Laps.{is_first_entered};
@@ -8,10 +8,10 @@ use crate::book::Worked;
 use live_agent::{Item, Recorder};
 use std::alloc::AllocError;
 
-/// What the items of an interval come to, of which none is kept. It takes no memory.
+/// The counts of the items of an interval, of which none is kept. It takes no memory.
 #[derive(Clone, Copy, Debug, PartialEq, Eq, Drop)]
 pub struct IntervalSum {
-    /// What they come to.
+    /// How many there are of each kind.
     pub worked: Worked,
     /// Whether the first of them is an entry, once there is one.
     pub first_entered: Option<bool>,

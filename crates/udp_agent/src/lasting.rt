@@ -84,7 +84,7 @@ pub fn serve_lines_forever<
 ///
 /// # Errors
 /// That of the system where a socket could not be bound, or that there was no memory for what the
-/// lines share, before any line ran; no clause tells that.
+/// lines share, before any line ran; no clause says that.
 pub fn serve_forever<'r, O: MibObject + Send, R: Threads + Wait + Net + Clock + Log + Sync>(
     rt: &'r R,
     alloc: Global,

@@ -51,7 +51,7 @@ pub fn tell_not_begun<R: Log>(rt: &R, why: &io::Error) {
 pub struct Teller<'r, R> {
     /// By which it logs.
     pub rt: &'r R,
-    /// What the intervals of all workers came to.
+    /// What all workers did in intervals.
     pub book: &'r Book,
     /// What could not be sent.
     pub losses: &'r Losses,
