@@ -1,6 +1,7 @@
 -- The kinds of lines, by their turns: a worker answers requests, a port takes frames, and the ticker
 -- lets seconds pass.
 use Rattle.std.specs.Prelude.{◌≡◌, ◌⊎◌, ℕ, ℤ, ◌+◌, ◌≤◌, true, false, List, [], ◌∷◌, ◌++◌, Option, Some, None}
+use Rattle.audit_core.specs.declared.audit.Audit.{Audit}
 use Rattle.std.specs.declared.net.socket_addr.SocketAddr.{SocketAddr}
 use Rattle.frame_core.specs.Frames.{IsFrame, IsFault}
 use Rattle.frame_core.specs.declared.frame.FrameIn.{FrameIn}
@@ -95,16 +96,21 @@ abbrev pub answered_request : SocketAddr → ℤ → Receipt → AnsweredRequest
 answered_request peer request_id receipt =
     record { number = receipt.number; peer = peer; request_id = request_id }
 
--- Behind a request that made an entry the gate is visited, with the entry's number, who asked and the
--- entry's audit: also behind one that was dropped.
-abbrev pub visits_behind : ℕ → SocketAddr → ℤ → Applied → List Deed
-visits_behind worker peer request_id (Done receipt (Some audit)) =
-    visited (after worker (answered_request peer request_id receipt) audit) ∷ []
-visits_behind worker peer request_id (Done receipt None) = []
-visits_behind worker peer request_id (Dropped receipt cause audit) =
-    visited (after worker (answered_request peer request_id receipt) audit) ∷ []
-visits_behind worker peer request_id (Short back) = []
-visits_behind worker peer request_id (HistoryFull back) = []
+-- the receipt and the audit of the entry that a request made, if it made one: also of one that was
+-- dropped
+abbrev pub audited_of : Applied → Option (Receipt × Audit)
+audited_of (Done receipt (Some audit)) = Some (receipt, audit)
+audited_of (Done receipt None) = None
+audited_of (Dropped receipt cause audit) = Some (receipt, audit)
+audited_of (Short back) = None
+audited_of (HistoryFull back) = None
+
+-- Behind a request that made an entry the gate is visited, with the entry's number, who asked, the
+-- request-id and the entry's audit.
+abbrev pub visits_behind : ℕ → SocketAddr → ℤ → Option (Receipt × Audit) → List Deed
+visits_behind worker peer request_id (Some entry) =
+    visited (after worker (answered_request peer request_id entry.0) entry.1) ∷ []
+visits_behind worker peer request_id None = []
 
 -- What a turn of the worker of this number does, in order: where a request happens, the datagram
 -- comes, the gate is visited by that number, what it gives is sent, and where it made an entry the
@@ -112,7 +118,7 @@ visits_behind worker peer request_id (HistoryFull back) = []
 abbrev pub worker_deeds : ℕ → Turn → List Deed
 worker_deeds worker (was_taken a h) =
     acted (arrival_act a) ∷ visited (before worker)
-    ∷ (all_acted h.acts ++ visits_behind worker a.peer (request_id_of h.event) h.applied)
+    ∷ (all_acted h.acts ++ visits_behind worker a.peer (request_id_of h.event) (audited_of h.applied))
 worker_deeds worker turn = all_acted (acts_of turn)
 
 -- Between two states of its wire, and of what records its items, a worker of this number has run so

@@ -1,10 +1,11 @@
 //! A worker: it receives requests, has them happen, and replies.
 ghost use Rattle.std.specs.Prelude.{◌≡◌, ◌+◌, ◌<◌, ◌++◌, ◌∷◌, []};
+ghost use Rattle.std.specs.Option.{option_map};
 ghost use Rattle.message_core.specs.Encodable.{AreEncodable};
 ghost use Rattle.message_core.specs.Message.{IsRequest};
 ghost use Rattle.history_core.specs.declared.event.Event.TheVariants as event;
 ghost use Rattle.wire_core.specs.Acts.{got};
-ghost use Rattle.live_agent.specs.Lines.{setting_of, IsWorkerTurn, Happens, HasWorked, request_room, answered_request, worker_deeds, visits_behind};
+ghost use Rattle.live_agent.specs.Lines.{setting_of, IsWorkerTurn, Happens, HasWorked, request_room, audited_of, worker_deeds, visits_behind};
 ghost use Rattle.live_agent.specs.Runs.{HasTurned, failures_at, failures_by};
 ghost use Rattle.live_agent.specs.Turns.{entered_in};
 
@@ -14,6 +15,7 @@ use crate::outgoing::send_answer;
 use crate::plan::Plan;
 use crate::recorder::Recorder;
 use crate::trace::{End, Item, Refusal};
+use audit_core::Audit;
 use history_core::{Applied, Receipt};
 use live_lock::{Live, Run, Share};
 use message_core::{MAX_REQUEST, Request, decode};
@@ -133,40 +135,41 @@ fn take_datagram<O: MibObject, L: Run, W: GatedWire, K: Recorder, R: Wait>(
     wire.before(rt, worker);
     let applied = live.request(rt, plan.alloc, share, request, &mut state.buffer);
     let sent = send_answer(wire, plan, peer, &state.buffer);
-    visit_behind(rt, wire, worker, peer, request_id, &applied);
+    visit_behind(rt, wire, worker, peer, request_id, audited_of(&applied));
     noted(&mut state.recorder, applied, sent)
 }
 
-// Visits the gate behind a request that made an entry, with the entry's audit.
+// The receipt and the audit of the entry that a request made, if it made one.
+fn audited_of(applied: &Applied) -> Option<(&Receipt, &Audit)>
+    ensures { option_map (λ entry. (entry.0.now, entry.1.now)) result ≡ audited_of applied.now }
+{
+    match applied {
+        Applied::Done(receipt, Some(audit)) => Some((receipt, audit)),
+        Applied::Dropped(receipt, _, audit) => Some((receipt, audit)),
+        Applied::Done(_, None) | Applied::Short(_) | Applied::HistoryFull(_) => None,
+    }
+}
+
+// Visits the gate behind a request, with the entry that it made, if it made one.
 fn visit_behind<W: GatedWire, R: Wait>(
     rt: &R,
     wire: &mut W,
     worker: usize,
     peer: SocketAddr,
     request_id: i32,
-    applied: &Applied,
+    entry: Option<(&Receipt, &Audit)>,
 )
-    ensures did { W.did wire.old (visits_behind worker peer request_id applied.now) wire.new }
+    ensures did { W.did wire.old (visits_behind worker peer request_id
+        (option_map (λ entry. (entry.0.now, entry.1.now)) entry)) wire.new }
     ensures kept { W.failures wire.new ≡ W.failures wire.old }
 {
-    match applied {
-        Applied::Done(receipt, Some(audit)) => {
-            wire.after(rt, worker, answered_request(peer, request_id, receipt), audit)
-        }
-        Applied::Dropped(receipt, _, audit) => {
-            wire.after(rt, worker, answered_request(peer, request_id, receipt), audit)
-        }
-        Applied::Done(_, None) | Applied::Short(_) | Applied::HistoryFull(_) => {}
-    }
-}
-
-// A request from this peer, of this request-id, made the entry of this receipt.
-fn answered_request(peer: SocketAddr, request_id: i32, receipt: &Receipt) -> AnsweredRequest
-    ensures { result ≡ answered_request peer request_id receipt.now }
-{
-    AnsweredRequest {
-        number: receipt.number,
-        peer,
-        request_id,
+    if let Some((receipt, audit)) = entry {
+        let number = receipt.number;
+        let request = AnsweredRequest {
+            number,
+            peer,
+            request_id,
+        };
+        wire.after(rt, worker, request, audit);
     }
 }
