@@ -1,4 +1,4 @@
-//! Tells whether octets are a configuration, and whether it can be served.
+//! Reports whether octets are a configuration, and whether it can be served.
 ghost use Rattle.std.specs.Prelude.{◌≡◌, IfOk, string_bytes};
 ghost use Rattle.agent_program.specs.Telling.{ok_text, fault_text, IsFaultTold, IsChecked, IsFileChecked};
 ghost use Rattle.agent_program.specs.Files.{read_view};
@@ -51,7 +51,7 @@ fn tell_fault<'a, O: Write>(alloc: Global, fault: ConfigurationFault, writer: &m
     }
 }
 
-/// Tells whether octets are a configuration: `configuration ok for script`, with whether it can be
+/// Reports whether octets are a configuration: `configuration ok for script`, with whether it can be
 /// served, or why not, or its first fault in one sentence.
 ///
 /// # Errors
@@ -74,7 +74,7 @@ pub fn check_octets<'a, O: Write>(
     }
 }
 
-/// Tells whether what was read of a file is a configuration, as [`check_octets`] does; where there
+/// Reports whether what was read of a file is a configuration, as [`check_octets`] does; where there
 /// was no memory for its octets, that sentence.
 ///
 /// # Errors

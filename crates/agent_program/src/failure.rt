@@ -132,7 +132,7 @@ fn write_line<E: Write>(failure: &Failure<'_>, errors: &mut E) -> Result<(), Not
     write_front(errors, b"\n")
 }
 
-/// How a run of the program ended, as it is told.
+/// How a run of the program ended, as it is reported.
 #[derive(Clone, Copy, Debug, PartialEq, Eq)]
 pub struct Ended {
     /// The exit status, 0 to 2.

@@ -9,7 +9,7 @@
 //! the octets of a file or [`NotRead`], [`SystemFiles`] those of the system. [`run_octets`] runs the
 //! script over objects by the octets of a configuration, and refuses octets that say none, or objects
 //! that make no registry, before it reads or writes; [`NotRun`] says why there was no run to the end.
-//! [`check_octets`] tells whether octets are one, [`check_read`] whether what was read of a file is.
+//! [`check_octets`] reports whether octets are one, [`check_read`] whether what was read of a file is.
 //! [`open_service`] gives what octets say is to be served, [`serve_opened`] serves it for its rounds,
 //! and [`serve_opened_forever`] without an end. [`collect_words`] has the words of a command line as
 //! a list. [`report`] writes the line of a [`Failure`], or a front of it, which is [`NotTaken`] whole.
@@ -18,15 +18,15 @@
 //! `specs/Files.antt`: what a read of a file gave; `specs/Agents.antt`: the world that a
 //! configuration opens; `specs/Runs.antt`: what a run by octets promises; `specs/Services.antt`: what
 //! they give to be served; `specs/Endings.antt`: statuses, and the line of each failure;
-//! `specs/Telling.antt`: what a check tells; `specs/Programs.antt`: what the program does for what is
+//! `specs/Telling.antt`: what a check reports; `specs/Programs.antt`: what the program does for what is
 //! asked. What words ask for stands in `agent_words`.
 //!
 //! # Laws
 //! None.
 //!
 //! # Not claimed
-//! That a read or a write failed where a run is told to have ended so, or where the line of a failure
-//! is told to be cut off. That memory was refused where the answer is for want of it. Whether sockets
+//! That a read or a write failed where a run is reported to have ended so, or where the line of a failure
+//! is reported to be cut off. That memory was refused where the answer is for want of it. Whether sockets
 //! can be bound. What a file of the system holds. That the caller serves what is left to be served.
 #![tactic(auto)]
 

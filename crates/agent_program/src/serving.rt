@@ -9,6 +9,7 @@ ghost use Rattle.agent_program.specs.Services.{IsOpened, IsNotSetUp, IsServiceBy
 use crate::opening::{NotRun, open_bridge, read_configuration, registry_of, undropped};
 use history_core::Kept;
 use live_agent::{End, GatedWire, PacedWire};
+use live_audit::Auditing;
 use live_laps::Watch;
 use live_run::Report;
 use log::Log;
@@ -111,7 +112,8 @@ pub fn serve_opened<'r, M: MibObject + Send, R: Threads + Wait + Net + Clock + S
 
 /// The same without an end, by an agent of this version: each line begins its rounds anew when they
 /// are done, and a second after its socket failed or there was no memory, until no number is left for
-/// an entry. It is logged what is served, and how the lines go on.
+/// an entry. It is logged what is served, and how the lines go on. Each worker has such a gate, by
+/// which its requests are audited or not.
 ///
 /// # Errors
 /// As of [`udp_agent::serve_forever`]; also that there was no memory for the history.
@@ -121,14 +123,16 @@ pub fn serve_opened_forever<'r, M: MibObject + Send, R: Threads + Wait + Net + C
     version: &str,
     registry: Registry<M>,
     opened: Opened,
+    audits: &Auditing<'r>,
 ) -> io::Result<Vec<End>>
     ensures { IsServedForever
-        ⟦<LastingWorker<&'r R> as GatedWire>⟧.did ⟦<LastingWorker<&'r R> as Wire>⟧.failures
+        ⟦<LastingWorker<'r, &'r R> as GatedWire>⟧.did
+        ⟦<LastingWorker<'r, &'r R> as Wire>⟧.failures
         ⟦<LastingWire<&'r R> as Wire>⟧.went ⟦<LastingWire<&'r R> as Wire>⟧.failures
         ⟦<LastingTicker<&'r R> as PacedWire>⟧.did ⟦<LastingTicker<&'r R> as Wire>⟧.failures
         ⟦<Teller<'r, R> as Watch>⟧.went ⟦<SecondPace<&'r R> as Pace>⟧.went
         opened.setup (fresh registry opened.world 0) result }
 {
     let kept = begin(alloc, registry, opened.world)?;
-    udp_agent::serve_forever(rt, alloc, version, &opened.setup, kept)
+    udp_agent::serve_forever(rt, alloc, version, &opened.setup, kept, audits)
 }

@@ -25,6 +25,7 @@ use agent_program::{
 };
 use agent_words::{Asked, Lasting, VERSION, asks_to_serve, read_words};
 use bridge_mib::{Planned, PortEnable, Steady};
+use live_audit::{AuditBacklog, Auditing, QueuedAudits, audit_queue, write_audits};
 use log::Log;
 use object_list::{COLUMNS, ColumnDescriptor, ENABLE, PlainObject};
 use setphase_core::{MibObject, Registry};
@@ -32,7 +33,7 @@ use std::alloc::Global;
 use std::net::Net;
 use std::process::ExitCode;
 use std::sync::Wait;
-use std::thread::Threads;
+use std::thread::{Threads, join};
 use std::time::Clock;
 use std::{env, io};
 use udp_agent::{any_failed, tell_fault, tell_not_begun, tell_report};
@@ -100,7 +101,7 @@ where
     F: ReadFile,
     M: MibObject + Send,
     I: io::Read,
-    O: io::Write,
+    O: io::Write + Send,
     E: io::Write,
     R: Threads + Wait + Net + Clock + Log + Sync,
 {
@@ -110,7 +111,10 @@ where
     };
     let done = match lasting {
         Lasting::Rounds => serve_rounds(rt, alloc, registry, opened),
-        Lasting::Forever => serve_forever(rt, alloc, registry, opened),
+        Lasting::Forever { audit: false } => {
+            serve_forever(rt, alloc, registry, opened, &Auditing::Off)
+        }
+        Lasting::Forever { audit: true } => serve_audited(rt, alloc, registry, opened, writer),
     };
     match done {
         Ok(()) => ExitCode::SUCCESS,
@@ -137,15 +141,42 @@ fn serve_rounds<M: MibObject + Send, R: Threads + Wait + Net + Clock + Log + Syn
     }
 }
 
-// Serves without an end, and logs how the lines go on, or why nothing was served. It has failed where
-// nothing was, or where all lines have ended and one of them failed.
-fn serve_forever<M: MibObject + Send, R: Threads + Wait + Net + Clock + Log + Sync>(
+// The same as `serve_forever`, where the audit of each request is written, by a thread of its own.
+fn serve_audited<M, O, R>(
     rt: &R,
     alloc: Global,
     registry: Registry<M>,
     opened: Opened,
+    writer: &mut O,
+) -> Result<(), Failure<'static>>
+where
+    M: MibObject + Send,
+    O: io::Write + Send,
+    R: Threads + Wait + Net + Clock + Log + Sync,
+{
+    let Ok((offered, lines)) = audit_queue(alloc) else {
+        return Err(Failure::Run);
+    };
+    let backlog = AuditBacklog::new();
+    let audits = Auditing::On(QueuedAudits::new(alloc, offered, &backlog));
+    let (served, ()) = join(
+        rt,
+        move || serve_forever(rt, alloc, registry, opened, &audits),
+        || write_audits(rt, alloc, &lines, writer, &backlog),
+    );
+    served
+}
+
+// Serves without an end, and logs how the lines go on, or why nothing was served. It has failed where
+// nothing was, or where all lines have ended and one of them failed.
+fn serve_forever<'r, M: MibObject + Send, R: Threads + Wait + Net + Clock + Log + Sync>(
+    rt: &'r R,
+    alloc: Global,
+    registry: Registry<M>,
+    opened: Opened,
+    audits: &Auditing<'r>,
 ) -> Result<(), Failure<'static>> {
-    match serve_opened_forever(rt, alloc, VERSION, registry, opened) {
+    match serve_opened_forever(rt, alloc, VERSION, registry, opened, audits) {
         Ok(ends) if any_failed(ends.as_slice()) => Err(Failure::Run),
         Ok(_) => Ok(()),
         Err(why) => {

@@ -7,8 +7,8 @@ use std::alloc::{AllocError, Global};
 use std::marker::Model;
 use std::mem::swap;
 
-/// Entries, with room for [`MAX_ENTRIES`]. Once they are cleared they lie aside, and each new one
-/// lets one of them go: so no event has to let go all of them, under a lock. No clause tells when one
+/// Entries, with memory for [`MAX_ENTRIES`]. Once they are cleared they lie aside, and each new one
+/// drops one of them: so no event has to drop all of them, under a lock. No clause says when one
 /// is let go.
 pub struct Entries {
     kept: Vec<Entry>,
@@ -39,7 +39,7 @@ impl Model for Entries {
 }
 
 impl Entries {
-    /// No entries, and room for [`MAX_ENTRIES`] twice. Only memory can fail.
+    /// No entries, and memory for [`MAX_ENTRIES`] twice. Only memory can fail.
     pub fn reserved(alloc: Global) -> Result<Entries, AllocError>
         ensures { IfOk result (λ entries. entries ≡ []) }
     {

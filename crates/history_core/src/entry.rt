@@ -13,7 +13,7 @@ pub struct Entry {
     /// Whether there was no memory for the learned row of a frame's source.
     pub no_room: bool,
     /// The number of the variable whose commit failed in a Set, where a device failed (RFC 3416,
-    /// 4.2.5). Which settings could not be put back, the audit says.
+    /// 4.2.5). Which settings could not be restored, the audit says.
     pub failed: Option<usize>,
     /// The ports by which a frame went out.
     pub egress: Egress,

@@ -33,7 +33,7 @@ pub enum Event {
     Request(Request),
 }
 
-/// What a receipt tells of its event: all of it, but of a policy that it was one.
+/// What a receipt reports of its event: all of it, but of a policy that it was one.
 #[derive(Drop)]
 pub enum ReceiptEvent {
     /// A frame came in by a port.
@@ -59,7 +59,7 @@ pub enum ReceiptEvent {
 }
 
 impl Event {
-    /// What a receipt tells of this event. Takes memory only for a request with a community of more
+    /// What a receipt reports of this event. Takes memory only for a request with a community of more
     /// than `INLINE_OCTETS` octets or with variable bindings.
     pub fn told(&self, alloc: Global) -> Result<ReceiptEvent, AllocError>
         ensures value { IfOk result (λ told. told ≡ told_of self.now) }
@@ -80,7 +80,7 @@ impl Event {
         })
     }
 
-    /// Whether a receipt with this would tell of this event. Takes no memory.
+    /// Whether a receipt with this reports this event. Takes no memory.
     pub fn is_told_by(&self, told: &ReceiptEvent) -> bool
         ensures { IsTrue result ↔ (told_of self.now ≡ told.now) }
     {

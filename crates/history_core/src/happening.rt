@@ -18,7 +18,7 @@ use message_core::{Kind, MAX_REPLY, Octets, Request, Room};
 use setphase_core::{MibObject, Registry, World};
 use std::alloc::{AllocError, Global};
 
-/// What an event came to, beside what stands in the buffer.
+/// What became of an event, beside what stands in the buffer.
 #[derive(Drop)]
 pub struct Happened {
     /// Whether there was no memory for the learned row of a frame's source.
@@ -37,7 +37,7 @@ pub struct Happened {
     pub told_audit: Option<Audit>,
 }
 
-/// What an event came to that is no frame and no request.
+/// What became of an event that is no frame and no request.
 pub fn quiet() -> Happened
     ensures { result ≡ quiet }
 {
@@ -258,7 +258,7 @@ fn answer_request<O: MibObject>(
     come_to(alloc, answered, replies, told, happened)
 }
 
-/// An event happens. What it came to is put into a place that is lent for it, and quiet, so that it
+/// An event happens. What becomes of it is put into a place that is lent for it, and quiet, so that it
 /// is not moved about. A request and a policy may find no memory, and then nothing else has changed.
 pub fn happen<O: MibObject>(
     alloc: Global,

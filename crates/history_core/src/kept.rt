@@ -89,7 +89,7 @@ impl<O: MibObject> Kept<O> {
     ///
     /// # Errors
     ///
-    /// `AllocError` where there is no memory for a flat copy of the world, or for the room of
+    /// `AllocError` where there is no memory for a flat copy of the world, or for that of
     /// [`MAX_ENTRIES`] entries, twice; the objects and the world come back.
     pub fn new(
         alloc: Global,
@@ -223,7 +223,7 @@ impl<O: MibObject> Kept<O> {
     /// kept, the base moves to the present world first.
     ///
     /// The caller hands in requests whose names and OBJECT IDENTIFIER values have an encoding, as
-    /// `decode` gives them. Nothing is entered where no number is left, at which is looked first, and
+    /// `decode` gives them. Nothing is entered where no number is left, which is tested first, and
     /// where memory was wanting, of a policy, a request or the copy of the world that is to be the
     /// base: then all is as before, the event comes back, and the buffer holds nothing but what
     /// answers a request that is not dropped and found no memory.

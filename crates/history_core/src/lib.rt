@@ -4,21 +4,21 @@
 //! [`Kept`]: a world, the objects that show it, and what is kept of its history, by `new`, or by
 //! `resume` from a number on; `apply` has one event happen and enters it, as does
 //! `apply_duplicated`, whose caller made the [`Duplicate`] before: what stands for the event a second
-//! time. `compare` looks whether receipts agree with what is kept, and `entries`, `base`, `world` and
+//! time. `compare` says whether receipts agree with what is kept, and `entries`, `base`, `world` and
 //! the two numbers show it. [`Event`]: what happens; [`Applied`]: what became of it. [`Entry`]: what
 //! is kept of one event. [`KeptEvent`]: the event as its entry keeps it, a request with variable
-//! bindings as its shortest encoding, if that has at most `MAX_REQUEST` octets. [`Receipt`]: what its
-//! caller is told of it, with `try_copy`, and `same`, which takes no memory. [`compare`] says
+//! bindings as its shortest encoding, if that has at most `MAX_REQUEST` octets. [`Receipt`]: what is
+//! reported to its caller, with `try_copy`, and `same`, which takes no memory. [`compare`] says
 //! whether receipts agree with any entries, or names the first that does not. A [`Tally`] says how
 //! many agree and how many are older, a [`Mismatch`] which does not. [`Egress`] has the ports by
-//! which a frame goes out; [`ReceiptEvent`] is what a receipt tells of its event. At most
+//! which a frame goes out; [`ReceiptEvent`] is what a receipt reports of its event. At most
 //! [`MAX_ENTRIES`] entries are kept.
 //!
 //! # Definitions
 //! `specs/Steps.antt`: what an event makes of a world and its objects, and what comes out;
 //! `specs/History.antt`: what is kept, when it is legal, and what an event adds;
 //! `specs/Encoded.antt`: which requests are kept encoded, and which request octets encode;
-//! `specs/Receipts.antt`: what a receipt tells of an event, when it takes memory, and when it
+//! `specs/Receipts.antt`: what a receipt reports of an event, when it takes memory, and when it
 //! stands; `specs/Comparing.antt`: when receipts agree with what is kept. `specs/Happening.antt`,
 //! `specs/Keeping.antt` and `specs/Forms.antt` speak of parts inside the crate.
 //!
@@ -28,13 +28,13 @@
 //! the same make the same entries.
 //!
 //! The base moves only where [`MAX_ENTRIES`] are kept, to the world before the event. A request
-//! that is entered is told to be dropped exactly where its policy drops it. Where memory was
+//! that is entered is reported as dropped exactly where its policy drops it. Where memory was
 //! wanting any other request is answered by genErr, or by tooBig where that is too long; where no
 //! number is left there is no reply.
 //!
 //! # Not claimed
-//! That memory was refused where want of it is told, or that there is some; of objects whose devices
-//! take no plans, which calls of a Set failed, and so which variable is told as failed.
+//! That memory was refused where want of it is reported, or that there is some; of objects whose devices
+//! take no plans, which calls of a Set failed, and so which variable is reported as failed.
 #![tactic(auto)]
 
 mod applied;

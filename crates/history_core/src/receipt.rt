@@ -1,4 +1,4 @@
-//! What the caller of an event is told of it.
+//! What is reported of an event to its caller.
 ghost use Rattle.std.specs.Prelude.{◌≡◌, ◌↔◌, ◌<◌, ◌⊎◌, length, IsTrue, IfOk, IfSome, OnErr};
 ghost use Rattle.history_core.specs.Receipts.{TakesMemory, IsLong};
 
@@ -7,7 +7,7 @@ use crate::event::ReceiptEvent;
 use message_core::Octets;
 use std::alloc::{AllocError, Global};
 
-/// What the caller of an event is told of it.
+/// What is reported of an event to its caller.
 #[derive(Drop)]
 pub struct Receipt {
     /// The number of its entry.

@@ -1,4 +1,5 @@
 pub mod Failing
+pub mod Recording
 pub mod Running
 pub mod Ticking
 pub mod Turning

@@ -89,18 +89,18 @@ All-snoc P xs x all one = All-append P xs (x ∷ []) all (All-cons P x [] one (�
 -- ---- a line so far
 
 -- So many turns of a line, after all of which it goes on.
-pub record Goes {W D : Type 0} (went : W → List D → W → Type 0) (does : Turn → List D) (is_turn : Turn → Type 0) (count : ℕ) (a b : W) (items later_items : List Item) (amount later_amount : ℕ) : Type 0 where
+pub record Goes {W D K : Type 0} (went : W → List D → W → Type 0) (kept : K → List Item → K → Type 0) (does : Turn → List D) (is_turn : Turn → Type 0) (count : ℕ) (a b : W) (k l : K) (amount later_amount : ℕ) : Type 0 where
   pub turns : List Turn
   pub are : All is_turn turns
   pub behind : AreBehind amount turns
   pub on : All GoesOn turns
   pub count_is : length turns ≡ count
   pub acts : went a (all_of does turns) b
-  pub items_are : later_items ≡ items ++ all_items turns
+  pub recorded : kept k (all_items turns) l
   pub amount_is : later_amount ≡ amount + entered_in (all_items turns)
 
-abbrev pub goes_none : {W D : Type 0} (went : W → List D → W → Type 0) → ((a : W) → went a [] a) → (does : Turn → List D) (is_turn : Turn → Type 0) (a : W) (items later : List Item) (amount : ℕ) → later ≡ items → Goes went does is_turn 0 a a items later amount amount
-goes_none went starts does is_turn a items later amount same =
+abbrev pub goes_none : {W D K : Type 0} (went : W → List D → W → Type 0) → ((a : W) → went a [] a) → (kept : K → List Item → K → Type 0) → ((k : K) → kept k [] k) → (does : Turn → List D) (is_turn : Turn → Type 0) (a : W) (k : K) (amount : ℕ) → Goes went kept does is_turn 0 a a k k amount amount
+goes_none went starts kept keeps does is_turn a k amount =
     record {
       turns = [];
       are = λ k d h. absurd (omega arith);
@@ -108,25 +108,32 @@ goes_none went starts does is_turn a items later amount same =
       on = λ k d h. absurd (omega arith);
       count_is = refl;
       acts = starts a;
-      items_are = same ∙ sym (append-nil items);
+      recorded = keeps k;
       amount_is = omega arith;
     }
 
-pub items_more : (items some lent later : List Item) (ts : List Turn) (t : Turn) → some ≡ items ++ all_items ts → lent ≡ some → later ≡ lent ++ items_of t → later ≡ items ++ all_items (ts ++ t ∷ [])
-items_more items some lent later ts t first same next =
-    next ∙ ap (λ (l : List Item). l ++ items_of t) (same ∙ first) ∙ append_assoc items (all_items ts) (items_of t) ∙ ap (λ (l : List Item). items ++ l) (sym (all_items-snoc ts t))
+-- what was recorded of turns, of memory made for the next item, and of one turn more
+pub recorded_more : {K : Type 0} (kept : K → List Item → K → Type 0) → ((a b c : K) (xs ys : List Item) → kept a xs b → kept b ys c → kept a (xs ++ ys) c) → (k l lent m : K) (ts : List Turn) (t : Turn) → kept k (all_items ts) l → kept l [] lent → kept lent (items_of t) m → kept k (all_items (ts ++ t ∷ [])) m
+recorded_more kept keeps_on k l lent m ts t first same next =
+    subst (λ (items : List Item). kept k items m) (sym (all_items-snoc ts t)) (keeps_on k l m (all_items ts) (items_of t) first (keeps_on l lent m [] (items_of t) same next))
+
+pub recorded_on : {K : Type 0} (kept : K → List Item → K → Type 0) → ((a b c : K) (xs ys : List Item) → kept a xs b → kept b ys c → kept a (xs ++ ys) c) → (k l lent : K) (items : List Item) → kept k items l → kept l [] lent → kept k items lent
+recorded_on kept keeps_on k l lent items first same =
+    subst (λ (xs : List Item). kept k xs lent) (append-nil items) (keeps_on k l lent items [] first same)
 
 pub amount_more : (amount some later : ℕ) (ts : List Turn) (t : Turn) → some ≡ amount + entered_in (all_items ts) → later ≡ some + entered_in (items_of t) → later ≡ amount + entered_in (all_items (ts ++ t ∷ []))
 amount_more amount some later ts t first next =
     omega (arith, first, next, ap entered_in (all_items-snoc ts t), entered_in-append (all_items ts) (items_of t))
 
 -- one turn more, after which it goes on
-abbrev pub goes_more : {W D : Type 0} (went : W → List D → W → Type 0)
+abbrev pub goes_more : {W D K : Type 0} (went : W → List D → W → Type 0)
     → ((a b c : W) (xs ys : List D) → went a xs b → went b ys c → went a (xs ++ ys) c)
-    → (does : Turn → List D) (is_turn : Turn → Type 0) (count : ℕ) (a b c : W) (items some lent later : List Item) (amount some_amount later_amount : ℕ)
-    → Goes went does is_turn count a b items some amount some_amount → lent ≡ some → HasTurned went does is_turn b c lent later some_amount later_amount None
-    → Goes went does is_turn (count + 1) a c items later amount later_amount
-goes_more went goes_on does is_turn count a b c items some lent later amount some_amount later_amount g same t =
+    → (kept : K → List Item → K → Type 0)
+    → ((a b c : K) (xs ys : List Item) → kept a xs b → kept b ys c → kept a (xs ++ ys) c)
+    → (does : Turn → List D) (is_turn : Turn → Type 0) (count : ℕ) (a b c : W) (k l lent m : K) (amount some_amount later_amount : ℕ)
+    → Goes went kept does is_turn count a b k l amount some_amount → kept l [] lent → HasTurned went kept does is_turn b c lent m some_amount later_amount None
+    → Goes went kept does is_turn (count + 1) a c k m amount later_amount
+goes_more went goes_on kept keeps_on does is_turn count a b c k l lent m amount some_amount later_amount g same t =
     record {
       turns = g.turns ++ t.turn ∷ [];
       are = All-snoc is_turn g.turns t.turn g.are t.is;
@@ -134,54 +141,57 @@ goes_more went goes_on does is_turn count a b c items some lent later amount som
       on = All-snoc GoesOn g.turns t.turn g.on (sym t.ends_so);
       count_is = omega (arith, length-append g.turns (t.turn ∷ []), g.count_is);
       acts = subst (λ l. went a l c) (sym (all_of-snoc does g.turns t.turn)) (goes_on a b c (all_of does g.turns) (does t.turn) g.acts t.acts);
-      items_are = items_more items some lent later g.turns t.turn g.items_are same t.items_are;
+      recorded = recorded_more kept keeps_on k l lent m g.turns t.turn g.recorded same t.recorded;
       amount_is = amount_more amount some_amount later_amount g.turns t.turn g.amount_is t.amount_is;
     }
 
 -- one turn more, which ends it
-abbrev pub goes_stops : {W D : Type 0} (went : W → List D → W → Type 0)
+abbrev pub goes_stops : {W D K : Type 0} (went : W → List D → W → Type 0)
     → ((a b c : W) (xs ys : List D) → went a xs b → went b ys c → went a (xs ++ ys) c)
-    → (does : Turn → List D) (is_turn : Turn → Type 0) (rounds count : ℕ) (a b c : W) (items some lent later trace : List Item) (amount some_amount later_amount : ℕ) (how ending : End)
-    → Goes went does is_turn count a b items some amount some_amount → lent ≡ some → HasTurned went does is_turn b c lent later some_amount later_amount (Some how) → count < rounds
-    → trace ≡ later → ending ≡ how
-    → HasRun went does is_turn rounds a c items trace amount later_amount ending
-goes_stops went goes_on does is_turn rounds count a b c items some lent later trace amount some_amount later_amount how ending g same t less left so =
+    → (kept : K → List Item → K → Type 0)
+    → ((a b c : K) (xs ys : List Item) → kept a xs b → kept b ys c → kept a (xs ++ ys) c)
+    → (does : Turn → List D) (is_turn : Turn → Type 0) (rounds count : ℕ) (a b c : W) (k l lent m : K) (amount some_amount later_amount : ℕ) (how : End)
+    → Goes went kept does is_turn count a b k l amount some_amount → kept l [] lent → HasTurned went kept does is_turn b c lent m some_amount later_amount (Some how) → count < rounds
+    → HasRun went kept does is_turn rounds a c k m amount later_amount how
+goes_stops went goes_on kept keeps_on does is_turn rounds count a b c k l lent m amount some_amount later_amount how g same t less =
     record {
       turns = g.turns ++ t.turn ∷ [];
       are = All-snoc is_turn g.turns t.turn g.are t.is;
       behind = AreBehind-snoc amount g.turns t.turn g.behind (subst (λ (n : ℕ). IsBehind n t.turn) g.amount_is t.behind);
       acts = subst (λ l. went a l c) (sym (all_of-snoc does g.turns t.turn)) (goes_on a b c (all_of does g.turns) (does t.turn) g.acts t.acts);
-      items_are = left ∙ items_more items some lent later g.turns t.turn g.items_are same t.items_are;
+      recorded = recorded_more kept keeps_on k l lent m g.turns t.turn g.recorded same t.recorded;
       amount_is = amount_more amount some_amount later_amount g.turns t.turn g.amount_is t.amount_is;
-      ends = subst (λ (e : End). EndsBy rounds (g.turns ++ t.turn ∷ []) e) (sym so) (stops rounds g.turns t.turn how g.on (sym t.ends_so) (omega (arith, g.count_is)));
+      ends = stops rounds g.turns t.turn how g.on (sym t.ends_so) (omega (arith, g.count_is));
     }
 
 -- its rounds are over
-abbrev pub goes_round : {W D : Type 0} (went : W → List D → W → Type 0) (does : Turn → List D) (is_turn : Turn → Type 0) (rounds count : ℕ) (a b : W) (items later trace : List Item) (amount later_amount : ℕ) (ending : End)
-    → Goes went does is_turn count a b items later amount later_amount → count ≡ rounds → trace ≡ later → ending ≡ end.Rounds
-    → HasRun went does is_turn rounds a b items trace amount later_amount ending
-goes_round went does is_turn rounds count a b items later trace amount later_amount ending g over left so =
+abbrev pub goes_round : {W D K : Type 0} (went : W → List D → W → Type 0) (kept : K → List Item → K → Type 0) (does : Turn → List D) (is_turn : Turn → Type 0) (rounds count : ℕ) (a b : W) (k l : K) (amount later_amount : ℕ)
+    → Goes went kept does is_turn count a b k l amount later_amount → count ≡ rounds
+    → HasRun went kept does is_turn rounds a b k l amount later_amount end.Rounds
+goes_round went kept does is_turn rounds count a b k l amount later_amount g over =
     record {
       turns = g.turns;
       are = g.are;
       behind = g.behind;
       acts = g.acts;
-      items_are = left ∙ g.items_are;
+      recorded = g.recorded;
       amount_is = g.amount_is;
-      ends = subst (λ (e : End). EndsBy rounds g.turns e) (sym so) (g.on, g.count_is ∙ over);
+      ends = (g.on, g.count_is ∙ over);
     }
 
--- there was no memory for its trace
-abbrev pub goes_short : {W D : Type 0} (went : W → List D → W → Type 0) (does : Turn → List D) (is_turn : Turn → Type 0) (rounds count : ℕ) (a b : W) (items some lent trace : List Item) (amount later_amount : ℕ) (ending : End)
-    → Goes went does is_turn count a b items some amount later_amount → lent ≡ some → count < rounds → trace ≡ lent → ending ≡ end.Memory
-    → HasRun went does is_turn rounds a b items trace amount later_amount ending
-goes_short went does is_turn rounds count a b items some lent trace amount later_amount ending g same less left so =
+-- there was no memory for the next item
+abbrev pub goes_short : {W D K : Type 0} (went : W → List D → W → Type 0) (kept : K → List Item → K → Type 0)
+    → ((a b c : K) (xs ys : List Item) → kept a xs b → kept b ys c → kept a (xs ++ ys) c)
+    → (does : Turn → List D) (is_turn : Turn → Type 0) (rounds count : ℕ) (a b : W) (k l lent : K) (amount later_amount : ℕ)
+    → Goes went kept does is_turn count a b k l amount later_amount → kept l [] lent → count < rounds
+    → HasRun went kept does is_turn rounds a b k lent amount later_amount end.Memory
+goes_short went kept keeps_on does is_turn rounds count a b k l lent amount later_amount g same less =
     record {
       turns = g.turns;
       are = g.are;
       behind = g.behind;
       acts = g.acts;
-      items_are = left ∙ same ∙ g.items_are;
+      recorded = recorded_on kept keeps_on k l lent (all_items g.turns) g.recorded same;
       amount_is = g.amount_is;
-      ends = subst (λ (e : End). EndsBy rounds g.turns e) (sym so) (g.on, omega (arith, g.count_is));
+      ends = (g.on, omega (arith, g.count_is));
     }

@@ -1,5 +1,5 @@
 -- What the turns of each kind of line are made of.
-use Rattle.std.proofs.Common.{◌≡◌, ◌∙◌, ℕ, ◌+◌, List, [], ◌∷◌, ◌++◌, sym, ap, arith, append-nil}
+use Rattle.std.proofs.Common.{◌≡◌, ◌∙◌, ℕ, ◌+◌, List, [], ◌∷◌, sym, ap, subst, arith}
 use Rattle.std.specs.Prelude.{Option}
 use Rattle.wire_core.specs.Acts.{Act}
 use Rattle.wire_core.specs.declared.wire.WireFault.{WireFault}
@@ -20,17 +20,17 @@ happening e made applied buffer fault acts = record { event = e; made = made; ap
 pub amount_is : (amount later : ℕ) (applied : Applied) → later ≡ amount + entry_count applied → later ≡ amount + entered_in (item_of applied ∷ [])
 amount_is amount later applied is = is ∙ ap (λ (n : ℕ). amount + n) (sym (entered_one applied))
 
--- a turn that left nothing in the trace
-abbrev pub bare_turn : {W D : Type 0} (went : W → List D → W → Type 0) (does : Turn → List D) (is_turn : Turn → Type 0) (t : Turn) (a b : W) (items : List Item) (amount : ℕ) (ends : Option End)
-    → is_turn t → IsBehind amount t → went a (does t) b → items_of t ≡ [] → ends ≡ end_of t → HasTurned went does is_turn a b items items amount amount ends
-bare_turn went does is_turn t a b items amount ends is behind acts none so =
+-- a turn of which nothing is recorded
+abbrev pub bare_turn : {W D K : Type 0} (went : W → List D → W → Type 0) (kept : K → List Item → K → Type 0) → ((k : K) → kept k [] k) → (does : Turn → List D) (is_turn : Turn → Type 0) (t : Turn) (a b : W) (k : K) (amount : ℕ) (ends : Option End)
+    → is_turn t → IsBehind amount t → went a (does t) b → items_of t ≡ [] → ends ≡ end_of t → HasTurned went kept does is_turn a b k k amount amount ends
+bare_turn went kept keeps does is_turn t a b k amount ends is behind acts none so =
     let nothing : entered_in (items_of t) ≡ 0 = ap entered_in none in
     record {
       turn = t;
       is = is;
       behind = behind;
       acts = acts;
-      items_are = sym (append-nil items) ∙ ap (λ (l : List Item). items ++ l) (sym none);
+      recorded = subst (λ (items : List Item). kept k items k) (sym none) (keeps k);
       amount_is = omega (arith, nothing);
       ends_so = so;
     }

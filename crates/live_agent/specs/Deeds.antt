@@ -1,12 +1,15 @@
 -- What a line does, in order, where its wire has a gate or a pace beside it: each act of the wire, each
 -- visit to the gate, each answer of the pace.
 use Rattle.std.specs.Prelude.{ℕ, Bool, List, [], ◌∷◌, map}
+use Rattle.audit_core.specs.declared.audit.Audit.{Audit}
 use Rattle.wire_core.specs.Acts.{Act}
+use Rattle.live_agent.specs.declared.gate.AnsweredRequest.{AnsweredRequest}
 
--- Ahead of a request of the worker of this number; behind the one that made the entry of this number.
+-- Ahead of a request of the worker of this number; behind a request of it that made an entry, with the
+-- entry's audit.
 pub data Visit : Type 0 where
   before : ℕ → Visit
-  after : ℕ → ℕ → Visit
+  after : ℕ → AnsweredRequest → Audit → Visit
 
 -- The wire did this; the gate was visited so; the pace answered this.
 pub data Deed : Type 0 where

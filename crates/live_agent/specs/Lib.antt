@@ -1,6 +1,7 @@
 pub mod Deeds
 pub mod DeedLaws
 pub mod Gates
+pub mod Kept
 pub mod Lines
 pub mod Runs
 pub mod Turns

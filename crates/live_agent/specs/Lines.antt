@@ -1,6 +1,7 @@
 -- The kinds of lines, by their turns: a worker answers requests, a port takes frames, and the ticker
 -- lets seconds pass.
-use Rattle.std.specs.Prelude.{◌≡◌, ◌⊎◌, ℕ, ◌+◌, ◌≤◌, true, false, List, [], ◌∷◌, ◌++◌, Option, Some, None}
+use Rattle.std.specs.Prelude.{◌≡◌, ◌⊎◌, ℕ, ℤ, ◌+◌, ◌≤◌, true, false, List, [], ◌∷◌, ◌++◌, Option, Some, None}
+use Rattle.audit_core.specs.declared.audit.Audit.{Audit}
 use Rattle.std.specs.declared.net.socket_addr.SocketAddr.{SocketAddr}
 use Rattle.frame_core.specs.Frames.{IsFrame, IsFault}
 use Rattle.frame_core.specs.declared.frame.FrameIn.{FrameIn}
@@ -17,7 +18,9 @@ use Rattle.history_core.specs.declared.applied.Applied.{Applied}
 use Rattle.history_core.specs.declared.applied.Applied.TheVariants.{Done, Dropped, Short, HistoryFull}
 use Rattle.history_core.specs.declared.event.Event.{Event}
 use Rattle.history_core.specs.declared.event.Event.TheVariants as event
+use Rattle.history_core.specs.declared.receipt.Receipt.{Receipt}
 use Rattle.live_lock.specs.Sharing.{TakesPlace, IsToldOf, entry_count}
+use Rattle.live_agent.specs.declared.gate.AnsweredRequest.{AnsweredRequest}
 use Rattle.live_agent.specs.declared.plan.Plan.{Plan}
 use Rattle.live_sending.specs.Packets.{reply_packets, frame_packets, bpdu_packets}
 use Rattle.live_sending.specs.Sending.{IsSending}
@@ -80,31 +83,50 @@ IsWorkerTurn s (was_taken a h) = (a.room ≡ request_room) × IsAnswered s a h
 IsWorkerTurn s (was_own h) = ⊥
 IsWorkerTurn s paused = ⊥
 
--- the number of the entry that an event made, if it made one
-abbrev pub number_of : Applied → Option ℕ
-number_of (Done receipt audit) = Some receipt.number
-number_of (Dropped receipt cause audit) = Some receipt.number
-number_of (Short back) = None
-number_of (HistoryFull back) = None
+-- the request-id of the request that an event is
+abbrev pub request_id_of : Event → ℤ
+request_id_of (event.Frame port frame) = 0
+request_id_of event.Tick = 0
+request_id_of (event.Link port up) = 0
+request_id_of (event.Policy tables) = 0
+request_id_of (event.Request request) = request.id
 
--- behind an event that made an entry the gate is told of the entry's number
-abbrev pub visits_behind : ℕ → Option ℕ → List Deed
-visits_behind worker (Some number) = visited (after worker number) ∷ []
-visits_behind worker None = []
+-- A request from this peer, of this request-id, made the entry of this receipt.
+abbrev pub answered_request : SocketAddr → ℤ → Receipt → AnsweredRequest
+answered_request peer request_id receipt =
+    record { number = receipt.number; peer = peer; request_id = request_id }
+
+-- the receipt and the audit of the entry that a request made, if it made one: also of one that was
+-- dropped
+abbrev pub audited_of : Applied → Option (Receipt × Audit)
+audited_of (Done receipt (Some audit)) = Some (receipt, audit)
+audited_of (Done receipt None) = None
+audited_of (Dropped receipt cause audit) = Some (receipt, audit)
+audited_of (Short back) = None
+audited_of (HistoryFull back) = None
+
+-- Behind a request that made an entry the gate is visited, with the entry's number, who asked, the
+-- request-id and the entry's audit.
+abbrev pub visits_behind : ℕ → SocketAddr → ℤ → Option (Receipt × Audit) → List Deed
+visits_behind worker peer request_id (Some entry) =
+    visited (after worker (answered_request peer request_id entry.0) entry.1) ∷ []
+visits_behind worker peer request_id None = []
 
 -- What a turn of the worker of this number does, in order: where a request happens, the datagram
--- comes, the gate is told of it by that number, what it gives is sent, and where it made an entry the
--- gate is told of that.
+-- comes, the gate is visited by that number, what it gives is sent, and where it made an entry the
+-- gate is visited with that.
 abbrev pub worker_deeds : ℕ → Turn → List Deed
 worker_deeds worker (was_taken a h) =
-    acted (arrival_act a) ∷ visited (before worker) ∷ (all_acted h.acts ++ visits_behind worker (number_of h.applied))
+    acted (arrival_act a) ∷ visited (before worker)
+    ∷ (all_acted h.acts ++ visits_behind worker a.peer (request_id_of h.event) (audited_of h.applied))
 worker_deeds worker turn = all_acted (acts_of turn)
 
--- Between two states of its wire a worker of this number has run so many rounds.
-abbrev pub HasWorked : {W : Type 0} → (W → List Deed → W → Type 0) → Setting → ℕ → ℕ → W → W →
-    List Item → ℕ → ℕ → End → Type 0
-HasWorked did s rounds worker a b trace amount later_amount how =
-    HasRun did (worker_deeds worker) (IsWorkerTurn s) rounds a b [] trace amount later_amount how
+-- Between two states of its wire, and of what records its items, a worker of this number has run so
+-- many rounds.
+abbrev pub HasWorked : {W K : Type 0} → (W → List Deed → W → Type 0) → (K → List Item → K → Type 0)
+    → Setting → ℕ → ℕ → W → W → K → K → ℕ → ℕ → End → Type 0
+HasWorked did kept s rounds worker a b k l amount later_amount how =
+    HasRun did kept (worker_deeds worker) (IsWorkerTurn s) rounds a b k l amount later_amount how
 
 -- ---- ports
 
@@ -151,37 +173,37 @@ abbrev pub end_after_link : Applied → Option WireFault → Option End
 end_after_link applied (Some fault) = Some (end.Wire fault)
 end_after_link applied None = end_by_link applied
 
--- The link of a port went up: the first item of its trace.
-pub record HasLinked {W : Type 0} (went : W → List Act → W → Type 0) (s : Setting) (port : ℕ)
-    (a b : W) (items later_items : List Item) (amount later_amount : ℕ) (ends : Option End) :
-    Type 0 where
+-- The link of a port went up: the first item that is recorded of it.
+pub record HasLinked {W K : Type 0} (went : W → List Act → W → Type 0)
+    (kept : K → List Item → K → Type 0) (s : Setting) (port : ℕ) (a b : W) (k l : K)
+    (amount later_amount : ℕ) (ends : Option End) : Type 0 where
   pub happening : Happening
   pub happens : Happens s (event.Link port true) (ports_packets s happening) happening
   pub behind : amount ≤ happening.made
   pub acts : went a happening.acts b
-  pub items_are : later_items ≡ items ++ item_of happening.applied ∷ []
+  pub recorded : kept k (item_of happening.applied ∷ []) l
   pub amount_is : later_amount ≡ amount + entry_count happening.applied
   pub ends_so : ends ≡ end_after_link happening.applied happening.fault
 
 -- The link went up, and then the rounds of the port ran.
-pub record HasLinkedAndRun {W : Type 0} (went : W → List Act → W → Type 0) (s : Setting)
-    (port rounds : ℕ) (a b : W) (trace : List Item) (amount later_amount : ℕ) (how : End) :
-    Type 0 where
+pub record HasLinkedAndRun {W K : Type 0} (went : W → List Act → W → Type 0)
+    (kept : K → List Item → K → Type 0) (s : Setting) (port rounds : ℕ) (a b : W) (k l : K)
+    (amount later_amount : ℕ) (how : End) : Type 0 where
   pub between : W
-  pub first_items : List Item
+  pub first_kept : K
   pub first_amount : ℕ
-  pub linked : HasLinked went s port a between [] first_items amount first_amount None
-  pub run : HasRun went acts_of (IsPortTurn s port) rounds between b first_items trace
+  pub linked : HasLinked went kept s port a between k first_kept amount first_amount None
+  pub run : HasRun went kept acts_of (IsPortTurn s port) rounds between b first_kept l
       first_amount later_amount how
 
--- A whole line of a port: there was no memory for its trace; or its link ended it; or that went up,
--- and the rounds ran.
-abbrev pub HasPortRun : {W : Type 0} → (W → List Act → W → Type 0) → Setting → ℕ → ℕ → W → W →
-    List Item → ℕ → ℕ → End → Type 0
-HasPortRun went s port rounds a b trace amount later_amount how =
-    ((how ≡ end.Memory) × went a [] b × (trace ≡ []) × (later_amount ≡ amount))
-    ⊎ HasLinked went s port a b [] trace amount later_amount (Some how)
-    ⊎ HasLinkedAndRun went s port rounds a b trace amount later_amount how
+-- A whole line of a port: there was no memory for its first item; or its link ended it; or that went
+-- up, and the rounds ran.
+abbrev pub HasPortRun : {W K : Type 0} → (W → List Act → W → Type 0)
+    → (K → List Item → K → Type 0) → Setting → ℕ → ℕ → W → W → K → K → ℕ → ℕ → End → Type 0
+HasPortRun went kept s port rounds a b k l amount later_amount how =
+    ((how ≡ end.Memory) × went a [] b × kept k [] l × (later_amount ≡ amount))
+    ⊎ HasLinked went kept s port a b k l amount later_amount (Some how)
+    ⊎ HasLinkedAndRun went kept s port rounds a b k l amount later_amount how
 
 -- ---- the ticker
 
@@ -210,7 +232,7 @@ ticker_deeds turn = all_acted (acts_of turn)
 -- Between two states of its wire a ticker of so many rounds has run: its pace said true once for each
 -- second, ahead of what that second gave to send and behind what the seconds before it gave, and
 -- false where it ended.
-abbrev pub HasTicked : {W : Type 0} → (W → List Deed → W → Type 0) → Setting → ℕ → W → W →
-    List Item → ℕ → ℕ → End → Type 0
-HasTicked did s rounds a b trace amount later_amount how =
-    HasRun did ticker_deeds (IsTickerTurn s) rounds a b [] trace amount later_amount how
+abbrev pub HasTicked : {W K : Type 0} → (W → List Deed → W → Type 0) → (K → List Item → K → Type 0)
+    → Setting → ℕ → W → W → K → K → ℕ → ℕ → End → Type 0
+HasTicked did kept s rounds a b k l amount later_amount how =
+    HasRun did kept ticker_deeds (IsTickerTurn s) rounds a b k l amount later_amount how

@@ -18,17 +18,21 @@ abbrev pub AreBehind : ℕ → List Turn → Type 0
 AreBehind made [] = Unit
 AreBehind made (t ∷ ts) = IsBehind made t × AreBehind (made + entered_in (items_of t)) ts
 
--- One turn of a line between two states of its wire: it is one of these, behind the entries that the
--- line's thread had made, did on the wire what such a turn does, left this in the trace, and ended the
--- line so, if it did. The share counts the entries that it made.
-pub record HasTurned {W D : Type 0} (went : W → List D → W → Type 0) (does : Turn → List D)
-    (is_turn : Turn → Type 0) (a b : W) (items later_items : List Item) (amount later_amount : ℕ)
-    (ends : Option End) : Type 0 where
+-- a list of items behind which these were recorded
+abbrev pub adds : List Item → List Item → List Item → Type 0
+adds before items later = later ≡ before ++ items
+
+-- One turn of a line between two states of its wire, and of what records its items: it is one of these,
+-- behind the entries that the line's thread had made, did on the wire what such a turn does, had its
+-- items recorded, and ended the line so, if it did. The share counts the entries that it made.
+pub record HasTurned {W D K : Type 0} (went : W → List D → W → Type 0)
+    (kept : K → List Item → K → Type 0) (does : Turn → List D) (is_turn : Turn → Type 0) (a b : W)
+    (k l : K) (amount later_amount : ℕ) (ends : Option End) : Type 0 where
   pub turn : Turn
   pub is : is_turn turn
   pub behind : IsBehind amount turn
   pub acts : went a (does turn) b
-  pub items_are : later_items ≡ items ++ items_of turn
+  pub recorded : kept k (items_of turn) l
   pub amount_is : later_amount ≡ amount + entered_in (items_of turn)
   pub ends_so : ends ≡ end_of turn
 
@@ -51,8 +55,8 @@ Stops rounds turns how =
     (ahead : List Turn) × (last : Turn) × (turns ≡ ahead ++ last ∷ [])
     × All GoesOn ahead × (end_of last ≡ Some how) × (length ahead < rounds)
 
--- How a loop of so many rounds ended: they are over; there was no memory for the trace; or by its
--- last turn.
+-- How a loop of so many rounds ended: they are over; there was no memory for the next item; or by
+-- its last turn.
 abbrev pub EndsBy : ℕ → List Turn → End → Type 0
 EndsBy rounds turns end.Rounds = All GoesOn turns × (length turns ≡ rounds)
 EndsBy rounds turns end.Memory = All GoesOn turns × (length turns < rounds)
@@ -60,17 +64,17 @@ EndsBy rounds turns end.Closed = Stops rounds turns end.Closed
 EndsBy rounds turns end.Full = Stops rounds turns end.Full
 EndsBy rounds turns (end.Wire fault) = Stops rounds turns (end.Wire fault)
 
--- Between two states of its wire a line of so many rounds has run, and left these items more: each
+-- Between two states of its wire, and of what records its items, a line of so many rounds has run: each
 -- turn is one of these, behind the entries that the line's thread had made, and they did on the wire
--- what such turns do, in their order.
-pub record HasRun {W D : Type 0} (went : W → List D → W → Type 0) (does : Turn → List D)
-    (is_turn : Turn → Type 0) (rounds : ℕ) (a b : W) (items later_items : List Item)
-    (amount later_amount : ℕ) (how : End) : Type 0 where
+-- what such turns do, and had their items recorded, in their order.
+pub record HasRun {W D K : Type 0} (went : W → List D → W → Type 0)
+    (kept : K → List Item → K → Type 0) (does : Turn → List D) (is_turn : Turn → Type 0)
+    (rounds : ℕ) (a b : W) (k l : K) (amount later_amount : ℕ) (how : End) : Type 0 where
   pub turns : List Turn
   pub are : All is_turn turns
   pub behind : AreBehind amount turns
   pub acts : went a (all_of does turns) b
-  pub items_are : later_items ≡ items ++ all_items turns
+  pub recorded : kept k (all_items turns) l
   pub amount_is : later_amount ≡ amount + entered_in (all_items turns)
   pub ends : EndsBy rounds turns how
 

@@ -1,9 +1,21 @@
 //! Where a test holds a worker, and a worker's wire beside its gate.
 ghost use Rattle.std.specs.Prelude.{◌≡◌, ◌∷◌, []};
 
+use audit_core::Audit;
 use std::net::SocketAddr;
 use std::sync::Wait;
 use wire_core::{Received, Wire, WireFault};
+
+/// A request that made an entry.
+#[derive(Clone, Copy, Debug, PartialEq, Eq)]
+pub struct AnsweredRequest {
+    /// The number of its entry.
+    pub number: u64,
+    /// From where it came.
+    pub peer: SocketAddr,
+    /// Its request-id (RFC 3416, 3).
+    pub request_id: i32,
+}
 
 /// Is called for each request of one worker: ahead of what the request sends, and behind that. The
 /// worker holds no lock then.
@@ -20,10 +32,10 @@ pub trait Gate: Drop {
     fn before<R: Wait>(&mut self, rt: &R, worker: usize)
         ensures { went self.old (before worker ∷ []) self.new };
 
-    /// Behind a request of the worker that made the entry of this number, and behind what was sent for
-    /// it, also where that could not be sent.
-    fn after<R: Wait>(&mut self, rt: &R, worker: usize, number: u64)
-        ensures { went self.old (after worker number ∷ []) self.new };
+    /// Behind a request of the worker that made an entry, also one that was dropped, and behind what
+    /// was sent for it, also where that could not be sent: with the entry's audit.
+    fn after<R: Wait>(&mut self, rt: &R, worker: usize, request: AnsweredRequest, audit: &Audit)
+        ensures { went self.old (after worker request audit.now ∷ []) self.new };
 
     // Without a visit it stays as it is.
     ghost starts: { (a : Self) → went a [] a };
@@ -33,7 +45,7 @@ pub trait Gate: Drop {
         went a xs b → went b ys c → went a (xs ++ ys) c };
 }
 
-/// A gate that holds nobody, and keeps nothing of what it is told.
+/// A gate that holds nobody, and keeps nothing of what is reported to it.
 #[derive(Clone, Copy, Debug, PartialEq, Eq)]
 pub struct OpenGate;
 
@@ -46,7 +58,14 @@ impl Gate for OpenGate {
 
     fn before<R: Wait>(&mut self, _rt: &R, _worker: usize) {}
 
-    fn after<R: Wait>(&mut self, _rt: &R, _worker: usize, _number: u64) {}
+    fn after<R: Wait>(
+        &mut self,
+        _rt: &R,
+        _worker: usize,
+        _request: AnsweredRequest,
+        _audit: &Audit,
+    ) {
+    }
 }
 
 /// A worker's wire, which has a gate: what both do is one list, in order.
@@ -63,10 +82,10 @@ pub trait GatedWire: Wire {
         ensures did { did self.old (visited (before worker) ∷ []) self.new }
         ensures kept { Self.failures self.new ≡ Self.failures self.old };
 
-    /// The gate, behind a request of the worker that made the entry of this number, once it was
-    /// answered.
-    fn after<R: Wait>(&mut self, rt: &R, worker: usize, number: u64)
-        ensures did { did self.old (visited (after worker number) ∷ []) self.new }
+    /// The gate, behind a request of the worker that made an entry, once it was answered: with the
+    /// entry's audit.
+    fn after<R: Wait>(&mut self, rt: &R, worker: usize, request: AnsweredRequest, audit: &Audit)
+        ensures did { did self.old (visited (after worker request audit.now) ∷ []) self.new }
         ensures kept { Self.failures self.new ≡ Self.failures self.old };
 
     // The acts of the wire are deeds.
@@ -122,7 +141,7 @@ impl<W: Wire, G: Gate> GatedWire for Gated<W, G> {
         self.gate.before(rt, worker);
     }
 
-    fn after<R: Wait>(&mut self, rt: &R, worker: usize, number: u64) {
-        self.gate.after(rt, worker, number);
+    fn after<R: Wait>(&mut self, rt: &R, worker: usize, request: AnsweredRequest, audit: &Audit) {
+        self.gate.after(rt, worker, request, audit);
     }
 }

@@ -28,18 +28,21 @@
 #![tactic(auto)]
 
 mod gate;
+mod line_state;
 mod outgoing;
 mod paced;
 mod plan;
 mod port;
+mod recorder;
 mod ticker;
 mod trace;
 mod worker;
 
-pub use gate::{Gate, Gated, GatedWire, OpenGate};
+pub use gate::{AnsweredRequest, Gate, Gated, GatedWire, OpenGate};
 pub use paced::{Paced, PacedWire};
 pub use plan::Plan;
 pub use port::{port_lap, port_run};
+pub use recorder::Recorder;
 pub use ticker::ticker_run;
 pub use trace::{End, Item, Ran, Refusal, Trace};
 pub use worker::worker_run;

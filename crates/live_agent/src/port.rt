@@ -1,5 +1,5 @@
 //! A port: it takes frames, has them happen, and sends them on by the other ports.
-ghost use Rattle.std.specs.Prelude.{◌≡◌, ◌+◌, ◌<◌, ◌++◌, ◌∷◌, [], vec_len, vec_capacity};
+ghost use Rattle.std.specs.Prelude.{◌≡◌, ◌+◌, ◌<◌, ◌++◌, ◌∷◌, []};
 ghost use Rattle.frame_core.specs.Frames.{IsFrame};
 ghost use Rattle.history_core.specs.declared.event.Event.TheVariants as event;
 ghost use Rattle.wire_core.specs.Acts.{got};
@@ -8,9 +8,11 @@ ghost use Rattle.live_agent.specs.Runs.{HasTurned, HasRun, failures_at, failures
 ghost use Rattle.live_agent.specs.Turns.{acts_of};
 ghost use Rattle.live_sending.specs.Sending.{fault_in};
 
+use crate::line_state::{LineState, item_of, noted};
 use crate::outgoing::{send_forwarded, send_ports};
 use crate::plan::Plan;
-use crate::trace::{Desk, End, Item, Ran, Refusal, item_of, noted};
+use crate::recorder::Recorder;
+use crate::trace::{End, Item, Refusal};
 use frame_core::{MAX_FRAME_LEN, read_frame};
 use history_core::Applied;
 use live_lock::{Live, Run, Share};
@@ -19,59 +21,59 @@ use std::net::SocketAddr;
 use std::sync::Wait;
 use wire_core::{Received, Wire, WireFault};
 
-// The room that is lent for a frame: one octet more than it has at most, so that a longer one is
-// seen.
+// The octets of a frame's buffer: one more than it has at most, so that a longer one is seen.
 const FRAME_ROOM: usize = MAX_FRAME_LEN + 1;
 
 /// A port's line: first its link goes up, and where that finds no memory or no number, or its BPDUs
-/// cannot be sent, the line ends; then one lap, as [`port_lap`]. Without memory for the link's item it
-/// ends before that.
-pub fn port_run<O: MibObject, L: Run, W: Wire, R: Wait>(
+/// cannot be sent, the line ends; then one interval, as [`port_lap`]. Without memory for the link's item
+/// it ends before that. Gives how the line ended, and what recorded it.
+pub fn port_run<O: MibObject, L: Run, W: Wire, K: Recorder, R: Wait>(
     rt: &R,
     plan: &Plan,
     live: &Live<O, L>,
     share: &mut Share<L>,
     wire: &mut W,
     port: u16,
-) -> Ran
+    recorder: K,
+) -> (End, K)
     requires { 0 < share.old.parts }
-    ensures run { HasPortRun W.went (setting_of L.start plan.now) port plan.now.rounds wire.old
-        wire.new result.trace share.old.amount share.new.amount result.end }
-    ensures failures { W.failures wire.new ≡ failures_at result.end (W.failures wire.old) }
+    ensures run { HasPortRun W.went K.went (setting_of L.start plan.now) port plan.now.rounds
+        wire.old wire.new recorder result.1 share.old.amount share.new.amount result.0 }
+    ensures failures { W.failures wire.new ≡ failures_at result.0 (W.failures wire.old) }
     ensures parts { share.new.parts ≡ share.old.parts }
 {
-    let mut desk = Desk::new(plan.alloc);
-    if desk.items.reserve(1).is_err() {
-        return desk.left(End::Memory);
+    let mut state = LineState::new(recorder);
+    if state.recorder.reserve().is_err() {
+        return state.left(End::Memory);
     }
-    if let Some(end) = bring_up(rt, plan, live, share, wire, port, &mut desk) {
-        return desk.left(end);
+    if let Some(end) = bring_up(rt, plan, live, share, wire, port, &mut state) {
+        return state.left(end);
     }
-    let end = go_round(rt, plan, live, share, wire, port, &mut desk);
-    desk.left(end)
+    let end = go_round(rt, plan, live, share, wire, port, &mut state);
+    state.left(end)
 }
 
-// The link of a port goes up, with room in its trace.
-fn bring_up<O: MibObject, L: Run, W: Wire, R: Wait>(
+// The link of a port goes up, with memory for its item.
+fn bring_up<O: MibObject, L: Run, W: Wire, K: Recorder, R: Wait>(
     rt: &R,
     plan: &Plan,
     live: &Live<O, L>,
     share: &mut Share<L>,
     wire: &mut W,
     port: u16,
-    desk: &mut Desk,
+    state: &mut LineState<K>,
 ) -> Option<End>
     requires part { 0 < share.old.parts }
-    requires room { vec_len desk.old.items < vec_capacity desk.old.items }
-    ensures linked { HasLinked W.went (setting_of L.start plan.now) port wire.old wire.new
-        desk.old.items.items desk.new.items.items share.old.amount share.new.amount result }
+    requires room { K.has_room state.old.recorder }
+    ensures linked { HasLinked W.went K.went (setting_of L.start plan.now) port wire.old wire.new
+        state.old.recorder state.new.recorder share.old.amount share.new.amount result }
     ensures failures { W.failures wire.new ≡ failures_by result (W.failures wire.old) }
     ensures parts { share.new.parts ≡ share.old.parts }
 {
-    let applied = live.link(rt, plan.alloc, share, port, true, &mut desk.buffer);
-    let sent = send_ports(wire, plan, &desk.buffer);
+    let applied = live.link(rt, plan.alloc, share, port, true, &mut state.buffer);
+    let sent = send_ports(wire, plan, &state.buffer);
     let ends = end_after_link(&applied, sent);
-    desk.items.push_reserved(item_of(applied));
+    state.recorder.record(item_of(applied));
     ends
 }
 
@@ -89,75 +91,76 @@ fn end_after_link(applied: &Applied, sent: Result<(), WireFault>) -> Option<End>
     }
 }
 
-/// One lap of a port: so many receives, or until its wire is closed or fails, no number is left for
-/// an entry, or there is no memory for its trace. Each datagram that is a frame has it come in by
+/// One interval of a port: so many receives, or until its wire is closed or fails, no number is left for
+/// an entry, or there is no memory for the next item. Each datagram that is a frame has it come in by
 /// the port; its octets go to the peers of the ports by which it goes out, and then what the ports
-/// send to their peers.
-pub fn port_lap<O: MibObject, L: Run, W: Wire, R: Wait>(
+/// send to their peers. Gives how the interval ended, and what recorded it.
+pub fn port_lap<O: MibObject, L: Run, W: Wire, K: Recorder, R: Wait>(
     rt: &R,
     plan: &Plan,
     live: &Live<O, L>,
     share: &mut Share<L>,
     wire: &mut W,
     port: u16,
-) -> Ran
+    recorder: K,
+) -> (End, K)
     requires { 0 < share.old.parts }
-    ensures run { HasRun W.went acts_of
+    ensures run { HasRun W.went K.went acts_of
         (IsPortTurn (setting_of L.start plan.now) port)
-        plan.now.rounds wire.old wire.new [] result.trace share.old.amount share.new.amount
-        result.end }
-    ensures failures { W.failures wire.new ≡ failures_at result.end (W.failures wire.old) }
+        plan.now.rounds wire.old wire.new recorder result.1 share.old.amount share.new.amount
+        result.0 }
+    ensures failures { W.failures wire.new ≡ failures_at result.0 (W.failures wire.old) }
     ensures parts { share.new.parts ≡ share.old.parts }
 {
-    let mut desk = Desk::new(plan.alloc);
-    let end = go_round(rt, plan, live, share, wire, port, &mut desk);
-    desk.left(end)
+    let mut state = LineState::new(recorder);
+    let end = go_round(rt, plan, live, share, wire, port, &mut state);
+    state.left(end)
 }
 
-// The rounds of a port, behind what is in its trace.
-fn go_round<O: MibObject, L: Run, W: Wire, R: Wait>(
+// The rounds of a port, behind what was recorded before.
+fn go_round<O: MibObject, L: Run, W: Wire, K: Recorder, R: Wait>(
     rt: &R,
     plan: &Plan,
     live: &Live<O, L>,
     share: &mut Share<L>,
     wire: &mut W,
     port: u16,
-    desk: &mut Desk,
+    state: &mut LineState<K>,
 ) -> End
     requires { 0 < share.old.parts }
-    ensures run { HasRun W.went acts_of
+    ensures run { HasRun W.went K.went acts_of
         (IsPortTurn (setting_of L.start plan.now) port)
-        plan.now.rounds wire.old wire.new desk.old.items.items desk.new.items.items
+        plan.now.rounds wire.old wire.new state.old.recorder state.new.recorder
         share.old.amount share.new.amount result }
     ensures failures { W.failures wire.new ≡ failures_at result (W.failures wire.old) }
     ensures parts { share.new.parts ≡ share.old.parts }
 {
     for _i in 0..plan.rounds {
-        if desk.items.reserve(1).is_err() {
+        if state.recorder.reserve().is_err() {
             return End::Memory;
         }
-        if let Some(end) = port_turn(rt, plan, live, share, wire, port, desk) {
+        if let Some(end) = port_turn(rt, plan, live, share, wire, port, state) {
             return end;
         }
     }
     End::Rounds
 }
 
-// One turn of a port, with room in its trace.
-fn port_turn<O: MibObject, L: Run, W: Wire, R: Wait>(
+// One turn of a port, with memory for its item.
+fn port_turn<O: MibObject, L: Run, W: Wire, K: Recorder, R: Wait>(
     rt: &R,
     plan: &Plan,
     live: &Live<O, L>,
     share: &mut Share<L>,
     wire: &mut W,
     port: u16,
-    desk: &mut Desk,
+    state: &mut LineState<K>,
 ) -> Option<End>
     requires part { 0 < share.old.parts }
-    requires room { vec_len desk.old.items < vec_capacity desk.old.items }
-    ensures turn { HasTurned W.went acts_of
+    requires room { K.has_room state.old.recorder }
+    ensures turn { HasTurned W.went K.went acts_of
         (IsPortTurn (setting_of L.start plan.now) port)
-        wire.old wire.new desk.old.items.items desk.new.items.items
+        wire.old wire.new state.old.recorder state.new.recorder
         share.old.amount share.new.amount result }
     ensures failures { W.failures wire.new ≡ failures_by result (W.failures wire.old) }
     ensures parts { share.new.parts ≡ share.old.parts }
@@ -175,7 +178,7 @@ fn port_turn<O: MibObject, L: Run, W: Wire, R: Wait>(
                 share,
                 wire,
                 port,
-                desk,
+                state,
                 peer,
                 &octets[..len],
             )
@@ -184,34 +187,33 @@ fn port_turn<O: MibObject, L: Run, W: Wire, R: Wait>(
 }
 
 // A datagram came to a port, with room in its trace.
-fn take_frame<O: MibObject, L: Run, W: Wire, R: Wait>(
+fn take_frame<O: MibObject, L: Run, W: Wire, K: Recorder, R: Wait>(
     rt: &R,
     plan: &Plan,
     live: &Live<O, L>,
     share: &mut Share<L>,
     wire: &mut W,
     port: u16,
-    desk: &mut Desk,
+    state: &mut LineState<K>,
     peer: SocketAddr,
     octets: &[u8],
 ) -> Option<End>
     requires part { 0 < share.old.parts }
-    requires room { vec_len desk.old.items < vec_capacity desk.old.items }
+    requires room { K.has_room state.old.recorder }
     ensures turn { (a : W) → W.went a (got frame_room peer octets.now ∷ []) wire.old →
-        HasTurned W.went acts_of (IsPortTurn (setting_of L.start plan.now) port) a wire.new
-        desk.old.items.items desk.new.items.items share.old.amount share.new.amount result }
+        HasTurned W.went K.went acts_of (IsPortTurn (setting_of L.start plan.now) port) a wire.new
+        state.old.recorder state.new.recorder share.old.amount share.new.amount result }
     ensures failures { W.failures wire.new ≡ failures_by result (W.failures wire.old) }
     ensures parts { share.new.parts ≡ share.old.parts }
 {
     let frame = match read_frame(octets) {
         Ok(frame) => frame,
         Err(fault) => {
-            desk.items
-                .push_reserved(Item::Refused(Refusal::Frame(fault)));
+    XX(Refusal::Frame(fault)));
             return None;
         }
     };
-    let applied = live.frame(rt, plan.alloc, share, port, frame, &mut desk.buffer);
-    let sent = send_forwarded(wire, plan, &applied, octets, &desk.buffer);
-    noted(&mut desk.items, applied, sent)
+    let applied = live.frame(rt, plan.alloc, share, port, frame, &mut state.buffer);
+    let sent = send_forwarded(wire, plan, &applied, octets, &state.buffer);
+    noted(&mut state.recorder, applied, sent)
 }

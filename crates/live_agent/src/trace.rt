@@ -1,13 +1,9 @@
 //! What a line leaves: its trace, and how it ended.
-ghost use Rattle.std.specs.Prelude.{◌≡◌, ◌++◌, ◌∷◌, ◌<◌, [], vec_len, vec_capacity};
-ghost use Rattle.live_sending.specs.Sending.{fault_in};
-ghost use Rattle.live_agent.specs.Turns.{item_of, end_after};
+ghost use Rattle.std.specs.Prelude.{◌≡◌};
 
-use agent_core::Buffer;
 use frame_core::FrameFault;
-use history_core::{Applied, Receipt};
+use history_core::Receipt;
 use message_core::DropCause;
-use std::alloc::Global;
 use std::marker::Model;
 use wire_core::WireFault;
 
@@ -87,69 +83,15 @@ pub struct Ran {
     pub trace: Trace,
 }
 
-/// What a line writes on: room for what one event gives to send, and the items of its trace.
-#[derive(Drop)]
-pub struct Desk {
-    pub buffer: Buffer,
-    pub items: Vec<Item>,
-}
-
-impl Desk {
-    /// An empty one.
-    pub fn new(alloc: Global) -> Desk
-        ensures { result.items.items ≡ [] }
-    {
-        Desk {
-            buffer: Buffer::new(),
-            items: Vec::new(alloc),
-        }
-    }
-
-    /// What is left where the line ended so.
-    pub fn left(self, end: End) -> Ran
+impl Ran {
+    /// A line that ended so, and left these items.
+    pub fn new(end: End, items: Vec<Item>) -> Ran
         ensures end { result.end ≡ end }
-        ensures trace { result.trace ≡ self.items.items }
+        ensures trace { result.trace ≡ items.items }
     {
-        let Desk { items, .. } = self;
         Ran {
             end,
             trace: Trace { items },
         }
-    }
-}
-
-/// Notes what became of an event, for which there is room, and says how that ends the line.
-pub fn noted(items: &mut Vec<Item>, applied: Applied, sent: Result<(), WireFault>) -> Option<End>
-    requires { vec_len items.old < vec_capacity items.old }
-    ensures items { items.new.items ≡ items.old.items ++ item_of applied ∷ [] }
-    ensures ends { result ≡ end_after applied (fault_in sent) }
-{
-    let ends = end_after(&applied, sent);
-    items.push_reserved(item_of(applied));
-    ends
-}
-
-/// What is left in a trace of an event.
-pub fn item_of(applied: Applied) -> Item
-    ensures { result ≡ item_of applied }
-{
-    match applied {
-        Applied::Done(receipt, _) => Item::Entered(receipt),
-        Applied::Dropped(receipt, _, _) => Item::Entered(receipt),
-        Applied::Short(_) => Item::Short,
-        Applied::HistoryFull(_) => Item::Full,
-    }
-}
-
-// How an event ends its line, if it does.
-fn end_after(applied: &Applied, sent: Result<(), WireFault>) -> Option<End>
-    ensures { result ≡ end_after applied.now (fault_in sent) }
-{
-    match sent {
-        Err(fault) => Some(End::Wire(fault)),
-        Ok(()) => match applied {
-            Applied::HistoryFull(_) => Some(End::Full),
-            _ => None,
-        },
     }
 }

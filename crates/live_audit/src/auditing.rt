@@ -1,5 +1,6 @@
 //! A gate of a worker that may be asked for audits.
 
+use crate::backlog::AuditBacklog;
 use crate::queue::QueuedAudits;
 use audit_core::Audit;
 use live_agent::{AnsweredRequest, Gate};
@@ -16,6 +17,14 @@ pub enum Auditing<'b> {
 }
 
 impl<'b> Auditing<'b> {
+    /// What the workers and the task that writes share, where the requests are audited.
+    pub fn backlog(&self) -> Option<&'b AuditBacklog> {
+        match self {
+            Auditing::Off => None,
+            Auditing::On(audits) => Some(audits.backlog()),
+        }
+    }
+
     /// The same for another worker.
     pub fn another(&self) -> Result<Auditing<'b>, AllocError> {
         match self {

@@ -5,11 +5,12 @@
 //! keeps the lines in memory; [`QueuedAudits`] offers each to a queue of bounded length, and never
 //! waits; [`Auditing`] does so or, where no audits are asked for, makes no line. The queue is made by
 //! [`audit_queue`]; [`write_audits`] is the task that takes the lines from it and writes them. A line
-//! that found no room, no memory or no output is lost, and [`AuditBacklog`] counts it.
+//! that found no space, no memory or no output is lost, and [`AuditBacklog`] counts it.
 //!
 //! # Definitions
 //! `specs/AuditLines.antt`: the line of a request, and those of a gate's visits; `specs/Records.antt`:
-//! what is kept of them in memory; `specs/Backlogs.antt`: when a line has room in the queue.
+//! what is kept of them in memory; `specs/Backlogs.antt`: the lines that wait, and
+//! those that were lost.
 //!
 //! # Laws
 //! On [`audited_line`]: the line, to the octet. On [`RecordedAudits`]: the lines are those of the

@@ -18,7 +18,7 @@ pub fn audit_queue(alloc: Global) -> Result<(Sender<String>, Receiver<String>), 
     bounded(alloc, MAX_WAITING_LINES)
 }
 
-/// A gate that offers the line of each request to a queue, and never waits for room there. Where the
+/// A gate that offers the line of each request to a queue, and never waits for space there. Where the
 /// queue is full or closed, or there is no memory for the line, the line is lost and counted.
 #[derive(Drop)]
 pub struct QueuedAudits<'b> {
@@ -39,6 +39,11 @@ impl<'b> QueuedAudits<'b> {
             lines,
             backlog,
         }
+    }
+
+    /// What the gates of the queue and the task that writes share.
+    pub fn backlog(&self) -> &'b AuditBacklog {
+        self.backlog
     }
 
     /// Another gate of the same queue, for another worker.

@@ -1,2 +1,3 @@
 pub mod Lapping
 mod Noting
+mod Summing

@@ -10,7 +10,7 @@ use Rattle.live_lock.specs.Sharing.{IsHeld}
 use Rattle.live_lock.specs.declared.held.Counts.{Counts}
 use Rattle.live_agent.specs.Deeds.{Deed}
 use Rattle.live_agent.specs.Lines.{Setting, setting_of, IsPortTurn, HasWorked, HasPortRun, HasTicked}
-use Rattle.live_agent.specs.Runs.{HasRun, failures_at}
+use Rattle.live_agent.specs.Runs.{HasRun, failures_at, adds}
 use Rattle.live_agent.specs.Turns.{acts_of}
 use Rattle.live_agent.specs.declared.plan.Plan.{Plan}
 use Rattle.live_agent.specs.declared.trace.End.{End}
@@ -37,24 +37,24 @@ module _ {A W T : Type 0} (worker_did : A → List Deed → A → Type 0) (worke
     (ticker_did : T → List Deed → T → Type 0) (ticker_failures : T → ℕ) (s : Setting) (rounds : ℕ) where
   -- An interval of a port, which begins with its link until that was entered.
   abbrev pub HasPassed : Bool → ℕ → W → W → ℕ → ℕ → List Item → End → Type 0
-  HasPassed false port a b m n trace end = HasPortRun went s port rounds a b trace m n end
+  HasPassed false port a b m n trace end = HasPortRun went adds s port rounds a b [] trace m n end
   HasPassed true port a b m n trace end =
-      HasRun went acts_of (IsPortTurn s port) rounds a b [] trace m n end
+      HasRun went adds acts_of (IsPortTurn s port) rounds a b [] trace m n end
 
-  -- An interval of a line, from one count of its thread's entries to another, with what it left and
-  -- how it ended: the line is the same afterwards but for its wire, and that a port's link went up:
+  -- An interval of a line, from one count of its thread's entries to another, with the trace of what
+  -- became of its events and datagrams and how it ended: the line is the same afterwards but for its wire, and that a port's link went up:
   -- where it begins an interval, it is the first item of the trace, and it went up if that was entered
   -- (an interval may end for want of memory before it is). A wire counts a fault that ended it.
   abbrev pub IsLap : Line A W T → Line A W T → ℕ → ℕ → List Item → End → Type 0
   IsLap (Worker number a) (Worker number' b) m n trace end =
-      (number' ≡ number) × HasWorked worker_did s rounds number a b trace m n end
+      (number' ≡ number) × HasWorked worker_did adds s rounds number a b [] trace m n end
       × (worker_failures b ≡ failures_at end (worker_failures a))
   IsLap (Port number is_begun a) (Port number' is_begun' b) m n trace end =
       (number' ≡ number) × (is_begun' ≡ (is_begun || is_first_entered trace))
       × HasPassed is_begun number a b m n trace end
       × (failures b ≡ failures_at end (failures a))
   IsLap (Ticker a) (Ticker b) m n trace end =
-      HasTicked ticker_did s rounds a b trace m n end
+      HasTicked ticker_did adds s rounds a b [] trace m n end
       × (ticker_failures b ≡ failures_at end (ticker_failures a))
   IsLap _ _ m n trace end = ⊥
 

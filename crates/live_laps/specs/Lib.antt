@@ -1,3 +1,5 @@
 pub mod Notes
 pub mod Lines
 pub mod Laps
+pub mod Sums
+pub mod SumLaws

@@ -1,8 +1,9 @@
-//! What a worker's interval came to, and what all came to, under a lock of its own.
-ghost use Rattle.std.specs.Prelude.{◌≡◌, ◌+◌, ◌∷◌, [], cond};
+//! What a worker did in an interval, and what all workers did, under a lock of its own.
+ghost use Rattle.std.specs.Prelude.{◌≡◌, ◌+◌, ◌++◌, ◌∷◌, [], List};
 ghost use Rattle.live_agent.specs.Turns.{entered_in};
 ghost use Rattle.live_run.specs.Reports.{refused_in, count_up_to_max};
-ghost use Rattle.live_laps.specs.Notes.{worked_in, is_dropped_by, dropped_by, drops_in, both_drops};
+ghost use Rattle.live_laps.specs.Notes.{worked_in, dropped_by, drops_in, both_drops};
+ghost use Rattle.live_agent.specs.declared.trace.Item.{Item as AnyItem};
 
 use live_agent::{Item, Refusal};
 use message_core::DropCause;
@@ -23,7 +24,7 @@ pub struct Drops {
     pub memory: u64,
 }
 
-/// What intervals of workers came to.
+/// What workers did in intervals.
 #[derive(Clone, Copy, Debug, PartialEq, Eq, Drop)]
 pub struct Worked {
     /// The requests that they entered.
@@ -44,17 +45,6 @@ fn entered(item: &Item) -> u64
     }
 }
 
-// How many requests of a trace were entered. The count stops at `u64::MAX`.
-fn entered_in(items: &[Item]) -> u64
-    ensures { result ≡ count_up_to_max (entered_in items.now) }
-{
-    let mut count: u64 = 0;
-    for item in items {
-        count = count.saturating_add(entered(item));
-    }
-    count
-}
-
 // 1 for a datagram that was refused.
 fn refused(item: &Item) -> u64
     ensures { result ≡ refused_in (item.now ∷ []) }
@@ -65,52 +55,30 @@ fn refused(item: &Item) -> u64
     }
 }
 
-// How many datagrams of a trace were refused. The count stops at `u64::MAX`.
-fn refused_in(items: &[Item]) -> u64
-    ensures { result ≡ count_up_to_max (refused_in items.now) }
-{
-    let mut count: u64 = 0;
-    for item in items {
-        count = count.saturating_add(refused(item));
-    }
-    count
-}
-
-// Whether this cause dropped a datagram.
-fn is_dropped_by(item: &Item, cause: DropCause) -> bool
-    ensures { result ≡ is_dropped_by cause item.now }
+// 1 for a datagram that this cause dropped.
+fn dropped(item: &Item, cause: DropCause) -> u64
+    ensures { result ≡ dropped_by cause (item.now ∷ []) }
 {
     match (cause, item) {
         (DropCause::TooLong, Item::Refused(Refusal::Datagram(DropCause::TooLong)))
         | (DropCause::Malformed, Item::Refused(Refusal::Datagram(DropCause::Malformed)))
         | (DropCause::BadVersion, Item::Refused(Refusal::Datagram(DropCause::BadVersion)))
         | (DropCause::BadKind, Item::Refused(Refusal::Datagram(DropCause::BadKind)))
-        | (DropCause::Memory, Item::Refused(Refusal::Datagram(DropCause::Memory))) => true,
-        _ => false,
+        | (DropCause::Memory, Item::Refused(Refusal::Datagram(DropCause::Memory))) => 1,
+        _ => 0,
     }
 }
 
-// How many datagrams of a trace this cause dropped. The count stops at `u64::MAX`.
-fn dropped_by(items: &[Item], cause: DropCause) -> u64
-    ensures { result ≡ count_up_to_max (dropped_by cause items.now) }
-{
-    let mut count: u64 = 0;
-    for item in items {
-        count = count.saturating_add(u64::from(is_dropped_by(item, cause)));
-    }
-    count
-}
-
-// The drops of a trace by cause.
-fn drops_in(items: &[Item]) -> Drops
-    ensures { result ≡ drops_in items.now }
+// The same by cause.
+fn drops_of(item: &Item) -> Drops
+    ensures { result ≡ drops_in (item.now ∷ []) }
 {
     Drops {
-        too_long: dropped_by(items, DropCause::TooLong),
-        malformed: dropped_by(items, DropCause::Malformed),
-        bad_version: dropped_by(items, DropCause::BadVersion),
-        bad_kind: dropped_by(items, DropCause::BadKind),
-        memory: dropped_by(items, DropCause::Memory),
+        too_long: dropped(item, DropCause::TooLong),
+        malformed: dropped(item, DropCause::Malformed),
+        bad_version: dropped(item, DropCause::BadVersion),
+        bad_kind: dropped(item, DropCause::BadKind),
+        memory: dropped(item, DropCause::Memory),
     }
 }
 
@@ -127,18 +95,43 @@ impl Drops {
     }
 }
 
-/// What the interval of a worker that left these items came to.
-pub fn worked_in(items: &[Item]) -> Worked
-    ensures { result ≡ worked_in items.now }
+// The counts of one event, or of one datagram that was refused.
+fn worked_of(item: &Item) -> Worked
+    ensures { result ≡ worked_in (item.now ∷ []) }
 {
     Worked {
-        requests: entered_in(items),
-        drops: refused_in(items),
-        by_cause: drops_in(items),
+        requests: entered(item),
+        drops: refused(item),
+        by_cause: drops_of(item),
     }
 }
 
 impl Worked {
+    /// Nothing yet.
+    pub(crate) fn nothing() -> Worked
+        ensures { result ≡ worked_in [] }
+    {
+        Worked {
+            requests: 0,
+            drops: 0,
+            by_cause: Drops {
+                too_long: 0,
+                malformed: 0,
+                bad_version: 0,
+                bad_kind: 0,
+                memory: 0,
+            },
+        }
+    }
+
+    /// With one event more, or one datagram more that was refused. A count stops at `u64::MAX`.
+    pub(crate) fn count(&mut self, item: &Item)
+        ensures { (before : List AnyItem) → self.old ≡ worked_in before →
+            self.new ≡ worked_in (before ++ item.now ∷ []) }
+    {
+        self.add(worked_of(item));
+    }
+
     // With another interval. A count stops at `u64::MAX`.
     fn add(&mut self, lap: Worked)
         ensures requests { self.new.requests
@@ -152,7 +145,7 @@ impl Worked {
     }
 }
 
-/// What intervals of workers came to so far, for the watches of all lines.
+/// What workers did in intervals so far, for the watches of all lines.
 #[derive(Drop)]
 pub struct Book {
     worked: Mutex<Worked>,
@@ -162,17 +155,7 @@ impl Book {
     /// Nothing yet.
     pub fn new() -> Book {
         Book {
-            worked: Mutex::new(Worked {
-                requests: 0,
-                drops: 0,
-                by_cause: Drops {
-                    too_long: 0,
-                    malformed: 0,
-                    bad_version: 0,
-                    bad_kind: 0,
-                    memory: 0,
-                },
-            }),
+            worked: Mutex::new(Worked::nothing()),
         }
     }
 

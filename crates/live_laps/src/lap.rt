@@ -1,49 +1,48 @@
 //! The intervals of a line.
 ghost use Rattle.std.specs.Prelude.{◌≡◌, ◌<◌, List};
 ghost use Rattle.live_agent.specs.Lines.{setting_of};
-ghost use Rattle.live_laps.specs.Laps.{is_first_entered, IsLap, IsNoted, IsNotedLap, HasFailed, GoesOn, HasGoneOn, place_of};
+ghost use Rattle.live_agent.specs.declared.trace.Item.{Item};
+ghost use Rattle.live_laps.specs.Sums.{sum_of};
+ghost use Rattle.live_laps.specs.Laps.{IsLap, IsNoted, IsNotedLap, HasFailed, GoesOn, HasGoneOn, place_of};
 ghost use Rattle.live_laps.specs.Notes.{Note};
 
-use crate::book::worked_in;
 use crate::line::{Line, Watched};
+use crate::sum::IntervalSum;
 use crate::watch::Watch;
 use live_agent::{
-    End, GatedWire, Item, PacedWire, Plan, Ran, port_lap, port_run, ticker_run, worker_run,
+    End, GatedWire, PacedWire, Plan, port_lap, port_run, ticker_run, worker_run,
 };
 use live_lock::{Live, Run, Share};
 use setphase_core::MibObject;
 use std::sync::Wait;
 use wire_core::{Pace, Wire};
 
-// Whether the first event or datagram of a trace was entered.
-fn is_first_entered(items: &[Item]) -> bool
-    ensures { result ≡ is_first_entered items.now }
-{
-    matches!(items, [Item::Entered(_), ..])
-}
-
-// One interval of a line. A port's begins with its link until that was entered.
+// One interval of a line: how it ended, and its counts. A port's begins with its link until that
+// was entered.
 fn run_lap<O: MibObject, L: Run, A: GatedWire, W: Wire, T: PacedWire, R: Wait>(
     rt: &R,
     plan: &Plan,
     live: &Live<O, L>,
     share: &mut Share<L>,
     line: &mut Line<A, W, T>,
-) -> Ran
+) -> (End, IntervalSum)
     requires { 0 < share.old.parts }
-    ensures lap { IsLap A.did A.failures W.went W.failures T.did T.failures
-        (setting_of L.start plan.now) plan.now.rounds line.old line.new share.old.amount share.new.amount result.trace result.end }
+    ensures lap { (trace : List Item) × (result.1 ≡ sum_of trace)
+        × IsLap A.did A.failures W.went W.failures T.did T.failures
+        (setting_of L.start plan.now) plan.now.rounds line.old line.new share.old.amount
+        share.new.amount trace result.0 }
     ensures parts { share.new.parts ≡ share.old.parts }
 {
+    let sum = IntervalSum::new();
     match line {
-        Line::Worker(number, wire) => worker_run(rt, plan, live, share, wire, *number),
-        Line::Port(number, true, wire) => port_lap(rt, plan, live, share, wire, *number),
+        Line::Worker(number, wire) => worker_run(rt, plan, live, share, wire, *number, sum),
+        Line::Port(number, true, wire) => port_lap(rt, plan, live, share, wire, *number, sum),
         Line::Port(number, is_begun, wire) => {
-            let ran = port_run(rt, plan, live, share, wire, *number);
-            *is_begun = is_first_entered(ran.trace.as_slice());
-            ran
+            let (end, sum) = port_run(rt, plan, live, share, wire, *number, sum);
+            *is_begun = sum.is_first_entered();
+            (end, sum)
         }
-        Line::Ticker(wire) => ticker_run(rt, plan, live, share, wire),
+        Line::Ticker(wire) => ticker_run(rt, plan, live, share, wire, sum),
     }
 }
 
@@ -54,22 +53,22 @@ fn note_lap<O: MibObject, L: Run, A, W, T, V: Watch, R: Wait>(
     share: &mut Share<L>,
     watch: &mut V,
     line: &Line<A, W, T>,
-    ran: &Ran,
+    sum: &IntervalSum,
 )
-    ensures noted { (notes : List Note)
-        × IsNoted L.start line.now share.old.amount ran.now.trace notes
+    ensures noted { (trace : List Item) → sum.now ≡ sum_of trace → (notes : List Note)
+        × IsNoted L.start line.now share.old.amount trace notes
         × V.went watch.old notes watch.new }
     ensures amount { share.new.amount ≡ share.old.amount }
     ensures parts { share.new.parts ≡ share.old.parts }
 {
     match line {
-        Line::Worker(_, _) => watch.worked(rt, worked_in(ran.trace.as_slice())),
+        Line::Worker(_, _) => watch.worked(rt, sum.worked),
         Line::Port(_, _, _) => {}
         Line::Ticker(_) => watch.ticked(rt, live.counts(rt, share)),
     }
 }
 
-// One interval of a line, which is reported to its watch: how it ended. Its trace is dropped.
+// One interval of a line, which is reported to its watch: how it ended.
 fn pass<O: MibObject, L: Run, A: GatedWire, W: Wire, T: PacedWire, V: Watch, P: Pace, R: Wait>(
     rt: &R,
     plan: &Plan,
@@ -83,9 +82,9 @@ fn pass<O: MibObject, L: Run, A: GatedWire, W: Wire, T: PacedWire, V: Watch, P: 
         (place_of watched.new share.new.amount) result }
     ensures parts { share.new.parts ≡ share.old.parts }
 {
-    let ran = run_lap(rt, plan, live, share, &mut watched.line);
-    note_lap(rt, live, share, &mut watched.watch, &watched.line, &ran);
-    ran.end
+    let (end, sum) = run_lap(rt, plan, live, share, &mut watched.line);
+    note_lap(rt, live, share, &mut watched.watch, &watched.line, &sum);
+    end
 }
 
 // A fault has ended an interval: counts it, reports it to the watch, and waits as the pace does.
@@ -112,7 +111,7 @@ fn goes_on<A, W, T, V: Watch, P: Pace>(watched: &mut Watched<A, W, T, V, P>, end
 
 /// A line goes on interval by interval until one ends it, or 2^64 - 1 are done. Each interval is
 /// reported once to its watch; so is each fault, behind which the line waits by its pace; and so is
-/// the end. The trace of an interval is dropped when it was reported.
+/// the end. Nothing is kept of an interval but its counts.
 pub fn go_on<O: MibObject, L: Run, A: GatedWire, W: Wire, T: PacedWire, V: Watch, P: Pace, R: Wait>(
     rt: &R,
     plan: &Plan,

@@ -1,17 +1,17 @@
 //! A run of an agent without an end: each line goes on interval by interval, also behind a fault, and
-//! lets go of what an interval left.
+//! keeps of an interval only its counts.
 //!
 //! # Entry points
 //! [`serve_laps`] takes a history and its [`Line`]s, which [`lines_of`] makes of a run's, runs each
 //! in a thread of its own until it is ended, and gives back the lines, the history, and how each
 //! ended. Each line has a [`Watch`] ([`Watched`]), to which each interval of a worker and of the
 //! ticker, each fault and the line's end is reported, and a pace, by which it waits behind a fault
-//! before it begins anew. A [`LineName`] is what a line is called, a [`Worked`] what intervals of
-//! workers came to, with its [`Drops`] by cause, a [`Book`] what all did so far.
+//! before it begins anew. An [`IntervalSum`] takes the items of an interval. A [`LineName`] is what a line is called, a [`Worked`] what workers did in
+//! intervals, with its [`Drops`] by cause, a [`Book`] what all did so far.
 //!
 //! # Definitions
 //! `specs/Lines.antt`: the lines of a run; `specs/Notes.antt`: what is reported to a watch;
-//! `specs/Laps.antt`: the intervals of a line, when it goes on behind one, and lines that went on side
+//! `specs/Sums.antt`: the counts of the items of an interval; `specs/Laps.antt`: the intervals of a line, when it goes on behind one, and lines that went on side
 //! by side.
 //!
 //! # Laws
@@ -32,9 +32,11 @@ mod crew;
 mod lap;
 mod line;
 mod serving;
+mod sum;
 mod watch;
 
 pub use book::{Book, Drops, Worked};
 pub use line::{Line, LineName, Watched, lines_of};
 pub use serving::serve_laps;
+pub use sum::IntervalSum;
 pub use watch::Watch;

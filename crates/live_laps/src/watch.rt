@@ -21,11 +21,11 @@ pub trait Watch: Drop {
     fn another(&self) -> Self
         ensures { result ≡ self.now };
 
-    /// At the end of each lap of a worker: what it came to.
+    /// At the end of each interval of a worker: its counts.
     fn worked<R: Wait>(&mut self, rt: &R, worked: Worked)
         ensures { went self.old (lap_worked worked ∷ []) self.new };
 
-    /// At the end of each lap of the ticker: how far the history was past its start at some time.
+    /// At the end of each interval of the ticker: how far the history was past its start at some time.
     fn ticked<R: Wait>(&mut self, rt: &R, counts: Counts)
         ensures { went self.old (lap_ticked counts ∷ []) self.new };
 

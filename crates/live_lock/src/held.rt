@@ -20,13 +20,19 @@ use std::marker::Model;
 use std::sync::ledger;
 use std::sync::ledger::Book;
 
-/// How far a history is past its start.
+/// How far a history is past its start, and what its world counts.
 #[derive(Clone, Copy, Debug, PartialEq, Eq, Drop)]
 pub struct Counts {
     /// The entries that were made since the start.
     pub entries: u64,
     /// The entries by which the base has moved since the start.
     pub older: u64,
+    /// The requests that were dropped since no row has their community, modulo 2^32 (RFC 3418,
+    /// snmpInBadCommunityNames).
+    pub bad_communities: u32,
+    /// The requests that were dropped since their context is not known, modulo 2^32 (RFC 3413,
+    /// snmpUnknownContexts).
+    pub unknown_contexts: u32,
 }
 
 /// A history and the book of what was entered since the start, seen as the history and the count.
@@ -144,8 +150,8 @@ impl<O: MibObject, L: Run> Held<O, L> {
         applied
     }
 
-    /// How far the history is past its start: at least by the entries that the share counts, and by
-    /// those that it knew of. It then knows of all.
+    /// How far the history is past its start, and what its world counts: at least by the entries that
+    /// the share counts, and by those that it knew of. It then knows of all.
     pub fn counts(&mut self, share: &mut Share<L>) -> Counts
         ensures counted { IsCounted L.start share.old.amount result }
         ensures rises { (share.old.known ≤ result.entries) × (share.old.older ≤ result.older) }
@@ -163,9 +169,12 @@ impl<O: MibObject, L: Run> Held<O, L> {
         } = self;
         kept.legal();
         share.observe(book, latest, base);
+        let world = kept.world();
         Counts {
             entries: kept.next_number() - *next_at_start,
             older: kept.base_number() - *base_at_start,
+            bad_communities: world.bad_communities,
+            unknown_contexts: world.unknown_contexts,
         }
     }
 

@@ -10,7 +10,7 @@
 //!
 //! # Definitions
 //! `specs/Sharing.antt`: a history that goes on from another by so many entries, over objects of the
-//! same rows; an event that took its place in it; and what an answer tells of an event, whatever the
+//! same rows; an event that took its place in it; and what an answer reports of an event, whatever the
 //! history was;
 //! `specs/Counting.antt`: how far a shared history is past its start;
 //! `specs/Rising.antt`: the numbers of a thread rise; `specs/Standing.antt`: what a thread has of a

@@ -207,8 +207,9 @@ impl<O: MibObject, L: Run> Live<O, L> {
             .apply(alloc, share, event, duplicate, buffer)
     }
 
-    /// How far the history was past its start at some time: by no fewer entries than the caller had
-    /// made before the call, and no less than it knew before. It then knows that.
+    /// How far the history was past its start at some time, and what its world counted then: by no
+    /// fewer entries than the caller had made before the call, and no less than it knew before. It
+    /// then knows that.
     pub fn counts<R: Wait>(&self, rt: &R, share: &mut Share<L>) -> Counts
         ensures counted { IsCounted L.start share.old.amount result }
         ensures rises { (share.old.known ≤ result.entries) × (share.old.older ≤ result.older) }

@@ -4,7 +4,7 @@ use Rattle.wire_core.specs.Acts.{Act}
 use Rattle.live_agent.specs.declared.trace.Ran.{Ran}
 use Rattle.live_agent.specs.Deeds.{Deed}
 use Rattle.live_agent.specs.Lines.{Setting, HasWorked, HasPortRun, HasTicked}
-use Rattle.live_agent.specs.Runs.{failures_at}
+use Rattle.live_agent.specs.Runs.{failures_at, adds}
 use Rattle.live_agent.specs.Turns.{entered_in}
 use Rattle.live_run.specs.declared.lines.Lines.{Lines}
 use Rattle.live_run.specs.declared.lines.Runs.{Runs}
@@ -13,19 +13,19 @@ use Rattle.live_run.specs.declared.lines.Runs.{Runs}
 -- ended it.
 pub record WorkerRan {W : Type 0} (did : W → List Deed → W → Type 0) (failures : W → ℕ)
     (s : Setting) (rounds worker : ℕ) (a b : W) (ran : Ran) : Type 0 where
-  pub run : HasWorked did s rounds worker a b ran.trace 0 (entered_in ran.trace) ran.end
+  pub run : HasWorked did adds s rounds worker a b [] ran.trace 0 (entered_in ran.trace) ran.end
   pub failed : failures b ≡ failures_at ran.end (failures a)
 
 -- The same of the port of this number, whose link went up first.
 pub record PortRan {W : Type 0} (went : W → List Act → W → Type 0) (failures : W → ℕ)
     (s : Setting) (rounds port : ℕ) (a b : W) (ran : Ran) : Type 0 where
-  pub run : HasPortRun went s port rounds a b ran.trace 0 (entered_in ran.trace) ran.end
+  pub run : HasPortRun went adds s port rounds a b [] ran.trace 0 (entered_in ran.trace) ran.end
   pub failed : failures b ≡ failures_at ran.end (failures a)
 
 -- The same of the ticker, at its pace.
 pub record TickerRan {W : Type 0} (did : W → List Deed → W → Type 0) (failures : W → ℕ)
     (s : Setting) (rounds : ℕ) (a b : W) (ran : Ran) : Type 0 where
-  pub run : HasTicked did s rounds a b ran.trace 0 (entered_in ran.trace) ran.end
+  pub run : HasTicked did adds s rounds a b [] ran.trace 0 (entered_in ran.trace) ran.end
   pub failed : failures b ≡ failures_at ran.end (failures a)
 
 -- Each line, numbered from this number on, ran so between the two states of its wire.

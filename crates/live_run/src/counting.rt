@@ -1,4 +1,4 @@
-//! What is counted of the traces of a run, and what is looked at in them.
+//! What is counted of the traces of a run, and how their numbers rise.
 ghost use Rattle.std.specs.Prelude.{◌≡◌, ◌↔◌, ◌≤◌, ◌∷◌, [], All, IsTrue, MatchOption};
 ghost use Rattle.history_core.specs.Comparing.{Rises, least_after};
 ghost use Rattle.live_run.specs.Reports.{receipts_of, refused_in, refused_by, count_up_to_max, fault_at, first_fault, fault_of, HadMemory, RisesIn, EachRan, FallsAt, FirstFalls, FallsIn, IsFaultOf, IsSound};

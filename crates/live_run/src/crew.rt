@@ -36,8 +36,9 @@ fn work<O: MibObject, L: Run, A: GatedWire, R: Wait>(
 {
     let mut share = share;
     let mut wire = wire;
-    let ran = worker_run(rt, plan, live, &mut share, &mut wire, worker);
-    (share, wire, ran)
+    let items = Vec::new(plan.alloc);
+    let (end, items) = worker_run(rt, plan, live, &mut share, &mut wire, worker, items);
+    (share, wire, Ran::new(end, items))
 }
 
 // The same of a port.
@@ -57,8 +58,9 @@ fn pass<O: MibObject, L: Run, W: Wire, R: Wait>(
 {
     let mut share = share;
     let mut wire = wire;
-    let ran = port_run(rt, plan, live, &mut share, &mut wire, port);
-    (share, wire, ran)
+    let items = Vec::new(plan.alloc);
+    let (end, items) = port_run(rt, plan, live, &mut share, &mut wire, port, items);
+    (share, wire, Ran::new(end, items))
 }
 
 // The same of the ticker.
@@ -77,8 +79,9 @@ fn tick<O: MibObject, L: Run, T: PacedWire, R: Wait>(
 {
     let mut share = share;
     let mut wire = wire;
-    let ran = ticker_run(rt, plan, live, &mut share, &mut wire);
-    (share, wire, ran)
+    let items = Vec::new(plan.alloc);
+    let (end, items) = ticker_run(rt, plan, live, &mut share, &mut wire, items);
+    (share, wire, Ran::new(end, items))
 }
 
 // A worker for each wire, each in a thread beside the others. Gives back the share, the wires, and how

@@ -11,7 +11,7 @@ pub struct Report {
     pub requests: u64,
     /// Those of them that are older than the history's base.
     pub older: u64,
-    /// The datagrams that came to a worker and gave no request, also for want of memory. The count
+    /// The datagrams that a worker received and that gave no request, also for want of memory. The count
     /// stops at `u64::MAX`.
     pub drops: u64,
     /// How each line ended, and its trace.

@@ -3,7 +3,8 @@ use crate::fixtures::message::Held::{Integer, Null};
 use crate::fixtures::message::{get, octets_of, of, reply, set};
 use crate::fixtures::names::PRIORITY;
 use crate::support::{LinesOver, MANAGER, asking, count_of, lines_under, of_edges, peer, run};
-use live_agent::{Gate, Gated};
+use audit_core::Audit;
+use live_agent::{AnsweredRequest, Gate, Gated};
 use std::alloc::Global;
 use std::sync::{Mutex, Wait};
 use std::test::Fail;
@@ -12,10 +13,10 @@ use std::thread::Threads;
 use std::time::{Clock, Duration};
 use wire_core::MemoryWire;
 
-// How often a held worker looks whether the other's call is answered.
+// How often a held worker reads whether the other's call is answered.
 const TURNS: u32 = 1000;
 
-// How long it waits between two looks, in milliseconds.
+// How long it waits between two reads, in milliseconds.
 const TURN_MILLIS: u64 = 10;
 
 // The calls of all workers that are to begin and those that are answered, and those that a gate let
@@ -79,7 +80,13 @@ impl<C: Clock + Drop> Gate for HoldGate<'_, C> {
         count(rt, &self.calls.late);
     }
 
-    fn after<R: Wait>(&mut self, rt: &R, _worker: usize, _number: u64) {
+    fn after<R: Wait>(
+        &mut self,
+        rt: &R,
+        _worker: usize,
+        _request: AnsweredRequest,
+        _audit: &Audit,
+    ) {
         count(rt, &self.calls.answered);
     }
 }

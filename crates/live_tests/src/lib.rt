@@ -1,5 +1,5 @@
 //! Tests of histories, and of runs over wires in memory: whole runs, the objects that come back from
-//! them, a policy that comes to a history, and lines that go on interval by interval; and of the line
+//! them, a policy that a history gets, and lines that go on interval by interval; and of the line
 //! of an audit that names all settings which may be unrestored.
 //!
 //! # Entry points

@@ -1,4 +1,4 @@
-//! A policy that comes to a history under its lock, and what is answered by it from then on.
+//! A policy that a history under its lock gets, and what is answered by it from then on.
 ghost use Rattle.std.specs.Prelude.{◌≡◌, ◌<◌, IfOk};
 ghost use Rattle.message_core.specs.Encodable.{AreEncodable};
 

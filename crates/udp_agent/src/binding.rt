@@ -81,7 +81,7 @@ fn peers_of(alloc: Global, ports: &[Port]) -> io::Result<Vec<SocketAddr>>
 /// What the lines of a setup have in common.
 ///
 /// # Errors
-/// That there is no memory for the ports' peers, or that it is not said of a port.
+/// That there is no memory for the ports' peers, or that a port has no peer.
 pub fn plan_of(alloc: Global, setup: &Setup) -> io::Result<Plan>
     ensures { IfOk result (IsPlan setup.now) }
 {
@@ -108,7 +108,7 @@ pub(crate) fn few<A: Drop, W: Drop, T: Drop>(lines: Lines<A, W, T>) -> io::Resul
 
 /// The lines of a setup over UDP: the threads that answer requests share one socket, each port has
 /// one of its own, and the ticker shares that of port 1, and ticks each second by this clock. A clause
-/// tells how many lines there are; which sockets they share is tested.
+/// says how many lines there are; which sockets they share is tested.
 ///
 /// # Errors
 /// That of the system, or of a refused growth; nothing is bound then. `InvalidInput` where more than

@@ -9,6 +9,7 @@ use crate::setup::Setup;
 use crate::telling::Teller;
 use history_core::Kept;
 use live_agent::{End, GatedWire, Paced, PacedWire, Plan};
+use live_audit::Auditing;
 use live_laps::{Book, Watch, lines_of, serve_laps};
 use live_run::Lines;
 use log::Log;
@@ -78,20 +79,23 @@ pub fn serve_lines_forever<
 /// serves, and runs its lines over a history as [`serve_lines_forever`] does. No send of theirs fails:
 /// a datagram that the system refuses is lost. A line waits for a second behind a fault of its socket
 /// or want of memory, and begins anew. At the end of each interval of the ticker it logs what all did so
-/// far, and what was lost; where a fault ended an interval, and where a line ends, why.
+/// far, and what was lost; where a fault ended an interval, and where a line ends, why. Each worker has
+/// such a gate, by which its requests are audited or not.
 ///
 /// # Errors
 /// That of the system where a socket could not be bound, or that there was no memory for what the
-/// lines share, before any line ran; no clause tells that.
+/// lines share, before any line ran; no clause says that.
 pub fn serve_forever<'r, O: MibObject + Send, R: Threads + Wait + Net + Clock + Log + Sync>(
     rt: &'r R,
     alloc: Global,
     version: &str,
     setup: &Setup,
     kept: Kept<O>,
+    audits: &Auditing<'r>,
 ) -> io::Result<Vec<End>>
     ensures { IsServedForever
-        ⟦<LastingWorker<&'r R> as GatedWire>⟧.did ⟦<LastingWorker<&'r R> as Wire>⟧.failures
+        ⟦<LastingWorker<'r, &'r R> as GatedWire>⟧.did
+        ⟦<LastingWorker<'r, &'r R> as Wire>⟧.failures
         ⟦<LastingWire<&'r R> as Wire>⟧.went ⟦<LastingWire<&'r R> as Wire>⟧.failures
         ⟦<LastingTicker<&'r R> as PacedWire>⟧.did ⟦<LastingTicker<&'r R> as Wire>⟧.failures
         ⟦<Teller<'r, R> as Watch>⟧.went ⟦<SecondPace<&'r R> as Pace>⟧.went
@@ -103,13 +107,14 @@ pub fn serve_forever<'r, O: MibObject + Send, R: Threads + Wait + Net + Clock + 
         SendingSockets::bind(rt, alloc, plan.peers.as_slice())?,
     )?;
     let pace = WholeSecondPace::new(rt)?;
-    let lines = bind_lasting(rt, rt, pace, alloc, setup, &sending)?;
+    let lines = bind_lasting(rt, rt, pace, alloc, setup, &sending, audits)?;
     log_ready(rt, version, setup);
     let book = Book::new();
     let watch = Teller {
         rt,
         book: &book,
         losses: sending.losses(),
+        audits: audits.backlog(),
     };
     // Of want of memory `?` makes an error of the system.
     let ends = serve_lines_forever(rt, &plan, watch, SecondPace::new(rt), kept, lines)?;

@@ -5,7 +5,8 @@ ghost use Rattle.udp_agent.specs.Binding.{AreLines};
 use crate::binding::{address_of, few};
 use crate::setup::Setup;
 use configuration::{Port, Serve};
-use live_agent::{Gated, OpenGate, Paced};
+use live_agent::{Gated, Paced};
+use live_audit::Auditing;
 use live_run::Lines;
 use std::alloc::Global;
 use std::io::{self, ErrorKind};
@@ -14,20 +15,23 @@ use std::sync::Arc;
 use std::time::Clock;
 use wire_core::{LastingWire, Pace, SendingSockets};
 
-/// The wire of a worker of an agent without an end, which no gate holds.
-pub type LastingWorker<C> = Gated<LastingWire<C>, OpenGate>;
+/// The wire of a worker of an agent without an end, whose gate holds nobody, and may be asked for
+/// audits.
+pub type LastingWorker<'b, C> = Gated<LastingWire<C>, Auditing<'b>>;
 
 /// The lines of an agent without an end, whose ticks go at this pace.
-pub type LastingLines<C, P> = Lines<LastingWorker<C>, LastingWire<C>, Paced<LastingWire<C>, P>>;
+pub type LastingLines<'b, C, P> =
+    Lines<LastingWorker<'b, C>, LastingWire<C>, Paced<LastingWire<C>, P>>;
 
-// The wires of the threads that answer requests, which share one socket.
-fn bind_workers<R: Net, C: Clock + Copy + Drop>(
+// The wires of the threads that answer requests, which share one socket, audited or not.
+fn bind_workers<'b, R: Net, C: Clock + Copy + Drop>(
     rt: &R,
     clock: C,
     alloc: Global,
     serve: &Serve,
     sending: &Arc<SendingSockets, Global>,
-) -> io::Result<Vec<LastingWorker<C>>>
+    audits: &Auditing<'b>,
+) -> io::Result<Vec<LastingWorker<'b, C>>>
     ensures { IfOk result (λ workers. vec_len workers ≡ serve.now.workers) }
 {
     let socket = LastingWire::bind(rt, alloc, serve.snmp, sending, clock)?;
@@ -35,7 +39,7 @@ fn bind_workers<R: Net, C: Clock + Copy + Drop>(
     for _ in 0..serve.workers {
         workers.push(Gated {
             wire: socket.share()?,
-            gate: OpenGate,
+            gate: audits.another()?,
         })?;
     }
     Ok(workers)
@@ -69,23 +73,25 @@ fn share_first<C: Clock + Copy>(ports: &[LastingWire<C>]) -> io::Result<LastingW
 
 /// The lines of a setup that is served without an end: over sockets as those of `bind_lines`, but no
 /// send fails, and frames go by these sending sockets. The ticker ticks at this pace; receives that
-/// fail wait by this clock. A clause says how many lines there are; which sockets they share is tested.
+/// fail wait by this clock. Each worker has such a gate. A clause says how many lines there are; which
+/// sockets they share is tested.
 ///
 /// # Errors
 /// As of `bind_lines`.
-pub fn bind_lasting<R: Net, C: Clock + Copy + Drop, P: Pace>(
+pub fn bind_lasting<'b, R: Net, C: Clock + Copy + Drop, P: Pace>(
     rt: &R,
     clock: C,
     pace: P,
     alloc: Global,
     setup: &Setup,
     sending: &Arc<SendingSockets, Global>,
-) -> io::Result<LastingLines<C, P>>
+    audits: &Auditing<'b>,
+) -> io::Result<LastingLines<'b, C, P>>
     ensures lines { IfOk result (AreLines setup.now) }
     ensures few { IfOk result (λ lines.
         (vec_len lines.workers < 2 ^ 16 - 1) × (vec_len lines.ports < 2 ^ 16 - 1)) }
 {
-    let workers = bind_workers(rt, clock, alloc, &setup.serve, sending)?;
+    let workers = bind_workers(rt, clock, alloc, &setup.serve, sending, audits)?;
     let ports = bind_ports(rt, clock, alloc, setup.ports.as_slice(), sending)?;
     let ticker = Paced {
         wire: share_first(ports.as_slice())?,

@@ -59,7 +59,7 @@ pub fn serve_lines<
 ///
 /// # Errors
 /// `Begin` where a socket could not be bound, or there was no memory for what the lines share, before
-/// any line ran; no clause tells that. `Run` where they ran, and have no report, or where there was no
+/// any line ran; no clause says that. `Run` where they ran, and have no report, or where there was no
 /// memory to begin with.
 pub fn serve<'r, O: MibObject + Send, R: Threads + Wait + Net + Clock + Sync>(
     rt: &'r R,

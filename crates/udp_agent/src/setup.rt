@@ -15,7 +15,7 @@ pub struct Setup {
     /// The bridge's ports, from port 1 on: where the frames of each come in, and where they go.
     pub ports: ArrayVec<Port, MAX_PORTS>,
     /// Where requests come in, how many threads answer them, and how many rounds each line makes: in
-    /// all, or where it is served without an end, in a lap.
+    /// all, or where it is served without an end, in an interval.
     pub serve: Serve,
 }
 
@@ -38,7 +38,7 @@ fn have_sockets(ports: &[Port]) -> bool
     has_sockets(port) && have_sockets(rest)
 }
 
-/// The setup of a bridge of this address and these ports: none unless it is said how to serve, and of
+/// The setup of a bridge of this address and these ports: none unless the configuration says how to serve, and of
 /// each port where its frames come in and where they go.
 pub fn setup_of(
     address: Mac,

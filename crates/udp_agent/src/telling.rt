@@ -2,6 +2,7 @@
 use crate::losses::log_losses;
 use crate::serving::ServeFault;
 use live_agent::End;
+use live_audit::AuditBacklog;
 use live_laps::{Book, Drops, LineName, Watch, Worked};
 use live_lock::Counts;
 use live_run::{Report, RunFault};
@@ -41,31 +42,48 @@ pub fn tell_not_begun<R: Log>(rt: &R, why: &io::Error) {
 }
 
 /// Logs how lines go on, by this log: at the end of each interval of the ticker what all did so far, by
-/// the book of all lines, in a line of level Info as that of [`tell_report`], and the drops by cause in another; where a fault ended an
+/// the book of all lines, in a line of level Info as that of [`tell_report`], and the drops by cause in
+/// another, with the requests of unknown communities and contexts that the world counts, and how many
+/// lines of audits were lost, if any were, in a line of level Warn; where a fault ended an
 /// interval, which line's and why, and how many there were so far, in a line of level Warn; where a
 /// line ends, which and why, in a line of level Error.
 #[derive(Drop)]
 pub struct Teller<'r, R> {
     /// By which it logs.
     pub rt: &'r R,
-    /// What the intervals of all workers came to.
+    /// What all workers did in intervals.
     pub book: &'r Book,
     /// What could not be sent.
     pub losses: &'r Losses,
+    /// The lines of audits that wait, and those that were lost; none where none is asked for.
+    pub audits: Option<&'r AuditBacklog>,
 }
 
 impl<R: Log> Teller<'_, R> {
-    // Logs how many datagrams each cause dropped.
-    fn tell_drops(&self, drops: Drops) {
+    // Logs how many datagrams and requests each cause dropped.
+    fn log_drops(&self, drops: Drops, counts: Counts) {
         info!(
             self.rt;
-            "drops TooLong {} Malformed {} BadVersion {} BadKind {} Memory {}",
+            "drops TooLong {} Malformed {} BadVersion {} BadKind {} Memory {} UnknownCommunity {} NoSuchContext {}",
             drops.too_long,
             drops.malformed,
             drops.bad_version,
             drops.bad_kind,
-            drops.memory
+            drops.memory,
+            counts.bad_communities,
+            counts.unknown_contexts
         );
+    }
+
+    // Logs how many lines of audits were lost since it was last logged, if any were.
+    fn log_lost_audits<S: Wait>(&self, rt: &S) {
+        let Some(audits) = self.audits else {
+            return;
+        };
+        let lost = audits.take_lost(rt);
+        if lost > 0 {
+            warn!(self.rt; "{} audit lines lost", lost);
+        }
     }
 }
 
@@ -81,6 +99,7 @@ impl<R: Log> Watch for Teller<'_, R> {
             rt: self.rt,
             book: self.book,
             losses: self.losses,
+            audits: self.audits,
         }
     }
 
@@ -98,8 +117,9 @@ impl<R: Log> Watch for Teller<'_, R> {
             counts.older,
             worked.drops
         );
-        self.tell_drops(worked.by_cause);
+        self.log_drops(worked.by_cause, counts);
         log_losses(self.rt, self.losses);
+        self.log_lost_audits(rt);
     }
 
     fn failed(&mut self, line: LineName, end: End, faults: u64) {

@@ -1,4 +1,4 @@
-//! A watch that keeps what it is told.
+//! A watch that keeps what is reported to it.
 use live_agent::End;
 use live_laps::{Book, LineName, Watch, Worked};
 use live_lock::Counts;
@@ -12,7 +12,7 @@ const TURNS: u32 = 1000;
 // How long it waits between two looks, in milliseconds.
 const TURN_MILLIS: u64 = 10;
 
-/// What all lines did since their start; what workers did, as far as their laps have ended.
+/// What all lines did since their start; what workers did, as far as their intervals have ended.
 #[derive(Clone, Copy, Debug, PartialEq, Eq)]
 pub struct Totals {
     /// The entries of the history since its start.
@@ -21,16 +21,16 @@ pub struct Totals {
     pub requests: u64,
     /// The entries by which the history's base has moved.
     pub older: u64,
-    /// The datagrams that came to a worker and held no request.
+    /// The datagrams that a worker received and that held no request.
     pub drops: u64,
     /// Those of them that held no message.
     pub malformed: u64,
 }
 
-/// What a watch was told of a worker, a port and a ticker.
+/// What was reported to a watch of a worker, a port and a ticker.
 #[derive(Clone, Copy)]
 pub struct Told {
-    /// How many laps the ticker made.
+    /// How many intervals the ticker made.
     pub laps: u64,
     /// The totals behind the last of them.
     pub totals: Totals,
@@ -113,14 +113,14 @@ impl Kept {
         }
     }
 
-    /// What they were told.
+    /// What was reported to them.
     pub fn told<R: Wait>(&self, rt: &R) -> Told {
         *self.told.lock(rt)
     }
 }
 
-/// Keeps what it is told, and holds the ticker at the end of a lap until the other lines have ended,
-/// for 1,000 turns of 10 milliseconds: what it is told of the next lap is then told of all lines.
+/// Keeps what is reported to it, and holds the ticker at the end of an interval until the other lines have ended,
+/// for 1,000 turns of 10 milliseconds: what is reported of the next interval is then of all lines.
 #[derive(Drop)]
 pub struct HoldWatch<'r, R> {
     rt: &'r R,
@@ -128,7 +128,7 @@ pub struct HoldWatch<'r, R> {
 }
 
 impl<'r, R: Wait> HoldWatch<'r, R> {
-    /// One that keeps what it is told here.
+    /// One that keeps here what is reported to it.
     pub fn new(rt: &'r R, kept: &'r Kept) -> HoldWatch<'r, R> {
         HoldWatch { rt, kept }
     }

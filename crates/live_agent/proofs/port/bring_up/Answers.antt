@@ -1,8 +1,7 @@
-use Rattle.std.proofs.Common.{◌∙◌, ◌++◌, ◌∷◌, [], ap, refl, sym, arith}
+use Rattle.std.proofs.Common.{◌∙◌, ap, refl, sym, arith}
 use Rattle.std.specs.Prelude.{true}
 use Rattle.history_core.specs.declared.event.Event.TheVariants as event
 use Rattle.live_sending.specs.Sending.{fault_in}
-use Rattle.live_agent.specs.declared.trace.Item.{Item}
 use Rattle.live_agent.proofs.Turning.{happening}
 use Rattle.std.specs.Prelude.{Option}
 use Rattle.live_agent.specs.declared.trace.End.{End}
@@ -19,7 +18,7 @@ returns-clause-linked g c =
       happens = record { event_is = refl; place = t.place; told = t.told; sent = s.2 };
       behind = omega arith;
       acts = s.1;
-      items_are = c.push_reserved.ensures.items ∙ ap (λ (x : Item). c.args.desk.now.items.items ++ x ∷ []) c.item_of.ensures;
+      recorded = rw c.item_of.ensures at c.record.ensures;
       amount_is = t.amount;
       ends_so = c.end_after_link-ends.ensures;
     }

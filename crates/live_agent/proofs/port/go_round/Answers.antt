@@ -1,16 +1,24 @@
 use Rattle.std.proofs.Common.{◌∙◌, refl, arith}
 use Rattle.live_agent.specs.Turns.{acts_of}
-use Rattle.live_agent.proofs.Running.{goes_more, goes_stops}
+use Rattle.live_agent.proofs.Running.{goes_none, goes_more, goes_stops}
 use Rattle.live_agent.proofs.port.go_round.Goals as goal
+
+pub loop-i-init : goal.loop-i-init
+loop-i-init g c =
+    record {
+      goes = goes_none g.W.Wire.went g.met.W.Wire.starts g.K.Recorder.went g.met.K.Recorder.starts acts_of _ _ _ _;
+      failures = refl;
+      parts = refl;
+    }
 
 pub returns-in-Some-clause-run : goal.returns-in-Some-clause-run
 returns-in-Some-clause-run g c =
-    goes_stops g.W.Wire.went g.met.W.Wire.goes_on acts_of _ c.args.plan.now.rounds c.loop-i._i _ _ _ _ _ _ _ _ _ _ _ c.in-Some.end _ c.loop-i.invariant.goes c.reserve.ensures.items c.in-Some.ensures.turn (omega arith) refl refl
+    goes_stops g.W.Wire.went g.met.W.Wire.goes_on g.K.Recorder.went g.met.K.Recorder.goes_on acts_of _ c.args.plan.now.rounds c.loop-i._i _ _ _ _ _ _ _ _ _ _ c.in-Some.end c.loop-i.invariant.goes c.reserve.ensures.unchanged c.in-Some.ensures.turn (omega arith)
 
 pub loop-i-preserved : goal.loop-i-preserved
 loop-i-preserved g c =
     record {
-      goes = goes_more g.W.Wire.went g.met.W.Wire.goes_on acts_of _ c.loop-i._i _ _ _ _ _ _ _ _ _ _ c.loop-i.invariant.goes c.reserve.ensures.items c.in_default.ensures.turn;
+      goes = goes_more g.W.Wire.went g.met.W.Wire.goes_on g.K.Recorder.went g.met.K.Recorder.goes_on acts_of _ c.loop-i._i _ _ _ _ _ _ _ _ _ _ c.loop-i.invariant.goes c.reserve.ensures.unchanged c.in_default.ensures.turn;
       failures = c.in_default.ensures.failures ∙ c.loop-i.invariant.failures;
       parts = c.in_default.ensures.parts ∙ c.loop-i.invariant.parts;
     }

@@ -18,7 +18,7 @@ returns-in-Err-clause-turn g c = λ a went.
       is = (refl, c.in-Err.ensures.fault);
       behind = tt;
       acts = went;
-      items_are = c.push_reserved.ensures.items;
+      recorded = c.record.ensures;
       amount_is = omega arith;
       ends_so = refl;
     }
@@ -33,7 +33,7 @@ returns-clause-turn g c = λ a went.
       is = (refl, record { frame = f; reads = c.in-Ok.ensures.found; happens = record { event_is = refl; place = t.place; told = t.told; sent = s.2 } });
       behind = omega arith;
       acts = g.met.W.Wire.goes_on _ _ _ _ _ went s.1;
-      items_are = c.noted.ensures.items;
+      recorded = c.noted.ensures.recorded;
       amount_is = amount_is _ _ c.frame-applied.result t.amount;
       ends_so = c.noted.ensures.ends;
     }

@@ -18,7 +18,7 @@ returns-clause-turn g c =
       is = record { event_is = refl; place = t.place; told = t.told; sent = s.2 };
       behind = omega arith;
       acts = s.1;
-      items_are = c.noted.ensures.items;
+      recorded = c.noted.ensures.recorded;
       amount_is = amount_is _ _ c.tick-applied.result t.amount;
       ends_so = c.noted.ensures.ends;
     }

@@ -20,7 +20,7 @@ returns-in-Err-clause-turn g c = λ a went.
       is = (refl, c.in-Err.ensures.cause);
       behind = tt;
       acts = g.met.W.GatedWire.acts_are _ _ (got request_room c.args.peer c.args.octets.now ∷ []) went;
-      items_are = c.push_reserved.ensures.items;
+      recorded = c.record.ensures;
       amount_is = omega arith;
       ends_so = refl;
     }
@@ -34,8 +34,8 @@ returns-clause-turn g c = λ a went.
       turn = was_taken (record { room = request_room; peer = c.args.peer; octets = c.args.octets.now }) (happening (event.Request r) c.args.share.now.amount c.request-applied.result c.request-applied.new.buffer (fault_in c.send_answer-sent.result) s.0);
       is = (refl, record { request = r; reads = c.in-Ok.ensures.request; happens = record { event_is = refl; place = t.place; told = t.told; sent = s.2 } });
       behind = omega arith;
-      acts = taken_deeds g.W.Wire.went g.W.GatedWire.did g.met.W.GatedWire.acts_are g.met.W.GatedWire.deeds_go_on _ _ _ _ _ c.args.worker (got request_room c.args.peer c.args.octets.now) s.0 _ went c.before-2.ensures.did s.1 (rw c.number_of.ensures at c.tell.ensures.did);
-      items_are = c.noted.ensures.items;
+      acts = taken_deeds g.W.Wire.went g.W.GatedWire.did g.met.W.GatedWire.acts_are g.met.W.GatedWire.deeds_go_on _ _ _ _ _ c.args.worker (got request_room c.args.peer c.args.octets.now) s.0 _ went c.before-2.ensures.did s.1 c.visit_behind.ensures.did;
+      recorded = c.noted.ensures.recorded;
       amount_is = amount_is _ _ c.request-applied.result t.amount;
       ends_so = c.noted.ensures.ends;
     }
@@ -43,4 +43,4 @@ returns-clause-turn g c = λ a went.
 pub returns-clause-failures : goal.returns-clause-failures
 returns-clause-failures g c =
     let fault = fault_in c.send_answer-sent.result in
-    c.tell.ensures.kept ∙ c.send_answer-sent.ensures.failures ∙ failures_noted c.request-applied.result fault _ ∙ ap (λ (e : Option End). failures_by e (g.W.Wire.failures c.before-2.new.self)) (sym c.noted.ensures.ends) ∙ ap (λ n. failures_by c.noted.result n) c.before-2.ensures.kept
+    c.visit_behind.ensures.kept ∙ c.send_answer-sent.ensures.failures ∙ failures_noted c.request-applied.result fault _ ∙ ap (λ (e : Option End). failures_by e (g.W.Wire.failures c.before-2.new.self)) (sym c.noted.ensures.ends) ∙ ap (λ n. failures_by c.noted.result n) c.before-2.ensures.kept
