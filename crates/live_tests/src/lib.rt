@@ -16,6 +16,8 @@
 #![tactic(auto)]
 
 #[cfg(test)]
+mod audited;
+#[cfg(test)]
 mod audits;
 #[cfg(test)]
 mod counted;
