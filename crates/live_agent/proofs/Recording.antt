@@ -1,11 +1,27 @@
 -- What was recorded of a line, as a list of its items.
 use Rattle.std.proofs.Common.{◌≡◌, ℕ, inl, inr, List, [], ◌∷◌, ◌++◌, refl}
+use Rattle.std.specs.Prelude.{Option}
 use Rattle.wire_core.specs.Acts.{Act}
 use Rattle.live_agent.specs.declared.trace.End.{End}
 use Rattle.live_agent.specs.declared.trace.Item.{Item}
 use Rattle.live_agent.specs.Turns.{Turn, item_of}
 use Rattle.live_agent.specs.Runs.{HasRun, all_items, adds}
-use Rattle.live_agent.specs.Lines.{Setting, HasPortRun}
+use Rattle.live_agent.specs.Lines.{Setting, HasLinked, HasPortRun}
+
+-- The link of a port went up, behind memory that was made for its item.
+pub linked_behind : {W K : Type 0} (went : W → List Act → W → Type 0) (kept : K → List Item → K → Type 0)
+    → ((a b c : K) (xs ys : List Item) → kept a xs b → kept b ys c → kept a (xs ++ ys) c)
+    → (s : Setting) (port : ℕ) (a b : W) (k lent l : K) (amount later : ℕ) (ends : Option End)
+    → kept k [] lent → HasLinked went kept s port a b lent l amount later ends → HasLinked went kept s port a b k l amount later ends
+linked_behind went kept keeps_on s port a b k lent l amount later ends same linked = record {
+  happening = linked.happening;
+  happens = linked.happens;
+  behind = linked.behind;
+  acts = linked.acts;
+  recorded = keeps_on k lent l [] (item_of linked.happening.applied ∷ []) same linked.recorded;
+  amount_is = linked.amount_is;
+  ends_so = linked.ends_so;
+}
 
 -- A line recorded these items, and ran as one that kept them in a list.
 pub run_traced : {W D K : Type 0} (went : W → List D → W → Type 0) (kept : K → List Item → K → Type 0) (does : Turn → List D) (is_turn : Turn → Type 0) (rounds : ℕ) (a b : W) (k l : K) (amount later : ℕ) (how : End)

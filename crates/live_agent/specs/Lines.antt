@@ -1,6 +1,6 @@
 -- The kinds of lines, by their turns: a worker answers requests, a port takes frames, and the ticker
 -- lets seconds pass.
-use Rattle.std.specs.Prelude.{◌≡◌, ◌⊎◌, ℕ, ℤ, ◌+◌, ◌≤◌, true, false, List, [], ◌∷◌, ◌++◌, Option, Some, None}
+use Rattle.std.specs.Prelude.{◌≡◌, ◌⊎◌, ℕ, ℤ, pos, ◌+◌, ◌≤◌, true, false, List, [], ◌∷◌, ◌++◌, Option, Some, None}
 use Rattle.audit_core.specs.declared.audit.Audit.{Audit}
 use Rattle.std.specs.declared.net.socket_addr.SocketAddr.{SocketAddr}
 use Rattle.frame_core.specs.Frames.{IsFrame, IsFault}
@@ -85,10 +85,10 @@ IsWorkerTurn s paused = ⊥
 
 -- the request-id of the request that an event is
 abbrev pub request_id_of : Event → ℤ
-request_id_of (event.Frame port frame) = 0
-request_id_of event.Tick = 0
-request_id_of (event.Link port up) = 0
-request_id_of (event.Policy tables) = 0
+request_id_of (event.Frame port frame) = pos 0
+request_id_of event.Tick = pos 0
+request_id_of (event.Link port up) = pos 0
+request_id_of (event.Policy tables) = pos 0
 request_id_of (event.Request request) = request.id
 
 -- A request from this peer, of this request-id, made the entry of this receipt.

@@ -64,8 +64,7 @@ impl Gate for OpenGate {
         _worker: usize,
         _request: AnsweredRequest,
         _audit: &Audit,
-    ) {
-    }
+    ) {}
 }
 
 /// A worker's wire, which has a gate: what both do is one list, in order.

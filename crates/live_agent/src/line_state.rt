@@ -16,26 +16,6 @@ pub struct LineState<K> {
     pub recorder: K,
 }
 
-impl<K: Recorder> LineState<K> {
-    /// One whose buffer is empty.
-    pub fn new(recorder: K) -> LineState<K>
-        ensures { result.recorder ≡ recorder }
-    {
-        LineState {
-            buffer: Buffer::new(),
-            recorder,
-        }
-    }
-
-    /// What is left where the line ended so.
-    pub fn left(self, end: End) -> (End, K)
-        ensures { result ≡ (end, self.recorder) }
-    {
-        let LineState { recorder, .. } = self;
-        (end, recorder)
-    }
-}
-
 /// Records what became of an event, for which there is memory, and says how that ends the line.
 pub fn noted<K: Recorder>(
     recorder: &mut K,

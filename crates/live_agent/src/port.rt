@@ -13,6 +13,7 @@ use crate::outgoing::{send_forwarded, send_ports};
 use crate::plan::Plan;
 use crate::recorder::Recorder;
 use crate::trace::{End, Item, Refusal};
+use agent_core::Buffer;
 use frame_core::{MAX_FRAME_LEN, read_frame};
 use history_core::Applied;
 use live_lock::{Live, Run, Share};
@@ -42,15 +43,39 @@ pub fn port_run<O: MibObject, L: Run, W: Wire, K: Recorder, R: Wait>(
     ensures failures { W.failures wire.new ≡ failures_at result.0 (W.failures wire.old) }
     ensures parts { share.new.parts ≡ share.old.parts }
 {
-    let mut state = LineState::new(recorder);
+    let mut state = LineState {
+        buffer: Buffer::new(),
+        recorder,
+    };
+    let end = link_and_go_round(rt, plan, live, share, wire, port, &mut state);
+    let LineState { recorder, .. } = state;
+    (end, recorder)
+}
+
+// The link of a port goes up, and then its rounds run.
+fn link_and_go_round<O: MibObject, L: Run, W: Wire, K: Recorder, R: Wait>(
+    rt: &R,
+    plan: &Plan,
+    live: &Live<O, L>,
+    share: &mut Share<L>,
+    wire: &mut W,
+    port: u16,
+    state: &mut LineState<K>,
+) -> End
+    requires { 0 < share.old.parts }
+    ensures run { HasPortRun W.went K.went (setting_of L.start plan.now) port plan.now.rounds
+        wire.old wire.new state.old.recorder state.new.recorder share.old.amount share.new.amount
+        result }
+    ensures failures { W.failures wire.new ≡ failures_at result (W.failures wire.old) }
+    ensures parts { share.new.parts ≡ share.old.parts }
+{
     if state.recorder.reserve().is_err() {
-        return state.left(End::Memory);
+        return End::Memory;
     }
-    if let Some(end) = bring_up(rt, plan, live, share, wire, port, &mut state) {
-        return state.left(end);
+    if let Some(end) = bring_up(rt, plan, live, share, wire, port, state) {
+        return end;
     }
-    let end = go_round(rt, plan, live, share, wire, port, &mut state);
-    state.left(end)
+    go_round(rt, plan, live, share, wire, port, state)
 }
 
 // The link of a port goes up, with memory for its item.
@@ -112,9 +137,13 @@ pub fn port_lap<O: MibObject, L: Run, W: Wire, K: Recorder, R: Wait>(
     ensures failures { W.failures wire.new ≡ failures_at result.0 (W.failures wire.old) }
     ensures parts { share.new.parts ≡ share.old.parts }
 {
-    let mut state = LineState::new(recorder);
+    let mut state = LineState {
+        buffer: Buffer::new(),
+        recorder,
+    };
     let end = go_round(rt, plan, live, share, wire, port, &mut state);
-    state.left(end)
+    let LineState { recorder, .. } = state;
+    (end, recorder)
 }
 
 // The rounds of a port, behind what was recorded before.
@@ -209,7 +238,7 @@ fn take_frame<O: MibObject, L: Run, W: Wire, K: Recorder, R: Wait>(
     let frame = match read_frame(octets) {
         Ok(frame) => frame,
         Err(fault) => {
-    XX(Refusal::Frame(fault)));
+            state.recorder.record(Item::Refused(Refusal::Frame(fault)));
             return None;
         }
     };

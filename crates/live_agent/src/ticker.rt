@@ -11,6 +11,7 @@ use crate::paced::PacedWire;
 use crate::plan::Plan;
 use crate::recorder::Recorder;
 use crate::trace::End;
+use agent_core::Buffer;
 use live_lock::{Live, Run, Share};
 use setphase_core::MibObject;
 use std::sync::Wait;
@@ -34,19 +35,42 @@ pub fn ticker_run<O: MibObject, L: Run, T: PacedWire, K: Recorder, R: Wait>(
     ensures failures { T.failures wire.new ≡ failures_at result.0 (T.failures wire.old) }
     ensures parts { share.new.parts ≡ share.old.parts }
 {
-    let mut state = LineState::new(recorder);
+    let mut state = LineState {
+        buffer: Buffer::new(),
+        recorder,
+    };
+    let end = tick_rounds(rt, plan, live, share, wire, &mut state);
+    let LineState { recorder, .. } = state;
+    (end, recorder)
+}
+
+// The ticks of an interval, behind what was recorded before.
+fn tick_rounds<O: MibObject, L: Run, T: PacedWire, K: Recorder, R: Wait>(
+    rt: &R,
+    plan: &Plan,
+    live: &Live<O, L>,
+    share: &mut Share<L>,
+    wire: &mut T,
+    state: &mut LineState<K>,
+) -> End
+    requires { 0 < share.old.parts }
+    ensures run { HasTicked T.did K.went (setting_of L.start plan.now) plan.now.rounds wire.old
+        wire.new state.old.recorder state.new.recorder share.old.amount share.new.amount result }
+    ensures failures { T.failures wire.new ≡ failures_at result (T.failures wire.old) }
+    ensures parts { share.new.parts ≡ share.old.parts }
+{
     for _i in 0..plan.rounds {
         if state.recorder.reserve().is_err() {
-            return state.left(End::Memory);
+            return End::Memory;
         }
         if !wire.next() {
-            return state.left(End::Closed);
+            return End::Closed;
         }
-        if let Some(end) = tick_once(rt, plan, live, share, wire, &mut state) {
-            return state.left(end);
+        if let Some(end) = tick_once(rt, plan, live, share, wire, state) {
+            return end;
         }
     }
-    state.left(End::Rounds)
+    End::Rounds
 }
 
 // A second passes, with memory for its item.

@@ -15,6 +15,7 @@ use crate::outgoing::send_answer;
 use crate::plan::Plan;
 use crate::recorder::Recorder;
 use crate::trace::{End, Item, Refusal};
+use agent_core::Buffer;
 use audit_core::Audit;
 use history_core::{Applied, Receipt};
 use live_lock::{Live, Run, Share};
@@ -47,17 +48,42 @@ pub fn worker_run<O: MibObject, L: Run, W: GatedWire, K: Recorder, R: Wait>(
     ensures failures { W.failures wire.new ≡ failures_at result.0 (W.failures wire.old) }
     ensures parts { share.new.parts ≡ share.old.parts }
 {
-    let mut state = LineState::new(recorder);
-    let mut room = [0u8; REQUEST_ROOM];
+    let mut state = LineState {
+        buffer: Buffer::new(),
+        recorder,
+    };
+    let end = work_rounds(rt, plan, live, share, wire, worker, &mut state);
+    let LineState { recorder, .. } = state;
+    (end, recorder)
+}
+
+// The rounds of a worker, behind what was recorded before.
+fn work_rounds<O: MibObject, L: Run, W: GatedWire, K: Recorder, R: Wait>(
+    rt: &R,
+    plan: &Plan,
+    live: &Live<O, L>,
+    share: &mut Share<L>,
+    wire: &mut W,
+    worker: usize,
+    state: &mut LineState<K>,
+) -> End
+    requires { 0 < share.old.parts }
+    ensures run { HasWorked W.did K.went (setting_of L.start plan.now) plan.now.rounds worker
+        wire.old wire.new state.old.recorder state.new.recorder share.old.amount share.new.amount
+        result }
+    ensures failures { W.failures wire.new ≡ failures_at result (W.failures wire.old) }
+    ensures parts { share.new.parts ≡ share.old.parts }
+{
+    let mut octets = [0u8; REQUEST_ROOM];
     for _i in 0..plan.rounds {
         if state.recorder.reserve().is_err() {
-            return state.left(End::Memory);
+            return End::Memory;
         }
-        if let Some(end) = worker_turn(rt, plan, live, share, wire, worker, &mut state, &mut room) {
-            return state.left(end);
+        if let Some(end) = worker_turn(rt, plan, live, share, wire, worker, state, &mut octets) {
+            return end;
         }
     }
-    state.left(End::Rounds)
+    End::Rounds
 }
 
 // One turn of a worker, with memory for its item, and a buffer for a request.
@@ -157,19 +183,22 @@ fn visit_behind<W: GatedWire, R: Wait>(
     worker: usize,
     peer: SocketAddr,
     request_id: i32,
-    entry: Option<(&Receipt, &Audit)>,
+    made: Option<(&Receipt, &Audit)>,
 )
     ensures did { W.did wire.old (visits_behind worker peer request_id
-        (option_map (λ entry. (entry.0.now, entry.1.now)) entry)) wire.new }
+        (option_map (λ entry. (entry.0.now, entry.1.now)) made.entry)) wire.new }
     ensures kept { W.failures wire.new ≡ W.failures wire.old }
 {
-    if let Some((receipt, audit)) = entry {
-        let number = receipt.number;
-        let request = AnsweredRequest {
-            number,
-            peer,
-            request_id,
-        };
-        wire.after(rt, worker, request, audit);
+    match made {
+        Some((receipt, audit)) => {
+            let number = receipt.number;
+            let request = AnsweredRequest {
+                number,
+                peer,
+                request_id,
+            };
+            wire.after(rt, worker, request, audit);
+        }
+        None => {}
     }
 }

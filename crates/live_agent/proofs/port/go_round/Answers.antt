@@ -1,6 +1,6 @@
 use Rattle.std.proofs.Common.{◌∙◌, refl, arith}
 use Rattle.live_agent.specs.Turns.{acts_of}
-use Rattle.live_agent.proofs.Running.{goes_none, goes_more, goes_stops}
+use Rattle.live_agent.proofs.Running.{goes_none, goes_more, goes_stops, goes_round, goes_short}
 use Rattle.live_agent.proofs.port.go_round.Goals as goal
 
 pub loop-i-init : goal.loop-i-init
@@ -22,3 +22,11 @@ loop-i-preserved g c =
       failures = c.in_default.ensures.failures ∙ c.loop-i.invariant.failures;
       parts = c.in_default.ensures.parts ∙ c.loop-i.invariant.parts;
     }
+
+pub returns-then-is_err-clause-run : goal.returns-then-is_err-clause-run
+returns-then-is_err-clause-run g c =
+    goes_short g.W.Wire.went g.K.Recorder.went g.met.K.Recorder.goes_on acts_of _ c.args.plan.now.rounds c.loop-i._i _ _ _ _ _ _ _ c.loop-i.invariant.goes c.reserve.ensures.unchanged (omega arith)
+
+pub returns-clause-run : goal.returns-clause-run
+returns-clause-run g c =
+    goes_round g.W.Wire.went g.K.Recorder.went acts_of _ c.args.plan.now.rounds c.loop-i._i _ _ _ _ _ _ c.loop-i.invariant.goes (omega arith)

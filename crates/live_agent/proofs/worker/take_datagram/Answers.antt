@@ -1,4 +1,5 @@
-use Rattle.std.proofs.Common.{◌∙◌, ◌∷◌, [], ap, refl, sym, arith}
+use Rattle.std.proofs.Common.{◌≡◌, ◌∙◌, ◌∷◌, [], ap, refl, sym, arith, rules, to_z, of_z, w32}
+use Rattle.std.proofs.Math.Facts.{to_z-of_z}
 use Rattle.history_core.specs.declared.event.Event.TheVariants as event
 use Rattle.wire_core.specs.Acts.{got}
 use Rattle.live_sending.specs.Sending.{fault_in}
@@ -30,11 +31,12 @@ returns-clause-turn g c = λ a went.
     let s = c.send_answer-sent.ensures.sends in
     let t = c.request-applied.ensures in
     let r = c.in-Ok.request in
+    let same : to_z w32 (of_z w32 r.id) ≡ r.id = search (rules, to_z-of_z) in
     record {
       turn = was_taken (record { room = request_room; peer = c.args.peer; octets = c.args.octets.now }) (happening (event.Request r) c.args.share.now.amount c.request-applied.result c.request-applied.new.buffer (fault_in c.send_answer-sent.result) s.0);
       is = (refl, record { request = r; reads = c.in-Ok.ensures.request; happens = record { event_is = refl; place = t.place; told = t.told; sent = s.2 } });
       behind = omega arith;
-      acts = taken_deeds g.W.Wire.went g.W.GatedWire.did g.met.W.GatedWire.acts_are g.met.W.GatedWire.deeds_go_on _ _ _ _ _ c.args.worker (got request_room c.args.peer c.args.octets.now) s.0 _ went c.before-2.ensures.did s.1 c.visit_behind.ensures.did;
+      acts = taken_deeds g.W.Wire.went g.W.GatedWire.did g.met.W.GatedWire.acts_are g.met.W.GatedWire.deeds_go_on _ _ _ _ _ c.args.worker (got request_room c.args.peer c.args.octets.now) s.0 _ went c.before-2.ensures.did s.1 (rw (c.audited_of.ensures, same) at c.visit_behind.ensures.did);
       recorded = c.noted.ensures.recorded;
       amount_is = amount_is _ _ c.request-applied.result t.amount;
       ends_so = c.noted.ensures.ends;

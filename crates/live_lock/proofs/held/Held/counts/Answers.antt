@@ -1,4 +1,4 @@
-use Rattle.std.proofs.Common.{◌≡◌, ◌-◌, ℕ, subst, arith}
+use Rattle.std.proofs.Common.{◌≡◌, ◌-◌, ℕ, ap, subst, arith}
 use Rattle.live_lock.specs.Sharing.{IsHeld}
 use Rattle.live_lock.proofs.held.Held.counts.Goals as goal
 
@@ -19,4 +19,6 @@ returns-clause-counted g c =
       behind = omega arith;
       legal = c.legal.ensures;
       older = omega arith;
+      bad_communities = ap (λ w. w.bad_communities) c.world-world.ensures;
+      unknown_contexts = ap (λ w. w.unknown_contexts) c.world-world.ensures;
     }

@@ -1,7 +1,7 @@
 use Rattle.std.proofs.Common.{◌∙◌, [], refl, arith}
 use Rattle.live_agent.specs.Lines.{worker_deeds}
-use Rattle.live_agent.proofs.Running.{goes_none, goes_more, goes_stops}
-use Rattle.live_agent.proofs.worker.worker_run.Goals as goal
+use Rattle.live_agent.proofs.Running.{goes_none, goes_more, goes_stops, goes_round, goes_short}
+use Rattle.live_agent.proofs.worker.work_rounds.Goals as goal
 
 pub loop-i-init : goal.loop-i-init
 loop-i-init g c =
@@ -22,3 +22,11 @@ loop-i-preserved g c =
       failures = c.in_default.ensures.failures ∙ c.loop-i.invariant.failures;
       parts = c.in_default.ensures.parts ∙ c.loop-i.invariant.parts;
     }
+
+pub returns-then-is_err-clause-run : goal.returns-then-is_err-clause-run
+returns-then-is_err-clause-run g c =
+    goes_short g.W.GatedWire.did g.K.Recorder.went g.met.K.Recorder.goes_on (worker_deeds c.args.worker) _ c.args.plan.now.rounds c.loop-i._i _ _ _ _ _ _ _ c.loop-i.invariant.goes c.reserve.ensures.unchanged (omega arith)
+
+pub returns-clause-run : goal.returns-clause-run
+returns-clause-run g c =
+    goes_round g.W.GatedWire.did g.K.Recorder.went (worker_deeds c.args.worker) _ c.args.plan.now.rounds c.loop-i._i _ _ _ _ _ _ c.loop-i.invariant.goes (omega arith)

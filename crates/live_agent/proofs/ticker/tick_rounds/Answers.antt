@@ -2,9 +2,9 @@ use Rattle.std.proofs.Common.{◌≡◌, ◌∙◌, ◌∷◌, [], Bool, true, f
 use Rattle.live_agent.specs.declared.trace.End.TheVariants as end
 use Rattle.live_agent.specs.Deeds.{answered}
 use Rattle.live_agent.specs.Lines.{setting_of, ticker_deeds}
-use Rattle.live_agent.proofs.Running.{goes_none, goes_more, goes_stops}
+use Rattle.live_agent.proofs.Running.{goes_none, goes_more, goes_stops, goes_round, goes_short}
 use Rattle.live_agent.proofs.Ticking.{second_turn, pause_turn}
-use Rattle.live_agent.proofs.ticker.ticker_run.Goals as goal
+use Rattle.live_agent.proofs.ticker.tick_rounds.Goals as goal
 
 pub loop-i-init : goal.loop-i-init
 loop-i-init g c =
@@ -42,3 +42,11 @@ loop-i-preserved g c =
       failures = c.in_default.ensures.failures ∙ c.next.ensures.kept ∙ c.loop-i.invariant.failures;
       parts = c.in_default.ensures.parts ∙ c.loop-i.invariant.parts;
     }
+
+pub returns-then-is_err-clause-run : goal.returns-then-is_err-clause-run
+returns-then-is_err-clause-run g c =
+    goes_short g.T.PacedWire.did g.K.Recorder.went g.met.K.Recorder.goes_on ticker_deeds _ c.args.plan.now.rounds c.loop-i._i _ _ _ _ _ _ _ c.loop-i.invariant.goes c.reserve.ensures.unchanged (omega arith)
+
+pub returns-clause-run : goal.returns-clause-run
+returns-clause-run g c =
+    goes_round g.T.PacedWire.did g.K.Recorder.went ticker_deeds _ c.args.plan.now.rounds c.loop-i._i _ _ _ _ _ _ c.loop-i.invariant.goes (omega arith)
