@@ -1,8 +1,8 @@
 -- What a record keeps of one visit.
-use Rattle.std.proofs.Common.{◌≡◌, ◌≢◌, ◌∙◌, ◌⊎◌, ℕ, List, [], ◌∷◌, ◌++◌, Option, Some, None, inl, inr, refl, sym, ap, append-nil}
+use Rattle.std.proofs.Common.{◌≢◌, ◌∙◌, ℕ, List, [], ◌∷◌, ◌++◌, Option, Some, None, inl, inr, refl, sym, ap, append-nil}
 use Rattle.audit_core.specs.declared.audit.Audit.{Audit}
 use Rattle.live_agent.specs.declared.gate.AnsweredRequest.{AnsweredRequest}
-use Rattle.live_agent.specs.Deeds.{Visit, before, after}
+use Rattle.live_agent.specs.Deeds.{before, after}
 use Rattle.live_audit.specs.AuditLines.{audit_line}
 use Rattle.live_audit.specs.Records.{GoesRecorded, HasLine}
 
