@@ -1,10 +1,10 @@
 -- What a record keeps of one visit.
-use Rattle.std.proofs.Common.{◌≡◌, ◌≢◌, ◌∙◌, ◌⊎◌, ℕ, List, [], ◌∷◌, ◌++◌, Option, Some, None, inl, inr, refl, sym, ap, append-nil}
+use Rattle.std.proofs.Common.{◌≢◌, ◌∙◌, ℕ, List, [], ◌∷◌, ◌++◌, Option, Some, None, inl, inr, refl, sym, ap, append-nil}
 use Rattle.audit_core.specs.declared.audit.Audit.{Audit}
 use Rattle.live_agent.specs.declared.gate.AnsweredRequest.{AnsweredRequest}
-use Rattle.live_agent.specs.Deeds.{Visit, before, after}
-use Rattle.live_audit.specs.AuditLines.{audit_line, request_text}
-use Rattle.live_audit.specs.Records.{GoesRecorded}
+use Rattle.live_agent.specs.Deeds.{before, after}
+use Rattle.live_audit.specs.AuditLines.{audit_line}
+use Rattle.live_audit.specs.Records.{GoesRecorded, HasLine}
 
 ends : (xs : List ℕ) (x : ℕ) → xs ++ x ∷ [] ≢ []
 ends [] x is = cc
@@ -14,12 +14,12 @@ line_ends : (request : AnsweredRequest) (audit : Audit) → audit_line request a
 unfolding audit_line
 line_ends request audit is = ends _ 10 (sym (append-nil (audit_line request audit)) ∙ is)
 
-pub line_kept : (kept new : List ℕ) (worker : ℕ) (request : AnsweredRequest) (audit : Audit) → new ≡ kept ++ audit_line request audit → GoesRecorded (Some kept) (after worker request audit ∷ []) (Some new)
-line_kept kept new worker request audit is =
-    inl (ap Some (is ∙ ap (λ l. kept ++ l) (sym (append-nil (audit_line request audit)))))
-
-pub line_lost : (lines : Option (List ℕ)) (worker : ℕ) (request : AnsweredRequest) (audit : Audit) → GoesRecorded lines (after worker request audit ∷ []) None
-line_lost lines worker request audit = inr (refl, λ is. line_ends request audit is)
+-- one line more is what a visit with that line leaves
+pub recorded : (lines lines' : Option (List ℕ)) (worker : ℕ) (request : AnsweredRequest) (audit : Audit) → HasLine request audit lines lines' → GoesRecorded lines (after worker request audit ∷ []) lines'
+recorded None lines' worker request audit (inl is) = inl is
+recorded (Some kept) lines' worker request audit (inl is) =
+    inl (is ∙ ap (λ l. Some (kept ++ l)) (sym (append-nil (audit_line request audit))))
+recorded lines lines' worker request audit (inr is) = inr (is, λ nil. line_ends request audit nil)
 
 pub unvisited : (lines : Option (List ℕ)) (worker : ℕ) → GoesRecorded lines (before worker ∷ []) lines
 unvisited None worker = inl refl

@@ -1,5 +1,5 @@
 -- Lines that wait in the queue to be written, by their octets, and those that were lost.
-use Rattle.std.specs.Prelude.{ℕ, ◌+◌, ◌-◌, ◌^◌, min, nat_le, if◌then◌else◌}
+use Rattle.std.specs.Prelude.{ℕ, ◌+◌, ◌-◌, ◌^◌, min}
 use Rattle.live_audit.specs.declared.backlog.Backlog.{Backlog}
 
 -- how many lines more are lost; the count stops at 2^64 - 1

@@ -26,9 +26,27 @@ impl fmt::Display for WrittenRequest {
     }
 }
 
+// A request and its audit.
+#[derive(Drop)]
+struct WrittenLine<'a> {
+    request: AnsweredRequest,
+    audit: &'a Audit,
+}
+
+/// As `17 192.0.2.7:40000 12 get 0 0 empty`, with a line feed behind that.
+impl fmt::Display for WrittenLine<'_> {
+    ghost output = { λ line. Some (audit_line line.request line.audit.now) };
+
+    #[tactic(auto, unfolding(crate::specs::AuditLines::audit_line))]
+    fn fmt<W: fmt::Write>(&self, f: &mut fmt::Formatter<W>) -> fmt::Result {
+        let request = WrittenRequest(self.request);
+        let audit = self.audit;
+        writeln!(f, "{request} {audit}")
+    }
+}
+
 /// The line of a request: the number of its entry, who asked, the request-id and the audit, with a
 /// blank between them, and a line feed, as `17 192.0.2.7:40000 12 get 0 0 empty`. Takes memory for it.
-#[tactic(auto, unfolding(crate::specs::AuditLines::audit_line))]
 pub fn audited_line(
     alloc: Global,
     request: AnsweredRequest,
@@ -36,6 +54,5 @@ pub fn audited_line(
 ) -> Result<String, AllocError>
     ensures { IfOk result (λ line. string_bytes line ≡ audit_line request audit.now) }
 {
-    let request = WrittenRequest(request);
-    format!(in alloc; "{request} {audit}\n")
+    WrittenLine { request, audit }.to_string(alloc)
 }

@@ -1,7 +1,7 @@
 //! A gate that keeps the lines of its requests in memory.
-ghost use Rattle.std.specs.Prelude.{◌≡◌, ◌++◌, [], Some, None, string_bytes, option_map, IfSome, IfOk};
+ghost use Rattle.std.specs.Prelude.{◌≡◌, ◌++◌, [], Some, string_bytes, option_map, IfOk};
 ghost use Rattle.live_audit.specs.AuditLines.{audit_line};
-ghost use Rattle.live_audit.specs.declared.record.RecordedAudits.{RecordedAudits};
+ghost use Rattle.live_audit.specs.Records.{HasLine};
 
 use crate::line::audited_line;
 use audit_core::Audit;
@@ -64,6 +64,21 @@ fn with_line(
     Ok(lines)
 }
 
+// Lines with that of a request behind them; none where there were none, or there is no memory for it.
+fn more_lines(
+    alloc: Global,
+    lines: Option<String>,
+    request: AnsweredRequest,
+    audit: &Audit,
+) -> Option<String>
+    ensures { HasLine request audit.now (option_map string_bytes lines) (option_map string_bytes result) }
+{
+    match lines {
+        Some(lines) => with_line(alloc, lines, request, audit).ok(),
+        None => None,
+    }
+}
+
 impl Gate for RecordedAudits {
     ghost use Rattle.live_audit.specs.Records.{GoesRecorded};
     ghost use Rattle.live_audit.specs.RecordLaws.{starts, goes_on};
@@ -74,12 +89,10 @@ impl Gate for RecordedAudits {
 
     ghost goes_on = { goes_on };
 
+    #[tactic(auto, using(crate::proofs::Recorded::unvisited))]
     fn before<R: Wait>(&mut self, _rt: &R, _worker: usize) {}
 
     fn after<R: Wait>(&mut self, _rt: &R, _worker: usize, request: AnsweredRequest, audit: &Audit) {
-        self.lines = match self.lines.take() {
-            Some(lines) => with_line(self.alloc, lines, request, audit).ok(),
-            None => None,
-        };
+        self.lines = more_lines(self.alloc, self.lines.take(), request, audit);
     }
 }

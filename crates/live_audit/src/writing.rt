@@ -1,5 +1,5 @@
 //! The task that writes the lines.
-ghost use Rattle.std.specs.Prelude.{◌≡◌, ◌++◌, ◌+◌, ◌-◌, ◌^◌, [], min, string_bytes, OnOk, OnErr};
+ghost use Rattle.std.specs.Prelude.{◌≡◌, ◌++◌, ◌+◌, ◌-◌, ◌^◌, ◌≤◌, ◌↔◌, [], min, IsTrue, string_bytes, string_len, OnOk, OnErr};
 ghost use Rattle.std.specs.Io.KnownBytes.{Appends};
 
 use crate::backlog::AuditBacklog;
@@ -33,7 +33,9 @@ impl Batch {
     }
 
     // Whether there are enough of them.
-    fn is_full(&self) -> bool {
+    fn is_full(&self) -> bool
+        ensures { IsTrue result ↔ (BATCH_OCTETS ≤ string_len self.now.text) }
+    {
         self.text.len() >= BATCH_OCTETS
     }
 
