@@ -2,7 +2,7 @@
 use Rattle.std.proofs.Common.{◌≡◌, ℕ, suc, ◌<◌, ◌∙◌, sym, ap, refl, Bool, true, false, cond, List, [], ◌∷◌, length, arith, filter, find, Option, Some, None}
 use Rattle.oid_core.specs.Order.{name_lt}
 use Rattle.message_core.specs.Instances.{IsRising, after, next_of}
-use Rattle.agent_core.specs.Reading.{visible}
+use Rattle.agent_core.specs.Reading.{visible, end_under, or_end, next_answer}
 use Rattle.message_core.specs.declared.binding.Binding.{Binding}
 use Rattle.message_core.proofs.Rising.{after-first, find_is}
 
@@ -53,3 +53,8 @@ from_hidden shows rows answer found next row name h here e is hidden so =
     let hides : shows row.name ≡ false = ap shows (sym e) ∙ hidden in
     let past : find (λ r. shows r.name) (row ∷ after row.name rows) ≡ find (λ r. shows r.name) (after row.name rows) = rw hides refl in
     so ∙ ap (λ o. find (λ r. shows r.name) (from rows o)) here ∙ past ∙ ap (find (λ r. shows r.name)) (sym (from_step rows next row name h e is))
+
+-- the answer, by whether an instance was found
+pub answer_found : (rows : List Binding) (name : List ℕ) (found : Bool) (row : Binding) → cond found (Some row) None ≡ next_of rows name → cond found row (end_under name) ≡ next_answer rows name
+answer_found rows name true row e = ap (λ o. or_end o name) e
+answer_found rows name false row e = ap (λ o. or_end o name) e

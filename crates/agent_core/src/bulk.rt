@@ -8,15 +8,15 @@ ghost use Rattle.agent_core.specs.Reading.{visible, next_answer, next_answers};
 ghost use Rattle.agent_core.specs.Looking.{most_looks};
 ghost use Rattle.agent_core.specs.Bulk.{all_end, repetitions, further, bulk_list, count_of, asked_list};
 ghost use Rattle.agent_core.specs.Sending.{kept, AreStands};
-ghost use Rattle.agent_core.specs.Making.{binding_of, IsMade};
 ghost use Rattle.agent_core.specs.Fitting.{fitting_front, fit_into, most_successors, IsFilled};
 ghost use Rattle.message_core.specs.declared.binding.Binding.{Binding};
 
-use crate::nexts::{NextAnswer, find_next};
+use crate::nexts::{copy_of, find_next};
 use crate::sent::Sent;
 use crate::source::{Stand, Successors};
 use message_core::{Binding, Bindings, Request, Value, bindings_room};
 use oid_core::Oid;
+use setphase_core::Spot;
 use std::alloc::{AllocError, Global};
 use std::sync::ledger::Ledger;
 use steps::Steps;
@@ -55,34 +55,30 @@ fn stand_back<S: Successors<L>, L: Ledger>(
     }
 }
 
-// Sends the binding of an answer where there is room for it, and says whether there was. Where a walk
-// stands at its name is kept.
-fn offer_answer<S: Successors<L>, L: Ledger>(
+// Sends the binding of the instance at a spot where there is room for it, and says whether there was.
+// Where a walk stands at its name is kept.
+#[inline(always)]
+fn offer_instance<S: Successors<L>, L: Ledger>(
     alloc: Global,
     source: &S,
-    answer: NextAnswer,
+    spot: &Spot,
     stand: Stand,
     sent: &mut Sent,
 ) -> Result<bool, AllocError>
-    requires there { IsMade (S.is_there source.now) answer }
-    requires encodable { IsEncodableBinding (binding_of (S.at source.now) answer) }
+    requires there { S.is_there source.now spot.now }
+    requires encodable { IsEncodableBinding (S.at source.now spot.now) }
     ensures taken { IfOk result (λ taken. IsTrue taken →
-        sent.new.bindings ≡ sent.old.bindings ++ binding_of (S.at source.now) answer ∷ []) }
+        sent.new.bindings ≡ sent.old.bindings ++ S.at source.now spot.now ∷ []) }
     ensures stand { IfOk result (λ taken. IsTrue taken →
         sent.new.stands ≡ kept sent.old.most_stands sent.old.stands stand) }
     ensures full { IfOk result (λ taken. taken ≡ false → sent.new ≡ sent.old) }
     ensures fits { IfOk result (λ taken. taken ≡ fit_into sent.old.room
-        (sent.old.bindings ++ binding_of (S.at source.now) answer ∷ [])) }
+        (sent.old.bindings ++ S.at source.now spot.now ∷ [])) }
     ensures room { sent.new.room ≡ sent.old.room }
     ensures err { OnErr result (sent.new ≡ sent.old) }
 {
-    match answer {
-        NextAnswer::Instance(spot) => {
-            let name = source.name(alloc, &spot)?;
-            sent.offer(name, source.value(alloc, &spot), stand)
-        }
-        NextAnswer::End(name) => sent.offer(name, Value::EndOfMibView, stand),
-    }
+    let name = source.name(alloc, spot)?;
+    sent.offer(name, source.value(alloc, spot), stand)
 }
 
 // Sends what GetNext answers under a name where there is room for it, and says whether there was.
@@ -91,6 +87,7 @@ fn send_next<S: Successors<L>, L: Ledger>(
     source: &S,
     name: &Oid,
     sent: &mut Sent,
+    spot: &mut Spot,
     steps: &mut Steps<L>,
 ) -> Result<bool, AllocError>
     requires stands { AreStands (S.stands source.now) sent.old.stands (names_of sent.old.bindings) }
@@ -108,8 +105,11 @@ fn send_next<S: Successors<L>, L: Ledger>(
     ensures work { steps.new ≤ steps.old + most_looks (S.shows source.now) (S.instances source.now) }
 {
     let mut stand = stand_at(source, sent, name);
-    let answer = find_next(alloc, source, name, true, &mut stand, steps)?;
-    offer_answer(alloc, source, answer, stand, sent)
+    if find_next(alloc, source, name, true, &mut stand, spot, steps)? {
+        return offer_instance(alloc, source, spot, stand, sent);
+    }
+    let name = copy_of(alloc, name)?;
+    sent.offer(name, Value::EndOfMibView, stand)
 }
 
 // Sends one repetition, GetNext of the name of each of these bindings, as far as there is room, and
@@ -119,6 +119,7 @@ fn repeat_once<S: Successors<L>, L: Ledger>(
     source: &S,
     asked: &[Binding],
     sent: &mut Sent,
+    spot: &mut Spot,
     steps: &mut Steps<L>,
 ) -> Result<bool, AllocError>
     requires stands { AreStands (S.stands source.now) sent.old.stands (names_of sent.old.bindings) }
@@ -140,7 +141,7 @@ fn repeat_once<S: Successors<L>, L: Ledger>(
         steps.new + length sent.old.bindings * most ≤ steps.old + length sent.new.bindings * most) }
 {
     for binding in asked {
-        if !send_next(alloc, source, &binding.name, sent, steps)? {
+        if !send_next(alloc, source, &binding.name, sent, spot, steps)? {
             return Ok(false);
         }
     }
@@ -154,6 +155,7 @@ fn send_successor<S: Successors<L>, L: Ledger>(
     source: &S,
     back: usize,
     sent: &mut Sent,
+    spot: &mut Spot,
     steps: &mut Steps<L>,
 ) -> Result<bool, AllocError>
     requires stands { AreStands (S.stands source.now) sent.old.stands (names_of sent.old.bindings) }
@@ -177,8 +179,11 @@ fn send_successor<S: Successors<L>, L: Ledger>(
 {
     let before = &sent.last(back)[0];
     let mut stand = stand_back(source, sent, back, &before.name);
-    let answer = find_next(alloc, source, &before.name, true, &mut stand, steps)?;
-    offer_answer(alloc, source, answer, stand, sent)
+    if find_next(alloc, source, &before.name, true, &mut stand, spot, steps)? {
+        return offer_instance(alloc, source, spot, stand, sent);
+    }
+    let name = copy_of(alloc, &before.name)?;
+    sent.offer(name, Value::EndOfMibView, stand)
 }
 
 // Sends one repetition more, GetNext of the names of the one that was sent last, which has so many
@@ -188,6 +193,7 @@ fn repeat_last<S: Successors<L>, L: Ledger>(
     source: &S,
     columns: usize,
     sent: &mut Sent,
+    spot: &mut Spot,
     steps: &mut Steps<L>,
 ) -> Result<bool, AllocError>
     requires stands { AreStands (S.stands source.now) sent.old.stands (names_of sent.old.bindings) }
@@ -211,7 +217,7 @@ fn repeat_last<S: Successors<L>, L: Ledger>(
         steps.new + length sent.old.bindings * most ≤ steps.old + length sent.new.bindings * most) }
 {
     for column in 0..columns {
-        if !send_successor(alloc, source, columns, sent, steps)? {
+        if !send_successor(alloc, source, columns, sent, spot, steps)? {
             return Ok(false);
         }
     }
@@ -236,6 +242,7 @@ fn go_on<S: Successors<L>, L: Ledger>(
     columns: usize,
     most: u32,
     sent: &mut Sent,
+    spot: &mut Spot,
     steps: &mut Steps<L>,
 ) -> Result<(), AllocError>
     requires stands { AreStands (S.stands source.now) sent.old.stands (names_of sent.old.bindings) }
@@ -253,7 +260,7 @@ fn go_on<S: Successors<L>, L: Ledger>(
         if has_ended(sent.last(columns)) {
             return Ok(());
         }
-        if !repeat_last(alloc, source, columns, sent, steps)? {
+        if !repeat_last(alloc, source, columns, sent, spot, steps)? {
             return Ok(());
         }
     }
@@ -267,6 +274,7 @@ fn repeat<S: Successors<L>, L: Ledger>(
     asked: &[Binding],
     most: u32,
     sent: &mut Sent,
+    spot: &mut Spot,
     steps: &mut Steps<L>,
 ) -> Result<(), AllocError>
     requires stands { AreStands (S.stands source.now) sent.old.stands (names_of sent.old.bindings) }
@@ -283,10 +291,10 @@ fn repeat<S: Successors<L>, L: Ledger>(
     if most == 0 {
         return Ok(());
     }
-    if !repeat_once(alloc, source, asked, sent, steps)? {
+    if !repeat_once(alloc, source, asked, sent, spot, steps)? {
         return Ok(());
     }
-    go_on(alloc, source, asked.len(), most - 1, sent, steps)
+    go_on(alloc, source, asked.len(), most - 1, sent, spot, steps)
 }
 
 // Sends the first `once` names once, and the others up to `most` times, as far as there is room.
@@ -297,6 +305,7 @@ fn send_list<S: Successors<L>, L: Ledger>(
     most: u32,
     asked: &[Binding],
     sent: &mut Sent,
+    spot: &mut Spot,
     steps: &mut Steps<L>,
 ) -> Result<(), AllocError>
     requires stands { AreStands (S.stands source.now) sent.old.stands (names_of sent.old.bindings) }
@@ -312,10 +321,10 @@ fn send_list<S: Successors<L>, L: Ledger>(
         ≤ steps.old + (length sent.new.bindings + 1) * most }
 {
     let (first, columns) = asked.split_at(once);
-    if !repeat_once(alloc, source, first, sent, steps)? {
+    if !repeat_once(alloc, source, first, sent, spot, steps)? {
         return Ok(());
     }
-    repeat(alloc, source, columns, most, sent, steps)
+    repeat(alloc, source, columns, most, sent, spot, steps)
 }
 
 // A number of a request as a count, 0 where it is negative.
@@ -368,8 +377,12 @@ pub fn get_bulk<S: Successors<L>, L: Ledger>(
     let once = non_repeaters(request);
     let most = max_repetitions(request);
     let columns = asked.len() - once;
-    let mut sent = Sent::new(alloc, bindings_room(request), columns);
-    let filled = send_list(alloc, source, once, most, asked, &mut sent, steps);
+    let list = once.saturating_add(columns.saturating_mul(most as usize));
+    let mut sent = Sent::new(alloc, bindings_room(request), columns, list)?;
+    let mut spot = Spot::new();
+    let filled = send_list(
+        alloc, source, once, most, asked, &mut sent, &mut spot, steps,
+    );
     let bindings = sent.into_bindings();
     filled?;
     Ok(bindings)

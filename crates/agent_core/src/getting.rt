@@ -12,6 +12,7 @@ use crate::reading::next_shown;
 use crate::source::Source;
 use message_core::{Binding, Bindings, Value};
 use oid_core::Oid;
+use setphase_core::Spot;
 use std::alloc::{AllocError, Global};
 use std::sync::ledger::Ledger;
 use steps::Steps;
@@ -48,10 +49,11 @@ fn shows_below<S: Source<L>, L: Ledger>(
         return Ok(true);
     }
     let mut stand = source.start(object);
-    match next_shown(alloc, source, object, false, &mut stand, steps)? {
-        Some(spot) => Ok(object.is_prefix(&source.name(alloc, &spot)?)),
-        None => Ok(false),
+    let mut spot = Spot::new();
+    if !next_shown(alloc, source, object, false, &mut stand, &mut spot, steps)? {
+        return Ok(false);
     }
+    Ok(object.is_prefix(&source.name(alloc, &spot)?))
 }
 
 // Whether an object begins the name, and the name is in the view or the view shows an instance of

@@ -13,7 +13,8 @@
 //! value, and whether the view shows a name; each next instance is a step. The name and the value of
 //! an instance are made where it is sent. A walk stands at a name ([`Stand`]): at the place of the
 //! name among the objects, and knows of those from there on how far the view shows them whole. Each
-//! column of a GetBulk walks by itself. [`Answered`] is what `answer` gives, with an [`Audit`], whose line
+//! column of a GetBulk walks by itself. A request lends its walks one spot, in which they write where
+//! an instance stands; of a GetBulk's list no binding is moved once it is made. [`Answered`] is what `answer` gives, with an [`Audit`], whose line
 //! [`audit_line`] writes.
 //!
 //! # Definitions

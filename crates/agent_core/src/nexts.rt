@@ -1,10 +1,10 @@
 //! GetNext: the binding after a name, or endOfMibView (RFC 3416, 4.2.2).
-ghost use Rattle.std.specs.Prelude.{◌≡◌, ◌+◌, ◌*◌, ◌≤◌, IfOk, length};
+ghost use Rattle.std.specs.Prelude.{◌≡◌, ◌+◌, ◌*◌, ◌≤◌, IfOk, IsTrue, length};
 ghost use Rattle.oid_core.specs.Name.{HasRoot};
 ghost use Rattle.message_core.specs.Encodable.{IsEncodableBinding};
 ghost use Rattle.message_core.specs.Instances.{names_of};
 ghost use Rattle.agent_core.specs.Reading.{visible, next_answer, next_answers};
-ghost use Rattle.agent_core.specs.Making.{binding_of, IsMade};
+ghost use Rattle.agent_core.specs.Making.{binding_of};
 ghost use Rattle.agent_core.specs.Looking.{most_looks};
 
 use crate::reading::next_shown;
@@ -16,17 +16,9 @@ use std::alloc::{AllocError, Global};
 use std::sync::ledger::Ledger;
 use steps::Steps;
 
-/// What GetNext answers under a name, before its binding is made.
-#[derive(Drop)]
-pub enum NextAnswer {
-    /// The instance that stands at this spot.
-    Instance(Spot),
-    /// endOfMibView under the asked name, of which this is a copy.
-    End(Oid),
-}
-
-/// What GetNext answers under a name (RFC 3416, 4.2.2), over the instances that the view shows,
-/// before its binding is made. Only memory can fail.
+/// Whether the view shows an instance behind a name (RFC 3416, 4.2.2), over the instances that the view
+/// shows: where it stands is written in the spot that is lent. Where there is none, GetNext answers
+/// endOfMibView under the name, and the spot may be any. Only memory can fail.
 ///
 /// It asks the source at most once for each instance that the view hides, and once more. The stand is
 /// at the name before the call, and at the binding's name after it. `goes_on` says whether the walk is
@@ -37,26 +29,34 @@ pub fn find_next<S: Successors<L>, L: Ledger>(
     name: &Oid,
     goes_on: bool,
     stand: &mut Stand,
+    spot: &mut Spot,
     steps: &mut Steps<L>,
-) -> Result<NextAnswer, AllocError>
+) -> Result<bool, AllocError>
     requires { S.stands source.now stand.old name.now }
-    ensures answer { IfOk result (λ answer. binding_of (S.at source.now) answer
+    ensures answer { IfOk result (λ found. binding_of (S.at source.now) name.now spot.new found
         ≡ next_answer (visible (S.shows source.now) (S.instances source.now)) name.now) }
-    ensures there { IfOk result (IsMade (S.is_there source.now)) }
-    ensures encodable { IfOk result (λ answer.
-        HasRoot name.now → IsEncodableBinding (binding_of (S.at source.now) answer)) }
-    ensures stands { IfOk result (λ answer.
-        S.stands source.now stand.new (binding_of (S.at source.now) answer).name) }
+    ensures there { IfOk result (λ found. IsTrue found → S.is_there source.now spot.new) }
+    ensures encodable { IfOk result (λ found. HasRoot name.now →
+        IsEncodableBinding (binding_of (S.at source.now) name.now spot.new found)) }
+    ensures stands { IfOk result (λ found. S.stands source.now stand.new
+        (binding_of (S.at source.now) name.now spot.new found).name) }
     ensures work { steps.new ≤ steps.old + most_looks (S.shows source.now) (S.instances source.now) }
 {
     source.known();
     let before = *stand;
-    if let Some(spot) = next_shown(alloc, source, name, goes_on, stand, steps)? {
-        return Ok(NextAnswer::Instance(spot));
+    if next_shown(alloc, source, name, goes_on, stand, spot, steps)? {
+        return Ok(true);
     }
     *stand = before;
+    Ok(false)
+}
+
+/// The copy of a name. Only memory can fail.
+pub fn copy_of(alloc: Global, name: &Oid) -> Result<Oid, AllocError>
+    ensures { IfOk result (λ copy. copy ≡ name.now) }
+{
     match name.try_copy(alloc) {
-        Ok(name) => Ok(NextAnswer::End(name)),
+        Ok(copy) => Ok(copy),
         Err(_) => Err(AllocError),
     }
 }
@@ -65,21 +65,23 @@ pub fn find_next<S: Successors<L>, L: Ledger>(
 fn make_binding<S: Successors<L>, L: Ledger>(
     alloc: Global,
     source: &S,
-    answer: NextAnswer,
+    name: &Oid,
+    found: bool,
+    spot: &Spot,
 ) -> Result<Binding, AllocError>
-    requires { IsMade (S.is_there source.now) answer }
-    ensures { IfOk result (λ b. b ≡ binding_of (S.at source.now) answer) }
+    requires { IsTrue found → S.is_there source.now spot.now }
+    ensures { IfOk result (λ b. b ≡ binding_of (S.at source.now) name.now spot.now found) }
 {
-    match answer {
-        NextAnswer::Instance(spot) => Ok(Binding {
-            name: source.name(alloc, &spot)?,
-            value: source.value(alloc, &spot),
-        }),
-        NextAnswer::End(name) => Ok(Binding {
-            name,
+    if !found {
+        return Ok(Binding {
+            name: copy_of(alloc, name)?,
             value: Value::EndOfMibView,
-        }),
+        });
     }
+    Ok(Binding {
+        name: source.name(alloc, spot)?,
+        value: source.value(alloc, spot),
+    })
 }
 
 /// What GetNext answers under a name (RFC 3416, 4.2.2), over the instances that the view shows.
@@ -98,8 +100,9 @@ pub fn get_next<S: Successors<L>, L: Ledger>(
     ensures work { steps.new ≤ steps.old + most_looks (S.shows source.now) (S.instances source.now) }
 {
     let mut stand = source.start(name);
-    let answer = find_next(alloc, source, name, false, &mut stand, steps)?;
-    make_binding(alloc, source, answer)
+    let mut spot = Spot::new();
+    let found = find_next(alloc, source, name, false, &mut stand, &mut spot, steps)?;
+    make_binding(alloc, source, name, found, &spot)
 }
 
 /// What GetNext answers under each asked name, in order (RFC 3416, 4.2.2), by the looks of one

@@ -1,6 +1,5 @@
 //! The next instance that a view shows.
-ghost use Rattle.std.specs.Prelude.{◌≡◌, ◌≤◌, ◌+◌, IfOk, IfSome};
-ghost use Rattle.std.specs.Option.{option_map};
+ghost use Rattle.std.specs.Prelude.{◌≡◌, ◌≤◌, ◌+◌, if◌then◌else◌, Some, None, IfOk, IsTrue};
 ghost use Rattle.message_core.specs.Instances.{next_of};
 ghost use Rattle.agent_core.specs.Reading.{visible};
 ghost use Rattle.agent_core.specs.Looking.{most_looks};
@@ -53,54 +52,57 @@ fn is_shown_there<S: Successors<L>, L: Ledger>(
     Ok(is_shown(source, &name, goes_on, stand))
 }
 
-/// Where the first instance after a name stands that the view shows (RFC 3416, 4.2.2). Each lookup at
-/// the source is a step: there are at most as many as the view hides instances, and one more. Where an
-/// instance is found, the walk then stands at its name. Only memory can fail.
+/// Writes where the first instance after a name stands that the view shows, and says whether there is
+/// one (RFC 3416, 4.2.2). Each lookup at the source is a step: there are at most as many as the view
+/// hides instances, and one more. Where an instance is found, the walk then stands at its name; where
+/// none is, the spot may be any. Only memory can fail.
 pub fn next_shown<S: Successors<L>, L: Ledger>(
     alloc: Global,
     source: &S,
     name: &Oid,
     goes_on: bool,
     stand: &mut Stand,
+    spot: &mut Spot,
     steps: &mut Steps<L>,
-) -> Result<Option<Spot>, AllocError>
+) -> Result<bool, AllocError>
     requires { S.stands source.now stand.old name.now }
-    ensures found { IfOk result (λ found. option_map (S.at source.now) found
+    ensures found { IfOk result (λ found. (if found then Some (S.at source.now spot.new) else None)
         ≡ next_of (visible (S.shows source.now) (S.instances source.now)) name.now) }
-    ensures there { IfOk result (λ found. IfSome found (S.is_there source.now)) }
-    ensures stands { IfOk result (λ found. IfSome found (λ spot.
-        S.stands source.now stand.new (S.at source.now spot).name)) }
+    ensures there { IfOk result (λ found. IsTrue found → S.is_there source.now spot.new) }
+    ensures stands { IfOk result (λ found. IsTrue found →
+        S.stands source.now stand.new (S.at source.now spot.new).name) }
     ensures work { steps.new ≤ steps.old + most_looks (S.shows source.now) (S.instances source.now) }
 {
     source.known();
-    let mut found = source.next(name, stand, steps);
-    while let Some(spot) = found {
-        if is_shown_there(alloc, source, &spot, goes_on, stand)? {
-            return Ok(Some(spot));
+    let mut found = source.next(name, stand, spot, steps);
+    while found {
+        if is_shown_there(alloc, source, spot, goes_on, stand)? {
+            return Ok(true);
         }
-        found = next_behind(alloc, source, &spot, stand, steps)?;
+        found = next_behind(alloc, source, stand, spot, steps)?;
     }
-    Ok(None)
+    Ok(false)
 }
 
-// Where the first instance behind that at a spot stands.
+// Writes where the first instance behind that at a spot stands, in its place, and says whether there is
+// one.
 fn next_behind<S: Successors<L>, L: Ledger>(
     alloc: Global,
     source: &S,
-    spot: &Spot,
     stand: &mut Stand,
+    spot: &mut Spot,
     steps: &mut Steps<L>,
-) -> Result<Option<Spot>, AllocError>
-    requires there { S.is_there source.now spot.now }
-    requires stands { S.stands source.now stand.old (S.at source.now spot.now).name }
-    ensures found { IfOk result (λ found. option_map (S.at source.now) found
-        ≡ next_of (S.instances source.now) (S.at source.now spot.now).name) }
-    ensures there { IfOk result (λ found. IfSome found (S.is_there source.now)) }
-    ensures stands { IfOk result (λ found. IfSome found (λ spot.
-        S.stands source.now stand.new (S.at source.now spot).name)) }
+) -> Result<bool, AllocError>
+    requires there { S.is_there source.now spot.old }
+    requires stands { S.stands source.now stand.old (S.at source.now spot.old).name }
+    ensures found { IfOk result (λ found. (if found then Some (S.at source.now spot.new) else None)
+        ≡ next_of (S.instances source.now) (S.at source.now spot.old).name) }
+    ensures there { IfOk result (λ found. IsTrue found → S.is_there source.now spot.new) }
+    ensures stands { IfOk result (λ found. IsTrue found →
+        S.stands source.now stand.new (S.at source.now spot.new).name) }
     ensures work { IfOk result (λ _. steps.new ≡ steps.old + 1) }
     ensures few { steps.new ≤ steps.old + 1 }
 {
     let name = source.name(alloc, spot)?;
-    Ok(source.next(&name, stand, steps))
+    Ok(source.next(&name, stand, spot, steps))
 }

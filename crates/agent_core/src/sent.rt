@@ -19,6 +19,9 @@ use std::marker::Model;
 /// each binding begins with a search.
 pub const MAX_STANDS: usize = 16;
 
+// How many octets a binding has at least: its head, a name of one octet and a value of none.
+const SHORTEST_BINDING: usize = 7;
+
 /// The bindings of a GetBulk's reply so far, and the octets that they may have (RFC 3416, 4.2.3: as
 /// many as fit).
 #[derive(Drop)]
@@ -54,29 +57,34 @@ impl Model for Sent {
 
 impl Sent {
     /// No bindings, and a buffer for so many octets. A repetition has so many columns: where walks
-    /// stand is kept for as many bindings.
-    pub fn new(alloc: Global, room: usize, columns: usize) -> Sent
+    /// stand is kept for as many bindings. The list that is asked for has so many bindings: memory for
+    /// as many of them as can fit is reserved, and so none is moved once it is made.
+    ///
+    /// # Errors
+    /// `AllocError` where there is no such memory.
+    pub fn new(alloc: Global, room: usize, columns: usize, list: usize) -> Result<Sent, AllocError>
         requires { room ≤ MAX_REPLY }
-        ensures { result ≡ record {
+        ensures { IfOk result (λ sent. sent ≡ record {
           room = room;
           bindings = [];
           stands = [];
           most_stands = stands_of columns;
-        } }
+        }) }
     {
-        Sent {
-            bindings: Vec::new(alloc),
+        Ok(Sent {
+            bindings: Vec::with_capacity(alloc, list.min(room / SHORTEST_BINDING + 1))?,
             stands: ArrayVec::new(),
             most_stands: columns.min(MAX_STANDS).max(1),
             used: 0,
             room,
-        }
+        })
     }
 
     /// Adds the binding of a name and a value where there is room for it (RFC 3416, 4.2.3), and says
     /// whether there was. It is made in its place, and measured there; one that does not fit is
     /// removed again. With it is kept where a walk stands at its name. Only memory can fail; then
     /// nothing changes.
+    #[inline(always)]
     pub fn offer(&mut self, name: Oid, value: Value, stand: Stand) -> Result<bool, AllocError>
         requires { IsEncodableBinding (record { name = name; value = value }) }
         ensures taken { IfOk result (λ taken. IsTrue taken →

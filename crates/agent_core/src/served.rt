@@ -1,5 +1,5 @@
 //! Managed objects and the world that they show, as what requests are answered from.
-ghost use Rattle.std.specs.Prelude.{◌≡◌, ◌≤◌, ◌<◌, length, take, Some, None, Ok, IfOk, IfSome, if◌then◌else◌, option_map};
+ghost use Rattle.std.specs.Prelude.{◌≡◌, ◌≤◌, ◌<◌, length, take, Some, None, Ok, IfOk, IfSome, IsTrue, if◌then◌else◌, option_map};
 ghost use Rattle.oid_core.specs.declared.limits.TheConstants.{MAX_NUMBERS};
 ghost use Rattle.message_core.specs.Instances.{next_of};
 ghost use Rattle.vacm_core.specs.Hiding.{hides_all};
@@ -91,23 +91,32 @@ impl<O: MibObject> Passing for Served<'_, O> {
 }
 
 impl<O: MibObject> Served<'_, O> {
-    // The first instance after a name, but for those of the objects that are passed over. These are
-    // counted in the ledger of the blank, and by no clause here.
-    fn next_uncounted<L: Ledger>(&self, name: &Oid, stand: &Stand, blank: Blank) -> Option<Spot>
+    // Writes where the first instance after a name stands, but for those of the objects that are passed
+    // over, and says whether there is one. These are counted in the ledger of the blank, and by no
+    // clause here.
+    fn next_uncounted<L: Ledger>(
+        &self,
+        name: &Oid,
+        stand: &Stand,
+        spot: &mut Spot,
+        blank: Blank,
+    ) -> bool
         requires stands { IsStand (in_view self.now.vacm.now.families self.now.view.now)
             (prefixes_of (rows_of self.now.registry.now)) stand.now name.now }
         requires name { blank.name ≡ L.name }
         requires parts { blank.parts ≡ L.parts }
         requires some { 0 < blank.parts }
         ensures found { let rows = rows_of self.now.registry.now in
-            option_map (instance_at rows self.now.world.now) result ≡ next_of (open_instances
+            (if result then Some (instance_at rows self.now.world.now spot.new) else None)
+            ≡ next_of (open_instances
             (hides_all self.now.vacm.now.families self.now.view.now) rows self.now.world.now)
             name.now }
-        ensures there { IfSome result (IsThere (rows_of self.now.registry.now) self.now.world.now) }
-        ensures place { let rows = rows_of self.now.registry.now in IfSome result (λ spot.
-            IsPlace (prefixes_of rows) (instance_at rows self.now.world.now spot).name
-            (Ok spot.place)) }
-        ensures behind { IfSome result (λ spot. first_place stand.now.place ≤ spot.place) }
+        ensures there { IsTrue result →
+            IsThere (rows_of self.now.registry.now) self.now.world.now spot.new }
+        ensures place { let rows = rows_of self.now.registry.now in IsTrue result →
+            IsPlace (prefixes_of rows) (instance_at rows self.now.world.now spot.new).name
+            (Ok spot.new.place) }
+        ensures behind { IsTrue result → first_place stand.now.place ≤ spot.new.place }
     {
         let mut passed: Steps<L> = Steps::new(blank);
         let name = name.as_slice();
@@ -117,7 +126,7 @@ impl<O: MibObject> Served<'_, O> {
             asked: _,
         } = *stand;
         self.registry
-            .next_open(self.world, name, place, until, self, &mut passed)
+            .next_open(self.world, name, place, until, self, spot, &mut passed)
     }
 }
 
@@ -171,12 +180,14 @@ impl<O: MibObject, L: Ledger> Successors<L> for Served<'_, O> {
         }
     }
 
-    fn next(&self, name: &Oid, stand: &mut Stand, steps: &mut Steps<L>) -> Option<Spot> {
+    fn next(&self, name: &Oid, stand: &mut Stand, spot: &mut Spot, steps: &mut Steps<L>) -> bool {
         // A step is one lookup here: the objects that it passes over have a ledger of their own.
         steps.tick();
-        let spot = self.next_uncounted::<Brand>(name, stand, Blank::new(1))?;
+        if !self.next_uncounted::<Brand>(name, stand, spot, Blank::new(1)) {
+            return false;
+        }
         stand.place = Ok(spot.place);
-        Some(spot)
+        true
     }
 
     fn name(&self, alloc: Global, spot: &Spot) -> Result<Oid, AllocError> {

@@ -75,8 +75,7 @@ pub trait View {
 /// wanted. A function of this bound alone asks for no value under a name, and counts its steps in no
 /// other ledger.
 pub trait Successors<L: Ledger>: View {
-    ghost use Rattle.std.specs.Prelude.{List, ℕ, true, IfSome};
-    ghost use Rattle.std.specs.Option.{option_map};
+    ghost use Rattle.std.specs.Prelude.{List, ℕ, true, if◌then◌else◌, Some, None, IsTrue};
     ghost use Rattle.setphase_core.specs.declared.passing.Spot.{Spot};
     ghost use Rattle.message_core.specs.Instances.{IsServable, next_of};
     ghost use Rattle.message_core.specs.declared.binding.Binding.{Binding};
@@ -108,14 +107,15 @@ pub trait Successors<L: Ledger>: View {
         requires { (at : List ℕ) × stands self.now other.now at }
         ensures { stands self.now result name.now };
 
-    /// Where the first instance after a name stands, where there is one (RFC 3416, 4.2.2): the walk
-    /// stands at its name then; where there is none, it stands at no known name. It is one step, and
-    /// takes no memory.
-    fn next(&self, name: &Oid, stand: &mut Stand, steps: &mut Steps<L>) -> Option<Spot>
+    /// Writes where the first instance after a name stands, and says whether there is one (RFC 3416,
+    /// 4.2.2): the walk stands at its name then; where there is none, it stands at no known name, and
+    /// the spot may be any. It is one step, and takes no memory.
+    fn next(&self, name: &Oid, stand: &mut Stand, spot: &mut Spot, steps: &mut Steps<L>) -> bool
         requires { stands self.now stand.old name.now }
-        ensures found { option_map (at self.now) result ≡ next_of (instances self.now) name.now }
-        ensures there { IfSome result (is_there self.now) }
-        ensures stands { IfSome result (λ spot. stands self.now stand.new (at self.now spot).name) }
+        ensures found { (if result then Some (at self.now spot.new) else None)
+            ≡ next_of (instances self.now) name.now }
+        ensures there { IsTrue result → is_there self.now spot.new }
+        ensures stands { IsTrue result → stands self.now stand.new (at self.now spot.new).name }
         ensures work { steps.new ≡ steps.old + 1 };
 
     /// The name of the instance at a spot. Only memory can fail.

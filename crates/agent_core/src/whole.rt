@@ -58,13 +58,14 @@ impl<O: MibObject, L: Ledger> Successors<L> for Whole<'_, O> {
         Stand::at(self.registry.place_near(name.as_slice(), NOWHERE))
     }
 
-    fn next(&self, name: &Oid, stand: &mut Stand, steps: &mut Steps<L>) -> Option<Spot> {
+    fn next(&self, name: &Oid, stand: &mut Stand, spot: &mut Spot, steps: &mut Steps<L>) -> bool {
         steps.tick();
-        let spot = self
-            .registry
-            .next_spot(self.world, name.as_slice(), stand.place)?;
+        let name = name.as_slice();
+        if !self.registry.next_spot(self.world, name, stand.place, spot) {
+            return false;
+        }
         *stand = Stand::at(Ok(spot.place));
-        Some(spot)
+        true
     }
 
     fn name(&self, alloc: Global, spot: &Spot) -> Result<Oid, AllocError> {

@@ -1,6 +1,6 @@
 //! Managed objects without a device: each shows what its descriptor says.
-ghost use Rattle.std.specs.Prelude.{◌≡◌, IfSome};
-ghost use Rattle.std.specs.Option.{option_copied, option_map};
+ghost use Rattle.std.specs.Prelude.{◌≡◌, false, if◌then◌else◌, Some, None, IfSome};
+ghost use Rattle.std.specs.Option.{option_copied};
 ghost use Rattle.bridge_mib.specs.Written.{idle};
 
 use message_core::Value;
@@ -30,10 +30,12 @@ pub trait Descriptor: Copy {
     fn read(self, alloc: Global, world: &World, at: &[u32]) -> Option<Value>
         ensures { result ≡ value_at (shown_by (column self) world.now) at.now };
 
-    /// The first index after this one, or the first of all. It takes no memory.
-    fn next(self, world: &World, after: Option<&[u32]>) -> Option<Index>
-        ensures { option_map (λ index. index.items) result
-            ≡ index_after (shown_by (column self) world.now) (option_copied after.entry) };
+    /// Writes the first index after this one, or the first of all, in place of the index that it is
+    /// lent, and says whether there is one. Where there is none, it writes nothing. It takes no memory.
+    fn next_into(self, world: &World, after: Option<&[u32]>, into: &mut Index) -> bool
+        ensures found { (if result then Some into.new.items else None)
+            ≡ index_after (shown_by (column self) world.now) (option_copied after.entry) }
+        ensures none { result ≡ false → into.new ≡ into.old };
 
     /// How the object is written. None: it is never written.
     fn writable(self) -> Option<Writable>
@@ -88,8 +90,8 @@ impl<D: Descriptor> MibObject for Described<D> {
         self.which.read(alloc, world, at)
     }
 
-    fn next(&self, world: &World, after: Option<&[u32]>) -> Option<Index> {
-        self.which.next(world, after)
+    fn next_into(&self, world: &World, after: Option<&[u32]>, into: &mut Index) -> bool {
+        self.which.next_into(world, after, into)
     }
 
     fn test(&mut self, world: &World, at: &[u32], value: &Value) -> Result<Slot, SetFault> {

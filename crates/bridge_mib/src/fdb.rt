@@ -119,15 +119,14 @@ fn row_after(fdb: &Fdb, after: Option<&[u32]>) -> Option<Row>
     }
 }
 
-// The six octets of an address as an index.
-fn index_of(address: Mac) -> Index
-    ensures { result.items ≡ address.0 }
+// Writes the six octets of an address as an index.
+fn write_index(address: Mac, into: &mut Index)
+    ensures { into.new.items ≡ address.0 }
 {
-    let mut index = Index::new();
+    into.clear();
     for octet in &address.0 {
-        index.push(u32::from(*octet));
+        into.push(u32::from(*octet));
     }
-    index
 }
 
 fn fdb_value(alloc: Global, which: TpFdb, address: Mac, port: u16) -> Value
@@ -170,9 +169,12 @@ impl Descriptor for TpFdb {
     }
 
     #[tactic(auto, unfolding(setphase_core::specs::Columns::shown_by))]
-    fn next(self, world: &World, after: Option<&[u32]>) -> Option<Index> {
-        let row = row_after(world.bridge.fdb(), after)?;
-        Some(index_of(row.address))
+    fn next_into(self, world: &World, after: Option<&[u32]>, into: &mut Index) -> bool {
+        let Some(row) = row_after(world.bridge.fdb(), after) else {
+            return false;
+        };
+        write_index(row.address, into);
+        true
     }
 
     fn writable(self) -> Option<Writable> {

@@ -93,8 +93,8 @@ impl<L: LineDriver> MibObject for PortEnable<L> {
         StpPort::Enable.read(alloc, world, at)
     }
 
-    fn next(&self, world: &World, after: Option<&[u32]>) -> Option<Index> {
-        StpPort::Enable.next(world, after)
+    fn next_into(&self, world: &World, after: Option<&[u32]>, into: &mut Index) -> bool {
+        StpPort::Enable.next_into(world, after, into)
     }
 
     fn test(&mut self, world: &World, at: &[u32], value: &Value) -> Result<Slot, SetFault> {

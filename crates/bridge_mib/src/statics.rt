@@ -92,15 +92,14 @@ fn static_there(bridge: &Bridge, at: &[u32]) -> Option<StaticRow>
     }
 }
 
-// The seven numbers of a row as an index.
-fn index_of(row: StaticIndex) -> Index
-    ensures { result.items ≡ numbers_of row }
+// Writes the seven numbers of a row as an index.
+fn write_index(row: StaticIndex, into: &mut Index)
+    ensures { into.new.items ≡ numbers_of row }
 {
-    let mut index = Index::new();
+    into.clear();
     for number in &row.numbers() {
-        index.push(*number);
+        into.push(*number);
     }
-    index
 }
 
 // The made row of the first index behind this one, or of the first of all.
@@ -146,9 +145,12 @@ impl Descriptor for Static {
     }
 
     #[tactic(auto, unfolding(setphase_core::specs::Columns::shown_by))]
-    fn next(self, world: &World, after: Option<&[u32]>) -> Option<Index> {
-        let row = row_after(&world.bridge, after)?;
-        Some(index_of(row.index))
+    fn next_into(self, world: &World, after: Option<&[u32]>, into: &mut Index) -> bool {
+        let Some(row) = row_after(&world.bridge, after) else {
+            return false;
+        };
+        write_index(row.index, into);
+        true
     }
 
     fn writable(self) -> Option<Writable> {

@@ -49,8 +49,8 @@ impl Descriptor for Tp {
     }
 
     #[tactic(auto, unfolding(setphase_core::specs::Columns::shown_by))]
-    fn next(self, _world: &World, after: Option<&[u32]>) -> Option<Index> {
-        scalar_after(after)
+    fn next_into(self, _world: &World, after: Option<&[u32]>, into: &mut Index) -> bool {
+        scalar_after(after, into)
     }
 
     fn writable(self) -> Option<Writable> {
@@ -99,8 +99,8 @@ impl Descriptor for TpPort {
     }
 
     #[tactic(auto, unfolding(setphase_core::specs::Columns::shown_by))]
-    fn next(self, world: &World, after: Option<&[u32]>) -> Option<Index> {
-        port_after(world.bridge.ports(), after)
+    fn next_into(self, world: &World, after: Option<&[u32]>, into: &mut Index) -> bool {
+        port_after(world.bridge.ports(), after, into)
     }
 
     fn writable(self) -> Option<Writable> {

@@ -47,18 +47,18 @@ impl Descriptor for ColumnDescriptor {
         }
     }
 
-    fn next(self, world: &World, after: Option<&[u32]>) -> Option<Index> {
+    fn next_into(self, world: &World, after: Option<&[u32]>, into: &mut Index) -> bool {
         match self.0 {
-            Column::Base(which) => which.next(world, after),
-            Column::BasePort(which) => which.next(world, after),
-            Column::Stp(which) => which.next(world, after),
-            Column::StpPort(which) => which.next(world, after),
-            Column::Rapid(which) => RapidDescriptor(which).next(world, after),
-            Column::ExtPort(which) => ExtPortDescriptor(which).next(world, after),
-            Column::Tp(which) => which.next(world, after),
-            Column::TpFdb(which) => which.next(world, after),
-            Column::TpPort(which) => which.next(world, after),
-            Column::Static(which) => which.next(world, after),
+            Column::Base(which) => which.next_into(world, after, into),
+            Column::BasePort(which) => which.next_into(world, after, into),
+            Column::Stp(which) => which.next_into(world, after, into),
+            Column::StpPort(which) => which.next_into(world, after, into),
+            Column::Rapid(which) => RapidDescriptor(which).next_into(world, after, into),
+            Column::ExtPort(which) => ExtPortDescriptor(which).next_into(world, after, into),
+            Column::Tp(which) => which.next_into(world, after, into),
+            Column::TpFdb(which) => which.next_into(world, after, into),
+            Column::TpPort(which) => which.next_into(world, after, into),
+            Column::Static(which) => which.next_into(world, after, into),
         }
     }
 

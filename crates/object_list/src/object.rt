@@ -63,10 +63,10 @@ impl<L: LineDriver> MibObject for Object<L> {
         }
     }
 
-    fn next(&self, world: &World, after: Option<&[u32]>) -> Option<Index> {
+    fn next_into(&self, world: &World, after: Option<&[u32]>, into: &mut Index) -> bool {
         match self {
-            Object::Plain(object) => object.next(world, after),
-            Object::Enable(object) => object.next(world, after),
+            Object::Plain(object) => object.next_into(world, after, into),
+            Object::Enable(object) => object.next_into(world, after, into),
         }
     }
 

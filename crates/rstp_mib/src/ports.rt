@@ -63,8 +63,8 @@ impl Descriptor for ExtPortDescriptor {
     }
 
     #[tactic(auto, unfolding(setphase_core::specs::Columns::shown_by))]
-    fn next(self, world: &World, after: Option<&[u32]>) -> Option<Index> {
-        port_after(world.bridge.ports(), after)
+    fn next_into(self, world: &World, after: Option<&[u32]>, into: &mut Index) -> bool {
+        port_after(world.bridge.ports(), after, into)
     }
 
     fn writable(self) -> Option<Writable> {

@@ -49,8 +49,8 @@ impl Descriptor for RapidDescriptor {
     }
 
     #[tactic(auto, unfolding(setphase_core::specs::Columns::shown_by))]
-    fn next(self, _world: &World, after: Option<&[u32]>) -> Option<Index> {
-        scalar_after(after)
+    fn next_into(self, _world: &World, after: Option<&[u32]>, into: &mut Index) -> bool {
+        scalar_after(after, into)
     }
 
     fn writable(self) -> Option<Writable> {

@@ -1,5 +1,5 @@
 -- The instance at a spot that a walk found.
-use Rattle.std.proofs.Common.{◌≡◌, ℕ, zero, suc, ◌<◌, Bool, List, [], ◌∷◌, ◌++◌, length, get_or, slice_get, refl, sym, ap, ◌∙◌, arith, Option, Some, None, IfSome, Ok}
+use Rattle.std.proofs.Common.{◌≡◌, ℕ, zero, suc, ◌+◌, ◌<◌, Bool, true, false, cond, List, [], ◌∷◌, ◌++◌, length, drop, get_or, slice_get, refl, sym, ap, ◌∙◌, arith, Option, Some, None, IsTrue, Ok}
 use Rattle.std.specs.Prelude.{unwrap_or, option_map}
 use Rattle.std.specs.Option.{option_and_then}
 use Rattle.message_core.specs.declared.value.Value.{Value}
@@ -10,12 +10,13 @@ use Rattle.setphase_core.specs.declared.passing.Spot.{Spot}
 use Rattle.setphase_core.specs.Objects.{ObjectRow}
 use Rattle.setphase_core.specs.Values.{value_at}
 use Rattle.setphase_core.specs.Columns.{shown_by}
-use Rattle.setphase_core.specs.Registry.{prefixes_of}
+use Rattle.setphase_core.specs.Registry.{prefixes_of, instances_under}
 use Rattle.setphase_core.specs.Passing.{open_instances}
 use Rattle.setphase_core.specs.Searching.{prefix_at, IsPlace}
-use Rattle.setphase_core.specs.Walking.{IsSpot, IsFound, value_there, IsThere, instance_at}
+use Rattle.setphase_core.specs.Walking.{IsSpot, IsFound, IsPassedOrFound, value_there, IsThere, instance_at}
 use Rattle.setphase_core.proofs.Ordered.{AreOrdered}
-use Rattle.setphase_core.proofs.Next.{IsBehind, named_some}
+use Rattle.setphase_core.proofs.Next.{IsBehind, named_some, named_none}
+use Rattle.setphase_core.proofs.Passed as passed
 use Rattle.setphase_core.proofs.Walks.{made_place}
 
 -- the row at a place, and its name
@@ -55,17 +56,37 @@ module _ (passes : List ℕ → Bool) (rows : List ObjectRow) (w : World) (n : L
 
 -- what a walk found
 module _ (passes : List ℕ → Bool) (rows : List ObjectRow) (w : World) (n : List ℕ) where
-  pub found_instance : (o : Option Spot) → IsFound passes rows w n 0 o → option_map (instance_at rows w) o ≡ next_of (open_instances passes rows w) n
-  found_instance None e = sym e
-  found_instance (Some spot) s = spot_found passes rows w n spot s
+  pub found_instance : (found : Bool) (spot : Spot) → IsFound passes rows w n 0 (cond found (Some spot) None) → cond found (Some (instance_at rows w spot)) None ≡ next_of (open_instances passes rows w) n
+  found_instance false spot e = sym e
+  found_instance true spot s = spot_found passes rows w n spot s
 
-  pub found_there : (o : Option Spot) → IsFound passes rows w n 0 o → IfSome o (IsThere rows w)
-  found_there None e = tt
-  found_there (Some spot) s = spot_there passes rows w n spot s
+  pub found_there : (found : Bool) (spot : Spot) → IsFound passes rows w n 0 (cond found (Some spot) None) → IsTrue found → IsThere rows w spot
+  found_there false spot e t = absurd (cc)
+  found_there true spot s t = spot_there passes rows w n spot s
 
-  pub found_place : (o : Option Spot) → AreOrdered (prefixes_of rows) → IsFound passes rows w n 0 o → IfSome o (λ spot. IsPlace (prefixes_of rows) (instance_at rows w spot).name (Ok spot.place))
-  found_place None ordered e = tt
-  found_place (Some spot) ordered s =
+  pub found_place : (found : Bool) (spot : Spot) → AreOrdered (prefixes_of rows) → IsFound passes rows w n 0 (cond found (Some spot) None) → IsTrue found → IsPlace (prefixes_of rows) (instance_at rows w spot).name (Ok spot.place)
+  found_place false spot ordered e t = absurd (cc)
+  found_place true spot ordered s t =
       let name = name_there rows spot.place s.row s.within s.at in
       made_place (prefixes_of rows) s.row spot.place (instance_at rows w spot).name spot.index.items ordered (omega (arith, s.within, names_count rows)) name
       (ap (λ (p : List ℕ). p ++ spot.index.items) name)
+
+-- the object at a place has the first instance, or the walk goes on behind it
+module _ (passes : List ℕ → Bool) (rows : List ObjectRow) (row : ObjectRow) (w : World) (n : List ℕ) (place old : ℕ) (spot : Spot) where
+  pub own_answer : (found : Bool) → drop place rows ≡ row ∷ drop (place + 1) rows → passes row.prefix ≡ false → place < length rows → get_or rows place row ≡ row → spot.place ≡ place →
+      cond found (Some (row.prefix ++ spot.index.items)) None ≡ option_map (λ b. b.name) (next_of (instances_under row w) n) →
+      IsPassedOrFound passes rows w n place old old (cond found (Some spot) None)
+  own_answer false split kept within at here e =
+      passed.walk_later passes (drop place rows) (drop place rows) row (drop (place + 1) rows) w n split old old old (passed.walk_start passes (drop place rows) w n old) kept (named_none row w n e) refl
+  own_answer true split kept within at here e =
+      let start = passed.walk_start passes (drop place rows) w n old in (
+        record {
+          row = row;
+          after = omega (arith, here);
+          within = omega (arith, within, here);
+          at = ap (λ (k : ℕ). get_or rows k row) here ∙ at;
+          index = e;
+          first = passed.walk_found passes (drop place rows) (drop place rows) row (drop (place + 1) rows) w n split old old start spot.index.items kept e;
+        },
+        passed.walk_work passes (drop place rows) (drop place rows) row (drop (place + 1) rows) w n split old old start spot.index.items kept e,
+      )

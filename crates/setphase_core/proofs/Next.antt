@@ -130,25 +130,25 @@ some_behind row w n index e = pick (first_behind row w n) refl e
 
 -- ---- an object's answer, by the whole name
 
-whole_name : {I : Type 0} (items : I → List ℕ) (row : ObjectRow) (w : World) (n : List ℕ) (found : Option I) → option_map items found ≡ index_behind row w n →
-    option_map (λ i. row.prefix ++ items i) found ≡ option_map (λ b. b.name) (next_of (instances_under row w) n)
-whole_name {I = I} items row w n found e = whole found (first_behind row w n) e ∙ sym (ap (option_map (λ b. b.name)) (next_behind row w n))
+whole_name : (row : ObjectRow) (w : World) (n index : List ℕ) (found : Bool) → cond found (Some index) None ≡ index_behind row w n →
+    cond found (Some (row.prefix ++ index)) None ≡ option_map (λ b. b.name) (next_of (instances_under row w) n)
+whole_name row w n index found e = whole found (first_behind row w n) e ∙ sym (ap (option_map (λ b. b.name)) (next_behind row w n))
   where
-    whole : (x : Option I) (y : Option IndexedValue) → option_map items x ≡ option_map (λ s. s.index) y → option_map (λ i. row.prefix ++ items i) x ≡ option_map (λ b. b.name) (option_map (under row.prefix) y)
-    whole None None f = refl
-    whole None (Some s) f = absurd (cc)
-    whole (Some i) None f = absurd (cc)
-    whole (Some i) (Some s) f = let same : items i ≡ s.index = cc in ap (λ (index : List ℕ). Some (row.prefix ++ index)) same
+    whole : (x : Bool) (y : Option IndexedValue) → cond x (Some index) None ≡ option_map (λ s. s.index) y → cond x (Some (row.prefix ++ index)) None ≡ option_map (λ b. b.name) (option_map (under row.prefix) y)
+    whole false None f = refl
+    whole false (Some s) f = absurd (cc)
+    whole true None f = absurd (cc)
+    whole true (Some s) f = let same : index ≡ s.index = cc in ap (λ (i : List ℕ). Some (row.prefix ++ i)) same
 
-pub name_begun : {I : Type 0} (items : I → List ℕ) (row : ObjectRow) (w : World) (n : List ℕ) (found : Option I) → is_prefix row.prefix n ≡ true →
-    option_map items found ≡ index_after (shown_by row.column w) (Some (drop (length row.prefix) n)) →
-    option_map (λ i. row.prefix ++ items i) found ≡ option_map (λ b. b.name) (next_of (instances_under row w) n)
-name_begun items row w n found h e = whole_name items row w n found (rw h e)
+pub name_begun : (row : ObjectRow) (w : World) (n index : List ℕ) (found : Bool) → is_prefix row.prefix n ≡ true →
+    cond found (Some index) None ≡ index_after (shown_by row.column w) (Some (drop (length row.prefix) n)) →
+    cond found (Some (row.prefix ++ index)) None ≡ option_map (λ b. b.name) (next_of (instances_under row w) n)
+name_begun row w n index found h e = whole_name row w n index found (rw h e)
 
-pub name_before : {I : Type 0} (items : I → List ℕ) (row : ObjectRow) (w : World) (n : List ℕ) (found : Option I) → is_prefix row.prefix n ≡ false → name_lt n row.prefix ≡ true →
-    option_map items found ≡ index_after (shown_by row.column w) None →
-    option_map (λ i. row.prefix ++ items i) found ≡ option_map (λ b. b.name) (next_of (instances_under row w) n)
-name_before items row w n found h k e = whole_name items row w n found (rw (h, k) e)
+pub name_before : (row : ObjectRow) (w : World) (n index : List ℕ) (found : Bool) → is_prefix row.prefix n ≡ false → name_lt n row.prefix ≡ true →
+    cond found (Some index) None ≡ index_after (shown_by row.column w) None →
+    cond found (Some (row.prefix ++ index)) None ≡ option_map (λ b. b.name) (next_of (instances_under row w) n)
+name_before row w n index found h k e = whole_name row w n index found (rw (h, k) e)
 
 -- what that says of the instance
 pub named_some : (row : ObjectRow) (w : World) (n index : List ℕ) → Some (row.prefix ++ index) ≡ option_map (λ b. b.name) (next_of (instances_under row w) n) → IsBehind row w n index

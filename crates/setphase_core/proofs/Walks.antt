@@ -1,5 +1,5 @@
 -- What a walk finds, by the place from which on it goes.
-use Rattle.std.proofs.Common.{◌≡◌, ℕ, ◌+◌, ◌<◌, ◌≤◌, Bool, true, false, ◌||◌, List, ◌∷◌, [], ◌++◌, length, drop, refl, sym, ap, ◌∙◌, arith, Option, Some, None, IfSome, Err}
+use Rattle.std.proofs.Common.{◌≡◌, ℕ, ◌+◌, ◌<◌, ◌≤◌, Bool, true, false, cond, ◌||◌, List, ◌∷◌, [], ◌++◌, length, drop, refl, sym, ap, ◌∙◌, arith, Option, Some, None, IsTrue, Err}
 use Rattle.message_core.specs.Instances.{next_of}
 use Rattle.oid_core.specs.Order.{name_lt, is_prefix}
 use Rattle.setphase_core.specs.declared.world.World.{World}
@@ -46,9 +46,9 @@ found_whole passes rows w n start (Some spot) e h = record {
 }
 
 -- it stands behind that place
-pub found_after : (passes : List ℕ → Bool) (rows : List ObjectRow) (w : World) (n : List ℕ) (start first : ℕ) (o : Option Spot) → first ≤ start → IsFound passes rows w n start o → IfSome o (λ s. first ≤ s.place)
-found_after passes rows w n start first None l h = tt
-found_after passes rows w n start first (Some spot) l h = omega (arith, l, h.after)
+pub found_after : (passes : List ℕ → Bool) (rows : List ObjectRow) (w : World) (n : List ℕ) (start first : ℕ) (found : Bool) (spot : Spot) → first ≤ start → IsFound passes rows w n start (cond found (Some spot) None) → IsTrue found → first ≤ spot.place
+found_after passes rows w n start first false spot l h t = absurd (cc)
+found_after passes rows w n start first true spot l h t = omega (arith, l, h.after)
 
 -- ---- the instance at a spot
 

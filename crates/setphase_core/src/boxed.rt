@@ -16,8 +16,8 @@ impl MibObject for Box<dyn MibObject + Send> {
         (**self).read(alloc, world, at)
     }
 
-    fn next(&self, world: &World, after: Option<&[u32]>) -> Option<Index> {
-        (**self).next(world, after)
+    fn next_into(&self, world: &World, after: Option<&[u32]>, into: &mut Index) -> bool {
+        (**self).next_into(world, after, into)
     }
 
     fn test(&mut self, world: &World, at: &[u32], value: &Value) -> Result<Slot, SetFault> {

@@ -1,5 +1,5 @@
 //! The indexes of scalars and of tables of ports, as the objects that show them read and give them.
-ghost use Rattle.std.specs.Prelude.{◌≡◌, ◌≤◌, ℕ, [], ◌∷◌, if◌then◌else◌, Some, None, IfSome, slice_get, unwrap_or};
+ghost use Rattle.std.specs.Prelude.{◌≡◌, ◌≤◌, ℕ, [], ◌∷◌, if◌then◌else◌, false, Some, None, IfSome, slice_get, unwrap_or};
 ghost use Rattle.std.specs.Option.{option_copied, option_map};
 ghost use Rattle.oid_core.specs.Order.{name_eq};
 ghost use Rattle.message_core.specs.declared.value.Value.{Value as AnyValue};
@@ -9,13 +9,12 @@ use crate::object::Index;
 use oid_core::same_name;
 use rstp_core::MAX_PORTS;
 
-// The index of one number.
-fn one_number(number: u32) -> Index
-    ensures { result.items ≡ number ∷ [] }
+// Writes the index of one number.
+fn write_number(number: u32, into: &mut Index)
+    ensures { into.new.items ≡ number ∷ [] }
 {
-    let mut index = Index::new();
-    index.push(number);
-    index
+    into.clear();
+    into.push(number);
 }
 
 /// Whether an index is that of a scalar's instance.
@@ -27,15 +26,18 @@ pub fn is_scalar(at: &[u32]) -> bool
     same_name(&[0], at)
 }
 
-/// The index of a scalar's instance, where it comes after this one.
-pub fn scalar_after(after: Option<&[u32]>) -> Option<Index>
-    ensures { (v : AnyValue) → option_map (λ index. index.items) result
+/// Writes the index of a scalar's instance, where it comes after this one, and says whether it does.
+/// Where it does not, nothing is written.
+pub fn scalar_after(after: Option<&[u32]>, into: &mut Index) -> bool
+    ensures found { (v : AnyValue) → (if result then Some into.new.items else None)
         ≡ index_after (scalar v) (option_copied after.entry) }
+    ensures none { result ≡ false → into.new ≡ into.old }
 {
-    match after {
-        Some([_, ..]) => None,
-        _ => Some(one_number(0)),
+    if let Some([_, ..]) = after {
+        return false;
     }
+    write_number(0, into);
+    true
 }
 
 /// The port whose index this is, among so many.
@@ -61,16 +63,18 @@ fn first_number(index: Option<&[u32]>) -> u32
     }
 }
 
-/// The first index of so many ports that comes after this one.
-pub fn port_after(ports: usize, after: Option<&[u32]>) -> Option<Index>
+/// Writes the first index of so many ports that comes after this one, and says whether there is one.
+/// Where there is none, nothing is written.
+pub fn port_after(ports: usize, after: Option<&[u32]>, into: &mut Index) -> bool
     requires { ports ≤ MAX_PORTS }
-    ensures { (f : ℕ → AnyValue) → option_map (λ index. index.items) result
+    ensures found { (f : ℕ → AnyValue) → (if result then Some into.new.items else None)
         ≡ index_after (by_port ports f) (option_copied after.entry) }
+    ensures none { result ≡ false → into.new ≡ into.old }
 {
     let last = first_number(after);
-    if (last as usize) < ports {
-        Some(one_number(last + 1))
-    } else {
-        None
+    if last as usize >= ports {
+        return false;
     }
+    write_number(last + 1, into);
+    true
 }

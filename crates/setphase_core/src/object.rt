@@ -1,5 +1,5 @@
 //! A managed object, as the registry sees each of them.
-ghost use Rattle.std.specs.Prelude.{◌≡◌, true, false, length, slice_get, Some, IfOk, OnOk, OnErr};
+ghost use Rattle.std.specs.Prelude.{◌≡◌, true, false, length, slice_get, if◌then◌else◌, Some, None, IfOk, OnOk, OnErr};
 ghost use Rattle.std.specs.Option.{option_copied, option_map};
 
 use crate::limits::MAX_INDEX;
@@ -103,11 +103,27 @@ pub trait MibObject: Drop {
     fn read(&self, alloc: Global, world: &World, at: &[u32]) -> Option<Value>
         ensures { result ≡ value_at (shown_by (state self.now).row.column world.now) at.now };
 
+    /// Writes the first index after this one, or the first of all, in place of the index that it is
+    /// lent, and says whether there is one. Where there is none, it writes nothing. It takes no memory.
+    fn next_into(&self, world: &World, after: Option<&[u32]>, into: &mut Index) -> bool
+        ensures found { (if result then Some into.new.items else None)
+            ≡ index_after (shown_by (state self.now).row.column world.now)
+            (option_copied after.entry) }
+        ensures none { result ≡ false → into.new ≡ into.old };
+
     /// The first index after this one, or the first of all. It takes no memory.
     fn next(&self, world: &World, after: Option<&[u32]>) -> Option<Index>
         ensures { option_map (λ index. index.items) result
             ≡ index_after (shown_by (state self.now).row.column world.now)
-            (option_copied after.entry) };
+            (option_copied after.entry) }
+    {
+        let mut index = Index::new();
+        if self.next_into(world, after, &mut index) {
+            Some(index)
+        } else {
+            None
+        }
+    }
 
     /// Tests the variable of this index, and reserves the next of its places for it (RFC 3416,
     /// 4.2.5). It takes no memory.

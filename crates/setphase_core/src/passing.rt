@@ -1,5 +1,5 @@
 //! A walk that passes over objects as a whole.
-ghost use Rattle.std.specs.Prelude.{◌≡◌, ◌<◌, ◌≤◌, ◌+◌, ◌++◌, length, map, drop, true, false, None, IfSome};
+ghost use Rattle.std.specs.Prelude.{◌≡◌, ◌<◌, ◌≤◌, ◌+◌, ◌++◌, [], length, map, drop, true, false, if◌then◌else◌, Some, None, IsTrue};
 ghost use Rattle.std.specs.Option.{option_map};
 ghost use Rattle.oid_core.specs.Order.{name_lt, is_prefix};
 ghost use Rattle.message_core.specs.Instances.{next_of};
@@ -34,6 +34,19 @@ pub struct Spot {
     pub index: Index,
 }
 
+impl Spot {
+    /// A spot to lend to a walk, which writes where it finds an instance.
+    pub fn new() -> Spot
+        ensures place { result.place ≡ 0 }
+        ensures index { result.index.items ≡ [] }
+    {
+        Spot {
+            place: 0,
+            index: Index::new(),
+        }
+    }
+}
+
 // Whether the object at a place is passed over. It is known that those in front of another place are
 // not.
 fn is_passed<O: MibObject, P: Passing>(object: &O, place: usize, until: usize, passing: &P) -> bool
@@ -43,30 +56,31 @@ fn is_passed<O: MibObject, P: Passing>(object: &O, place: usize, until: usize, p
     place >= until && passing.passes_over(object.prefix())
 }
 
-// The index of the first instance behind a name of an object whose name begins it.
-fn index_below<O: MibObject>(object: &O, world: &World, name: &[u32]) -> Option<Index>
+// Writes the index of the first instance behind a name of an object whose name begins it, and says
+// whether there is one.
+fn index_below<O: MibObject>(object: &O, world: &World, name: &[u32], into: &mut Index) -> bool
     requires { is_prefix (O.state object.now).row.prefix name.now ≡ true }
     ensures { let row = (O.state object.now).row in
-        option_map (λ index. row.prefix ++ index.items) result
+        (if result then Some (row.prefix ++ into.new.items) else None)
         ≡ option_map (λ b. b.name) (next_of (instances_under row world.now) name.now) }
 {
     let rest = &name[object.prefix().len()..];
-    object.next(world, Some(rest))
+    object.next_into(world, Some(rest), into)
 }
 
 // The same of an object whose name is greater.
-fn index_ahead<O: MibObject>(object: &O, world: &World, _name: &[u32]) -> Option<Index>
+fn index_ahead<O: MibObject>(object: &O, world: &World, _name: &[u32], into: &mut Index) -> bool
     requires apart { is_prefix (O.state object.now).row.prefix _name.now ≡ false }
     requires ahead { name_lt _name.now (O.state object.now).row.prefix ≡ true }
     ensures { let row = (O.state object.now).row in
-        option_map (λ index. row.prefix ++ index.items) result
+        (if result then Some (row.prefix ++ into.new.items) else None)
         ≡ option_map (λ b. b.name) (next_of (instances_under row world.now) _name.now) }
 {
-    object.next(world, None)
+    object.next_into(world, None, into)
 }
 
-// The first instance behind a name of the object at a place, whose name begins that name, but where
-// it is passed over, which is a step.
+// Writes where the first instance behind a name of the object at a place stands, whose name begins that
+// name, but where it is passed over, which is a step. It says whether there is one.
 fn own_spot<O: MibObject, P: Passing, L: Ledger>(
     objects: &[O],
     world: &World,
@@ -74,27 +88,29 @@ fn own_spot<O: MibObject, P: Passing, L: Ledger>(
     place: usize,
     until: usize,
     passing: &P,
+    spot: &mut Spot,
     steps: &mut Steps<L>,
-) -> Option<Spot>
+) -> bool
     requires within { place < length objects.now }
     requires begun { is_prefix (prefix_at (prefixes_of (rows_of (map O.state objects.now))) place)
         name.now ≡ true }
     requires until { AreOpen (P.passes passing.now)
         (prefixes_of (rows_of (map O.state objects.now))) place until }
     ensures { IsPassedOrFound (P.passes passing.now) (rows_of (map O.state objects.now)) world.now
-        name.now place steps.old steps.new result }
+        name.now place steps.old steps.new (if result then Some spot.new else None) }
 {
     let object = &objects[place];
     if is_passed(object, place, until, passing) {
         steps.tick();
-        return None;
+        return false;
     }
-    let index = index_below(object, world, name)?;
-    Some(Spot { place, index })
+    spot.place = place;
+    index_below(object, world, name, &mut spot.index)
 }
 
-// The first instance of the objects from a place on, whose names are all greater than a name, but
-// for those that are passed over, each of which is a step.
+// Writes where the first instance stands of the objects from a place on, whose names are all greater
+// than a name, but for those that are passed over, each of which is a step. It says whether there is
+// one.
 fn spot_behind<O: MibObject, P: Passing, L: Ledger>(
     objects: &[O],
     world: &World,
@@ -102,13 +118,14 @@ fn spot_behind<O: MibObject, P: Passing, L: Ledger>(
     start: usize,
     until: usize,
     passing: &P,
+    spot: &mut Spot,
     steps: &mut Steps<L>,
-) -> Option<Spot>
+) -> bool
     requires ahead { AreAhead (prefixes_of (rows_of (map O.state objects.now))) name.now start }
     requires until { AreOpen (P.passes passing.now)
         (prefixes_of (rows_of (map O.state objects.now))) start until }
     ensures found { IsFound (P.passes passing.now) (rows_of (map O.state objects.now)) world.now
-        name.now start result }
+        name.now start (if result then Some spot.new else None) }
     ensures work { let rows = drop start (rows_of (map O.state objects.now)) in
         first_fault rows ≡ None →
         IsWalk (P.passes passing.now) rows world.now name.now steps.old steps.new }
@@ -117,16 +134,18 @@ fn spot_behind<O: MibObject, P: Passing, L: Ledger>(
         let object = &objects[place];
         if is_passed(object, place, until, passing) {
             steps.tick();
-        } else if let Some(index) = index_ahead(object, world, name) {
-            return Some(Spot { place, index });
+        } else if index_ahead(object, world, name, &mut spot.index) {
+            spot.place = place;
+            return true;
         }
     }
-    None
+    false
 }
 
-/// Where the first instance behind a name stands, by the place of the name, but for those of the
-/// objects that are passed over, each of which is a step. It is
-/// known that those from there on and in front of another place are not.
+/// Writes where the first instance behind a name stands, by the place of the name, but for those of
+/// the objects that are passed over, each of which is a step. It is known that those from there on and
+/// in front of another place are not. It says whether there is one; where there is none, the spot may be
+/// any.
 pub fn next_spot<O: MibObject, P: Passing, L: Ledger>(
     objects: &[O],
     world: &World,
@@ -134,15 +153,16 @@ pub fn next_spot<O: MibObject, P: Passing, L: Ledger>(
     place: Result<usize, usize>,
     until: usize,
     passing: &P,
+    spot: &mut Spot,
     steps: &mut Steps<L>,
-) -> Option<Spot>
+) -> bool
     requires ordered { first_fault (rows_of (map O.state objects.now)) ≡ None }
     requires place { IsPlace (prefixes_of (rows_of (map O.state objects.now))) name.now place }
     requires until { AreOpen (P.passes passing.now)
         (prefixes_of (rows_of (map O.state objects.now))) (first_place place) until }
     ensures found { IsFound (P.passes passing.now) (rows_of (map O.state objects.now)) world.now
-        name.now 0 result }
-    ensures behind { IfSome result (λ spot. first_place place ≤ spot.place) }
+        name.now 0 (if result then Some spot.new else None) }
+    ensures behind { IsTrue result → first_place place ≤ spot.new.place }
     ensures work { let rows = rows_of (map O.state objects.now) in
         let passes = P.passes passing.now in
         steps.new + passed_ahead passes rows
@@ -150,12 +170,12 @@ pub fn next_spot<O: MibObject, P: Passing, L: Ledger>(
         ≡ steps.old + passed_after passes rows name.now }
 {
     match place {
-        Err(behind) => spot_behind(objects, world, name, behind, until, passing, steps),
+        Err(behind) => spot_behind(objects, world, name, behind, until, passing, spot, steps),
         Ok(own) => {
-            if let Some(spot) = own_spot(objects, world, name, own, until, passing, steps) {
-                return Some(spot);
+            if own_spot(objects, world, name, own, until, passing, spot, steps) {
+                return true;
             }
-            spot_behind(objects, world, name, own + 1, until, passing, steps)
+            spot_behind(objects, world, name, own + 1, until, passing, spot, steps)
         }
     }
 }

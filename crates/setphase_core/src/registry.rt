@@ -1,6 +1,6 @@
 //! Objects in the order of their names.
-ghost use Rattle.std.specs.Prelude.{◌≡◌, ◌<◌, ◌≤◌, ◌+◌, ◌-◌, ◌*◌, ◌^◌, ◌++◌, ℕ, Bool, List, length, map, Some, None, Ok, IfOk, IfSome, IsOk, MatchResult};
-ghost use Rattle.std.specs.Option.{option_copied, option_map};
+ghost use Rattle.std.specs.Prelude.{◌≡◌, ◌<◌, ◌≤◌, ◌+◌, ◌-◌, ◌*◌, ◌^◌, ◌++◌, ℕ, Bool, List, length, map, if◌then◌else◌, Some, None, Ok, IfOk, IsOk, IsTrue, MatchResult};
+ghost use Rattle.std.specs.Option.{option_copied};
 ghost use Rattle.message_core.specs.Instances.{next_of, value_of, IsServable};
 ghost use Rattle.setphase_core.specs.Registry.{rows_of, prefixes_of, first_fault, AreApart, AreNamed, HasShortName, owner_of, instances};
 ghost use Rattle.setphase_core.specs.Passing.{open_instances, passed_after, passed_ahead};
@@ -220,30 +220,32 @@ impl<O: MibObject> Registry<O> {
             → IsOk result }
     {
         let place = place_by_search(self.objects.as_slice(), name);
-        let Some(spot) = self.next_spot(world, name, place) else {
+        let mut spot = Spot::new();
+        if !self.next_spot(world, name, place, &mut spot) {
             return Ok(None);
-        };
+        }
         let name = self.name_at(alloc, &spot)?;
         let value = self.value_at(alloc, world, &spot);
         Ok(Some(Binding { name, value }))
     }
 
-    /// Where the first instance after a name stands, where there is one, by the place of the name. It
-    /// takes no memory.
+    /// Writes where the first instance after a name stands, by the place of the name, and says whether
+    /// there is one. Where there is none, the spot may be any. It takes no memory.
     pub fn next_spot(
         &self,
         world: &World,
         name: &[u32],
         place: Result<usize, usize>,
-    ) -> Option<Spot>
+        spot: &mut Spot,
+    ) -> bool
         requires { IsPlace (prefixes_of (rows_of self.now)) name.now place }
-        ensures found { option_map (instance_at (rows_of self.now) world.now) result
-            ≡ next_of (instances (rows_of self.now) world.now) name.now }
-        ensures there { IfSome result (IsThere (rows_of self.now) world.now) }
-        ensures place { IfSome result (λ spot. IsPlace (prefixes_of (rows_of self.now))
-            (instance_at (rows_of self.now) world.now spot).name (Ok spot.place)) }
+        ensures found { (if result then Some (instance_at (rows_of self.now) world.now spot.new)
+            else None) ≡ next_of (instances (rows_of self.now) world.now) name.now }
+        ensures there { IsTrue result → IsThere (rows_of self.now) world.now spot.new }
+        ensures place { IsTrue result → IsPlace (prefixes_of (rows_of self.now))
+            (instance_at (rows_of self.now) world.now spot.new).name (Ok spot.new.place) }
     {
-        self.next_uncounted::<Brand>(world, name, place, Blank::new(1))
+        self.next_uncounted::<Brand>(world, name, place, spot, Blank::new(1))
     }
 
     // The same, where nobody counts: the ledger is that of the blank.
@@ -252,24 +254,26 @@ impl<O: MibObject> Registry<O> {
         world: &World,
         name: &[u32],
         place: Result<usize, usize>,
+        spot: &mut Spot,
         blank: Blank,
-    ) -> Option<Spot>
+    ) -> bool
         requires place { IsPlace (prefixes_of (rows_of self.now)) name.now place }
         requires name { blank.name ≡ L.name }
         requires parts { blank.parts ≡ L.parts }
         requires some { 0 < blank.parts }
-        ensures found { option_map (instance_at (rows_of self.now) world.now) result
-            ≡ next_of (instances (rows_of self.now) world.now) name.now }
-        ensures there { IfSome result (IsThere (rows_of self.now) world.now) }
-        ensures place { IfSome result (λ spot. IsPlace (prefixes_of (rows_of self.now))
-            (instance_at (rows_of self.now) world.now spot).name (Ok spot.place)) }
+        ensures found { (if result then Some (instance_at (rows_of self.now) world.now spot.new)
+            else None) ≡ next_of (instances (rows_of self.now) world.now) name.now }
+        ensures there { IsTrue result → IsThere (rows_of self.now) world.now spot.new }
+        ensures place { IsTrue result → IsPlace (prefixes_of (rows_of self.now))
+            (instance_at (rows_of self.now) world.now spot.new).name (Ok spot.new.place) }
     {
         let mut steps: Steps<L> = Steps::new(blank);
-        self.next_open(world, name, place, 0, &PassesNone, &mut steps)
+        self.next_open(world, name, place, 0, &PassesNone, spot, &mut steps)
     }
 
-    /// Where the first instance after a name stands, where there is one, among those of the objects
-    /// that are not passed over, by the place of the name. It takes no memory. It is one step, and one
+    /// Writes where the first instance after a name stands, among those of the objects that are not
+    /// passed over, by the place of the name, and says whether there is one. Where there is none, the
+    /// spot may be any. It takes no memory. It is one step, and one
     /// for each object that is passed over between the name and the instance, or the end: so the
     /// steps, and the objects ahead that are to be passed over, are together as many as before, and
     /// one more.
@@ -283,24 +287,26 @@ impl<O: MibObject> Registry<O> {
         place: Result<usize, usize>,
         until: usize,
         passing: &P,
+        spot: &mut Spot,
         steps: &mut Steps<L>,
-    ) -> Option<Spot>
+    ) -> bool
         requires place { IsPlace (prefixes_of (rows_of self.now)) name.now place }
         requires until { AreOpen (P.passes passing.now) (prefixes_of (rows_of self.now))
             (first_place place) until }
-        ensures found { option_map (instance_at (rows_of self.now) world.now) result ≡ next_of
+        ensures found { (if result then Some (instance_at (rows_of self.now) world.now spot.new)
+            else None) ≡ next_of
             (open_instances (P.passes passing.now) (rows_of self.now) world.now) name.now }
-        ensures there { IfSome result (IsThere (rows_of self.now) world.now) }
-        ensures place { IfSome result (λ spot. IsPlace (prefixes_of (rows_of self.now))
-            (instance_at (rows_of self.now) world.now spot).name (Ok spot.place)) }
-        ensures behind { IfSome result (λ spot. first_place place ≤ spot.place) }
+        ensures there { IsTrue result → IsThere (rows_of self.now) world.now spot.new }
+        ensures place { IsTrue result → IsPlace (prefixes_of (rows_of self.now))
+            (instance_at (rows_of self.now) world.now spot.new).name (Ok spot.new.place) }
+        ensures behind { IsTrue result → first_place place ≤ spot.new.place }
         ensures work { steps.new + passed_ahead (P.passes passing.now) (rows_of self.now) (next_of
             (open_instances (P.passes passing.now) (rows_of self.now) world.now) name.now)
             ≡ steps.old + passed_after (P.passes passing.now) (rows_of self.now) name.now + 1 }
     {
         let objects = self.objects.as_slice();
         steps.tick();
-        find_spot(objects, world, name, place, until, passing, steps)
+        find_spot(objects, world, name, place, until, passing, spot, steps)
     }
 
     /// The name of the instance at a spot. It takes memory only where it has more than

@@ -1,6 +1,5 @@
 //! Where the instance stands that a walk finds, and the instance there.
-ghost use Rattle.std.specs.Prelude.{◌≡◌, ◌≤◌, ◌<◌, ◌+◌, ◌++◌, length, map, Some, None, Ok, IfOk, IfSome, IsOk, IsSome};
-ghost use Rattle.std.specs.Option.{option_map};
+ghost use Rattle.std.specs.Prelude.{◌≡◌, ◌≤◌, ◌<◌, ◌+◌, ◌++◌, length, map, if◌then◌else◌, Some, None, Ok, IfOk, IsOk, IsSome, IsTrue};
 ghost use Rattle.oid_core.specs.declared.limits.TheConstants.{INLINE_NUMBERS};
 ghost use Rattle.message_core.specs.Instances.{next_of};
 ghost use Rattle.setphase_core.specs.Values.{value_at};
@@ -19,9 +18,10 @@ use std::alloc::{AllocError, Global};
 use std::sync::ledger::Ledger;
 use steps::Steps;
 
-/// Where the first instance behind a name stands, by the place of the name, but for those of the
-/// objects that are passed over, each of which is a step. It is known that those from there on and in
-/// front of another place are not.
+/// Writes where the first instance behind a name stands, by the place of the name, but for those of
+/// the objects that are passed over, each of which is a step. It is known that those from there on and
+/// in front of another place are not. It says whether there is one; where there is none, the spot may be
+/// any.
 pub fn find_spot<O: MibObject, P: Passing, L: Ledger>(
     objects: &[O],
     world: &World,
@@ -29,27 +29,28 @@ pub fn find_spot<O: MibObject, P: Passing, L: Ledger>(
     place: Result<usize, usize>,
     until: usize,
     passing: &P,
+    spot: &mut Spot,
     steps: &mut Steps<L>,
-) -> Option<Spot>
+) -> bool
     requires ordered { first_fault (rows_of (map O.state objects.now)) ≡ None }
     requires place { IsPlace (prefixes_of (rows_of (map O.state objects.now))) name.now place }
     requires until { AreOpen (P.passes passing.now)
         (prefixes_of (rows_of (map O.state objects.now))) (first_place place) until }
     ensures found { let rows = rows_of (map O.state objects.now) in
-        option_map (instance_at rows world.now) result
+        (if result then Some (instance_at rows world.now spot.new) else None)
         ≡ next_of (open_instances (P.passes passing.now) rows world.now) name.now }
-    ensures there { IfSome result (IsThere (rows_of (map O.state objects.now)) world.now) }
+    ensures there { IsTrue result → IsThere (rows_of (map O.state objects.now)) world.now spot.new }
     ensures place { let rows = rows_of (map O.state objects.now) in
-        IfSome result (λ spot. IsPlace (prefixes_of rows) (instance_at rows world.now spot).name
-        (Ok spot.place)) }
-    ensures behind { IfSome result (λ spot. first_place place ≤ spot.place) }
+        IsTrue result → IsPlace (prefixes_of rows) (instance_at rows world.now spot.new).name
+        (Ok spot.new.place) }
+    ensures behind { IsTrue result → first_place place ≤ spot.new.place }
     ensures work { let rows = rows_of (map O.state objects.now) in
         let passes = P.passes passing.now in
         steps.new + passed_ahead passes rows
         (next_of (open_instances passes rows world.now) name.now)
         ≡ steps.old + passed_after passes rows name.now }
 {
-    next_spot(objects, world, name, place, until, passing, steps)
+    next_spot(objects, world, name, place, until, passing, spot, steps)
 }
 
 // The name of the instance of an object that has an index.

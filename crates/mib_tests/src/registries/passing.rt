@@ -5,7 +5,7 @@ use crate::registries::named::registry_of;
 use crate::registries::plain::make_plain;
 use crate::registries::worlds::opening_world;
 use oid_core::begins;
-use setphase_core::{MibObject, Passing, Registry, World};
+use setphase_core::{MibObject, Passing, Registry, Spot, World};
 use std::alloc::Global;
 use std::marker::Brand;
 use std::sync::ledger::{Blank, Ledger};
@@ -41,9 +41,18 @@ fn open_after<O: MibObject, L: Ledger>(
 {
     let mut steps: Steps<L> = Steps::new(blank);
     let place = registry.place_near(name, 0);
-    let Some(spot) = registry.next_open(world, name, place, 0, &Hidden(hidden), &mut steps) else {
+    let mut spot = Spot::new();
+    if !registry.next_open(
+        world,
+        name,
+        place,
+        0,
+        &Hidden(hidden),
+        &mut spot,
+        &mut steps,
+    ) {
         return Ok((0, 0));
-    };
+    }
     match registry.name_at(alloc, &spot)?.as_slice() {
         [_, _, object, index] => Ok((*object, *index)),
         _ => Ok((0, 0)),

@@ -50,11 +50,11 @@ impl MibObject for Plain {
     }
 
     #[tactic(auto, unfolding(setphase_core::specs::Columns::shown_by))]
-    fn next(&self, world: &World, after: Option<&[u32]>) -> Option<Index> {
+    fn next_into(&self, world: &World, after: Option<&[u32]>, into: &mut Index) -> bool {
         if self.by_port {
-            port_after(world.bridge.ports(), after)
+            port_after(world.bridge.ports(), after, into)
         } else {
-            scalar_after(after)
+            scalar_after(after, into)
         }
     }
 

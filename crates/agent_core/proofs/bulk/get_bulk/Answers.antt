@@ -17,9 +17,9 @@ returns-clause-answer g c =
     let most : c.max_repetitions-most.result ≡ count_of request.second = c.max_repetitions-most.ensures in
     let asked : c.as_slice-asked.result.now ≡ request.bindings = c.as_slice-asked.ensures in
     let once : c.non_repeaters-once.result ≡ min (count_of request.first) (length request.bindings) = c.non_repeaters-once.ensures.count in
-    let room : c.new-sent.result.room ≡ c.bindings_room.result = ap (λ s. s.room) c.new-sent.ensures in
-    let list : c.new-sent.result.bindings ++ bulk_list rows c.non_repeaters-once.result c.max_repetitions-most.result (names_of c.as_slice-asked.result.now) ≡ asked_list rows request =
-    ap (λ s. s.bindings ++ bulk_list rows c.non_repeaters-once.result c.max_repetitions-most.result (names_of c.as_slice-asked.result.now)) c.new-sent.ensures
+    let room : c.in_ok-sent.sent.room ≡ c.bindings_room.result = ap (λ s. s.room) c.in_ok-sent.ensures in
+    let list : c.in_ok-sent.sent.bindings ++ bulk_list rows c.non_repeaters-once.result c.max_repetitions-most.result (names_of c.as_slice-asked.result.now) ≡ asked_list rows request =
+    ap (λ s. s.bindings ++ bulk_list rows c.non_repeaters-once.result c.max_repetitions-most.result (names_of c.as_slice-asked.result.now)) c.in_ok-sent.ensures
     ∙ ap (λ n. bulk_list rows n c.max_repetitions-most.result (names_of c.as_slice-asked.result.now)) once
     ∙ ap (λ n. bulk_list rows (min (count_of request.first) (length request.bindings)) n (names_of c.as_slice-asked.result.now)) most
     ∙ ap (λ bs. bulk_list rows (min (count_of request.first) (length request.bindings)) (count_of request.second) (names_of bs)) asked in
@@ -39,7 +39,7 @@ pub returns-clause-most_work : goal.returns-clause-most_work
 returns-clause-most_work g c =
     let most : ℕ = most_looks (g.S.View.shows c.args.source.now) (g.S.Successors.instances c.args.source.now) in
     let sent : List Binding = c.send_list-filled.new.sent.bindings in
-    let room : c.new-sent.result.room ≡ c.bindings_room.result = ap (λ s. s.room) c.new-sent.ensures in
+    let room : c.in_ok-sent.sent.room ≡ c.bindings_room.result = ap (λ s. s.room) c.in_ok-sent.ensures in
     let within : total sent ≤ c.bindings_room.result = subst (λ r. total sent ≤ r) (c.send_list-filled.ensures.room ∙ room) c.into_bindings-bindings.ensures.within in
     let looks : c.send_list-filled.new.steps ≤ c.args.steps.now + (length sent + 1) * most = omega (arith, c.send_list-filled.ensures.work) in
     work_within c.args.steps.now c.send_list-filled.new.steps c.bindings_room.result most sent within c.bindings_room.ensures.most looks
@@ -49,7 +49,7 @@ pub returns-in_err-filled-clause-most_work : goal.returns-in_err-filled-clause-m
 returns-in_err-filled-clause-most_work g c =
     let most : ℕ = most_looks (g.S.View.shows c.args.source.now) (g.S.Successors.instances c.args.source.now) in
     let sent : List Binding = c.send_list-filled.new.sent.bindings in
-    let room : c.new-sent.result.room ≡ c.bindings_room.result = ap (λ s. s.room) c.new-sent.ensures in
+    let room : c.in_ok-sent.sent.room ≡ c.bindings_room.result = ap (λ s. s.room) c.in_ok-sent.ensures in
     let within : total sent ≤ c.bindings_room.result = subst (λ r. total sent ≤ r) (c.send_list-filled.ensures.room ∙ room) c.into_bindings-bindings.ensures.within in
     let looks : c.send_list-filled.new.steps ≤ c.args.steps.now + (length sent + 1) * most = omega (arith, c.send_list-filled.ensures.work) in
     work_within c.args.steps.now c.send_list-filled.new.steps c.bindings_room.result most sent within c.bindings_room.ensures.most looks

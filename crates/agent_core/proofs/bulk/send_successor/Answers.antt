@@ -1,28 +1,63 @@
-use Rattle.std.proofs.Common.{◌≡◌, ◌∙◌, ◌-◌, ◌++◌, [], ◌∷◌, List, IfOk, IsTrue, ap, subst, length, get_or}
+use Rattle.std.proofs.Common.{◌≡◌, ◌∙◌, ◌-◌, ◌++◌, [], ◌∷◌, List, Bool, cond, IfOk, IsTrue, sym, ap, subst, length, get_or}
 use Rattle.message_core.specs.declared.binding.Binding.{Binding}
 use Rattle.message_core.specs.Instances.{names_of}
-use Rattle.agent_core.specs.Reading.{visible, next_answer}
+use Rattle.agent_core.specs.Reading.{visible, end_under, next_answer}
 use Rattle.agent_core.specs.Fitting.{fit_into}
-use Rattle.agent_core.specs.Making.{binding_of}
 use Rattle.agent_core.proofs.Fits.{first_name}
 use Rattle.agent_core.proofs.Stands.{offered}
 use Rattle.agent_core.proofs.bulk.send_successor.Goals as goal
 
+-- the instance that was found
+
+pub returns-then-branch-clause-fits : goal.returns-then-branch-clause-fits
+returns-then-branch-clause-fits g c =
+    let rows : List Binding = visible (g.S.View.shows c.args.source.now) (g.S.Successors.instances c.args.source.now) in
+    let here : Binding = g.S.Successors.at c.args.source.now c.find_next.new.spot in
+    let name : c.index-last-0.result.name ≡ get_or (names_of c.args.sent.now.bindings) (length c.args.sent.now.bindings - c.args.back) [] = first_name c.args.sent.now.bindings c.args.back c.last.result.now c.index-last-0.result c.requires.some c.requires.there c.last.ensures.value c.index-last-0.is in
+    let row : here ≡ next_answer rows (get_or (names_of c.args.sent.now.bindings) (length c.args.sent.now.bindings - c.args.back) []) =
+    subst (λ (found : Bool). cond found here (end_under c.index-last-0.result.name) ≡ next_answer rows c.index-last-0.result.name) c.if-branch.true c.in_ok-find_next.ensures.answer ∙ ap (next_answer rows) name in
+    subst (λ (b : Binding). IfOk c.offer_instance.result (λ taken. taken ≡ fit_into c.args.sent.now.room (c.args.sent.now.bindings ++ b ∷ []))) row c.offer_instance.ensures.fits
+
+pub returns-then-branch-clause-taken : goal.returns-then-branch-clause-taken
+returns-then-branch-clause-taken g c =
+    let rows : List Binding = visible (g.S.View.shows c.args.source.now) (g.S.Successors.instances c.args.source.now) in
+    let here : Binding = g.S.Successors.at c.args.source.now c.find_next.new.spot in
+    let name : c.index-last-0.result.name ≡ get_or (names_of c.args.sent.now.bindings) (length c.args.sent.now.bindings - c.args.back) [] = first_name c.args.sent.now.bindings c.args.back c.last.result.now c.index-last-0.result c.requires.some c.requires.there c.last.ensures.value c.index-last-0.is in
+    let row : here ≡ next_answer rows (get_or (names_of c.args.sent.now.bindings) (length c.args.sent.now.bindings - c.args.back) []) =
+    subst (λ (found : Bool). cond found here (end_under c.index-last-0.result.name) ≡ next_answer rows c.index-last-0.result.name) c.if-branch.true c.in_ok-find_next.ensures.answer ∙ ap (next_answer rows) name in
+    subst (λ (b : Binding). IfOk c.offer_instance.result (λ taken. IsTrue taken → c.offer_instance.new.sent.bindings ≡ c.args.sent.now.bindings ++ b ∷ [])) row c.offer_instance.ensures.taken
+
+pub returns-then-branch-clause-stands : goal.returns-then-branch-clause-stands
+returns-then-branch-clause-stands g c =
+    let here : Binding = g.S.Successors.at c.args.source.now c.find_next.new.spot in
+    offered (g.S.Successors.stands c.args.source.now) c.offer_instance.result c.args.sent.now c.offer_instance.new.sent here c.find_next.new.stand c.requires.stands
+    (subst (λ (found : Bool). g.S.Successors.stands c.args.source.now c.find_next.new.stand (cond found here (end_under c.index-last-0.result.name)).name) c.if-branch.true c.in_ok-find_next.ensures.stands)
+    c.offer_instance.ensures.taken c.offer_instance.ensures.stand c.offer_instance.ensures.full c.offer_instance.ensures.err
+
+-- endOfMibView under the name
+
 pub returns-clause-fits : goal.returns-clause-fits
 returns-clause-fits g c =
-    let rows : List Binding = (visible (g.S.View.shows c.args.source.now) (g.S.Successors.instances c.args.source.now)) in
-    let name : c.index-last-0.result.name ≡ (get_or (names_of c.args.sent.now.bindings) (length c.args.sent.now.bindings - c.args.back) []) = first_name c.args.sent.now.bindings c.args.back c.last.result.now c.index-last-0.result c.requires.some c.requires.there c.last.ensures.value c.index-last-0.is in
-    let row : (binding_of (g.S.Successors.at c.args.source.now) c.in_ok-answer.answer) ≡ next_answer rows (get_or (names_of c.args.sent.now.bindings) (length c.args.sent.now.bindings - c.args.back) []) = c.in_ok-answer.ensures.answer ∙ ap (next_answer rows) name in
-    subst (λ (b : Binding). IfOk c.offer_answer.result (λ taken. taken ≡ fit_into c.args.sent.now.room (c.args.sent.now.bindings ++ b ∷ []))) row c.offer_answer.ensures.fits
+    let rows : List Binding = visible (g.S.View.shows c.args.source.now) (g.S.Successors.instances c.args.source.now) in
+    let here : Binding = g.S.Successors.at c.args.source.now c.find_next.new.spot in
+    let name : c.index-last-0.result.name ≡ get_or (names_of c.args.sent.now.bindings) (length c.args.sent.now.bindings - c.args.back) [] = first_name c.args.sent.now.bindings c.args.back c.last.result.now c.index-last-0.result c.requires.some c.requires.there c.last.ensures.value c.index-last-0.is in
+    let row : end_under c.in_ok-name.name ≡ next_answer rows (get_or (names_of c.args.sent.now.bindings) (length c.args.sent.now.bindings - c.args.back) []) =
+    ap end_under c.in_ok-name.ensures ∙ subst (λ (found : Bool). cond found here (end_under c.index-last-0.result.name) ≡ next_answer rows c.index-last-0.result.name) c.if-branch.false c.in_ok-find_next.ensures.answer ∙ ap (next_answer rows) name in
+    subst (λ (b : Binding). IfOk c.offer.result (λ taken. taken ≡ fit_into c.args.sent.now.room (c.args.sent.now.bindings ++ b ∷ []))) row c.offer.ensures.fits
 
 pub returns-clause-taken : goal.returns-clause-taken
 returns-clause-taken g c =
-    let rows : List Binding = (visible (g.S.View.shows c.args.source.now) (g.S.Successors.instances c.args.source.now)) in
-    let name : c.index-last-0.result.name ≡ (get_or (names_of c.args.sent.now.bindings) (length c.args.sent.now.bindings - c.args.back) []) = first_name c.args.sent.now.bindings c.args.back c.last.result.now c.index-last-0.result c.requires.some c.requires.there c.last.ensures.value c.index-last-0.is in
-    let row : (binding_of (g.S.Successors.at c.args.source.now) c.in_ok-answer.answer) ≡ next_answer rows (get_or (names_of c.args.sent.now.bindings) (length c.args.sent.now.bindings - c.args.back) []) = c.in_ok-answer.ensures.answer ∙ ap (next_answer rows) name in
-    subst (λ (b : Binding). IfOk c.offer_answer.result (λ taken. IsTrue taken → c.offer_answer.new.sent.bindings ≡ c.args.sent.now.bindings ++ b ∷ [])) row c.offer_answer.ensures.taken
+    let rows : List Binding = visible (g.S.View.shows c.args.source.now) (g.S.Successors.instances c.args.source.now) in
+    let here : Binding = g.S.Successors.at c.args.source.now c.find_next.new.spot in
+    let name : c.index-last-0.result.name ≡ get_or (names_of c.args.sent.now.bindings) (length c.args.sent.now.bindings - c.args.back) [] = first_name c.args.sent.now.bindings c.args.back c.last.result.now c.index-last-0.result c.requires.some c.requires.there c.last.ensures.value c.index-last-0.is in
+    let row : end_under c.in_ok-name.name ≡ next_answer rows (get_or (names_of c.args.sent.now.bindings) (length c.args.sent.now.bindings - c.args.back) []) =
+    ap end_under c.in_ok-name.ensures ∙ subst (λ (found : Bool). cond found here (end_under c.index-last-0.result.name) ≡ next_answer rows c.index-last-0.result.name) c.if-branch.false c.in_ok-find_next.ensures.answer ∙ ap (next_answer rows) name in
+    subst (λ (b : Binding). IfOk c.offer.result (λ taken. IsTrue taken → c.offer.new.self.bindings ≡ c.args.sent.now.bindings ++ b ∷ [])) row c.offer.ensures.taken
 
 pub returns-clause-stands : goal.returns-clause-stands
 returns-clause-stands g c =
-    offered (g.S.Successors.stands c.args.source.now) c.offer_answer.result c.args.sent.now c.offer_answer.new.sent (binding_of (g.S.Successors.at c.args.source.now) c.in_ok-answer.answer) c.find_next.new.stand c.requires.stands c.in_ok-answer.ensures.stands
-    c.offer_answer.ensures.taken c.offer_answer.ensures.stand c.offer_answer.ensures.full c.offer_answer.ensures.err
+    let here : Binding = g.S.Successors.at c.args.source.now c.find_next.new.spot in
+    let stood = subst (λ (found : Bool). g.S.Successors.stands c.args.source.now c.find_next.new.stand (cond found here (end_under c.index-last-0.result.name)).name) c.if-branch.false c.in_ok-find_next.ensures.stands in
+    offered (g.S.Successors.stands c.args.source.now) c.offer.result c.args.sent.now c.offer.new.self (end_under c.in_ok-name.name) c.find_next.new.stand c.requires.stands
+    (subst (g.S.Successors.stands c.args.source.now c.find_next.new.stand) (sym c.in_ok-name.ensures) stood)
+    c.offer.ensures.taken c.offer.ensures.stand c.offer.ensures.full c.offer.ensures.err

@@ -1,7 +1,5 @@
-use Rattle.std.proofs.Common.{◌≡◌, ◌∙◌, ap, sym, Some, None, List}
-use Rattle.std.specs.Option.{option_map}
+use Rattle.std.proofs.Common.{◌≡◌, ◌∙◌, ap, sym, cond, Some, None, List}
 use Rattle.oid_core.specs.Order.{is_prefix}
-use Rattle.setphase_core.specs.declared.passing.Spot.{Spot}
 use Rattle.message_core.specs.Instances.{value_of, next_of}
 use Rattle.agent_core.specs.Reading.{visible}
 use Rattle.message_core.specs.declared.binding.Binding.{Binding}
@@ -13,18 +11,19 @@ returns-in-Some-clause-answer g c =
     let rows : List Binding = visible (g.S.View.shows c.args.source.now) (g.S.Successors.instances c.args.source.now) in
     sym (below-itself c.args.object.now rows c.in-Some._itself (sym (c.in_ok-_itself.ensures) ∙ c.in-Some.is))
 
-pub returns-in_ok-name-in-Some-2-clause-answer : goal.returns-in_ok-name-in-Some-2-clause-answer
-returns-in_ok-name-in-Some-2-clause-answer g c =
+pub returns-clause-answer : goal.returns-clause-answer
+returns-clause-answer g c =
     let rows : List Binding = visible (g.S.View.shows c.args.source.now) (g.S.Successors.instances c.args.source.now) in
-    let at : Spot → Binding = g.S.Successors.at c.args.source.now in
+    let here : Binding = g.S.Successors.at c.args.source.now c.next_shown.new.spot in
     let none : value_of rows c.args.object.now ≡ None = sym (c.in_ok-_itself.ensures) ∙ c.in_default.is in
-    let next : next_of rows c.args.object.now ≡ Some (at c.in-Some-2.spot) = sym (c.in_ok-spot.ensures.found) ∙ ap (option_map at) c.in-Some-2.is in
-    c.is_prefix.ensures.test ∙ ap (is_prefix c.args.object.now) c.in_ok-name-in-Some-2.ensures
+    let next : next_of rows c.args.object.now ≡ Some here = sym (c.in_ok-next_shown.ensures.found) ∙ ap (λ b. cond b (Some here) None) c.if-not-branch.false in
+    c.is_prefix.ensures.test ∙ ap (is_prefix c.args.object.now) c.in_ok-name.ensures
     ∙ sym (below-first c.args.object.now rows (visible-rising (g.S.View.shows c.args.source.now) (g.S.Successors.instances c.args.source.now) c.known.ensures.rising) none ∙ ap (first_below c.args.object.now) next)
 
-pub returns-in-None-clause-answer : goal.returns-in-None-clause-answer
-returns-in-None-clause-answer g c =
+pub returns-then-not-branch-clause-answer : goal.returns-then-not-branch-clause-answer
+returns-then-not-branch-clause-answer g c =
     let rows : List Binding = visible (g.S.View.shows c.args.source.now) (g.S.Successors.instances c.args.source.now) in
+    let here : Binding = g.S.Successors.at c.args.source.now c.next_shown.new.spot in
     let none : value_of rows c.args.object.now ≡ None = sym (c.in_ok-_itself.ensures) ∙ c.in_default.is in
-    let next : next_of rows c.args.object.now ≡ None = sym (c.in_ok-spot.ensures.found) ∙ ap (option_map (g.S.Successors.at c.args.source.now)) c.in-None.is in
+    let next : next_of rows c.args.object.now ≡ None = sym (c.in_ok-next_shown.ensures.found) ∙ ap (λ b. cond b (Some here) None) c.if-not-branch.true in
     sym (below-first c.args.object.now rows (visible-rising (g.S.View.shows c.args.source.now) (g.S.Successors.instances c.args.source.now) c.known.ensures.rising) none ∙ ap (first_below c.args.object.now) next)

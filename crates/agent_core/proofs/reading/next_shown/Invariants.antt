@@ -1,5 +1,4 @@
-use Rattle.std.proofs.Common.{◌≡◌, ◌≤◌, ◌+◌, length, find, IfSome}
-use Rattle.std.specs.Option.{option_map}
+use Rattle.std.proofs.Common.{◌≡◌, ◌≤◌, ◌+◌, cond, length, find, Some, None, IsTrue}
 use Rattle.message_core.specs.Instances.{next_of}
 use Rattle.agent_core.specs.Reading.{visible}
 use Rattle.agent_core.specs.Looking.{hidden_count, most_looks}
@@ -11,13 +10,13 @@ abbrev pub invariant-loop-found : goal.invariant-loop-found
 invariant-loop-found g l =
     let shows = g.S.View.shows l.source in
     let rows = g.S.Successors.instances l.source in
-    let at = option_map (g.S.Successors.at l.source) l.found in
+    let at = cond l.found (Some (g.S.Successors.at l.source l.spot)) None in
     record {
       answer : next_of (visible shows rows) l.name ≡ find (λ row. shows row.name) (from rows at);
-      there : IfSome l.found (g.S.Successors.is_there l.source);
-      stands : IfSome l.found (λ spot. g.S.Successors.stands l.source l.stand (g.S.Successors.at l.source spot).name);
+      there : IsTrue l.found → g.S.Successors.is_there l.source l.spot;
+      stands : IsTrue l.found → g.S.Successors.stands l.source l.stand (g.S.Successors.at l.source l.spot).name;
       work : l.steps + hidden_count shows (from rows at) ≤ l.fn.steps + most_looks shows rows;
     }
 
 abbrev pub decreases-loop-found : goal.decreases-loop-found
-decreases-loop-found g l = length (from (g.S.Successors.instances l.source) (option_map (g.S.Successors.at l.source) l.found))
+decreases-loop-found g l = length (from (g.S.Successors.instances l.source) (cond l.found (Some (g.S.Successors.at l.source l.spot)) None))

@@ -5,4 +5,4 @@ use Rattle.setphase_core.proofs.passing.index_ahead.Goals as goal
 pub returns : goal.returns
 returns g c =
     let row : ObjectRow = (g.O.MibObject.state c.args.object.now).row in
-    name_before (λ index. index.items) row c.args.world.now c.args._name.now _ c.requires.apart c.requires.ahead c.next.ensures
+    name_before row c.args.world.now c.args._name.now c.next_into.new.into.items c.next_into.result c.requires.apart c.requires.ahead c.next_into.ensures.found

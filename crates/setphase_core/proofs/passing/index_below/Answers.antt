@@ -16,6 +16,6 @@ slice_bounds-rest-start g c = omega (arith, ap (λ (xs : List ℕ). length xs) c
 pub returns : goal.returns
 returns g c =
     let row : ObjectRow = (g.O.MibObject.state c.args.object.now).row in
-    name_begun (λ index. index.items) row c.args.world.now c.args.name.now _ c.requires
-    (c.next.ensures
+    name_begun row c.args.world.now c.args.name.now c.next_into.new.into.items c.next_into.result c.requires
+    (c.next_into.ensures.found
     ∙ ap (λ (n : List ℕ). index_after (shown_by row.column c.args.world.now) (Some n)) (rest_of (length c.prefix.result.now) c.args.name.now ∙ ap (λ (p : List ℕ). drop (length p) c.args.name.now) c.prefix.ensures))

@@ -1,4 +1,4 @@
-use Rattle.std.proofs.Common.{◌≤◌, ◌+◌, ◌∙◌, Bool, List, ℕ, map, Result, Some, IfSome, sym, subst, arith}
+use Rattle.std.proofs.Common.{◌≤◌, ◌+◌, ◌∙◌, Bool, cond, List, ℕ, map, Result, Some, None, IsTrue, sym, subst, arith}
 use Rattle.setphase_core.specs.Objects.{ObjectRow}
 use Rattle.setphase_core.specs.Registry.{rows_of, prefixes_of}
 use Rattle.setphase_core.specs.Searching.{IsPlace}
@@ -6,7 +6,7 @@ use Rattle.setphase_core.specs.Walking.{first_place, IsPassedOrFound}
 use Rattle.setphase_core.proofs.Ordered.{ordered_from}
 use Rattle.setphase_core.proofs.Searches.{start_found, start_behind}
 use Rattle.setphase_core.proofs.Passed as passed
-use Rattle.setphase_core.proofs.Walks.{none_of, ahead_own, found_whole, found_after}
+use Rattle.setphase_core.proofs.Walks.{ahead_own, found_whole, found_after}
 use Rattle.setphase_core.proofs.passing.next_spot.Goals as goal
 
 pub returns-in-Err-clause-found : goal.returns-in-Err-clause-found
@@ -31,36 +31,36 @@ spot_behind-requires-in-Ok-clause-ahead g c =
     let names : List (List ℕ) = prefixes_of (rows_of (map g.O.MibObject.state c.args.objects.now)) in
     ahead_own names c.args.name.now c.in-Ok.own (ordered_from _ c.requires.ordered) (subst (IsPlace names c.args.name.now) c.in-Ok.is c.requires.place)
 
-pub returns-in-Some-clause-found : goal.returns-in-Some-clause-found
-returns-in-Some-clause-found g c =
+pub returns-then-own_spot-clause-found : goal.returns-then-own_spot-clause-found
+returns-then-own_spot-clause-found g c =
     let passes : List ℕ → Bool = g.P.Passing.passes c.args.passing.now in
     let rows : List ObjectRow = rows_of (map g.O.MibObject.state c.args.objects.now) in
     let start = start_found (prefixes_of rows) c.args.name.now c.in-Ok.own (ordered_from _ c.requires.ordered) (subst (IsPlace (prefixes_of rows) c.args.name.now) c.in-Ok.is c.requires.place) in
-    let spot = subst (IsPassedOrFound passes rows c.args.world.now c.args.name.now c.in-Ok.own c.args.steps.now c.own_spot.new.steps) c.in-Some.is c.own_spot.ensures in
-    found_whole passes rows c.args.world.now c.args.name.now c.in-Ok.own (Some c.in-Some.spot) (passed.found_from_start passes c.args.name.now c.in-Ok.own rows c.args.world.now start) spot.0
+    let spot = subst (λ b. IsPassedOrFound passes rows c.args.world.now c.args.name.now c.in-Ok.own c.args.steps.now c.own_spot.new.steps (cond b (Some c.own_spot.new.spot) None)) c.if-own_spot.true c.own_spot.ensures in
+    found_whole passes rows c.args.world.now c.args.name.now c.in-Ok.own (Some c.own_spot.new.spot) (passed.found_from_start passes c.args.name.now c.in-Ok.own rows c.args.world.now start) spot.0
 
-pub returns-in-Some-clause-work : goal.returns-in-Some-clause-work
-returns-in-Some-clause-work g c =
+pub returns-then-own_spot-clause-work : goal.returns-then-own_spot-clause-work
+returns-then-own_spot-clause-work g c =
     let passes : List ℕ → Bool = g.P.Passing.passes c.args.passing.now in
     let rows : List ObjectRow = rows_of (map g.O.MibObject.state c.args.objects.now) in
     let start = start_found (prefixes_of rows) c.args.name.now c.in-Ok.own (ordered_from _ c.requires.ordered) (subst (IsPlace (prefixes_of rows) c.args.name.now) c.in-Ok.is c.requires.place) in
-    let spot = subst (IsPassedOrFound passes rows c.args.world.now c.args.name.now c.in-Ok.own c.args.steps.now c.own_spot.new.steps) c.in-Some.is c.own_spot.ensures in
+    let spot = subst (λ b. IsPassedOrFound passes rows c.args.world.now c.args.name.now c.in-Ok.own c.args.steps.now c.own_spot.new.steps (cond b (Some c.own_spot.new.spot) None)) c.if-own_spot.true c.own_spot.ensures in
     passed.steps_from passes c.args.name.now c.in-Ok.own rows c.args.world.now c.args.steps.now c.own_spot.new.steps start (spot.1 (passed.ordered_drop c.in-Ok.own rows c.requires.ordered))
 
-pub returns-in_default-clause-found : goal.returns-in_default-clause-found
-returns-in_default-clause-found g c =
+pub returns-else-own_spot-clause-found : goal.returns-else-own_spot-clause-found
+returns-else-own_spot-clause-found g c =
     let passes : List ℕ → Bool = g.P.Passing.passes c.args.passing.now in
     let rows : List ObjectRow = rows_of (map g.O.MibObject.state c.args.objects.now) in
     let start = start_found (prefixes_of rows) c.args.name.now c.in-Ok.own (ordered_from _ c.requires.ordered) (subst (IsPlace (prefixes_of rows) c.args.name.now) c.in-Ok.is c.requires.place) in
-    let walked = subst (IsPassedOrFound passes rows c.args.world.now c.args.name.now c.in-Ok.own c.args.steps.now c.own_spot.new.steps) (none_of c.own_spot.result c.in_default.not-Some) c.own_spot.ensures in
+    let walked = subst (λ b. IsPassedOrFound passes rows c.args.world.now c.args.name.now c.in-Ok.own c.args.steps.now c.own_spot.new.steps (cond b (Some c.own_spot.new.spot) None)) c.if-own_spot.false c.own_spot.ensures in
     found_whole passes rows c.args.world.now c.args.name.now (c.in-Ok.own + 1) _ (walked.found ∙ passed.found_from_start passes c.args.name.now c.in-Ok.own rows c.args.world.now start) c.spot_behind-in-Ok.ensures.found
 
-pub returns-in_default-clause-work : goal.returns-in_default-clause-work
-returns-in_default-clause-work g c =
+pub returns-else-own_spot-clause-work : goal.returns-else-own_spot-clause-work
+returns-else-own_spot-clause-work g c =
     let passes : List ℕ → Bool = g.P.Passing.passes c.args.passing.now in
     let rows : List ObjectRow = rows_of (map g.O.MibObject.state c.args.objects.now) in
     let start = start_found (prefixes_of rows) c.args.name.now c.in-Ok.own (ordered_from _ c.requires.ordered) (subst (IsPlace (prefixes_of rows) c.args.name.now) c.in-Ok.is c.requires.place) in
-    let walked = subst (IsPassedOrFound passes rows c.args.world.now c.args.name.now c.in-Ok.own c.args.steps.now c.own_spot.new.steps) (none_of c.own_spot.result c.in_default.not-Some) c.own_spot.ensures in
+    let walked = subst (λ b. IsPassedOrFound passes rows c.args.world.now c.args.name.now c.in-Ok.own c.args.steps.now c.own_spot.new.steps (cond b (Some c.own_spot.new.spot) None)) c.if-own_spot.false c.own_spot.ensures in
     passed.steps_from passes c.args.name.now c.in-Ok.own rows c.args.world.now c.args.steps.now c.spot_behind-in-Ok.new.steps start
     (walked.work c.spot_behind-in-Ok.new.steps (λ o. c.spot_behind-in-Ok.ensures.work o) (passed.ordered_drop c.in-Ok.own rows c.requires.ordered))
 
@@ -68,19 +68,19 @@ pub returns-in-Err-clause-behind : goal.returns-in-Err-clause-behind
 returns-in-Err-clause-behind g c =
     let passes : List ℕ → Bool = g.P.Passing.passes c.args.passing.now in
     let rows : List ObjectRow = rows_of (map g.O.MibObject.state c.args.objects.now) in
-    subst (λ (place : Result ℕ ℕ). IfSome c.spot_behind.result (λ s. first_place place ≤ s.place)) (sym c.in-Err.is)
-    (found_after passes rows c.args.world.now c.args.name.now c.in-Err.behind c.in-Err.behind _ (omega arith) c.spot_behind.ensures.found)
+    subst (λ (place : Result ℕ ℕ). IsTrue c.spot_behind.result → first_place place ≤ c.spot_behind.new.spot.place) (sym c.in-Err.is)
+    (found_after passes rows c.args.world.now c.args.name.now c.in-Err.behind c.in-Err.behind c.spot_behind.result c.spot_behind.new.spot (omega arith) c.spot_behind.ensures.found)
 
-pub returns-in-Some-clause-behind : goal.returns-in-Some-clause-behind
-returns-in-Some-clause-behind g c =
+pub returns-then-own_spot-clause-behind : goal.returns-then-own_spot-clause-behind
+returns-then-own_spot-clause-behind g c =
     let passes : List ℕ → Bool = g.P.Passing.passes c.args.passing.now in
     let rows : List ObjectRow = rows_of (map g.O.MibObject.state c.args.objects.now) in
-    let spot = subst (IsPassedOrFound passes rows c.args.world.now c.args.name.now c.in-Ok.own c.args.steps.now c.own_spot.new.steps) c.in-Some.is c.own_spot.ensures in
-    subst (λ (place : Result ℕ ℕ). first_place place ≤ c.in-Some.spot.place) (sym c.in-Ok.is) spot.0.after
+    let spot = subst (λ b. IsPassedOrFound passes rows c.args.world.now c.args.name.now c.in-Ok.own c.args.steps.now c.own_spot.new.steps (cond b (Some c.own_spot.new.spot) None)) c.if-own_spot.true c.own_spot.ensures in
+    λ _. subst (λ (place : Result ℕ ℕ). first_place place ≤ c.own_spot.new.spot.place) (sym c.in-Ok.is) spot.0.after
 
-pub returns-in_default-clause-behind : goal.returns-in_default-clause-behind
-returns-in_default-clause-behind g c =
+pub returns-else-own_spot-clause-behind : goal.returns-else-own_spot-clause-behind
+returns-else-own_spot-clause-behind g c =
     let passes : List ℕ → Bool = g.P.Passing.passes c.args.passing.now in
     let rows : List ObjectRow = rows_of (map g.O.MibObject.state c.args.objects.now) in
-    subst (λ (place : Result ℕ ℕ). IfSome c.spot_behind-in-Ok.result (λ s. first_place place ≤ s.place)) (sym c.in-Ok.is)
-    (found_after passes rows c.args.world.now c.args.name.now (c.in-Ok.own + 1) c.in-Ok.own _ (omega arith) c.spot_behind-in-Ok.ensures.found)
+    subst (λ (place : Result ℕ ℕ). IsTrue c.spot_behind-in-Ok.result → first_place place ≤ c.spot_behind-in-Ok.new.spot.place) (sym c.in-Ok.is)
+    (found_after passes rows c.args.world.now c.args.name.now (c.in-Ok.own + 1) c.in-Ok.own c.spot_behind-in-Ok.result c.spot_behind-in-Ok.new.spot (omega arith) c.spot_behind-in-Ok.ensures.found)

@@ -1,11 +1,9 @@
-use Rattle.std.proofs.Common.{◌≡◌, ◌∙◌, Bool, false, List, ◌++◌, ℕ, map, drop, refl, sym, ap, subst, arith}
-use Rattle.std.specs.Option.{option_map}
+use Rattle.std.proofs.Common.{◌∙◌, Bool, List, ℕ, map, drop, refl, sym, ap, arith}
 use Rattle.oid_core.specs.Order.{is_prefix}
 use Rattle.setphase_core.specs.Objects.{ObjectRow}
 use Rattle.setphase_core.specs.Registry.{rows_of}
-use Rattle.setphase_core.specs.Walking.{IsPassedOrFound}
 use Rattle.setphase_core.proofs.Places.{prefix_there, prefixes_length, row_there, rows_count, split_there}
-use Rattle.setphase_core.proofs.Next.{named_none}
+use Rattle.setphase_core.proofs.AtSpots.{own_answer}
 use Rattle.setphase_core.proofs.Passed as passed
 use Rattle.setphase_core.proofs.passing.own_spot.Goals as goal
 
@@ -29,31 +27,12 @@ returns-then-is_passed g c =
     passed.walk_passed passes rows rows (g.O.MibObject.state c.index-objects-place.result).row _ c.args.world.now c.args.name.now split c.args.steps.now c.args.steps.now c.tick.new.self (passed.walk_start passes rows c.args.world.now c.args.name.now c.args.steps.now)
     (sym c.is_passed.ensures ∙ c.if-is_passed.true) c.tick.ensures
 
-pub returns-in_err-index : goal.returns-in_err-index
-returns-in_err-index g c =
-    let passes : List ℕ → Bool = g.P.Passing.passes c.args.passing.now in
-    let rows : List ObjectRow = drop c.args.place (rows_of (map g.O.MibObject.state c.args.objects.now)) in
-    let row : ObjectRow = (g.O.MibObject.state c.index-objects-place.result).row in
-    let split = split_there g.O.MibObject.state c.args.objects.now c.args.place c.index-objects-place.result c.requires.within c.index-objects-place.is in
-    subst (IsPassedOrFound passes (rows_of (map g.O.MibObject.state c.args.objects.now)) c.args.world.now c.args.name.now c.args.place c.args.steps.now c.args.steps.now) (sym c.from_residual.ensures)
-    (passed.walk_later passes rows rows row _ c.args.world.now c.args.name.now split c.args.steps.now c.args.steps.now c.args.steps.now (passed.walk_start passes rows c.args.world.now c.args.name.now c.args.steps.now)
-    (sym c.is_passed.ensures ∙ c.if-is_passed.false) (named_none row c.args.world.now c.args.name.now (ap (option_map (λ index. row.prefix ++ index.items)) (sym c.in_err-index.was) ∙ c.index_below.ensures)) refl)
-
 pub returns : goal.returns
 returns g c =
     let passes : List ℕ → Bool = g.P.Passing.passes c.args.passing.now in
-    let rows : List ObjectRow = drop c.args.place (rows_of (map g.O.MibObject.state c.args.objects.now)) in
+    let rows : List ObjectRow = rows_of (map g.O.MibObject.state c.args.objects.now) in
     let row : ObjectRow = (g.O.MibObject.state c.index-objects-place.result).row in
     let split = split_there g.O.MibObject.state c.args.objects.now c.args.place c.index-objects-place.result c.requires.within c.index-objects-place.is in
-    let kept : passes row.prefix ≡ false = sym c.is_passed.ensures ∙ c.if-is_passed.false in
-    let start = passed.walk_start passes rows c.args.world.now c.args.name.now c.args.steps.now in (
-      record {
-        row = row;
-        after = omega arith;
-        within = omega (arith, c.requires.within, rows_count g.O.MibObject.state c.args.objects.now);
-        at = row_there g.O.MibObject.state c.args.objects.now c.args.place c.index-objects-place.result row c.requires.within c.index-objects-place.is;
-        index = c.in_ok-index.ensures;
-        first = passed.walk_found passes rows rows row _ c.args.world.now c.args.name.now split c.args.steps.now c.args.steps.now start c.in_ok-index.index.items kept c.in_ok-index.ensures;
-      },
-      passed.walk_work passes rows rows row _ c.args.world.now c.args.name.now split c.args.steps.now c.args.steps.now start c.in_ok-index.index.items kept c.in_ok-index.ensures,
-    )
+    own_answer passes rows row c.args.world.now c.args.name.now c.args.place c.args.steps.now (record { place = c.args.place; index = c.index_below.new.into }) c.index_below.result
+    split (sym c.is_passed.ensures ∙ c.if-is_passed.false) (omega (arith, c.requires.within, rows_count g.O.MibObject.state c.args.objects.now))
+    (row_there g.O.MibObject.state c.args.objects.now c.args.place c.index-objects-place.result row c.requires.within c.index-objects-place.is) refl c.index_below.ensures
