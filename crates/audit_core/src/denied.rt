@@ -1,9 +1,11 @@
 //! The variable bindings of a request that are not in the view.
 ghost use Rattle.std.specs.Prelude.{◌≡◌, ◌≢◌, [], ◌∷◌, ◌++◌, ◌<◌, length, Some, None, IfSome, IsOk, IfOk, OnOk, OnErr};
 ghost use Rattle.std.specs.List.{flat_map};
+ghost use Rattle.std.specs.Option.{option_copied};
 ghost use Rattle.audit_core.specs.Text.{denied_text};
 
 use crate::keys::FamilyKey;
+use crate::marks::Marks;
 use oid_core::INLINE_NUMBERS;
 use std::alloc::{AllocError, Global};
 use std::fmt;
@@ -44,32 +46,64 @@ impl fmt::Display for Denied {
 
     fn fmt<W: fmt::Write>(&self, f: &mut fmt::Formatter<W>) -> fmt::Result {
         let index = self.index;
-        match &self.family {
+        let family = self.family.as_ref();
+        let denied = WrittenDenied { index, family };
+        write!(f, "{denied}")
+    }
+}
+
+/// How a denied binding is written, whose key stands elsewhere.
+#[derive(Drop)]
+pub struct WrittenDenied<'a> {
+    /// The number of the binding.
+    pub index: usize,
+    /// The key of the family that excludes its name, if one does.
+    pub family: Option<&'a FamilyKey>,
+}
+
+/// As that of [`Denied`].
+impl fmt::Display for WrittenDenied<'_> {
+    ghost output = { λ denied. Some (denied_text (record {
+      index = denied.index;
+      family = option_copied denied.family;
+    })) };
+
+    fn fmt<W: fmt::Write>(&self, f: &mut fmt::Formatter<W>) -> fmt::Result {
+        let index = self.index;
+        match self.family {
             Some(family) => write!(f, " denied {index} {family}"),
             None => write!(f, " denied {index} none"),
         }
     }
 }
 
-/// The denied bindings of a request, in order.
+/// The denied bindings of a request, in order. The key of each family is kept once, and a binding
+/// takes a few octets: its number, and the place of its key among those.
 pub struct DeniedBindings {
-    items: Vec<Denied>,
+    marks: Marks,
+    // The first denied binding that has no mark, since its number or the place of its key does not
+    // fit 16 bits, and all that come behind it. A request of at most `MAX_REQUEST` octets has none,
+    // but no caller owes that, so that any list can be kept.
+    rest: Vec<Denied>,
 }
 
 // By hand, so that who lets one go knows nothing of its parts.
 impl Drop for DeniedBindings {
     fn drop(self) {
-        let DeniedBindings { items: _items } = self;
+        let DeniedBindings {
+            marks: _marks,
+            rest: _rest,
+        } = self;
     }
 }
 
 impl Model for DeniedBindings {
-    ghost use Rattle.std.specs.Prelude.{List};
+    ghost use Rattle.std.specs.Prelude.{List, ◌++◌};
     ghost use Rattle.audit_core.specs.declared.denied.Denied.{Denied};
 
     ghost Value = { List Denied };
 
-    ghost view = { λ d. d.items.items };
+    ghost view = { λ d. d.marks ++ d.rest.items };
 }
 
 impl DeniedBindings {
@@ -78,23 +112,9 @@ impl DeniedBindings {
         ensures { result ≡ [] }
     {
         DeniedBindings {
-            items: Vec::new(alloc),
+            marks: Marks::new(alloc),
+            rest: Vec::new(alloc),
         }
-    }
-
-    /// The denied bindings of a vector. Takes no memory.
-    pub fn from_vec(items: Vec<Denied>) -> DeniedBindings
-        ensures { result ≡ items.items }
-    {
-        DeniedBindings { items }
-    }
-
-    /// The denied bindings as a vector. Takes no memory.
-    pub fn into_vec(self) -> Vec<Denied>
-        ensures { result.items ≡ self }
-    {
-        let DeniedBindings { items } = self;
-        items
     }
 
     /// A copy. Takes memory, but for no denied bindings.
@@ -102,11 +122,9 @@ impl DeniedBindings {
         ensures value { IfOk result (λ copy. copy ≡ self.now) }
         ensures some { OnErr result (self.now ≢ []) }
     {
-        let mut items = Vec::with_capacity(alloc, self.items.len())?;
-        for denied in self.as_slice() {
-            items.push(denied.try_copy(alloc)?)?;
-        }
-        Ok(DeniedBindings { items })
+        let marks = self.marks.try_copy(alloc)?;
+        let rest = copied(alloc, self.rest.as_slice())?;
+        Ok(DeniedBindings { marks, rest })
     }
 
     /// Adds a denied binding at the end. Takes memory; without it, nothing changes and the denied
@@ -115,15 +133,15 @@ impl DeniedBindings {
         ensures ok { OnOk result (self.new ≡ self.old ++ denied ∷ []) }
         ensures err { OnErr result (self.new ≡ self.old) }
     {
-        self.items.push(denied)?;
+        let unmarked = if self.rest.is_empty() {
+            self.marks.push(denied)?
+        } else {
+            Some(denied)
+        };
+        if let Some(denied) = unmarked {
+            self.rest.push(denied)?;
+        }
         Ok(())
-    }
-
-    /// The denied bindings.
-    pub fn as_slice(&self) -> &[Denied]
-        ensures { result.now ≡ self.now }
-    {
-        self.items.as_slice()
     }
 }
 
@@ -132,7 +150,34 @@ impl fmt::Display for DeniedBindings {
     ghost output = { λ all. Some (flat_map denied_text all) };
 
     fn fmt<W: fmt::Write>(&self, f: &mut fmt::Formatter<W>) -> fmt::Result {
-        for denied in self.as_slice() {
+        let marks = &self.marks;
+        let rest = WrittenRest(self.rest.as_slice());
+        write!(f, "{marks}{rest}")
+    }
+}
+
+// Copies of denied bindings. Takes memory where there are some.
+fn copied(alloc: Global, items: &[Denied]) -> Result<Vec<Denied>, AllocError>
+    ensures value { IfOk result (λ copies. copies.items ≡ items.now) }
+    ensures some { OnErr result (items.now ≢ []) }
+{
+    let mut copies = Vec::with_capacity(alloc, items.len())?;
+    for denied in items {
+        copies.push(denied.try_copy(alloc)?)?;
+    }
+    Ok(copies)
+}
+
+// How denied bindings are written.
+#[derive(Drop)]
+struct WrittenRest<'a>(&'a [Denied]);
+
+/// One behind the other.
+impl fmt::Display for WrittenRest<'_> {
+    ghost output = { λ rest. Some (flat_map denied_text rest.0.now) };
+
+    fn fmt<W: fmt::Write>(&self, f: &mut fmt::Formatter<W>) -> fmt::Result {
+        for denied in self.0 {
             write!(f, "{denied}")?;
         }
         Ok(())
