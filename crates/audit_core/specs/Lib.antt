@@ -1,3 +1,4 @@
+pub mod Denials
 pub mod Keys
 pub mod Marks
 pub mod Text

@@ -1,6 +1,6 @@
 -- Denied bindings as marks: the number of the binding, and the place of the key of its family in a
 -- list of keys, in which each stands once.
-use Rattle.std.specs.Prelude.{◌≡◌, ◌≢◌, ℕ, ◌<◌, ◌++◌, List, [], ◌∷◌, length, map, Option, Some, None, slice_get}
+use Rattle.std.specs.Prelude.{◌≡◌, ℕ, ◌<◌, ◌++◌, List, [], ◌∷◌, length, map, Option, Some, None, slice_get}
 use Rattle.std.specs.List.{AllByRecursion}
 use Rattle.audit_core.specs.declared.denied.Denied.{Denied}
 use Rattle.audit_core.specs.declared.keys.FamilyKey.{FamilyKey}

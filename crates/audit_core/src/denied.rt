@@ -4,8 +4,8 @@ ghost use Rattle.std.specs.List.{flat_map};
 ghost use Rattle.std.specs.Option.{option_copied};
 ghost use Rattle.audit_core.specs.Text.{denied_text};
 
+use crate::denied_list::DeniedList;
 use crate::keys::FamilyKey;
-use crate::marks::Marks;
 use oid_core::INLINE_NUMBERS;
 use std::alloc::{AllocError, Global};
 use std::fmt;
@@ -78,32 +78,34 @@ impl fmt::Display for WrittenDenied<'_> {
 }
 
 /// The denied bindings of a request, in order. The key of each family is kept once, and a binding
-/// takes a few octets: its number, and the place of its key among those.
+/// takes a few octets: its number, and the place of its key among those. They lie in memory of their
+/// own, for audits are moved about, and few have some.
 pub struct DeniedBindings {
-    marks: Marks,
-    // The first denied binding that has no mark, since its number or the place of its key does not
-    // fit 16 bits, and all that come behind it. A request of at most `MAX_REQUEST` octets has none,
-    // but no caller owes that, so that any list can be kept.
-    rest: Vec<Denied>,
+    alloc: Global,
+    // None where nothing is denied.
+    list: Option<Box<DeniedList>>,
 }
 
 // By hand, so that who lets one go knows nothing of its parts.
 impl Drop for DeniedBindings {
     fn drop(self) {
         let DeniedBindings {
-            marks: _marks,
-            rest: _rest,
+            alloc: _alloc,
+            list: _list,
         } = self;
     }
 }
 
 impl Model for DeniedBindings {
-    ghost use Rattle.std.specs.Prelude.{List, ◌++◌};
+    ghost use Rattle.std.specs.Prelude.{List};
     ghost use Rattle.audit_core.specs.declared.denied.Denied.{Denied};
+    ghost use Rattle.audit_core.specs.Denials.{denied_in, IsDenials};
 
     ghost Value = { List Denied };
 
-    ghost view = { λ d. d.marks ++ d.rest.items };
+    ghost view = { λ d. denied_in d.list };
+
+    ghost invariant = { λ d. IsDenials d.list };
 }
 
 impl DeniedBindings {
@@ -111,10 +113,7 @@ impl DeniedBindings {
     pub fn new(alloc: Global) -> DeniedBindings
         ensures { result ≡ [] }
     {
-        DeniedBindings {
-            marks: Marks::new(alloc),
-            rest: Vec::new(alloc),
-        }
+        DeniedBindings { alloc, list: None }
     }
 
     /// A copy. Takes memory, but for no denied bindings.
@@ -122,9 +121,11 @@ impl DeniedBindings {
         ensures value { IfOk result (λ copy. copy ≡ self.now) }
         ensures some { OnErr result (self.now ≢ []) }
     {
-        let marks = self.marks.try_copy(alloc)?;
-        let rest = copied(alloc, self.rest.as_slice())?;
-        Ok(DeniedBindings { marks, rest })
+        let list = match &self.list {
+            Some(list) => Some(Box::new(alloc, list.try_copy(alloc)?)?),
+            None => None,
+        };
+        Ok(DeniedBindings { alloc, list })
     }
 
     /// Adds a denied binding at the end. Takes memory; without it, nothing changes and the denied
@@ -133,14 +134,12 @@ impl DeniedBindings {
         ensures ok { OnOk result (self.new ≡ self.old ++ denied ∷ []) }
         ensures err { OnErr result (self.new ≡ self.old) }
     {
-        let unmarked = if self.rest.is_empty() {
-            self.marks.push(denied)?
-        } else {
-            Some(denied)
-        };
-        if let Some(denied) = unmarked {
-            self.rest.push(denied)?;
+        if let Some(list) = &mut self.list {
+            return list.push(denied);
         }
+        let mut list = DeniedList::new(self.alloc);
+        list.push(denied)?;
+        self.list = Some(Box::new(self.alloc, list)?);
         Ok(())
     }
 }
@@ -150,36 +149,9 @@ impl fmt::Display for DeniedBindings {
     ghost output = { λ all. Some (flat_map denied_text all) };
 
     fn fmt<W: fmt::Write>(&self, f: &mut fmt::Formatter<W>) -> fmt::Result {
-        let marks = &self.marks;
-        let rest = WrittenRest(self.rest.as_slice());
-        write!(f, "{marks}{rest}")
-    }
-}
-
-// Copies of denied bindings. Takes memory where there are some.
-fn copied(alloc: Global, items: &[Denied]) -> Result<Vec<Denied>, AllocError>
-    ensures value { IfOk result (λ copies. copies.items ≡ items.now) }
-    ensures some { OnErr result (items.now ≢ []) }
-{
-    let mut copies = Vec::with_capacity(alloc, items.len())?;
-    for denied in items {
-        copies.push(denied.try_copy(alloc)?)?;
-    }
-    Ok(copies)
-}
-
-// How denied bindings are written.
-#[derive(Drop)]
-struct WrittenRest<'a>(&'a [Denied]);
-
-/// One behind the other.
-impl fmt::Display for WrittenRest<'_> {
-    ghost output = { λ rest. Some (flat_map denied_text rest.0.now) };
-
-    fn fmt<W: fmt::Write>(&self, f: &mut fmt::Formatter<W>) -> fmt::Result {
-        for denied in self.0 {
-            write!(f, "{denied}")?;
+        match &self.list {
+            Some(list) => write!(f, "{list}"),
+            None => Ok(()),
         }
-        Ok(())
     }
 }

@@ -1,5 +1,5 @@
 use Rattle.std.proofs.Common.{◌≡◌, take}
-use Rattle.audit_core.proofs.denied.copied.Given as goal
+use Rattle.audit_core.proofs.denied_list.copied.Given as goal
 
 -- the denied bindings so far
 abbrev pub invariant-loop-denied : goal.invariant-loop-denied
