@@ -1,5 +1,5 @@
 //! The variable bindings of a request that are not in the view.
-ghost use Rattle.std.specs.Prelude.{◌≡◌, ◌≢◌, [], ◌∷◌, ◌++◌, ◌<◌, length, Some, None, IfSome, IsOk, IfOk, OnOk, OnErr};
+ghost use Rattle.std.specs.Prelude.{◌≡◌, ◌≢◌, ◌↔◌, [], ◌∷◌, ◌++◌, ◌<◌, length, Some, None, IsTrue, IfSome, IsOk, IfOk, OnOk, OnErr};
 ghost use Rattle.std.specs.List.{flat_map};
 ghost use Rattle.std.specs.Option.{option_copied};
 ghost use Rattle.audit_core.specs.Text.{denied_text};
@@ -114,6 +114,13 @@ impl DeniedBindings {
         ensures { result ≡ [] }
     {
         DeniedBindings { alloc, list: None }
+    }
+
+    /// Whether nothing is denied.
+    pub fn is_empty(&self) -> bool
+        ensures { IsTrue result ↔ (self.now ≡ []) }
+    {
+        self.list.is_none()
     }
 
     /// A copy. Takes memory, but for no denied bindings.
