@@ -1,7 +1,6 @@
 -- A Get of which no binding is denied: its reply is that where every name is seen.
-use Rattle.std.proofs.Common.{◌≡◌, ◌∙◌, ℕ, ◌+◌, ◌==◌, pos, ap, sym, refl, Bool, true, List, [], ◌∷◌, ◌++◌, length, arith, All, Option, Some, None, ◌||◌}
+use Rattle.std.proofs.Common.{◌≡◌, ◌∙◌, ℕ, ◌+◌, pos, ap, sym, refl, Bool, true, List, [], ◌∷◌, ◌++◌, All, Option, Some, None, ◌||◌}
 use Rattle.std.specs.List.{list_any}
-use Rattle.std.proofs.lemmas.Bool.{eqb-true}
 use Rattle.std.proofs.lemmas.List.Elements.{All-nil, All-cons, All-head, All-tail}
 use Rattle.oid_core.specs.Order.{is_prefix}
 use Rattle.message_core.specs.Canon.{answer_to}
@@ -16,7 +15,6 @@ use Rattle.vacm_core.specs.declared.tables.FamilyRow.{FamilyRow}
 use Rattle.vacm_core.specs.declared.verdict.FamilyAnswer.{FamilyAnswer}
 use Rattle.vacm_core.specs.declared.verdict.FamilyAnswer.TheVariants.{Included, Excluded, NoRow}
 use Rattle.vacm_core.specs.Families.{family_answer, is_included, in_view}
-use Rattle.audit_core.specs.declared.denied.Denied.{Denied}
 use Rattle.agent_core.specs.Denying.{denial, denials, denied_in}
 use Rattle.agent_core.specs.Reading.{visible, object_of, is_known, or_missing, get_answer, get_answers}
 use Rattle.agent_core.specs.Replies.{kind_reply, reply_within_limit}
@@ -56,14 +54,6 @@ answers_seen objects shows rows (b ∷ bs) all =
     let here = answer_seen objects shows rows b.name (All-head (λ (a : Binding). shows a.name ≡ true) b bs all) in
     let more = answers_seen objects shows rows bs (All-tail (λ (a : Binding). shows a.name ≡ true) b bs all) in
     ap (λ z. z ∷ get_answers objects every rows bs) here ∙ ap (λ zs. get_answer objects (shows b.name) (visible shows rows) b.name ∷ zs) more
-
--- a list that is seen to be empty
-none_left : (ds : List Denied) → (length ds == 0) ≡ true → ds ≡ []
-none_left [] e = refl
-none_left (d ∷ ds) e = let none : length (d ∷ ds) ≡ 0 = eqb-true (length (d ∷ ds)) 0 e in absurd (omega (arith, none))
-
-pub nothing_in : (ds all : List Denied) (b : Bool) → all ≡ ds → b ≡ (length all == 0) → b ≡ true → ds ≡ []
-nothing_in ds all b same is true_is = sym same ∙ none_left all (sym is ∙ true_is)
 
 pub undenied : (families : List FamilyRow) (view : List ℕ) (objects : List (List ℕ)) (rows : List Binding) (request : Request) (kind : Kind) → kind ≡ Get → denied_in families view request kind ≡ [] →
     kind_reply objects (λ name. true) rows request kind ≡ kind_reply objects (in_view families view) rows request kind

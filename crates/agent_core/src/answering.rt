@@ -216,7 +216,7 @@ fn send_read<O: MibObject>(
     ensures bpdus { buffer.new.bpdus ≡ buffer.old.bpdus }
     ensures err { OnErr result (buffer.new ≡ buffer.old) }
 {
-    if request.kind == Kind::Get && denied.as_slice().is_empty() {
+    if request.kind == Kind::Get && denied.is_empty() {
         return send_undenied::<O, Brand>(alloc, registry, world, request, buffer, Blank::new(1));
     }
     send_allowed(alloc, registry, world, view, request, buffer)

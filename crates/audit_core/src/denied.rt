@@ -1,8 +1,10 @@
 //! The variable bindings of a request that are not in the view.
-ghost use Rattle.std.specs.Prelude.{◌≡◌, ◌≢◌, [], ◌∷◌, ◌++◌, ◌<◌, length, Some, None, IfSome, IsOk, IfOk, OnOk, OnErr};
+ghost use Rattle.std.specs.Prelude.{◌≡◌, ◌≢◌, ◌↔◌, [], ◌∷◌, ◌++◌, ◌<◌, length, Some, None, IsTrue, IfSome, IsOk, IfOk, OnOk, OnErr};
 ghost use Rattle.std.specs.List.{flat_map};
+ghost use Rattle.std.specs.Option.{option_copied};
 ghost use Rattle.audit_core.specs.Text.{denied_text};
 
+use crate::denied_list::DeniedList;
 use crate::keys::FamilyKey;
 use oid_core::INLINE_NUMBERS;
 use std::alloc::{AllocError, Global};
@@ -44,32 +46,66 @@ impl fmt::Display for Denied {
 
     fn fmt<W: fmt::Write>(&self, f: &mut fmt::Formatter<W>) -> fmt::Result {
         let index = self.index;
-        match &self.family {
+        let family = self.family.as_ref();
+        let denied = WrittenDenied { index, family };
+        write!(f, "{denied}")
+    }
+}
+
+/// How a denied binding is written, whose key stands elsewhere.
+#[derive(Drop)]
+pub struct WrittenDenied<'a> {
+    /// The number of the binding.
+    pub index: usize,
+    /// The key of the family that excludes its name, if one does.
+    pub family: Option<&'a FamilyKey>,
+}
+
+/// As that of [`Denied`].
+impl fmt::Display for WrittenDenied<'_> {
+    ghost output = { λ denied. Some (denied_text (record {
+      index = denied.index;
+      family = option_copied denied.family;
+    })) };
+
+    fn fmt<W: fmt::Write>(&self, f: &mut fmt::Formatter<W>) -> fmt::Result {
+        let index = self.index;
+        match self.family {
             Some(family) => write!(f, " denied {index} {family}"),
             None => write!(f, " denied {index} none"),
         }
     }
 }
 
-/// The denied bindings of a request, in order.
+/// The denied bindings of a request, in order. The key of each family is kept once, and a binding
+/// takes a few octets: its number, and the place of its key among those. They lie in memory of their
+/// own, for audits are moved about, and few have some.
 pub struct DeniedBindings {
-    items: Vec<Denied>,
+    alloc: Global,
+    // None where nothing is denied.
+    list: Option<Box<DeniedList>>,
 }
 
 // By hand, so that who lets one go knows nothing of its parts.
 impl Drop for DeniedBindings {
     fn drop(self) {
-        let DeniedBindings { items: _items } = self;
+        let DeniedBindings {
+            alloc: _alloc,
+            list: _list,
+        } = self;
     }
 }
 
 impl Model for DeniedBindings {
     ghost use Rattle.std.specs.Prelude.{List};
     ghost use Rattle.audit_core.specs.declared.denied.Denied.{Denied};
+    ghost use Rattle.audit_core.specs.Denials.{denied_in, IsDenials};
 
     ghost Value = { List Denied };
 
-    ghost view = { λ d. d.items.items };
+    ghost view = { λ d. denied_in d.list };
+
+    ghost invariant = { λ d. IsDenials d.list };
 }
 
 impl DeniedBindings {
@@ -77,24 +113,14 @@ impl DeniedBindings {
     pub fn new(alloc: Global) -> DeniedBindings
         ensures { result ≡ [] }
     {
-        DeniedBindings {
-            items: Vec::new(alloc),
-        }
+        DeniedBindings { alloc, list: None }
     }
 
-    /// The denied bindings of a vector. Takes no memory.
-    pub fn from_vec(items: Vec<Denied>) -> DeniedBindings
-        ensures { result ≡ items.items }
+    /// Whether nothing is denied.
+    pub fn is_empty(&self) -> bool
+        ensures { IsTrue result ↔ (self.now ≡ []) }
     {
-        DeniedBindings { items }
-    }
-
-    /// The denied bindings as a vector. Takes no memory.
-    pub fn into_vec(self) -> Vec<Denied>
-        ensures { result.items ≡ self }
-    {
-        let DeniedBindings { items } = self;
-        items
+        self.list.is_none()
     }
 
     /// A copy. Takes memory, but for no denied bindings.
@@ -102,11 +128,11 @@ impl DeniedBindings {
         ensures value { IfOk result (λ copy. copy ≡ self.now) }
         ensures some { OnErr result (self.now ≢ []) }
     {
-        let mut items = Vec::with_capacity(alloc, self.items.len())?;
-        for denied in self.as_slice() {
-            items.push(denied.try_copy(alloc)?)?;
-        }
-        Ok(DeniedBindings { items })
+        let list = match &self.list {
+            Some(list) => Some(Box::new(alloc, list.try_copy(alloc)?)?),
+            None => None,
+        };
+        Ok(DeniedBindings { alloc, list })
     }
 
     /// Adds a denied binding at the end. Takes memory; without it, nothing changes and the denied
@@ -115,15 +141,13 @@ impl DeniedBindings {
         ensures ok { OnOk result (self.new ≡ self.old ++ denied ∷ []) }
         ensures err { OnErr result (self.new ≡ self.old) }
     {
-        self.items.push(denied)?;
+        if let Some(list) = &mut self.list {
+            return list.push(denied);
+        }
+        let mut list = DeniedList::new(self.alloc);
+        list.push(denied)?;
+        self.list = Some(Box::new(self.alloc, list)?);
         Ok(())
-    }
-
-    /// The denied bindings.
-    pub fn as_slice(&self) -> &[Denied]
-        ensures { result.now ≡ self.now }
-    {
-        self.items.as_slice()
     }
 }
 
@@ -132,9 +156,9 @@ impl fmt::Display for DeniedBindings {
     ghost output = { λ all. Some (flat_map denied_text all) };
 
     fn fmt<W: fmt::Write>(&self, f: &mut fmt::Formatter<W>) -> fmt::Result {
-        for denied in self.as_slice() {
-            write!(f, "{denied}")?;
+        match &self.list {
+            Some(list) => write!(f, "{list}"),
+            None => Ok(()),
         }
-        Ok(())
     }
 }

@@ -1,5 +1,5 @@
 //! The keys of the families that decide.
-ghost use Rattle.std.specs.Prelude.{◌≡◌, ◌<◌, Some, IfOk, OnErr, length};
+ghost use Rattle.std.specs.Prelude.{◌≡◌, ◌↔◌, ◌<◌, Some, IsTrue, IfOk, OnErr, length};
 ghost use Rattle.audit_core.specs.Keys.{family_key};
 ghost use Rattle.audit_core.specs.Text.{family_text};
 
@@ -38,6 +38,13 @@ impl FamilyKey {
         let subtree = self.subtree.try_copy(alloc)?;
         let view = self.view.copy();
         Ok(FamilyKey { view, subtree })
+    }
+
+    /// Whether two keys are one. Takes no memory.
+    pub fn same(&self, other: &FamilyKey) -> bool
+        ensures { IsTrue result ↔ (self.now ≡ other.now) }
+    {
+        self.subtree == other.subtree && self.view.is(&other.view)
     }
 }
 

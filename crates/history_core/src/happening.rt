@@ -60,46 +60,48 @@ fn has_port(bridge: &Bridge, port: u16) -> bool
 }
 
 // A frame comes in by a port.
-fn take_frame(world: &mut World, port: u16, frame: &FrameIn, buffer: &mut Buffer) -> Happened
+fn take_frame(
+    world: &mut World,
+    port: u16,
+    frame: &FrameIn,
+    buffer: &mut Buffer,
+    happened: &mut Happened,
+)
     requires reply { buffer.old.reply ≡ [] }
     requires bpdus { buffer.old.bpdus ≡ [] }
+    requires quiet { happened.old ≡ quiet }
     ensures { (objects : List ObjectState) → Happens objects world.old
-        (Event.Frame port frame.now) result objects world.new buffer.new }
+        (Event.Frame port frame.now) happened.new objects world.new buffer.new }
 {
     if !has_port(&world.bridge, port) {
-        return quiet();
+        return;
     }
     let forwarding = world.bridge.frame(port, frame);
     buffer.send(forwarding.bpdus);
-    Happened {
-        no_room: forwarding.no_room,
-        egress: Egress::of(forwarding.egress),
-        ..quiet()
-    }
+    happened.no_room = forwarding.no_room;
+    happened.egress = Egress::of(forwarding.egress);
 }
 
-// A second passes.
-fn pass_second(world: &mut World, buffer: &mut Buffer) -> Happened
+// A second passes. It comes to nothing beside what the ports send.
+fn pass_second(world: &mut World, buffer: &mut Buffer)
     requires { buffer.old.reply ≡ [] }
     ensures { (objects : List ObjectState) →
-        Happens objects world.old Event.Tick result objects world.new buffer.new }
+        Happens objects world.old Event.Tick quiet objects world.new buffer.new }
 {
     buffer.send(world.bridge.tick());
-    quiet()
 }
 
-// The link of a port goes up, or down.
-fn turn_link(world: &mut World, port: u16, up: bool, buffer: &mut Buffer) -> Happened
+// The link of a port goes up, or down. It comes to nothing beside what the ports send.
+fn turn_link(world: &mut World, port: u16, up: bool, buffer: &mut Buffer)
     requires reply { buffer.old.reply ≡ [] }
     requires bpdus { buffer.old.bpdus ≡ [] }
     ensures { (objects : List ObjectState) →
-        Happens objects world.old (Event.Link port up) result objects world.new buffer.new }
+        Happens objects world.old (Event.Link port up) quiet objects world.new buffer.new }
 {
     if !has_port(&world.bridge, port) {
-        return quiet();
+        return;
     }
     buffer.send(world.bridge.link(port, up));
-    quiet()
 }
 
 // A reply and its copy. They take memory only for more than `INLINE_OCTETS`.
@@ -190,9 +192,12 @@ fn replies_in(
     ensures none { OnErr result (rooms ≡ None) }
     ensures inline { OnErr result (INLINE_OCTETS < length reply.now) }
 {
-    match (copies(alloc, reply), rooms) {
-        (Err(_), Some(rooms)) => Ok(rooms.filled(reply)),
-        (own, _) => own,
+    match copies(alloc, reply) {
+        Ok(own) => Ok(own),
+        Err(error) => match rooms {
+            Some(rooms) => Ok(rooms.filled(reply)),
+            None => Err(error),
+        },
     }
 }
 
@@ -281,15 +286,15 @@ pub fn happen<O: MibObject>(
 {
     match event {
         Event::Frame { port, frame } => {
-            *happened = take_frame(world, *port, frame, buffer);
+            take_frame(world, *port, frame, buffer, happened);
             Ok(())
         }
         Event::Tick => {
-            *happened = pass_second(world, buffer);
+            pass_second(world, buffer);
             Ok(())
         }
         Event::Link { port, up } => {
-            *happened = turn_link(world, *port, *up, buffer);
+            turn_link(world, *port, *up, buffer);
             Ok(())
         }
         Event::Policy(policy) => {

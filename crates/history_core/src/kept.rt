@@ -363,12 +363,11 @@ fn enter(
 fn applied(receipt: Receipt, audit: Option<Audit>) -> Applied
     ensures { result ≡ applied_by receipt audit }
 {
-    let cause = match &audit {
-        Some(audit) => cause_in(&audit.decision),
-        None => None,
+    let Some(audit) = audit else {
+        return Applied::Done(receipt, None);
     };
-    match (cause, audit) {
-        (Some(cause), Some(audit)) => Applied::Dropped(receipt, cause, audit),
-        (_, audit) => Applied::Done(receipt, audit),
+    match cause_in(&audit.decision) {
+        Some(cause) => Applied::Dropped(receipt, cause, audit),
+        None => Applied::Done(receipt, Some(audit)),
     }
 }

@@ -1,6 +1,0 @@
-use Rattle.std.proofs.Common.{◌≡◌, take}
-use Rattle.audit_core.proofs.denied.DeniedBindings.try_copy.Given as goal
-
--- the denied bindings so far
-abbrev pub invariant-loop-denied : goal.invariant-loop-denied
-invariant-loop-denied l = l.items.items ≡ take l.denied-index l.denied-items
