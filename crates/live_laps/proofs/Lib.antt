@@ -1,3 +1,4 @@
 pub mod Lapping
 mod Noting
 mod Summing
+mod Traced

@@ -33,7 +33,9 @@ drops_more : (xs ys : List Item) → both_drops (drops_in xs) (drops_in ys) ≡ 
 drops_more xs ys = rw (dropped_more TooLong xs ys, dropped_more Malformed xs ys, dropped_more BadVersion xs ys, dropped_more BadKind xs ys, dropped_more Memory xs ys) refl
 
 same_worked : (a b : Worked) → a.requests ≡ b.requests → a.drops ≡ b.drops → a.by_cause ≡ b.by_cause → a ≡ b
-same_worked a b requests drops by_cause = cc
+same_worked a b requests drops by_cause =
+    let made : ℕ → ℕ → Drops → Worked = λ r d c. record { requests = r; drops = d; by_cause = c } in
+    ap (λ r. made r a.drops a.by_cause) requests ∙ ap (λ d. made b.requests d a.by_cause) drops ∙ ap (λ c. made b.requests b.drops c) by_cause
 
 pub worked_more : (old more new : Worked) (xs ys : List Item) → old ≡ worked_in xs → more ≡ worked_in ys
     → new.requests ≡ count_up_to_max (old.requests + more.requests) → new.drops ≡ count_up_to_max (old.drops + more.drops) → new.by_cause ≡ both_drops old.by_cause more.by_cause
@@ -51,5 +53,6 @@ first_more [] x first later was new old = new was
 first_more (y ∷ xs) x first later was new old = old (is_first_entered (y ∷ [])) was ∙ was
 
 pub same_sum : (a b : IntervalSum) → a.worked ≡ b.worked → a.first_entered ≡ b.first_entered → a ≡ b
-same_sum a b worked first = cc
-
+same_sum a b worked first =
+    let made : Worked → Option Bool → IntervalSum = λ w f. record { worked = w; first_entered = f } in
+    ap (λ w. made w a.first_entered) worked ∙ ap (λ f. made b.worked f) first

@@ -9,9 +9,7 @@ ghost use Rattle.live_laps.specs.Notes.{Note};
 use crate::line::{Line, Watched};
 use crate::sum::IntervalSum;
 use crate::watch::Watch;
-use live_agent::{
-    End, GatedWire, PacedWire, Plan, port_lap, port_run, ticker_run, worker_run,
-};
+use live_agent::{End, GatedWire, PacedWire, Plan, port_lap, port_run, ticker_run, worker_run};
 use live_lock::{Live, Run, Share};
 use setphase_core::MibObject;
 use std::sync::Wait;

@@ -1,5 +1,5 @@
 //! The counts of the items of an interval.
-ghost use Rattle.std.specs.Prelude.{◌≡◌, Unit, [], List};
+ghost use Rattle.std.specs.Prelude.{◌≡◌, ◌∷◌, [], List};
 ghost use Rattle.live_agent.specs.declared.trace.Item.{Item as AnyItem};
 ghost use Rattle.live_laps.specs.Laps.{is_first_entered};
 ghost use Rattle.live_laps.specs.Sums.{sum_of, first_entered};

@@ -20,8 +20,11 @@ use wire_core::{LastingWire, Pace, SendingSockets};
 pub type LastingWorker<'b, C> = Gated<LastingWire<C>, Auditing<'b>>;
 
 /// The lines of an agent without an end, whose ticks go at this pace.
-pub type LastingLines<'b, C, P> =
-    Lines<LastingWorker<'b, C>, LastingWire<C>, Paced<LastingWire<C>, P>>;
+pub type LastingLines<'b, C, P> = Lines<
+    LastingWorker<'b, C>,
+    LastingWire<C>,
+    Paced<LastingWire<C>, P>,
+>;
 
 // The wires of the threads that answer requests, which share one socket, audited or not.
 fn bind_workers<'b, R: Net, C: Clock + Copy + Drop>(

@@ -1,10 +1,13 @@
-use Rattle.live_agent.specs.Kept.{added_more}
+use Rattle.std.proofs.Common.{◌≡◌, ◌++◌}
 use Rattle.live_agent.specs.Lines.{worker_deeds}
 use Rattle.live_run.proofs.Lining.{line_ran}
 use Rattle.live_run.proofs.crew.work.Goals as goal
 
 pub returns-clause-ran : goal.returns-clause-ran
-returns-clause-ran g c = ?ran
+returns-clause-ran g c =
+    let ran = line_ran (λ a items b. b.items ≡ a.items ++ items) (λ a b items h. h) g.A.GatedWire.did (worker_deeds c.args.worker) _ _ _ _ _ _ _ _ _ _ _ c.new-items.ensures.items c.new.ensures.trace c.new.ensures.end c.worker_run-end.ensures.run in
+    record { run = ran.0; failed = rw c.new.ensures.end c.worker_run-end.ensures.failures }
 
 pub returns-clause-amount : goal.returns-clause-amount
-returns-clause-amount g c = ?amount
+returns-clause-amount g c =
+    (line_ran (λ a items b. b.items ≡ a.items ++ items) (λ a b items h. h) g.A.GatedWire.did (worker_deeds c.args.worker) _ _ _ _ _ _ _ _ _ _ _ c.new-items.ensures.items c.new.ensures.trace c.new.ensures.end c.worker_run-end.ensures.run).1
