@@ -13,6 +13,7 @@ use message_core::{ErrorStatus, Kind};
 use std::alloc::Global;
 use std::io;
 use std::io::{ErrorKind, Write};
+use std::sync::Wait;
 use std::test::Fail;
 use wire_core::MemoryWire;
 
@@ -94,8 +95,12 @@ impl Write for FailingOnce {
 
 // Offers the lines of so many requests to a queue, and writes those that wait there; gives how many
 // were lost.
-fn written<W: Write>(rt: &HostRuntime, requests: u64, out: &mut W) -> Result<u64, Fail> {
-    let alloc = rt.alloc();
+fn written<W: Write, R: Wait>(
+    rt: &R,
+    alloc: Global,
+    requests: u64,
+    out: &mut W,
+) -> Result<u64, Fail> {
     let backlog = AuditBacklog::new();
     let (offered, lines) = audit_queue(alloc)?;
     let mut gate = QueuedAudits::new(alloc, offered, &backlog);
@@ -112,7 +117,7 @@ fn written<W: Write>(rt: &HostRuntime, requests: u64, out: &mut W) -> Result<u64
 #[test]
 fn lines_that_are_offered_are_written_in_order(rt: HostRuntime) -> Result<(), Fail> {
     let mut out: Vec<u8> = Vec::new(rt.alloc());
-    let lost = written(&rt, 2, &mut out)?;
+    let lost = written(&rt, rt.alloc(), 2, &mut out)?;
     assert_eq!(rt;
         (out.as_slice(), lost),
         (
@@ -126,7 +131,7 @@ fn lines_that_are_offered_are_written_in_order(rt: HostRuntime) -> Result<(), Fa
 #[test]
 fn lines_beyond_the_queue_are_lost(rt: HostRuntime) -> Result<(), Fail> {
     let mut out: Vec<u8> = Vec::new(rt.alloc());
-    let lost = written(&rt, MAX_WAITING_LINES as u64 + 3, &mut out)?;
+    let lost = written(&rt, rt.alloc(), MAX_WAITING_LINES as u64 + 3, &mut out)?;
     let feeds = out.iter().filter(|octet| **octet == b'\n').count();
     assert_eq!(rt; (feeds, lost), (MAX_WAITING_LINES, 3));
     Ok(())
@@ -138,8 +143,11 @@ fn lines_of_a_write_that_fails_are_lost(rt: HostRuntime) -> Result<(), Fail> {
         has_failed: false,
         taken: Vec::new(rt.alloc()),
     };
-    assert_eq!(rt; written(&rt, 3, &mut out)?, 3);
-    assert_eq!(rt; written(&rt, 1, &mut out)?, 0);
-    assert_eq!(rt; out.taken.as_slice(), &b"0 127.0.0.1:30001 -7 get 0 0 empty\n"[..]);
+    assert_eq!(rt; written(&rt, rt.alloc(), 3, &mut out)?, 3);
+    assert_eq!(rt; written(&rt, rt.alloc(), 1, &mut out)?, 0);
+    assert_eq!(rt;
+        out.taken.as_slice(),
+        &b"0 127.0.0.1:30001 -7 get 0 0 empty\n"[..]
+    );
     Ok(())
 }
