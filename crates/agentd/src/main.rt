@@ -4,7 +4,8 @@
 //! `main` reads the words of the command line by `agent_words::read_words`. It puts the 55 objects of
 //! `object_list` into boxes, and hands them to `run_objects` with what is asked, the standard streams
 //! and the files of the system. That runs `agent_program::run_asked`; where it leaves something to be
-//! served, it is served over UDP, for its rounds or without an end, and it is logged what was done.
+//! served, it is served over UDP, for its rounds or without an end, audited or not, and it is logged what
+//! was done.
 //!
 //! # Definitions
 //! None: what words ask for stands in `agent_words`, what is done for that in `agent_program`.
@@ -154,15 +155,20 @@ where
     O: io::Write + Send,
     R: Threads + Wait + Net + Clock + Log + Sync,
 {
-    let Ok((offered, lines)) = audit_queue(alloc) else {
-        return Err(Failure::Run);
+    let (offered, lines) = match audit_queue(alloc) {
+        Ok(ends) => ends,
+        Err(why) => {
+            tell_not_begun(rt, &io::Error::from(why));
+            return Err(Failure::Run);
+        }
     };
     let backlog = AuditBacklog::new();
     let audits = Auditing::On(QueuedAudits::new(alloc, offered, &backlog));
-    let (served, ()) = join(
+    // Where no thread can be made, the agent is served here, and what waits is written behind that.
+    let ((), served) = join(
         rt,
-        move || serve_forever(rt, alloc, registry, opened, &audits),
         || write_audits(rt, alloc, &lines, writer, &backlog),
+        move || serve_forever(rt, alloc, registry, opened, &audits),
     );
     served
 }

@@ -82,7 +82,7 @@ fn take_frame(
     happened.egress = Egress::of(forwarding.egress);
 }
 
-// A second passes. It comes to nothing beside what the ports send.
+// A second passes. Nothing is left but what the ports send.
 fn pass_second(world: &mut World, buffer: &mut Buffer)
     requires { buffer.old.reply ≡ [] }
     ensures { (objects : List ObjectState) →
@@ -91,7 +91,7 @@ fn pass_second(world: &mut World, buffer: &mut Buffer)
     buffer.send(world.bridge.tick());
 }
 
-// The link of a port goes up, or down. It comes to nothing beside what the ports send.
+// The link of a port goes up, or down. Nothing is left but what the ports send.
 fn turn_link(world: &mut World, port: u16, up: bool, buffer: &mut Buffer)
     requires reply { buffer.old.reply ≡ [] }
     requires bpdus { buffer.old.bpdus ≡ [] }

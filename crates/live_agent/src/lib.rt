@@ -3,24 +3,27 @@
 //!
 //! # Entry points
 //! [`worker_run`], [`port_run`], [`port_lap`] and [`ticker_run`] are each one thread's loop, lent
-//! the history, its share and its line; what they have in common is a [`Plan`]. Each gives a
-//! [`Ran`]: how it ended, and a trace of what became of each event and each refused datagram. A
-//! worker's wire has a [`Gate`] beside it ([`GatedWire`]), to which each request is reported, and
-//! the ticker's has its pace ([`PacedWire`]); [`Gated`] and [`Paced`] make one of two. [`OpenGate`]
-//! holds nobody. A [`Trace`] is a list of [`Item`]s, with a [`Refusal`] for a refused datagram; an
-//! [`End`] is how a line ended.
+//! the history, its share and its line, and handed a [`Recorder`], which takes an [`Item`] for each
+//! event and each refused datagram; what they have in common is a [`Plan`]. Each gives how it ended, an
+//! [`End`], and its recorder; a vector of items is one. A worker's wire has a [`Gate`] beside it
+//! ([`GatedWire`]), which is visited ahead of each request, and behind each that made an entry with
+//! that, an [`AnsweredRequest`], and its audit; the ticker's has its pace ([`PacedWire`]); [`Gated`]
+//! and [`Paced`] make one of two. [`OpenGate`] holds nobody. A [`Ran`] is how a line ended and its
+//! [`Trace`], a list of items, with a [`Refusal`] for a refused datagram.
 //!
 //! # Definitions
 //! `specs/Turns.antt`, `specs/Runs.antt`: the turns of a line, and its loop; `specs/Lines.antt`:
 //! which turns are a worker's, a port's and the ticker's, and what these do; `specs/Deeds.antt`:
 //! what a line does, in order: acts of its wire, visits to its gate, answers of its pace;
-//! `specs/Gates.antt`: the same of a wire and a gate, or a pace, that are made one.
+//! `specs/Gates.antt`: the same of a wire and a gate, or a pace, that are made one; `specs/Kept.antt`:
+//! items that are kept in a vector.
 //!
 //! # Laws
 //! On each loop, over its own line alone: each datagram has one item, in order; what was entered is
 //! the event of its datagram, at its place in the history; what was sent is its reply, its frame
-//! and the ports' BPDUs, and nothing else. A worker reports to its gate ahead of each request, and
-//! behind each that made an entry, by its own number; what a second gives is sent before the pace
+//! and the ports' BPDUs, and nothing else. A worker visits its gate ahead of each request, and
+//! behind each that made an entry, by its own number, with the entry's number and audit and the peer and
+//! request-id of the datagram; what a second gives is sent before the pace
 //! is asked again.
 //!
 //! # Not claimed

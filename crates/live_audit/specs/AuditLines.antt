@@ -15,13 +15,13 @@ request_text request =
     ++ signed_decimal request.request_id
 
 -- that, its audit, and a line feed
-unfoldable pub audit_line : AnsweredRequest → Audit → List ℕ
-audit_line request audit = request_text request ++ codes " " ++ audit_text audit ++ 10 ∷ []
+unfoldable pub request_line : AnsweredRequest → Audit → List ℕ
+request_line request audit = request_text request ++ codes " " ++ audit_text audit ++ 10 ∷ []
 
 -- the line of a visit: behind a request there is one, ahead of it none
 abbrev pub visit_line : Visit → List ℕ
 visit_line (before worker) = []
-visit_line (after worker request audit) = audit_line request audit
+visit_line (after worker request audit) = request_line request audit
 
 -- the lines of visits, in order
 abbrev pub visit_lines : List Visit → List ℕ

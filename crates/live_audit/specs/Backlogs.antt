@@ -6,6 +6,6 @@ use Rattle.live_audit.specs.declared.backlog.Backlog.{Backlog}
 abbrev pub lost_more : Backlog → ℕ → Backlog
 lost_more backlog lines = record backlog { lost = min (backlog.lost + lines) (2 ^ 64 - 1) }
 
--- behind an offer of so many octets, if they have room
+-- behind an offer of so many octets, if there is space for them
 abbrev pub waiting_more : Backlog → ℕ → Backlog
 waiting_more backlog octets = record backlog { waiting = backlog.waiting + octets }

@@ -1,4 +1,5 @@
 pub mod AuditLines
+pub mod Audited
 pub mod Backlogs
 pub mod RecordLaws
 pub mod Records

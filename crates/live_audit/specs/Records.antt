@@ -3,12 +3,12 @@ use Rattle.std.specs.Prelude.{◌≡◌, ◌≢◌, ◌⊎◌, ℕ, List, [], �
 use Rattle.audit_core.specs.declared.audit.Audit.{Audit}
 use Rattle.live_agent.specs.declared.gate.AnsweredRequest.{AnsweredRequest}
 use Rattle.live_agent.specs.Deeds.{Visit}
-use Rattle.live_audit.specs.AuditLines.{audit_line, visit_lines}
+use Rattle.live_audit.specs.AuditLines.{request_line, visit_lines}
 
 -- Behind the lines so far stands that of a request more; or nothing, for want of memory.
 abbrev pub HasLine : AnsweredRequest → Audit → Option (List ℕ) → Option (List ℕ) → Type 0
 HasLine request audit lines lines' =
-    (lines' ≡ option_map (λ kept. kept ++ audit_line request audit) lines) ⊎ (lines' ≡ None)
+    (lines' ≡ option_map (λ kept. kept ++ request_line request audit) lines) ⊎ (lines' ≡ None)
 
 -- The lines so far, and nothing once there was no memory for one. Behind visits there stand the lines
 -- before and those of the visits, in order; or nothing, where there was a line among them to be kept.

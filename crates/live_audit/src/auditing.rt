@@ -1,4 +1,6 @@
 //! A gate of a worker that may be asked for audits.
+ghost use Rattle.std.specs.Prelude.{◌≡◌, ◌↔◌, IsTrue, IsSome, IfOk};
+ghost use Rattle.live_audit.specs.Audited.{is_audited};
 
 use crate::backlog::AuditBacklog;
 use crate::queue::QueuedAudits;
@@ -18,7 +20,9 @@ pub enum Auditing<'b> {
 
 impl<'b> Auditing<'b> {
     /// What the workers and the task that writes share, where the requests are audited.
-    pub fn backlog(&self) -> Option<&'b AuditBacklog> {
+    pub fn backlog(&self) -> Option<&'b AuditBacklog>
+        ensures { IsTrue (is_audited self.now) ↔ IsSome result }
+    {
         match self {
             Auditing::Off => None,
             Auditing::On(audits) => Some(audits.backlog()),
@@ -26,7 +30,9 @@ impl<'b> Auditing<'b> {
     }
 
     /// The same for another worker.
-    pub fn another(&self) -> Result<Auditing<'b>, AllocError> {
+    pub fn another(&self) -> Result<Auditing<'b>, AllocError>
+        ensures { IfOk result (λ other. is_audited other ≡ is_audited self.now) }
+    {
         match self {
             Auditing::Off => Ok(Auditing::Off),
             Auditing::On(audits) => Ok(Auditing::On(audits.another()?)),

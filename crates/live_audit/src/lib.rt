@@ -9,18 +9,19 @@
 //!
 //! # Definitions
 //! `specs/AuditLines.antt`: the line of a request, and those of a gate's visits; `specs/Records.antt`:
-//! what is kept of them in memory; `specs/Backlogs.antt`: the lines that wait, and
-//! those that were lost.
+//! what is kept of them in memory; `specs/Backlogs.antt`: the lines that wait, and those that were lost;
+//! `specs/Audited.antt`: whether a worker is audited.
 //!
 //! # Laws
 //! On [`audited_line`]: the line, to the octet. On [`RecordedAudits`]: the lines are those of the
-//! visits, in order, each once, as long as there was memory; from where there was none on, there are
-//! none. So the lines of a worker over a record are those of its entries.
+//! visits, in order, each once; or there are none at all, once there was no memory for one. So the lines
+//! of a worker over a record are those of its entries, where it has lines.
 //!
 //! # Not claimed
 //! That a line that is offered arrives, arrives once or in order, and what a count of lost lines is: no
 //! clause follows a value through a queue or a lock. That an output takes a line whole, and what stands
-//! there of lines whose write failed. The numbers of the lines of several workers are in any order.
+//! there of lines whose write failed; that memory was wanting where a record has no lines. The numbers
+//! of the lines of several workers are in any order.
 #![tactic(auto)]
 
 mod auditing;

@@ -1,6 +1,6 @@
 //! The line of a request's audit.
 ghost use Rattle.std.specs.Prelude.{◌≡◌, Some, string_bytes, IfOk};
-ghost use Rattle.live_audit.specs.AuditLines.{audit_line, request_text};
+ghost use Rattle.live_audit.specs.AuditLines.{request_line, request_text};
 
 use audit_core::Audit;
 use live_agent::AnsweredRequest;
@@ -35,9 +35,9 @@ struct WrittenLine<'a> {
 
 /// As `17 192.0.2.7:40000 12 get 0 0 empty`, with a line feed behind that.
 impl fmt::Display for WrittenLine<'_> {
-    ghost output = { λ line. Some (audit_line line.request line.audit.now) };
+    ghost output = { λ line. Some (request_line line.request line.audit.now) };
 
-    #[tactic(auto, unfolding(crate::specs::AuditLines::audit_line))]
+    #[tactic(auto, unfolding(crate::specs::AuditLines::request_line))]
     fn fmt<W: fmt::Write>(&self, f: &mut fmt::Formatter<W>) -> fmt::Result {
         let request = WrittenRequest(self.request);
         let audit = self.audit;
@@ -52,7 +52,7 @@ pub fn audited_line(
     request: AnsweredRequest,
     audit: &Audit,
 ) -> Result<String, AllocError>
-    ensures { IfOk result (λ line. string_bytes line ≡ audit_line request audit.now) }
+    ensures { IfOk result (λ line. string_bytes line ≡ request_line request audit.now) }
 {
     WrittenLine { request, audit }.to_string(alloc)
 }

@@ -1,6 +1,6 @@
 //! A gate that keeps the lines of its requests in memory.
 ghost use Rattle.std.specs.Prelude.{◌≡◌, ◌++◌, [], Some, string_bytes, option_map, IfOk};
-ghost use Rattle.live_audit.specs.AuditLines.{audit_line};
+ghost use Rattle.live_audit.specs.AuditLines.{request_line};
 ghost use Rattle.live_audit.specs.Records.{HasLine};
 
 use crate::line::audited_line;
@@ -56,7 +56,7 @@ fn with_line(
     audit: &Audit,
 ) -> Result<String, AllocError>
     ensures { IfOk result (λ more. string_bytes more
-        ≡ string_bytes lines ++ audit_line request audit.now) }
+        ≡ string_bytes lines ++ request_line request audit.now) }
 {
     let mut lines = lines;
     let line = audited_line(alloc, request, audit)?;

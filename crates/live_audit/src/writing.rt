@@ -1,5 +1,5 @@
 //! The task that writes the lines.
-ghost use Rattle.std.specs.Prelude.{◌≡◌, ◌++◌, ◌+◌, ◌-◌, ◌^◌, ◌≤◌, ◌↔◌, [], min, IsTrue, string_bytes, string_len, OnOk, OnErr};
+ghost use Rattle.std.specs.Prelude.{◌≡◌, ◌++◌, ◌+◌, ◌-◌, ◌^◌, ◌≤◌, ◌↔◌, ◌∷◌, [], if◌then◌else◌, true, false, min, IsTrue, string_bytes, string_len, IfErr, OnOk, OnErr};
 ghost use Rattle.std.specs.Io.KnownBytes.{Appends};
 
 use crate::backlog::AuditBacklog;
@@ -18,6 +18,8 @@ pub const BATCH_OCTETS: usize = 65_536;
 struct Batch {
     text: String,
     lines: u64,
+    // Whether the last write failed, behind which a line may be cut off.
+    is_cut_off: bool,
 }
 
 impl Batch {
@@ -29,7 +31,15 @@ impl Batch {
         Batch {
             text: String::new(alloc),
             lines: 0,
+            is_cut_off: false,
         }
+    }
+
+    // Whether there are none.
+    fn is_empty(&self) -> bool
+        ensures { IsTrue result ↔ (self.now.lines ≡ 0) }
+    {
+        self.lines == 0
     }
 
     // Whether there are enough of them.
@@ -52,25 +62,41 @@ impl Batch {
         Ok(())
     }
 
-    // Writes the lines whole, and forgets them in any case; gives how many there were.
+    // Writes the lines whole, and forgets them in any case; where that fails, gives how many there
+    // were. Behind a write that failed they begin on a line of their own.
     fn write_to<W: Write>(&mut self, out: &mut W) -> Result<(), u64>
         ensures written { OnOk result (Appends (W.contents out.old) (W.contents out.new)
-            (string_bytes self.old.text)) }
+            ((if self.old.is_cut_off then 10 ∷ [] else []) ++ string_bytes self.old.text)) }
+        ensures lost { IfErr result (λ lost. lost ≡ self.old.lines) }
         ensures text { string_bytes self.new.text ≡ [] }
         ensures lines { self.new.lines ≡ 0 }
+        ensures whole { OnOk result (self.new.is_cut_off ≡ false) }
+        ensures cut_off { OnErr result (self.new.is_cut_off ≡ true) }
     {
         let lines = self.lines;
-        let written = write_flushed(out, self.text.as_bytes());
+        let front: &[u8] = if self.is_cut_off { b"\n" } else { b"" };
+        let written = write_flushed(out, front, self.text.as_bytes());
         self.text.clear();
         self.lines = 0;
-        written.map_err(|_| lines)
+        match written {
+            Ok(()) => {
+                self.is_cut_off = false;
+                Ok(())
+            }
+            Err(_) => {
+                self.is_cut_off = true;
+                Err(lines)
+            }
+        }
     }
 }
 
-// Writes octets, and flushes the output.
-fn write_flushed<W: Write>(out: &mut W, octets: &[u8]) -> io::Result<()>
-    ensures { OnOk result (Appends (W.contents out.old) (W.contents out.new) octets.now) }
+// Writes octets, and more behind them, and flushes the output.
+fn write_flushed<W: Write>(out: &mut W, front: &[u8], octets: &[u8]) -> io::Result<()>
+    ensures { OnOk result (Appends (W.contents out.old) (W.contents out.new)
+        (front.now ++ octets.now)) }
 {
+    out.write_all(front)?;
     out.write_all(octets)?;
     out.flush()
 }
@@ -95,6 +121,9 @@ fn next_line<R: Wait, W: Write>(
 
 // Writes what is gathered; where that fails, its lines are lost.
 fn write_batch<R: Wait, W: Write>(rt: &R, batch: &mut Batch, out: &mut W, backlog: &AuditBacklog) {
+    if batch.is_empty() {
+        return;
+    }
     if let Err(lines) = batch.write_to(out) {
         backlog.lose(rt, lines);
     }
@@ -111,8 +140,8 @@ fn gather<R: Wait>(rt: &R, line: &str, batch: &mut Batch, backlog: &AuditBacklog
 /// The task that writes lines: takes each from the queue until all workers are gone and none is left,
 /// and writes it whole. Lines that wait at the same time are written at once, and the output is
 /// flushed where none waits. Where a write fails, all lines of it are counted as lost, though a front
-/// of them may be written, and the next ones are tried anew; a line for which there is no memory is
-/// counted as lost.
+/// of them may be written; the next ones are tried anew, and begin on a line of their own. A line for
+/// which there is no memory is counted as lost.
 pub fn write_audits<R: Wait, W: Write>(
     rt: &R,
     alloc: Global,

@@ -1,4 +1,4 @@
--- What the items of an interval come to.
+-- The counts of the items of an interval.
 use Rattle.std.specs.Prelude.{◌≡◌, Bool, List, [], ◌∷◌, ◌++◌, Option, Some, None}
 use Rattle.live_agent.specs.declared.trace.Item.{Item}
 use Rattle.live_laps.specs.Laps.{is_first_entered}

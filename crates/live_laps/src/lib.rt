@@ -6,13 +6,14 @@
 //! in a thread of its own until it is ended, and gives back the lines, the history, and how each
 //! ended. Each line has a [`Watch`] ([`Watched`]), to which each interval of a worker and of the
 //! ticker, each fault and the line's end is reported, and a pace, by which it waits behind a fault
-//! before it begins anew. An [`IntervalSum`] takes the items of an interval. A [`LineName`] is what a line is called, a [`Worked`] what workers did in
-//! intervals, with its [`Drops`] by cause, a [`Book`] what all did so far.
+//! before it begins anew. An [`IntervalSum`] takes the items of an interval. A [`LineName`] is what a
+//! line is called, a [`Worked`] what workers did in intervals, with its [`Drops`] by cause, a [`Book`]
+//! what all did so far.
 //!
 //! # Definitions
 //! `specs/Lines.antt`: the lines of a run; `specs/Notes.antt`: what is reported to a watch;
-//! `specs/Sums.antt`: the counts of the items of an interval; `specs/Laps.antt`: the intervals of a line, when it goes on behind one, and lines that went on side
-//! by side.
+//! `specs/Sums.antt`: the counts of the items of an interval; `specs/Laps.antt`: the intervals of a
+//! line, when it goes on behind one, and lines that went on side by side.
 //!
 //! # Laws
 //! On [`serve_laps`]: each line went on interval by interval, each of which is as the run of its kind

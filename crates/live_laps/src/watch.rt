@@ -25,7 +25,8 @@ pub trait Watch: Drop {
     fn worked<R: Wait>(&mut self, rt: &R, worked: Worked)
         ensures { went self.old (lap_worked worked ∷ []) self.new };
 
-    /// At the end of each interval of the ticker: how far the history was past its start at some time.
+    /// At the end of each interval of the ticker: how far the history was past its
+    /// start at some time, and what its world counted then.
     fn ticked<R: Wait>(&mut self, rt: &R, counts: Counts)
         ensures { went self.old (lap_ticked counts ∷ []) self.new };
 

@@ -12,7 +12,7 @@
 //! `specs/Sharing.antt`: a history that goes on from another by so many entries, over objects of the
 //! same rows; an event that took its place in it; and what an answer reports of an event, whatever the
 //! history was;
-//! `specs/Counting.antt`: how far a shared history is past its start;
+//! `specs/Counting.antt`: how far a shared history is past its start, and what its world counts;
 //! `specs/Rising.antt`: the numbers of a thread rise; `specs/Standing.antt`: what a thread has of a
 //! run.
 //!

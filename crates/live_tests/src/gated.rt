@@ -13,10 +13,10 @@ use std::thread::Threads;
 use std::time::{Clock, Duration};
 use wire_core::MemoryWire;
 
-// How often a held worker reads whether the other's call is answered.
+// How often a held worker checks whether the other's call is answered.
 const TURNS: u32 = 1000;
 
-// How long it waits between two reads, in milliseconds.
+// How long it waits between two checks, in milliseconds.
 const TURN_MILLIS: u64 = 10;
 
 // The calls of all workers that are to begin and those that are answered, and those that a gate let

@@ -108,7 +108,7 @@ pub fn serve_forever<'r, O: MibObject + Send, R: Threads + Wait + Net + Clock + 
     )?;
     let pace = WholeSecondPace::new(rt)?;
     let lines = bind_lasting(rt, rt, pace, alloc, setup, &sending, audits)?;
-    log_ready(rt, version, setup);
+    log_ready(rt, version, setup, audits.backlog().is_some());
     let book = Book::new();
     let watch = Teller {
         rt,

@@ -3,12 +3,12 @@
 //!
 //! # Entry points
 //! [`Setup`] says where, and how many rounds a line makes, and [`setup_of`] makes one of what is
-//! configured; where it makes none, [`why_unserved`] says why, an [`Unserved`]. [`serve`] binds its sockets ([`bind_lines`]) and runs its lines over a history by
-//! its plan ([`plan_of`], [`serve_lines`]), each in a thread of its own; [`tell_report`] logs what
+//! configured; where it makes none, [`why_unserved`] says why, an [`Unserved`]. [`serve`] binds its
+//! sockets ([`bind_lines`]) and runs its lines over a history by its plan ([`plan_of`], [`serve_lines`]), each in a thread of its own; [`tell_report`] logs what
 //! they did, [`tell_fault`] why there is no report, a [`ServeFault`]. [`serve_forever`] does the
 //! same without an end ([`serve_lines_forever`]), over lines of its own ([`bind_lasting`]) at which no
-//! send fails, logs what it serves ([`log_ready`]), and logs as it goes on; [`log_losses`] logs what
-//! could not be sent, [`any_failed`] says whether a line failed, [`tell_not_begun`] logs why nothing
+//! send fails and whose workers may be audited (`live_audit`), logs what it serves ([`log_ready`]), and
+//! logs as it goes on; [`log_losses`] logs what could not be sent, [`any_failed`] says whether a line failed, [`tell_not_begun`] logs why nothing
 //! was served.
 //!
 //! # Definitions

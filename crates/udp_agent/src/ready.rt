@@ -7,24 +7,30 @@ use std::fmt;
 use std::fmt::{Display, Formatter};
 
 /// Logs what an agent of this version serves, in one line of level Info: `agentd VERSION serves
-/// ADDRESS: requests at SOCKET by N workers; port 1 at LISTEN to PEER, port 2 at LISTEN to PEER`.
-pub fn log_ready<R: Log>(rt: &R, version: &str, setup: &Setup) {
-    info!(rt; "agentd {} serves {}", version, Served(setup));
+/// ADDRESS: requests at SOCKET by N workers; port 1 at LISTEN to PEER, port 2 at LISTEN to PEER`, with
+/// `, audited` behind the workers where each request is audited.
+pub fn log_ready<R: Log>(rt: &R, version: &str, setup: &Setup, is_audited: bool) {
+    info!(rt; "agentd {} serves {}", version, Served { setup, is_audited });
 }
 
-// What a setup says.
+// What a setup says, and whether requests are audited.
 #[derive(Drop)]
-struct Served<'a>(&'a Setup);
+struct Served<'a> {
+    setup: &'a Setup,
+    is_audited: bool,
+}
 
 impl Display for Served<'_> {
     fn fmt<W: fmt::Write>(&self, f: &mut Formatter<W>) -> fmt::Result {
-        let setup = self.0;
+        let setup = self.setup;
+        let audited = if self.is_audited { ", audited" } else { "" };
         write!(
             f,
-            "{}: requests at {} by {} workers",
+            "{}: requests at {} by {} workers{}",
             Hyphenated(setup.address),
             setup.serve.snmp,
-            setup.serve.workers
+            setup.serve.workers,
+            audited
         )?;
         for (index, port) in setup.ports.iter().enumerate() {
             let mark = if index == 0 { ';' } else { ',' };

@@ -38,8 +38,8 @@ fn have_sockets(ports: &[Port]) -> bool
     has_sockets(port) && have_sockets(rest)
 }
 
-/// The setup of a bridge of this address and these ports: none unless the configuration says how to serve, and of
-/// each port where its frames come in and where they go.
+/// The setup of a bridge of this address and these ports: none unless the configuration says how to
+/// serve, and of each port where its frames come in and where they go.
 pub fn setup_of(
     address: Mac,
     ports: ArrayVec<Port, MAX_PORTS>,

@@ -119,8 +119,8 @@ impl Kept {
     }
 }
 
-/// Keeps what is reported to it, and holds the ticker at the end of an interval until the other lines have ended,
-/// for 1,000 turns of 10 milliseconds: what is reported of the next interval is then of all lines.
+/// Keeps what is reported to it, and holds the ticker at the end of an interval until the other lines
+/// have ended, for 1,000 turns of 10 milliseconds: what is reported of the next interval is then of all lines.
 #[derive(Drop)]
 pub struct HoldWatch<'r, R> {
     rt: &'r R,
