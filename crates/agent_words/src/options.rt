@@ -47,8 +47,8 @@ When all are done, what was done is logged on standard error: entries E requests
 With --forever each begins its rounds anew when they are done. That line comes each time the clock is
 done, and one where a thread, a port or the clock ends, with its reason; the others go on.
 
-With --audit, which wants --forever, one line on standard output says of each request that was
-answered or dropped: its number in the agent's order, who asked, the request-id, and the audit, as
+With --audit, which wants --forever, one line on standard output says of each request that is
+entered, answered or dropped: its number, who asked, the request-id, and the audit, as
 17 192.0.2.7:40000 12 get 0 0 ok access(readers,,2,1) view bridge. Where standard output takes them
 too slowly, or fails, the agent goes on, and logs how many lines were lost.
 
