@@ -101,7 +101,7 @@ unfolding repetitions
 repeats_by rows k names true h = rw h (sym (append-nil (next_answers rows names)))
 repeats_by rows k names false h = rw h refl
 
-repeats : (rows : List Binding) (m k : ℕ) (names : List (List ℕ)) → m ≡ suc k →
+pub repeats : (rows : List Binding) (m k : ℕ) (names : List (List ℕ)) → m ≡ suc k →
     repetitions rows m names ≡ next_answers rows names ++ further rows k (next_answers rows names)
 repeats rows m k names left = ap (λ n. repetitions rows n names) left ∙ repeats_by rows k names _ refl
 

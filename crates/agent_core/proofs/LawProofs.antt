@@ -1,5 +1,5 @@
 -- The laws of replies.
-use Rattle.std.proofs.Common.{◌≡◌, ◌≢◌, ℕ, pos, suc, ◌+◌, ◌*◌, ◌≤◌, ◌∙◌, ap, sym, refl, Bool, List, [], ◌∷◌, ◌++◌, length, append-nil, arith, All, Some}
+use Rattle.std.proofs.Common.{◌≡◌, ◌≢◌, ℕ, pos, suc, ◌+◌, ◌*◌, ◌/◌, ◌<◌, ◌≤◌, ◌∙◌, ap, sym, refl, Bool, List, [], ◌∷◌, ◌++◌, length, append-nil, arith, All, Some}
 use Rattle.std.proofs.Math.Nat.{mul-le-mul_right}
 use Rattle.std.proofs.lemmas.List.Concat.{flat_map-cons}
 use Rattle.std.proofs.lemmas.List.Elements.{All-head, All-tail}
@@ -94,6 +94,12 @@ few_law request all community =
     omega (arith, fits, reply_some (answer_to request NoError (pos 0) sent), total_some sent)
 
 -- a successor for each binding that is sent, and one more, and so many looks for each
+-- for bindings that fit, and one more, there is memory
+pub reserved : (bs : List Binding) (used room capacity : ℕ) → used ≡ total bs → used ≤ room → room / least_binding < capacity → length bs < capacity
+reserved bs used room capacity is within some =
+    let six : 6 * length bs ≤ total bs = total_some bs in
+    omega (arith, six, is, within, some)
+
 pub work_within : (start now room u : ℕ) (bs : List Binding) → total bs ≤ room → room ≤ MAX_REPLY → now ≤ start + (length bs + 1) * u → now ≤ start + most_successors * u
 work_within start now room u bs within most work =
     let six : 6 * length bs ≤ total bs = total_some bs in

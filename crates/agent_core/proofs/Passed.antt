@@ -1,9 +1,11 @@
 -- Objects that are passed over as a whole: the value under a name among the others' instances, and the reply over them.
-use Rattle.std.proofs.Common.{◌≡◌, ◌∙◌, ℕ, sym, ap, refl, Bool, true, false, cond, not, List, [], ◌∷◌, ◌++◌, Option, Some, None, IsTrue}
+use Rattle.std.proofs.Common.{◌≡◌, ◌∙◌, ℕ, sym, ap, subst, refl, Bool, true, false, cond, not, List, [], ◌∷◌, ◌++◌, Contains, Option, Some, None, IsTrue, inl, inr}
+use Rattle.std.proofs.lemmas.List.Elements.{Contains-append_left, Contains-append_right, Contains-append_cases}
 use Rattle.std.specs.Option.{option_or}
 use Rattle.oid_core.specs.Order.{name_eq, is_prefix}
 use Rattle.message_core.specs.declared.binding.Binding.{Binding}
 use Rattle.message_core.specs.declared.request.Kind.{Kind}
+use Rattle.message_core.specs.declared.request.Kind.TheVariants.{Get, GetNext, GetBulk, Set}
 use Rattle.message_core.specs.declared.request.Request.{Request}
 use Rattle.message_core.specs.declared.value.Value.{Value}
 use Rattle.message_core.specs.Instances.{value_of}
@@ -18,6 +20,10 @@ use Rattle.setphase_core.specs.Passing.{open_rows, open_instances}
 use Rattle.setphase_core.proofs.Found.{instances-cons, instances-nil, value_not_under}
 use Rattle.setphase_core.proofs.Passed.{nothing_missed}
 use Rattle.agent_core.specs.Replies.{kind_reply}
+use Rattle.agent_core.specs.Reading.{visible, next_answer}
+use Rattle.agent_core.specs.Bulk.{asked_list}
+use Rattle.agent_core.specs.Lacking.{LacksNameOf}
+use Rattle.agent_core.proofs.Lacks.{lacks_more}
 use Rattle.agent_core.proofs.Apart.{no_other}
 use Rattle.agent_core.proofs.LawProofs.{kind_same}
 use Rattle.agent_core.proofs.Pairs.{pairs_head, pairs_tail}
@@ -100,6 +106,51 @@ module _ (passes : List ℕ → Bool) where
   pub value_kept : (rows : List ObjectRow) (w : World) (n prefix : List ℕ) → AreApart (prefixes_of rows) → owner_of rows n ≡ Some prefix → passes prefix ≡ false → value_of (instances rows w) n ≡ value_of (open_instances passes rows w) n
   value_kept rows w n prefix apart e h =
       sym (value_open rows w n apart ∙ ap (λ o. by_owner o (value_of (instances rows w) n)) e ∙ ap (λ b. cond b None (value_of (instances rows w) n)) h)
+
+-- ---- the names for which there may be no memory
+
+open_by : (passes : List ℕ → Bool) (row : ObjectRow) (rows : List ObjectRow) (w : World) (b : Binding) (c : Bool) → (Contains (open_instances passes rows w) b → Contains (instances rows w) b) →
+    Contains (instances (cond (not c) (row ∷ open_rows passes rows) (open_rows passes rows)) w) b → Contains (instances (row ∷ rows) w) b
+open_by passes row rows w b true more k =
+    subst (λ (xs : List Binding). Contains xs b) (sym (instances-cons row rows w)) (Contains-append_right (instances_under row w) (instances rows w) b (more k))
+open_by passes row rows w b false more k =
+    elim (Contains-append_cases (instances_under row w) (instances (open_rows passes rows) w) b (subst (λ (xs : List Binding). Contains xs b) (instances-cons row (open_rows passes rows) w) k)) [
+      | inl here ↦ subst (λ (xs : List Binding). Contains xs b) (sym (instances-cons row rows w)) (Contains-append_left (instances_under row w) (instances rows w) b here)
+      | inr there ↦ subst (λ (xs : List Binding). Contains xs b) (sym (instances-cons row rows w)) (Contains-append_right (instances_under row w) (instances rows w) b (more there))
+    ]
+
+open_contained : (passes : List ℕ → Bool) (rows : List ObjectRow) (w : World) (b : Binding) → Contains (open_instances passes rows w) b → Contains (instances rows w) b
+open_contained passes [] w b h = h
+open_contained passes (row ∷ rows) w b h = open_by passes row rows w b (passes row.prefix) (λ k. open_contained passes rows w b k) h
+
+lacks_by : (shows : List ℕ → Bool) (few all : List Binding) (request : Request) (kind : Kind) (i : ℕ) → visible shows few ≡ visible shows all → ((b : Binding) → Contains few b → Contains all b) →
+    LacksNameOf shows few request kind i → LacksNameOf shows all request kind i
+lacks_by shows few all request Get i same more h = h
+lacks_by shows few all request GetNext i same more h = record {
+  before = h.before;
+  number = h.number;
+  name = h.name;
+  asked = h.asked;
+  lacks = lacks_more shows few all h.name same more h.lacks;
+}
+lacks_by shows few all request GetBulk i same more h = record {
+  found = h.found;
+  name = h.name;
+  rest = h.rest;
+  list = subst (λ (rows : List Binding). h.found ++ next_answer rows h.name ∷ h.rest ≡ asked_list rows request) same h.list;
+  fits = h.fits;
+  asked = h.asked;
+  lacks = lacks_more shows few all h.name same more h.lacks;
+  number = h.number;
+}
+lacks_by shows few all request Set i same more h = h
+
+pub lacks_open : (families : List FamilyRow) (view : List ℕ) (rows : List ObjectRow) (w : World) (request : Request) (kind : Kind) (i : ℕ) →
+    LacksNameOf (in_view families view) (open_instances (hides_all families view) rows w) request kind i → LacksNameOf (in_view families view) (instances rows w) request kind i
+lacks_open families view rows w request kind i =
+    lacks_by (in_view families view) (open_instances (hides_all families view) rows w) (instances rows w) request kind i
+    (nothing_missed (hides_all families view) (in_view families view) rows w (λ prefix name hides begins. hidden families view prefix name begins hides))
+    (open_contained (hides_all families view) rows w)
 
 -- ---- the reply
 

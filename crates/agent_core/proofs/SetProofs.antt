@@ -21,7 +21,7 @@ use Rattle.setphase_core.specs.Variables.{Written}
 use Rattle.setphase_core.specs.Outcomes.{SetNotes, CanFail, refusal_in, notes_in, world_after_set}
 use Rattle.setphase_core.specs.Calls.{calls_of, object_after_set}
 use Rattle.agent_core.specs.Sets.{greatest_index, longest_response, is_too_long, no_notes, IsDenied, MayFail, MayFailWhere}
-use Rattle.agent_core.specs.Answers.{MayHave, MayFailBy, MayFailInView}
+use Rattle.agent_core.specs.Answers.{MayHave, MayFailBy, MayFailInView, RequestNotes}
 use Rattle.agent_core.proofs.LawProofs.{total_some}
 
 -- ---- how many variables there are
@@ -106,14 +106,14 @@ none_in_view rows w view request notes GetNext h e = h
 none_in_view rows w view request notes GetBulk h e = h
 none_in_view rows w view request notes Set h e = none_tested (is_too_long request) _ _ notes h e
 
-none_by : (rows : List ObjectRow) (w : World) (request : Request) (notes : SetNotes) (decision : Decision) → MayFailBy rows w request notes decision → notes.commit ≡ None → notes ≡ no_notes
-none_by rows w request notes (Drop cause) h e = h
-none_by rows w request notes Empty h e = h
-none_by rows w request notes (Refused why) h e = h
-none_by rows w request notes (Allowed row view) h e = none_in_view rows w view request notes request.kind h e
+none_by : (rows : List ObjectRow) (w : World) (request : Request) (notes : RequestNotes) (decision : Decision) → MayFailBy rows w request notes decision → notes.devices.commit ≡ None → notes.devices ≡ no_notes
+none_by rows w request notes (Drop cause) h e = ap (λ n. n.devices) h
+none_by rows w request notes Empty h e = ap (λ n. n.devices) h
+none_by rows w request notes (Refused why) h e = ap (λ n. n.devices) h
+none_by rows w request notes (Allowed row view) h e = none_in_view rows w view request notes.devices request.kind h.devices e
 
 -- where no commit failed, no device did
-pub none_failed : (rows : List ObjectRow) (w : World) (request : Request) (notes : SetNotes) → MayHave rows w request notes → notes.commit ≡ None → notes ≡ no_notes
+pub none_failed : (rows : List ObjectRow) (w : World) (request : Request) (notes : RequestNotes) → MayHave rows w request notes → notes.devices.commit ≡ None → notes.devices ≡ no_notes
 unfolding MayHave
 none_failed rows w request notes h e = none_by rows w request notes (decision_on w.policy request) h e
 

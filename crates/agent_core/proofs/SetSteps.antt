@@ -32,10 +32,11 @@ use Rattle.setphase_core.specs.Outcomes.{SetNotes, refusal_in, notes_in, world_a
 use Rattle.setphase_core.specs.Calls.{calls_of, object_after_set, FollowPlans}
 use Rattle.setphase_core.proofs.Called.{no_plans}
 use Rattle.agent_core.specs.Buffered.{Buffered}
+use Rattle.agent_core.specs.Lacking.{LacksNameOf}
 use Rattle.agent_core.specs.Denying.{denied_in}
 use Rattle.agent_core.specs.Replies.{reply_within_limit, refusal_reply, kind_reply}
 use Rattle.agent_core.specs.Sets.{SetStep, SetAnswer, is_too_long, too_long_reply, no_notes, set_answer, set_reply, set_step, settled_world, settling_bpdus, untested_step, tested_step, tested_step_by, IsToldOf, IsDenied, TakesPlaces, TakesInSet, TakesInSetBy, MayFailInSet, set_calls}
-use Rattle.agent_core.specs.Answers.{calls_by, calls_in_view, request_calls, replied, Step, shown_of, outcome_by, outcome_of, world_by, world_after, with_count_of, drop_audit, reply_audit, step_of, step_by, reading_step, allowed_step, writing_step, IsSent, IsAnswered, IsReply, IsDone, IsTold, IsShort, IsStep, MayHave, MayFailBy, MayFailInView, TakesInView, notes_told, without_answer}
+use Rattle.agent_core.specs.Answers.{calls_by, calls_in_view, request_calls, replied, Step, shown_of, outcome_by, outcome_of, unnamed_outcome, unnamed_outcome_by, RequestNotes, met_by, unnamed_told, MayLackName, IsRead, world_by, world_after, with_count_of, drop_audit, reply_audit, step_of, step_by, reading_step, allowed_step, writing_step, IsSent, IsAnswered, IsReply, IsDone, IsTold, IsShort, IsStep, MayHave, MayFailBy, MayFailInView, TakesInView, notes_told, without_answer}
 use Rattle.agent_core.specs.declared.answered.Answered.{Answered}
 use Rattle.agent_core.specs.declared.answered.Answered.TheVariants as answered
 use Rattle.agent_core.specs.declared.sent_reply.SentReply.{SentReply}
@@ -156,7 +157,7 @@ set_done objects world request row view outcome answer sent buffer after later o
 -- a request that writes nothing, by the decision on it
 module _ (objects : List ObjectState) (world : World) (request : Request) (decision : Decision) (d : decision_on world.policy request ≡ decision) where
   read_by : (told : Answered) (buffer : Buffered) (later : World) → IsAnswered (outcome_by (shown_of (rows_of objects) world) request decision) told buffer
-      → later ≡ world_by world decision → buffer.bpdus ≡ [] → IsDone (reading_step objects world request) told buffer later objects
+      → later ≡ world_by world decision → buffer.bpdus ≡ [] → IsDone (reading_step objects world request None) told buffer later objects
   unfolding outcome_of world_after
   read_by told buffer later a l b = record {
     answer = subst (λ (x : Decision). IsAnswered (outcome_by (shown_of (rows_of objects) world) request x) told buffer) (sym d) a;
@@ -165,15 +166,15 @@ module _ (objects : List ObjectState) (world : World) (request : Request) (decis
     bpdus = b;
   }
 
-  told_by : (later_objects : List ObjectState) (told : Answered) (buffer : Buffered) (later : World) → MayFailBy (rows_of objects) world request (notes_told told) decision
+  told_by : (later_objects : List ObjectState) (told : Answered) (buffer : Buffered) (later : World) → MayFailBy (rows_of objects) world request (met_by told) decision
       → FollowPlans (calls_by (rows_of objects) world request (notes_told told) decision) objects
-      → IsDone (step_by objects world request (notes_told told) decision) told buffer later later_objects
+      → IsDone (step_by objects world request (met_by told) decision) told buffer later later_objects
       → IsTold objects world request told buffer later later_objects
   unfolding MayHave step_of request_calls
   told_by later_objects told buffer later m p e = record {
-    may = subst (λ (x : Decision). MayFailBy (rows_of objects) world request (notes_told told) x) (sym d) m;
+    may = subst (λ (x : Decision). MayFailBy (rows_of objects) world request (met_by told) x) (sym d) m;
     by_plan = subst (λ (x : Decision). FollowPlans (calls_by (rows_of objects) world request (notes_told told) x) objects) (sym d) p;
-    done = subst (λ (x : Decision). IsDone (step_by objects world request (notes_told told) x) told buffer later later_objects) (sym d) e;
+    done = subst (λ (x : Decision). IsDone (step_by objects world request (met_by told) x) told buffer later later_objects) (sym d) e;
   }
 
 pub dropped_step : (objects : List ObjectState) (world later : World) (request : Request) (cause : Cause) (told : Answered) (buffer : Buffered)
@@ -215,12 +216,16 @@ pub set_told : (objects later_objects : List ObjectState) (world later : World) 
     → MayFailInSet (rows_of objects) world view request (notes_told told)
     → FollowPlans (set_calls (rows_of objects) world view request (notes_told told)) objects
     → IsDone (writing_step request row view (set_step objects world view request (notes_told told))) told buffer later later_objects
+    → unnamed_told told ≡ None
     → IsTold objects world request told buffer later later_objects
-set_told objects later_objects world later request row view told buffer d k m p e =
+set_told objects later_objects world later request row view told buffer d k m p e n =
     told_by objects world request (Allowed row view) d later_objects told buffer later
-    (subst (λ (kind : Kind). MayFailInView (rows_of objects) world view request (notes_told told) kind) (sym k) m)
+    (record {
+      devices = subst (λ (kind : Kind). MayFailInView (rows_of objects) world view request (notes_told told) kind) (sym k) m;
+      unnamed = subst (λ (o : Option ℕ). MayLackName (rows_of objects) world view request request.kind o) (sym n) tt;
+    })
     (subst (λ (kind : Kind). FollowPlans (calls_in_view (rows_of objects) world view request (notes_told told) kind) objects) (sym k) p)
-    (subst (λ (kind : Kind). IsDone (allowed_step objects world request (notes_told told) row view kind) told buffer later later_objects) (sym k) e)
+    (subst (λ (kind : Kind). IsDone (allowed_step objects world request (met_by told) row view kind) told buffer later later_objects) (sym k) e)
 
 pub set_short : (objects later_objects : List ObjectState) (world later : World) (request : Request) (row : AccessKey) (view : List ℕ) (buffer : Buffered)
     → decision_on world.policy request ≡ Allowed row view → request.kind ≡ Set → length request.community ≤ MAX_COMMUNITY
@@ -241,17 +246,18 @@ pub set_stepped : (objects later_objects : List ObjectState) (world later : Worl
     → IfOk r (λ told. MayFailInSet (rows_of objects) world view request (notes_told told))
     → IfOk r (λ told. FollowPlans (set_calls (rows_of objects) world view request (notes_told told)) objects)
     → IfOk r (λ told. IsDone (writing_step request row view (set_step objects world view request (notes_told told))) told buffer later later_objects)
+    → IfOk r (λ told. unnamed_told told ≡ None)
     → OnErr r (TakesInSet (rows_of objects) world view request) → OnErr r (buffer.reply ≡ []) → OnErr r (buffer.bpdus ≡ [])
     → OnErr r (later ≡ world) → OnErr r (later_objects ≡ map object_after_release objects)
     → IsStep objects world request r buffer later later_objects
-set_stepped objects later_objects world later request row view (Ok told) buffer d k c m p e t x b w o =
-    set_told objects later_objects world later request row view told buffer d k m p e
-set_stepped objects later_objects world later request row view (Err err) buffer d k c m p e t x b w o =
+set_stepped objects later_objects world later request row view (Ok told) buffer d k c m p e n t x b w o =
+    set_told objects later_objects world later request row view told buffer d k m p e n
+set_stepped objects later_objects world later request row view (Err err) buffer d k c m p e n t x b w o =
     set_short objects later_objects world later request row view buffer d k c t x b w o
 
 -- a request that reads
-reads : (objects : List ObjectState) (world : World) (request : Request) (notes : SetNotes) (row : AccessKey) (view : List ℕ) (kind : Kind) → kind ≢ Set
-    → reading_step objects world request ≡ allowed_step objects world request notes row view kind
+reads : (objects : List ObjectState) (world : World) (request : Request) (notes : RequestNotes) (row : AccessKey) (view : List ℕ) (kind : Kind) → kind ≢ Set
+    → reading_step objects world request notes.unnamed ≡ allowed_step objects world request notes row view kind
 reads objects world request notes row view Get h = refl
 reads objects world request notes row view GetNext h = refl
 reads objects world request notes row view GetBulk h = refl
@@ -291,24 +297,51 @@ module _ (objects : List ObjectState) (world : World) (request : Request) (row :
   abbrev denied : List Denied
   denied = denied_in world.policy.vacm.families view request request.kind
 
-  read_done : (told : Answered) → IsReply reply request (Allowed row view) denied told buffer.reply → IsDone (reading_step objects world request) told buffer world objects
+  abbrev lacks : ℕ → Type 0
+  lacks = LacksNameOf (in_view world.policy.vacm.families view) (instances (rows_of objects) world) request request.kind
+
+  -- what is reported of it
+  abbrev IsReported : Answered → Type 0
+  IsReported told = IsRead reply request (Allowed row view) denied lacks told buffer.reply
+
+  unnamed_by : (i : ℕ) (told : Answered) → IsAnswered (unnamed_outcome_by (shown_of (rows_of objects) world) request i (Allowed row view)) told buffer
+      → IsDone (reading_step objects world request (Some i)) told buffer world objects
+  unfolding unnamed_outcome world_after
+  unnamed_by i told a = record {
+    answer = subst (λ (x : Decision). IsAnswered (unnamed_outcome_by (shown_of (rows_of objects) world) request i x) told buffer) (sym d) a;
+    world = ap (world_by world) (sym d);
+    objects_after = refl;
+    bpdus = b;
+  }
+
+  read_done : (told : Answered) → IsReported told → IsDone (reading_step objects world request (unnamed_told told)) told buffer world objects
   read_done (answered.Reply len told failed) h =
       read_by objects world request (Allowed row view) d (answered.Reply len told failed) buffer world (h.0, h.1, h.2) refl b
+  read_done (answered.Unnamed len told i) h = unnamed_by i (answered.Unnamed len told i) (h.0, h.1, h.2)
   read_done (answered.NoReply told) h = absurd h
 
-  no_note : (told : Answered) → IsReply reply request (Allowed row view) denied told buffer.reply → notes_told told ≡ no_notes
+  no_note : (told : Answered) → IsReported told → notes_told told ≡ no_notes
   no_note (answered.Reply len told failed) h = λ i. record { commit = h.3 i; undos = (h.2 i).unrestored }
+  no_note (answered.Unnamed len told i) h = refl
   no_note (answered.NoReply told) h = absurd h
 
-  read_told : (told : Answered) → IsReply reply request (Allowed row view) denied told buffer.reply → IsTold objects world request told buffer world objects
+  may_lack : (told : Answered) → IsReported told → MayLackName (rows_of objects) world view request request.kind (unnamed_told told)
+  may_lack (answered.Reply len told failed) h = tt
+  may_lack (answered.Unnamed len told i) h = h.3
+  may_lack (answered.NoReply told) h = absurd h
+
+  read_told : (told : Answered) → IsReported told → IsTold objects world request told buffer world objects
   read_told told h =
       told_by objects world request (Allowed row view) d objects told buffer world
-      (read_may (rows_of objects) world request row view (notes_told told) request.kind k (no_note told h))
+      (record {
+        devices = read_may (rows_of objects) world request row view (notes_told told) request.kind k (no_note told h);
+        unnamed = may_lack told h;
+      })
       (read_plans objects world request view (notes_told told) request.kind k)
-      (subst (λ (step : Step). IsDone step told buffer world objects) (reads objects world request (notes_told told) row view request.kind k) (read_done told h))
+      (subst (λ (step : Step). IsDone step told buffer world objects) (reads objects world request (met_by told) row view request.kind k) (read_done told h))
 
   pub read_stepped : (r : Result Answered AllocError) → length request.community ≤ MAX_COMMUNITY
-      → IfOk r (λ told. IsReply reply request (Allowed row view) denied told buffer.reply) → OnErr r (buffer.reply ≡ [])
+      → IfOk r IsReported → OnErr r (buffer.reply ≡ [])
       → IsStep objects world request r buffer world objects
   read_stepped (Ok told) c h e = read_told told h
   read_stepped (Err err) c h e = record {

@@ -15,6 +15,7 @@ use Rattle.vacm_core.specs.declared.tables.FamilyRow.{FamilyRow}
 use Rattle.vacm_core.specs.declared.verdict.FamilyAnswer.{FamilyAnswer}
 use Rattle.vacm_core.specs.declared.verdict.FamilyAnswer.TheVariants.{Included, Excluded, NoRow}
 use Rattle.vacm_core.specs.Families.{family_answer, is_included, in_view}
+use Rattle.agent_core.specs.Lacking.{LacksNameOf}
 use Rattle.agent_core.specs.Denying.{denial, denials, denied_in}
 use Rattle.agent_core.specs.Reading.{visible, object_of, is_known, or_missing, get_answer, get_answers}
 use Rattle.agent_core.specs.Replies.{kind_reply, reply_within_limit}
@@ -63,3 +64,10 @@ undenied families view objects rows request Get is none =
 undenied families view objects rows request GetNext is none = absurd (cc)
 undenied families view objects rows request Set is none = absurd (cc)
 undenied families view objects rows request GetBulk is none = absurd (cc)
+
+-- a Get is not answered genErr for a name
+pub unnamed_no : (shows others : List ℕ → Bool) (rows : List Binding) (request : Request) (kind : Kind) (i : ℕ) → kind ≡ Get → LacksNameOf shows rows request kind i → LacksNameOf others rows request kind i
+unnamed_no shows others rows request Get i is h = h
+unnamed_no shows others rows request GetNext i is h = absurd (cc)
+unnamed_no shows others rows request Set i is h = absurd (cc)
+unnamed_no shows others rows request GetBulk i is h = absurd (cc)

@@ -29,10 +29,12 @@ use Rattle.setphase_core.specs.Calls.{Call, FollowPlans}
 use Rattle.setphase_core.specs.Registry.{rows_of, prefixes_of, instances}
 use Rattle.agent_core.specs.Buffered.{Buffered}
 use Rattle.agent_core.specs.Denying.{denied_in}
-use Rattle.agent_core.specs.Replies.{reply_within_limit, refusal_reply, kind_reply}
+use Rattle.agent_core.specs.Lacking.{LacksNameOf}
+use Rattle.agent_core.specs.Replies.{reply_within_limit, refusal_reply, name_failure_reply, kind_reply}
 use Rattle.agent_core.specs.Sets.{SetStep, set_step, set_calls, no_notes, MayFailInSet, TakesInSet}
 use Rattle.agent_core.specs.declared.answered.Answered.{Answered}
 use Rattle.agent_core.specs.declared.answered.Answered.TheVariants as answered
+use Rattle.agent_core.specs.declared.sent_reply.ReadReply.{ReadReply}
 use Rattle.agent_core.specs.declared.sent_reply.SentReply.{SentReply}
 
 -- what is shown: the names of the objects, the instances by rising name, and who may see which of
@@ -105,6 +107,23 @@ outcome_by shown request (Allowed row view) =
 unfoldable pub outcome_of : Shown → Request → Outcome
 outcome_of shown request = outcome_by shown request (decision_on shown.policy request)
 
+-- The same where there was no memory for a name that is made for this binding: a request that is
+-- authorized for a view is answered genErr with its number, and nothing is denied.
+abbrev pub unnamed_outcome_by : Shown → Request → ℕ → Decision → Outcome
+unnamed_outcome_by shown request i (Drop cause) = outcome_by shown request (Drop cause)
+unnamed_outcome_by shown request i Empty = outcome_by shown request Empty
+unnamed_outcome_by shown request i (Refused why) = outcome_by shown request (Refused why)
+unnamed_outcome_by shown request i (Allowed row view) =
+    reply_outcome request (Allowed row view) [] (name_failure_reply request i)
+
+unfoldable pub unnamed_outcome : Shown → Request → ℕ → Outcome
+unnamed_outcome shown request i =
+    unnamed_outcome_by shown request i (decision_on shown.policy request)
+
+abbrev pub noted_outcome : Shown → Request → Option ℕ → Outcome
+noted_outcome shown request None = outcome_of shown request
+noted_outcome shown request (Some i) = unnamed_outcome shown request i
+
 -- the reply of an outcome, or none where the request is dropped
 abbrev pub reply_in : Outcome → Option Reply
 reply_in (dropped cause audit) = None
@@ -173,10 +192,19 @@ pub record Step : Type 0 where
   pub objects : List ObjectState
   pub bpdus : List (Option Bpdu)
 
+-- What a request met that neither it nor the world says: which calls of devices failed in a Set, and
+-- the number of the binding for which a name above 24 numbers was made, for which there was no memory.
+pub record RequestNotes : Type 0 where
+  pub devices : SetNotes
+  pub unnamed : Option ℕ
+
+abbrev pub nothing_met : RequestNotes
+nothing_met = record { devices = no_notes; unnamed = None }
+
 -- A request that writes nothing leaves the objects, and sends nothing.
-abbrev pub reading_step : List ObjectState → World → Request → Step
-reading_step objects world request = record {
-  outcome = outcome_of (shown_of (rows_of objects) world) request;
+abbrev pub reading_step : List ObjectState → World → Request → Option ℕ → Step
+reading_step objects world request unnamed = record {
+  outcome = noted_outcome (shown_of (rows_of objects) world) request unnamed;
   world = world_after world request;
   objects = objects;
   bpdus = [];
@@ -192,41 +220,57 @@ writing_step request row view set = record {
   bpdus = set.bpdus;
 }
 
-abbrev pub allowed_step : List ObjectState → World → Request → SetNotes → AccessKey → List ℕ →
+abbrev pub allowed_step : List ObjectState → World → Request → RequestNotes → AccessKey → List ℕ →
     Kind → Step
-allowed_step objects world request notes row view Get = reading_step objects world request
-allowed_step objects world request notes row view GetNext = reading_step objects world request
-allowed_step objects world request notes row view GetBulk = reading_step objects world request
+allowed_step objects world request notes row view Get =
+    reading_step objects world request notes.unnamed
+allowed_step objects world request notes row view GetNext =
+    reading_step objects world request notes.unnamed
+allowed_step objects world request notes row view GetBulk =
+    reading_step objects world request notes.unnamed
 allowed_step objects world request notes row view Set =
-    writing_step request row view (set_step objects world view request notes)
+    writing_step request row view (set_step objects world view request notes.devices)
 
-abbrev pub step_by : List ObjectState → World → Request → SetNotes → Decision → Step
-step_by objects world request notes (Drop cause) = reading_step objects world request
-step_by objects world request notes Empty = reading_step objects world request
-step_by objects world request notes (Refused why) = reading_step objects world request
+abbrev pub step_by : List ObjectState → World → Request → RequestNotes → Decision → Step
+step_by objects world request notes (Drop cause) = reading_step objects world request None
+step_by objects world request notes Empty = reading_step objects world request None
+step_by objects world request notes (Refused why) = reading_step objects world request None
 step_by objects world request notes (Allowed row view) =
     allowed_step objects world request notes row view request.kind
 
--- The step of a request over objects and a world, where these calls of devices failed.
-unfoldable pub step_of : List ObjectState → World → Request → SetNotes → Step
+-- The step of a request over objects and a world, where it met this.
+unfoldable pub step_of : List ObjectState → World → Request → RequestNotes → Step
 step_of objects world request notes =
     step_by objects world request notes (decision_on world.policy request)
 
--- Which calls of devices may fail: those of a Set alone, and of one that is let in to a view.
+-- For which binding there may be no memory for a name: for one for which a name above 24 numbers is
+-- made.
+abbrev pub MayLackName : List ObjectRow → World → List ℕ → Request → Kind → Option ℕ → Type 0
+MayLackName rows world view request kind None = Unit {0}
+MayLackName rows world view request kind (Some i) =
+    LacksNameOf (in_view world.policy.vacm.families view) (instances rows world) request kind i
+
+-- What a request that is authorized for a view may meet: no memory for a name, where it reads; and
+-- calls of devices that fail, where it is a Set.
 abbrev pub MayFailInView : List ObjectRow → World → List ℕ → Request → SetNotes → Kind → Type 0
 MayFailInView rows world view request notes Get = notes ≡ no_notes
 MayFailInView rows world view request notes GetNext = notes ≡ no_notes
 MayFailInView rows world view request notes GetBulk = notes ≡ no_notes
 MayFailInView rows world view request notes Set = MayFailInSet rows world view request notes
 
-abbrev pub MayFailBy : List ObjectRow → World → Request → SetNotes → Decision → Type 0
-MayFailBy rows world request notes (Drop cause) = notes ≡ no_notes
-MayFailBy rows world request notes Empty = notes ≡ no_notes
-MayFailBy rows world request notes (Refused why) = notes ≡ no_notes
-MayFailBy rows world request notes (Allowed row view) =
-    MayFailInView rows world view request notes request.kind
+pub record MayMeetInView (rows : List ObjectRow) (world : World) (view : List ℕ)
+    (request : Request) (notes : RequestNotes) : Type 0 where
+  pub devices : MayFailInView rows world view request notes.devices request.kind
+  pub unnamed : MayLackName rows world view request request.kind notes.unnamed
 
-unfoldable pub MayHave : List ObjectRow → World → Request → SetNotes → Type 0
+abbrev pub MayFailBy : List ObjectRow → World → Request → RequestNotes → Decision → Type 0
+MayFailBy rows world request notes (Drop cause) = notes ≡ nothing_met
+MayFailBy rows world request notes Empty = notes ≡ nothing_met
+MayFailBy rows world request notes (Refused why) = notes ≡ nothing_met
+MayFailBy rows world request notes (Allowed row view) =
+    MayMeetInView rows world view request notes
+
+unfoldable pub MayHave : List ObjectRow → World → Request → RequestNotes → Type 0
 MayHave rows world request notes =
     MayFailBy rows world request notes (decision_on world.policy request)
 
@@ -261,8 +305,11 @@ pub record IsSent (reply : Reply) (sent : SentReply) (sent_octets : List ℕ) : 
 abbrev pub IsAnswered : Outcome → Answered → Buffered → Type 0
 IsAnswered (replied reply audit) (answered.Reply len told failed) buffer =
     (buffer.reply ≡ canon_reply reply) × (len ≡ length (canon_reply reply)) × (told ≡ audit)
+IsAnswered (replied reply audit) (answered.Unnamed len told i) buffer =
+    (buffer.reply ≡ canon_reply reply) × (len ≡ length (canon_reply reply)) × (told ≡ audit)
 IsAnswered (replied reply audit) (answered.NoReply told) buffer = ⊥
 IsAnswered (dropped cause audit) (answered.Reply len told failed) buffer = ⊥
+IsAnswered (dropped cause audit) (answered.Unnamed len told i) buffer = ⊥
 IsAnswered (dropped cause audit) (answered.NoReply told) buffer =
     (buffer.reply ≡ []) × (told ≡ audit)
 
@@ -272,14 +319,48 @@ abbrev pub IsReply : Reply → Request → Decision → List Denied → Answered
 IsReply reply request decision denied (answered.Reply len told failed) octets =
     (octets ≡ canon_reply reply) × (len ≡ length (canon_reply reply))
     × (told ≡ reply_audit request decision denied [] reply) × (failed ≡ None)
+IsReply reply request decision denied (answered.Unnamed len told i) octets = ⊥
 IsReply reply request decision denied (answered.NoReply told) octets = ⊥
+
+-- What is known of a reply to a request that reads: it is this one; or it is genErr with the number of
+-- a binding, since there was no memory for a name that is made for it.
+abbrev pub IsSentBy : Reply → Request → (ℕ → Type 0) → Option ℕ → SentReply → List ℕ → Type 0
+IsSentBy reply request lacks None sent octets = IsSent reply sent octets
+IsSentBy reply request lacks (Some i) sent octets =
+    IsSent (name_failure_reply request i) sent octets × lacks i
+
+abbrev pub IsSentRead : Reply → Request → (ℕ → Type 0) → ReadReply → List ℕ → Type 0
+IsSentRead reply request lacks read octets =
+    IsSentBy reply request lacks read.unnamed read.sent octets
+
+-- The same of what is answered, with this decision and these denied bindings.
+abbrev pub IsRead : Reply → Request → Decision → List Denied → (ℕ → Type 0) → Answered → List ℕ →
+    Type 0
+IsRead reply request decision denied lacks (answered.Reply len told failed) octets =
+    IsReply reply request decision denied (answered.Reply len told failed) octets
+IsRead reply request decision denied lacks (answered.Unnamed len told i) octets =
+    (octets ≡ canon_reply (name_failure_reply request i))
+    × (len ≡ length (canon_reply (name_failure_reply request i)))
+    × (told ≡ reply_audit request decision [] [] (name_failure_reply request i)) × lacks i
+IsRead reply request decision denied lacks (answered.NoReply told) octets = ⊥
 
 -- Which calls of devices are told to have failed: a commit, and the undoing of the settings that
 -- the audit has.
 abbrev pub notes_told : Answered → SetNotes
 notes_told (answered.Reply len audit failed) =
     record { commit = failed; undos = audit.unrestored }
+notes_told (answered.Unnamed len audit i) = no_notes
 notes_told (answered.NoReply audit) = no_notes
+
+-- the binding for whose name there was no memory, as it is reported
+abbrev pub unnamed_told : Answered → Option ℕ
+unnamed_told (answered.Reply len audit failed) = None
+unnamed_told (answered.Unnamed len audit i) = Some i
+unnamed_told (answered.NoReply audit) = None
+
+-- what a request met, as it is reported
+abbrev pub met_by : Answered → RequestNotes
+met_by told = record { devices = notes_told told; unnamed = unnamed_told told }
 
 -- The step is done: the outcome is told, and all is as it makes it.
 pub record IsDone (step : Step) (told : Answered) (buffer : Buffered) (later : World)
@@ -313,10 +394,10 @@ pub record IsShort (objects : List ObjectState) (before : World) (request : Requ
 pub record IsTold (objects : List ObjectState) (before : World) (request : Request)
     (told : Answered) (buffer : Buffered) (later : World) (objects_later : List ObjectState) :
     Type 0 where
-  pub may : MayHave (rows_of objects) before request (notes_told told)
+  pub may : MayHave (rows_of objects) before request (met_by told)
   pub by_plan : FollowPlans (request_calls (rows_of objects) before request (notes_told told))
       objects
-  pub done : IsDone (step_of objects before request (notes_told told)) told buffer later
+  pub done : IsDone (step_of objects before request (met_by told)) told buffer later
       objects_later
 
 -- A step over objects and a world, as far as there is memory for it.

@@ -10,3 +10,4 @@ pub mod Replies
 pub mod Sets
 pub mod Answers
 pub mod Making
+pub mod Lacking

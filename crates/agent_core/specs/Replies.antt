@@ -25,6 +25,12 @@ reply_within_limit reply =
 abbrev pub failure_reply : Request → Reply
 failure_reply request = reply_within_limit (answer_to request GenErr (pos 0) request.bindings)
 
+-- what answers the want of memory for a name above 24 numbers that is made for binding i: genErr, index
+-- i, the request's bindings
+abbrev pub name_failure_reply : Request → ℕ → Reply
+name_failure_reply request i =
+    reply_within_limit (answer_to request GenErr (pos i) request.bindings)
+
 -- The replies to Get, GetNext and GetBulk, by the names of the objects, the names that a view
 -- shows, and the instances.
 

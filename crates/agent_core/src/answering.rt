@@ -1,14 +1,15 @@
 //! Answers a request: the decision, the reply by its kind, the audit (RFC 3416, 4.2).
-ghost use Rattle.std.specs.Prelude.{◌≡◌, ◌≢◌, ◌≤◌, ◌<◌, [], None, true, length, IfOk, OnErr};
-ghost use Rattle.message_core.specs.Canon.{canon_reply};
+ghost use Rattle.std.specs.Prelude.{◌≡◌, ◌≢◌, ◌≤◌, ◌<◌, [], None, Some, true, length, pos, IfOk, IfErr, OnErr};
+ghost use Rattle.message_core.specs.Canon.{canon_reply, answer_to};
 ghost use Rattle.message_core.specs.Encodable.{AreEncodable};
 ghost use Rattle.message_core.specs.declared.limits.TheConstants.{MAX_COMMUNITY};
 ghost use Rattle.vacm_core.specs.Families.{in_view};
 ghost use Rattle.decision.specs.Deciding.{decision_on};
 ghost use Rattle.setphase_core.specs.Registry.{rows_of, prefixes_of, instances};
-ghost use Rattle.agent_core.specs.Replies.{kind_reply, failure_reply};
+ghost use Rattle.agent_core.specs.Replies.{kind_reply, reply_within_limit, failure_reply, name_failure_reply};
 ghost use Rattle.agent_core.specs.Denying.{denied_in};
-ghost use Rattle.agent_core.specs.Answers.{IsSent, IsReply, IsStep, drop_audit, with_count_of};
+ghost use Rattle.agent_core.specs.Answers.{IsSent, IsSentRead, IsSentBy, IsRead, IsStep, drop_audit, reply_audit, with_count_of};
+ghost use Rattle.agent_core.specs.Lacking.{LacksNameOf, IfName};
 
 use crate::answered::Answered;
 use crate::buffer::Buffer;
@@ -16,14 +17,15 @@ use crate::bulk::get_bulk;
 use crate::denying::denied_bindings;
 use crate::getting::get_all;
 use crate::nexts::get_next_all;
-use crate::sent_reply::SentReply;
+use crate::sent_reply::{ReadReply, SentReply};
 use crate::served::Served;
 use crate::sets::answer_set;
+use crate::shortage::Shortage;
 use crate::source::Source;
 use crate::whole::Whole;
 use audit_core::{Audit, DeniedBindings, Unrestored, UnrestoredRoom};
 use decision::{AccessKey, Cause, Decision, decide};
-use message_core::{ErrorStatus, Kind, Request};
+use message_core::{Bindings, ErrorStatus, Kind, Request};
 use setphase_core::{MibObject, Registry, World};
 use std::alloc::{AllocError, Global};
 use std::marker::Brand;
@@ -34,17 +36,21 @@ use vacm_core::Name;
 /// Answers a request by RFC 3416, 4.2, over what the objects show of the world, as its policy lets
 /// the caller see it (RFC 3415, 3.2). The buffer holds the reply in its minimal encoding, or
 /// nothing where the request is dropped; a drop is counted, modulo 2^32.
-/// A Set that is let in tests all its variables, and then gives all of them their values, or none
+/// A Set that is authorized tests all its variables, and then gives all of them their values, or none
 /// but those that could not be undone where a device failed (4.2.5). Settings that differ from
 /// those of before are settled once, and the buffer holds what each port sends. A request of
 /// another kind changes nothing else in the world, and nothing in the objects.
 /// Objects that the view is seen to hide whole (`Vacm::hides_all`) are passed over: their instances
 /// are neither looked for nor read. No clause says so: the reply is that over all instances.
-/// How often a GetBulk looks for a successor is said by `get_bulk`, and by no clause here.
+/// How often a GetBulk asks for a successor is a clause of `get_bulk`, and of none here.
 ///
 /// The caller hands in a request whose names and OBJECT IDENTIFIER values have an encoding, as
-/// `decode` gives it, and for a Set room for the settings that a failing device may keep from being
+/// `decode` gives it, and for a Set memory for the settings that a failing device may keep from being
 /// undone.
+///
+/// Where there is no memory for a name above `INLINE_NUMBERS`, 24, numbers that a GetNext or a GetBulk
+/// makes, the reply is genErr with the number of the binding for which it is made (RFC 3416, 4.2.2 and
+/// 4.2.3).
 ///
 /// # Errors
 /// Only memory can fail: then the buffer is empty, the world is as before, and the request is one
@@ -102,18 +108,24 @@ fn answer_read<O: MibObject>(
     requires community { length request.now.community ≤ MAX_COMMUNITY }
     requires encodable { AreEncodable request.now.bindings }
     requires reads { request.now.kind ≢ Kind.Set }
-    ensures reply { IfOk result (λ told. IsReply (kind_reply (prefixes_of (rows_of registry.now))
+    ensures reply { IfOk result (λ told. IsRead (kind_reply (prefixes_of (rows_of registry.now))
         (in_view world.now.policy.vacm.families view)
         (instances (rows_of registry.now) world.now) request.now request.now.kind)
         request.now (Decision.Allowed row view)
         (denied_in world.now.policy.vacm.families view request.now request.now.kind)
+        (LacksNameOf (in_view world.now.policy.vacm.families view)
+        (instances (rows_of registry.now) world.now) request.now request.now.kind)
         told buffer.new.reply) }
     ensures bpdus { buffer.new.bpdus ≡ buffer.old.bpdus }
     ensures err { OnErr result (buffer.new ≡ buffer.old) }
 {
     let denied = denied_bindings(alloc, world.policy.vacm(), &view, request)?;
-    let sent = send_read(alloc, registry, world, &view, request, &denied, buffer)?;
-    Ok(reply_with(request, Decision::Allowed { row, view }, denied, sent))
+    let read = send_read(alloc, registry, world, &view, request, &denied, buffer)?;
+    let decision = Decision::Allowed { row, view };
+    Ok(match read.unnamed {
+        None => reply_with(request, decision, denied, read.sent),
+        Some(number) => unnamed_with(alloc, request, decision, number, read.sent),
+    })
 }
 
 // Counts a request that this cause drops (RFC 3418, snmpInBadCommunityNames; RFC 3413,
@@ -175,6 +187,38 @@ fn reply_with(
     )
 }
 
+// What a request is answered that reads, where there was no memory for a name that is made for the
+// binding of this number: nothing is denied.
+fn unnamed_with(
+    alloc: Global,
+    request: &Request,
+    decision: Decision,
+    number: usize,
+    sent: SentReply,
+) -> Answered
+    ensures { result ≡ Answered.Unnamed sent.length (record {
+      kind = request.now.kind;
+      status = sent.status;
+      index = sent.index;
+      decision = decision;
+      denied = [];
+      unrestored = [];
+    }) number }
+{
+    Answered::Unnamed(
+        sent.length,
+        Audit {
+            kind: request.kind,
+            status: sent.status,
+            index: sent.index,
+            decision,
+            denied: DeniedBindings::new(alloc),
+            unrestored: Unrestored::none(),
+        },
+        number,
+    )
+}
+
 /// Writes the reply to a request that found no memory (RFC 3416, 4.2.1): genErr, index 0, its own
 /// bindings, or tooBig where that is too long.
 /// It takes no memory, and answers how many octets the reply has. The community has at most
@@ -203,16 +247,18 @@ fn send_read<O: MibObject>(
     request: &Request,
     denied: &DeniedBindings,
     buffer: &mut Buffer,
-) -> Result<SentReply, AllocError>
+) -> Result<ReadReply, AllocError>
     requires community { length request.now.community ≤ MAX_COMMUNITY }
     requires encodable { AreEncodable request.now.bindings }
     requires reads { request.now.kind ≢ Kind.Set }
     requires denied { denied.now ≡
         denied_in world.now.policy.vacm.families view.now request.now request.now.kind }
-    ensures sent { IfOk result (λ sent. IsSent (kind_reply (prefixes_of (rows_of registry.now))
+    ensures sent { IfOk result (λ read. IsSentRead (kind_reply (prefixes_of (rows_of registry.now))
         (in_view world.now.policy.vacm.families view.now)
+        (instances (rows_of registry.now) world.now) request.now request.now.kind) request.now
+        (LacksNameOf (in_view world.now.policy.vacm.families view.now)
         (instances (rows_of registry.now) world.now) request.now request.now.kind)
-        sent buffer.new.reply) }
+        read buffer.new.reply) }
     ensures bpdus { buffer.new.bpdus ≡ buffer.old.bpdus }
     ensures err { OnErr result (buffer.new ≡ buffer.old) }
 {
@@ -222,7 +268,7 @@ fn send_read<O: MibObject>(
     send_allowed(alloc, registry, world, view, request, buffer)
 }
 
-// Puts the reply to a request that is allowed in a view into the buffer. Its looks are counted in a
+// Puts the reply to a request that is allowed in a view into the buffer. Its steps are counted in a
 // new ledger, and by no clause here.
 fn send_allowed<O: MibObject>(
     alloc: Global,
@@ -231,14 +277,16 @@ fn send_allowed<O: MibObject>(
     view: &Name,
     request: &Request,
     buffer: &mut Buffer,
-) -> Result<SentReply, AllocError>
+) -> Result<ReadReply, AllocError>
     requires community { length request.now.community ≤ MAX_COMMUNITY }
     requires encodable { AreEncodable request.now.bindings }
     requires reads { request.now.kind ≢ Kind.Set }
-    ensures sent { IfOk result (λ sent. IsSent (kind_reply (prefixes_of (rows_of registry.now))
+    ensures sent { IfOk result (λ read. IsSentRead (kind_reply (prefixes_of (rows_of registry.now))
         (in_view world.now.policy.vacm.families view.now)
+        (instances (rows_of registry.now) world.now) request.now request.now.kind) request.now
+        (LacksNameOf (in_view world.now.policy.vacm.families view.now)
         (instances (rows_of registry.now) world.now) request.now request.now.kind)
-        sent buffer.new.reply) }
+        read buffer.new.reply) }
     ensures bpdus { buffer.new.bpdus ≡ buffer.old.bpdus }
     ensures err { OnErr result (buffer.new ≡ buffer.old) }
 {
@@ -254,17 +302,19 @@ fn send_served<O: MibObject, L: Ledger>(
     request: &Request,
     buffer: &mut Buffer,
     blank: Blank,
-) -> Result<SentReply, AllocError>
+) -> Result<ReadReply, AllocError>
     requires community { length request.now.community ≤ MAX_COMMUNITY }
     requires encodable { AreEncodable request.now.bindings }
     requires name { blank.name ≡ L.name }
     requires parts { blank.parts ≡ L.parts }
     requires some { 0 < blank.parts }
     requires reads { request.now.kind ≢ Kind.Set }
-    ensures sent { IfOk result (λ sent. IsSent (kind_reply (prefixes_of (rows_of registry.now))
+    ensures sent { IfOk result (λ read. IsSentRead (kind_reply (prefixes_of (rows_of registry.now))
         (in_view world.now.policy.vacm.families view.now)
+        (instances (rows_of registry.now) world.now) request.now request.now.kind) request.now
+        (LacksNameOf (in_view world.now.policy.vacm.families view.now)
         (instances (rows_of registry.now) world.now) request.now request.now.kind)
-        sent buffer.new.reply) }
+        read buffer.new.reply) }
     ensures bpdus { buffer.new.bpdus ≡ buffer.old.bpdus }
     ensures err { OnErr result (buffer.new ≡ buffer.old) }
 {
@@ -279,7 +329,7 @@ fn send_served<O: MibObject, L: Ledger>(
     send_kind(alloc, &source, request, buffer, &mut steps)
 }
 
-// Puts the reply to a request where every name is seen into the buffer. It is for a Get, which looks
+// Puts the reply to a request where every name is seen into the buffer. It is for a Get, which asks
 // for no successor: nothing is counted in the ledger of the blank.
 fn send_undenied<O: MibObject, L: Ledger>(
     alloc: Global,
@@ -288,16 +338,17 @@ fn send_undenied<O: MibObject, L: Ledger>(
     request: &Request,
     buffer: &mut Buffer,
     blank: Blank,
-) -> Result<SentReply, AllocError>
+) -> Result<ReadReply, AllocError>
     requires community { length request.now.community ≤ MAX_COMMUNITY }
     requires encodable { AreEncodable request.now.bindings }
     requires name { blank.name ≡ L.name }
     requires parts { blank.parts ≡ L.parts }
     requires some { 0 < blank.parts }
     requires reads { request.now.kind ≢ Kind.Set }
-    ensures sent { IfOk result (λ sent. IsSent (kind_reply (prefixes_of (rows_of registry.now))
+    ensures sent { IfOk result (λ read. IsSentRead (kind_reply (prefixes_of (rows_of registry.now))
         (λ name. true) (instances (rows_of registry.now) world.now) request.now request.now.kind)
-        sent buffer.new.reply) }
+        request.now (LacksNameOf (λ name. true) (instances (rows_of registry.now) world.now)
+        request.now request.now.kind) read buffer.new.reply) }
     ensures bpdus { buffer.new.bpdus ≡ buffer.old.bpdus }
     ensures err { OnErr result (buffer.new ≡ buffer.old) }
 {
@@ -306,30 +357,83 @@ fn send_undenied<O: MibObject, L: Ledger>(
     send_kind(alloc, &source, request, buffer, &mut steps)
 }
 
-// Answers a request by its kind, from any source and under any view.
+// The answers to a request, by its kind, from any source and under any view.
+fn read_kind<S: Source<L>, L: Ledger>(
+    alloc: Global,
+    source: &S,
+    request: &Request,
+    steps: &mut Steps<L>,
+) -> Result<Bindings, Shortage>
+    requires community { length request.now.community ≤ MAX_COMMUNITY }
+    requires encodable { AreEncodable request.now.bindings }
+    requires reads { request.now.kind ≢ Kind.Set }
+    ensures encodable { IfOk result (λ answers. AreEncodable answers) }
+    ensures answers { IfOk result (λ answers. reply_within_limit
+        (answer_to request.now ErrorStatus.NoError (pos 0) answers)
+        ≡ kind_reply (S.objects source.now) (S.shows source.now) (S.instances source.now) request.now
+        request.now.kind) }
+    ensures lacks { IfErr result (IfName (LacksNameOf (S.shows source.now) (S.instances source.now)
+        request.now request.now.kind)) }
+{
+    let asked = request.bindings.as_slice();
+    source.known();
+    match request.kind {
+        Kind::Get => Ok(get_all(alloc, source, asked, steps)?),
+        Kind::GetNext => get_next_all(alloc, source, asked, steps),
+        Kind::GetBulk => get_bulk(alloc, source, request, steps),
+        Kind::Set => unreachable!(),
+    }
+}
+
+// Puts genErr with the number of a binding into the buffer, for whose name there was no memory.
+fn send_unnamed(
+    request: &Request,
+    number: usize,
+    buffer: &mut Buffer,
+) -> Result<ReadReply, AllocError>
+    requires community { length request.now.community ≤ MAX_COMMUNITY }
+    requires encodable { AreEncodable request.now.bindings }
+    ensures unnamed { IfOk result (λ read. read.unnamed ≡ Some number) }
+    ensures sent { IfOk result (λ read.
+        IsSent (name_failure_reply request.now number) read.sent buffer.new.reply) }
+    ensures bpdus { buffer.new.bpdus ≡ buffer.old.bpdus }
+    ensures err { OnErr result (buffer.new ≡ buffer.old) }
+{
+    let Ok(index) = i32::try_from(number) else {
+        return Err(AllocError);
+    };
+    let asked = request.bindings.as_slice();
+    Ok(ReadReply {
+        sent: buffer.put(request, ErrorStatus::GenErr, index, asked),
+        unnamed: Some(number),
+    })
+}
+
+// Puts the reply to a request, by its kind, into the buffer, from any source and under any view.
 fn send_kind<S: Source<L>, L: Ledger>(
     alloc: Global,
     source: &S,
     request: &Request,
     buffer: &mut Buffer,
     steps: &mut Steps<L>,
-) -> Result<SentReply, AllocError>
+) -> Result<ReadReply, AllocError>
     requires community { length request.now.community ≤ MAX_COMMUNITY }
     requires encodable { AreEncodable request.now.bindings }
     requires reads { request.now.kind ≢ Kind.Set }
-    ensures sent { IfOk result (λ sent.
-        IsSent (kind_reply (S.objects source.now) (S.shows source.now)
-        (S.instances source.now) request.now request.now.kind) sent buffer.new.reply) }
+    ensures sent { IfOk result (λ read.
+        IsSentRead (kind_reply (S.objects source.now) (S.shows source.now)
+        (S.instances source.now) request.now request.now.kind) request.now
+        (LacksNameOf (S.shows source.now) (S.instances source.now) request.now request.now.kind)
+        read buffer.new.reply) }
     ensures bpdus { buffer.new.bpdus ≡ buffer.old.bpdus }
     ensures err { OnErr result (buffer.new ≡ buffer.old) }
 {
-    let asked = request.bindings.as_slice();
-    source.known();
-    let answers = match request.kind {
-        Kind::Get => get_all(alloc, source, asked, steps)?,
-        Kind::GetNext => get_next_all(alloc, source, asked, steps)?,
-        Kind::GetBulk => get_bulk(alloc, source, request, steps)?,
-        Kind::Set => unreachable!(),
-    };
-    Ok(buffer.put(request, ErrorStatus::NoError, 0, answers.as_slice()))
+    match read_kind(alloc, source, request, steps) {
+        Ok(answers) => Ok(ReadReply {
+            sent: buffer.put(request, ErrorStatus::NoError, 0, answers.as_slice()),
+            unnamed: None,
+        }),
+        Err(Shortage::Name(number)) => send_unnamed(request, number, buffer),
+        Err(Shortage::Other) => Err(AllocError),
+    }
 }

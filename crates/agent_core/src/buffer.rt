@@ -1,4 +1,4 @@
-//! What an event gives to send: the room for one reply, and what is put into it (RFC 3416, 4.2:
+//! What an event gives to send: a buffer for one reply, and what is put into it (RFC 3416, 4.2:
 //! tooBig), and the BPDUs of the ports.
 ghost use Rattle.std.specs.Prelude.{◌≡◌, ◌≤◌, ℤ, [], length, pos, take};
 ghost use Rattle.std.specs.Option.{option_copied};
@@ -18,7 +18,7 @@ use message_core::laws::short_reply_fits;
 use message_core::{Binding, ErrorStatus, MAX_REPLY, Request, TooBig, encode_answer};
 use std::marker::Model;
 
-/// Room for what one event gives to send: one reply of at most `MAX_REPLY`, 1,472, octets, and what
+/// A buffer for what one event gives to send: one reply of at most `MAX_REPLY`, 1,472, octets, and what
 /// each port sends. It takes no memory.
 pub struct Buffer {
     octets: [u8; MAX_REPLY],

@@ -1,11 +1,13 @@
 //! GetBulk: non-repeaters, repetitions, and where they stop (RFC 3416, 4.2.3).
-ghost use Rattle.std.specs.Prelude.{◌≡◌, ◌≤◌, ◌+◌, ◌-◌, ◌*◌, ◌++◌, [], ◌∷◌, List, false, length, min, get_or, IfOk, OnOk, OnErr, IsTrue, drop};
+ghost use Rattle.std.specs.Prelude.{◌≡◌, ◌≤◌, ◌<◌, ◌⊎◌, ◌^◌, ◌+◌, ◌-◌, ◌*◌, ◌++◌, [], ◌∷◌, List, false, length, min, get_or, IfOk, IfErr, OnOk, OnErr, IsTrue, drop};
 ghost use Rattle.oid_core.specs.Name.{HasRoot};
+ghost use Rattle.oid_core.specs.declared.limits.TheConstants.{INLINE_NUMBERS};
 ghost use Rattle.message_core.specs.Encodable.{AreEncodable, IsEncodableBinding};
 ghost use Rattle.message_core.specs.declared.limits.TheConstants.{MAX_COMMUNITY};
 ghost use Rattle.message_core.specs.Instances.{names_of};
 ghost use Rattle.agent_core.specs.Reading.{visible, next_answer, next_answers};
-ghost use Rattle.agent_core.specs.Looking.{most_looks};
+ghost use Rattle.agent_core.specs.Looking.{most_looks, LacksName};
+ghost use Rattle.agent_core.specs.Lacking.{IsLacking, LacksBulkName, IfName, bulk_names, binding_number};
 ghost use Rattle.agent_core.specs.Bulk.{all_end, repetitions, further, bulk_list, count_of, asked_list};
 ghost use Rattle.agent_core.specs.Sending.{kept, AreStands};
 ghost use Rattle.agent_core.specs.Fitting.{fitting_front, fit_into, most_successors, IsFilled};
@@ -13,6 +15,7 @@ ghost use Rattle.message_core.specs.declared.binding.Binding.{Binding};
 
 use crate::nexts::{copy_of, find_next};
 use crate::sent::Sent;
+use crate::shortage::Shortage;
 use crate::source::{Stand, Successors};
 use message_core::{Binding, Bindings, Request, Value, bindings_room};
 use oid_core::Oid;
@@ -55,7 +58,7 @@ fn stand_back<S: Successors<L>, L: Ledger>(
     }
 }
 
-// Sends the binding of the instance at a spot where there is room for it, and says whether there was.
+// Sends the binding of the instance at a spot where it fits, and says whether it did.
 // Where a walk stands at its name is kept.
 #[inline(always)]
 fn offer_instance<S: Successors<L>, L: Ledger>(
@@ -76,12 +79,13 @@ fn offer_instance<S: Successors<L>, L: Ledger>(
         (sent.old.bindings ++ S.at source.now spot.now ∷ [])) }
     ensures room { sent.new.room ≡ sent.old.room }
     ensures err { OnErr result (sent.new ≡ sent.old) }
+    ensures long { OnErr result (INLINE_NUMBERS < length (S.at source.now spot.now).name) }
 {
     let name = source.name(alloc, spot)?;
-    sent.offer(name, source.value(alloc, spot), stand)
+    Ok(sent.offer(name, source.value(alloc, spot), stand))
 }
 
-// Sends what GetNext answers under a name where there is room for it, and says whether there was.
+// Sends what GetNext answers under a name where it fits, and says whether it did.
 fn send_next<S: Successors<L>, L: Ledger>(
     alloc: Global,
     source: &S,
@@ -102,6 +106,8 @@ fn send_next<S: Successors<L>, L: Ledger>(
     ensures stands { AreStands (S.stands source.now) sent.new.stands (names_of sent.new.bindings) }
     ensures room { sent.new.room ≡ sent.old.room }
     ensures err { OnErr result (sent.new.bindings ≡ sent.old.bindings) }
+    ensures lacks { OnErr result
+        (LacksName (S.shows source.now) (S.instances source.now) name.now) }
     ensures work { steps.new ≤ steps.old + most_looks (S.shows source.now) (S.instances source.now) }
 {
     let mut stand = stand_at(source, sent, name);
@@ -109,11 +115,11 @@ fn send_next<S: Successors<L>, L: Ledger>(
         return offer_instance(alloc, source, spot, stand, sent);
     }
     let name = copy_of(alloc, name)?;
-    sent.offer(name, Value::EndOfMibView, stand)
+    Ok(sent.offer(name, Value::EndOfMibView, stand))
 }
 
-// Sends one repetition, GetNext of the name of each of these bindings, as far as there is room, and
-// says whether there was room for all of it.
+// Sends one repetition, GetNext of the name of each of these bindings, as far as it fits, and
+// says whether all of it did.
 fn repeat_once<S: Successors<L>, L: Ledger>(
     alloc: Global,
     source: &S,
@@ -139,6 +145,10 @@ fn repeat_once<S: Successors<L>, L: Ledger>(
     ensures whole_work { let most = most_looks (S.shows source.now) (S.instances source.now) in
         IfOk result (λ whole. IsTrue whole →
         steps.new + length sent.old.bindings * most ≤ steps.old + length sent.new.bindings * most) }
+    ensures lacks { OnErr result (IsLacking (S.shows source.now) (S.instances source.now)
+        (λ found. names_of asked.now) sent.old.bindings (sent.old.bindings ++ next_answers
+        (visible (S.shows source.now) (S.instances source.now)) (names_of asked.now))
+        sent.new.bindings) }
 {
     for binding in asked {
         if !send_next(alloc, source, &binding.name, sent, spot, steps)? {
@@ -148,8 +158,8 @@ fn repeat_once<S: Successors<L>, L: Ledger>(
     Ok(true)
 }
 
-// Sends what GetNext answers under the name of the binding so many places back, where there is room
-// for it, and says whether there was.
+// Sends what GetNext answers under the name of the binding so many places back, where it
+// fits, and says whether it did.
 fn send_successor<S: Successors<L>, L: Ledger>(
     alloc: Global,
     source: &S,
@@ -175,6 +185,8 @@ fn send_successor<S: Successors<L>, L: Ledger>(
     ensures stands { AreStands (S.stands source.now) sent.new.stands (names_of sent.new.bindings) }
     ensures room { sent.new.room ≡ sent.old.room }
     ensures err { OnErr result (sent.new.bindings ≡ sent.old.bindings) }
+    ensures lacks { OnErr result (LacksName (S.shows source.now) (S.instances source.now)
+        (get_or (names_of sent.old.bindings) (length sent.old.bindings - back) [])) }
     ensures work { steps.new ≤ steps.old + most_looks (S.shows source.now) (S.instances source.now) }
 {
     let before = &sent.last(back)[0];
@@ -183,11 +195,11 @@ fn send_successor<S: Successors<L>, L: Ledger>(
         return offer_instance(alloc, source, spot, stand, sent);
     }
     let name = copy_of(alloc, &before.name)?;
-    sent.offer(name, Value::EndOfMibView, stand)
+    Ok(sent.offer(name, Value::EndOfMibView, stand))
 }
 
 // Sends one repetition more, GetNext of the names of the one that was sent last, which has so many
-// bindings, as far as there is room, and says whether there was room for all of it.
+// bindings, as far as it fits, and says whether all of it did.
 fn repeat_last<S: Successors<L>, L: Ledger>(
     alloc: Global,
     source: &S,
@@ -215,6 +227,11 @@ fn repeat_last<S: Successors<L>, L: Ledger>(
     ensures whole_work { let most = most_looks (S.shows source.now) (S.instances source.now) in
         IfOk result (λ whole. IsTrue whole →
         steps.new + length sent.old.bindings * most ≤ steps.old + length sent.new.bindings * most) }
+    ensures lacks { let last = drop (length sent.old.bindings - columns) sent.old.bindings in
+        OnErr result (IsLacking (S.shows source.now) (S.instances source.now)
+        (λ found. names_of last) sent.old.bindings (sent.old.bindings ++ next_answers
+        (visible (S.shows source.now) (S.instances source.now)) (names_of last))
+        sent.new.bindings) }
 {
     for column in 0..columns {
         if !send_successor(alloc, source, columns, sent, spot, steps)? {
@@ -232,9 +249,9 @@ fn has_ended(row: &[Binding]) -> bool
 }
 
 // Sends up to `most` repetitions more from the names of the one that was sent last, which has so
-// many bindings, as far as there is room.
+// many bindings, as far as they fit.
 //
-// Each but the last sends a binding for each name and so takes room: there are no more repetitions
+// Each but the last sends a binding for each name and so takes octets: there are no more repetitions
 // than bindings that fit, and one, whatever `most` is.
 fn go_on<S: Successors<L>, L: Ledger>(
     alloc: Global,
@@ -255,6 +272,11 @@ fn go_on<S: Successors<L>, L: Ledger>(
     ensures work { let most = most_looks (S.shows source.now) (S.instances source.now) in
         steps.new + length sent.old.bindings * most
         ≤ steps.old + (length sent.new.bindings + 1) * most }
+    ensures lacks { let last = drop (length sent.old.bindings - columns) sent.old.bindings in
+        OnErr result (IsLacking (S.shows source.now) (S.instances source.now)
+        (bulk_names (names_of last) 0) sent.old.bindings (sent.old.bindings ++ further
+        (visible (S.shows source.now) (S.instances source.now)) most last)
+        sent.new.bindings) }
 {
     for i in 0..most {
         if has_ended(sent.last(columns)) {
@@ -267,7 +289,7 @@ fn go_on<S: Successors<L>, L: Ledger>(
     Ok(())
 }
 
-// Sends up to `most` repetitions from the names of these bindings on, as far as there is room.
+// Sends up to `most` repetitions from the names of these bindings on, as far as they fit.
 fn repeat<S: Successors<L>, L: Ledger>(
     alloc: Global,
     source: &S,
@@ -287,6 +309,10 @@ fn repeat<S: Successors<L>, L: Ledger>(
     ensures work { let most = most_looks (S.shows source.now) (S.instances source.now) in
         steps.new + length sent.old.bindings * most
         ≤ steps.old + (length sent.new.bindings + 1) * most }
+    ensures lacks { OnErr result (IsLacking (S.shows source.now) (S.instances source.now)
+        (bulk_names (names_of asked.now) 0) sent.old.bindings (sent.old.bindings ++ repetitions
+        (visible (S.shows source.now) (S.instances source.now)) most (names_of asked.now))
+        sent.new.bindings) }
 {
     if most == 0 {
         return Ok(());
@@ -297,7 +323,7 @@ fn repeat<S: Successors<L>, L: Ledger>(
     go_on(alloc, source, asked.len(), most - 1, sent, spot, steps)
 }
 
-// Sends the first `once` names once, and the others up to `most` times, as far as there is room.
+// Sends the first `once` names once, and the others up to `most` times, as far as they fit.
 fn send_list<S: Successors<L>, L: Ledger>(
     alloc: Global,
     source: &S,
@@ -319,6 +345,10 @@ fn send_list<S: Successors<L>, L: Ledger>(
     ensures work { let most = most_looks (S.shows source.now) (S.instances source.now) in
         steps.new + length sent.old.bindings * most
         ≤ steps.old + (length sent.new.bindings + 1) * most }
+    ensures lacks { OnErr result (IsLacking (S.shows source.now) (S.instances source.now)
+        (bulk_names (names_of asked.now) once) sent.old.bindings (sent.old.bindings ++ bulk_list
+        (visible (S.shows source.now) (S.instances source.now)) once most (names_of asked.now))
+        sent.new.bindings) }
 {
     let (first, columns) = asked.split_at(once);
     if !repeat_once(alloc, source, first, sent, spot, steps)? {
@@ -349,19 +379,38 @@ fn max_repetitions(request: &Request) -> u32
     count_of(request.second)
 }
 
+// The number of the binding of which a member of the list is asked, before which so many members
+// stand: so many bindings are asked once, and then so many columns in each repetition.
+fn binding_number(once: usize, columns: usize, before: usize) -> usize
+    requires some { 1 ≤ columns ⊎ before < once }
+    requires most { before < 2 ^ 63 }
+    requires few { once + columns < 2 ^ 63 }
+    ensures { result ≡ binding_number once columns before }
+{
+    if before < once {
+        before + 1
+    } else {
+        once + (before - once) % columns + 1
+    }
+}
+
 /// What GetBulk answers (RFC 3416, 4.2.3): the longest front of the list that it asks for whose
 /// reply has at most `MAX_REPLY`, 1,472, octets.
 ///
-/// Each look at the source is a step. There are at most `most_looks` for each binding that is sent,
+/// Each lookup at the source is a step. There are at most `most_looks` for each binding that is sent,
 /// and for one more, whatever max-repetitions says; so at most `most_successors`, 246, times as
 /// many, also where memory fails. `most_looks` is one more than the instances that the view hides.
-/// Only memory can fail.
+///
+/// # Errors
+/// `Shortage::Name` with the number of the binding of which a member of the list is asked that is to be
+/// sent next, and for which a name above `INLINE_NUMBERS`, 24, numbers was made; else
+/// `Shortage::Other`.
 pub fn get_bulk<S: Successors<L>, L: Ledger>(
     alloc: Global,
     source: &S,
     request: &Request,
     steps: &mut Steps<L>,
-) -> Result<Bindings, AllocError>
+) -> Result<Bindings, Shortage>
     requires community { length request.now.community ≤ MAX_COMMUNITY }
     requires encodable { AreEncodable request.now.bindings }
     ensures answer { IfOk result (λ sent.
@@ -372,18 +421,22 @@ pub fn get_bulk<S: Successors<L>, L: Ledger>(
         IfOk result (λ sent. steps.new ≤ steps.old + (length sent + 1) * most) }
     ensures most_work { steps.new ≤ steps.old + most_successors * most_looks (S.shows source.now)
         (S.instances source.now) }
+    ensures lacks { IfErr result (IfName
+        (LacksBulkName (S.shows source.now) (S.instances source.now) request.now)) }
 {
     let asked = request.bindings.as_slice();
     let once = non_repeaters(request);
     let most = max_repetitions(request);
     let columns = asked.len() - once;
-    let list = once.saturating_add(columns.saturating_mul(most as usize));
-    let mut sent = Sent::new(alloc, bindings_room(request), columns, list)?;
+    let mut sent = Sent::new(alloc, bindings_room(request), columns)?;
     let mut spot = Spot::new();
     let filled = send_list(
         alloc, source, once, most, asked, &mut sent, &mut spot, steps,
     );
     let bindings = sent.into_bindings();
-    filled?;
+    if filled.is_err() {
+        let before = bindings.as_slice().len();
+        return Err(Shortage::Name(binding_number(once, columns, before)));
+    }
     Ok(bindings)
 }

@@ -8,7 +8,7 @@ use message_core::{Binding, Kind, Request};
 use std::alloc::{AllocError, Global};
 use vacm_core::{FamilyAnswer, Name, Vacm};
 
-// Adds what is told of binding `index`, by the answer on its name.
+// Adds what the audit has of binding `index`, by the answer on its name.
 fn deny(
     alloc: Global,
     vacm: &Vacm,
@@ -35,7 +35,7 @@ fn deny(
     }
 }
 
-// What is told of bindings, the first of which has number 1.
+// What the audit has of bindings, the first of which has number 1.
 fn denials(
     alloc: Global,
     vacm: &Vacm,

@@ -93,7 +93,7 @@ fn missing(known: bool) -> Value
 /// What Get answers under a name (RFC 3416, 4.2.1), over the instances that the view shows. Only
 /// memory can fail.
 ///
-/// It looks for one successor at most, to see whether an object has an instance in the view.
+/// It asks for one successor at most, to see whether an object has an instance in the view.
 pub fn get<S: Source<L>, L: Ledger>(
     alloc: Global,
     source: &S,

@@ -80,7 +80,7 @@ pub fn repetitions_are_successors()
         (count : ℕ) × IsRepeated rows names most count (repetitions rows most names) }
 {}
 
-/// Where a view hides nothing, one look finds a successor.
+/// Where a view hides nothing, one lookup finds a successor.
 pub fn one_look_where_all_is_seen()
     ensures { (shows : List ℕ → Bool) (rows : List Binding) →
         All (λ row. IsTrue (shows row.name)) rows →

@@ -5,36 +5,40 @@
 //! [`answer`] is one step of a request over a `Registry` of managed objects and the `World` that
 //! they show: its reply and what the ports send stand in a [`Buffer`], its audit is given, a drop
 //! is counted, a Set changes all its variables or none but what could not be undone, and is handed
-//! the room in which its audit names that. For time alone, objects that the view is seen to hide
-//! whole are passed over.
-//! [`short_reply`] writes the reply for a want of memory, and takes none. [`get`] answers from
-//! any [`Source`], and [`get_next`] and [`get_bulk`] from any [`Successors`], each of which is a
-//! [`View`] too: they can ask it for nothing but where the next instance stands, for its name and its
-//! value, and whether the view shows a name; each next instance is a step. The name and the value of
-//! an instance are made where it is sent. A walk stands at a name ([`Stand`]): at the place of the
-//! name among the objects, and knows of those from there on how far the view shows them whole. Each
-//! column of a GetBulk walks by itself. A request lends its walks one spot, in which they write where
-//! an instance stands; of a GetBulk's list no binding is moved once it is made. [`Answered`] is what `answer` gives, with an [`Audit`], whose line
-//! [`audit_line`] writes.
+//! the memory in which its audit names that. For time alone, objects that the view is seen to hide
+//! whole are passed over. [`Answered`] is what `answer` gives, with an [`Audit`], whose line
+//! [`audit_line`] writes. [`short_reply`] writes the reply for a want of memory, and takes none.
+//!
+//! [`get`] answers from any [`Source`], and [`get_next`] and [`get_bulk`] from any [`Successors`],
+//! each of which is a [`View`] too: they can ask it for nothing but where the next instance stands,
+//! for its name and its value, and whether the view shows a name; each next instance is a step. The
+//! name and the value of an instance are made where it is sent. A walk stands at a name ([`Stand`]):
+//! at the place of the name among the objects, and knows of those from there on how far the view
+//! shows them whole. Each column of a GetBulk walks by itself. A GetBulk lends its walks one spot, in
+//! which they write where an instance stands; memory for all bindings that can fit is reserved ahead,
+//! and so none is moved once it is made. A [`Shortage`] says for what there was no memory: for a name
+//! above 24 numbers that a binding needs, which is answered genErr with the binding's number, or for
+//! anything else.
 //!
 //! # Definitions
 //! `specs/Answers.antt`: what objects show of a world, and the step; `specs/Replies.antt`: replies
-//! by kind, and the size rule; `specs/Sets.antt`: what a Set comes to; `specs/Reading.antt`: what
-//! is visible, Get and GetNext; `specs/Looking.antt`: the looks that a successor takes;
+//! by kind, and the size rule; `specs/Sets.antt`: what a Set becomes; `specs/Reading.antt`: what
+//! is visible, Get and GetNext; `specs/Looking.antt`: the lookups that a successor takes, and for
+//! which names it takes memory; `specs/Lacking.antt`: for which binding that is;
 //! `specs/Bulk.antt`, `specs/Fitting.antt`: GetBulk; `specs/Denying.antt`: denied bindings;
 //! `specs/Buffered.antt`: what a buffer holds; `specs/Sending.antt`: bindings that are to be sent,
-//! and their room; `specs/Standing.antt`: where a walk stands, and what it knows of a view there.
+//! and their octets; `specs/Standing.antt`: where a walk stands, and what it knows of a view there.
 //!
 //! # Laws
-//! In [`laws`]: replies hang on nothing but what is visible, those of Get also on the objects and on
-//! which of the asked names are in the view; repeated GetNext lists all that is visible; a name has
+//! In [`laws`]: replies depend on nothing but what is visible, those of Get also on the objects and
+//! on which of the asked names are in the view; repeated GetNext lists all that is visible; a name has
 //! one object; repetitions are successors; the longest front that fits, and that few bindings do;
-//! one look where nothing is hidden.
+//! one lookup where nothing is hidden.
 //!
 //! # Not claimed
-//! That memory was refused where want of it is answered; of objects whose devices take no plans,
-//! which calls of a Set failed, and so which variable is told as failed; what is passed over, and
-//! how often `answer` looks, or asks the view.
+//! That memory was refused where want of it is answered or noted; of objects whose devices take no
+//! plans, which calls of a Set failed, and so which variable is reported as failed; what is passed
+//! over, and how often `answer` asks for a successor, or asks the view.
 #![tactic(auto)]
 
 mod answered;
@@ -50,6 +54,7 @@ mod sent;
 mod sent_reply;
 mod served;
 mod sets;
+mod shortage;
 mod source;
 mod whole;
 
@@ -60,4 +65,5 @@ pub use buffer::Buffer;
 pub use bulk::get_bulk;
 pub use getting::get;
 pub use nexts::get_next;
+pub use shortage::Shortage;
 pub use source::{Source, Stand, Successors, View};

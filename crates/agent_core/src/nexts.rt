@@ -1,13 +1,16 @@
 //! GetNext: the binding after a name, or endOfMibView (RFC 3416, 4.2.2).
-ghost use Rattle.std.specs.Prelude.{◌≡◌, ◌+◌, ◌*◌, ◌≤◌, IfOk, IsTrue, length};
+ghost use Rattle.std.specs.Prelude.{◌≡◌, ◌+◌, ◌*◌, ◌≤◌, ◌<◌, IfOk, IfErr, OnErr, IsTrue, length};
+ghost use Rattle.oid_core.specs.declared.limits.TheConstants.{INLINE_NUMBERS};
 ghost use Rattle.oid_core.specs.Name.{HasRoot};
 ghost use Rattle.message_core.specs.Encodable.{IsEncodableBinding};
 ghost use Rattle.message_core.specs.Instances.{names_of};
 ghost use Rattle.agent_core.specs.Reading.{visible, next_answer, next_answers};
 ghost use Rattle.agent_core.specs.Making.{binding_of};
-ghost use Rattle.agent_core.specs.Looking.{most_looks};
+ghost use Rattle.agent_core.specs.Looking.{most_looks, LacksName};
+ghost use Rattle.agent_core.specs.Lacking.{LacksNextName, IfName};
 
 use crate::reading::next_shown;
+use crate::shortage::Shortage;
 use crate::source::{Stand, Successors};
 use message_core::{Binding, Bindings, Value};
 use oid_core::Oid;
@@ -18,7 +21,8 @@ use steps::Steps;
 
 /// Whether the view shows an instance behind a name (RFC 3416, 4.2.2), over the instances that the view
 /// shows: where it stands is written in the spot that is lent. Where there is none, GetNext answers
-/// endOfMibView under the name, and the spot may be any. Only memory can fail.
+/// endOfMibView under the name, and the spot may be any. Only memory can fail, and only for the name of
+/// an instance that the walk passes.
 ///
 /// It asks the source at most once for each instance that the view hides, and once more. The stand is
 /// at the name before the call, and at the binding's name after it. `goes_on` says whether the walk is
@@ -41,6 +45,8 @@ pub fn find_next<S: Successors<L>, L: Ledger>(
     ensures stands { IfOk result (λ found. S.stands source.now stand.new
         (binding_of (S.at source.now) name.now spot.new found).name) }
     ensures work { steps.new ≤ steps.old + most_looks (S.shows source.now) (S.instances source.now) }
+    ensures lacks { OnErr result
+        (LacksName (S.shows source.now) (S.instances source.now) name.now) }
 {
     source.known();
     let before = *stand;
@@ -51,9 +57,10 @@ pub fn find_next<S: Successors<L>, L: Ledger>(
     Ok(false)
 }
 
-/// The copy of a name. Only memory can fail.
+/// The copy of a name. Only memory can fail, and only above `INLINE_NUMBERS`, 24, numbers.
 pub fn copy_of(alloc: Global, name: &Oid) -> Result<Oid, AllocError>
-    ensures { IfOk result (λ copy. copy ≡ name.now) }
+    ensures copy { IfOk result (λ copy. copy ≡ name.now) }
+    ensures long { OnErr result (INLINE_NUMBERS < length name.now) }
 {
     match name.try_copy(alloc) {
         Ok(copy) => Ok(copy),
@@ -61,7 +68,7 @@ pub fn copy_of(alloc: Global, name: &Oid) -> Result<Oid, AllocError>
     }
 }
 
-// The binding of an answer. Only memory can fail.
+// The binding of an answer. Only memory can fail, and only for its name.
 fn make_binding<S: Successors<L>, L: Ledger>(
     alloc: Global,
     source: &S,
@@ -70,7 +77,9 @@ fn make_binding<S: Successors<L>, L: Ledger>(
     spot: &Spot,
 ) -> Result<Binding, AllocError>
     requires { IsTrue found → S.is_there source.now spot.now }
-    ensures { IfOk result (λ b. b ≡ binding_of (S.at source.now) name.now spot.now found) }
+    ensures binding { IfOk result (λ b. b ≡ binding_of (S.at source.now) name.now spot.now found) }
+    ensures long { OnErr result
+        (INLINE_NUMBERS < length (binding_of (S.at source.now) name.now spot.now found).name) }
 {
     if !found {
         return Ok(Binding {
@@ -85,7 +94,8 @@ fn make_binding<S: Successors<L>, L: Ledger>(
 }
 
 /// What GetNext answers under a name (RFC 3416, 4.2.2), over the instances that the view shows.
-/// Only memory can fail.
+/// Only memory can fail, and only for a name above `INLINE_NUMBERS`, 24, numbers: that of an instance
+/// that the walk passes or ends at, or the copy of the name under endOfMibView.
 ///
 /// It asks the source at most once for each instance that the view hides, and once more.
 pub fn get_next<S: Successors<L>, L: Ledger>(
@@ -98,6 +108,8 @@ pub fn get_next<S: Successors<L>, L: Ledger>(
         b ≡ next_answer (visible (S.shows source.now) (S.instances source.now)) name.now) }
     ensures encodable { IfOk result (λ b. HasRoot name.now → IsEncodableBinding b) }
     ensures work { steps.new ≤ steps.old + most_looks (S.shows source.now) (S.instances source.now) }
+    ensures lacks { OnErr result
+        (LacksName (S.shows source.now) (S.instances source.now) name.now) }
 {
     let mut stand = source.start(name);
     let mut spot = Spot::new();
@@ -105,23 +117,32 @@ pub fn get_next<S: Successors<L>, L: Ledger>(
     make_binding(alloc, source, name, found, &spot)
 }
 
-/// What GetNext answers under each asked name, in order (RFC 3416, 4.2.2), by the looks of one
-/// successor for each. Only memory can fail.
+/// What GetNext answers under each asked name, in order (RFC 3416, 4.2.2), by the lookups of one
+/// successor for each.
+///
+/// # Errors
+/// `Shortage::Name` with the number of an asked name for which a name above `INLINE_NUMBERS`, 24,
+/// numbers was made; else `Shortage::Other`.
 pub fn get_next_all<S: Successors<L>, L: Ledger>(
     alloc: Global,
     source: &S,
     asked: &[Binding],
     steps: &mut Steps<L>,
-) -> Result<Bindings, AllocError>
+) -> Result<Bindings, Shortage>
     ensures answers { IfOk result (λ answers.
         answers ≡ next_answers (visible (S.shows source.now) (S.instances source.now))
         (names_of asked.now)) }
     ensures work { steps.new ≤ steps.old + length asked.now * most_looks (S.shows source.now)
         (S.instances source.now) }
+    ensures lacks { IfErr result (IfName
+        (LacksNextName (S.shows source.now) (S.instances source.now) (names_of asked.now))) }
 {
     let mut answers = Bindings::new(alloc);
-    for binding in asked {
-        answers.push(get_next(alloc, source, &binding.name, steps)?)?;
+    for (n, binding) in asked.iter().enumerate() {
+        let Ok(answer) = get_next(alloc, source, &binding.name, steps) else {
+            return Err(Shortage::Name(n + 1));
+        };
+        answers.push(answer)?;
     }
     Ok(answers)
 }

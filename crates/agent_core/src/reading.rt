@@ -1,8 +1,9 @@
 //! The next instance that a view shows.
-ghost use Rattle.std.specs.Prelude.{◌≡◌, ◌≤◌, ◌+◌, if◌then◌else◌, Some, None, IfOk, IsTrue};
+ghost use Rattle.std.specs.Prelude.{◌≡◌, ◌≤◌, ◌<◌, ◌+◌, if◌then◌else◌, Some, None, IfOk, OnErr, IsTrue, length};
+ghost use Rattle.oid_core.specs.declared.limits.TheConstants.{INLINE_NUMBERS};
 ghost use Rattle.message_core.specs.Instances.{next_of};
 ghost use Rattle.agent_core.specs.Reading.{visible};
-ghost use Rattle.agent_core.specs.Looking.{most_looks};
+ghost use Rattle.agent_core.specs.Looking.{most_looks, LacksName};
 
 use crate::source::{Stand, Successors};
 use oid_core::Oid;
@@ -44,6 +45,7 @@ fn is_shown_there<S: Successors<L>, L: Ledger>(
     ensures shown { IfOk result (λ shown.
         shown ≡ S.shows source.now (S.at source.now spot.now).name) }
     ensures stands { S.stands source.now stand.new (S.at source.now spot.now).name }
+    ensures long { OnErr result (INLINE_NUMBERS < length (S.at source.now spot.now).name) }
 {
     if goes_on && source.is_known_shown(stand) {
         return Ok(true);
@@ -55,7 +57,8 @@ fn is_shown_there<S: Successors<L>, L: Ledger>(
 /// Writes where the first instance after a name stands that the view shows, and says whether there is
 /// one (RFC 3416, 4.2.2). Each lookup at the source is a step: there are at most as many as the view
 /// hides instances, and one more. Where an instance is found, the walk then stands at its name; where
-/// none is, the spot may be any. Only memory can fail.
+/// none is, the spot may be any. Only memory can fail, and only for the name of an instance that the
+/// walk passes.
 pub fn next_shown<S: Successors<L>, L: Ledger>(
     alloc: Global,
     source: &S,
@@ -72,6 +75,8 @@ pub fn next_shown<S: Successors<L>, L: Ledger>(
     ensures stands { IfOk result (λ found. IsTrue found →
         S.stands source.now stand.new (S.at source.now spot.new).name) }
     ensures work { steps.new ≤ steps.old + most_looks (S.shows source.now) (S.instances source.now) }
+    ensures lacks { OnErr result
+        (LacksName (S.shows source.now) (S.instances source.now) name.now) }
 {
     source.known();
     let mut found = source.next(name, stand, spot, steps);
@@ -102,6 +107,7 @@ fn next_behind<S: Successors<L>, L: Ledger>(
         S.stands source.now stand.new (S.at source.now spot.new).name) }
     ensures work { IfOk result (λ _. steps.new ≡ steps.old + 1) }
     ensures few { steps.new ≤ steps.old + 1 }
+    ensures long { OnErr result (INLINE_NUMBERS < length (S.at source.now spot.old).name) }
 {
     let name = source.name(alloc, spot)?;
     Ok(source.next(&name, stand, spot, steps))

@@ -19,8 +19,8 @@ use std::marker::Model;
 /// each binding begins with a search.
 pub const MAX_STANDS: usize = 16;
 
-// How many octets a binding has at least: its head, a name of one octet and a value of none.
-const SHORTEST_BINDING: usize = 7;
+// How many octets a binding has at least: its head, and the heads of its name and its value.
+const SHORTEST_BINDING: usize = 6;
 
 /// The bindings of a GetBulk's reply so far, and the octets that they may have (RFC 3416, 4.2.3: as
 /// many as fit).
@@ -35,6 +35,8 @@ pub struct Sent {
 }
 
 impl Model for Sent {
+    ghost use Rattle.std.specs.Prelude.{◌<◌, ◌/◌, vec_capacity};
+    ghost use Rattle.agent_core.specs.Fitting.{least_binding};
     ghost use Rattle.agent_core.specs.Sending.{Sending, IsSending};
 
     ghost Value = { Sending };
@@ -52,17 +54,17 @@ impl Model for Sent {
           bindings = s.bindings.items;
           stands = s.stands.items;
           most_stands = s.most_stands;
-        }) s.used };
+        }) s.used × (s.room / least_binding < vec_capacity s.bindings) };
 }
 
 impl Sent {
     /// No bindings, and a buffer for so many octets. A repetition has so many columns: where walks
-    /// stand is kept for as many bindings. The list that is asked for has so many bindings: memory for
-    /// as many of them as can fit is reserved, and so none is moved once it is made.
+    /// stand is kept for as many bindings. Memory for as many bindings as can fit, and for one more, is
+    /// reserved: so none of them is moved once it is made, and adding one takes none.
     ///
     /// # Errors
     /// `AllocError` where there is no such memory.
-    pub fn new(alloc: Global, room: usize, columns: usize, list: usize) -> Result<Sent, AllocError>
+    pub fn new(alloc: Global, room: usize, columns: usize) -> Result<Sent, AllocError>
         requires { room ≤ MAX_REPLY }
         ensures { IfOk result (λ sent. sent ≡ record {
           room = room;
@@ -72,7 +74,7 @@ impl Sent {
         }) }
     {
         Ok(Sent {
-            bindings: Vec::with_capacity(alloc, list.min(room / SHORTEST_BINDING + 1))?,
+            bindings: Vec::with_capacity(alloc, room / SHORTEST_BINDING + 1)?,
             stands: ArrayVec::new(),
             most_stands: columns.min(MAX_STANDS).max(1),
             used: 0,
@@ -80,31 +82,29 @@ impl Sent {
         })
     }
 
-    /// Adds the binding of a name and a value where there is room for it (RFC 3416, 4.2.3), and says
-    /// whether there was. It is made in its place, and measured there; one that does not fit is
-    /// removed again. With it is kept where a walk stands at its name. Only memory can fail; then
-    /// nothing changes.
+    /// Adds the binding of a name and a value where it fits (RFC 3416, 4.2.3), and says whether it
+    /// did. It is made in its place, and measured there; one that does not fit is
+    /// removed again. With it is kept where a walk stands at its name. It takes no memory.
     #[inline(always)]
-    pub fn offer(&mut self, name: Oid, value: Value, stand: Stand) -> Result<bool, AllocError>
+    pub fn offer(&mut self, name: Oid, value: Value, stand: Stand) -> bool
         requires { IsEncodableBinding (record { name = name; value = value }) }
-        ensures taken { IfOk result (λ taken. IsTrue taken →
-            self.new.bindings ≡ self.old.bindings ++ record { name = name; value = value } ∷ []) }
-        ensures stand { IfOk result (λ taken. IsTrue taken →
-            self.new.stands ≡ kept self.old.most_stands self.old.stands stand) }
-        ensures full { IfOk result (λ taken. taken ≡ false → self.new ≡ self.old) }
-        ensures fits { IfOk result (λ taken. taken ≡ fit_into self.old.room
-            (self.old.bindings ++ record { name = name; value = value } ∷ [])) }
+        ensures taken { IsTrue result →
+            self.new.bindings ≡ self.old.bindings ++ record { name = name; value = value } ∷ [] }
+        ensures stand { IsTrue result →
+            self.new.stands ≡ kept self.old.most_stands self.old.stands stand }
+        ensures full { result ≡ false → self.new ≡ self.old }
+        ensures fits { result ≡ fit_into self.old.room
+            (self.old.bindings ++ record { name = name; value = value } ∷ []) }
         ensures room { self.new.room ≡ self.old.room }
-        ensures err { OnErr result (self.new ≡ self.old) }
     {
-        self.bindings.push(Binding { name, value })?;
+        self.bindings.push_reserved(Binding { name, value });
         let Some(len) = last_len(self.bindings.as_slice(), self.room - self.used) else {
             self.bindings.pop();
-            return Ok(false);
+            return false;
         };
         keep(&mut self.stands, self.most_stands, stand);
         self.used += len;
-        Ok(true)
+        true
     }
 
     /// The last so many bindings: those of one repetition.

@@ -1,7 +1,7 @@
 //! What was put into a buffer.
 use message_core::ErrorStatus;
 
-/// What is told of a reply that stands in the buffer.
+/// What is known of a reply that stands in the buffer.
 #[derive(Clone, Copy, Debug, PartialEq, Eq)]
 pub struct SentReply {
     /// How many octets it has.
@@ -10,4 +10,13 @@ pub struct SentReply {
     pub status: ErrorStatus,
     /// Its error-index: the number of a binding, or 0.
     pub index: i32,
+}
+
+/// What is known of the reply to a request that reads.
+#[derive(Clone, Copy, Debug, PartialEq, Eq)]
+pub struct ReadReply {
+    /// The reply.
+    pub sent: SentReply,
+    /// The number of the binding for whose name there was no memory, where there was none.
+    pub unnamed: Option<usize>,
 }

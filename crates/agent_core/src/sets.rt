@@ -1,5 +1,5 @@
-//! Answers a Set that is let in to a view (RFC 3416, 4.2.5).
-ghost use Rattle.std.specs.Prelude.{◌≡◌, ◌≤◌, ◌<◌, ◌^◌, [], true, not, IfOk, IfSome, OnErr, unwrap_or, length, map, pos};
+//! Answers a Set that is authorized for a view (RFC 3416, 4.2.5).
+ghost use Rattle.std.specs.Prelude.{◌≡◌, ◌≤◌, ◌<◌, ◌^◌, [], true, not, None, IfOk, IfSome, OnErr, unwrap_or, length, map, pos};
 ghost use Rattle.message_core.specs.Encodable.{AreEncodable};
 ghost use Rattle.message_core.specs.declared.limits.TheConstants.{MAX_COMMUNITY};
 ghost use Rattle.vacm_core.specs.Families.{NamesFamilyOf};
@@ -9,7 +9,7 @@ ghost use Rattle.setphase_core.specs.Outcomes.{refusal_in, notes_in, changed_in,
 ghost use Rattle.setphase_core.specs.Settings.{same_settings};
 ghost use Rattle.setphase_core.specs.Calls.{FollowPlans};
 ghost use Rattle.agent_core.specs.Sets.{greatest_index, set_step, set_calls, settled, settled_bpdus, IsDenied, TakesInSet, IsToldOf, MayFailInSet};
-ghost use Rattle.agent_core.specs.Answers.{IsDone, notes_told, writing_step};
+ghost use Rattle.agent_core.specs.Answers.{IsDone, notes_told, unnamed_told, writing_step};
 
 use crate::answered::Answered;
 use crate::buffer::Buffer;
@@ -24,7 +24,7 @@ use setting_keys::SettingKeys;
 use std::alloc::{AllocError, Global};
 use vacm_core::{Name, Vacm};
 
-// What is told of a Set, and which commit failed.
+// What is reported of a Set, and which commit failed.
 #[derive(Drop)]
 struct SetTold {
     status: ErrorStatus,
@@ -34,7 +34,7 @@ struct SetTold {
     unrestored: SettingKeys,
 }
 
-// What is told of a Set that no variable of the request is denied in.
+// What is reported of a Set of which no variable is denied.
 fn plain_answer(
     alloc: Global,
     status: ErrorStatus,
@@ -59,7 +59,7 @@ fn plain_answer(
     }
 }
 
-// What is told of a Set that is refused.
+// What is reported of a Set that is refused.
 fn refusal_answer(alloc: Global, vacm: &Vacm, refusal: Refusal) -> Result<SetTold, AllocError>
     requires index { refusal.index ≤ greatest_index }
     requires family { IfSome refusal.family (λ answer. NamesFamilyOf vacm.now.families answer) }
@@ -77,7 +77,7 @@ fn refusal_answer(alloc: Global, vacm: &Vacm, refusal: Refusal) -> Result<SetTol
     })
 }
 
-// What is told of a Set that ended so. Only memory can fail, and only where a variable is denied.
+// What is reported of a Set that ended so. Only memory can fail, and only where a variable is denied.
 fn set_answer(alloc: Global, vacm: &Vacm, outcome: SetOutcome) -> Result<SetTold, AllocError>
     requires refused { IfSome (refusal_in outcome) (λ refusal. refusal.index ≤ greatest_index) }
     requires failed { IfSome (notes_in outcome).commit (λ number. number ≤ greatest_index) }
@@ -181,7 +181,7 @@ fn told(
     )
 }
 
-/// Answers a Set that this row lets in to this view: tested, committed whole or not at all but for
+/// Answers a Set that this row authorizes for this view: tested, committed whole or not at all but for
 /// what could not be undone, and settled once where a setting differs from before.
 ///
 /// # Errors
@@ -208,6 +208,7 @@ pub(crate) fn answer_set<O: MibObject>(
     ensures done { IfOk result (λ told. IsDone (writing_step request.now row view
         (set_step registry.old world.old view request.now (notes_told told)))
         told buffer.new world.new registry.new) }
+    ensures named { IfOk result (λ told. unnamed_told told ≡ None) }
     ensures takes { OnErr result (TakesInSet (rows_of registry.old) world.old view request.now) }
     ensures empty { OnErr result (buffer.new.reply ≡ []) }
     ensures unsent { OnErr result (buffer.new.bpdus ≡ []) }

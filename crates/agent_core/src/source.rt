@@ -1,5 +1,6 @@
 //! What a walk and a request are answered from, and what a view shows, as traits.
-ghost use Rattle.std.specs.Prelude.{◌≡◌, ◌+◌, IfOk, IfSome};
+ghost use Rattle.std.specs.Prelude.{◌≡◌, ◌+◌, ◌<◌, IfOk, IfSome, OnErr, length};
+ghost use Rattle.oid_core.specs.declared.limits.TheConstants.{INLINE_NUMBERS};
 ghost use Rattle.setphase_core.specs.Walking.{first_place};
 
 use message_core::Value;
@@ -118,10 +119,12 @@ pub trait Successors<L: Ledger>: View {
         ensures stands { IsTrue result → stands self.now stand.new (at self.now spot.new).name }
         ensures work { steps.new ≡ steps.old + 1 };
 
-    /// The name of the instance at a spot. Only memory can fail.
+    /// The name of the instance at a spot. Only memory can fail, and only for a name above
+    /// `INLINE_NUMBERS`, 24, numbers.
     fn name(&self, alloc: Global, spot: &Spot) -> Result<Oid, AllocError>
         requires { is_there self.now spot.now }
-        ensures { IfOk result (λ name. name ≡ (at self.now spot.now).name) };
+        ensures name { IfOk result (λ name. name ≡ (at self.now spot.now).name) }
+        ensures long { OnErr result (INLINE_NUMBERS < length (at self.now spot.now).name) };
 
     /// Its value. It takes no memory.
     fn value(&self, alloc: Global, spot: &Spot) -> Value

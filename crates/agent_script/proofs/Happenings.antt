@@ -16,7 +16,7 @@ use Rattle.history_core.specs.declared.entry.Entry.{Entry}
 use Rattle.history_core.specs.declared.event.Event.{Event}
 use Rattle.history_core.specs.declared.limits.TheConstants.{MAX_ENTRIES}
 use Rattle.history_core.specs.declared.receipt.Receipt.{Receipt}
-use Rattle.agent_script.specs.Events.{Met, entered, short, is_full, each_met, AreMet, after_event, after_events}
+use Rattle.agent_script.specs.Events.{Met, had_memory, entered, short, is_full, each_met, AreMet, after_event, after_events}
 use Rattle.agent_script.specs.Outputs.{receipt_text, bpdu_lines, drop_text, dropped_name, told_audit, short_text, step_text, event_text, events_text}
 use Rattle.agent_script.specs.Sessions.{SaysOfEvents}
 use Rattle.agent_script.specs.State.{Agent}
@@ -35,9 +35,9 @@ with_history a h = record a { history = h }
 
 -- ---- one event
 
--- whether there was room for the learned row of the last entry
+-- whether the last entry's event found all memory
 abbrev pub HadRoom : List Entry → Bool → Type 0
-HadRoom entries room = (before : List Entry) (last : Entry) → entries ≡ before ++ last ∷ [] → room ≡ not last.no_room
+HadRoom entries room = (before : List Entry) (last : Entry) → entries ≡ before ++ last ∷ [] → room ≡ had_memory last.no_room last.unnamed
 
 module _ (a : Agent) (e : Event) (receipt : Receipt) (audit : Option Audit) (later : History) (b : Buffered) (p : IsEntered a.history e receipt audit later b) where
   abbrev step : Step
@@ -58,7 +58,7 @@ module _ (a : Agent) (e : Event) (receipt : Receipt) (audit : Option Audit) (lat
         ∙ sym (append-nil (event_text a.is_auditing a.history e (entered p.notes)));
     after = ap (λ (h : History). with_history a h) p.after_is;
     whole_is = had (history_before_entry a.history).entries (next_entry (history_before_entry a.history) e p.notes) (ap (λ (h : History). h.entries) p.after_is)
-        ∙ sym (and_true (not p.notes.no_room));
+        ∙ sym (and_true (had_memory p.notes.no_room p.notes.unnamed));
   }
 
   done_says : (said : List ℕ) (room : Bool) → cause_of a.history.world e ≡ None

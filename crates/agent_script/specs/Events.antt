@@ -1,5 +1,5 @@
 -- What an event of a script may meet, and what it makes of the history that is kept.
-use Rattle.std.specs.Prelude.{◌≡◌, ◌⊎◌, Bool, false, not, length, List, [], ◌∷◌, map}
+use Rattle.std.specs.Prelude.{◌≡◌, ◌⊎◌, ◌&&◌, ℕ, Bool, false, not, length, List, [], ◌∷◌, map, Option, is_none}
 use Rattle.setphase_core.specs.Calls.{FollowPlans}
 use Rattle.setphase_core.specs.Registry.{rows_of}
 use Rattle.history_core.specs.History.{History, after}
@@ -28,9 +28,13 @@ abbrev pub after_event : History → Event → Met → History
 after_event h e (entered notes) = after h e notes
 after_event h e short = h
 
+-- There was memory for the learned row of a frame's source and for each name that was made.
+abbrev pub had_memory : Bool → Option ℕ → Bool
+had_memory no_room unnamed = not no_room && is_none unnamed
+
 -- nothing was given up for want of memory
 abbrev pub is_full : Met → Bool
-is_full (entered notes) = not notes.no_room
+is_full (entered notes) = had_memory notes.no_room notes.unnamed
 is_full short = false
 
 -- an event, and what it met

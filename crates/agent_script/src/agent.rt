@@ -9,6 +9,7 @@ ghost use Rattle.agent_script.specs.State.{Agent as State, agent_over};
 ghost use Rattle.agent_script.specs.Notes.{MayMeetDatagram, MayMeetFrame, MayMeetCommand, MayMeetEnd, MayMeetPolicyLine, MayGiveUpCommand, MayGiveUpPolicyLine, MayGiveUp, IsOut, lacks_memory};
 ghost use Rattle.history_core.specs.declared.entry.Entry.{Entry};
 ghost use Rattle.agent_script.specs.Actions.{datagram_action, frame_action, command_action, end_action, policy_action};
+ghost use Rattle.agent_script.specs.Events.{had_memory};
 ghost use Rattle.agent_script.specs.Sessions.{Says, SaysOfLine, SaysOfEvents};
 ghost use Rattle.agent_script.specs.Script.{end_text, after_end};
 
@@ -300,13 +301,14 @@ fn keep_line(lines: &mut Vec<u8>, line: &[u8]) -> Result<(), AllocError>
     Ok(())
 }
 
-// Whether there was room for the learned row of the event that was entered last.
+// Whether the event that was entered last found memory for the learned row of a frame's source, and
+// for each name that was made.
 fn has_room(entries: &[Entry]) -> bool
     ensures { (before : List Entry) (last : Entry) → entries.now ≡ before ++ last ∷ [] →
-        result ≡ not last.no_room }
+        result ≡ had_memory last.no_room last.unnamed }
 {
     match entries.last() {
-        Some(entry) => !entry.no_room,
+        Some(entry) => !entry.no_room && entry.unnamed.is_none(),
         None => true,
     }
 }

@@ -9,7 +9,7 @@ use Rattle.setphase_core.specs.declared.world.World.{World}
 use Rattle.setphase_core.specs.Objects.{ObjectState}
 use Rattle.agent_core.specs.Buffered.{Buffered}
 use Rattle.history_core.specs.Receipts.{told_of}
-use Rattle.history_core.specs.Steps.{Notes, step_of, has_port, silent_step, framed_step, bridge_step, cause_in, cause_of}
+use Rattle.history_core.specs.Steps.{Notes, request_notes, step_of, has_port, silent_step, framed_step, bridge_step, cause_in, cause_of}
 use Rattle.history_core.specs.History.{History, undos_in, next_of, IsHistory, next_step, after, next_receipt, IsEntered, Applies, last_number}
 use Rattle.history_core.specs.Happening.{notes_in, Happens}
 use Rattle.history_core.specs.Keeping.{entry_of, receipt_of, Enters, applied_by, applied_because}
@@ -39,7 +39,7 @@ pub left-ok : (h : History) (e : Event) (x : Happened) (next : ℕ) (new : Optio
     × IsHistory (entered h e (notes_in x) entries base base_number world objects)
 left-ok h e x next new entry entries base base_number world objects b ok number fits is happens made moves =
     entered-ok h e (notes_in x) next new entry entries base base_number world objects ok (may_be h e x objects world b happens) number fits is moves
-    (made ∙ (λ i. record { event = e; no_room = x.no_room; failed = x.failed; egress = happens.egress i; reply = happens.reply i; audit = happens.audit i }))
+    (made ∙ (λ i. record { event = e; no_room = x.no_room; failed = x.failed; unnamed = x.unnamed; egress = happens.egress i; reply = happens.reply i; audit = happens.audit i }))
     happens.world happens.objects_after
 
 -- ---- why a request is dropped
@@ -66,7 +66,7 @@ cause_told os w event.Tick n a e = cc
 cause_told os w (event.Link port up) n a e = cc (e ∙ no_link_audit os w port up (has_port w.bridge port))
 cause_told os w (event.Policy tables) n a e = cc
 cause_told os w (event.Request r) n a e =
-    sym (ap (λ (x : Audit). cause_in x.decision) (same_some a _ e) ∙ ap cause_in (audit_decided os w r n.devices))
+    sym (ap (λ (x : Audit). cause_in x.decision) (same_some a _ e) ∙ ap cause_in (audit_decided os w r (request_notes n)))
 
 no_cause_told : (os : List ObjectState) (w : World) (e : Event) (n : Notes) → None ≡ (step_of os w e n).audit → cause_of w e ≡ None
 unfolding step_of

@@ -30,7 +30,7 @@ pub record MayBe (h : History) (e : Event) (n : Notes) : Type 0 where
   pub undos : undos_in (next_step h e n).audit ≡ n.devices.undos
 
 noted : (h : History) (e : Event) (n : Notes) → MayBe h e n → notes_of (next_entry h e n) ≡ n
-noted h e n m = λ i. record { no_room = n.no_room; devices = record { commit = n.devices.commit; undos = m.undos i } }
+noted h e n m = λ i. record { no_room = n.no_room; devices = record { commit = n.devices.commit; undos = m.undos i }; unnamed = n.unnamed }
 
 -- what the entry's own notes make of the world, over resting objects, is the step
 entry_steps : (h : History) (e : Event) (n : Notes) → MayBe h e n
@@ -173,6 +173,7 @@ entry_same rows w a b is other e =
       event = (e i).event;
       no_room = (e i).notes.no_room;
       failed = (e i).notes.devices.commit;
+      unnamed = (e i).notes.unnamed;
       egress = egress i;
       reply = reply i;
       audit = audit i;

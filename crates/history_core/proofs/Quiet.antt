@@ -81,7 +81,7 @@ pub no_frame_happens : (os : List ObjectState) (w : World) (port : ℕ) (f : Fra
 unfolding step_of
 no_frame_happens os w port f b h is there bpdus none =
     subst (λ (x : Happened). Happens os w (event.Frame port f) x os w b) (sym is)
-    (silent os w w (event.Frame port f) quiet b refl refl refl refl (refl, λ no_room. cc)
+    (silent os w w (event.Frame port f) quiet b refl refl refl refl (refl, refl, λ no_room. cc)
     (rw there refl) (rw there refl) (rw there refl) (rw there refl) (rw there refl) (rw there bpdus) none refl)
 
 pub frame_happens : (os : List ObjectState) (w : World) (port : ℕ) (f : FrameIn) (no_room : Bool) (egress : List ℕ) (bridge : BridgeState) (b : Buffered) (q : Happened)
@@ -93,5 +93,5 @@ unfolding step_of
 frame_happens os w port f no_room egress bridge b q is there after goes bpdus none note =
     subst (λ (x : Happened). Happens os w (event.Frame port f) (record x { no_room = no_room; egress = egress }) os (record w { bridge = bridge }) b) (sym is)
     (silent os w (record w { bridge = bridge }) (event.Frame port f) (record quiet { no_room = no_room; egress = egress }) b refl refl refl refl
-    (refl, λ lacks. record { port_is_there = there; lacks = note lacks })
+    (refl, refl, λ lacks. record { port_is_there = there; lacks = note lacks })
     (rw there (ap (λ (x : BridgeState). record w { bridge = x }) after)) (rw there refl) (rw there goes) (rw there refl) (rw there refl) (rw there bpdus) none refl)

@@ -18,7 +18,7 @@ use Rattle.setphase_core.specs.Outcomes.{SetNotes}
 use Rattle.agent_core.specs.Buffered.{Buffered}
 use Rattle.agent_core.specs.Sets.{no_notes}
 use Rattle.agent_core.specs.Answers as answers
-use Rattle.agent_core.specs.Answers.{Outcome, dropped, replied, audit_in, Shown, shown_of, outcome_of, outcome_by, reading_step, allowed_step, step_by, IsAnswered, IsTold, IsShort, MayFailInView, MayFailBy, MayHave, without_answer, notes_told}
+use Rattle.agent_core.specs.Answers.{Outcome, dropped, replied, audit_in, RequestNotes, nothing_met, met_by, unnamed_told, MayLackName, unnamed_outcome, unnamed_outcome_by, Shown, shown_of, outcome_of, outcome_by, reading_step, allowed_step, step_by, IsAnswered, IsTold, IsShort, MayFailInView, MayFailBy, MayHave, without_answer, notes_told}
 use Rattle.agent_core.specs.declared.answered.Answered.{Answered}
 use Rattle.agent_core.specs.declared.answered.Answered.TheVariants as answered
 use Rattle.history_core.specs.Steps.{Notes, step_of, octets_in, AreAtRest}
@@ -41,6 +41,7 @@ some_audit a b e = ap (λ (x : Audit). Some x) e
 
 comes_of : (o : Outcome) (told : Answered) (b : Buffered) → IsAnswered o told b → ComesOf o (happened_by told b.reply) b
 comes_of (dropped cause own) (answered.Reply len audit failed) b h = absurd h
+comes_of (dropped cause own) (answered.Unnamed len audit i) b h = absurd h
 comes_of (dropped cause own) (answered.NoReply audit) b h =
     let same = some_audit audit own h.1 in
     record { egress = refl; reply = refl; same_reply = refl; sent = h.0; audit = same; same_audit = same }
@@ -48,12 +49,18 @@ comes_of (replied reply own) (answered.Reply len audit failed) b h =
     let octets = ap (λ (x : List ℕ). Some x) h.0 in
     let same = some_audit audit own h.2 in
     record { egress = refl; reply = octets; same_reply = octets; sent = h.0; audit = same; same_audit = same }
+comes_of (replied reply own) (answered.Unnamed len audit i) b h =
+    let octets = ap (λ (x : List ℕ). Some x) h.0 in
+    let same = some_audit audit own h.2 in
+    record { egress = refl; reply = octets; same_reply = octets; sent = h.0; audit = same; same_audit = same }
 comes_of (replied reply own) (answered.NoReply audit) b h = absurd h
 
 audit_is : (o : Outcome) (told : Answered) (b : Buffered) → IsAnswered o told b → audit_told told ≡ audit_in o
 audit_is (dropped cause own) (answered.Reply len audit failed) b h = absurd h
+audit_is (dropped cause own) (answered.Unnamed len audit i) b h = absurd h
 audit_is (dropped cause own) (answered.NoReply audit) b h = h.1
 audit_is (replied reply own) (answered.Reply len audit failed) b h = h.2
+audit_is (replied reply own) (answered.Unnamed len audit i) b h = h.2
 audit_is (replied reply own) (answered.NoReply audit) b h = absurd h
 
 -- ---- a request that is dropped undoes nothing
@@ -65,26 +72,34 @@ reading_undoes_none shown r Empty audit b h = absurd h
 reading_undoes_none shown r (Refused why) audit b h = absurd h
 reading_undoes_none shown r (Allowed row view) audit b h = absurd h
 
-reads_undo_none : (os : List ObjectState) (w : World) (r : Request) (audit : Audit) (b : Buffered)
-    → IsAnswered (reading_step os w r).outcome (answered.NoReply audit) b → audit.unrestored ≡ []
-unfolding outcome_of
-reads_undo_none os w r audit b h = reading_undoes_none (shown_of (rows_of os) w) r (decision_on w.policy r) audit b h
+unnamed_undoes_none : (shown : Shown) (r : Request) (i : ℕ) (d : Decision) (audit : Audit) (b : Buffered)
+    → IsAnswered (unnamed_outcome_by shown r i d) (answered.NoReply audit) b → audit.unrestored ≡ []
+unnamed_undoes_none shown r i (Drop cause) audit b h = ap (λ (a : Audit). a.unrestored) h.1
+unnamed_undoes_none shown r i Empty audit b h = absurd h
+unnamed_undoes_none shown r i (Refused why) audit b h = absurd h
+unnamed_undoes_none shown r i (Allowed row view) audit b h = absurd h
 
-allowed_undo_none : (os : List ObjectState) (w : World) (r : Request) (n : SetNotes) (row : AccessKey) (view : List ℕ) (kind : Kind) (audit : Audit) (b : Buffered)
+reads_undo_none : (os : List ObjectState) (w : World) (r : Request) (u : Option ℕ) (audit : Audit) (b : Buffered)
+    → IsAnswered (reading_step os w r u).outcome (answered.NoReply audit) b → audit.unrestored ≡ []
+unfolding outcome_of unnamed_outcome
+reads_undo_none os w r None audit b h = reading_undoes_none (shown_of (rows_of os) w) r (decision_on w.policy r) audit b h
+reads_undo_none os w r (Some i) audit b h = unnamed_undoes_none (shown_of (rows_of os) w) r i (decision_on w.policy r) audit b h
+
+allowed_undo_none : (os : List ObjectState) (w : World) (r : Request) (n : RequestNotes) (row : AccessKey) (view : List ℕ) (kind : Kind) (audit : Audit) (b : Buffered)
     → IsAnswered (allowed_step os w r n row view kind).outcome (answered.NoReply audit) b → audit.unrestored ≡ []
-allowed_undo_none os w r n row view Get audit b h = reads_undo_none os w r audit b h
-allowed_undo_none os w r n row view GetNext audit b h = reads_undo_none os w r audit b h
-allowed_undo_none os w r n row view GetBulk audit b h = reads_undo_none os w r audit b h
+allowed_undo_none os w r n row view Get audit b h = reads_undo_none os w r n.unnamed audit b h
+allowed_undo_none os w r n row view GetNext audit b h = reads_undo_none os w r n.unnamed audit b h
+allowed_undo_none os w r n row view GetBulk audit b h = reads_undo_none os w r n.unnamed audit b h
 allowed_undo_none os w r n row view Set audit b h = absurd h
 
-undo_none_by : (os : List ObjectState) (w : World) (r : Request) (n : SetNotes) (d : Decision) (audit : Audit) (b : Buffered)
+undo_none_by : (os : List ObjectState) (w : World) (r : Request) (n : RequestNotes) (d : Decision) (audit : Audit) (b : Buffered)
     → IsAnswered (step_by os w r n d).outcome (answered.NoReply audit) b → audit.unrestored ≡ []
-undo_none_by os w r n (Drop cause) audit b h = reads_undo_none os w r audit b h
-undo_none_by os w r n Empty audit b h = reads_undo_none os w r audit b h
-undo_none_by os w r n (Refused why) audit b h = reads_undo_none os w r audit b h
+undo_none_by os w r n (Drop cause) audit b h = reads_undo_none os w r None audit b h
+undo_none_by os w r n Empty audit b h = reads_undo_none os w r None audit b h
+undo_none_by os w r n (Refused why) audit b h = reads_undo_none os w r None audit b h
 undo_none_by os w r n (Allowed row view) audit b h = allowed_undo_none os w r n row view r.kind audit b h
 
-undo_none : (os : List ObjectState) (w : World) (r : Request) (n : SetNotes) (audit : Audit) (b : Buffered)
+undo_none : (os : List ObjectState) (w : World) (r : Request) (n : RequestNotes) (audit : Audit) (b : Buffered)
     → IsAnswered (answers.step_of os w r n).outcome (answered.NoReply audit) b → audit.unrestored ≡ []
 unfolding answers.step_of
 undo_none os w r n audit b h = undo_none_by os w r n (decision_on w.policy r) audit b h
@@ -98,21 +113,50 @@ in_view_meets_none rows w view r n GetNext reads may = may
 in_view_meets_none rows w view r n GetBulk reads may = may
 in_view_meets_none rows w view r n Set reads may = absurd (reads refl)
 
-meets_none_by : (rows : List ObjectRow) (w : World) (r : Request) (n : SetNotes) (d : Decision) → r.kind ≢ Set → MayFailBy rows w r n d → n ≡ no_notes
-meets_none_by rows w r n (Drop cause) reads may = may
-meets_none_by rows w r n Empty reads may = may
-meets_none_by rows w r n (Refused why) reads may = may
-meets_none_by rows w r n (Allowed row view) reads may = in_view_meets_none rows w view r n r.kind reads may
+meets_none_by : (rows : List ObjectRow) (w : World) (r : Request) (n : RequestNotes) (d : Decision) → r.kind ≢ Set → MayFailBy rows w r n d → n.devices ≡ no_notes
+meets_none_by rows w r n (Drop cause) reads may = ap (λ (x : RequestNotes). x.devices) may
+meets_none_by rows w r n Empty reads may = ap (λ (x : RequestNotes). x.devices) may
+meets_none_by rows w r n (Refused why) reads may = ap (λ (x : RequestNotes). x.devices) may
+meets_none_by rows w r n (Allowed row view) reads may = in_view_meets_none rows w view r n.devices r.kind reads may.devices
 
-meets_none : (rows : List ObjectRow) (w : World) (r : Request) (n : SetNotes) → r.kind ≢ Set → MayHave rows w r n → n ≡ no_notes
+meets_none : (rows : List ObjectRow) (w : World) (r : Request) (n : RequestNotes) → r.kind ≢ Set → MayHave rows w r n → n.devices ≡ no_notes
 unfolding MayHave
 meets_none rows w r n reads may = meets_none_by rows w r n (decision_on w.policy r) reads may
 
+-- Where there was no memory for a name, the request reads, and undoes nothing.
+unnamed_in_view : (os : List ObjectState) (w : World) (r : Request) (row : AccessKey) (view : List ℕ) (kind : Kind) (audit : Audit) (len i : ℕ) (b : Buffered)
+    → decision_on w.policy r ≡ Allowed row view → MayLackName (rows_of os) w view r kind (Some i)
+    → IsAnswered (allowed_step os w r (met_by (answered.Unnamed len audit i)) row view kind).outcome (answered.Unnamed len audit i) b → audit.unrestored ≡ []
+unfolding unnamed_outcome
+unnamed_in_view os w r row view Get audit len i b d may h = absurd may
+unnamed_in_view os w r row view GetNext audit len i b d may h =
+    let here = subst (λ (x : Decision). IsAnswered (unnamed_outcome_by (shown_of (rows_of os) w) r i x) (answered.Unnamed len audit i) b) d h in
+    ap (λ (a : Audit). a.unrestored) here.2
+unnamed_in_view os w r row view GetBulk audit len i b d may h =
+    let here = subst (λ (x : Decision). IsAnswered (unnamed_outcome_by (shown_of (rows_of os) w) r i x) (answered.Unnamed len audit i) b) d h in
+    ap (λ (a : Audit). a.unrestored) here.2
+unnamed_in_view os w r row view Set audit len i b d may h = absurd may
+
+unnamed_by : (os : List ObjectState) (w : World) (r : Request) (d : Decision) (audit : Audit) (len i : ℕ) (b : Buffered)
+    → decision_on w.policy r ≡ d → MayFailBy (rows_of os) w r (met_by (answered.Unnamed len audit i)) d
+    → IsAnswered (step_by os w r (met_by (answered.Unnamed len audit i)) d).outcome (answered.Unnamed len audit i) b → audit.unrestored ≡ []
+unnamed_by os w r (Drop cause) audit len i b d may h = absurd (cc (ap (λ (n : RequestNotes). n.unnamed) may))
+unnamed_by os w r Empty audit len i b d may h = absurd (cc (ap (λ (n : RequestNotes). n.unnamed) may))
+unnamed_by os w r (Refused why) audit len i b d may h = absurd (cc (ap (λ (n : RequestNotes). n.unnamed) may))
+unnamed_by os w r (Allowed row view) audit len i b d may h = unnamed_in_view os w r row view r.kind audit len i b d may.unnamed h
+
+pub unnamed_is_read : (os : List ObjectState) (w : World) (r : Request) (audit : Audit) (len i : ℕ) (b : Buffered)
+    → MayHave (rows_of os) w r (met_by (answered.Unnamed len audit i))
+    → IsAnswered (answers.step_of os w r (met_by (answered.Unnamed len audit i))).outcome (answered.Unnamed len audit i) b → audit.unrestored ≡ []
+unfolding answers.step_of MayHave
+unnamed_is_read os w r audit len i b may h = unnamed_by os w r (decision_on w.policy r) audit len i b refl may h
+
 told_undoes_none : (os : List ObjectState) (w : World) (r : Request) (told : Answered) (b : Buffered)
-    → notes_told told ≡ no_notes → IsAnswered (answers.step_of os w r (notes_told told)).outcome told b
+    → notes_told told ≡ no_notes → MayHave (rows_of os) w r (met_by told) → IsAnswered (answers.step_of os w r (met_by told)).outcome told b
     → (audit_told told).unrestored ≡ []
-told_undoes_none os w r (answered.Reply len audit failed) b none h = ap (λ (n : SetNotes). n.undos) none
-told_undoes_none os w r (answered.NoReply audit) b none h = undo_none os w r no_notes audit b h
+told_undoes_none os w r (answered.Reply len audit failed) b none may h = ap (λ (n : SetNotes). n.undos) none
+told_undoes_none os w r (answered.Unnamed len audit i) b none may h = unnamed_is_read os w r audit len i b may h
+told_undoes_none os w r (answered.NoReply audit) b none may h = undo_none os w r nothing_met audit b h
 
 abbrev IsSet : Kind → Type 0
 IsSet Get = ⊥
@@ -130,12 +174,12 @@ room_by Set room given other = given refl
 pub undone_has_room : (os : List ObjectState) (w : World) (r : Request) (told : Answered) (b : Buffered) (later : World) (os_later : List ObjectState) (room : Bool)
     → IsTold os w r told b later os_later → (r.kind ≡ Set → room ≡ true) → (audit_told told).unrestored ≢ [] → room ≡ true
 undone_has_room os w r told b later os_later room h given some =
-    room_by r.kind room given (λ reads. some (told_undoes_none os w r told b (meets_none (rows_of os) w r (notes_told told) reads h.may) h.done.answer))
+    room_by r.kind room given (λ reads. some (told_undoes_none os w r told b (meets_none (rows_of os) w r (met_by told) reads h.may) h.may h.done.answer))
 
 -- ---- what an answered request came to
 
 abbrev pub notes_by : Answered → Notes
-notes_by told = record { no_room = false; devices = notes_told told }
+notes_by told = record { no_room = false; devices = notes_told told; unnamed = unnamed_told told }
 
 told_happens_by : (os : List ObjectState) (w : World) (r : Request) (told : Answered) (b : Buffered) (later : World) (os_later : List ObjectState)
     → IsTold os w r told b later os_later
@@ -159,19 +203,22 @@ told_happens_by os w r told b later os_later h =
 
 -- what is noted of it is what was told
 same_notes : (os : List ObjectState) (w : World) (r : Request) (told : Answered) (b : Buffered)
-    → IsAnswered (answers.step_of os w r (notes_told told)).outcome told b
+    → MayHave (rows_of os) w r (met_by told) → IsAnswered (answers.step_of os w r (met_by told)).outcome told b
     → notes_by told ≡ notes_in (happened_by told b.reply)
-same_notes os w r (answered.Reply len audit failed) b h = refl
-same_notes os w r (answered.NoReply audit) b h =
-    let none = undo_none os w r no_notes audit b h in
-    λ i. record { no_room = false; devices = record { commit = None; undos = sym none i } }
+same_notes os w r (answered.Reply len audit failed) b may h = refl
+same_notes os w r (answered.Unnamed len audit number) b may h =
+    let none = unnamed_is_read os w r audit len number b may h in
+    λ i. record { no_room = false; devices = record { commit = None; undos = sym none i }; unnamed = Some number }
+same_notes os w r (answered.NoReply audit) b may h =
+    let none = undo_none os w r nothing_met audit b h in
+    λ i. record { no_room = false; devices = record { commit = None; undos = sym none i }; unnamed = None }
 
 -- An answered request is its step.
 pub told_happens : (os : List ObjectState) (w : World) (r : Request) (told : Answered) (b : Buffered) (later : World) (os_later : List ObjectState)
     → IsTold os w r told b later os_later → Happens os w (event.Request r) (happened_by told b.reply) os_later later b
 told_happens os w r told b later os_later h =
     subst (λ (n : Notes). HappensBy os w (event.Request r) n (happened_by told b.reply) os_later later b)
-    (same_notes os w r told b h.done.answer) (told_happens_by os w r told b later os_later h)
+    (same_notes os w r told b h.may h.done.answer) (told_happens_by os w r told b later os_later h)
 
 -- ---- where there was no memory nothing has changed
 

@@ -23,9 +23,9 @@ use Rattle.setphase_core.proofs.Kept.{rows_of-after}
 use Rattle.bridge_core.specs.Events.{frame_result, link_of, after_link}
 use Rattle.agent_core.specs.Sets.{SetStep, SetAnswer, answer_of_failure, answer_of_notes, is_too_long, set_answer, set_reply, set_step, settled_world, settling_bpdus, untested_step, tested_step, MayFail, MayFailWhere, MayFailInSet}
 use Rattle.agent_core.specs.Answers as answers
-use Rattle.agent_core.specs.Answers.{Outcome, dropped, replied, audit_in, Shown, shown_of, outcome_of, outcome_by, world_by, world_after, reading_step, writing_step, allowed_step, step_by, MayHave, MayFailBy, MayFailInView}
+use Rattle.agent_core.specs.Answers.{Outcome, dropped, replied, audit_in, RequestNotes, Shown, shown_of, outcome_of, outcome_by, noted_outcome, unnamed_outcome, unnamed_outcome_by, world_by, world_after, reading_step, writing_step, allowed_step, step_by, MayHave, MayFailBy, MayFailInView}
 use Rattle.agent_core.proofs.Changed.{unsettled}
-use Rattle.history_core.specs.Steps.{Notes, Step, step_of, octets_in, has_port, silent_step, framed_step, bridge_step, request_step, AreAtRest}
+use Rattle.history_core.specs.Steps.{Notes, request_notes, Step, step_of, octets_in, has_port, silent_step, framed_step, bridge_step, request_step, AreAtRest}
 use Rattle.history_core.specs.History.{resting}
 use Rattle.history_core.specs.declared.event.Event.{Event}
 use Rattle.history_core.specs.declared.event.Event.TheVariants as event
@@ -76,10 +76,10 @@ set_over : (a b : List ObjectState) (w : World) (view : List ℕ) (r : Request) 
 unfolding set_step
 set_over a b w view r n e = set_over_by a b w view r n (is_too_long r) e
 
-reading_over : (a b : List ObjectState) (w : World) (r : Request) → rows_of a ≡ rows_of b
-    → SameAnswer (reading_step a w r) (reading_step b w r)
-reading_over a b w r e = record {
-  outcome = ap (λ (rows : List ObjectRow). outcome_of (shown_of rows w) r) e;
+reading_over : (a b : List ObjectState) (w : World) (r : Request) (u : Option ℕ) → rows_of a ≡ rows_of b
+    → SameAnswer (reading_step a w r u) (reading_step b w r u)
+reading_over a b w r u e = record {
+  outcome = ap (λ (rows : List ObjectRow). noted_outcome (shown_of rows w) r u) e;
   world = refl;
   bpdus = refl;
 }
@@ -92,22 +92,22 @@ writing_over a b r row view s = record {
   bpdus = s.bpdus;
 }
 
-allowed_over : (a b : List ObjectState) (w : World) (r : Request) (n : SetNotes) (row : AccessKey) (view : List ℕ) (kind : Kind)
+allowed_over : (a b : List ObjectState) (w : World) (r : Request) (n : RequestNotes) (row : AccessKey) (view : List ℕ) (kind : Kind)
     → rows_of a ≡ rows_of b → SameAnswer (allowed_step a w r n row view kind) (allowed_step b w r n row view kind)
-allowed_over a b w r n row view Get e = reading_over a b w r e
-allowed_over a b w r n row view GetNext e = reading_over a b w r e
-allowed_over a b w r n row view GetBulk e = reading_over a b w r e
+allowed_over a b w r n row view Get e = reading_over a b w r n.unnamed e
+allowed_over a b w r n row view GetNext e = reading_over a b w r n.unnamed e
+allowed_over a b w r n row view GetBulk e = reading_over a b w r n.unnamed e
 allowed_over a b w r n row view Set e =
-    writing_over (set_step a w view r n) (set_step b w view r n) r row view (set_over a b w view r n e)
+    writing_over (set_step a w view r n.devices) (set_step b w view r n.devices) r row view (set_over a b w view r n.devices e)
 
-answer_over_by : (a b : List ObjectState) (w : World) (r : Request) (n : SetNotes) (d : Decision)
+answer_over_by : (a b : List ObjectState) (w : World) (r : Request) (n : RequestNotes) (d : Decision)
     → rows_of a ≡ rows_of b → SameAnswer (step_by a w r n d) (step_by b w r n d)
-answer_over_by a b w r n (Drop cause) e = reading_over a b w r e
-answer_over_by a b w r n Empty e = reading_over a b w r e
-answer_over_by a b w r n (Refused why) e = reading_over a b w r e
+answer_over_by a b w r n (Drop cause) e = reading_over a b w r None e
+answer_over_by a b w r n Empty e = reading_over a b w r None e
+answer_over_by a b w r n (Refused why) e = reading_over a b w r None e
 answer_over_by a b w r n (Allowed row view) e = allowed_over a b w r n row view r.kind e
 
-answer_over : (a b : List ObjectState) (w : World) (r : Request) (n : SetNotes)
+answer_over : (a b : List ObjectState) (w : World) (r : Request) (n : RequestNotes)
     → rows_of a ≡ rows_of b → SameAnswer (answers.step_of a w r n) (answers.step_of b w r n)
 unfolding answers.step_of
 answer_over a b w r n e = answer_over_by a b w r n (decision_on w.policy r) e
@@ -142,7 +142,7 @@ step_over a b w event.Tick n e = record { world = refl; egress = refl; reply = r
 step_over a b w (event.Link port up) n e = link_over a b w port up (has_port w.bridge port)
 step_over a b w (event.Policy tables) n e = record { world = refl; egress = refl; reply = refl; audit = refl; bpdus = refl }
 step_over a b w (event.Request r) n e =
-    request_over (answers.step_of a w r n.devices) (answers.step_of b w r n.devices) (answer_over a b w r n.devices e)
+    request_over (answers.step_of a w r (request_notes n)) (answers.step_of b w r (request_notes n)) (answer_over a b w r (request_notes n) e)
 
 -- the rows of resting objects are those that they are made of
 pub rows_of-resting : (rows : List ObjectRow) → rows_of (resting rows) ≡ rows
@@ -187,21 +187,21 @@ set_rests : (os : List ObjectState) (w : World) (view : List ℕ) (r : Request) 
 unfolding set_step
 set_rests os w view r n h = set_rests_by os w view r n (is_too_long r) h
 
-allowed_rests : (os : List ObjectState) (w : World) (r : Request) (n : SetNotes) (row : AccessKey) (view : List ℕ) (kind : Kind) → AreAtRest os
+allowed_rests : (os : List ObjectState) (w : World) (r : Request) (n : RequestNotes) (row : AccessKey) (view : List ℕ) (kind : Kind) → AreAtRest os
     → Rests os (allowed_step os w r n row view kind).objects
 allowed_rests os w r n row view Get h = kept os h
 allowed_rests os w r n row view GetNext h = kept os h
 allowed_rests os w r n row view GetBulk h = kept os h
-allowed_rests os w r n row view Set h = set_rests os w view r n h
+allowed_rests os w r n row view Set h = set_rests os w view r n.devices h
 
-answer_rests_by : (os : List ObjectState) (w : World) (r : Request) (n : SetNotes) (d : Decision) → AreAtRest os
+answer_rests_by : (os : List ObjectState) (w : World) (r : Request) (n : RequestNotes) (d : Decision) → AreAtRest os
     → Rests os (step_by os w r n d).objects
 answer_rests_by os w r n (Drop cause) h = kept os h
 answer_rests_by os w r n Empty h = kept os h
 answer_rests_by os w r n (Refused why) h = kept os h
 answer_rests_by os w r n (Allowed row view) h = allowed_rests os w r n row view r.kind h
 
-answer_rests : (os : List ObjectState) (w : World) (r : Request) (n : SetNotes) → AreAtRest os
+answer_rests : (os : List ObjectState) (w : World) (r : Request) (n : RequestNotes) → AreAtRest os
     → Rests os (answers.step_of os w r n).objects
 unfolding answers.step_of
 answer_rests os w r n h = answer_rests_by os w r n (decision_on w.policy r) h
@@ -224,7 +224,7 @@ step_rests os w (event.Frame port f) n h = frame_rests os w port f n.no_room (ha
 step_rests os w event.Tick n h = kept os h
 step_rests os w (event.Link port up) n h = link_rests os w port up (has_port w.bridge port) h
 step_rests os w (event.Policy tables) n h = kept os h
-step_rests os w (event.Request r) n h = answer_rests os w r n.devices h
+step_rests os w (event.Request r) n h = answer_rests os w r (request_notes n) h
 
 -- ---- the audit has the decision
 
@@ -234,27 +234,34 @@ outcome_decided shown r Empty = refl
 outcome_decided shown r (Refused why) = refl
 outcome_decided shown r (Allowed row view) = refl
 
-reading_decided : (os : List ObjectState) (w : World) (r : Request)
-    → (audit_in (reading_step os w r).outcome).decision ≡ decision_on w.policy r
-unfolding outcome_of
-reading_decided os w r = outcome_decided (shown_of (rows_of os) w) r (decision_on w.policy r)
+unnamed_decided : (shown : Shown) (r : Request) (i : ℕ) (d : Decision) → (audit_in (unnamed_outcome_by shown r i d)).decision ≡ d
+unnamed_decided shown r i (Drop cause) = refl
+unnamed_decided shown r i Empty = refl
+unnamed_decided shown r i (Refused why) = refl
+unnamed_decided shown r i (Allowed row view) = refl
 
-allowed_decided : (os : List ObjectState) (w : World) (r : Request) (n : SetNotes) (row : AccessKey) (view : List ℕ) (kind : Kind)
+reading_decided : (os : List ObjectState) (w : World) (r : Request) (u : Option ℕ)
+    → (audit_in (reading_step os w r u).outcome).decision ≡ decision_on w.policy r
+unfolding outcome_of unnamed_outcome
+reading_decided os w r None = outcome_decided (shown_of (rows_of os) w) r (decision_on w.policy r)
+reading_decided os w r (Some i) = unnamed_decided (shown_of (rows_of os) w) r i (decision_on w.policy r)
+
+allowed_decided : (os : List ObjectState) (w : World) (r : Request) (n : RequestNotes) (row : AccessKey) (view : List ℕ) (kind : Kind)
     → decision_on w.policy r ≡ Allowed row view
     → (audit_in (allowed_step os w r n row view kind).outcome).decision ≡ decision_on w.policy r
-allowed_decided os w r n row view Get e = reading_decided os w r
-allowed_decided os w r n row view GetNext e = reading_decided os w r
-allowed_decided os w r n row view GetBulk e = reading_decided os w r
+allowed_decided os w r n row view Get e = reading_decided os w r n.unnamed
+allowed_decided os w r n row view GetNext e = reading_decided os w r n.unnamed
+allowed_decided os w r n row view GetBulk e = reading_decided os w r n.unnamed
 allowed_decided os w r n row view Set e = sym e
 
-decided_by : (os : List ObjectState) (w : World) (r : Request) (n : SetNotes) (d : Decision) → decision_on w.policy r ≡ d
+decided_by : (os : List ObjectState) (w : World) (r : Request) (n : RequestNotes) (d : Decision) → decision_on w.policy r ≡ d
     → (audit_in (step_by os w r n d).outcome).decision ≡ decision_on w.policy r
-decided_by os w r n (Drop cause) e = reading_decided os w r
-decided_by os w r n Empty e = reading_decided os w r
-decided_by os w r n (Refused why) e = reading_decided os w r
+decided_by os w r n (Drop cause) e = reading_decided os w r None
+decided_by os w r n Empty e = reading_decided os w r None
+decided_by os w r n (Refused why) e = reading_decided os w r None
 decided_by os w r n (Allowed row view) e = allowed_decided os w r n row view r.kind e
 
-pub audit_decided : (os : List ObjectState) (w : World) (r : Request) (n : SetNotes)
+pub audit_decided : (os : List ObjectState) (w : World) (r : Request) (n : RequestNotes)
     → (audit_in (answers.step_of os w r n).outcome).decision ≡ decision_on w.policy r
 unfolding answers.step_of
 audit_decided os w r n = decided_by os w r n (decision_on w.policy r) refl
@@ -272,10 +279,18 @@ reading_world shown w r Empty h = refl
 reading_world shown w r (Refused why) h = refl
 reading_world shown w r (Allowed row view) h = refl
 
-reading_stays : (os : List ObjectState) (w : World) (r : Request) → ((audit_in (reading_step os w r).outcome).denied ≢ [])
-    → Stays os w (reading_step os w r)
-unfolding outcome_of world_after
-reading_stays os w r h = record { world = reading_world (shown_of (rows_of os) w) w r (decision_on w.policy r) h; objects = refl }
+unnamed_world : (shown : Shown) (w : World) (r : Request) (i : ℕ) (d : Decision)
+    → ((audit_in (unnamed_outcome_by shown r i d)).denied ≢ []) → world_by w d ≡ w
+unnamed_world shown w r i (Drop cause) h = absurd (h refl)
+unnamed_world shown w r i Empty h = refl
+unnamed_world shown w r i (Refused why) h = refl
+unnamed_world shown w r i (Allowed row view) h = refl
+
+reading_stays : (os : List ObjectState) (w : World) (r : Request) (u : Option ℕ) → ((audit_in (reading_step os w r u).outcome).denied ≢ [])
+    → Stays os w (reading_step os w r u)
+unfolding outcome_of unnamed_outcome world_after
+reading_stays os w r None h = record { world = reading_world (shown_of (rows_of os) w) w r (decision_on w.policy r) h; objects = refl }
+reading_stays os w r (Some i) h = record { world = unnamed_world (shown_of (rows_of os) w) w r i (decision_on w.policy r) h; objects = refl }
 
 same_after : (os : List ObjectState) → AreAtRest os → map (object_after_set []) os ≡ os
 same_after [] h = refl
@@ -314,24 +329,24 @@ set_stays : (os : List ObjectState) (w : World) (view : List ℕ) (r : Request) 
 unfolding set_step
 set_stays os w view r n rest may h = set_stays_by os w view r n (is_too_long r) rest may h
 
-allowed_stays : (os : List ObjectState) (w : World) (r : Request) (n : SetNotes) (row : AccessKey) (view : List ℕ) (kind : Kind)
-    → AreAtRest os → MayFailInView (rows_of os) w view r n kind
+allowed_stays : (os : List ObjectState) (w : World) (r : Request) (n : RequestNotes) (row : AccessKey) (view : List ℕ) (kind : Kind)
+    → AreAtRest os → MayFailInView (rows_of os) w view r n.devices kind
     → ((audit_in (allowed_step os w r n row view kind).outcome).denied ≢ []) → Stays os w (allowed_step os w r n row view kind)
-allowed_stays os w r n row view Get rest may h = reading_stays os w r h
-allowed_stays os w r n row view GetNext rest may h = reading_stays os w r h
-allowed_stays os w r n row view GetBulk rest may h = reading_stays os w r h
+allowed_stays os w r n row view Get rest may h = reading_stays os w r n.unnamed h
+allowed_stays os w r n row view GetNext rest may h = reading_stays os w r n.unnamed h
+allowed_stays os w r n row view GetBulk rest may h = reading_stays os w r n.unnamed h
 allowed_stays os w r n row view Set rest may h =
-    let t = set_stays os w view r n rest may h in record { world = t.0; objects = t.1 }
+    let t = set_stays os w view r n.devices rest may h in record { world = t.0; objects = t.1 }
 
-stays_by : (os : List ObjectState) (w : World) (r : Request) (n : SetNotes) (d : Decision)
+stays_by : (os : List ObjectState) (w : World) (r : Request) (n : RequestNotes) (d : Decision)
     → AreAtRest os → MayFailBy (rows_of os) w r n d
     → ((audit_in (step_by os w r n d).outcome).denied ≢ []) → Stays os w (step_by os w r n d)
-stays_by os w r n (Drop cause) rest may h = reading_stays os w r h
-stays_by os w r n Empty rest may h = reading_stays os w r h
-stays_by os w r n (Refused why) rest may h = reading_stays os w r h
-stays_by os w r n (Allowed row view) rest may h = allowed_stays os w r n row view r.kind rest may h
+stays_by os w r n (Drop cause) rest may h = reading_stays os w r None h
+stays_by os w r n Empty rest may h = reading_stays os w r None h
+stays_by os w r n (Refused why) rest may h = reading_stays os w r None h
+stays_by os w r n (Allowed row view) rest may h = allowed_stays os w r n row view r.kind rest may.devices h
 
-pub denied_stays : (os : List ObjectState) (w : World) (r : Request) (n : SetNotes)
+pub denied_stays : (os : List ObjectState) (w : World) (r : Request) (n : RequestNotes)
     → AreAtRest os → MayHave (rows_of os) w r n
     → ((audit_in (answers.step_of os w r n).outcome).denied ≢ []) → Stays os w (answers.step_of os w r n)
 unfolding answers.step_of MayHave
@@ -346,26 +361,34 @@ reading_world_replied shown w r Empty h = refl
 reading_world_replied shown w r (Refused why) h = refl
 reading_world_replied shown w r (Allowed row view) h = refl
 
-reading_replied : (os : List ObjectState) (w : World) (r : Request) → (unwrap_or (octets_in (reading_step os w r).outcome) [] ≢ [])
-    → Stays os w (reading_step os w r)
-unfolding outcome_of world_after
-reading_replied os w r h = record { world = reading_world_replied (shown_of (rows_of os) w) w r (decision_on w.policy r) h; objects = refl }
+unnamed_world_replied : (shown : Shown) (w : World) (r : Request) (i : ℕ) (d : Decision)
+    → (unwrap_or (octets_in (unnamed_outcome_by shown r i d)) [] ≢ []) → world_by w d ≡ w
+unnamed_world_replied shown w r i (Drop cause) h = absurd (h refl)
+unnamed_world_replied shown w r i Empty h = refl
+unnamed_world_replied shown w r i (Refused why) h = refl
+unnamed_world_replied shown w r i (Allowed row view) h = refl
 
-allowed_replied : (os : List ObjectState) (w : World) (r : Request) (n : SetNotes) (row : AccessKey) (view : List ℕ) (kind : Kind)
+reading_replied : (os : List ObjectState) (w : World) (r : Request) (u : Option ℕ) → (unwrap_or (octets_in (reading_step os w r u).outcome) [] ≢ [])
+    → Stays os w (reading_step os w r u)
+unfolding outcome_of unnamed_outcome world_after
+reading_replied os w r None h = record { world = reading_world_replied (shown_of (rows_of os) w) w r (decision_on w.policy r) h; objects = refl }
+reading_replied os w r (Some i) h = record { world = unnamed_world_replied (shown_of (rows_of os) w) w r i (decision_on w.policy r) h; objects = refl }
+
+allowed_replied : (os : List ObjectState) (w : World) (r : Request) (n : RequestNotes) (row : AccessKey) (view : List ℕ) (kind : Kind)
     → kind ≢ Set → (unwrap_or (octets_in (allowed_step os w r n row view kind).outcome) [] ≢ []) → Stays os w (allowed_step os w r n row view kind)
-allowed_replied os w r n row view Get reads h = reading_replied os w r h
-allowed_replied os w r n row view GetNext reads h = reading_replied os w r h
-allowed_replied os w r n row view GetBulk reads h = reading_replied os w r h
+allowed_replied os w r n row view Get reads h = reading_replied os w r n.unnamed h
+allowed_replied os w r n row view GetNext reads h = reading_replied os w r n.unnamed h
+allowed_replied os w r n row view GetBulk reads h = reading_replied os w r n.unnamed h
 allowed_replied os w r n row view Set reads h = absurd (reads refl)
 
-replied_by : (os : List ObjectState) (w : World) (r : Request) (n : SetNotes) (d : Decision)
+replied_by : (os : List ObjectState) (w : World) (r : Request) (n : RequestNotes) (d : Decision)
     → r.kind ≢ Set → (unwrap_or (octets_in (step_by os w r n d).outcome) [] ≢ []) → Stays os w (step_by os w r n d)
-replied_by os w r n (Drop cause) reads h = reading_replied os w r h
-replied_by os w r n Empty reads h = reading_replied os w r h
-replied_by os w r n (Refused why) reads h = reading_replied os w r h
+replied_by os w r n (Drop cause) reads h = reading_replied os w r None h
+replied_by os w r n Empty reads h = reading_replied os w r None h
+replied_by os w r n (Refused why) reads h = reading_replied os w r None h
 replied_by os w r n (Allowed row view) reads h = allowed_replied os w r n row view r.kind reads h
 
-pub replied_stays : (os : List ObjectState) (w : World) (r : Request) (n : SetNotes)
+pub replied_stays : (os : List ObjectState) (w : World) (r : Request) (n : RequestNotes)
     → r.kind ≢ Set → (unwrap_or (octets_in (answers.step_of os w r n).outcome) [] ≢ []) → Stays os w (answers.step_of os w r n)
 unfolding answers.step_of
 replied_stays os w r n reads h = replied_by os w r n (decision_on w.policy r) reads h

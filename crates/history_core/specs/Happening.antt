@@ -18,6 +18,7 @@ abbrev pub quiet : Happened
 quiet = record {
   no_room = false;
   failed = None;
+  unnamed = None;
   egress = [];
   reply = None;
   told_reply = None;
@@ -28,12 +29,20 @@ quiet = record {
 -- the audit that an answer tells
 abbrev pub audit_told : Answered → Audit
 audit_told (answered.Reply len audit failed) = audit
+audit_told (answered.Unnamed len audit i) = audit
 audit_told (answered.NoReply audit) = audit
 
 -- What an answered request came to, where these octets are its reply, if it has one.
 abbrev pub happened_by : Answered → List ℕ → Happened
 happened_by (answered.Reply len audit failed) reply = record quiet {
   failed = failed;
+  reply = Some reply;
+  told_reply = Some reply;
+  audit = Some audit;
+  told_audit = Some audit;
+}
+happened_by (answered.Unnamed len audit i) reply = record quiet {
+  unnamed = Some i;
   reply = Some reply;
   told_reply = Some reply;
   audit = Some audit;
@@ -46,6 +55,7 @@ abbrev pub notes_in : Happened → Notes
 notes_in h = record {
   no_room = h.no_room;
   devices = record { commit = h.failed; undos = undos_in h.audit };
+  unnamed = h.unnamed;
 }
 
 -- An event that met this, and came to this, is the step.

@@ -38,6 +38,7 @@ abbrev pub notes_of : Entry → Notes
 notes_of e = record {
   no_room = e.no_room;
   devices = record { commit = e.failed; undos = undos_in e.audit };
+  unnamed = e.unnamed;
 }
 
 -- Objects of these rows that have nothing reserved. What an event makes of a world hangs on their
@@ -129,6 +130,7 @@ next_entry h e notes = record {
   event = e;
   no_room = notes.no_room;
   failed = notes.devices.commit;
+  unnamed = notes.unnamed;
   egress = (next_step h e notes).egress;
   reply = (next_step h e notes).reply;
   audit = (next_step h e notes).audit;

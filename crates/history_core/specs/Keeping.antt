@@ -30,6 +30,7 @@ entry_of e x = record {
   event = e;
   no_room = x.no_room;
   failed = x.failed;
+  unnamed = x.unnamed;
   egress = x.egress;
   reply = x.reply;
   audit = x.audit;

@@ -20,20 +20,26 @@ use Rattle.setphase_core.specs.Outcomes.{SetNotes}
 use Rattle.setphase_core.specs.Calls.{Call}
 use Rattle.setphase_core.specs.declared.world.World.{World}
 use Rattle.agent_core.specs.Answers as answers
-use Rattle.agent_core.specs.Answers.{Outcome, dropped, replied, audit_in, MayHave, request_calls}
+use Rattle.agent_core.specs.Answers.{Outcome, dropped, replied, audit_in, RequestNotes, MayHave, request_calls}
 use Rattle.agent_core.specs.Replies.{failure_reply}
 use Rattle.agent_core.specs.Sets.{no_notes}
 use Rattle.history_core.specs.declared.event.Event.{Event}
 use Rattle.history_core.specs.declared.event.Event.TheVariants as event
 
 -- What an event met that neither it nor the world says: whether there was no memory for the learned
--- row of a frame's source, and which calls of devices failed in a Set.
+-- row of a frame's source, which calls of devices failed in a Set, and the number of the binding of a
+-- request for which a name above 24 numbers was made, where there was no memory for it.
 pub record Notes : Type 0 where
   pub no_room : Bool
   pub devices : SetNotes
+  pub unnamed : Option ℕ
 
 abbrev pub nothing_noted : Notes
-nothing_noted = record { no_room = false; devices = no_notes }
+nothing_noted = record { no_room = false; devices = no_notes; unnamed = None }
+
+-- those of them that a request can have
+abbrev pub request_notes : Notes → RequestNotes
+request_notes notes = record { devices = notes.devices; unnamed = notes.unnamed }
 
 -- The world and the objects after an event; the ports by which a frame goes out; the octets of the
 -- reply and the audit of a request; and the BPDUs that the ports send, from port 1 on.
@@ -117,7 +123,7 @@ step_of objects w event.Tick notes = tick_step objects w
 step_of objects w (event.Link port up) notes = link_step objects w port up
 step_of objects w (event.Policy tables) notes = policy_step objects w tables
 step_of objects w (event.Request request) notes =
-    request_step (answers.step_of objects w request notes.devices)
+    request_step (answers.step_of objects w request (request_notes notes))
 
 -- The calls of devices that an event makes, where they failed so: those of a request alone.
 abbrev pub event_calls : List ObjectRow → World → Event → Notes → List Call
@@ -128,20 +134,21 @@ event_calls rows w (event.Policy tables) notes = []
 event_calls rows w (event.Request request) notes = request_calls rows w request notes.devices
 
 -- What may be noted of an event: no memory for a learned row only of a frame at a port that is there
--- whose source is to have a row of its own, and failed calls of devices only of a Set that makes
--- them.
+-- whose source is to have a row of its own, failed calls of devices only of a Set that makes them, and
+-- no memory for a name only of a GetNext or a GetBulk that makes a long one.
 pub record MayLackRoom (b : BridgeState) (port : ℕ) (frame : FrameIn) : Type 0 where
   pub port_is_there : IsTrue (has_port b port)
   pub lacks : MayLackMemory b port frame
 
 abbrev pub MayNote : List ObjectRow → World → Event → Notes → Type 0
 MayNote rows w (event.Frame port frame) notes =
-    (notes.devices ≡ no_notes) × (notes.no_room ≡ true → MayLackRoom w.bridge port frame)
+    (notes.devices ≡ no_notes) × (notes.unnamed ≡ None)
+    × (notes.no_room ≡ true → MayLackRoom w.bridge port frame)
 MayNote rows w event.Tick notes = notes ≡ nothing_noted
 MayNote rows w (event.Link port up) notes = notes ≡ nothing_noted
 MayNote rows w (event.Policy tables) notes = notes ≡ nothing_noted
 MayNote rows w (event.Request request) notes =
-    (notes.no_room ≡ false) × MayHave rows w request notes.devices
+    (notes.no_room ≡ false) × MayHave rows w request (request_notes notes)
 
 -- The names and OBJECT IDENTIFIER values of a request have an encoding, as those that `decode`
 -- gives.

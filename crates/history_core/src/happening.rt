@@ -25,6 +25,9 @@ pub struct Happened {
     pub no_room: bool,
     /// The number of the variable whose commit failed in a Set.
     pub failed: Option<usize>,
+    /// The number of the binding of a request for which a name above 24 numbers was made, where there was
+    /// no memory for it.
+    pub unnamed: Option<usize>,
     /// The ports by which a frame goes out.
     pub egress: Egress,
     /// The octets of the reply to a request that is not dropped.
@@ -44,6 +47,7 @@ pub fn quiet() -> Happened
     Happened {
         no_room: false,
         failed: None,
+        unnamed: None,
         egress: Egress::none(),
         reply: None,
         told_reply: None,
@@ -223,6 +227,14 @@ fn come_to(
             happened.audit = Some(audit.try_copy_in(alloc, room)?);
             happened.told_audit = Some(audit);
             happened.failed = failed;
+            happened.reply = Some(reply);
+            happened.told_reply = Some(told_reply);
+        }
+        Answered::Unnamed(_, audit, number) => {
+            let (reply, told_reply) = replies;
+            happened.audit = Some(audit.try_copy_in(alloc, room)?);
+            happened.told_audit = Some(audit);
+            happened.unnamed = Some(number);
             happened.reply = Some(reply);
             happened.told_reply = Some(told_reply);
         }

@@ -311,6 +311,7 @@ fn made_of(number: u64, event: KeptEvent, told: ReceiptEvent, happened: Happened
     let Happened {
         no_room,
         failed,
+        unnamed,
         egress,
         reply,
         told_reply,
@@ -327,6 +328,7 @@ fn made_of(number: u64, event: KeptEvent, told: ReceiptEvent, happened: Happened
         event,
         no_room,
         failed,
+        unnamed,
         egress,
         reply,
         audit,

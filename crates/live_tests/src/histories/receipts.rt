@@ -25,6 +25,7 @@ fn entry(alloc: Global, event: Event) -> Result<Entry, Fail>
         event: KeptEvent::of(alloc, event)?,
         no_room: false,
         failed: None,
+        unnamed: None,
         egress: Egress::none(),
         reply: None,
         audit: None,

@@ -21,7 +21,7 @@ returns-in-Refused g c =
 pub returns-in-Set : goal.returns-in-Set
 returns-in-Set g c =
     set_stepped c.args.registry.now c.answer_set.new.registry c.args.world.now c.answer_set.new.world c.args.request.now c.in-Allowed.row c.in-Allowed.view c.answer_set.result c.answer_set.new.buffer
-    (sym c.in-Allowed.ensures.decision) c.in-Set.is (search rules) c.answer_set.ensures.may c.answer_set.ensures.by_plan c.answer_set.ensures.done c.answer_set.ensures.takes
+    (sym c.in-Allowed.ensures.decision) c.in-Set.is (search rules) c.answer_set.ensures.may c.answer_set.ensures.by_plan c.answer_set.ensures.done c.answer_set.ensures.named c.answer_set.ensures.takes
     c.answer_set.ensures.empty c.answer_set.ensures.unsent c.answer_set.ensures.unchanged c.answer_set.ensures.kept
 
 pub returns-in-Get : goal.returns-in-Get

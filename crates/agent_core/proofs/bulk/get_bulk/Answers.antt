@@ -8,6 +8,7 @@ use Rattle.agent_core.proofs.Fits.{filled_at}
 use Rattle.agent_core.proofs.Longest.{filled_fits}
 use Rattle.agent_core.proofs.LawProofs.{work_within}
 use Rattle.agent_core.specs.Looking.{most_looks}
+use Rattle.agent_core.proofs.Lackings.{bulk_lacks}
 use Rattle.agent_core.proofs.bulk.get_bulk.Goals as goal
 
 pub returns-clause-answer : goal.returns-clause-answer
@@ -45,11 +46,22 @@ returns-clause-most_work g c =
     work_within c.args.steps.now c.send_list-filled.new.steps c.bindings_room.result most sent within c.bindings_room.ensures.most looks
 
 -- the same where memory fails
-pub returns-in_err-filled-clause-most_work : goal.returns-in_err-filled-clause-most_work
-returns-in_err-filled-clause-most_work g c =
+pub returns-then-is_err-clause-most_work : goal.returns-then-is_err-clause-most_work
+returns-then-is_err-clause-most_work g c =
     let most : ℕ = most_looks (g.S.View.shows c.args.source.now) (g.S.Successors.instances c.args.source.now) in
     let sent : List Binding = c.send_list-filled.new.sent.bindings in
     let room : c.in_ok-sent.sent.room ≡ c.bindings_room.result = ap (λ s. s.room) c.in_ok-sent.ensures in
     let within : total sent ≤ c.bindings_room.result = subst (λ r. total sent ≤ r) (c.send_list-filled.ensures.room ∙ room) c.into_bindings-bindings.ensures.within in
     let looks : c.send_list-filled.new.steps ≤ c.args.steps.now + (length sent + 1) * most = omega (arith, c.send_list-filled.ensures.work) in
     work_within c.args.steps.now c.send_list-filled.new.steps c.bindings_room.result most sent within c.bindings_room.ensures.most looks
+
+pub returns-then-is_err-clause-lacks : goal.returns-then-is_err-clause-lacks
+returns-then-is_err-clause-lacks g c =
+    let sent : List Binding = c.send_list-filled.new.sent.bindings in
+    let room : c.in_ok-sent.sent.room ≡ c.bindings_room.result = ap (λ s. s.room) c.in_ok-sent.ensures in
+    let within : total sent ≤ c.bindings_room.result = subst (λ r. total sent ≤ r) (c.send_list-filled.ensures.room ∙ room) c.into_bindings-bindings.ensures.within in
+    bulk_lacks (g.S.View.shows c.args.source.now) (g.S.Successors.instances c.args.source.now) c.send_list-filled.result c.args.request.now c.as_slice-asked.result.now c.in_ok-sent.sent.bindings sent
+    c.non_repeaters-once.result c.max_repetitions-most.result c.binding_number.result (length c.as_slice-before.result.now)
+    (ap (λ s. s.bindings) c.in_ok-sent.ensures) c.as_slice-asked.ensures c.non_repeaters-once.ensures.count c.max_repetitions-most.ensures
+    (sym c.if-is_err.ensures.value) c.send_list-filled.ensures.lacks ((c.bindings_room.ensures.room sent).0 within)
+    (ap length (c.as_slice-before.ensures ∙ c.into_bindings-bindings.ensures.value)) c.binding_number.ensures

@@ -5,6 +5,8 @@ use Rattle.agent_core.specs.Bulk.{all_end}
 use Rattle.agent_core.proofs.Fits.{repeat_cut, repeat_more, further_ended, further_going, further_done, last_count, last_names}
 use Rattle.agent_core.specs.Looking.{most_looks}
 use Rattle.agent_core.proofs.Looks.{beside_within}
+use Rattle.setphase_core.proofs.States.{on_err_always}
+use Rattle.agent_core.proofs.Lackings.{further_lacks, grown_none, grown_more}
 use Rattle.agent_core.proofs.bulk.go_on.Goals as goal
 
 pub returns-then-has_ended-clause-filled : goal.returns-then-has_ended-clause-filled
@@ -27,6 +29,7 @@ loop-i-preserved g c =
       stands = c.in_ok-repeat_last.ensures.stands;
       room = search rules;
       work = omega (arith, c.loop-i.invariant.work, c.in_ok-repeat_last.ensures.whole_work whole);
+      grown = grown_more c.args.sent.now.bindings c.loop-i.sent.bindings (next_answers (visible (g.S.View.shows c.args.source.now) (g.S.Successors.instances c.args.source.now)) (names_of (drop (length c.loop-i.sent.bindings - c.args.columns) c.loop-i.sent.bindings))) c.repeat_last.new.sent.bindings c.loop-i.invariant.grown is;
       columns = last_count (visible (g.S.View.shows c.args.source.now) (g.S.Successors.instances c.args.source.now)) (names_of (drop (length c.loop-i.sent.bindings - c.args.columns) c.loop-i.sent.bindings)) c.args.columns c.loop-i.sent.bindings c.repeat_last.new.sent.bindings count is;
     }
 
@@ -37,3 +40,21 @@ returns-clause-filled g c =
 pub returns-clause-work : goal.returns-clause-work
 returns-clause-work g c =
     beside_within c.args.steps.now c.loop-i.steps (length c.args.sent.now.bindings) (length c.loop-i.sent.bindings) (most_looks (g.S.View.shows c.args.source.now) (g.S.Successors.instances c.args.source.now)) c.loop-i.invariant.work
+
+pub loop-i-init : goal.loop-i-init
+loop-i-init g c = record {
+  all = search rules;
+  stands = c.requires.stands;
+  room = refl;
+  work = omega arith;
+  columns = c.requires.columns;
+  grown = grown_none c.args.sent.now.bindings;
+}
+
+pub returns-in_err-repeat_last-clause-lacks : goal.returns-in_err-repeat_last-clause-lacks
+returns-in_err-repeat_last-clause-lacks g c =
+    on_err_always c.from_residual.result
+    (further_lacks (g.S.View.shows c.args.source.now) (g.S.Successors.instances c.args.source.now) c.args.columns (c.args.most - c.loop-i.i) (c.args.most - (c.loop-i.i + 1)) c.args.sent.now.bindings c.loop-i.sent.bindings c.repeat_last.new.sent.bindings _
+    c.requires.columns c.loop-i.invariant.grown (omega (arith, c.loop-i-test.true))
+    (further_going (visible (g.S.View.shows c.args.source.now) (g.S.Successors.instances c.args.source.now)) (c.args.most - c.loop-i.i) (drop (length c.loop-i.sent.bindings - c.args.columns) c.loop-i.sent.bindings) _ c.loop-i.sent.bindings c.loop-i.invariant.all (ap all_end (sym c.last.ensures.value) ∙ sym c.has_ended.ensures ∙ c.if-has_ended.false))
+    c.in_err-repeat_last.ensures.lacks)

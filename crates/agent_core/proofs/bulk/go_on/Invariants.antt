@@ -18,4 +18,5 @@ invariant-loop-i g l =
       room : l.sent.room ≡ l.fn.sent.room;
       work : l.steps + length l.fn.sent.bindings * most ≤ l.fn.steps + length l.sent.bindings * most;
       columns : l.columns ≤ length l.sent.bindings;
+      grown : l.sent.bindings ≡ l.fn.sent.bindings ++ drop (length l.fn.sent.bindings) l.sent.bindings;
     }

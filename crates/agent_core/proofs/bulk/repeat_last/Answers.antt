@@ -4,6 +4,8 @@ use Rattle.agent_core.specs.Reading.{visible, next_answer}
 use Rattle.agent_core.proofs.Fits.{once_cut, once_more, sent_length, name_back, columns_within}
 use Rattle.agent_core.specs.Looking.{most_looks}
 use Rattle.agent_core.proofs.Looks.{beside_within, pushed_looks, cut_looks}
+use Rattle.setphase_core.proofs.States.{on_err_always}
+use Rattle.agent_core.proofs.Lackings.{once_lacks}
 use Rattle.agent_core.proofs.bulk.repeat_last.Goals as goal
 
 pub send_successor-requires-clause-there : goal.send_successor-requires-clause-there
@@ -44,3 +46,9 @@ returns-clause-work g c =
 
 pub returns-clause-whole_work : goal.returns-clause-whole_work
 returns-clause-whole_work g c = λ _. c.loop-column.invariant.work
+
+pub returns-in_err-send_successor-clause-lacks : goal.returns-in_err-send_successor-clause-lacks
+returns-in_err-send_successor-clause-lacks g c =
+    on_err_always c.from_residual.result
+    (once_lacks (g.S.View.shows c.args.source.now) (g.S.Successors.instances c.args.source.now) (names_of (drop (length c.args.sent.now.bindings - c.args.columns) c.args.sent.now.bindings)) c.loop-column.column (get_or (names_of c.loop-column.sent.bindings) (length c.loop-column.sent.bindings - c.args.columns) []) c.args.sent.now.bindings c.loop-column.sent.bindings c.send_successor.new.sent.bindings
+    (columns_within c.args.sent.now.bindings c.args.columns c.loop-column.column c.requires.columns c.loop-column-test.true) (name_back (visible (g.S.View.shows c.args.source.now) (g.S.Successors.instances c.args.source.now)) c.args.sent.now.bindings c.loop-column.sent.bindings c.args.columns c.loop-column.column (get_or (names_of c.loop-column.sent.bindings) (length c.loop-column.sent.bindings - c.args.columns) []) c.requires.columns c.loop-column-test.true c.loop-column.invariant.whole refl) c.loop-column.invariant.whole c.in_err-send_successor.ensures.err c.in_err-send_successor.ensures.lacks)

@@ -5,6 +5,8 @@ use Rattle.agent_core.specs.Reading.{visible, next_answer}
 use Rattle.agent_core.proofs.Fits.{all_at, once_cut, once_more, names-at, names-length}
 use Rattle.agent_core.specs.Looking.{most_looks}
 use Rattle.agent_core.proofs.Looks.{beside_within, pushed_looks, cut_looks}
+use Rattle.setphase_core.proofs.States.{on_err_always}
+use Rattle.agent_core.proofs.Lackings.{once_lacks}
 use Rattle.agent_core.proofs.bulk.repeat_once.Goals as goal
 
 pub send_next-requires-clause-root : goal.send_next-requires-clause-root
@@ -46,3 +48,9 @@ returns-clause-work g c =
 
 pub returns-clause-whole_work : goal.returns-clause-whole_work
 returns-clause-whole_work g c = λ _. c.loop-binding.invariant.work
+
+pub returns-in_err-send_next-clause-lacks : goal.returns-in_err-send_next-clause-lacks
+returns-in_err-send_next-clause-lacks g c =
+    on_err_always c.from_residual.result
+    (once_lacks (g.S.View.shows c.args.source.now) (g.S.Successors.instances c.args.source.now) (names_of c.args.asked.now) c.loop-binding.binding-index c.binding-item.result.name c.args.sent.now.bindings c.loop-binding.sent.bindings c.send_next.new.sent.bindings
+    (omega (arith, c.loop-binding-test.true, names-length c.args.asked.now)) (names-at c.args.asked.now c.loop-binding.binding-index c.binding-item.result c.loop-binding-test.true c.binding-item.is) c.loop-binding.invariant.whole c.in_err-send_next.ensures.err c.in_err-send_next.ensures.lacks)

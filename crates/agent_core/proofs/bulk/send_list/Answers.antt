@@ -5,6 +5,8 @@ use Rattle.message_core.specs.Instances.{names_of}
 use Rattle.agent_core.specs.Reading.{visible}
 use Rattle.agent_core.specs.Bulk.{repetitions}
 use Rattle.agent_core.proofs.Fits.{all_take, all_drop, list_parts, list_whole, filled_at, filled_ok}
+use Rattle.setphase_core.proofs.States.{on_err_always}
+use Rattle.agent_core.proofs.Lackings.{once_part_lacks, columns_lacks}
 use Rattle.agent_core.proofs.bulk.send_list.Goals as goal
 
 pub repeat_once-requires-clause-encodable : goal.repeat_once-requires-clause-encodable
@@ -27,3 +29,14 @@ returns-clause-filled g c =
     (list_whole rows c.args.once c.args.most c.args.asked.now c.split_at.result.0.now c.split_at.result.1.now c.args.sent.now.bindings c.repeat_once.new.sent.bindings
     (c.in_ok-repeat_once.ensures.whole c.if-not-branch.false) c.split_at.ensures.front c.split_at.ensures.back)
     c.repeat.ensures.filled
+
+pub returns-in_err-repeat_once-clause-lacks : goal.returns-in_err-repeat_once-clause-lacks
+returns-in_err-repeat_once-clause-lacks g c =
+    on_err_always c.from_residual.result
+    (once_part_lacks (g.S.View.shows c.args.source.now) (g.S.Successors.instances c.args.source.now) c.args.once c.args.most c.args.asked.now c.split_at.result.0.now c.split_at.result.1.now c.args.sent.now.bindings c.repeat_once.new.sent.bindings
+    c.split_at.ensures.front c.split_at.ensures.back c.in_err-repeat_once.ensures.lacks)
+
+pub returns-clause-lacks : goal.returns-clause-lacks
+returns-clause-lacks g c =
+    columns_lacks (g.S.View.shows c.args.source.now) (g.S.Successors.instances c.args.source.now) c.repeat.result c.args.once c.args.most c.args.asked.now c.split_at.result.0.now c.split_at.result.1.now c.args.sent.now.bindings c.repeat_once.new.sent.bindings c.repeat.new.sent.bindings
+    c.requires.once c.split_at.ensures.front c.split_at.ensures.back (c.in_ok-repeat_once.ensures.whole c.if-not-branch.false) c.repeat.ensures.lacks

@@ -3,6 +3,11 @@ use Rattle.message_core.specs.declared.binding.Binding.{Binding}
 use Rattle.agent_core.specs.Reading.{visible, end_under, next_answer}
 use Rattle.agent_core.specs.Fitting.{fit_into}
 use Rattle.agent_core.proofs.Stands.{offered}
+use Rattle.std.specs.Prelude.{Result, Ok}
+use Rattle.std.specs.declared.alloc.AllocError.{AllocError}
+use Rattle.setphase_core.proofs.States.{on_err_always}
+use Rattle.agent_core.specs.Looking.{LacksName}
+use Rattle.agent_core.proofs.Lacks.{lacks_answer, lacks_made}
 use Rattle.agent_core.proofs.bulk.send_next.Goals as goal
 
 -- the instance that was found
@@ -35,21 +40,38 @@ returns-clause-fits g c =
     let rows : List Binding = visible (g.S.View.shows c.args.source.now) (g.S.Successors.instances c.args.source.now) in
     let here : Binding = g.S.Successors.at c.args.source.now c.find_next.new.spot in
     let row : end_under c.in_ok-name.name ≡ next_answer rows c.args.name.now =
-    ap end_under c.in_ok-name.ensures ∙ subst (λ (found : Bool). cond found here (end_under c.args.name.now) ≡ next_answer rows c.args.name.now) c.if-branch.false c.in_ok-find_next.ensures.answer in
-    subst (λ (b : Binding). IfOk c.offer.result (λ taken. taken ≡ fit_into c.args.sent.now.room (c.args.sent.now.bindings ++ b ∷ []))) row c.offer.ensures.fits
+    ap end_under c.in_ok-name.ensures.copy ∙ subst (λ (found : Bool). cond found here (end_under c.args.name.now) ≡ next_answer rows c.args.name.now) c.if-branch.false c.in_ok-find_next.ensures.answer in
+    subst (λ (b : Binding). c.offer.result ≡ fit_into c.args.sent.now.room (c.args.sent.now.bindings ++ b ∷ [])) row c.offer.ensures.fits
 
 pub returns-clause-taken : goal.returns-clause-taken
 returns-clause-taken g c =
     let rows : List Binding = visible (g.S.View.shows c.args.source.now) (g.S.Successors.instances c.args.source.now) in
     let here : Binding = g.S.Successors.at c.args.source.now c.find_next.new.spot in
     let row : end_under c.in_ok-name.name ≡ next_answer rows c.args.name.now =
-    ap end_under c.in_ok-name.ensures ∙ subst (λ (found : Bool). cond found here (end_under c.args.name.now) ≡ next_answer rows c.args.name.now) c.if-branch.false c.in_ok-find_next.ensures.answer in
-    subst (λ (b : Binding). IfOk c.offer.result (λ taken. IsTrue taken → c.offer.new.self.bindings ≡ c.args.sent.now.bindings ++ b ∷ [])) row c.offer.ensures.taken
+    ap end_under c.in_ok-name.ensures.copy ∙ subst (λ (found : Bool). cond found here (end_under c.args.name.now) ≡ next_answer rows c.args.name.now) c.if-branch.false c.in_ok-find_next.ensures.answer in
+    subst (λ (b : Binding). IsTrue c.offer.result → c.offer.new.self.bindings ≡ c.args.sent.now.bindings ++ b ∷ []) row c.offer.ensures.taken
 
 pub returns-clause-stands : goal.returns-clause-stands
 returns-clause-stands g c =
     let here : Binding = g.S.Successors.at c.args.source.now c.find_next.new.spot in
     let stood = subst (λ (found : Bool). g.S.Successors.stands c.args.source.now c.find_next.new.stand (cond found here (end_under c.args.name.now)).name) c.if-branch.false c.in_ok-find_next.ensures.stands in
-    offered (g.S.Successors.stands c.args.source.now) c.offer.result c.args.sent.now c.offer.new.self (end_under c.in_ok-name.name) c.find_next.new.stand c.requires.stands
-    (subst (g.S.Successors.stands c.args.source.now c.find_next.new.stand) (sym c.in_ok-name.ensures) stood)
-    c.offer.ensures.taken c.offer.ensures.stand c.offer.ensures.full c.offer.ensures.err
+    let taken : Result Bool AllocError = Ok c.offer.result in
+    offered (g.S.Successors.stands c.args.source.now) taken c.args.sent.now c.offer.new.self (end_under c.in_ok-name.name) c.find_next.new.stand c.requires.stands
+    (subst (g.S.Successors.stands c.args.source.now c.find_next.new.stand) (sym c.in_ok-name.ensures.copy) stood)
+    c.offer.ensures.taken c.offer.ensures.stand c.offer.ensures.full tt
+
+-- a name for which there was no memory
+
+pub returns-then-branch-clause-lacks : goal.returns-then-branch-clause-lacks
+returns-then-branch-clause-lacks g c =
+    let rows : List Binding = visible (g.S.View.shows c.args.source.now) (g.S.Successors.instances c.args.source.now) in
+    let here : Binding = g.S.Successors.at c.args.source.now c.find_next.new.spot in
+    let row : here ≡ next_answer rows c.args.name.now = subst (λ (found : Bool). cond found here (end_under c.args.name.now) ≡ next_answer rows c.args.name.now) c.if-branch.true c.in_ok-find_next.ensures.answer in
+    lacks_made c.offer_instance.result (g.S.View.shows c.args.source.now) (g.S.Successors.instances c.args.source.now) c.args.name.now here row c.offer_instance.ensures.long
+
+pub returns-in_err-name-clause-lacks : goal.returns-in_err-name-clause-lacks
+returns-in_err-name-clause-lacks g c =
+    let rows : List Binding = visible (g.S.View.shows c.args.source.now) (g.S.Successors.instances c.args.source.now) in
+    let here : Binding = g.S.Successors.at c.args.source.now c.find_next.new.spot in
+    let row : end_under c.args.name.now ≡ next_answer rows c.args.name.now = subst (λ (found : Bool). cond found here (end_under c.args.name.now) ≡ next_answer rows c.args.name.now) c.if-branch.false c.in_ok-find_next.ensures.answer in
+    on_err_always c.from_residual-in_err-name.result (lacks_answer (g.S.View.shows c.args.source.now) (g.S.Successors.instances c.args.source.now) c.args.name.now (end_under c.args.name.now) row c.in_err-name.ensures.long)

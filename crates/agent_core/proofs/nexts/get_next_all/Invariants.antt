@@ -4,8 +4,8 @@ use Rattle.agent_core.specs.Reading.{visible, next_answers}
 use Rattle.agent_core.specs.Looking.{most_looks}
 use Rattle.agent_core.proofs.nexts.get_next_all.Given as goal
 
-abbrev pub invariant-loop-binding : goal.invariant-loop-binding
-invariant-loop-binding g l = record {
-  answers : l.answers ≡ next_answers (visible (g.S.View.shows l.source) (g.S.Successors.instances l.source)) (names_of (take l.binding-index l.asked));
-  work : l.steps ≤ l.fn.steps + l.binding-index * most_looks (g.S.View.shows l.source) (g.S.Successors.instances l.source);
+abbrev pub invariant-loop-n : goal.invariant-loop-n
+invariant-loop-n g l = record {
+  answers : l.answers ≡ next_answers (visible (g.S.View.shows l.source) (g.S.Successors.instances l.source)) (names_of (take l.n l.asked));
+  work : l.steps ≤ l.fn.steps + l.n * most_looks (g.S.View.shows l.source) (g.S.Successors.instances l.source);
 }
