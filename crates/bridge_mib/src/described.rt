@@ -31,7 +31,7 @@ pub trait Descriptor: Copy {
         ensures { result ≡ value_at (shown_by (column self) world.now) at.now };
 
     /// Writes the first index after this one, or the first of all, in place of the index that it is
-    /// lent, and says whether there is one. It has no more numbers than the longest index of the
+    /// lent, and says whether there is one. That index has no more numbers than the longest of the
     /// object's column. Where there is none, it writes nothing. It takes no memory.
     fn next_into(self, world: &World, after: Option<&[u32]>, into: &mut Index) -> bool
         ensures found { (if result then Some into.new.items else None)
