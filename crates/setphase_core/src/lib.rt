@@ -30,9 +30,9 @@
 //!
 //! # Definitions
 //! `specs/Settings.antt`: the settings of a world as a finite map, those of its bridge and of its
-//! static rows; `specs/Flat.antt`: a policy as
-//! its rows; `specs/Columns.antt`: what each object shows, row by row, and its longest index;
-//! `specs/Writing.antt`: how each is written; `specs/Names.antt`: the objects' names; `specs/Values.antt`: values by index;
+//! static rows; `specs/Flat.antt`: a policy as its rows; `specs/Columns.antt`: what each object
+//! shows, row by row, and its longest index; `specs/Writing.antt`: how each is written;
+//! `specs/Names.antt`: the objects' names; `specs/Values.antt`: values by index;
 //! `specs/Objects.antt`: an object as plain data; `specs/Plans.antt`: which of the next calls of
 //! its device fail; `specs/Registry.antt`: the order of objects, and all their instances;
 //! `specs/Variables.antt`, `specs/Together.antt`: why a Set is refused, by its variables one by one
