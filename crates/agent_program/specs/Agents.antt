@@ -5,7 +5,7 @@ use Rattle.bridge_core.specs.Bridge.{BridgeState}
 use Rattle.bridge_core.specs.Opening.{opening_bridge}
 use Rattle.community_core.specs.declared.policy.Policy.{Policy}
 use Rattle.setphase_core.specs.Objects.{ObjectState}
-use Rattle.setphase_core.specs.Registry.{rows_of, first_fault, AreNamed}
+use Rattle.setphase_core.specs.Registry.{rows_of, prefixes_of, first_fault, TakeAnyIndex}
 use Rattle.setphase_core.specs.declared.world.World.{World}
 use Rattle.configuration.specs.declared.configuration.Configuration.{Configuration}
 use Rattle.configuration.specs.declared.configuration.Port.{Port}
@@ -35,10 +35,10 @@ pub record IsWorldOf (octets : List ℕ) (world : World) : Type 0 where
   pub said : IsConfigurationIn octets configuration
   pub opened : world ≡ world_of configuration
 
--- Objects make a registry: each has a name that a registry asks for, and no pair of neighbours is
+-- Objects make a registry: behind the name of each any index may stand, and no pair of neighbours is
 -- at fault.
 pub record MakeRegistry (objects : List ObjectState) : Type 0 where
-  pub named : AreNamed (rows_of objects)
+  pub named : TakeAnyIndex (prefixes_of (rows_of objects))
   pub ordered : first_fault (rows_of objects) ≡ None
 
 -- the octets say none: they have a first fault

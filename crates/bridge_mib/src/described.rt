@@ -1,5 +1,5 @@
 //! Managed objects without a device: each shows what its descriptor says.
-ghost use Rattle.std.specs.Prelude.{◌≡◌, false, if◌then◌else◌, Some, None, IfSome};
+ghost use Rattle.std.specs.Prelude.{◌≡◌, ◌≤◌, length, true, false, if◌then◌else◌, Some, None, IfSome};
 ghost use Rattle.std.specs.Option.{option_copied};
 ghost use Rattle.bridge_mib.specs.Written.{idle};
 
@@ -14,7 +14,7 @@ use std::marker::Model;
 /// world, and how it is written.
 pub trait Descriptor: Copy {
     ghost use Rattle.setphase_core.specs.declared.column.Column.{Column};
-    ghost use Rattle.setphase_core.specs.Columns.{shown_by};
+    ghost use Rattle.setphase_core.specs.Columns.{shown_by, longest_index};
     ghost use Rattle.setphase_core.specs.Names.{row_of};
     ghost use Rattle.setphase_core.specs.Values.{value_at, index_after};
     ghost use Rattle.setphase_core.specs.Writing.{writable_of, HasStep};
@@ -31,10 +31,12 @@ pub trait Descriptor: Copy {
         ensures { result ≡ value_at (shown_by (column self) world.now) at.now };
 
     /// Writes the first index after this one, or the first of all, in place of the index that it is
-    /// lent, and says whether there is one. Where there is none, it writes nothing. It takes no memory.
+    /// lent, and says whether there is one. That index has no more numbers than the longest of the
+    /// object's column. Where there is none, it writes nothing. It takes no memory.
     fn next_into(self, world: &World, after: Option<&[u32]>, into: &mut Index) -> bool
         ensures found { (if result then Some into.new.items else None)
             ≡ index_after (shown_by (column self) world.now) (option_copied after.entry) }
+        ensures fits { result ≡ true → length into.new.items ≤ longest_index (column self) }
         ensures none { result ≡ false → into.new ≡ into.old };
 
     /// How the object is written. None: it is never written.

@@ -121,7 +121,8 @@ fn row_after(fdb: &Fdb, after: Option<&[u32]>) -> Option<Row>
 
 // Writes the six octets of an address as an index.
 fn write_index(address: Mac, into: &mut Index)
-    ensures { into.new.items ≡ address.0 }
+    ensures written { into.new.items ≡ address.0 }
+    ensures six { length into.new.items ≡ 6 }
 {
     into.clear();
     for octet in &address.0 {

@@ -94,7 +94,8 @@ fn static_there(bridge: &Bridge, at: &[u32]) -> Option<StaticRow>
 
 // Writes the seven numbers of a row as an index.
 fn write_index(row: StaticIndex, into: &mut Index)
-    ensures { into.new.items ≡ numbers_of row }
+    ensures written { into.new.items ≡ numbers_of row }
+    ensures seven { length into.new.items ≡ 7 }
 {
     into.clear();
     for number in &row.numbers() {

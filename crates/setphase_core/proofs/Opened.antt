@@ -7,8 +7,7 @@ use Rattle.oid_core.specs.declared.limits.TheConstants.{MAX_NUMBERS}
 use Rattle.community_core.specs.Communities.{PolicyTables}
 use Rattle.bridge_core.specs.Opening.{opening_bridge}
 use Rattle.bridge_core.specs.Facts.{facts_of, port_facts_of}
-use Rattle.setphase_core.specs.Columns.{shown_by}
-use Rattle.setphase_core.specs.declared.limits.TheConstants.{MAX_INDEX}
+use Rattle.setphase_core.specs.Columns.{shown_by, longest_index}
 use Rattle.setphase_core.specs.Objects.{ObjectRow}
 use Rattle.setphase_core.specs.Names.{bridge_rows, columns, row_of}
 use Rattle.setphase_core.specs.Registry.{first_fault, IsNamed, AreNamed, instances}
@@ -27,7 +26,7 @@ unfolding bridge_rows
 objects_count = refl
 
 abbrev is_named : ObjectRow → Bool
-is_named row = is_prefix (1 ∷ 3 ∷ []) row.prefix && nat_le (length row.prefix + MAX_INDEX) MAX_NUMBERS
+is_named row = is_prefix (1 ∷ 3 ∷ []) row.prefix && nat_le (length row.prefix + longest_index row.column) MAX_NUMBERS
 
 abbrev are_named : List ObjectRow → Bool
 are_named [] = true
@@ -35,10 +34,10 @@ are_named (row ∷ rows) = is_named row && are_named rows
 
 named_by : (row : ObjectRow) → is_named row ≡ true → IsNamed row
 named_by row h =
-    let parts = and_parts (is_prefix (1 ∷ 3 ∷ []) row.prefix) (nat_le (length row.prefix + MAX_INDEX) MAX_NUMBERS) h in
+    let parts = and_parts (is_prefix (1 ∷ 3 ∷ []) row.prefix) (nat_le (length row.prefix + longest_index row.column) MAX_NUMBERS) h in
     record {
       root = parts.0;
-      most = elim (leb_tells (length row.prefix + MAX_INDEX) MAX_NUMBERS) [
+      most = elim (leb_tells (length row.prefix + longest_index row.column) MAX_NUMBERS) [
         | inl s ↦ s.1
         | inr s ↦ let fails = s.0 in let passes = parts.1 in absurd (cc)
       ];

@@ -2,8 +2,12 @@
 use Rattle.std.proofs.Common.{◌≡◌, ℕ, zero, suc, ◌+◌, ◌<◌, ◌≤◌, List, [], ◌∷◌, map, length, take, drop, ◌-◌, length-drop, get_or, refl, sym, ap, subst, ◌∙◌, arith, add-one, drop-cons}
 use Rattle.std.specs.List.{All}
 use Rattle.std.proofs.Math.Seq.{take-length}
+use Rattle.setphase_core.specs.declared.column.Column.{Column}
+use Rattle.setphase_core.specs.declared.column.Column.TheVariants as column
+use Rattle.setphase_core.specs.declared.limits.TheConstants.{MAX_INDEX}
+use Rattle.setphase_core.specs.Columns.{longest_index}
 use Rattle.setphase_core.specs.Objects.{ObjectRow, ObjectState}
-use Rattle.setphase_core.specs.Registry.{rows_of, prefixes_of, IsNamed, AreNamed}
+use Rattle.setphase_core.specs.Registry.{rows_of, prefixes_of, IsNamed, AreNamed, TakesAnyIndex, TakeAnyIndex}
 use Rattle.setphase_core.specs.Searching.{prefix_at}
 
 module _ {O : Type 0} (state : O → ObjectState) where
@@ -58,15 +62,33 @@ module _ {O : Type 0} (state : O → ObjectState) where
   named_there (y ∷ objects) zero x h l e = subst (λ (z : O). IsNamed (state z).row) (sym e) h.0
   named_there (y ∷ objects) (suc i) x h l e = named_there objects i x h.1 (omega (arith, l)) e
 
-  -- each of the objects has a name that a registry asks for, by places and in turn
-  pub all_named : (objects : List O) → All (λ (o : O). IsNamed (state o).row) objects → AreNamed (rows_of (map state objects))
-  all_named [] h = tt
-  all_named (x ∷ objects) h = (h 0 x (omega arith), all_named objects (λ k d l. h (suc k) d (omega (arith, l))))
+  -- behind the name of each of the objects any index may stand, by places and in turn
+  pub all_take : (objects : List O) → All (λ (o : O). TakesAnyIndex (state o).row.prefix) objects → TakeAnyIndex (prefixes_of (rows_of (map state objects)))
+  all_take [] h = tt
+  all_take (x ∷ objects) h = (h 0 x (omega arith), all_take objects (λ k d l. h (suc k) d (omega (arith, l))))
 
-  pub named_all : (objects : List O) → AreNamed (rows_of (map state objects)) → All (λ (o : O). IsNamed (state o).row) objects
-  named_all [] h k d l = absurd (omega (arith, l))
-  named_all (x ∷ objects) h zero d l = h.0
-  named_all (x ∷ objects) h (suc k) d l = named_all objects h.1 k d (omega (arith, l))
+  pub take_all : (objects : List O) → TakeAnyIndex (prefixes_of (rows_of (map state objects))) → All (λ (o : O). TakesAnyIndex (state o).row.prefix) objects
+  take_all [] h k d l = absurd (omega (arith, l))
+  take_all (x ∷ objects) h zero d l = h.0
+  take_all (x ∷ objects) h (suc k) d l = take_all objects h.1 k d (omega (arith, l))
+
+-- no column has a longer index than the longest of all
+index_at_most : (c : Column) → longest_index c ≤ MAX_INDEX
+index_at_most (column.Base c) = omega arith
+index_at_most (column.BasePort c) = omega arith
+index_at_most (column.Stp c) = omega arith
+index_at_most (column.StpPort c) = omega arith
+index_at_most (column.Rapid c) = omega arith
+index_at_most (column.ExtPort c) = omega arith
+index_at_most (column.Tp c) = omega arith
+index_at_most (column.TpFdb c) = omega arith
+index_at_most (column.TpPort c) = omega arith
+index_at_most (column.Static c) = omega arith
+
+-- so names behind which any index may stand are those that a registry asks for
+pub named_of_taken : (rows : List ObjectRow) → TakeAnyIndex (prefixes_of rows) → AreNamed rows
+named_of_taken [] h = tt
+named_of_taken (row ∷ rows) h = (record { root = h.0.root; most = omega (arith, h.0.most, index_at_most row.column) }, named_of_taken rows h.1)
 
 pub named_drop : (s : ℕ) (rows : List ObjectRow) → AreNamed rows → AreNamed (drop s rows)
 named_drop zero rows h = h

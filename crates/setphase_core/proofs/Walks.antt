@@ -42,6 +42,7 @@ found_whole passes rows w n start (Some spot) e h = record {
   within = h.within;
   at = h.at;
   index = h.index;
+  fits = h.fits;
   first = sym e ∙ h.first;
 }
 

@@ -251,3 +251,17 @@ shown_by (column.Tp c) w = scalar (tp_value c w.bridge)
 shown_by (column.TpFdb c) w = by_address w.bridge.learned (tp_fdb_value c)
 shown_by (column.TpPort c) w = by_port (port_count w.bridge) (tp_port_value c w.bridge)
 shown_by (column.Static c) w = by_static w.bridge.statics.rows (static_value c w.bridge)
+
+-- How many numbers an index of a column has at most (RFC 2578, 7.7): the 0 of a scalar, the number
+-- of a port, the octets of an address, and those of a static row with its port.
+abbrev pub longest_index : Column → ℕ
+longest_index (column.Base c) = 1
+longest_index (column.BasePort c) = 1
+longest_index (column.Stp c) = 1
+longest_index (column.StpPort c) = 1
+longest_index (column.Rapid c) = 1
+longest_index (column.ExtPort c) = 1
+longest_index (column.Tp c) = 1
+longest_index (column.TpFdb c) = 6
+longest_index (column.TpPort c) = 1
+longest_index (column.Static c) = 7

@@ -12,7 +12,7 @@ use Rattle.setphase_core.specs.declared.registry.RegistryFault.{RegistryFault}
 use Rattle.setphase_core.specs.declared.registry.RegistryFault.TheVariants.{Unsorted, Nested}
 use Rattle.setphase_core.specs.declared.limits.TheConstants.{MAX_INDEX}
 use Rattle.setphase_core.specs.Values.{IndexedValue}
-use Rattle.setphase_core.specs.Columns.{shown_by}
+use Rattle.setphase_core.specs.Columns.{shown_by, longest_index}
 use Rattle.setphase_core.specs.Objects.{ObjectRow, ObjectState}
 
 -- The rows of objects, which no call changes, and their names.
@@ -40,13 +40,21 @@ is_apart a b = not (is_prefix a b) && not (is_prefix b a)
 abbrev pub AreApart : List (List ℕ) → Type 0
 AreApart names = AllPairs (λ a b. IsTrue (is_apart a b)) names
 
--- The name of an object stands under 1.3, and is one behind which there is room for any index.
+-- The name of an object stands under 1.3, and with the longest index of its column it is a name.
 pub record IsNamed (row : ObjectRow) : Type 0 where
   pub root : IsTrue (is_prefix (1 ∷ 3 ∷ []) row.prefix)
-  pub most : length row.prefix + MAX_INDEX ≤ MAX_NUMBERS
+  pub most : length row.prefix + longest_index row.column ≤ MAX_NUMBERS
 
 abbrev pub AreNamed : List ObjectRow → Type 0
 AreNamed rows = AllByRecursion IsNamed rows
+
+-- A name stands under 1.3, and with the longest index of all columns it is a name.
+pub record TakesAnyIndex (prefix : List ℕ) : Type 0 where
+  pub root : IsTrue (is_prefix (1 ∷ 3 ∷ []) prefix)
+  pub most : length prefix + MAX_INDEX ≤ MAX_NUMBERS
+
+abbrev pub TakeAnyIndex : List (List ℕ) → Type 0
+TakeAnyIndex prefixes = AllByRecursion TakesAnyIndex prefixes
 
 -- The name of the object whose name begins a name.
 abbrev pub owner_of : List ObjectRow → List ℕ → Option (List ℕ)

@@ -3,6 +3,7 @@ use Rattle.std.specs.Prelude.{◌≡◌, ℕ, ◌+◌, ◌<◌, ◌≤◌, Bool,
 use Rattle.std.specs.List.{count_by}
 use Rattle.std.specs.Option.{option_map, option_and_then}
 use Rattle.oid_core.specs.Order.{name_lt, is_prefix}
+use Rattle.oid_core.specs.declared.limits.TheConstants.{MAX_NUMBERS}
 use Rattle.message_core.specs.declared.binding.Binding.{Binding}
 use Rattle.message_core.specs.declared.value.Value.{Value}
 use Rattle.message_core.specs.declared.value.Value.TheVariants.{NoSuchInstance}
@@ -11,7 +12,7 @@ use Rattle.setphase_core.specs.declared.world.World.{World}
 use Rattle.setphase_core.specs.declared.passing.Spot.{Spot}
 use Rattle.setphase_core.specs.Objects.{ObjectRow}
 use Rattle.setphase_core.specs.Values.{value_at}
-use Rattle.setphase_core.specs.Columns.{shown_by}
+use Rattle.setphase_core.specs.Columns.{shown_by, longest_index}
 use Rattle.setphase_core.specs.Registry.{prefixes_of, first_fault, instances_under}
 use Rattle.setphase_core.specs.Passing.{open_instances, passed_ahead}
 use Rattle.setphase_core.specs.Searching.{prefix_at}
@@ -59,6 +60,7 @@ pub record IsSpot (passes : List ℕ → Bool) (rows : List ObjectRow) (w : Worl
   pub at : get_or rows spot.place row ≡ row
   pub index : Some (row.prefix ++ spot.index.items)
       ≡ option_map (λ b. b.name) (next_of (instances_under row w) name)
+  pub fits : length spot.index.items ≤ longest_index row.column
   pub first : next_of (open_instances passes (drop start rows) w) name
       ≡ next_of (instances_under row w) name
 
@@ -82,9 +84,10 @@ abbrev pub value_there : List ObjectRow → World → Spot → Option Value
 value_there rows w spot = option_and_then (λ row. value_at (shown_by row.column w) spot.index.items)
     (slice_get rows spot.place)
 
--- an instance stands there
+-- An instance stands there: it has a name, and a value.
 pub record IsThere (rows : List ObjectRow) (w : World) (spot : Spot) : Type 0 where
   pub within : spot.place < length rows
+  pub fits : length (prefix_at (prefixes_of rows) spot.place ++ spot.index.items) ≤ MAX_NUMBERS
   pub value : IsSome (value_there rows w spot)
 
 -- The instance at a spot: its name is the object's name and the index. Where none stands there, its

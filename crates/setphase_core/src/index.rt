@@ -1,5 +1,5 @@
 //! The indexes of scalars and of tables of ports, as the objects that show them read and give them.
-ghost use Rattle.std.specs.Prelude.{◌≡◌, ◌≤◌, ℕ, [], ◌∷◌, if◌then◌else◌, false, Some, None, IfSome, slice_get, unwrap_or};
+ghost use Rattle.std.specs.Prelude.{◌≡◌, ◌≤◌, ℕ, [], ◌∷◌, length, if◌then◌else◌, true, false, Some, None, IfSome, slice_get, unwrap_or};
 ghost use Rattle.std.specs.Option.{option_copied, option_map};
 ghost use Rattle.oid_core.specs.Order.{name_eq};
 ghost use Rattle.message_core.specs.declared.value.Value.{Value as AnyValue};
@@ -31,6 +31,7 @@ pub fn is_scalar(at: &[u32]) -> bool
 pub fn scalar_after(after: Option<&[u32]>, into: &mut Index) -> bool
     ensures found { (v : AnyValue) → (if result then Some into.new.items else None)
         ≡ index_after (scalar v) (option_copied after.entry) }
+    ensures one { result ≡ true → length into.new.items ≡ 1 }
     ensures none { result ≡ false → into.new ≡ into.old }
 {
     if let Some([_, ..]) = after {
@@ -69,6 +70,7 @@ pub fn port_after(ports: usize, after: Option<&[u32]>, into: &mut Index) -> bool
     requires { ports ≤ MAX_PORTS }
     ensures found { (f : ℕ → AnyValue) → (if result then Some into.new.items else None)
         ≡ index_after (by_port ports f) (option_copied after.entry) }
+    ensures one { result ≡ true → length into.new.items ≡ 1 }
     ensures none { result ≡ false → into.new ≡ into.old }
 {
     let last = first_number(after);

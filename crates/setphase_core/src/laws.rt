@@ -134,7 +134,7 @@ pub fn bridge_in_use_shows_143()
 
 /// The limits of objects, of what they show, and of a Set.
 pub fn limits_are_fixed()
-    ensures index { MAX_INDEX ≡ 8 }
+    ensures index { MAX_INDEX ≡ 116 }
     ensures slots { MAX_SLOTS ≡ 64 }
     ensures variables { MAX_VARIABLES ≡ 64 }
     ensures cost { MAX_COST ≡ 2147483647 }

@@ -12,8 +12,8 @@
 //! objects as a whole by a test of their names, a [`Passing`], and writes where an instance stands in a
 //! [`Spot`] that it is lent; `name_at` and `value_at` give the instance that stands there.
 //! `known` hands on that no object's name begins another's and that what they show can be served;
-//! `held`, `release` and `arm` of all objects. [`are_named`]: whether objects have names that a
-//! registry asks for, of objects of which nothing else is known.
+//! `held`, `release` and `arm` of all objects. [`are_named`]: whether any index may stand
+//! behind the names of objects, as a registry asks of objects of which nothing else is known.
 //! [`run_set`]: a Set over a registry and a world, all its variables or none, told as a
 //! [`SetOutcome`], with its [`Refusal`]; [`Staging`]: its steps.
 //! [`is_scalar`], [`scalar_after`], [`port_at`], [`port_after`]: the indexes of scalars and ports;
@@ -30,9 +30,9 @@
 //!
 //! # Definitions
 //! `specs/Settings.antt`: the settings of a world as a finite map, those of its bridge and of its
-//! static rows; `specs/Flat.antt`: a policy as
-//! its rows; `specs/Columns.antt`: what each object shows, row by row; `specs/Writing.antt`: how
-//! each is written; `specs/Names.antt`: the objects' names; `specs/Values.antt`: values by index;
+//! static rows; `specs/Flat.antt`: a policy as its rows; `specs/Columns.antt`: what each object
+//! shows, row by row, and its longest index; `specs/Writing.antt`: how each is written;
+//! `specs/Names.antt`: the objects' names; `specs/Values.antt`: values by index;
 //! `specs/Objects.antt`: an object as plain data; `specs/Plans.antt`: which of the next calls of
 //! its device fail; `specs/Registry.antt`: the order of objects, and all their instances;
 //! `specs/Variables.antt`, `specs/Together.antt`: why a Set is refused, by its variables one by one

@@ -1,7 +1,8 @@
 //! The limits of objects and of what they show.
 
-/// The most numbers that an index has.
-pub const MAX_INDEX: usize = 8;
+/// The most numbers that an index has: those of a view's name and of a subtree, at most 114, with a
+/// length before each (RFC 3415 vacmViewTreeFamilyTable, RFC 2578 7.7).
+pub const MAX_INDEX: usize = 116;
 
 /// The most slots that an object reserves for one Set.
 pub const MAX_SLOTS: usize = 64;

@@ -1,5 +1,5 @@
 //! A managed object, as the registry sees each of them.
-ghost use Rattle.std.specs.Prelude.{◌≡◌, true, false, length, slice_get, if◌then◌else◌, Some, None, IfOk, OnOk, OnErr};
+ghost use Rattle.std.specs.Prelude.{◌≡◌, ◌≤◌, true, false, length, slice_get, if◌then◌else◌, Some, None, IfOk, OnOk, OnErr};
 ghost use Rattle.std.specs.Option.{option_copied, option_map};
 
 use crate::limits::MAX_INDEX;
@@ -87,7 +87,7 @@ pub trait MibObject: Drop {
     ghost use Rattle.setting_keys.specs.declared.SettingValue.{SettingValue as AnySetting};
     ghost use Rattle.setphase_core.specs.Objects.{ObjectState, IsReserved, IsCommitted, HasRoom, HasRoomBack, IsByPlan, reserve, after_call, object_after_arm, object_after_commit, object_after_release, object_after_failure, committed_reservation};
     ghost use Rattle.setphase_core.specs.Settings.{setting, put, IsSettingInRange, IsLine};
-    ghost use Rattle.setphase_core.specs.Columns.{shown_by};
+    ghost use Rattle.setphase_core.specs.Columns.{shown_by, longest_index};
     ghost use Rattle.setphase_core.specs.Values.{value_at, index_after};
     ghost use Rattle.setphase_core.specs.Writing.{test_answer};
 
@@ -104,11 +104,14 @@ pub trait MibObject: Drop {
         ensures { result ≡ value_at (shown_by (state self.now).row.column world.now) at.now };
 
     /// Writes the first index after this one, or the first of all, in place of the index that it is
-    /// lent, and says whether there is one. Where there is none, it writes nothing. It takes no memory.
+    /// lent, and says whether there is one. That index has no more numbers than the longest of the
+    /// object's column. Where there is none, it writes nothing. It takes no memory.
     fn next_into(&self, world: &World, after: Option<&[u32]>, into: &mut Index) -> bool
         ensures found { (if result then Some into.new.items else None)
             ≡ index_after (shown_by (state self.now).row.column world.now)
             (option_copied after.entry) }
+        ensures fits { result ≡ true
+            → length into.new.items ≤ longest_index (state self.now).row.column }
         ensures none { result ≡ false → into.new ≡ into.old };
 
     /// The first index after this one, or the first of all. It takes no memory.

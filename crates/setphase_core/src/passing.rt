@@ -3,6 +3,7 @@ ghost use Rattle.std.specs.Prelude.{◌≡◌, ◌<◌, ◌≤◌, ◌+◌, ◌+
 ghost use Rattle.std.specs.Option.{option_map};
 ghost use Rattle.oid_core.specs.Order.{name_lt, is_prefix};
 ghost use Rattle.message_core.specs.Instances.{next_of};
+ghost use Rattle.setphase_core.specs.Columns.{longest_index};
 ghost use Rattle.setphase_core.specs.Registry.{rows_of, prefixes_of, first_fault, instances_under};
 ghost use Rattle.setphase_core.specs.Passing.{open_instances, passed_after, passed_ahead};
 ghost use Rattle.setphase_core.specs.Searching.{prefix_at, IsPlace};
@@ -60,9 +61,11 @@ fn is_passed<O: MibObject, P: Passing>(object: &O, place: usize, until: usize, p
 // whether there is one.
 fn index_below<O: MibObject>(object: &O, world: &World, name: &[u32], into: &mut Index) -> bool
     requires { is_prefix (O.state object.now).row.prefix name.now ≡ true }
-    ensures { let row = (O.state object.now).row in
+    ensures found { let row = (O.state object.now).row in
         (if result then Some (row.prefix ++ into.new.items) else None)
         ≡ option_map (λ b. b.name) (next_of (instances_under row world.now) name.now) }
+    ensures fits { result ≡ true
+        → length into.new.items ≤ longest_index (O.state object.now).row.column }
 {
     let rest = &name[object.prefix().len()..];
     object.next_into(world, Some(rest), into)
@@ -72,9 +75,11 @@ fn index_below<O: MibObject>(object: &O, world: &World, name: &[u32], into: &mut
 fn index_ahead<O: MibObject>(object: &O, world: &World, _name: &[u32], into: &mut Index) -> bool
     requires apart { is_prefix (O.state object.now).row.prefix _name.now ≡ false }
     requires ahead { name_lt _name.now (O.state object.now).row.prefix ≡ true }
-    ensures { let row = (O.state object.now).row in
+    ensures found { let row = (O.state object.now).row in
         (if result then Some (row.prefix ++ into.new.items) else None)
         ≡ option_map (λ b. b.name) (next_of (instances_under row world.now) _name.now) }
+    ensures fits { result ≡ true
+        → length into.new.items ≤ longest_index (O.state object.now).row.column }
 {
     object.next_into(world, None, into)
 }

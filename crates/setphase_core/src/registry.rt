@@ -1,12 +1,12 @@
 //! Objects in the order of their names.
-ghost use Rattle.std.specs.Prelude.{◌≡◌, ◌<◌, ◌≤◌, ◌+◌, ◌-◌, ◌*◌, ◌^◌, ◌++◌, ℕ, Bool, List, length, map, if◌then◌else◌, Some, None, Ok, IfOk, IsOk, IsTrue, MatchResult};
+ghost use Rattle.std.specs.Prelude.{◌≡◌, ◌<◌, ◌≤◌, ◌+◌, ◌-◌, ◌*◌, ◌^◌, ◌++◌, ℕ, Bool, List, length, map, if◌then◌else◌, Some, None, Ok, IfOk, IsOk, OnErr, IsTrue, MatchResult};
 ghost use Rattle.std.specs.Option.{option_copied};
 ghost use Rattle.message_core.specs.Instances.{next_of, value_of, IsServable};
 ghost use Rattle.setphase_core.specs.Registry.{rows_of, prefixes_of, first_fault, AreApart, AreNamed, HasShortName, owner_of, instances};
 ghost use Rattle.setphase_core.specs.Passing.{open_instances, passed_after, passed_ahead};
 ghost use Rattle.setphase_core.specs.Searching.{IsPlace, prefix_at, AreBegun, least_comparisons};
 ghost use Rattle.setphase_core.specs.Walking.{AreOpen, first_place, IsThere, instance_at};
-ghost use Rattle.oid_core.specs.declared.limits.TheConstants.{INLINE_NUMBERS};
+ghost use Rattle.oid_core.specs.declared.limits.TheConstants.{INLINE_NUMBERS, MAX_NUMBERS};
 
 use crate::object::MibObject;
 use crate::passing::{Passing, Spot};
@@ -116,8 +116,8 @@ impl<O: MibObject> Registry<O> {
     }
 
     /// Hands on that the objects are in the order of their names, none of which begins another,
-    /// that each stands under 1.3 and has room behind it for any index, that the names of the
-    /// instances rise, and that each instance can be served, whatever the objects and the world
+    /// that each stands under 1.3 and is a name with the longest index of its column, that the names of
+    /// the instances rise, and that each instance can be served, whatever the objects and the world
     /// are, and also of the objects that a test leaves, whatever it passes over; it does nothing.
     pub fn known(&self, world: &World)
         ensures ordered { first_fault (rows_of self.now) ≡ None }
@@ -312,11 +312,14 @@ impl<O: MibObject> Registry<O> {
     /// The name of the instance at a spot. It takes memory only where it has more than
     /// `oid_core::INLINE_NUMBERS` numbers.
     pub fn name_at(&self, alloc: Global, spot: &Spot) -> Result<Oid, AllocError>
-        requires { spot.now.place < length self.now }
+        requires within { spot.now.place < length self.now }
+        requires fits { length (prefix_at (prefixes_of (rows_of self.now)) spot.now.place
+            ++ spot.now.index.items) ≤ MAX_NUMBERS }
         ensures name { IfOk result (λ name. name
             ≡ prefix_at (prefixes_of (rows_of self.now)) spot.now.place ++ spot.now.index.items) }
-        ensures inline { length (prefix_at (prefixes_of (rows_of self.now)) spot.now.place
-            ++ spot.now.index.items) ≤ INLINE_NUMBERS → IsOk result }
+        ensures inline { OnErr result (INLINE_NUMBERS
+            < length (prefix_at (prefixes_of (rows_of self.now)) spot.now.place
+            ++ spot.now.index.items)) }
     {
         name_there(alloc, self.objects.as_slice(), spot)
     }

@@ -1,6 +1,6 @@
 //! Where the instance stands that a walk finds, and the instance there.
-ghost use Rattle.std.specs.Prelude.{◌≡◌, ◌≤◌, ◌<◌, ◌+◌, ◌++◌, length, map, if◌then◌else◌, Some, None, Ok, IfOk, IsOk, IsSome, IsTrue};
-ghost use Rattle.oid_core.specs.declared.limits.TheConstants.{INLINE_NUMBERS};
+ghost use Rattle.std.specs.Prelude.{◌≡◌, ◌≤◌, ◌<◌, ◌+◌, ◌++◌, length, map, if◌then◌else◌, Some, None, Ok, IfOk, OnErr, IsSome, IsTrue};
+ghost use Rattle.oid_core.specs.declared.limits.TheConstants.{INLINE_NUMBERS, MAX_NUMBERS};
 ghost use Rattle.message_core.specs.Instances.{next_of};
 ghost use Rattle.setphase_core.specs.Values.{value_at};
 ghost use Rattle.setphase_core.specs.Columns.{shown_by};
@@ -33,6 +33,7 @@ pub fn find_spot<O: MibObject, P: Passing, L: Ledger>(
     steps: &mut Steps<L>,
 ) -> bool
     requires ordered { first_fault (rows_of (map O.state objects.now)) ≡ None }
+    requires named { AreNamed (rows_of (map O.state objects.now)) }
     requires place { IsPlace (prefixes_of (rows_of (map O.state objects.now))) name.now place }
     requires until { AreOpen (P.passes passing.now)
         (prefixes_of (rows_of (map O.state objects.now))) (first_place place) until }
@@ -55,10 +56,12 @@ pub fn find_spot<O: MibObject, P: Passing, L: Ledger>(
 
 // The name of the instance of an object that has an index.
 fn name_under<O: MibObject>(alloc: Global, object: &O, index: &Index) -> Result<Oid, AllocError>
-    requires { IsNamed (O.state object.now).row }
+    requires named { IsNamed (O.state object.now).row }
+    requires fits { length (O.state object.now).row.prefix + length index.now.items
+        ≤ MAX_NUMBERS }
     ensures name { IfOk result (λ name. name ≡ (O.state object.now).row.prefix ++ index.now.items) }
-    ensures inline { length (O.state object.now).row.prefix + length index.now.items
-        ≤ INLINE_NUMBERS → IsOk result }
+    ensures inline { OnErr result (INLINE_NUMBERS
+        < length (O.state object.now).row.prefix + length index.now.items) }
 {
     Oid::joined(alloc, object.prefix(), index.as_slice())
 }
@@ -72,11 +75,14 @@ pub fn name_there<O: MibObject>(
 ) -> Result<Oid, AllocError>
     requires named { AreNamed (rows_of (map O.state objects.now)) }
     requires within { spot.now.place < length objects.now }
+    requires fits { length (prefix_at (prefixes_of (rows_of (map O.state objects.now)))
+        spot.now.place ++ spot.now.index.items) ≤ MAX_NUMBERS }
     ensures name { IfOk result (λ name. name
         ≡ prefix_at (prefixes_of (rows_of (map O.state objects.now))) spot.now.place
         ++ spot.now.index.items) }
-    ensures inline { length (prefix_at (prefixes_of (rows_of (map O.state objects.now)))
-        spot.now.place ++ spot.now.index.items) ≤ INLINE_NUMBERS → IsOk result }
+    ensures inline { OnErr result (INLINE_NUMBERS
+        < length (prefix_at (prefixes_of (rows_of (map O.state objects.now))) spot.now.place
+        ++ spot.now.index.items)) }
 {
     name_under(alloc, &objects[spot.place], &spot.index)
 }

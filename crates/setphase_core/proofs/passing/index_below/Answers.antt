@@ -13,8 +13,8 @@ slice_bounds-rest-count g c = omega (arith, ap (λ (xs : List ℕ). length xs) c
 pub slice_bounds-rest-start : goal.slice_bounds-rest-start
 slice_bounds-rest-start g c = omega (arith, ap (λ (xs : List ℕ). length xs) c.prefix.ensures, begun_fits (g.O.MibObject.state c.args.object.now).row.prefix c.args.name.now c.requires)
 
-pub returns : goal.returns
-returns g c =
+pub returns-clause-found : goal.returns-clause-found
+returns-clause-found g c =
     let row : ObjectRow = (g.O.MibObject.state c.args.object.now).row in
     name_begun row c.args.world.now c.args.name.now c.next_into.new.into.items c.next_into.result c.requires
     (c.next_into.ensures.found

@@ -35,4 +35,4 @@ returns g c =
     let split = split_there g.O.MibObject.state c.args.objects.now c.args.place c.index-objects-place.result c.requires.within c.index-objects-place.is in
     own_answer passes rows row c.args.world.now c.args.name.now c.args.place c.args.steps.now (record { place = c.args.place; index = c.index_below.new.into }) c.index_below.result
     split (sym c.is_passed.ensures ∙ c.if-is_passed.false) (omega (arith, c.requires.within, rows_count g.O.MibObject.state c.args.objects.now))
-    (row_there g.O.MibObject.state c.args.objects.now c.args.place c.index-objects-place.result row c.requires.within c.index-objects-place.is) refl c.index_below.ensures
+    (row_there g.O.MibObject.state c.args.objects.now c.args.place c.index-objects-place.result row c.requires.within c.index-objects-place.is) refl c.index_below.ensures.fits c.index_below.ensures.found

@@ -33,13 +33,14 @@ returns-then-index_ahead-clause-found g c =
     let rows : List ObjectRow = drop c.args.start (rows_of (map g.O.MibObject.state c.args.objects.now)) in
     let row : ObjectRow = (g.O.MibObject.state c.index-objects-place.result).row in
     let split = split_there g.O.MibObject.state c.args.objects.now c.loop-place.place c.index-objects-place.result c.loop-place-test.true c.index-objects-place.is in
-    let index = ap (λ b. cond b (Some (row.prefix ++ c.index_ahead.new.into.items)) None) (sym c.if-index_ahead.true) ∙ c.index_ahead.ensures in
+    let index = ap (λ b. cond b (Some (row.prefix ++ c.index_ahead.new.into.items)) None) (sym c.if-index_ahead.true) ∙ c.index_ahead.ensures.found in
     record {
       row = row;
       after = c.loop-place.auto.place;
       within = omega (arith, c.loop-place-test.true, rows_count g.O.MibObject.state c.args.objects.now);
       at = row_there g.O.MibObject.state c.args.objects.now c.loop-place.place c.index-objects-place.result row c.loop-place-test.true c.index-objects-place.is;
       index = index;
+      fits = c.index_ahead.ensures.fits c.if-index_ahead.true;
       first = passed.walk_found passes rows _ row _ c.args.world.now c.args.name.now split c.args.steps.now c.loop-place.steps c.loop-place.invariant c.index_ahead.new.into.items (sym c.is_passed.ensures ∙ c.if-is_passed.false) index;
     }
 
@@ -49,7 +50,7 @@ returns-then-index_ahead-clause-work g c =
     let rows : List ObjectRow = drop c.args.start (rows_of (map g.O.MibObject.state c.args.objects.now)) in
     let row : ObjectRow = (g.O.MibObject.state c.index-objects-place.result).row in
     let split = split_there g.O.MibObject.state c.args.objects.now c.loop-place.place c.index-objects-place.result c.loop-place-test.true c.index-objects-place.is in
-    let index = ap (λ b. cond b (Some (row.prefix ++ c.index_ahead.new.into.items)) None) (sym c.if-index_ahead.true) ∙ c.index_ahead.ensures in
+    let index = ap (λ b. cond b (Some (row.prefix ++ c.index_ahead.new.into.items)) None) (sym c.if-index_ahead.true) ∙ c.index_ahead.ensures.found in
     passed.walk_work passes rows _ row _ c.args.world.now c.args.name.now split c.args.steps.now c.loop-place.steps c.loop-place.invariant c.index_ahead.new.into.items (sym c.is_passed.ensures ∙ c.if-is_passed.false) index
 
 pub loop-place-preserved : goal.loop-place-preserved
@@ -65,7 +66,7 @@ loop-place-preserved g c =
       | else-is_passed+else-index_ahead w ↦
           passed.walk_later passes rows _ row _ c.args.world.now c.args.name.now split c.args.steps.now c.loop-place.steps c.if-is_passed.steps c.loop-place.invariant
           (sym c.is_passed.ensures ∙ w.if-is_passed.false)
-          (named_none row c.args.world.now c.args.name.now (ap (λ b. cond b (Some (row.prefix ++ w.index_ahead.new.into.items)) None) (sym w.if-index_ahead.false) ∙ w.index_ahead.ensures)) (omega (arith, w.steps-is))
+          (named_none row c.args.world.now c.args.name.now (ap (λ b. cond b (Some (row.prefix ++ w.index_ahead.new.into.items)) None) (sym w.if-index_ahead.false) ∙ w.index_ahead.ensures.found)) (omega (arith, w.steps-is))
     ]
 
 pub returns-clause-found : goal.returns-clause-found

@@ -8,7 +8,7 @@ pub returns-clause-found : goal.returns-clause-found
 returns-clause-found g c = found_instance (g.P.Passing.passes c.args.passing.now) (rows_of (map g.O.MibObject.state c.args.objects.now)) c.args.world.now c.args.name.now c.next_spot.result c.next_spot.new.spot c.next_spot.ensures.found
 
 pub returns-clause-there : goal.returns-clause-there
-returns-clause-there g c = found_there (g.P.Passing.passes c.args.passing.now) (rows_of (map g.O.MibObject.state c.args.objects.now)) c.args.world.now c.args.name.now c.next_spot.result c.next_spot.new.spot c.next_spot.ensures.found
+returns-clause-there g c = found_there (g.P.Passing.passes c.args.passing.now) (rows_of (map g.O.MibObject.state c.args.objects.now)) c.args.world.now c.args.name.now c.next_spot.result c.next_spot.new.spot c.requires.named c.next_spot.ensures.found
 
 pub returns-clause-place : goal.returns-clause-place
 returns-clause-place g c = found_place (g.P.Passing.passes c.args.passing.now) (rows_of (map g.O.MibObject.state c.args.objects.now)) c.args.world.now c.args.name.now c.next_spot.result c.next_spot.new.spot (ordered_from _ c.requires.ordered) c.next_spot.ensures.found
