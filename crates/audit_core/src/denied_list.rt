@@ -31,10 +31,13 @@ impl Drop for DeniedList {
 impl Model for DeniedList {
     ghost use Rattle.std.specs.Prelude.{List, ◌++◌};
     ghost use Rattle.audit_core.specs.declared.denied.Denied.{Denied};
+    ghost use Rattle.audit_core.specs.Marks.{AreUnmarked};
 
     ghost Value = { List Denied };
 
     ghost view = { λ d. d.marks ++ d.rest.items };
+
+    ghost invariant = { λ d. AreUnmarked d.marks d.rest.items };
 }
 
 impl DeniedList {

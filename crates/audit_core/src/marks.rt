@@ -1,9 +1,9 @@
 //! Denied bindings as small marks, beside the distinct keys of their families.
-ghost use Rattle.std.specs.Prelude.{◌≡◌, ◌≢◌, ◌↔◌, [], ◌∷◌, ◌++◌, Some, IsTrue, IfOk, IfSome, OnOk, OnErr, MatchOption};
-ghost use Rattle.std.specs.Option.{option_copied, option_to_list};
+ghost use Rattle.std.specs.Prelude.{◌≡◌, ◌≢◌, ◌↔◌, [], ◌∷◌, ◌++◌, Some, IsTrue, IfOk, OnOk, OnErr, MatchOption};
+ghost use Rattle.std.specs.Option.{option_copied};
 ghost use Rattle.std.specs.List.{flat_map};
 ghost use Rattle.audit_core.specs.Text.{denied_text};
-ghost use Rattle.audit_core.specs.Marks.{key_at, IsPlaceFor, IsMarkFor, IsBehind};
+ghost use Rattle.audit_core.specs.Marks.{key_at, Differ, IsPlaceFor, IsPlaceOf, IsMarkFor, HasNoMark, IsUnmarked, IsWith};
 
 use crate::denied::{Denied, WrittenDenied};
 use crate::keys::FamilyKey;
@@ -89,15 +89,17 @@ impl Marks {
     /// nothing changes and the denied binding is let go.
     pub fn push(&mut self, denied: Denied) -> Result<Option<Denied>, AllocError>
         ensures ok { IfOk result (λ back. MatchOption back (self.new ≡ self.old ++ denied ∷ [])
-            (λ unmarked. (unmarked ≡ denied) × (self.new ≡ self.old))) }
+            (λ unmarked. (unmarked ≡ denied) × IsUnmarked self.old denied
+            × (self.new ≡ self.old))) }
         ensures err { OnErr result (self.new ≡ self.old) }
     {
         let Some(mark) = mark_for(self.keys.as_slice(), &denied) else {
             return Ok(Some(denied));
         };
+        self.marks.reserve(1)?;
         let Denied { index: _, family } = denied;
         put_key(&mut self.keys, &mark, family)?;
-        self.marks.push(mark)?;
+        self.marks.push_reserved(mark);
         Ok(None)
     }
 }
@@ -129,6 +131,7 @@ fn copied_keys(alloc: Global, keys: &[FamilyKey]) -> Result<Vec<FamilyKey>, Allo
 // The place of a key among distinct ones, or behind them all where it does not stand among them. The
 // last is compared first, since bindings side by side mostly have one family. Takes no memory.
 fn place_for(keys: &[FamilyKey], key: &FamilyKey) -> usize
+    requires { Differ keys.now }
     ensures { IsPlaceFor keys.now key.now result }
 {
     match keys.iter().rposition(|other| other.same(key)) {
@@ -139,7 +142,9 @@ fn place_for(keys: &[FamilyKey], key: &FamilyKey) -> usize
 
 // The mark of a denied binding, if its number and the place of its key fit 16 bits. Takes no memory.
 fn mark_for(keys: &[FamilyKey], denied: &Denied) -> Option<Mark>
-    ensures { IfSome result (λ mark. IsMarkFor keys.now denied.now mark) }
+    requires { Differ keys.now }
+    ensures { MatchOption result (HasNoMark keys.now denied.now)
+        (λ mark. IsMarkFor keys.now denied.now mark) }
 {
     let index = u16::try_from(denied.index).ok()?;
     let family = match &denied.family {
@@ -156,9 +161,9 @@ fn put_key(
     mark: &Mark,
     family: Option<FamilyKey>,
 ) -> Result<(), AllocError>
-    requires { key_at (keys.old.items ++ option_to_list family) mark.now.family ≡ family }
+    requires { IsPlaceOf keys.old.items family mark.now.family }
     ensures ok { OnOk result (key_at keys.new.items mark.now.family ≡ family) }
-    ensures behind { OnOk result (IsBehind keys.old.items keys.new.items) }
+    ensures added { OnOk result (IsWith keys.old.items family keys.new.items) }
     ensures err { OnErr result (keys.new.items ≡ keys.old.items) }
 {
     let Some(key) = family else {

@@ -1,5 +1,5 @@
 -- What was recorded of a line, as a list of its items.
-use Rattle.std.proofs.Common.{◌≡◌, ℕ, inl, inr, List, [], ◌∷◌, ◌++◌, refl}
+use Rattle.std.proofs.Common.{ℕ, inl, inr, List, [], ◌∷◌, ◌++◌, refl}
 use Rattle.std.specs.Prelude.{Option}
 use Rattle.wire_core.specs.Acts.{Act}
 use Rattle.live_agent.specs.declared.trace.End.{End}

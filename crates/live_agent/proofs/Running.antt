@@ -75,6 +75,12 @@ not_memory (was_taken a h) e = not_memory_by h.applied h.fault e
 not_memory (was_own h) e = not_memory_by h.applied h.fault e
 not_memory paused e = cc
 
+-- so a turn that ends a line says nothing of memory
+pub ends_for_else : {W D K : Type 0} (went : W → List D → W → Type 0) (kept : K → List Item → K → Type 0) (does : Turn → List D) (is_turn : Turn → Type 0) (a b : W) (k l : K) (amount later_amount : ℕ) (how : End)
+    → HasTurned went kept does is_turn a b k l amount later_amount (Some how) → how ≡ end.Memory → ⊥
+ends_for_else went kept does is_turn a b k l amount later_amount how t is =
+    not_memory t.turn (sym t.ends_so ∙ ap (λ (e : End). Some e) is)
+
 -- a turn that ends the line
 pub stops : (rounds : ℕ) (ts : List Turn) (t : Turn) (how : End) → All GoesOn ts → end_of t ≡ Some how → length ts < rounds → EndsBy rounds (ts ++ t ∷ []) how
 stops rounds ts t end.Rounds on by less = absurd (not_rounds t by)

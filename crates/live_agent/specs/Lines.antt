@@ -205,6 +205,14 @@ HasPortRun went kept s port rounds a b k l amount later_amount how =
     ⊎ HasLinked went kept s port a b k l amount later_amount (Some how)
     ⊎ HasLinkedAndRun went kept s port rounds a b k l amount later_amount how
 
+-- A whole line of a port that ended for want of memory has none for one item more, or its link found
+-- none.
+abbrev pub EndsPortShort : {W K : Type 0} → (K → Type 0) → (W → List Act → W → Type 0)
+    → (K → List Item → K → Type 0) → Setting → ℕ → W → W → K → K → ℕ → ℕ → End → Type 0
+EndsPortShort has_room went kept s port a b k l amount later_amount how =
+    how ≡ end.Memory → (has_room l → ⊥)
+    ⊎ HasLinked went kept s port a b k l amount later_amount (Some end.Memory)
+
 -- ---- the ticker
 
 -- A second passed, and what the ports send went to their peers.

@@ -3,8 +3,8 @@ ghost use Rattle.std.specs.Prelude.{◌≡◌, ◌+◌, ◌<◌, ◌++◌, ◌�
 ghost use Rattle.frame_core.specs.Frames.{IsFrame};
 ghost use Rattle.history_core.specs.declared.event.Event.TheVariants as event;
 ghost use Rattle.wire_core.specs.Acts.{got};
-ghost use Rattle.live_agent.specs.Lines.{setting_of, IsPortTurn, HasLinked, HasPortRun, end_after_link, frame_room};
-ghost use Rattle.live_agent.specs.Runs.{HasTurned, HasRun, failures_at, failures_by};
+ghost use Rattle.live_agent.specs.Lines.{setting_of, IsPortTurn, HasLinked, HasPortRun, EndsPortShort, end_after_link, frame_room};
+ghost use Rattle.live_agent.specs.Runs.{HasTurned, HasRun, EndsShort, failures_at, failures_by};
 ghost use Rattle.live_agent.specs.Turns.{acts_of};
 ghost use Rattle.live_sending.specs.Sending.{fault_in};
 
@@ -40,6 +40,8 @@ pub fn port_run<O: MibObject, L: Run, W: Wire, K: Recorder, R: Wait>(
     requires { 0 < share.old.parts }
     ensures run { HasPortRun W.went K.went (setting_of L.start plan.now) port plan.now.rounds
         wire.old wire.new recorder result.1 share.old.amount share.new.amount result.0 }
+    ensures memory { EndsPortShort K.has_room W.went K.went (setting_of L.start plan.now) port
+        wire.old wire.new recorder result.1 share.old.amount share.new.amount result.0 }
     ensures failures { W.failures wire.new ≡ failures_at result.0 (W.failures wire.old) }
     ensures parts { share.new.parts ≡ share.old.parts }
 {
@@ -64,6 +66,9 @@ fn link_and_go_round<O: MibObject, L: Run, W: Wire, K: Recorder, R: Wait>(
 ) -> End
     requires { 0 < share.old.parts }
     ensures run { HasPortRun W.went K.went (setting_of L.start plan.now) port plan.now.rounds
+        wire.old wire.new state.old.recorder state.new.recorder share.old.amount share.new.amount
+        result }
+    ensures memory { EndsPortShort K.has_room W.went K.went (setting_of L.start plan.now) port
         wire.old wire.new state.old.recorder state.new.recorder share.old.amount share.new.amount
         result }
     ensures failures { W.failures wire.new ≡ failures_at result (W.failures wire.old) }
@@ -134,6 +139,7 @@ pub fn port_lap<O: MibObject, L: Run, W: Wire, K: Recorder, R: Wait>(
         (IsPortTurn (setting_of L.start plan.now) port)
         plan.now.rounds wire.old wire.new recorder result.1 share.old.amount share.new.amount
         result.0 }
+    ensures memory { EndsShort K.has_room result.1 result.0 }
     ensures failures { W.failures wire.new ≡ failures_at result.0 (W.failures wire.old) }
     ensures parts { share.new.parts ≡ share.old.parts }
 {
@@ -161,6 +167,7 @@ fn go_round<O: MibObject, L: Run, W: Wire, K: Recorder, R: Wait>(
         (IsPortTurn (setting_of L.start plan.now) port)
         plan.now.rounds wire.old wire.new state.old.recorder state.new.recorder
         share.old.amount share.new.amount result }
+    ensures memory { EndsShort K.has_room state.new.recorder result }
     ensures failures { W.failures wire.new ≡ failures_at result (W.failures wire.old) }
     ensures parts { share.new.parts ≡ share.old.parts }
 {

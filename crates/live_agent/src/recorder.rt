@@ -1,5 +1,5 @@
 //! What takes the items of a line.
-ghost use Rattle.std.specs.Prelude.{◌≡◌, ◌<◌, ◌++◌, ◌∷◌, [], vec_len, vec_capacity, OnOk};
+ghost use Rattle.std.specs.Prelude.{◌≡◌, ◌<◌, ◌++◌, ◌∷◌, [], vec_len, vec_capacity, OnOk, OnErr};
 
 use crate::trace::Item;
 use std::alloc::AllocError;
@@ -23,7 +23,8 @@ pub trait Recorder: Drop {
     /// That there is none.
     fn reserve(&mut self) -> Result<(), AllocError>
         ensures unchanged { went self.old [] self.new }
-        ensures room { OnOk result (has_room self.new) };
+        ensures room { OnOk result (has_room self.new) }
+        ensures short { OnErr result (has_room self.new → ⊥) };
 
     /// Takes an item, for which there is memory.
     fn record(&mut self, item: Item)

@@ -2,7 +2,7 @@
 ghost use Rattle.std.specs.Prelude.{◌≡◌, ◌+◌, ◌<◌};
 ghost use Rattle.history_core.specs.declared.event.Event.TheVariants as event;
 ghost use Rattle.live_agent.specs.Lines.{setting_of, HasTicked, IsSecond};
-ghost use Rattle.live_agent.specs.Runs.{HasTurned, failures_at, failures_by};
+ghost use Rattle.live_agent.specs.Runs.{HasTurned, EndsShort, failures_at, failures_by};
 ghost use Rattle.live_agent.specs.Turns.{acts_of};
 
 use crate::line_state::{LineState, noted};
@@ -32,6 +32,7 @@ pub fn ticker_run<O: MibObject, L: Run, T: PacedWire, K: Recorder, R: Wait>(
     requires { 0 < share.old.parts }
     ensures run { HasTicked T.did K.went (setting_of L.start plan.now) plan.now.rounds wire.old
         wire.new recorder result.1 share.old.amount share.new.amount result.0 }
+    ensures memory { EndsShort K.has_room result.1 result.0 }
     ensures failures { T.failures wire.new ≡ failures_at result.0 (T.failures wire.old) }
     ensures parts { share.new.parts ≡ share.old.parts }
 {
@@ -56,6 +57,7 @@ fn tick_rounds<O: MibObject, L: Run, T: PacedWire, K: Recorder, R: Wait>(
     requires { 0 < share.old.parts }
     ensures run { HasTicked T.did K.went (setting_of L.start plan.now) plan.now.rounds wire.old
         wire.new state.old.recorder state.new.recorder share.old.amount share.new.amount result }
+    ensures memory { EndsShort K.has_room state.new.recorder result }
     ensures failures { T.failures wire.new ≡ failures_at result (T.failures wire.old) }
     ensures parts { share.new.parts ≡ share.old.parts }
 {

@@ -6,7 +6,7 @@ ghost use Rattle.message_core.specs.Message.{IsRequest};
 ghost use Rattle.history_core.specs.declared.event.Event.TheVariants as event;
 ghost use Rattle.wire_core.specs.Acts.{got};
 ghost use Rattle.live_agent.specs.Lines.{setting_of, IsWorkerTurn, Happens, HasWorked, request_room, audited_of, worker_deeds, visits_behind};
-ghost use Rattle.live_agent.specs.Runs.{HasTurned, failures_at, failures_by};
+ghost use Rattle.live_agent.specs.Runs.{HasTurned, EndsShort, failures_at, failures_by};
 ghost use Rattle.live_agent.specs.Turns.{entered_in};
 
 use crate::gate::{AnsweredRequest, GatedWire};
@@ -45,6 +45,7 @@ pub fn worker_run<O: MibObject, L: Run, W: GatedWire, K: Recorder, R: Wait>(
     requires { 0 < share.old.parts }
     ensures run { HasWorked W.did K.went (setting_of L.start plan.now) plan.now.rounds worker
         wire.old wire.new recorder result.1 share.old.amount share.new.amount result.0 }
+    ensures memory { EndsShort K.has_room result.1 result.0 }
     ensures failures { W.failures wire.new ≡ failures_at result.0 (W.failures wire.old) }
     ensures parts { share.new.parts ≡ share.old.parts }
 {
@@ -71,6 +72,7 @@ fn work_rounds<O: MibObject, L: Run, W: GatedWire, K: Recorder, R: Wait>(
     ensures run { HasWorked W.did K.went (setting_of L.start plan.now) plan.now.rounds worker
         wire.old wire.new state.old.recorder state.new.recorder share.old.amount share.new.amount
         result }
+    ensures memory { EndsShort K.has_room state.new.recorder result }
     ensures failures { W.failures wire.new ≡ failures_at result (W.failures wire.old) }
     ensures parts { share.new.parts ≡ share.old.parts }
 {

@@ -1,8 +1,9 @@
 use Rattle.std.proofs.Common.{◌≡◌, ◌∙◌, ◌∷◌, [], Bool, true, false, refl, subst, arith, rules}
 use Rattle.live_agent.specs.declared.trace.End.TheVariants as end
 use Rattle.live_agent.specs.Deeds.{answered}
-use Rattle.live_agent.specs.Lines.{setting_of, ticker_deeds}
-use Rattle.live_agent.proofs.Running.{goes_none, goes_more, goes_stops, goes_round, goes_short}
+use Rattle.live_agent.specs.Lines.{setting_of, ticker_deeds, IsSecond}
+use Rattle.live_agent.specs.Turns.{acts_of}
+use Rattle.live_agent.proofs.Running.{goes_none, goes_more, goes_stops, goes_round, goes_short, ends_for_else}
 use Rattle.live_agent.proofs.Ticking.{second_turn, pause_turn}
 use Rattle.live_agent.proofs.ticker.tick_rounds.Goals as goal
 
@@ -50,3 +51,7 @@ returns-then-is_err-clause-run g c =
 pub returns-clause-run : goal.returns-clause-run
 returns-clause-run g c =
     goes_round g.T.PacedWire.did g.K.Recorder.went ticker_deeds _ c.args.plan.now.rounds c.loop-i._i _ _ _ _ _ _ c.loop-i.invariant.goes (omega arith)
+
+pub returns-in-Some-clause-memory : goal.returns-in-Some-clause-memory
+returns-in-Some-clause-memory g c = λ is _.
+    ends_for_else g.T.Wire.went g.K.Recorder.went acts_of (IsSecond (setting_of g.L.Run.start c.args.plan.now)) _ _ _ _ _ _ c.in-Some.end c.in-Some.ensures.turn is

@@ -1,6 +1,6 @@
 use Rattle.std.proofs.Common.{◌∙◌, [], refl, arith}
 use Rattle.live_agent.specs.Lines.{worker_deeds}
-use Rattle.live_agent.proofs.Running.{goes_none, goes_more, goes_stops, goes_round, goes_short}
+use Rattle.live_agent.proofs.Running.{goes_none, goes_more, goes_stops, goes_round, goes_short, ends_for_else}
 use Rattle.live_agent.proofs.worker.work_rounds.Goals as goal
 
 pub loop-i-init : goal.loop-i-init
@@ -30,3 +30,7 @@ returns-then-is_err-clause-run g c =
 pub returns-clause-run : goal.returns-clause-run
 returns-clause-run g c =
     goes_round g.W.GatedWire.did g.K.Recorder.went (worker_deeds c.args.worker) _ c.args.plan.now.rounds c.loop-i._i _ _ _ _ _ _ c.loop-i.invariant.goes (omega arith)
+
+pub returns-in-Some-clause-memory : goal.returns-in-Some-clause-memory
+returns-in-Some-clause-memory g c = λ is _.
+    ends_for_else g.W.GatedWire.did g.K.Recorder.went (worker_deeds c.args.worker) _ _ _ _ _ _ _ c.in-Some.end c.in-Some.ensures.turn is
