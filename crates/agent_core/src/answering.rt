@@ -157,6 +157,32 @@ fn drop_request(alloc: Global, request: &Request, cause: Cause) -> Answered
     })
 }
 
+// The audit of a request that changes nothing and whose reply stands in the buffer.
+fn audit_with(
+    request: &Request,
+    decision: Decision,
+    denied: DeniedBindings,
+    sent: SentReply,
+) -> Audit
+    ensures { result ≡ record {
+      kind = request.now.kind;
+      status = sent.status;
+      index = sent.index;
+      decision = decision;
+      denied = denied;
+      unrestored = [];
+    } }
+{
+    Audit {
+        kind: request.kind,
+        status: sent.status,
+        index: sent.index,
+        decision,
+        denied,
+        unrestored: Unrestored::none(),
+    }
+}
+
 // What a request is answered whose reply stands in the buffer.
 fn reply_with(
     request: &Request,
@@ -175,14 +201,7 @@ fn reply_with(
 {
     Answered::Reply(
         sent.length,
-        Audit {
-            kind: request.kind,
-            status: sent.status,
-            index: sent.index,
-            decision,
-            denied,
-            unrestored: Unrestored::none(),
-        },
+        audit_with(request, decision, denied, sent),
         None,
     )
 }
@@ -205,16 +224,10 @@ fn unnamed_with(
       unrestored = [];
     }) number }
 {
+    let none = DeniedBindings::new(alloc);
     Answered::Unnamed(
         sent.length,
-        Audit {
-            kind: request.kind,
-            status: sent.status,
-            index: sent.index,
-            decision,
-            denied: DeniedBindings::new(alloc),
-            unrestored: Unrestored::none(),
-        },
+        audit_with(request, decision, none, sent),
         number,
     )
 }
