@@ -108,7 +108,7 @@ unfoldable pub outcome_of : Shown → Request → Outcome
 outcome_of shown request = outcome_by shown request (decision_on shown.policy request)
 
 -- The same where there was no memory for a name that is made for this binding: a request that is
--- authorized for a view is answered genErr with its number, and nothing is denied.
+-- authorized for a view is answered genErr with its number, within the limit, and nothing is denied.
 abbrev pub unnamed_outcome_by : Shown → Request → ℕ → Decision → Outcome
 unnamed_outcome_by shown request i (Drop cause) = outcome_by shown request (Drop cause)
 unnamed_outcome_by shown request i Empty = outcome_by shown request Empty
@@ -250,14 +250,15 @@ MayLackName rows world view request kind None = Unit {0}
 MayLackName rows world view request kind (Some i) =
     LacksNameOf (in_view world.policy.vacm.families view) (instances rows world) request kind i
 
--- What a request that is authorized for a view may meet: no memory for a name, where it reads; and
--- calls of devices that fail, where it is a Set.
+-- Which calls of devices may fail: those of a Set alone.
 abbrev pub MayFailInView : List ObjectRow → World → List ℕ → Request → SetNotes → Kind → Type 0
 MayFailInView rows world view request notes Get = notes ≡ no_notes
 MayFailInView rows world view request notes GetNext = notes ≡ no_notes
 MayFailInView rows world view request notes GetBulk = notes ≡ no_notes
 MayFailInView rows world view request notes Set = MayFailInSet rows world view request notes
 
+-- What a request that is authorized for a view may meet: no memory for a name, where it is a GetNext or a
+-- GetBulk; calls of devices that fail, where it is a Set.
 pub record MayMeetInView (rows : List ObjectRow) (world : World) (view : List ℕ)
     (request : Request) (notes : RequestNotes) : Type 0 where
   pub devices : MayFailInView rows world view request notes.devices request.kind
@@ -323,7 +324,7 @@ IsReply reply request decision denied (answered.Unnamed len told i) octets = ⊥
 IsReply reply request decision denied (answered.NoReply told) octets = ⊥
 
 -- What is known of a reply to a request that reads: it is this one; or it is genErr with the number of
--- a binding, since there was no memory for a name that is made for it.
+-- a binding, within the limit, since there was no memory for a name that is made for it.
 abbrev pub IsSentBy : Reply → Request → (ℕ → Type 0) → Option ℕ → SentReply → List ℕ → Type 0
 IsSentBy reply request lacks None sent octets = IsSent reply sent octets
 IsSentBy reply request lacks (Some i) sent octets =
@@ -352,7 +353,7 @@ notes_told (answered.Reply len audit failed) =
 notes_told (answered.Unnamed len audit i) = no_notes
 notes_told (answered.NoReply audit) = no_notes
 
--- the binding for whose name there was no memory, as it is reported
+-- the binding for which a name was made that found no memory, as it is reported
 abbrev pub unnamed_told : Answered → Option ℕ
 unnamed_told (answered.Reply len audit failed) = None
 unnamed_told (answered.Unnamed len audit i) = Some i

@@ -55,9 +55,9 @@ pub record IsLacking (shows : List ℕ → Bool) (rows : List Binding)
 abbrev pub non_repeaters : Request → ℕ
 non_repeaters request = min (count_of request.first) (length request.bindings)
 
--- A GetBulk: members of the list that is asked for, so many as fit into the reply, and a next one under
--- whose name a long name is made; i is the number of its binding, in whichever repetition (RFC 3416,
--- 4.2.3).
+-- A GetBulk: first members of the list that is asked for, which fit into the reply, and a next one,
+-- fitting or not, under whose name a long name is made; i is the number of its binding, in whichever
+-- repetition (RFC 3416, 4.2.3).
 pub record LacksBulkName (shows : List ℕ → Bool) (rows : List Binding) (request : Request)
     (i : ℕ) : Type 0 where
   pub found : List Binding

@@ -26,7 +26,7 @@ abbrev pub failure_reply : Request → Reply
 failure_reply request = reply_within_limit (answer_to request GenErr (pos 0) request.bindings)
 
 -- what answers the want of memory for a name above 24 numbers that is made for binding i: genErr, index
--- i, the request's bindings
+-- i, the request's bindings, within the limit
 abbrev pub name_failure_reply : Request → ℕ → Reply
 name_failure_reply request i =
     reply_within_limit (answer_to request GenErr (pos i) request.bindings)

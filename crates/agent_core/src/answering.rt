@@ -10,6 +10,7 @@ ghost use Rattle.agent_core.specs.Replies.{kind_reply, reply_within_limit, failu
 ghost use Rattle.agent_core.specs.Denying.{denied_in};
 ghost use Rattle.agent_core.specs.Answers.{IsSent, IsSentRead, IsSentBy, IsRead, IsStep, drop_audit, reply_audit, with_count_of};
 ghost use Rattle.agent_core.specs.Lacking.{LacksNameOf, IfName};
+ghost use Rattle.agent_core.specs.Sets.{greatest_index};
 
 use crate::answered::Answered;
 use crate::buffer::Buffer;
@@ -49,8 +50,8 @@ use vacm_core::Name;
 /// undone.
 ///
 /// Where there is no memory for a name above `INLINE_NUMBERS`, 24, numbers that a GetNext or a GetBulk
-/// makes, the reply is genErr with the number of the binding for which it is made (RFC 3416, 4.2.2 and
-/// 4.2.3).
+/// makes, the reply is genErr with the number of the binding for which it is made, or tooBig where that
+/// is too long (RFC 3416, 4.2.2 and 4.2.3).
 ///
 /// # Errors
 /// Only memory can fail: then the buffer is empty, the world is as before, and the request is one
@@ -398,7 +399,9 @@ fn read_kind<S: Source<L>, L: Ledger>(
     }
 }
 
-// Puts genErr with the number of a binding into the buffer, for whose name there was no memory.
+// Puts genErr with the number of a binding into the buffer, for which a name was made that found no
+// memory, or tooBig where that is too long. Fails only above the greatest error-index, which no decoded
+// request reaches.
 fn send_unnamed(
     request: &Request,
     number: usize,
@@ -411,6 +414,7 @@ fn send_unnamed(
         IsSent (name_failure_reply request.now number) read.sent buffer.new.reply) }
     ensures bpdus { buffer.new.bpdus ≡ buffer.old.bpdus }
     ensures err { OnErr result (buffer.new ≡ buffer.old) }
+    ensures most { OnErr result (greatest_index < number) }
 {
     let Ok(index) = i32::try_from(number) else {
         return Err(AllocError);

@@ -1,5 +1,5 @@
 //! GetBulk: non-repeaters, repetitions, and where they stop (RFC 3416, 4.2.3).
-ghost use Rattle.std.specs.Prelude.{◌≡◌, ◌≤◌, ◌<◌, ◌⊎◌, ◌^◌, ◌+◌, ◌-◌, ◌*◌, ◌++◌, [], ◌∷◌, List, false, length, min, get_or, IfOk, IfErr, OnOk, OnErr, IsTrue, drop};
+ghost use Rattle.std.specs.Prelude.{◌≡◌, ◌≤◌, ◌<◌, ◌⊎◌, ◌^◌, ◌+◌, ◌-◌, ◌*◌, ◌++◌, [], ◌∷◌, List, false, length, min, get_or, Err, IfOk, IfErr, OnOk, OnErr, IsTrue, drop};
 ghost use Rattle.oid_core.specs.Name.{HasRoot};
 ghost use Rattle.oid_core.specs.declared.limits.TheConstants.{INLINE_NUMBERS};
 ghost use Rattle.message_core.specs.Encodable.{AreEncodable, IsEncodableBinding};
@@ -403,8 +403,8 @@ fn binding_number(once: usize, columns: usize, before: usize) -> usize
 ///
 /// # Errors
 /// `Shortage::Name` with the number of the binding of which a member of the list is asked that is to be
-/// sent next, and for which a name above `INLINE_NUMBERS`, 24, numbers was made; else
-/// `Shortage::Other`.
+/// sent next, and for which a name above `INLINE_NUMBERS`, 24, numbers was made; `Shortage::Other` ahead
+/// of any lookup, where there is no memory for the list.
 pub fn get_bulk<S: Successors<L>, L: Ledger>(
     alloc: Global,
     source: &S,
@@ -423,6 +423,7 @@ pub fn get_bulk<S: Successors<L>, L: Ledger>(
         (S.instances source.now) }
     ensures lacks { IfErr result (IfName
         (LacksBulkName (S.shows source.now) (S.instances source.now) request.now)) }
+    ensures other { result ≡ Err Shortage.Other → steps.new ≡ steps.old }
 {
     let asked = request.bindings.as_slice();
     let once = non_repeaters(request);

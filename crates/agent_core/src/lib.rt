@@ -12,13 +12,14 @@
 //! [`get`] answers from any [`Source`], and [`get_next`] and [`get_bulk`] from any [`Successors`],
 //! each of which is a [`View`] too: they can ask it for nothing but where the next instance stands,
 //! for its name and its value, and whether the view shows a name; each next instance is a step. The
-//! name and the value of an instance are made where it is sent. A walk stands at a name ([`Stand`]):
+//! value of an instance is made where it is sent; its name there, where the view is asked, and to go on
+//! behind a hidden one. A walk stands at a name ([`Stand`]):
 //! at the place of the name among the objects, and knows of those from there on how far the view
 //! shows them whole. Each column of a GetBulk walks by itself. A GetBulk lends its walks one spot, in
 //! which they write where an instance stands; memory for all bindings that can fit is reserved ahead,
 //! and so none is moved once it is made. A [`Shortage`] says for what there was no memory: for a name
-//! above 24 numbers that a binding needs, which is answered genErr with the binding's number, or for
-//! anything else.
+//! above 24 numbers that a binding needs, which is answered genErr with the binding's number (tooBig
+//! where that is too long), or for anything else.
 //!
 //! # Definitions
 //! `specs/Answers.antt`: what objects show of a world, and the step; `specs/Replies.antt`: replies
@@ -30,15 +31,16 @@
 //! and their octets; `specs/Standing.antt`: where a walk stands, and what it knows of a view there.
 //!
 //! # Laws
-//! In [`laws`]: replies depend on nothing but what is visible, those of Get also on the objects and
+//! In [`laws`]: where no memory is wanting, replies depend on nothing but what is visible, those of Get also on the objects and
 //! on which of the asked names are in the view; repeated GetNext lists all that is visible; a name has
 //! one object; repetitions are successors; the longest front that fits, and that few bindings do;
 //! one lookup where nothing is hidden.
 //!
 //! # Not claimed
 //! That memory was refused where want of it is answered or noted; of objects whose devices take no
-//! plans, which calls of a Set failed, and so which variable is reported as failed; what is passed
-//! over, and how often `answer` asks for a successor, or asks the view.
+//! plans, which calls of a Set failed, and so which variable is reported as failed; that a name is made
+//! of a hidden instance by which a binding is noted, or that a name's want of memory is noted at all;
+//! what is passed over, and how often `answer` asks for a successor, or asks the view.
 #![tactic(auto)]
 
 mod answered;

@@ -1,5 +1,5 @@
 //! GetNext: the binding after a name, or endOfMibView (RFC 3416, 4.2.2).
-ghost use Rattle.std.specs.Prelude.{◌≡◌, ◌+◌, ◌*◌, ◌≤◌, ◌<◌, IfOk, IfErr, OnErr, IsTrue, length};
+ghost use Rattle.std.specs.Prelude.{◌≡◌, ◌+◌, ◌*◌, ◌≤◌, ◌<◌, Err, IfOk, IfErr, OnErr, IsTrue, length};
 ghost use Rattle.oid_core.specs.declared.limits.TheConstants.{INLINE_NUMBERS};
 ghost use Rattle.oid_core.specs.Name.{HasRoot};
 ghost use Rattle.message_core.specs.Encodable.{IsEncodableBinding};
@@ -22,7 +22,7 @@ use steps::Steps;
 /// Whether the view shows an instance behind a name (RFC 3416, 4.2.2), over the instances that the view
 /// shows: where it stands is written in the spot that is lent. Where there is none, GetNext answers
 /// endOfMibView under the name, and the spot may be any. Only memory can fail, and only for the name of
-/// an instance that the walk passes.
+/// an instance that the walk passes or ends at.
 ///
 /// It asks the source at most once for each instance that the view hides, and once more. The stand is
 /// at the name before the call, and at the binding's name after it. `goes_on` says whether the walk is
@@ -122,7 +122,7 @@ pub fn get_next<S: Successors<L>, L: Ledger>(
 ///
 /// # Errors
 /// `Shortage::Name` with the number of an asked name for which a name above `INLINE_NUMBERS`, 24,
-/// numbers was made; else `Shortage::Other`.
+/// numbers was made; `Shortage::Other` ahead of any lookup, where there is no memory for the list.
 pub fn get_next_all<S: Successors<L>, L: Ledger>(
     alloc: Global,
     source: &S,
@@ -136,13 +136,14 @@ pub fn get_next_all<S: Successors<L>, L: Ledger>(
         (S.instances source.now) }
     ensures lacks { IfErr result (IfName
         (LacksNextName (S.shows source.now) (S.instances source.now) (names_of asked.now))) }
+    ensures other { result ≡ Err Shortage.Other → steps.new ≡ steps.old }
 {
-    let mut answers = Bindings::new(alloc);
+    let mut answers = Vec::with_capacity(alloc, asked.len())?;
     for (n, binding) in asked.iter().enumerate() {
         let Ok(answer) = get_next(alloc, source, &binding.name, steps) else {
             return Err(Shortage::Name(n + 1));
         };
-        answers.push(answer)?;
+        answers.push_reserved(answer);
     }
-    Ok(answers)
+    Ok(Bindings::from_vec(answers))
 }

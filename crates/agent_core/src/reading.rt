@@ -58,7 +58,7 @@ fn is_shown_there<S: Successors<L>, L: Ledger>(
 /// one (RFC 3416, 4.2.2). Each lookup at the source is a step: there are at most as many as the view
 /// hides instances, and one more. Where an instance is found, the walk then stands at its name; where
 /// none is, the spot may be any. Only memory can fail, and only for the name of an instance that the
-/// walk passes.
+/// walk passes or ends at.
 pub fn next_shown<S: Successors<L>, L: Ledger>(
     alloc: Global,
     source: &S,

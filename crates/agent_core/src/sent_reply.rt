@@ -17,6 +17,6 @@ pub struct SentReply {
 pub struct ReadReply {
     /// The reply.
     pub sent: SentReply,
-    /// The number of the binding for whose name there was no memory, where there was none.
+    /// The number of the binding for which a name was made that found no memory, where one was.
     pub unnamed: Option<usize>,
 }

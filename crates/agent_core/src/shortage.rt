@@ -8,7 +8,8 @@ use std::alloc::AllocError;
 #[derive(Clone, Copy, Debug, PartialEq, Eq)]
 pub enum Shortage {
     /// A name above `INLINE_NUMBERS`, 24, numbers, made for the request's binding of this number, 1 for
-    /// the first: the reply is genErr with this index (RFC 3416, 4.2.2 and 4.2.3).
+    /// the first: the reply is genErr with this index, or tooBig where that is too long (RFC 3416, 4.2.2
+    /// and 4.2.3).
     Name(usize),
     /// Anything else.
     Other,

@@ -16,7 +16,8 @@ pub struct Entry {
     /// 4.2.5). Which settings could not be restored, the audit says.
     pub failed: Option<usize>,
     /// The number of the binding of a GetNext or a GetBulk for which a name above 24 numbers was made,
-    /// where there was no memory for it: the reply is genErr with this index (RFC 3416, 4.2.2 and 4.2.3).
+    /// where there was no memory for it: the reply is genErr with this index, or tooBig where that is too
+    /// long (RFC 3416, 4.2.2 and 4.2.3).
     pub unnamed: Option<usize>,
     /// The ports by which a frame went out.
     pub egress: Egress,

@@ -33,7 +33,7 @@
 //! number is left there is no reply.
 //!
 //! # Not claimed
-//! That memory was refused where want of it is reported, or that there is some; of objects whose devices
+//! That memory was refused where want of it is reported or noted, or that there is some; of objects whose devices
 //! take no plans, which calls of a Set failed, and so which variable is reported as failed.
 #![tactic(auto)]
 

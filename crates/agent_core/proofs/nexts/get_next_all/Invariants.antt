@@ -1,4 +1,4 @@
-use Rattle.std.proofs.Common.{◌≡◌, ◌≤◌, ◌+◌, ◌*◌, take}
+use Rattle.std.proofs.Common.{◌≡◌, ◌≤◌, ◌+◌, ◌*◌, take, length, vec_len, vec_capacity}
 use Rattle.message_core.specs.Instances.{names_of}
 use Rattle.agent_core.specs.Reading.{visible, next_answers}
 use Rattle.agent_core.specs.Looking.{most_looks}
@@ -6,6 +6,8 @@ use Rattle.agent_core.proofs.nexts.get_next_all.Given as goal
 
 abbrev pub invariant-loop-n : goal.invariant-loop-n
 invariant-loop-n g l = record {
-  answers : l.answers ≡ next_answers (visible (g.S.View.shows l.source) (g.S.Successors.instances l.source)) (names_of (take l.n l.asked));
+  answers : l.answers.items ≡ next_answers (visible (g.S.View.shows l.source) (g.S.Successors.instances l.source)) (names_of (take l.n l.asked));
+  count : vec_len l.answers ≡ l.n;
+  capacity : vec_capacity l.answers ≡ length l.asked;
   work : l.steps ≤ l.fn.steps + l.n * most_looks (g.S.View.shows l.source) (g.S.Successors.instances l.source);
 }
