@@ -4,11 +4,12 @@ use Rattle.wire_core.specs.Acts.{Act}
 use Rattle.live_agent.specs.Deeds.{Deed}
 use Rattle.live_agent.specs.Lines.{Setting}
 use Rattle.live_agent.specs.declared.trace.End.{End}
+use Rattle.live_agent.specs.declared.trace.End.TheVariants.{Memory}
 use Rattle.live_agent.specs.declared.trace.Item.{Item}
 use Rattle.live_laps.specs.declared.line.Line.{Line}
 use Rattle.live_laps.specs.declared.line.Watched.{Watched}
 use Rattle.live_laps.specs.Notes.{Note}
-use Rattle.live_laps.specs.Laps.{Place, place_of, IsLap, IsNoted, IsNotedLap}
+use Rattle.live_laps.specs.Laps.{Place, place_of, IsLap, HasShortLink, IsNoted, IsNotedLap}
 
 module _ {A W T V P : Type 0} (worker_did : A → List Deed → A → Type 0) (worker_failures : A → ℕ)
     (went : W → List Act → W → Type 0) (failures : W → ℕ)
@@ -18,12 +19,14 @@ module _ {A W T V P : Type 0} (worker_did : A → List Deed → A → Type 0) (w
   -- What was reported between two states of the watch is of the interval.
   pub noted_lap : (a : Watched A W T V P) (line : Line A W T) (watch : V) (m n o : ℕ) (trace : List Item) (how : End)
       → IsLap worker_did worker_failures went failures ticker_did ticker_failures s rounds a.line line m n trace how
+      → (how ≡ Memory → HasShortLink a.line trace)
       → (noted : (notes : List Note) × IsNoted s.start line n trace notes × watch_went a.watch notes watch) → o ≡ n
       → IsNotedLap worker_did worker_failures went failures ticker_did ticker_failures watch_went pace_went s rounds
       (place_of a m) (place_of (record a { line = line; watch = watch }) o) how
-  noted_lap a line watch m n o trace how lap noted same = record {
+  noted_lap a line watch m n o trace how lap memory noted same = record {
     trace = trace;
     lap = subst (λ (k : ℕ). IsLap worker_did worker_failures went failures ticker_did ticker_failures s rounds a.line line m k trace how) (sym same) lap;
+    memory = memory;
     notes = noted.0;
     noted = subst (λ (k : ℕ). IsNoted s.start line k trace noted.0) (sym same) noted.1;
     told = noted.2;

@@ -1,46 +1,98 @@
 -- An interval of a line, whose items were added to a sum.
-use Rattle.std.proofs.Common.{◌≡◌, ℕ, Bool, true, false, List, [], ◌++◌, refl}
+use Rattle.std.proofs.Common.{◌≡◌, ◌⊎◌, ℕ, Bool, true, false, List, [], ◌∷◌, ◌++◌, refl, inl, inr, ⊎_elim}
+use Rattle.std.specs.Prelude.{Option, Some, None}
 use Rattle.wire_core.specs.Acts.{Act}
+use Rattle.wire_core.specs.declared.wire.WireFault.{WireFault}
+use Rattle.history_core.specs.declared.applied.Applied.{Applied}
+use Rattle.history_core.specs.declared.applied.Applied.TheVariants as applied
 use Rattle.live_agent.specs.Deeds.{Deed}
-use Rattle.live_agent.specs.Lines.{Setting, IsPortTurn, HasWorked, HasPortRun, HasTicked, worker_deeds, ticker_deeds}
-use Rattle.live_agent.specs.Runs.{HasRun, failures_at}
-use Rattle.live_agent.specs.Turns.{acts_of}
+use Rattle.live_agent.specs.Lines.{Setting, IsPortTurn, HasWorked, HasLinked, HasPortRun, HasTicked, worker_deeds, ticker_deeds, end_after_link}
+use Rattle.live_agent.specs.Runs.{HasRun, failures_at, adds}
+use Rattle.live_agent.specs.Turns.{acts_of, item_of}
 use Rattle.live_agent.specs.declared.trace.End.{End}
+use Rattle.live_agent.specs.declared.trace.End.TheVariants.{Rounds, Closed, Full, Wire, Memory}
 use Rattle.live_agent.specs.declared.trace.Item.{Item}
+use Rattle.live_agent.specs.declared.trace.Item.TheVariants as item
 use Rattle.live_agent.proofs.Recording.{run_traced, port_traced}
-use Rattle.live_laps.specs.Laps.{IsLap, is_first_entered}
+use Rattle.live_laps.specs.Laps.{IsLap, HasShortLink, is_first_entered}
 use Rattle.live_laps.specs.Sums.{sum_of, Sums}
 use Rattle.live_laps.specs.SumLaws.{sums_more}
 use Rattle.live_laps.specs.declared.line.Line.TheVariants.{Worker, Port, Ticker}
 use Rattle.live_laps.specs.declared.sum.IntervalSum.{IntervalSum}
 
+-- the item of a link that ended its line for want of memory
+short_item : (a : Applied) (fault : Option WireFault) → Some Memory ≡ end_after_link a fault → item_of a ∷ [] ≡ item.Short ∷ []
+short_item a (Some fault) e = cc
+short_item (applied.Done receipt audit) None e = cc
+short_item (applied.Dropped receipt cause audit) None e = cc
+short_item (applied.Short back) None e = refl
+short_item (applied.HistoryFull back) None e = cc
+
 module _ {A W T : Type 0} (worker_did : A → List Deed → A → Type 0) (worker_failures : A → ℕ)
     (went : W → List Act → W → Type 0) (failures : W → ℕ)
     (ticker_did : T → List Deed → T → Type 0) (ticker_failures : T → ℕ) (s : Setting) (rounds : ℕ) where
   pub worked_lap : (number : ℕ) (a b : A) (begin sum : IntervalSum) (m n : ℕ) (how : End) → begin ≡ sum_of []
-      → HasWorked worker_did Sums s rounds number a b begin sum m n how → worker_failures b ≡ failures_at how (worker_failures a)
+      → HasWorked worker_did Sums s rounds number a b begin sum m n how → worker_failures b ≡ failures_at how (worker_failures a) → (how ≡ Memory → ⊥)
       → (trace : List Item) × (sum ≡ sum_of trace) × IsLap worker_did worker_failures went failures ticker_did ticker_failures s rounds (Worker number a) (Worker number b) m n trace how
-  worked_lap number a b begin sum m n how none run failed =
-      let t = run_traced worker_did Sums (worker_deeds number) _ rounds a b begin sum m n how run in (t.0, t.1 [] none, (refl, t.2, failed))
+      × (how ≡ Memory → HasShortLink {A = A} {W = W} {T = T} (Worker number a) trace)
+  worked_lap number a b begin sum m n how none run failed fits =
+      let t = run_traced worker_did Sums (worker_deeds number) _ rounds a b begin sum m n how run in (t.0, t.1 [] none, (refl, t.2, failed), fits)
 
   pub begun_lap : (number : ℕ) (is_begun : Bool) (a b : W) (begin sum : IntervalSum) (m n : ℕ) (how : End) → is_begun ≡ true → begin ≡ sum_of []
-      → HasRun went Sums acts_of (IsPortTurn s number) rounds a b begin sum m n how → failures b ≡ failures_at how (failures a)
+      → HasRun went Sums acts_of (IsPortTurn s number) rounds a b begin sum m n how → failures b ≡ failures_at how (failures a) → (how ≡ Memory → ⊥)
       → (trace : List Item) × (sum ≡ sum_of trace) × IsLap worker_did worker_failures went failures ticker_did ticker_failures s rounds (Port number is_begun a) (Port number is_begun b) m n trace how
-  begun_lap number true a b begin sum m n how is none run failed =
-      let t = run_traced went Sums acts_of _ rounds a b begin sum m n how run in (t.0, t.1 [] none, (refl, refl, t.2, failed))
-  begun_lap number false a b begin sum m n how is none run failed = cc
+      × (how ≡ Memory → HasShortLink {A = A} {W = W} {T = T} (Port number is_begun a) trace)
+  begun_lap number true a b begin sum m n how is none run failed fits =
+      let t = run_traced went Sums acts_of _ rounds a b begin sum m n how run in (t.0, t.1 [] none, (refl, refl, t.2, failed), fits)
+  begun_lap number false a b begin sum m n how is none run failed fits = cc
+
+  -- an interval of a port that begins with its link, and ends for another cause than want of memory
+  linked_else : (number : ℕ) (has_begun : Bool) (a b : W) (begin sum : IntervalSum) (m n : ℕ) (how : End) → begin ≡ sum_of []
+      → HasPortRun went Sums s number rounds a b begin sum m n how → failures b ≡ failures_at how (failures a)
+      → ((items : List Item) → sum ≡ sum_of items → has_begun ≡ is_first_entered items) → (how ≡ Memory → ⊥)
+      → (trace : List Item) × (sum ≡ sum_of trace) × IsLap worker_did worker_failures went failures ticker_did ticker_failures s rounds (Port number false a) (Port number has_begun b) m n trace how
+      × (how ≡ Memory → HasShortLink {A = A} {W = W} {T = T} (Port number false a) trace)
+  linked_else number has_begun a b begin sum m n how none run failed first fits =
+      let t = port_traced went Sums sums_more s number rounds a b begin sum m n how run in
+      (t.0, t.1 [] none, (refl, first t.0 (t.1 [] none), t.2, failed), λ is. absurd (fits is))
+
+  -- the same that ends for want of memory: that of its link
+  linked_short : (number : ℕ) (has_begun : Bool) (a b : W) (begin sum : IntervalSum) (m n : ℕ) → begin ≡ sum_of []
+      → HasLinked went Sums s number a b begin sum m n (Some Memory) → failures b ≡ failures_at Memory (failures a)
+      → ((items : List Item) → sum ≡ sum_of items → has_begun ≡ is_first_entered items)
+      → (trace : List Item) × (sum ≡ sum_of trace) × IsLap worker_did worker_failures went failures ticker_did ticker_failures s rounds (Port number false a) (Port number has_begun b) m n trace Memory
+      × (Memory ≡ Memory → HasShortLink {A = A} {W = W} {T = T} (Port number false a) trace)
+  linked_short number has_begun a b begin sum m n none linked failed first =
+      let trace = item_of linked.happening.applied ∷ [] in
+      let is_sum : sum ≡ sum_of trace = linked.recorded [] none in
+      let in_list : HasLinked went adds s number a b [] trace m n (Some Memory) = record {
+        happening = linked.happening;
+        happens = linked.happens;
+        behind = linked.behind;
+        acts = linked.acts;
+        recorded = refl;
+        amount_is = linked.amount_is;
+        ends_so = linked.ends_so;
+      } in
+      (trace, is_sum, (refl, first trace is_sum, inr (inl in_list), failed), λ is. short_item linked.happening.applied linked.happening.fault linked.ends_so)
 
   pub linked_lap : (number : ℕ) (is_begun has_begun : Bool) (a b : W) (begin sum : IntervalSum) (m n : ℕ) (how : End) → is_begun ≡ false → begin ≡ sum_of []
       → HasPortRun went Sums s number rounds a b begin sum m n how → failures b ≡ failures_at how (failures a)
       → ((items : List Item) → sum ≡ sum_of items → has_begun ≡ is_first_entered items)
+      → (how ≡ Memory → (Unit {0} → ⊥) ⊎ HasLinked went Sums s number a b begin sum m n (Some Memory))
       → (trace : List Item) × (sum ≡ sum_of trace) × IsLap worker_did worker_failures went failures ticker_did ticker_failures s rounds (Port number is_begun a) (Port number has_begun b) m n trace how
-  linked_lap number false has_begun a b begin sum m n how is none run failed first =
-      let t = port_traced went Sums sums_more s number rounds a b begin sum m n how run in
-      (t.0, t.1 [] none, (refl, first t.0 (t.1 [] none), t.2, failed))
-  linked_lap number true has_begun a b begin sum m n how is none run failed first = cc
+      × (how ≡ Memory → HasShortLink {A = A} {W = W} {T = T} (Port number is_begun a) trace)
+  linked_lap number true has_begun a b begin sum m n how is none run failed first short = cc
+  linked_lap number false has_begun a b begin sum m n Rounds is none run failed first short = linked_else number has_begun a b begin sum m n Rounds none run failed first (λ e. cc)
+  linked_lap number false has_begun a b begin sum m n Closed is none run failed first short = linked_else number has_begun a b begin sum m n Closed none run failed first (λ e. cc)
+  linked_lap number false has_begun a b begin sum m n Full is none run failed first short = linked_else number has_begun a b begin sum m n Full none run failed first (λ e. cc)
+  linked_lap number false has_begun a b begin sum m n (Wire fault) is none run failed first short = linked_else number has_begun a b begin sum m n (Wire fault) none run failed first (λ e. cc)
+  linked_lap number false has_begun a b begin sum m n Memory is none run failed first short =
+      ⊎_elim (λ full. absurd (full tt)) (λ linked. linked_short number has_begun a b begin sum m n none linked failed first) (short refl)
 
   pub ticked_lap : (a b : T) (begin sum : IntervalSum) (m n : ℕ) (how : End) → begin ≡ sum_of []
-      → HasTicked ticker_did Sums s rounds a b begin sum m n how → ticker_failures b ≡ failures_at how (ticker_failures a)
+      → HasTicked ticker_did Sums s rounds a b begin sum m n how → ticker_failures b ≡ failures_at how (ticker_failures a) → (how ≡ Memory → ⊥)
       → (trace : List Item) × (sum ≡ sum_of trace) × IsLap worker_did worker_failures went failures ticker_did ticker_failures s rounds (Ticker a) (Ticker b) m n trace how
-  ticked_lap a b begin sum m n how none run failed =
-      let t = run_traced ticker_did Sums ticker_deeds _ rounds a b begin sum m n how run in (t.0, t.1 [] none, (t.2, failed))
+      × (how ≡ Memory → HasShortLink {A = A} {W = W} {T = T} (Ticker a) trace)
+  ticked_lap a b begin sum m n how none run failed fits =
+      let t = run_traced ticker_did Sums ticker_deeds _ rounds a b begin sum m n how run in (t.0, t.1 [] none, (t.2, failed), fits)

@@ -96,17 +96,25 @@ module _ {A W T V P : Type 0} (watch_went : V → List Note → V → Type 0)
   GoesOn a b (Wire fault) answer = HasFailed a b (Wire fault) answer
   GoesOn a b Memory answer = HasFailed a b Memory answer
 
+-- The link of a port that was not up found no memory, and nothing else became of the interval.
+abbrev pub HasShortLink : {A W T : Type 0} → Line A W T → List Item → Type 0
+HasShortLink (Worker number wire) trace = ⊥
+HasShortLink (Port number false wire) trace = trace ≡ Short ∷ []
+HasShortLink (Port number true wire) trace = ⊥
+HasShortLink (Ticker wire) trace = ⊥
+
 module _ {A W T V P : Type 0} (worker_did : A → List Deed → A → Type 0) (worker_failures : A → ℕ)
     (went : W → List Act → W → Type 0) (failures : W → ℕ)
     (ticker_did : T → List Deed → T → Type 0) (ticker_failures : T → ℕ)
     (watch_went : V → List Note → V → Type 0) (pace_went : P → List Bool → P → Type 0)
     (s : Setting) (rounds : ℕ) where
   -- An interval from one place to another that ended so, and was reported once to the watch. The pace
-  -- and the count of faults are the same.
+  -- and the count of faults are the same. Only a port's link ends one for want of memory.
   pub record IsNotedLap (a b : Place A W T V P) (how : End) : Type 0 where
     pub trace : List Item
     pub lap : IsLap worker_did worker_failures went failures ticker_did ticker_failures s rounds
         a.watched.line b.watched.line a.amount b.amount trace how
+    pub memory : how ≡ Memory → HasShortLink a.watched.line trace
     pub notes : List Note
     pub noted : IsNoted s.start b.watched.line b.amount trace notes
     pub told : watch_went a.watched.watch notes b.watched.watch

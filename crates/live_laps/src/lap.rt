@@ -2,8 +2,9 @@
 ghost use Rattle.std.specs.Prelude.{◌≡◌, ◌<◌, List};
 ghost use Rattle.live_agent.specs.Lines.{setting_of};
 ghost use Rattle.live_agent.specs.declared.trace.Item.{Item};
+ghost use Rattle.live_agent.specs.declared.trace.End.TheVariants as end;
 ghost use Rattle.live_laps.specs.Sums.{sum_of};
-ghost use Rattle.live_laps.specs.Laps.{IsLap, IsNoted, IsNotedLap, HasFailed, GoesOn, HasGoneOn, place_of};
+ghost use Rattle.live_laps.specs.Laps.{IsLap, HasShortLink, IsNoted, IsNotedLap, HasFailed, GoesOn, HasGoneOn, place_of};
 ghost use Rattle.live_laps.specs.Notes.{Note};
 
 use crate::line::{Line, Watched};
@@ -16,7 +17,7 @@ use std::sync::Wait;
 use wire_core::{Pace, Wire};
 
 // One interval of a line: how it ended, and its counts. A port's begins with its link until that
-// was entered.
+// was entered. Only such a link ends one for want of memory, since a sum takes none.
 fn run_lap<O: MibObject, L: Run, A: GatedWire, W: Wire, T: PacedWire, R: Wait>(
     rt: &R,
     plan: &Plan,
@@ -28,7 +29,8 @@ fn run_lap<O: MibObject, L: Run, A: GatedWire, W: Wire, T: PacedWire, R: Wait>(
     ensures lap { (trace : List Item) × (result.1 ≡ sum_of trace)
         × IsLap A.did A.failures W.went W.failures T.did T.failures
         (setting_of L.start plan.now) plan.now.rounds line.old line.new share.old.amount
-        share.new.amount trace result.0 }
+        share.new.amount trace result.0
+        × (result.0 ≡ end.Memory → HasShortLink line.old trace) }
     ensures parts { share.new.parts ≡ share.old.parts }
 {
     let sum = IntervalSum::new();
