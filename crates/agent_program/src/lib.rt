@@ -32,6 +32,7 @@
 
 mod checking;
 mod collecting;
+mod explaining;
 mod failure;
 mod files;
 mod opening;

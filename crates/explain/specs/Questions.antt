@@ -1,5 +1,6 @@
 -- Which request the words of a question make.
-use Rattle.std.specs.Prelude.{◌≡◌, ℕ, ◌≤◌, List, [], ◌∷◌, ◌++◌, length, pos, All}
+use Rattle.std.specs.Prelude.{◌≡◌, ℕ, ◌≤◌, List, [], ◌∷◌, ◌++◌, length, pos}
+use Rattle.std.specs.List.{AllByRecursion}
 use Rattle.oid_core.specs.Text.{IsDotted}
 use Rattle.oid_core.specs.declared.limits.TheConstants.{MAX_NUMBERS}
 use Rattle.message_core.specs.declared.binding.Binding.{Binding}
@@ -42,7 +43,7 @@ IsNoName word = (name : List ℕ) → ¬ IsNameText word name
 
 -- each of these words is the text of a name
 abbrev pub AreNames : List (List ℕ) → Type 0
-AreNames words = All (λ word. (name : List ℕ) × IsNameText word name) words
+AreNames words = AllByRecursion (λ word. (name : List ℕ) × IsNameText word name) words
 
 -- a word is the first of these that is the text of no name
 pub record IsFirstNoName (words : List (List ℕ)) (word : List ℕ) : Type 0 where

@@ -1,11 +1,11 @@
 //! The text of a decision.
 ghost use Rattle.std.specs.Prelude.{◌≡◌, ◌++◌, codes, option_map, IfOk, OnOk};
 ghost use Rattle.std.specs.List.{flat_map};
-ghost use Rattle.vacm_core.specs.Families.{NamesFamilyOf, is_included};
+ghost use Rattle.vacm_core.specs.Families.{NamesFamilyOf};
 ghost use Rattle.audit_core.specs.Keys.{family_key};
-ghost use Rattle.explain.specs.Explaining.{verdict_text, row_of, name_line, variable_line, names_text, explanation};
+ghost use Rattle.explain.specs.Explaining.{verdict_text, row_of, standing_text, name_line, variable_line, names_text, explanation};
 
-use crate::written::WrittenDecision;
+use crate::written::{WrittenDecision, WrittenLine};
 use audit_core::FamilyKey;
 use community_core::Policy;
 use decision::{Decision, decide};
@@ -82,7 +82,6 @@ fn add_lines(
 }
 
 // Adds the line of a name.
-#[tactic(auto, unfolding(crate::specs::Explaining::name_line))]
 fn add_line(
     alloc: Global,
     vacm: &Vacm,
@@ -95,20 +94,25 @@ fn add_line(
 {
     let answer = vacm.in_view(view, name);
     let family = family_of(alloc, vacm, &answer)?;
-    let standing = if is_included(&answer) { "in" } else { "out" };
-    let view = view.as_str();
-    let line = match &family {
-        Some(family) => format!(in alloc; "{name} {standing} of view {view} by {family}\n")?,
-        None => format!(in alloc; "{name} {standing} of view {view} by none\n")?,
+    let standing = standing_of(&answer);
+    let line = WrittenLine {
+        name,
+        standing,
+        view,
+        family: &family,
     };
+    let line = format!(in alloc; "{line}\n")?;
     text.extend_from_slice(line.as_bytes())
 }
 
 // Whether an answer says that a name is in the view.
-fn is_included(answer: &FamilyAnswer) -> bool
-    ensures { result ≡ is_included answer.now }
+fn standing_of(answer: &FamilyAnswer) -> &'static str
+    ensures { result.now ≡ standing_text answer.now }
 {
-    matches!(answer, FamilyAnswer::Included(_))
+    match answer {
+        FamilyAnswer::Included(_) => "in",
+        FamilyAnswer::Excluded(_) | FamilyAnswer::NoRow => "out",
+    }
 }
 
 // The key of the family row that an answer names, if it names one.

@@ -9,13 +9,14 @@
 //! `vacm_core`, in the words of `audit_core`; `specs/Questions.antt`: which request words make.
 //!
 //! # Laws
-//! None.
+//! In [`laws`]: a request that is allowed is explained as its audit says it.
 //!
 //! # Not claimed
 //! What a name's instance shows, and which values a Set may write: the decision is up to the names.
 #![tactic(auto)]
 
 mod explaining;
+pub mod laws;
 mod questions;
 mod written;
 

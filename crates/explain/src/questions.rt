@@ -1,5 +1,6 @@
 //! The request of a question.
 ghost use Rattle.std.specs.Prelude.{◌≡◌, map, IfOk, IfErr};
+ghost use Rattle.explain.specs.declared.questions.QuestionFault.TheVariants.{Memory};
 ghost use Rattle.explain.specs.Questions.{AreAskedBy, IsNameText, IsQuestion, IsFaultOf, IsNameFault};
 
 use message_core::{Binding, Bindings, Kind, Octets, Request, Value};
@@ -16,7 +17,7 @@ pub enum QuestionFault<'a> {
 }
 
 impl From<AllocError> for QuestionFault<'_> {
-    ghost from_gives = { λ _ fault. fault ≡ QuestionFault.Memory };
+    ghost from_gives = { λ _ fault. fault ≡ Memory };
 
     fn from(_error: AllocError) -> Self {
         QuestionFault::Memory
