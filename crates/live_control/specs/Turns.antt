@@ -2,7 +2,7 @@
 -- it ended the line.
 use Rattle.std.specs.Prelude.{ℕ, ◌+◌, List, [], ◌∷◌, ◌++◌, Option, Some, None, Result, Ok, Err}
 use Rattle.std.specs.declared.net.socket_addr.SocketAddr.{SocketAddr}
-use Rattle.wire_core.specs.Acts.{Act, quiet, closed, failed, sent_act}
+use Rattle.wire_core.specs.Acts.{quiet, closed, failed, sent_act}
 use Rattle.wire_core.specs.declared.wire.WireFault.{WireFault}
 use Rattle.history_core.specs.declared.applied.Applied.{Applied}
 use Rattle.history_core.specs.declared.applied.Applied.TheVariants.{Done, Dropped, Short, HistoryFull}
@@ -12,7 +12,7 @@ use Rattle.live_agent.specs.Turns.{Arrival, Happening, arrival_act, end_after}
 use Rattle.control_text.specs.declared.command.Refusal.{Refusal}
 use Rattle.live_control.specs.declared.item.ControlItem.{ControlItem}
 use Rattle.live_control.specs.declared.item.ControlItem.TheVariants as item
-use Rattle.live_control.specs.Deeds.{Deed, acted, controlled, all_acted}
+use Rattle.live_control.specs.Deeds.{Deed, controlled, all_acted}
 
 -- What a command is answered, and how that went: not at all, for want of memory for it, or sent, or
 -- not.
