@@ -6,6 +6,7 @@ use bridge_core::Bridge;
 use bridge_mib::Planned;
 use community_core::Policy;
 use configuration::{BUILT_IN, configuration_in};
+use control_text::MAX_POLICY;
 use frame_core::Mac;
 use history_core::Kept;
 use live_agent::{End, Plan};
@@ -20,7 +21,7 @@ use std::marker::Brand;
 use std::net::{IpAddr, Ipv4Addr, SocketAddr};
 use std::sync::{Wait, ledger};
 use std::test::Fail;
-use wire_core::{MemoryWire, Packet};
+use wire_core::{FailingWire, MemoryWire, Packet, Wire, WireFault};
 
 // What was dropped of datagrams.
 #[derive(Drop)]
@@ -106,18 +107,19 @@ const COMMANDS: [&[u8]; 8] = [
     b"link 1 down\nlink 1 up\n",
 ];
 
-// What the line did: how it ended, what was recorded, and what both wires were sent.
-type Done = (End, Vec<ControlItem>, Controlled<MemoryWire, MemoryWire>);
+// What the line did: how it ended, what was recorded, and its wires.
+type Done<W, C> = (End, Vec<ControlItem>, Controlled<W, C>);
 
-// The line runs over these commands.
-fn commanded<L: Run, R: Wait>(
+// The line runs over these wires.
+fn commanded<L: Run, W: Wire, C: Wire, R: Wait>(
     rt: &R,
     alloc: Global,
     kept: Kept<Object<Planned>>,
     blank: ledger::Blank,
     number: Blank,
     moved: Blank,
-) -> Result<Done, Fail>
+    wires: Controlled<W, C>,
+) -> Result<Done<W, C>, Fail>
     requires name { blank.name ≡ L.name }
     requires all { blank.parts ≡ L.parts }
     requires number { number.name ≡ L.rise }
@@ -132,20 +134,35 @@ fn commanded<L: Run, R: Wait>(
         source: Mac([2, 0, 0, 0, 0, 10]),
         peers: Vec::from_array(alloc, [peer(20001), peer(20002)])?,
     };
-    let mut control = MemoryWire::new(alloc);
-    for command in COMMANDS {
-        control.give_datagram(peer(1), command)?;
-    }
-    let mut wire = Controlled {
-        wire: MemoryWire::new(alloc),
-        control,
-    };
+    let mut wires = wires;
     let mut room = vec![in alloc; 0u8; COMMAND_ROOM]?;
     let items = Vec::new(alloc);
     let (end, items) = control_run(
-        rt, &plan, 2, &Dropped, &live, &mut share, &mut wire, &mut room, items,
+        rt, &plan, 2, &Dropped, &live, &mut share, &mut wires, &mut room, items,
     );
-    Ok((end, items, wire))
+    Ok((end, items, wires))
+}
+
+// The same over a history in which nothing has happened.
+fn run_over<W: Wire, C: Wire, R: Wait>(
+    rt: &R,
+    alloc: Global,
+    wire: W,
+    control: C,
+) -> Result<Done<W, C>, Fail> {
+    let kept = history(alloc)?;
+    let blank = ledger::Blank::new(1);
+    let wires = Controlled { wire, control };
+    commanded::<Brand, W, C, R>(rt, alloc, kept, blank, Blank::new(), Blank::new(), wires)
+}
+
+// A wire that gives these commands, in order, and is closed behind them.
+fn giving(alloc: Global, commands: &[&[u8]]) -> Result<MemoryWire, Fail> {
+    let mut control = MemoryWire::new(alloc);
+    for command in commands {
+        control.give_datagram(peer(1), command)?;
+    }
+    Ok(control)
 }
 
 // Whether this is what was sent at a place.
@@ -164,21 +181,12 @@ fn is_entered(items: &[ControlItem], place: usize) -> bool {
 #[test]
 fn each_command_has_its_item_and_its_answer(rt: HostRuntime) -> Result<(), Fail> {
     let alloc = rt.alloc();
-    let kept = history(alloc)?;
-    let blank = ledger::Blank::new(1);
-    let (end, items, wire) = commanded::<Brand, HostRuntime>(
-        &rt,
-        alloc,
-        kept,
-        blank,
-        Blank::new(),
-        Blank::new(),
-    )?;
+    let control = giving(alloc, &COMMANDS)?;
+    let (end, items, wires) = run_over(&rt, alloc, MemoryWire::new(alloc), control)?;
     assert_eq!(rt; end, End::Closed);
     assert_eq!(rt; items.len(), 8);
-    let sent = wire.control.sent();
+    let sent = wires.control.sent();
     assert_eq!(rt; sent.len(), 8);
-    assert_eq!(rt; wire.wire.sent().len(), 1);
     assert!(rt; is_entered(&items, 0));
     assert!(rt; is_entered(&items, 4));
     assert!(rt; is_answer(sent, 1, b"badline\n"));
@@ -188,5 +196,80 @@ fn each_command_has_its_item_and_its_answer(rt: HostRuntime) -> Result<(), Fail>
     assert!(rt; is_answer(sent, 5, b"policy refused\n"));
     assert!(rt; is_answer(sent, 6, b"policy refused\n"));
     assert!(rt; is_answer(sent, 7, b"badline\n"));
+    Ok(())
+}
+
+// What port 1 sends as its link goes up: the RST BPDU of IEEE 802.1D-2004, 9.3.3, of a root bridge
+// whose designated port proposes, as in the stored scripts.
+const PROPOSAL: &[u8] =
+    b"bpdu 1 0180C200000002000000000A0027424203000002020E800002000000000A00000000800002000000000A80010000140002000F000000000000000000\n";
+
+#[test]
+fn what_a_port_sends_goes_to_its_peer_and_is_answered(rt: HostRuntime) -> Result<(), Fail> {
+    let alloc = rt.alloc();
+    let control = giving(alloc, &[b"link 1 up"])?;
+    let (_, _, wires) = run_over(&rt, alloc, MemoryWire::new(alloc), control)?;
+    let sent = wires.wire.sent();
+    assert_eq!(rt; sent.len(), 1);
+    assert!(rt; sent[0].peer == peer(20001));
+    assert_eq!(rt; sent[0].octets.as_slice().len(), 60);
+    assert!(rt; is_answer(wires.control.sent(), 0, PROPOSAL));
+    Ok(())
+}
+
+// A policy of so many octets, as a command.
+fn policy_of(alloc: Global, octets: usize) -> Result<Vec<u8>, Fail> {
+    let text = b"contexts = []\ncommunity = []\ngroup = []\naccess = []\nfamily = []\n#";
+    let mut command = Vec::new(alloc);
+    command.extend_from_slice(b"policy\n")?;
+    command.extend_from_slice(text)?;
+    for _ in text.len() + 1..octets {
+        command.extend_from_slice(b"x")?;
+    }
+    command.extend_from_slice(b"\nend\n")?;
+    Ok(command)
+}
+
+#[test]
+fn a_policy_has_at_most_64_kilobytes(rt: HostRuntime) -> Result<(), Fail> {
+    let alloc = rt.alloc();
+    let (most, more) = (
+        policy_of(alloc, MAX_POLICY)?,
+        policy_of(alloc, MAX_POLICY + 1)?,
+    );
+    let control = giving(alloc, &[most.as_slice(), more.as_slice()])?;
+    let (_, items, wires) = run_over(&rt, alloc, MemoryWire::new(alloc), control)?;
+    assert!(rt; is_entered(&items, 0));
+    assert!(rt; !is_entered(&items, 1));
+    assert!(rt; is_answer(wires.control.sent(), 0, b"policy ok\n"));
+    assert!(rt; is_answer(wires.control.sent(), 1, b"policy refused\n"));
+    Ok(())
+}
+
+#[test]
+fn each_call_of_the_control_wire_fails(rt: HostRuntime) -> Result<(), Fail> {
+    let alloc = rt.alloc();
+    for call in 1..7u64 {
+        let control = FailingWire::new(giving(alloc, &COMMANDS)?, call);
+        let (end, items, _) = run_over(&rt, alloc, MemoryWire::new(alloc), control)?;
+        let fault = if call % 2 == 0 {
+            WireFault::Send
+        } else {
+            WireFault::Receive
+        };
+        assert_eq!(rt; end, End::Wire(fault));
+        assert_eq!(rt; items.len() as u64, call / 2);
+    }
+    Ok(())
+}
+
+#[test]
+fn a_command_is_answered_where_a_port_cannot_send(rt: HostRuntime) -> Result<(), Fail> {
+    let alloc = rt.alloc();
+    let wire = FailingWire::new(MemoryWire::new(alloc), 1);
+    let (end, items, wires) = run_over(&rt, alloc, wire, giving(alloc, &COMMANDS)?)?;
+    assert_eq!(rt; end, End::Wire(WireFault::Send));
+    assert_eq!(rt; items.len(), 1);
+    assert!(rt; is_answer(wires.control.sent(), 0, PROPOSAL));
     Ok(())
 }

@@ -1,5 +1,5 @@
 -- One turn more of a line.
-use Rattle.std.proofs.Common.{◌≡◌, ◌∙◌, ℕ, ◌+◌, ◌<◌, List, [], ◌∷◌, ◌++◌, length, refl, sym, ap, subst, arith, append_assoc, append-nil, length-append}
+use Rattle.std.proofs.Common.{Result, Ok, Err, inl, inr, ◌≡◌, ◌∙◌, ℕ, ◌+◌, ◌<◌, List, [], ◌∷◌, ◌++◌, length, refl, sym, ap, subst, arith, append_assoc, append-nil, length-append}
 use Rattle.std.specs.Prelude.{Option, Some, None, All}
 use Rattle.std.proofs.lemmas.List.Elements.{All-append, All-cons}
 use Rattle.history_core.specs.declared.applied.Applied.{Applied}
@@ -10,8 +10,8 @@ use Rattle.live_agent.specs.declared.trace.End.{End}
 use Rattle.live_agent.specs.declared.trace.End.TheVariants as end
 use Rattle.live_control.specs.declared.item.ControlItem.{ControlItem}
 use Rattle.live_control.specs.declared.item.ControlItem.TheVariants as item
-use Rattle.live_agent.specs.Turns.{end_after}
-use Rattle.live_control.specs.Turns.{Turn, nothing_came, ended, broke, was_refused, was_told, was_done, items_of, item_of, end_of, end_by_fault, first_fault, reply_fault, entered_in}
+use Rattle.live_agent.specs.Turns.{end_by}
+use Rattle.live_control.specs.Turns.{Turn, nothing_came, ended, broke, was_refused, was_told, was_done, items_of, item_of, end_of, end_by_reply, end_after, entered_in}
 use Rattle.live_control.specs.Runs.{HasTurned, HasRun, IsBehind, AreBehind, all_of, all_items, GoesOn, EndsBy}
 
 pub all_of-snoc : {D : Type 0} (does : Turn → List D) (ts : List Turn) (t : Turn) → all_of does (ts ++ t ∷ []) ≡ all_of does ts ++ does t
@@ -44,49 +44,36 @@ entered_one (Dropped r cause audit) = omega arith
 entered_one (Short back) = refl
 entered_one (HistoryFull back) = refl
 
--- a turn ends a line neither by its rounds nor by want of memory
-not_rounds_by : (a : Applied) (fault : Option WireFault) → end_after a fault ≡ Some end.Rounds → ⊥
-not_rounds_by a (Some fault) e = cc
-not_rounds_by (Done r audit) None e = cc
-not_rounds_by (Dropped r cause audit) None e = cc
-not_rounds_by (Short back) None e = cc
-not_rounds_by (HistoryFull back) None e = cc
+-- a turn does not end a line by its rounds
+not_rounds_reply : (how : Option (Result (Unit {0}) WireFault)) → end_by_reply how ≡ Some end.Rounds → ⊥
+not_rounds_reply None e = cc
+not_rounds_reply (Some (Ok done)) e = cc
+not_rounds_reply (Some (Err fault)) e = cc
 
-not_memory_by : (a : Applied) (fault : Option WireFault) → end_after a fault ≡ Some end.Memory → ⊥
-not_memory_by a (Some fault) e = cc
-not_memory_by (Done r audit) None e = cc
-not_memory_by (Dropped r cause audit) None e = cc
-not_memory_by (Short back) None e = cc
-not_memory_by (HistoryFull back) None e = cc
+not_rounds_by : (a : Applied) → end_by a ≡ Some end.Rounds → ⊥
+not_rounds_by (Done r audit) e = cc
+not_rounds_by (Dropped r cause audit) e = cc
+not_rounds_by (Short back) e = cc
+not_rounds_by (HistoryFull back) e = cc
 
-not_rounds_fault : (fault : Option WireFault) → end_by_fault fault ≡ Some end.Rounds → ⊥
-not_rounds_fault (Some fault) e = cc
-not_rounds_fault None e = cc
+not_rounds_after : (a : Applied) (fault : Option WireFault) (how : Option (Result (Unit {0}) WireFault)) → end_after a fault how ≡ Some end.Rounds → ⊥
+not_rounds_after a (Some fault) how e = cc
+not_rounds_after a None None e = cc
+not_rounds_after a None (Some (Err fault)) e = cc
+not_rounds_after a None (Some (Ok done)) e = not_rounds_by a e
 
 not_rounds : (t : Turn) → end_of t ≡ Some end.Rounds → ⊥
 not_rounds nothing_came e = cc
 not_rounds ended e = cc
 not_rounds (broke f) e = cc
-not_rounds (was_refused a c r) e = not_rounds_fault (reply_fault r.how) e
-not_rounds (was_told a made r) e = not_rounds_fault (reply_fault r.how) e
-not_rounds (was_done a h r) e = not_rounds_by h.applied (first_fault h.fault (reply_fault r.how)) e
-
-not_memory_fault : (fault : Option WireFault) → end_by_fault fault ≡ Some end.Memory → ⊥
-not_memory_fault (Some fault) e = cc
-not_memory_fault None e = cc
-
-not_memory : (t : Turn) → end_of t ≡ Some end.Memory → ⊥
-not_memory nothing_came e = cc
-not_memory ended e = cc
-not_memory (broke f) e = cc
-not_memory (was_refused a c r) e = not_memory_fault (reply_fault r.how) e
-not_memory (was_told a made r) e = not_memory_fault (reply_fault r.how) e
-not_memory (was_done a h r) e = not_memory_by h.applied (first_fault h.fault (reply_fault r.how)) e
+not_rounds (was_refused a c r) e = not_rounds_reply r.how e
+not_rounds (was_told a made r) e = not_rounds_reply r.how e
+not_rounds (was_done a h r) e = not_rounds_after h.applied h.fault r.how e
 
 -- a turn that ends the line
 pub stops : (rounds : ℕ) (ts : List Turn) (t : Turn) (how : End) → All GoesOn ts → end_of t ≡ Some how → length ts < rounds → EndsBy rounds (ts ++ t ∷ []) how
 stops rounds ts t end.Rounds on by less = absurd (not_rounds t by)
-stops rounds ts t end.Memory on by less = absurd (not_memory t by)
+stops rounds ts t end.Memory on by less = inr (ts, t, refl, on, by, less)
 stops rounds ts t end.Closed on by less = (ts, t, refl, on, by, less)
 stops rounds ts t end.Full on by less = (ts, t, refl, on, by, less)
 stops rounds ts t (end.Wire f) on by less = (ts, t, refl, on, by, less)
@@ -201,5 +188,5 @@ goes_short went kept keeps_on does is_turn rounds count a b k l lent amount late
       acts = g.acts;
       recorded = recorded_on kept keeps_on k l lent (all_items g.turns) g.recorded same;
       amount_is = g.amount_is;
-      ends = (g.on, omega (arith, g.count_is));
+      ends = inl (g.on, omega (arith, g.count_is));
     }

@@ -1,6 +1,6 @@
 -- What the turns of the line of the control socket are made of.
 use Rattle.std.proofs.Common.{◌≡◌, ◌∙◌, ℕ, ◌+◌, List, [], ◌∷◌, ◌++◌, refl, sym, ap, subst, Result, Ok, Err, Vec, Global}
-use Rattle.std.specs.Prelude.{Option, None, IfOk, OnErr}
+use Rattle.std.specs.Prelude.{Option, None, IsSome, IfOk, OnErr}
 use Rattle.std.specs.declared.net.socket_addr.SocketAddr.{SocketAddr}
 use Rattle.frame_core.specs.declared.bpdu.Bpdu.{Bpdu}
 use Rattle.frame_core.specs.declared.mac.Mac.{Mac}
@@ -11,13 +11,12 @@ use Rattle.live_lock.specs.Sharing.{entry_count}
 use Rattle.live_sending.specs.Packets.{bpdu_packets}
 use Rattle.live_sending.specs.Sending.{Sends}
 use Rattle.live_agent.specs.declared.trace.End.{End}
-use Rattle.live_agent.specs.Turns.{end_after}
 use Rattle.control_text.specs.Commands.{Asked, bad_line, link, counts, policy, cut_policy, IsReadAs}
 use Rattle.control_text.specs.declared.command.Command.TheVariants.{Counts}
 use Rattle.live_control.specs.Answers.{answer_by}
 use Rattle.live_control.specs.Deeds.{Deed, all_acted}
 use Rattle.live_control.specs.Lines.{HasFinished}
-use Rattle.live_control.specs.Turns.{deeds_by, item_of, entered_in, first_fault, reply_fault}
+use Rattle.live_control.specs.Turns.{deeds_by, item_of, entered_in, end_after}
 use Rattle.live_control.proofs.Running.{entered_one}
 
 pub amount_is : (amount later : ℕ) (applied : Applied) → later ≡ amount + entry_count applied → later ≡ amount + entered_in (item_of applied ∷ [])
@@ -25,9 +24,9 @@ amount_is amount later applied is = is ∙ ap (λ (n : ℕ). amount + n) (sym (e
 
 -- an answer of this text was sent, or there was no memory for it
 pub answered_by : {W E : Type 0} (did : W → List Deed → W → Type 0) (b c : W) (peer : SocketAddr) (x : List ℕ) (text : Result (Vec ℕ Global) E) (how : Option (Result (Unit {0}) WireFault))
-    → IfOk text (λ t. t.items ≡ x) → IfOk text (λ t. did b (deeds_by peer t.items how) c) → OnErr text ((how ≡ None) × did b [] c) → did b (deeds_by peer x how) c
+    → IfOk text (λ t. t.items ≡ x) → IfOk text (λ t. IsSome how × did b (deeds_by peer t.items how) c) → OnErr text ((how ≡ None) × did b [] c) → did b (deeds_by peer x how) c
 answered_by did b c peer x (Ok t) how says went none =
-    subst (λ (l : List ℕ). did b (deeds_by peer l how) c) says went
+    subst (λ (l : List ℕ). did b (deeds_by peer l how) c) says went.1
 answered_by did b c peer x (Err e) how says went none =
     subst (λ (h : Option (Result (Unit {0}) WireFault)). did b (deeds_by peer x h) c) (sym none.0) none.1
 
@@ -37,7 +36,7 @@ pub finished : {W : Type 0} (went : W → List Act → W → Type 0) (did : W �
     → ((a b c : W) (xs ys : List Deed) → did a xs b → did b ys c → did a (xs ++ ys) c)
     → (source : Mac) (peers : List SocketAddr) (peer : SocketAddr) (first : List ℕ) (applied : Applied) (bpdus : List (Option Bpdu)) (a b c : W) (fault : Option WireFault) (how : Option (Result (Unit {0}) WireFault)) (ends : Option End)
     → Sends went a (bpdu_packets source peers bpdus) fault b → did b (deeds_by peer (answer_by source first applied bpdus) how) c
-    → ends ≡ end_after applied (first_fault fault (reply_fault how))
+    → ends ≡ end_after applied fault how
     → HasFinished did source peers peer first applied bpdus a c ends
 finished went did acts_are on source peers peer first applied bpdus a b c fault how ends sends answered so = record {
   acts = sends.0;

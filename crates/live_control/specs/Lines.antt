@@ -14,7 +14,7 @@ use Rattle.history_core.specs.History.{History}
 use Rattle.live_lock.specs.declared.held.Counts.{Counts}
 use Rattle.live_lock.specs.Counting.{IsCounted}
 use Rattle.live_agent.specs.declared.trace.End.{End}
-use Rattle.live_agent.specs.Turns.{Arrival, Happening, end_after}
+use Rattle.live_agent.specs.Turns.{Arrival, Happening}
 use Rattle.live_agent.specs.Lines.{Setting, Happens, ports_packets}
 use Rattle.control_text.specs.Commands.{asked_by, counts, IsReadAs, IsRefusedAs}
 use Rattle.control_text.specs.Answers.{counts_line, refusal_line}
@@ -26,7 +26,7 @@ use Rattle.live_control.specs.declared.item.ControlItem.{ControlItem}
 use Rattle.live_control.specs.declared.tally.DropCounts.{DropCounts}
 use Rattle.live_control.specs.Answers.{first_line, answer_by}
 use Rattle.live_control.specs.Deeds.{Deed, all_acted}
-use Rattle.live_control.specs.Turns.{Reply, Turn, nothing_came, ended, broke, was_refused, was_told, was_done, deeds_of, reply_deeds, reply_fault, first_fault}
+use Rattle.live_control.specs.Turns.{Reply, Turn, nothing_came, ended, broke, was_refused, was_told, was_done, deeds_of, reply_deeds, end_after}
 use Rattle.live_control.specs.Runs.{HasRun}
 
 -- The line lends room for one octet more than a command has at most.
@@ -83,7 +83,7 @@ pub record HasFinished {W : Type 0} (did : W → List Deed → W → Type 0) (so
   pub reply : Reply
   pub says : reply.text ≡ answer_by source first applied bpdus
   pub went : did a (all_acted acts ++ reply_deeds peer reply) b
-  pub ends_so : ends ≡ end_after applied (first_fault fault (reply_fault reply.how))
+  pub ends_so : ends ≡ end_after applied fault reply.how
 
 -- A turn of the line, where there are so many ports and the tally tells this.
 abbrev pub IsControlTurn : (DropCounts → Type 0) → Setting → ℕ → Turn → Type 0

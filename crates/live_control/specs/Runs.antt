@@ -1,5 +1,5 @@
 -- The loop of the line of the control socket: its turns one after another, until its rounds are over or a turn ends it.
-use Rattle.std.specs.Prelude.{◌≡◌, ℕ, ◌+◌, ◌<◌, ◌≤◌, List, [], ◌∷◌, ◌++◌, length, Option, Some, None, All}
+use Rattle.std.specs.Prelude.{◌≡◌, ◌⊎◌, ℕ, ◌+◌, ◌<◌, ◌≤◌, List, [], ◌∷◌, ◌++◌, length, Option, Some, None, All}
 use Rattle.live_agent.specs.declared.trace.End.{End}
 use Rattle.live_agent.specs.declared.trace.End.TheVariants as end
 use Rattle.live_control.specs.declared.item.ControlItem.{ControlItem}
@@ -55,10 +55,11 @@ Stops rounds turns how =
     × All GoesOn ahead × (end_of last ≡ Some how) × (length ahead < rounds)
 
 -- How a loop of so many rounds ended: they are over; there was no memory for the next item; or by
--- its last turn.
+-- its last turn, also where there was no memory for the answer to its command.
 abbrev pub EndsBy : ℕ → List Turn → End → Type 0
 EndsBy rounds turns end.Rounds = All GoesOn turns × (length turns ≡ rounds)
-EndsBy rounds turns end.Memory = All GoesOn turns × (length turns < rounds)
+EndsBy rounds turns end.Memory =
+    (All GoesOn turns × (length turns < rounds)) ⊎ Stops rounds turns end.Memory
 EndsBy rounds turns end.Closed = Stops rounds turns end.Closed
 EndsBy rounds turns end.Full = Stops rounds turns end.Full
 EndsBy rounds turns (end.Wire fault) = Stops rounds turns (end.Wire fault)

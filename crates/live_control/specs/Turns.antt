@@ -8,7 +8,7 @@ use Rattle.history_core.specs.declared.applied.Applied.{Applied}
 use Rattle.history_core.specs.declared.applied.Applied.TheVariants.{Done, Dropped, Short, HistoryFull}
 use Rattle.live_agent.specs.declared.trace.End.{End}
 use Rattle.live_agent.specs.declared.trace.End.TheVariants as end
-use Rattle.live_agent.specs.Turns.{Arrival, Happening, arrival_act, end_after}
+use Rattle.live_agent.specs.Turns.{Arrival, Happening, arrival_act, end_by}
 use Rattle.control_text.specs.declared.command.Refusal.{Refusal}
 use Rattle.live_control.specs.declared.item.ControlItem.{ControlItem}
 use Rattle.live_control.specs.declared.item.ControlItem.TheVariants as item
@@ -63,29 +63,28 @@ items_of (was_refused a refusal reply) = item.Refused refusal ∷ []
 items_of (was_told a made reply) = item.Told ∷ []
 items_of (was_done a h reply) = item_of h.applied ∷ []
 
--- the fault of a reply that could not be sent
-abbrev pub reply_fault : Option (Result (Unit {0}) WireFault) → Option WireFault
-reply_fault None = None
-reply_fault (Some (Ok done)) = None
-reply_fault (Some (Err fault)) = Some fault
+-- how a reply ends the line, if it does: by want of memory for it, or where it could not be sent
+abbrev pub end_by_reply : Option (Result (Unit {0}) WireFault) → Option End
+end_by_reply None = Some end.Memory
+end_by_reply (Some (Ok done)) = None
+end_by_reply (Some (Err fault)) = Some (end.Wire fault)
 
--- the first of two faults
-abbrev pub first_fault : Option WireFault → Option WireFault → Option WireFault
-first_fault (Some fault) other = Some fault
-first_fault None other = other
+-- how an event and its reply end the line, if they do: where something could not be sent, by want of
+-- memory for the reply, or where no number is left for an entry
+abbrev pub end_after : Applied → Option WireFault → Option (Result (Unit {0}) WireFault) → Option End
+end_after applied (Some fault) how = Some (end.Wire fault)
+end_after applied None None = Some end.Memory
+end_after applied None (Some (Err fault)) = Some (end.Wire fault)
+end_after applied None (Some (Ok done)) = end_by applied
 
-abbrev pub end_by_fault : Option WireFault → Option End
-end_by_fault (Some fault) = Some (end.Wire fault)
-end_by_fault None = None
-
--- how a turn ends its line, if it does: by a fault of a wire, or where no number is left for an entry
+-- how a turn ends its line, if it does
 abbrev pub end_of : Turn → Option End
 end_of nothing_came = None
 end_of ended = Some end.Closed
 end_of (broke fault) = Some (end.Wire fault)
-end_of (was_refused a refusal reply) = end_by_fault (reply_fault reply.how)
-end_of (was_told a made reply) = end_by_fault (reply_fault reply.how)
-end_of (was_done a h reply) = end_after h.applied (first_fault h.fault (reply_fault reply.how))
+end_of (was_refused a refusal reply) = end_by_reply reply.how
+end_of (was_told a made reply) = end_by_reply reply.how
+end_of (was_done a h reply) = end_after h.applied h.fault reply.how
 
 -- how many entries the events of items made
 abbrev pub entered_in : List ControlItem → ℕ

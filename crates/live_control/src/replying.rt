@@ -1,9 +1,8 @@
 //! Answers over the control wire, and how they end the line.
-ghost use Rattle.std.specs.Prelude.{◌≡◌, None, [], IfOk, OnErr};
+ghost use Rattle.std.specs.Prelude.{◌≡◌, None, [], IsSome, IfOk, OnErr};
 ghost use Rattle.live_sending.specs.Sending.{fault_in};
-ghost use Rattle.live_agent.specs.Turns.{end_after};
 ghost use Rattle.live_control.specs.Answers.{answer_by};
-ghost use Rattle.live_control.specs.Turns.{deeds_by, item_of, end_by_fault, first_fault, reply_fault};
+ghost use Rattle.live_control.specs.Turns.{deeds_by, item_of, end_by_reply, end_after};
 
 use crate::control_wire::ControlWire;
 use crate::item::ControlItem;
@@ -21,7 +20,8 @@ pub fn send_text<W: ControlWire>(
     peer: SocketAddr,
     text: &Result<Vec<u8>, AllocError>,
 ) -> Option<Result<(), WireFault>>
-    ensures some { IfOk text.now (λ text. W.did wire.old (deeds_by peer text.items result) wire.new) }
+    ensures some { IfOk text.now (λ text. IsSome result
+        × W.did wire.old (deeds_by peer text.items result) wire.new) }
     ensures none { OnErr text.now ((result ≡ None) × W.did wire.old [] wire.new) }
 {
     match text {
@@ -64,41 +64,33 @@ pub fn item_of(applied: Applied) -> ControlItem
     }
 }
 
-// The fault of an answer that could not be sent.
-fn reply_fault(answered: Option<Result<(), WireFault>>) -> Option<WireFault>
-    ensures { result ≡ reply_fault answered }
+/// How an answer ends the line, if it does: by want of memory for it, or where it could not be sent.
+pub fn end_by_reply(answered: Option<Result<(), WireFault>>) -> Option<End>
+    ensures { result ≡ end_by_reply answered }
 {
     match answered {
-        Some(Err(fault)) => Some(fault),
-        Some(Ok(())) | None => None,
+        None => Some(End::Memory),
+        Some(Ok(())) => None,
+        Some(Err(fault)) => Some(End::Wire(fault)),
     }
 }
 
-/// How an answer ends the line, if it does.
-pub fn end_by_reply(answered: Option<Result<(), WireFault>>) -> Option<End>
-    ensures { result ≡ end_by_fault (reply_fault answered) }
-{
-    match reply_fault(answered) {
-        Some(fault) => Some(End::Wire(fault)),
-        None => None,
-    }
-}
-
-/// How an event and its answer end the line, if they do: by the first fault, or where no number is left
-/// for an entry.
+/// How an event and its answer end the line, if they do: where something could not be sent, by want of
+/// memory for the answer, or where no number is left for an entry.
 pub fn end_after(
     applied: &Applied,
     sent: Result<(), WireFault>,
     answered: Option<Result<(), WireFault>>,
 ) -> Option<End>
-    ensures { result ≡ end_after applied.now (first_fault (fault_in sent) (reply_fault answered)) }
+    ensures { result ≡ end_after applied.now (fault_in sent) answered }
 {
     if let Err(fault) = sent {
         return Some(End::Wire(fault));
     }
-    match (reply_fault(answered), applied) {
-        (Some(fault), _) => Some(End::Wire(fault)),
-        (None, Applied::HistoryFull(_)) => Some(End::Full),
-        (None, _) => None,
+    match (answered, applied) {
+        (None, _) => Some(End::Memory),
+        (Some(Err(fault)), _) => Some(End::Wire(fault)),
+        (Some(Ok(())), Applied::HistoryFull(_)) => Some(End::Full),
+        (Some(Ok(())), _) => None,
     }
 }

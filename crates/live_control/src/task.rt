@@ -36,10 +36,11 @@ struct ControlState<K> {
 }
 
 /// The line of the control socket: so many commands or waits without one, or until its wire is closed or
-/// a wire fails, no number is left for an entry, or there is no memory for the next item. Each command
-/// is one datagram of the control wire: a link or a policy is entered in the history, what the ports then
-/// send goes to their peers, and the answer over the control wire; the counts are answered; any other is
-/// refused, and answered why. Gives how the line ended, and what recorded it.
+/// a wire fails, no number is left for an entry, or there is no memory for the next item or for an
+/// answer: each command behind which the line goes on was answered. Each command is one datagram of the
+/// control wire: a link or a policy is entered in the history, what the ports then send goes to their
+/// peers, and the answer over the control wire; the counts are answered; any other is refused, and
+/// answered why. Gives how the line ended, and what recorded it.
 pub fn control_run<O: MibObject, L: Run, W: ControlWire, K: ControlRecorder, D: DropTally, R: Wait>(
     rt: &R,
     plan: &Plan,
