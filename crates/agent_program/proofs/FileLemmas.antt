@@ -6,6 +6,8 @@ use Rattle.agent_program.specs.declared.files.NotRead.{NotRead}
 use Rattle.agent_program.specs.declared.failure.Failure.{Failure}
 use Rattle.agent_words.specs.declared.asked.Lasting.{Lasting}
 use Rattle.agent_program.specs.Files.{IsNotRead, IsReadOf, read_view}
+use Rattle.message_core.specs.declared.request.Request.{Request}
+use Rattle.agent_program.specs.Explanations.{ExplainsRead, ExplainsFile}
 use Rattle.agent_program.specs.Telling.{IsFileChecked, IsCheckOf}
 use Rattle.agent_program.specs.Services.{Service, OpensRead, OpensFile}
 use Rattle.agent_program.specs.Programs.{RunsRead, RunsFile}
@@ -39,6 +41,15 @@ pub file_check : {O : Type 0} (Gives : List ℕ → Result (List ℕ) NotRead �
     → IsCheckOf Gives contents file writer writer' ended
 file_check Gives contents file read writer writer' ended named gave checked =
     record { read = read_view read; is = read_of Gives file read named gave; checked = checked }
+
+pub file_explained : {O : Type 0} (Gives : List ℕ → Result (List ℕ) NotRead → Type 0)
+    (contents : O → Option (List ℕ)) (request : Request) (file : List ℕ)
+    (read : Result (Vec ℕ Global) NotRead) (writer writer' : O)
+    (ended : Result (Unit {0}) Failure) → IfErr read (λ why. IsNotRead file why)
+    → Gives file (read_view read) → ExplainsRead contents request (read_view read) writer writer' ended
+    → ExplainsFile Gives contents request file writer writer' ended
+file_explained Gives contents request file read writer writer' ended named gave explains =
+    record { read = read_view read; is = read_of Gives file read named gave; explains = explains }
 
 pub file_served : (Gives : List ℕ → Result (List ℕ) NotRead → Type 0) (objects : List ObjectState)
     (lasting : Lasting) (file : List ℕ) (read : Result (Vec ℕ Global) NotRead)

@@ -2,13 +2,14 @@
 use Rattle.std.proofs.Common.{ℕ, List, Option}
 use Rattle.configuration.specs.declared.fault.ConfigurationFault.{ConfigurationFault}
 use Rattle.agent_program.specs.declared.failure.Failure.{Failure}
-use Rattle.agent_program.specs.declared.failure.Failure.TheVariants.{NotText, CannotRead, Refused, Input, Output, Run as RunFailed}
+use Rattle.agent_program.specs.declared.failure.Failure.TheVariants.{NotText, NoName, CannotRead, Refused, Input, Output, Run as RunFailed}
 use Rattle.agent_program.specs.Telling.{fault_text, IsCutOff, IsFaultTold}
 
 -- a sentence that was cut off
 pub cut_told : {O : Type 0} (contents : O → Option (List ℕ)) (fault : ConfigurationFault) (writer writer' : O) (failure : Failure)
     → IsCutOff contents (fault_text fault) writer writer' failure → IsFaultTold contents fault writer writer' failure
 cut_told contents fault writer writer' NotText cut = absurd cut
+cut_told contents fault writer writer' (NoName word) cut = absurd cut
 cut_told contents fault writer writer' (CannotRead file) cut = absurd cut
 cut_told contents fault writer writer' Refused cut = absurd cut
 cut_told contents fault writer writer' Input cut = absurd cut

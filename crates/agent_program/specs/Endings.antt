@@ -12,14 +12,17 @@ use Rattle.agent_program.specs.declared.files.NotRead.{NotRead}
 use Rattle.agent_program.specs.declared.files.NotRead.TheVariants.{Memory as FileMemory, Unreadable}
 use Rattle.agent_words.specs.declared.program.Answered.{Answered}
 use Rattle.agent_words.specs.declared.program.Answered.TheVariants.{Shown, NotShown, Refused as WordsRefused, Memory as WordsMemory}
+use Rattle.explain.specs.declared.questions.QuestionFault.{QuestionFault}
+use Rattle.explain.specs.declared.questions.QuestionFault.TheVariants.{Memory as NoQuestionMemory, Name}
 use Rattle.agent_program.specs.declared.telling.NotTaken.{NotTaken}
 use Rattle.agent_program.specs.declared.failure.Failure.{Failure}
-use Rattle.agent_program.specs.declared.failure.Failure.TheVariants.{NotText, CannotRead, Refused, Input, Output, Run as RunFailed}
+use Rattle.agent_program.specs.declared.failure.Failure.TheVariants.{NotText, NoName, CannotRead, Refused, Input, Output, Run as RunFailed}
 
 -- the exit status: 2 for a word that is no text and for a configuration that cannot be read or is
 -- refused, 1 for what failed in a run
 abbrev pub failure_status : Failure → ℕ
 failure_status NotText = 2
+failure_status (NoName word) = 2
 failure_status (CannotRead file) = 2
 failure_status Refused = 2
 failure_status Input = 1
@@ -33,6 +36,7 @@ status_of (Err failure) = failure_status failure
 -- what a failure is called, and what it names
 abbrev pub failure_words : Failure → List ℕ
 failure_words NotText = codes "a word is no text"
+failure_words (NoName word) = codes "no object identifier: "
 failure_words (CannotRead file) = codes "cannot read "
 failure_words Refused = codes "configuration refused"
 failure_words Input = codes "input failed"
@@ -41,6 +45,7 @@ failure_words RunFailed = codes "run failed"
 
 abbrev pub failure_name : Failure → List ℕ
 failure_name NotText = []
+failure_name (NoName word) = word.now
 failure_name (CannotRead file) = file.now
 failure_name Refused = []
 failure_name Input = []
@@ -88,6 +93,11 @@ run_failure Given = RunFailed
 abbrev pub read_failure : NotRead → Failure
 read_failure FileMemory = Refused
 read_failure (Unreadable file) = CannotRead file
+
+-- words that make no request, as a failure of the program
+abbrev pub question_failure : QuestionFault → Failure
+question_failure NoQuestionMemory = RunFailed
+question_failure (Name word) = NoName word
 
 abbrev pub failure_of : NotRun → Failure
 failure_of IsRefused = Refused

@@ -3,5 +3,6 @@ pub mod Agents
 pub mod Runs
 pub mod Endings
 pub mod Telling
+pub mod Explanations
 pub mod Services
 pub mod Programs

@@ -8,13 +8,15 @@ use Rattle.agent_program.specs.declared.opening.NotRun.{NotRun}
 use Rattle.agent_program.specs.declared.failure.Failure.{Failure}
 use Rattle.agent_program.specs.declared.failure.Ended.{Ended}
 use Rattle.agent_words.specs.declared.asked.Asked.{Asked}
-use Rattle.agent_words.specs.declared.asked.Asked.TheVariants.{BuiltIn, Script, Check, Serve}
+use Rattle.agent_words.specs.declared.asked.Asked.TheVariants.{BuiltIn, Script, Check, Serve, Explain}
 use Rattle.agent_words.specs.declared.asked.Lasting.{Lasting}
+use Rattle.agent_words.specs.Asking.{Inquiry, question_view}
 use Rattle.agent_program.specs.Files.{IsReadOf}
 use Rattle.agent_program.specs.Endings.{status_of, said_of, ended_by, read_failure, IsLineTaken}
 use Rattle.agent_program.specs.Runs.{IsUntouched, IsRunBy}
 use Rattle.agent_program.specs.Services.{Service, OpensFile}
 use Rattle.agent_program.specs.Telling.{IsCheckOf}
+use Rattle.agent_program.specs.Explanations.{IsExplanation}
 
 -- an end that leaves nothing to be served
 abbrev pub nothing_left : Result (Unit {0}) Failure → Result (Option Service) Failure
@@ -72,6 +74,13 @@ module _ {I O : Type 0} (Gives : List ℕ → Result (List ℕ) NotRead → Type
     pub unread : reader' ≡ reader
     pub checked : IsCheckOf Gives contents file writer writer' ended
 
+  -- the program said what a file's policy decides on the request that was asked about, and read
+  -- nothing else
+  pub record Explains (inquiry : Inquiry) (file : List ℕ) (reader reader' : I) (writer writer' : O)
+      (ended : Result (Unit {0}) Failure) : Type 0 where
+    pub unread : reader' ≡ reader
+    pub explained : IsExplanation Gives contents inquiry file writer writer' ended
+
   -- what a file says is to be served, for so long; nothing else was read, and nothing written
   pub record ServesFile (file : List ℕ) (lasting : Lasting) (reader reader' : I) (writer writer' : O)
       (done : Result (Option Service) Failure) : Type 0 where
@@ -88,6 +97,8 @@ module _ {I O : Type 0} (Gives : List ℕ → Result (List ℕ) NotRead → Type
       HasDone (ChecksFile file.now reader reader' writer writer') done
   Does (Serve file lasting) reader reader' writer writer' done =
       ServesFile file.now lasting reader reader' writer writer' done
+  Does (Explain file question) reader reader' writer writer' done =
+      HasDone (Explains (question_view question) file.now reader reader' writer writer') done
 
   -- The program did what is asked, and this is left to be served, if anything: its status is
   -- that of how it ended, and on standard error stands the line that says so, whole or a front of it

@@ -13,7 +13,7 @@ use Rattle.udp_agent.specs.declared.setup.Unserved.TheVariants.{NoServe, NoSocke
 use Rattle.agent_program.specs.declared.files.NotRead.{NotRead}
 use Rattle.agent_program.specs.declared.files.NotRead.TheVariants.{Memory as FileMemory, Unreadable}
 use Rattle.agent_program.specs.declared.failure.Failure.{Failure}
-use Rattle.agent_program.specs.declared.failure.Failure.TheVariants.{NotText, CannotRead, Refused, Input, Output, Run as RunFailed}
+use Rattle.agent_program.specs.declared.failure.Failure.TheVariants.{NotText, NoName, CannotRead, Refused, Input, Output, Run as RunFailed}
 use Rattle.agent_program.specs.Endings.{TakesFront}
 use Rattle.agent_program.specs.Files.{IsReadOf}
 
@@ -39,6 +39,7 @@ module _ {O : Type 0} (contents : O → Option (List ℕ)) where
   -- A failure of the output: a front of this text was written.
   abbrev pub IsCutOff : List ℕ → O → O → Failure → Type 0
   IsCutOff text writer writer' NotText = ⊥
+  IsCutOff text writer writer' (NoName word) = ⊥
   IsCutOff text writer writer' (CannotRead file) = ⊥
   IsCutOff text writer writer' Refused = ⊥
   IsCutOff text writer writer' Input = ⊥
@@ -54,6 +55,7 @@ module _ {O : Type 0} (contents : O → Option (List ℕ)) where
   -- there was no memory for its sentence, and nothing was written.
   abbrev pub IsFaultTold : ConfigurationFault → O → O → Failure → Type 0
   IsFaultTold fault writer writer' NotText = ⊥
+  IsFaultTold fault writer writer' (NoName word) = ⊥
   IsFaultTold fault writer writer' (CannotRead file) = ⊥
   IsFaultTold fault writer writer' Refused =
       Appends (contents writer) (contents writer') (fault_text fault)

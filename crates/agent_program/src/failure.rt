@@ -3,12 +3,13 @@ ghost use Rattle.std.specs.Prelude.{◌≡◌, ◌++◌, OnOk};
 ghost use Rattle.std.specs.Io.KnownBytes.{Appends};
 ghost use Rattle.std.specs.IoError.{error_kind};
 ghost use Rattle.agent_program.specs.Telling.{IsTold};
-ghost use Rattle.agent_program.specs.Endings.{failure_status, failure_words, failure_name, failure_line, failure_of, words_failure, run_failure, read_failure, answered_status, answered_line, TakesFront, IsLineTaken};
+ghost use Rattle.agent_program.specs.Endings.{failure_status, failure_words, failure_name, failure_line, failure_of, words_failure, run_failure, read_failure, question_failure, answered_status, answered_line, TakesFront, IsLineTaken};
 
 use crate::files::NotRead;
 use crate::opening::NotRun;
 use crate::telling::{NotTaken, write_front};
 use agent_words::Answered;
+use explain::QuestionFault;
 use script_core::RunFault;
 use std::io::{self, ErrorKind, Write};
 
@@ -24,6 +25,8 @@ pub const FAILED: u8 = 1;
 pub enum Failure<'a> {
     /// A word is no text.
     NotText,
+    /// A word that is to be a name is no object identifier.
+    NoName(&'a str),
     /// The file of the configuration cannot be read.
     CannotRead(&'a str),
     /// The configuration is none or does not say how to serve where that is asked, there is no memory
@@ -72,6 +75,16 @@ pub fn failure_of<'a>(why: NotRun) -> Failure<'a>
     }
 }
 
+/// Why words make no request, as a failure of the program.
+pub fn question_failure(fault: QuestionFault<'_>) -> Failure<'_>
+    ensures { result ≡ question_failure fault.entry }
+{
+    match fault {
+        QuestionFault::Memory => Failure::Run,
+        QuestionFault::Name(word) => Failure::NoName(word),
+    }
+}
+
 /// Why a file was not read, as a failure of the program.
 pub fn read_failure(why: NotRead<'_>) -> Failure<'_>
     ensures { result ≡ read_failure why.entry }
@@ -88,7 +101,8 @@ impl Failure<'_> {
         ensures { result ≡ failure_status self.now }
     {
         match self {
-            Failure::NotText | Failure::CannotRead(_) | Failure::Refused => USAGE,
+            Failure::NotText | Failure::NoName(_) | Failure::CannotRead(_) | Failure::Refused =>
+                USAGE,
             Failure::Input | Failure::Output | Failure::Run => FAILED,
         }
     }
@@ -99,6 +113,7 @@ impl Failure<'_> {
     {
         match self {
             Failure::NotText => b"a word is no text",
+            Failure::NoName(_) => b"no object identifier: ",
             Failure::CannotRead(_) => b"cannot read ",
             Failure::Refused => b"configuration refused",
             Failure::Input => b"input failed",
@@ -112,6 +127,7 @@ impl Failure<'_> {
         ensures { result.now ≡ failure_name self.now }
     {
         match self {
+            Failure::NoName(word) => word.as_bytes(),
             Failure::CannotRead(file) => file.as_bytes(),
             Failure::NotText | Failure::Refused | Failure::Input | Failure::Output | Failure::Run =>
                 b"",

@@ -7,6 +7,7 @@ ghost use Rattle.agent_program.specs.Services.{OpensRead, OpensFile};
 ghost use Rattle.agent_program.specs.Programs.{RunsBy, RunsRead, RunsFile, Does, IsProgramRun, nothing_left};
 
 use crate::checking::check_read;
+use crate::explaining::explain_file;
 use crate::failure::{Ended, Failure, failure_of, read_failure, report};
 use crate::files::{NotRead, ReadFile};
 use crate::running::run_octets;
@@ -80,6 +81,9 @@ where
         Asked::Script(file) => finish(run_file(alloc, files, objects, file, reader, writer)),
         Asked::Check(file) => finish(check_file(alloc, files, file, writer)),
         Asked::Serve(file, lasting) => serve_file(alloc, files, objects, file, lasting),
+        Asked::Explain(file, question) => {
+            finish(explain_file(alloc, files, &question, file, writer))
+        }
     }
 }
 

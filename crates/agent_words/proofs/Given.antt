@@ -1,22 +1,25 @@
 -- What the getters of matches give, by the rows of the matches.
-use Rattle.std.proofs.Common.{◌≡◌, ◌≢◌, ◌∙◌, ℕ, Bool, true, false, List, Option, Some, None, refl, codes}
+use Rattle.std.proofs.Common.{◌≡◌, ◌≢◌, ◌∙◌, ℕ, Bool, true, false, List, map, Option, Some, None, refl, codes}
 use Rattle.std.specs.Prelude.{option_map, unwrap_or}
 use Rattle.std.specs.Borrow.{Bor}
 use Rattle.std.specs.Str.{bytes_eq}
 use Rattle.std.specs.Str.Parse.{ParsesBool}
 use Rattle.std.proofs.lemmas.Slice.Eq.{bytes_eq-Decides}
-use Rattle.clap.specs.Matches.{ReadsOne, first_value, one_text}
+use Rattle.clap.specs.Matches.{ReadsOne, first_value, matched_of, one_text, raw_values}
 use Rattle.clap.specs.Simple.{subcommand_rows}
-use Rattle.clap.specs.Words.{Row, Text, first_of, one_of, rows_of, found_of, subcommand_name_of, subcommand_rows_of}
+use Rattle.clap.specs.Words.{Row, Text, all_of, first_of, one_of, rows_of, found_of, subcommand_name_of, subcommand_rows_of}
 use Rattle.clap.specs.declared.parser.matches.ArgMatches.{ArgMatches}
 use Rattle.clap.specs.declared.parser.matches.ArgMatches.TheViews.{out-ArgMatches, out-SubCommand}
 use Rattle.clap.specs.declared.parser.matches.Found.{Found}
-use Rattle.clap.proofs.WalkLemmas.{first_value-rows, one_text-rows}
+use Rattle.clap.proofs.WalkLemmas.{first_value-rows, one_text-rows, raw_values-rows}
 use Rattle.std.specs.Box.{box_value}
 use Rattle.agent_words.specs.Asking.{is_set}
 
 pub word_given : (f : Found) (id : Text) (r : Option (Bor Text)) → option_map (λ s. s.now) r ≡ first_value f id → option_map (λ s. s.now) r ≡ first_of id (rows_of f)
 word_given f id r says = says ∙ first_value-rows f id
+
+pub words_given : (f : Found) (id : Text) (r : Option (Bor (List (Bor Text)))) → option_map (λ s. map (λ v. v.now) s.now) r ≡ option_map raw_values (matched_of f id) → option_map (λ s. map (λ v. v.now) s.now) r ≡ all_of id (rows_of f)
+words_given f id r says = says ∙ raw_values-rows f id
 
 -- ---- flags
 

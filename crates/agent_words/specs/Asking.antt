@@ -1,13 +1,22 @@
 -- What the words of a command line ask for.
-use Rattle.std.specs.Prelude.{◌≡◌, ℕ, Bool, true, false, codes, if◌then◌else◌, List, [], Option, Some, None, option_and_then, option_map}
+use Rattle.std.specs.Prelude.{◌≡◌, ℕ, Bool, true, false, codes, if◌then◌else◌, List, [], map, Option, Some, None, option_and_then, option_map}
 use Rattle.std.specs.Str.{bytes_eq}
-use Rattle.clap.specs.Words.{Row, Text, first_of, found_of, one_of, rows_of, fault_of, subcommand_of}
+use Rattle.clap.specs.Words.{Row, Text, all_of, first_of, found_of, one_of, rows_of, fault_of, subcommand_of}
 use Rattle.clap.specs.declared.parser.matches.ArgMatches.{ArgMatches}
 use Rattle.agent_words.specs.Options.{agent_app}
 use Rattle.agent_words.specs.declared.asked.Asked.{Asked}
-use Rattle.agent_words.specs.declared.asked.Asked.TheVariants.{BuiltIn, Script, Check, Serve}
+use Rattle.agent_words.specs.declared.asked.Asked.TheVariants.{BuiltIn, Script, Check, Serve, Explain}
 use Rattle.agent_words.specs.declared.asked.Lasting.{Lasting}
 use Rattle.agent_words.specs.declared.asked.Lasting.TheVariants.{Rounds, Forever}
+use Rattle.agent_words.specs.declared.asked.Operation.{Operation}
+use Rattle.agent_words.specs.declared.asked.Operation.TheVariants.{Get, GetNext, Set}
+use Rattle.agent_words.specs.declared.asked.Question.{Question}
+
+-- a request of this community for these names, as they are written
+pub record Inquiry : Type 0 where
+  pub community : List ℕ
+  pub operation : Operation
+  pub names : List (List ℕ)
 
 pub data Asking : Type 0 where
   -- the script by the built-in configuration
@@ -18,6 +27,8 @@ pub data Asking : Type 0 where
   check : (file : List ℕ) → Asking
   -- the agent by the configuration of this file, over UDP, for so long
   serve : (file : List ℕ) → Lasting → Asking
+  -- what the policy of the configuration of this file decides on such a request
+  explain : (file : List ℕ) → Inquiry → Asking
 
 -- the rows of a level's matches
 abbrev pub rows_in : ArgMatches → List Row
@@ -35,19 +46,43 @@ lasting_by true audit = Some (Forever audit)
 lasting_by false true = None
 lasting_by false false = Some Rounds
 
--- what a subcommand asks for of a file, for so long where it serves, if the flags say for how long
-abbrev pub asking_with : Text → Option Lasting → List ℕ → Option Asking
-asking_with name lasting file =
-    if bytes_eq name (codes "script") then Some (script file)
-    else if bytes_eq name (codes "check") then Some (check file)
-    else if bytes_eq name (codes "serve") then option_map (serve file) lasting
+-- what a word says that a request does
+abbrev pub operation_of : Text → Option Operation
+operation_of word =
+    if bytes_eq word (codes "get") then Some Get
+    else if bytes_eq word (codes "next") then Some GetNext
+    else if bytes_eq word (codes "set") then Some Set
     else None
 
--- the same by the rows of its matches
+-- the request that a community, an operation and names make
+abbrev pub inquiry_with : Option Text → Option Operation → Option (List Text) → Option Inquiry
+inquiry_with (Some community) (Some operation) (Some names) =
+    Some (record { community = community; operation = operation; names = names })
+inquiry_with (Some community) (Some operation) None = None
+inquiry_with (Some community) None names = None
+inquiry_with None operation names = None
+
+-- the request of which the decision is asked for, by the rows of matches
+abbrev pub inquiry_by : List Row → Option Inquiry
+inquiry_by rows = inquiry_with (first_of (codes "COMMUNITY") rows)
+    (option_and_then operation_of (first_of (codes "REQUEST") rows)) (all_of (codes "NAME") rows)
+
+-- for how long an agent is served, by the rows of matches
+abbrev pub lasting_in : List Row → Option Lasting
+lasting_in rows = lasting_by (is_set (one_of (codes "forever") rows)) (is_set (one_of (codes "audit") rows))
+
+-- what a subcommand asks for of a file, by the rows of its matches
+abbrev pub asking_with : Text → List Row → List ℕ → Option Asking
+asking_with name rows file =
+    if bytes_eq name (codes "script") then Some (script file)
+    else if bytes_eq name (codes "check") then Some (check file)
+    else if bytes_eq name (codes "serve") then option_map (serve file) (lasting_in rows)
+    else if bytes_eq name (codes "explain") then option_map (explain file) (inquiry_by rows)
+    else None
+
+-- the same where the matches have a file
 abbrev pub asking_by : Text → List Row → Option Asking
-asking_by name rows = option_and_then
-    (asking_with name (lasting_by (is_set (one_of (codes "forever") rows)) (is_set (one_of (codes "audit") rows))))
-    (first_of (codes "FILE") rows)
+asking_by name rows = option_and_then (asking_with name rows) (first_of (codes "FILE") rows)
 
 -- what matches ask for: without a subcommand the script by the built-in configuration
 abbrev pub asking_in : Option (Text × List Row) → Option Asking
@@ -58,11 +93,20 @@ asking_in (Some entered) = asking_by entered.0 entered.1
 abbrev pub asking_of : List Text → Option Asking
 asking_of words = asking_in (subcommand_of agent_app words)
 
+-- a request as its words are
+abbrev pub question_view : Question → Inquiry
+question_view question = record {
+  community = question.community.now;
+  operation = question.operation;
+  names = map (λ name. name.now) question.names.items;
+}
+
 abbrev pub asked_view : Asked → Asking
 asked_view BuiltIn = built_in
 asked_view (Script file) = script file.now
 asked_view (Check file) = check file.now
 asked_view (Serve file lasting) = serve file.now lasting
+asked_view (Explain file question) = explain file.now (question_view question)
 
 -- These words ask for this: they have no fault, and it is what their matches say.
 pub record IsAsked (words : List Text) (asked : Asked) : Type 0 where
@@ -75,3 +119,4 @@ is_serving (Serve file lasting) = true
 is_serving BuiltIn = false
 is_serving (Script file) = false
 is_serving (Check file) = false
+is_serving (Explain file question) = false

@@ -1,5 +1,6 @@
--- The words of `agentd` as `clap` reads them: one command with three subcommands, none of which has to stand.
+-- The words of `agentd` as `clap` reads them: one command with four subcommands, none of which has to stand.
 use Rattle.std.specs.Prelude.{codes, true, false, [], ◌∷◌, Some}
+use Rattle.clap.specs.Lexer.{usize_max}
 use Rattle.clap.specs.Words.{App, Rule, Shape, Text, new_rule}
 use Rattle.clap.specs.Simple.{new_shape}
 use Rattle.clap.specs.declared.builder.action.ArgAction.TheVariants.{SetTrue}
@@ -28,12 +29,28 @@ forever_flag = flag_rule (codes "forever")
 abbrev pub audit_flag : Rule
 audit_flag = flag_rule (codes "audit")
 
+-- one word that has to stand
+abbrev pub one_word : Text → Rule
+one_word id = record (new_rule id) { required = true }
+
+-- one word or more
+abbrev pub some_words : Text → Rule
+some_words id = record (one_word id) {
+  range = Some (record { start_inclusive = 1; end_inclusive = usize_max });
+}
+
 -- what is done with a file
 abbrev pub file_shape : Text → Shape
 file_shape name = record (new_shape name) { rules = config_option ∷ [] }
 
 abbrev pub serve_shape : Shape
 serve_shape = record (new_shape (codes "serve")) { rules = config_option ∷ (forever_flag ∷ (audit_flag ∷ [])) }
+
+-- a file, and the request of which the decision is asked for
+abbrev pub explain_shape : Shape
+explain_shape = record (new_shape (codes "explain")) {
+  rules = config_option ∷ (one_word (codes "COMMUNITY") ∷ (one_word (codes "REQUEST") ∷ (some_words (codes "NAME") ∷ [])));
+}
 
 -- what stands in front of that
 abbrev pub agent_shape : Shape
@@ -46,5 +63,5 @@ agent_shape = record (new_shape (codes "agentd")) {
 abbrev pub agent_app : App
 agent_app = record {
   top = record agent_shape { is_leaf = false };
-  subs = file_shape (codes "script") ∷ (file_shape (codes "check") ∷ (serve_shape ∷ []));
+  subs = file_shape (codes "script") ∷ (file_shape (codes "check") ∷ (serve_shape ∷ (explain_shape ∷ [])));
 }

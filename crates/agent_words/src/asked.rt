@@ -3,7 +3,7 @@ ghost use Rattle.std.specs.Prelude.{◌≡◌};
 ghost use Rattle.agent_words.specs.Asking.{is_serving};
 
 /// What words ask for.
-#[derive(Clone, Copy, Debug, PartialEq, Eq, Drop)]
+#[derive(Debug, Drop)]
 pub enum Asked<'a> {
     /// The script by the built-in configuration.
     BuiltIn,
@@ -13,6 +13,30 @@ pub enum Asked<'a> {
     Check(&'a str),
     /// The agent by the configuration of this file, over UDP, for so long.
     Serve(&'a str, Lasting),
+    /// What the policy of this file decides on such a request.
+    Explain(&'a str, Question<'a>),
+}
+
+/// A request of which the decision is asked for.
+#[derive(Debug, Drop)]
+pub struct Question<'a> {
+    /// The community.
+    pub community: &'a str,
+    /// What the request does.
+    pub operation: Operation,
+    /// The names of its variables, as they are written; at least one where clap read them.
+    pub names: Vec<&'a str>,
+}
+
+/// What a request does with its variables (RFC 3416, section 4.2).
+#[derive(Clone, Copy, Debug, PartialEq, Eq, Drop)]
+pub enum Operation {
+    /// A Get.
+    Get,
+    /// A GetNext.
+    GetNext,
+    /// A Set.
+    Set,
 }
 
 /// For how long an agent is served.

@@ -24,6 +24,6 @@ mod matches;
 mod options;
 mod program;
 
-pub use asked::{Asked, Lasting, asks_to_serve};
+pub use asked::{Asked, Lasting, Operation, Question, asks_to_serve};
 pub use options::VERSION;
 pub use program::{Answered, read_words};

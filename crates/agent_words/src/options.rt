@@ -1,7 +1,7 @@
 //! The words of `agentd`, and what its help says of them.
 ghost use Rattle.std.specs.Prelude.{[], codes, IfOk, IsOkAnd};
 ghost use Rattle.clap.specs.Words.{AddsSubcommand};
-ghost use Rattle.agent_words.specs.Options.{config_option, flag_rule, file_shape, serve_shape, agent_shape, agent_app};
+ghost use Rattle.agent_words.specs.Options.{config_option, flag_rule, one_word, some_words, file_shape, serve_shape, explain_shape, agent_shape, agent_app};
 ghost use Rattle.agent_words.specs.Built.{IsArgument, HasWords};
 
 use clap::builder::ValueParser;
@@ -55,13 +55,26 @@ too slowly, or fails, the agent goes on, and logs how many lines were lost.
 Exit status: 0; 1 if nothing could be served, or if one of them failed; 2 if the words are no
 command, or if FILE cannot be read or is refused.";
 
+/// What is said of a decision.
+const EXPLAIN_HELP: &str = "The first line is the verdict, in the words of an audit: drop and the cause; why the request is
+refused; or ok, the access row that decides, and the view that it names, as
+ok access(readers,,2,1) view bridge.
+
+Where it is ok, a line for each NAME says whether it is in the view, and by which family of the view:
+NAME in of view V by family(V,SUBTREE), NAME out of view V by family(V,SUBTREE), or
+NAME out of view V by none.
+
+Exit status: 0; 1 if that cannot be printed; 2 if the words are no command, if a NAME is none, or if
+FILE cannot be read or is refused.";
+
 /// The words of `agentd`: a subcommand for what is done with a file.
 pub(crate) fn agent_command<'a>(alloc: Global) -> Result<Command<'a>, AllocError>
     ensures { IfOk result (HasWords agent_app) }
 {
     let agent = added(agent_options(alloc), script_command(alloc))?;
     let agent = added(agent, check_command(alloc))?;
-    added(agent, serve_command(alloc))
+    let agent = added(agent, serve_command(alloc))?;
+    added(agent, explain_command(alloc))
 }
 
 // A command with a subcommand more, where that is made.
@@ -127,6 +140,29 @@ fn serve_command<'a>(alloc: Global) -> Result<Command<'a>, AllocError>
     ))
 }
 
+// `explain`: what the policy of a file decides on a request.
+fn explain_command<'a>(alloc: Global) -> Result<Command<'a>, AllocError>
+    ensures { IfOk result (HasWords (record { top = explain_shape; subs = [] })) }
+{
+    file_command(
+        alloc,
+        "explain",
+        "Says what the policy in FILE decides on a request, and by which rows",
+        EXPLAIN_HELP,
+    )?
+    .arg(one_word(
+        alloc,
+        "COMMUNITY",
+        "The community; behind '--' if it begins with '-'",
+    ))?
+    .arg(one_word(alloc, "REQUEST", "get, next or set"))?
+    .arg(some_words(
+        alloc,
+        "NAME",
+        "An object identifier with dots, as 1.3.6.1.2.1.17.1.2.0",
+    ))
+}
+
 // What is done with a file.
 fn file_command<'a>(
     alloc: Global,
@@ -161,4 +197,18 @@ fn flag<'a>(alloc: Global, name: &'a str, help: &'a str) -> Arg<'a>
         .long(name)
         .action(ArgAction::SetTrue)
         .help(help)
+}
+
+// One word or more.
+fn some_words<'a>(alloc: Global, id: &'a str, help: &'a str) -> Arg<'a>
+    ensures { IsArgument (some_words id.entry.now) result }
+{
+    one_word(alloc, id, help).num_args(1..)
+}
+
+// One word that has to stand.
+fn one_word<'a>(alloc: Global, id: &'a str, help: &'a str) -> Arg<'a>
+    ensures { IsArgument (one_word id.entry.now) result }
+{
+    Arg::new(alloc, id).required(true).help(help)
 }

@@ -9,7 +9,7 @@ use crate::asked::Asked;
 use crate::matches::asked_in;
 use crate::options::agent_command;
 use clap::error::ErrorKind;
-use clap::{Command, Error};
+use clap::{ArgMatches, Command, Error};
 use std::alloc::Global;
 use std::io::Write;
 
@@ -55,18 +55,26 @@ fn asked_by<'a>(alloc: Global, words: &'a [String]) -> Result<Asked<'a>, Error>
 {
     let mut agent = agent_command(alloc)?;
     let matches = agent.try_get_matches_from_mut(words)?;
-    match asked_in(&matches) {
+    let found = asked_in(alloc, &matches)?;
+    match found {
         Some(asked) => Ok(asked),
-        None => Err(audit_alone(&mut agent)),
+        None => Err(nothing_asked(&mut agent, mistake_in(&matches))),
     }
 }
 
-// The error of matches that ask for nothing, with the usage: of those that clap lets pass, `--audit`
-// without `--forever`.
-fn audit_alone(agent: &mut Command<'_>) -> Error
+// What is wrong with matches that ask for nothing, though clap lets them pass.
+fn mistake_in(matches: &ArgMatches<'_>) -> &'static str {
+    match matches.subcommand_name() {
+        Some("explain") => "a request is get, next or set",
+        _ => "--audit wants --forever",
+    }
+}
+
+// The error of matches that ask for nothing, with the usage.
+fn nothing_asked(agent: &mut Command<'_>, mistake: &'static str) -> Error
     ensures { (kind_of result ≡ OutOfMemory) ⊎ (kind_of result ≡ ValueValidation) }
 {
-    match agent.error(ErrorKind::ValueValidation, "--audit wants --forever") {
+    match agent.error(ErrorKind::ValueValidation, mistake) {
         Ok(error) => error,
         Err(error) => Error::from(error),
     }

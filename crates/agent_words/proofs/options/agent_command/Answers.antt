@@ -1,7 +1,7 @@
 use Rattle.std.proofs.Common.{codes, []}
 use Rattle.std.proofs.lemmas.Result.{IfOk-weaker}
 use Rattle.clap.specs.Words.{App, with_subcommand}
-use Rattle.agent_words.specs.Options.{agent_shape, file_shape, serve_shape}
+use Rattle.agent_words.specs.Options.{agent_shape, file_shape, serve_shape, explain_shape}
 use Rattle.agent_words.specs.Built.{HasWords}
 use Rattle.agent_words.proofs.Added.{added}
 use Rattle.agent_words.proofs.options.agent_command.Goals as goal
@@ -15,4 +15,6 @@ returns c =
     let two = with_subcommand one check in
     let h1 = added none script c.agent_options.result c.script_command.result c.in_ok-agent.agent c.agent_options.ensures c.script_command.ensures c.in_ok-agent.ensures in
     let h2 = added one check c.in_ok-agent.agent c.check_command.result c.in_ok-agent-2.agent h1 c.check_command.ensures c.in_ok-agent-2.ensures in
-    IfOk-weaker c.added-3.result _ (HasWords (with_subcommand two serve_shape)) (λ n adds. added two serve_shape c.in_ok-agent-2.agent c.serve_command.result n h2 c.serve_command.ensures adds) c.added-3.ensures
+    let three = with_subcommand two serve_shape in
+    let h3 = added two serve_shape c.in_ok-agent-2.agent c.serve_command.result c.in_ok-agent-3.agent h2 c.serve_command.ensures c.in_ok-agent-3.ensures in
+    IfOk-weaker c.added-4.result _ (HasWords (with_subcommand three explain_shape)) (λ n adds. added three explain_shape c.in_ok-agent-3.agent c.explain_command.result n h3 c.explain_command.ensures adds) c.added-4.ensures

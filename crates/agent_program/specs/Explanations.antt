@@ -1,0 +1,97 @@
+-- What the program says of the decision on a request, by the policy of a file's configuration.
+use Rattle.std.specs.Prelude.{◌≡◌, ◌⊎◌, ℕ, List, Option, Result, Ok, Err}
+use Rattle.std.specs.Borrow.{Bor}
+use Rattle.message_core.specs.declared.request.Kind.{Kind}
+use Rattle.message_core.specs.declared.request.Kind.TheVariants as kind
+use Rattle.message_core.specs.declared.request.Request.{Request}
+use Rattle.configuration.specs.declared.configuration.Configuration.{Configuration}
+use Rattle.configuration.specs.Configurations.{IsConfigurationIn}
+use Rattle.explain.specs.Explaining.{explanation}
+use Rattle.explain.specs.Questions.{IsQuestion, IsFirstNoName}
+use Rattle.agent_words.specs.Asking.{Inquiry}
+use Rattle.agent_words.specs.declared.asked.Operation.{Operation}
+use Rattle.agent_words.specs.declared.asked.Operation.TheVariants.{Get, GetNext, Set}
+use Rattle.agent_program.specs.declared.files.NotRead.{NotRead}
+use Rattle.agent_program.specs.declared.opening.NotRun.{NotRun}
+use Rattle.agent_program.specs.declared.failure.Failure.{Failure}
+use Rattle.agent_program.specs.declared.failure.Failure.TheVariants.{NoName, Run as RunFailed}
+use Rattle.agent_program.specs.Endings.{failure_of, read_failure}
+use Rattle.agent_program.specs.Files.{IsReadOf}
+use Rattle.agent_program.specs.Runs.{IsNotOpened}
+use Rattle.agent_program.specs.Telling.{IsTold}
+
+-- the PDU type of what a request does (RFC 3416, section 4.2)
+abbrev pub kind_by : Operation → Kind
+kind_by Get = kind.Get
+kind_by GetNext = kind.GetNext
+kind_by Set = kind.Set
+
+-- the request that is asked about
+abbrev pub IsRequestOf : Inquiry → Request → Type 0
+IsRequestOf inquiry request =
+    IsQuestion (kind_by inquiry.operation) inquiry.community inquiry.names request
+
+-- words make no request: there was no memory for it, or this is the first that is no name
+abbrev pub IsQuestionFailure : List (List ℕ) → Failure → Type 0
+IsQuestionFailure words failure =
+    (failure ≡ RunFailed) ⊎ ((word : Bor (List ℕ)) × (failure ≡ NoName word) × IsFirstNoName words word.now)
+
+-- octets explain nothing: there was no memory for the text, or they were not opened
+abbrev pub IsNotExplained : List ℕ → Failure → Type 0
+IsNotExplained octets failure =
+    (failure ≡ RunFailed) ⊎ ((why : NotRun) × (failure ≡ failure_of why) × IsNotOpened octets why)
+
+-- A writer that may tell which octets it took.
+module _ {O : Type 0} (contents : O → Option (List ℕ)) where
+  -- the octets are a configuration, and what its policy decides on the request was written, whole or
+  -- until the output failed
+  pub record IsExplained (octets : List ℕ) (request : Request) (writer writer' : O)
+      (ended : Result (Unit {0}) Failure) : Type 0 where
+    pub configuration : Configuration
+    pub said : IsConfigurationIn octets configuration
+    pub told : IsTold contents (explanation configuration.policy request) writer writer' ended
+
+  -- What an explanation by octets comes to; where there is none, nothing was written.
+  abbrev pub ExplainsOctets : Request → List ℕ → O → O → Result (Unit {0}) Failure → Type 0
+  ExplainsOctets request octets writer writer' (Ok done) =
+      IsExplained octets request writer writer' (Ok done)
+  ExplainsOctets request octets writer writer' (Err failure) =
+      IsExplained octets request writer writer' (Err failure) ⊎ (IsNotExplained octets failure × (writer' ≡ writer))
+
+  -- The same by what was read of a file.
+  abbrev pub ExplainsRead : Request → Result (List ℕ) NotRead → O → O → Result (Unit {0}) Failure
+      → Type 0
+  ExplainsRead request (Ok octets) writer writer' ended =
+      ExplainsOctets request octets writer writer' ended
+  ExplainsRead request (Err why) writer writer' ended =
+      (ended ≡ Err (read_failure why)) × (writer' ≡ writer)
+
+-- Beside it a reader of files, by what a read of the file of a name may give.
+module _ {O : Type 0} (Gives : List ℕ → Result (List ℕ) NotRead → Type 0)
+    (contents : O → Option (List ℕ)) where
+  -- a file was read, or not, and the decision on this request was explained by what was read of it
+  pub record ExplainsFile (request : Request) (file : List ℕ) (writer writer' : O)
+      (ended : Result (Unit {0}) Failure) : Type 0 where
+    pub read : Result (List ℕ) NotRead
+    pub is : IsReadOf Gives file read
+    pub explains : ExplainsRead contents request read writer writer' ended
+
+  -- the words make this request, and it was explained by a file
+  pub record ExplainsAsked (inquiry : Inquiry) (file : List ℕ) (writer writer' : O)
+      (ended : Result (Unit {0}) Failure) : Type 0 where
+    pub request : Request
+    pub asked : IsRequestOf inquiry request
+    pub explains : ExplainsFile request file writer writer' ended
+
+  -- the words make no request, and nothing was written
+  pub record IsNoQuestion (inquiry : Inquiry) (writer writer' : O)
+      (ended : Result (Unit {0}) Failure) : Type 0 where
+    pub failure : Failure
+    pub failed : ended ≡ Err failure
+    pub why : IsQuestionFailure inquiry.names failure
+    pub unwritten : writer' ≡ writer
+
+  -- What an explanation by the words and a file comes to.
+  abbrev pub IsExplanation : Inquiry → List ℕ → O → O → Result (Unit {0}) Failure → Type 0
+  IsExplanation inquiry file writer writer' ended =
+      ExplainsAsked inquiry file writer writer' ended ⊎ IsNoQuestion inquiry writer writer' ended
