@@ -61,7 +61,7 @@ pub record IsMarkFor (keys : List FamilyKey) (denied : Denied) (mark : Mark) : T
   pub index : mark.index ≡ denied.index
   pub family : IsPlaceOf keys denied.family mark.family
 
--- how many numbers, and how many places, 16 bits can tell apart
+-- how many numbers 16 bits have, and so how many places
 abbrev pub mark_numbers : ℕ
 mark_numbers = 2 ^ 16
 

@@ -12,8 +12,8 @@
 //!
 //! # Definitions
 //! `specs/Text.antt`: the line, to the octet; `specs/Keys.antt`: the key of a family row. Inside the
-//! crate, `specs/Marks.antt`: what a denied binding is by its number and the place of its key;
-//! `specs/Denials.antt`, `specs/Unrestored.antt`: how denied bindings, settings and room for those
+//! crate, `specs/Marks.antt`: what a denied binding is by its number and the place of its key, and
+//! which has none; `specs/Denials.antt`, `specs/Unrestored.antt`: how denied bindings, settings and room for those
 //! lie in memory.
 //!
 //! # Laws

@@ -24,8 +24,8 @@
 //! and the ports' BPDUs, and nothing else. A worker visits its gate ahead of each request, and
 //! behind each that made an entry, by its own number, with the entry's number and audit and the peer and
 //! request-id of the datagram; what a second gives is sent before the pace
-//! is asked again. A line ends for want of memory only where its recorder has none for one item more, or
-//! a port's link found none.
+//! is asked again. A line ends for want of memory only where its recorder has none for one item
+//! more, or a port's link found none.
 //!
 //! # Not claimed
 //! That a wait ends, and which thread comes first; what a wire that does not tell its acts did.
