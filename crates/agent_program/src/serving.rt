@@ -2,6 +2,8 @@
 ghost use Rattle.std.specs.Prelude.{IfOk, IfErr, map};
 ghost use Rattle.std.specs.Prelude.{◌≡◌};
 ghost use Rattle.history_core.specs.History.{fresh};
+ghost use Rattle.live_audit.specs.Audited.{is_audited};
+ghost use Rattle.udp_agent.specs.Binding.{is_audited_worker};
 ghost use Rattle.udp_agent.specs.Serving.{IsServed};
 ghost use Rattle.udp_agent.specs.Lasting.{IsServedForever};
 ghost use Rattle.agent_program.specs.Services.{IsOpened, IsNotSetUp, IsServiceBy};
@@ -131,7 +133,8 @@ pub fn serve_opened_forever<'r, M: MibObject + Send, R: Threads + Wait + Net + C
         ⟦<LastingWire<&'r R> as Wire>⟧.went ⟦<LastingWire<&'r R> as Wire>⟧.failures
         ⟦<LastingTicker<&'r R> as PacedWire>⟧.did ⟦<LastingTicker<&'r R> as Wire>⟧.failures
         ⟦<Teller<'r, R> as Watch>⟧.went ⟦<SecondPace<&'r R> as Pace>⟧.went
-        opened.setup (fresh registry opened.world 0) result }
+        is_audited_worker opened.setup (is_audited audits.now) (fresh registry opened.world 0)
+        result }
 {
     let kept = begin(alloc, registry, opened.world)?;
     udp_agent::serve_forever(rt, alloc, version, &opened.setup, kept, audits)

@@ -1,6 +1,9 @@
 -- The lines of a setup, and what they have in common.
-use Rattle.std.specs.Prelude.{◌≡◌, map, Some, vec_len, length}
+use Rattle.std.specs.Prelude.{◌≡◌, Bool, map, Some, vec_len, length, All}
+use Rattle.live_agent.specs.declared.gate.Gated.{Gated}
 use Rattle.live_agent.specs.declared.plan.Plan.{Plan}
+use Rattle.live_audit.specs.Audited.{is_audited}
+use Rattle.live_audit.specs.declared.auditing.Auditing.{Auditing}
 use Rattle.live_run.specs.declared.lines.Lines.{Lines}
 use Rattle.udp_agent.specs.declared.setup.Setup.{Setup}
 
@@ -15,3 +18,12 @@ pub record IsPlan (setup : Setup) (plan : Plan) : Type 0 where
 pub record AreLines {A W T : Type 0} (setup : Setup) (lines : Lines A W T) : Type 0 where
   pub workers : vec_len lines.workers ≡ setup.serve.workers
   pub ports : vec_len lines.ports ≡ length setup.ports.items
+
+-- whether the requests of a worker with such a gate are audited
+abbrev pub is_audited_worker : {W : Type 0} → Gated W Auditing → Bool
+is_audited_worker worker = is_audited worker.gate
+
+-- The requests of every worker are audited, where that is asked for; else those of none are.
+abbrev pub AreAudited : {A W T : Type 0} → (A → Bool) → Bool → Lines A W T → Type 0
+AreAudited is_worker_audited asked lines =
+    All (λ worker. is_worker_audited worker ≡ asked) lines.workers.items

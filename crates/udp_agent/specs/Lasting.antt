@@ -14,7 +14,7 @@ use Rattle.live_laps.specs.Laps.{HaveGoneOn}
 use Rattle.live_laps.specs.Lines.{all_lines}
 use Rattle.live_laps.specs.Notes.{Note}
 use Rattle.live_laps.specs.declared.line.Watched.{Watched}
-use Rattle.udp_agent.specs.Binding.{IsPlan, AreLines}
+use Rattle.udp_agent.specs.Binding.{IsPlan, AreLines, AreAudited}
 use Rattle.udp_agent.specs.declared.setup.Setup.{Setup}
 
 -- a line that ended so failed: by its wire, or for want of memory
@@ -47,18 +47,22 @@ module _ {A W T V P : Type 0} (worker_did : A → List Deed → A → Type 0) (w
   IsServingForever watch pace plan start run (Ok ends) = HaveServed watch pace plan start run ends.items
   IsServingForever watch pace plan start run (Err refused) = Unit {0}
 
-  -- Lines of this setup went on, by its plan.
-  pub record IsServedForeverBy (setup : Setup) (start : History) (ends : List End) : Type 0 where
+  -- Lines of this setup went on, by its plan, with their requests audited where that was asked for.
+  pub record IsServedForeverBy (is_worker_audited : A → Bool) (setup : Setup) (asked : Bool)
+      (start : History) (ends : List End) : Type 0 where
     pub plan : Plan
     pub planned : IsPlan setup plan
     pub run : Lines A W T
     pub bound : AreLines setup run
+    pub audited : AreAudited is_worker_audited asked run
     pub watch : V
     pub pace : P
     pub served : HaveServed watch pace plan start run ends
 
   -- What comes of a setup that is served without an end: nothing is said of where its sockets could
   -- not be bound, or where there was no memory to begin with.
-  abbrev pub IsServedForever : Setup → History → Result (Vec End Global) Error → Type 0
-  IsServedForever setup start (Ok ends) = IsServedForeverBy setup start ends.items
-  IsServedForever setup start (Err error) = Unit {0}
+  abbrev pub IsServedForever : (A → Bool) → Setup → Bool → History
+      → Result (Vec End Global) Error → Type 0
+  IsServedForever is_worker_audited setup asked start (Ok ends) =
+      IsServedForeverBy is_worker_audited setup asked start ends.items
+  IsServedForever is_worker_audited setup asked start (Err error) = Unit {0}

@@ -1,5 +1,5 @@
 -- What comes of serving lines over a history.
-use Rattle.std.specs.Prelude.{◌≡◌, ℕ, List, Result, Ok, Err}
+use Rattle.std.specs.Prelude.{ℕ, List, Result, Ok, Err}
 use Rattle.wire_core.specs.Acts.{Act}
 use Rattle.history_core.specs.History.{History}
 use Rattle.live_agent.specs.Deeds.{Deed}

@@ -1,5 +1,7 @@
 //! Serves an agent without an end.
 ghost use Rattle.std.specs.Prelude.{◌≡◌, ◌<◌, ◌^◌, ◌-◌, true, false, vec_len, IfOk};
+ghost use Rattle.live_audit.specs.Audited.{is_audited};
+ghost use Rattle.udp_agent.specs.Binding.{is_audited_worker};
 ghost use Rattle.udp_agent.specs.Lasting.{is_failure, is_any_failure, IsServingForever, IsServedForever};
 
 use crate::binding::plan_of;
@@ -99,7 +101,7 @@ pub fn serve_forever<'r, O: MibObject + Send, R: Threads + Wait + Net + Clock + 
         ⟦<LastingWire<&'r R> as Wire>⟧.went ⟦<LastingWire<&'r R> as Wire>⟧.failures
         ⟦<LastingTicker<&'r R> as PacedWire>⟧.did ⟦<LastingTicker<&'r R> as Wire>⟧.failures
         ⟦<Teller<'r, R> as Watch>⟧.went ⟦<SecondPace<&'r R> as Pace>⟧.went
-        setup.now kept result }
+        is_audited_worker setup.now (is_audited audits.now) kept result }
 {
     let plan = plan_of(alloc, setup)?;
     let sending = Arc::new(

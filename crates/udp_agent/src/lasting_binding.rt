@@ -1,6 +1,7 @@
 //! Binds the sockets of a setup that is served without an end.
-ghost use Rattle.std.specs.Prelude.{◌≡◌, ◌<◌, ◌-◌, ◌^◌, IfOk, length, vec_len};
-ghost use Rattle.udp_agent.specs.Binding.{AreLines};
+ghost use Rattle.std.specs.Prelude.{◌≡◌, ◌<◌, ◌-◌, ◌^◌, All, IfOk, length, vec_len};
+ghost use Rattle.live_audit.specs.Audited.{is_audited};
+ghost use Rattle.udp_agent.specs.Binding.{AreLines, AreAudited, is_audited_worker};
 
 use crate::binding::{address_of, few};
 use crate::setup::Setup;
@@ -35,7 +36,9 @@ fn bind_workers<'b, R: Net, C: Clock + Copy + Drop>(
     sending: &Arc<SendingSockets, Global>,
     audits: &Auditing<'b>,
 ) -> io::Result<Vec<LastingWorker<'b, C>>>
-    ensures { IfOk result (λ workers. vec_len workers ≡ serve.now.workers) }
+    ensures workers { IfOk result (λ workers. vec_len workers ≡ serve.now.workers) }
+    ensures audited { IfOk result (λ workers.
+        All (λ worker. is_audited_worker worker ≡ is_audited audits.now) workers.items) }
 {
     let socket = LastingWire::bind(rt, alloc, serve.snmp, sending, clock)?;
     let mut workers = Vec::new(alloc);
@@ -76,8 +79,8 @@ fn share_first<C: Clock + Copy>(ports: &[LastingWire<C>]) -> io::Result<LastingW
 
 /// The lines of a setup that is served without an end: over sockets as those of `bind_lines`, but no
 /// send fails, and frames go by these sending sockets. The ticker ticks at this pace; receives that
-/// fail wait by this clock. Each worker has such a gate. A clause says how many lines there are; which
-/// sockets they share is tested.
+/// fail wait by this clock. Each worker has such a gate, and is audited where this one is. Clauses
+/// say that, and how many lines there are; which sockets they share is tested.
 ///
 /// # Errors
 /// As of `bind_lines`.
@@ -91,6 +94,7 @@ pub fn bind_lasting<'b, R: Net, C: Clock + Copy + Drop, P: Pace>(
     audits: &Auditing<'b>,
 ) -> io::Result<LastingLines<'b, C, P>>
     ensures lines { IfOk result (AreLines setup.now) }
+    ensures audited { IfOk result (AreAudited is_audited_worker (is_audited audits.now)) }
     ensures few { IfOk result (λ lines.
         (vec_len lines.workers < 2 ^ 16 - 1) × (vec_len lines.ports < 2 ^ 16 - 1)) }
 {

@@ -14,13 +14,15 @@
 //! # Definitions
 //! `specs/Setups.antt`: what a setup holds; `specs/Binding.antt`: its lines, and what they have in
 //! common: a plan has the setup's rounds, address and peers, and the lines are a worker for each
-//! thread that is to answer and one for each port; `specs/Serving.antt`: what comes of serving
+//! thread that is to answer and one for each port, and whether all workers are audited;
+//! `specs/Serving.antt`: what comes of serving
 //! them; `specs/Lasting.antt`: the same without an end.
 //!
 //! # Laws
 //! On [`serve`] and [`serve_lines`]: what a whole run of the lines promises
 //! (`live_run::serve_run`). On [`serve_forever`] and [`serve_lines_forever`]: what lines that go on
-//! interval by interval promise (`live_laps::serve_laps`).
+//! interval by interval promise (`live_laps::serve_laps`), and of [`serve_forever`] also that every
+//! worker is audited exactly where that is asked for.
 //!
 //! # Not claimed
 //! To which addresses sockets are bound, and by which one a datagram goes; what UDP delivers; that a

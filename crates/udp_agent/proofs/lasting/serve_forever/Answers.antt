@@ -6,6 +6,7 @@ returns g c = record {
   planned = c.in_ok-plan.ensures;
   run = c.in_ok-lines.lines;
   bound = c.in_ok-lines.ensures.lines;
+  audited = c.in_ok-lines.ensures.audited;
   watch = _;
   pace = _;
   served = c.in_ok-ends.ensures;
