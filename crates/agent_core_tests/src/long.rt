@@ -12,16 +12,14 @@ use crate::worlds::open_world;
 use agent_core::{Answered, Buffer, answer};
 use audit_core::UnrestoredRoom;
 use message_core::{ErrorStatus, Request, decode};
-use std::alloc::Global;
+use std::alloc::{AllocError, Global};
 use std::test::Fail;
 
 /// What became of a request.
 #[derive(Clone, Copy, Debug, PartialEq, Eq)]
 enum Came {
-    /// A reply of these octets, which the audit calls noError, and no note.
-    AsExpected,
-    /// Another reply.
-    Otherwise,
+    /// A reply, its error-status by the audit, and whether it has the expected octets.
+    Reply(ErrorStatus, bool),
     /// genErr for want of memory for a name of the binding of this number.
     Unnamed(usize),
     /// Memory was refused for anything else.
@@ -30,20 +28,18 @@ enum Came {
     Dropped,
 }
 
-// The octets of a message, line by line.
-fn octets_of(alloc: Global, lines: &[&str]) -> Result<Vec<u8>, Fail> {
-    let mut octets = Vec::new(alloc);
-    for line in lines {
-        let more = hex::decode(alloc, line.as_bytes()).ok().ok_or("octets")?;
-        octets.extend_from_slice(more.as_slice())?;
-    }
-    Ok(octets)
+/// What a request comes to that is answered by the expected octets, with no note.
+const AS_EXPECTED: Came = Came::Reply(ErrorStatus::NoError, true);
+
+// The octets of a message in hexadecimal.
+fn octets_of(alloc: Global, text: &str) -> Result<Vec<u8>, Fail> {
+    Ok(hex::decode(alloc, text.as_bytes()).ok().ok_or("octets")?)
 }
 
-fn request_of(alloc: Global, lines: &[&str]) -> Result<Request, Fail>
+fn request_of(alloc: Global, text: &str) -> Result<Request, Fail>
     ensures { IfOk result (λ request. AreEncodable request.bindings) }
 {
-    let octets = octets_of(alloc, lines)?;
+    let octets = octets_of(alloc, text)?;
     match decode(alloc, octets.as_slice()) {
         Ok(request) => Ok(request),
         Err(_) => Err(Fail::from("a request")),
@@ -51,7 +47,7 @@ fn request_of(alloc: Global, lines: &[&str]) -> Result<Request, Fail>
 }
 
 // What becomes of a request that is to have this reply.
-fn came_of(alloc: Global, request: &[&str], reply: &[&str]) -> Result<Came, Fail> {
+fn came_of(alloc: Global, request: &str, reply: &str) -> Result<Came, Fail> {
     let mut world = open_world(alloc)?;
     let mut registry = long_registry(alloc)?;
     let request = request_of(alloc, request)?;
@@ -66,53 +62,44 @@ fn came_of(alloc: Global, request: &[&str], reply: &[&str]) -> Result<Came, Fail
         &mut buffer,
         room,
     );
-    let same = buffer.reply() == reply.as_slice();
-    Ok(match answered {
-        Ok(Answered::Reply(length, audit, None))
-            if same && length == reply.len() && audit.status == ErrorStatus::NoError => {
-            Came::AsExpected
-        }
-        Ok(Answered::Reply(_, _, _)) => Came::Otherwise,
+    Ok(came_by(answered, buffer.reply() == reply.as_slice()))
+}
+
+// The same of an answer, by whether the buffer has the expected octets.
+fn came_by(answered: Result<Answered, AllocError>, same: bool) -> Came {
+    match answered {
+        Ok(Answered::Reply(_, audit, _)) => Came::Reply(audit.status, same),
         Ok(Answered::Unnamed(_, _, number)) => Came::Unnamed(number),
         Ok(Answered::NoReply(_)) => Came::Dropped,
         Err(_) => Came::Short,
-    })
+    }
 }
 
 // From a name of three numbers before each object to its first instance.
 #[test]
 fn next_makes_names_of_up_to_128_numbers(rt: HostRuntime) -> Result<(), Fail> {
-    assert_eq!(rt; came_of(rt.alloc(), FIRST, FIRST_REPLY)?, Came::AsExpected);
+    assert_eq!(rt; came_of(rt.alloc(), FIRST, FIRST_REPLY)?, AS_EXPECTED);
     Ok(())
 }
 
 // From the first instance of each object to its second.
 #[test]
 fn next_goes_on_from_names_of_up_to_128_numbers(rt: HostRuntime) -> Result<(), Fail> {
-    assert_eq!(rt;
-        came_of(rt.alloc(), SECOND, SECOND_REPLY)?,
-        Came::AsExpected
-    );
+    assert_eq!(rt; came_of(rt.alloc(), SECOND, SECOND_REPLY)?, AS_EXPECTED);
     Ok(())
 }
 
 // The third column is all ten instances; the first two are at their end.
 #[test]
 fn bulk_walks_all_as_its_third_column(rt: HostRuntime) -> Result<(), Fail> {
-    assert_eq!(rt; came_of(rt.alloc(), BULK, BULK_REPLY)?, Came::AsExpected);
+    assert_eq!(rt; came_of(rt.alloc(), BULK, BULK_REPLY)?, AS_EXPECTED);
     Ok(())
 }
 
 // Names of 23, 24, 25, 113 and 128 numbers, under which nothing follows.
 #[test]
 fn the_end_has_the_asked_name(rt: HostRuntime) -> Result<(), Fail> {
-    assert_eq!(rt;
-        came_of(rt.alloc(), NEXT_END, NEXT_END_REPLY)?,
-        Came::AsExpected
-    );
-    assert_eq!(rt;
-        came_of(rt.alloc(), BULK_END, BULK_END_REPLY)?,
-        Came::AsExpected
-    );
+    assert_eq!(rt; came_of(rt.alloc(), NEXT_END, NEXT_END_REPLY)?, AS_EXPECTED);
+    assert_eq!(rt; came_of(rt.alloc(), BULK_END, BULK_END_REPLY)?, AS_EXPECTED);
     Ok(())
 }
