@@ -56,7 +56,8 @@ Exit status: 0; 1 if nothing could be served, or if one of them failed; 2 if the
 command, or if FILE cannot be read or is refused.";
 
 /// What is said of a decision.
-const EXPLAIN_HELP: &str = "The first line is the verdict, in the words of an audit: drop and the cause; why the request is
+const EXPLAIN_HELP: &str =
+    "The first line is the verdict, in the words of an audit: drop and the cause; why the request is
 refused; or ok, the access row that decides, and the view that it names, as
 ok access(readers,,2,1) view bridge.
 

@@ -29,7 +29,7 @@ use Rattle.live_control.specs.Deeds.{Deed, all_acted}
 use Rattle.live_control.specs.Turns.{Reply, Turn, nothing_came, ended, broke, was_refused, was_told, was_done, deeds_of, reply_deeds, end_after}
 use Rattle.live_control.specs.Runs.{HasRun}
 
--- The line lends room for one octet more than a command has at most.
+-- The line lends a slice of one octet more than a command has at most.
 abbrev pub command_room : ℕ
 command_room = MAX_COMMAND + 1
 
