@@ -1,6 +1,6 @@
 //! Commands over a wire in memory: what each is answered, what is recorded of it, and what the ports
 //! send.
-ghost use Rattle.std.specs.Prelude.{◌≡◌, ◌<◌};
+ghost use Rattle.std.specs.Prelude.{◌≡◌, ◌<◌, ◌≤◌};
 
 use bridge_core::Bridge;
 use bridge_mib::Planned;
@@ -49,7 +49,9 @@ fn peer(port: u16) -> SocketAddr {
 }
 
 // A port of 1000 Mb/s, full duplex.
-fn port(number: u32) -> PortConfig {
+fn port(number: u32) -> PortConfig
+    requires { (1 ≤ number) × (number ≤ 9) }
+{
     PortConfig {
         ifindex: IfIndex::of(number),
         speed: 1000,
