@@ -10,7 +10,8 @@ docs/OBJECTS.md. TYPE and VALUE are as manager prints them (docs/MANAGER.md); a 
 import pathlib
 import re
 
-BRIDGE = "1.3.6.1.2.1.17"  # below which docs/OBJECTS.md has its names
+# Below which docs/OBJECTS.md has its names, by how those begin.
+ROOTS = {"dot1d": "1.3.6.1.2.1.17", "vacm": "1.3.6.1.6.3.16"}
 
 KINDS = {"get": 0xA0, "next": 0xA1, "response": 0xA2, "set": 0xA3, "trap1": 0xA4, "bulk": 0xA5, "inform": 0xA6, "trap": 0xA7,
          "report": 0xA8}
@@ -26,8 +27,8 @@ EMPTY = {"NULL": 0x05, "noSuchObject": 0x80, "noSuchInstance": 0x81, "endOfMibVi
 def object_names():
     """The objects by their names: their numbers in dotted text."""
     text = (pathlib.Path(__file__).resolve().parent.parent / "docs" / "OBJECTS.md").read_text()
-    rows = re.findall(r"^\| (dot1d\w+) \| ([\d.]+) \|", text, re.MULTILINE)
-    return {name: f"{BRIDGE}.{numbers}" for name, numbers in rows}
+    rows = re.findall(r"^\| ((dot1d|vacm)\w+) \| ([\d.]+) \|", text, re.MULTILINE)
+    return {name: f"{ROOTS[root]}.{numbers}" for name, root, numbers in rows}
 
 
 OBJECTS = object_names()

@@ -3,13 +3,15 @@ use Rattle.std.proofs.Common.{◌≡◌, ◌∙◌, Bool, true, false, not, ◌&
 use Rattle.std.proofs.lemmas.Bool.{cases_Bool}
 use Rattle.rstp_settings.specs.Table.{Table}
 use Rattle.setphase_core.specs.declared.world.World.{World}
-use Rattle.setphase_core.specs.Settings.{same_settings, same_settings_of}
+use Rattle.community_core.specs.Communities.{PolicyTables}
+use Rattle.setphase_core.specs.Settings.{families_of, same_settings, same_settings_of}
 use Rattle.setphase_core.specs.declared.sets.SetOutcome.{SetOutcome}
 use Rattle.setphase_core.specs.declared.sets.SetOutcome.TheVariants.{Done, Refused, CommitFailed, UndoFailed}
 use Rattle.setphase_core.specs.Outcomes.{refusal_in, notes_in, changed_in, world_after_set}
 use Rattle.setphase_core.specs.Variables.{Written}
-use Rattle.setphase_core.proofs.Kept.{stuck_keeps_rows}
-use Rattle.setphase_core.proofs.Same.{same_settings-Decides, rows-Decides, same_of-Decides}
+use Rattle.setphase_core.proofs.FamilyPuts.{marks}
+use Rattle.setphase_core.proofs.Kept.{stuck_keeps_rows, stuck_keeps_policy}
+use Rattle.setphase_core.proofs.Same.{same_settings-Decides, others-Decides, same_of-Decides}
 use Rattle.agent_core.specs.Sets.{settled, settled_bpdus, settled_world, settling_bpdus}
 
 -- what a test of the settings says
@@ -21,7 +23,7 @@ same_is before now false h =
       | inr e ↦ ap not (sym e)
     ]
 
--- where the static rows are the same, the settings are where those of the bridge are
+-- where the static rows and the families are the same, the settings are where those of the bridge are
 by_settings : (a b : Bool) → b ≡ true → not a ≡ not (a && b)
 by_settings true true e = refl
 by_settings true false e = absurd cc
@@ -38,7 +40,8 @@ changed_is (Refused refusal) ws before after b world told e = e ∙ told
 changed_is (CommitFailed i) ws before after b world told e = e ∙ told
 changed_is (UndoFailed i keys) ws before after b world told e =
     let rows = sym (ap (λ (x : World). x.bridge.statics.rows) world ∙ stuck_keeps_rows ws i keys before) in
-    e ∙ by_settings (same_settings before.bridge.settings after.bridge.settings) _ ((rows-Decides before.bridge.statics.rows after.bridge.statics.rows).1 rows)
+    let families = sym (ap (λ (x : World). marks (families_of x)) world ∙ ap (λ (p : PolicyTables). marks p.vacm.families) (stuck_keeps_policy ws i keys before)) in
+    e ∙ by_settings (same_settings before.bridge.settings after.bridge.settings) _ ((others-Decides before after).1 (rows, families))
 
 -- what is settled by that
 pub settled_is : (before after later : World) (b : Bool) → b ≡ not (same_settings_of before after) → later ≡ settled b after → later ≡ settled_world before after
@@ -52,4 +55,4 @@ settled_bpdus_is before after b e = ap (λ (c : Bool). settled_bpdus c after) e
 -- a world whose settings are those of before
 pub unsettled : (w : World) → settled_world w w ≡ w
 unfolding settled_world
-unsettled w = ap (λ (c : Bool). settled (not c) w) ((same_of-Decides w w).1 (refl, refl))
+unsettled w = ap (λ (c : Bool). settled (not c) w) ((same_of-Decides w w).1 (refl, (refl, refl)))

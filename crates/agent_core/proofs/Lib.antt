@@ -21,3 +21,4 @@ pub mod Passed
 pub mod Undenied
 pub mod Stands
 pub mod Shown
+pub mod PolicyKept

@@ -1,6 +1,13 @@
 //! Laws of what a manager can see, over the definitions alone. Each stands on a function that does
 //! nothing.
 ghost use Rattle.std.specs.Prelude.{◌≡◌, ◌≢◌, ◌*◌, ◌≤◌, ℕ, suc, Bool, List, [], ◌∷◌, ◌++◌, length, All, IsTrue, Some};
+ghost use Rattle.community_core.specs.Communities.{with_families};
+ghost use Rattle.setting_keys.specs.declared.SettingKey.TheVariants.{FamilyMask, FamilyType};
+ghost use Rattle.setphase_core.specs.declared.world.World.{World};
+ghost use Rattle.setphase_core.specs.Objects.{ObjectState};
+ghost use Rattle.setphase_core.specs.Registry.{rows_of};
+ghost use Rattle.setphase_core.specs.Settings.{families_of, mask_at, type_at, with_marks_of};
+ghost use Rattle.setphase_core.specs.Variables.{writings};
 ghost use Rattle.message_core.specs.declared.binding.Binding.{Binding};
 ghost use Rattle.message_core.specs.declared.request.Request.{Request};
 ghost use Rattle.message_core.specs.declared.request.Kind.TheVariants.{Get, Set};
@@ -17,7 +24,7 @@ ghost use Rattle.agent_core.specs.Looking.{most_looks};
 ghost use Rattle.agent_core.specs.Bulk.{repetitions, IsRepeated};
 ghost use Rattle.agent_core.specs.Fitting.{fitting_front, least_binding, IsLongestFitting};
 ghost use Rattle.agent_core.specs.Replies.{get_reply, next_reply, bulk_reply, walk, last_name};
-ghost use Rattle.agent_core.specs.Answers.{Shown, AgreesOnAsked, reply_of};
+ghost use Rattle.agent_core.specs.Answers.{Shown, AgreesOnAsked, reply_of, RequestNotes, step_of};
 
 /// Only what is visible matters (RFC 3416, 4.2.1 to 4.2.3): where two worlds let the caller in and
 /// show it the same instances, the replies to GetNext and to GetBulk are equal, and so is the reply
@@ -91,4 +98,29 @@ pub fn one_look_where_all_is_seen()
 pub fn few_fit()
     ensures { (request : Request) (all : List Binding) → length request.community ≤ MAX_COMMUNITY →
         least_binding * length (fitting_front request all) ≤ MAX_REPLY }
+{}
+
+/// Of requests a Set alone changes the policy, and of it the masks and types of view families that its
+/// variables write (RFC 3415, vacmViewTreeFamilyTable). Whatever a request is, each family keeps its
+/// view and its subtree, and none is made or removed.
+pub fn policy_changes_by_sets_alone()
+    ensures kept { (objects : List ObjectState) (world : World) (request : Request)
+        (notes : RequestNotes) → let after = (step_of objects world request notes).world in
+        after.policy ≡ with_families world.policy
+        (with_marks_of (families_of after) (families_of world)) }
+    ensures read { (objects : List ObjectState) (world : World) (request : Request)
+        (notes : RequestNotes) → request.kind ≢ Set →
+        (step_of objects world request notes).world.policy ≡ world.policy }
+    ensures masks { (objects : List ObjectState) (world : World) (request : Request)
+        (notes : RequestNotes) (n : ℕ) →
+        All (λ written. written.assignment.key ≢ FamilyMask n)
+        (writings (rows_of objects) world request.bindings) →
+        mask_at (families_of (step_of objects world request notes).world) n
+        ≡ mask_at (families_of world) n }
+    ensures types { (objects : List ObjectState) (world : World) (request : Request)
+        (notes : RequestNotes) (n : ℕ) →
+        All (λ written. written.assignment.key ≢ FamilyType n)
+        (writings (rows_of objects) world request.bindings) →
+        type_at (families_of (step_of objects world request notes).world) n
+        ≡ type_at (families_of world) n }
 {}

@@ -34,7 +34,8 @@
 //! In [`laws`]: where no memory is wanting, replies depend on nothing but what is visible, those of Get also on the objects and
 //! on which of the asked names are in the view; repeated GetNext lists all that is visible; a name has
 //! one object; repetitions are successors; the longest front that fits, and that few bindings do;
-//! one lookup where nothing is hidden.
+//! one lookup where nothing is hidden; of requests a Set alone changes the policy, the masks and types
+//! of view families that its variables write.
 //!
 //! # Not claimed
 //! That memory was refused where want of it is answered or noted; of objects whose devices take no

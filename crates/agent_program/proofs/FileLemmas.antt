@@ -7,6 +7,7 @@ use Rattle.agent_program.specs.declared.failure.Failure.{Failure}
 use Rattle.agent_words.specs.declared.asked.Lasting.{Lasting}
 use Rattle.agent_program.specs.Files.{IsNotRead, IsReadOf, read_view}
 use Rattle.message_core.specs.declared.request.Request.{Request}
+use Rattle.agent_program.specs.Commands.{SendsRead, SendsFile}
 use Rattle.agent_program.specs.Explanations.{ExplainsRead, ExplainsFile}
 use Rattle.agent_program.specs.Telling.{IsFileChecked, IsCheckOf}
 use Rattle.agent_program.specs.Services.{Service, OpensRead, OpensFile}
@@ -50,6 +51,15 @@ pub file_explained : {O : Type 0} (Gives : List ℕ → Result (List ℕ) NotRea
     → ExplainsFile Gives contents request file writer writer' ended
 file_explained Gives contents request file read writer writer' ended named gave explains =
     record { read = read_view read; is = read_of Gives file read named gave; explains = explains }
+
+pub file_sent : {O : Type 0} (Gives : List ℕ → Result (List ℕ) NotRead → Type 0)
+    (Answers : List ℕ → List ℕ → Option (List ℕ) → Type 0) (contents : O → Option (List ℕ))
+    (path file : List ℕ) (read : Result (Vec ℕ Global) NotRead) (writer writer' : O)
+    (ended : Result (Unit {0}) Failure) → IfErr read (λ why. IsNotRead file why)
+    → Gives file (read_view read) → SendsRead Answers contents path (read_view read) writer writer' ended
+    → SendsFile Gives Answers contents path file writer writer' ended
+file_sent Gives Answers contents path file read writer writer' ended named gave sends =
+    record { read = read_view read; is = read_of Gives file read named gave; sends = sends }
 
 pub file_served : (Gives : List ℕ → Result (List ℕ) NotRead → Type 0) (objects : List ObjectState)
     (lasting : Lasting) (file : List ℕ) (read : Result (Vec ℕ Global) NotRead)

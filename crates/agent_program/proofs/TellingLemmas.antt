@@ -2,7 +2,7 @@
 use Rattle.std.proofs.Common.{ℕ, List, Option}
 use Rattle.configuration.specs.declared.fault.ConfigurationFault.{ConfigurationFault}
 use Rattle.agent_program.specs.declared.failure.Failure.{Failure}
-use Rattle.agent_program.specs.declared.failure.Failure.TheVariants.{NotText, NoName, CannotRead, Refused, Input, Output, Run as RunFailed}
+use Rattle.agent_program.specs.declared.failure.Failure.TheVariants.{NotText, NoName, CannotRead, Refused, Input, Output, Unanswered, NotDone, Run as RunFailed}
 use Rattle.agent_program.specs.Telling.{fault_text, IsCutOff, IsFaultTold}
 
 -- a sentence that was cut off
@@ -14,4 +14,6 @@ cut_told contents fault writer writer' (CannotRead file) cut = absurd cut
 cut_told contents fault writer writer' Refused cut = absurd cut
 cut_told contents fault writer writer' Input cut = absurd cut
 cut_told contents fault writer writer' Output cut = cut
+cut_told contents fault writer writer' Unanswered cut = absurd cut
+cut_told contents fault writer writer' NotDone cut = absurd cut
 cut_told contents fault writer writer' RunFailed cut = absurd cut

@@ -16,7 +16,7 @@ use Rattle.explain.specs.declared.questions.QuestionFault.{QuestionFault}
 use Rattle.explain.specs.declared.questions.QuestionFault.TheVariants.{Memory as NoQuestionMemory, Name}
 use Rattle.agent_program.specs.declared.telling.NotTaken.{NotTaken}
 use Rattle.agent_program.specs.declared.failure.Failure.{Failure}
-use Rattle.agent_program.specs.declared.failure.Failure.TheVariants.{NotText, NoName, CannotRead, Refused, Input, Output, Run as RunFailed}
+use Rattle.agent_program.specs.declared.failure.Failure.TheVariants.{NotText, NoName, CannotRead, Refused, Input, Output, Unanswered, NotDone, Run as RunFailed}
 
 -- the exit status: 2 for a word that is no text and for a configuration that cannot be read or is
 -- refused, 1 for what failed in a run
@@ -27,6 +27,8 @@ failure_status (CannotRead file) = 2
 failure_status Refused = 2
 failure_status Input = 1
 failure_status Output = 1
+failure_status Unanswered = 1
+failure_status NotDone = 1
 failure_status RunFailed = 1
 
 abbrev pub status_of : {A : Type 0} → Result A Failure → ℕ
@@ -41,6 +43,8 @@ failure_words (CannotRead file) = codes "cannot read "
 failure_words Refused = codes "configuration refused"
 failure_words Input = codes "input failed"
 failure_words Output = codes "output failed"
+failure_words Unanswered = codes "no answer"
+failure_words NotDone = codes "command refused"
 failure_words RunFailed = codes "run failed"
 
 abbrev pub failure_name : Failure → List ℕ
@@ -50,6 +54,8 @@ failure_name (CannotRead file) = file.now
 failure_name Refused = []
 failure_name Input = []
 failure_name Output = []
+failure_name Unanswered = []
+failure_name NotDone = []
 failure_name RunFailed = []
 
 -- its line

@@ -4,5 +4,6 @@ pub mod Runs
 pub mod Endings
 pub mod Telling
 pub mod Explanations
+pub mod Commands
 pub mod Services
 pub mod Programs

@@ -8,14 +8,16 @@ use Rattle.agent_program.specs.declared.opening.NotRun.{NotRun}
 use Rattle.agent_program.specs.declared.failure.Failure.{Failure}
 use Rattle.agent_program.specs.declared.failure.Ended.{Ended}
 use Rattle.agent_words.specs.declared.asked.Asked.{Asked}
-use Rattle.agent_words.specs.declared.asked.Asked.TheVariants.{BuiltIn, Script, Check, Serve, Explain}
+use Rattle.agent_words.specs.declared.asked.Asked.TheVariants.{BuiltIn, Script, Check, Serve, Explain, Tell}
 use Rattle.agent_words.specs.declared.asked.Lasting.{Lasting}
 use Rattle.agent_words.specs.Asking.{Inquiry, question_view}
+use Rattle.agent_words.specs.Orders.{Command, order_view}
 use Rattle.agent_program.specs.Files.{IsReadOf}
 use Rattle.agent_program.specs.Endings.{status_of, said_of, ended_by, read_failure, IsLineTaken}
 use Rattle.agent_program.specs.Runs.{IsUntouched, IsRunBy}
 use Rattle.agent_program.specs.Services.{Service, OpensFile}
 use Rattle.agent_program.specs.Telling.{IsCheckOf}
+use Rattle.agent_program.specs.Commands.{SendsCommand}
 use Rattle.agent_program.specs.Explanations.{IsExplanation}
 
 -- an end that leaves nothing to be served
@@ -87,18 +89,31 @@ module _ {I O : Type 0} (Gives : List ℕ → Result (List ℕ) NotRead → Type
     pub untouched : IsUntouched remaining contents reader reader' writer writer'
     pub opens : OpensFile Gives objects lasting file done
 
+-- Beside these an agent, by what it may answer at the control socket of a path to octets.
+module _ {I O : Type 0} (Gives : List ℕ → Result (List ℕ) NotRead → Type 0)
+    (Answers : List ℕ → List ℕ → Option (List ℕ) → Type 0) (objects : List ObjectState)
+    (remaining : I → Option (List ℕ)) (contents : O → Option (List ℕ)) where
+  -- the agent of this path was sent a command, and nothing else was read
+  pub record Commands (path : List ℕ) (command : Command) (reader reader' : I) (writer writer' : O)
+      (ended : Result (Unit {0}) Failure) : Type 0 where
+    pub unread : reader' ≡ reader
+    pub sends : SendsCommand Gives Answers contents path command writer writer' ended
+
   -- What the program did for what is asked.
   abbrev pub Does : Asked → I → I → O → O → Result (Option Service) Failure → Type 0
   Does BuiltIn reader reader' writer writer' done =
       HasDone (RunsBy remaining contents objects BUILT_IN.now reader reader' writer writer') done
-  Does (Script file) reader reader' writer writer' done =
-      HasDone (RunsFile file.now reader reader' writer writer') done
-  Does (Check file) reader reader' writer writer' done =
-      HasDone (ChecksFile file.now reader reader' writer writer') done
+  Does (Script file) reader reader' writer writer' done = HasDone
+      (RunsFile Gives objects remaining contents file.now reader reader' writer writer') done
+  Does (Check file) reader reader' writer writer' done = HasDone
+      (ChecksFile Gives objects remaining contents file.now reader reader' writer writer') done
   Does (Serve file lasting) reader reader' writer writer' done =
-      ServesFile file.now lasting reader reader' writer writer' done
-  Does (Explain file question) reader reader' writer writer' done =
-      HasDone (Explains (question_view question) file.now reader reader' writer writer') done
+      ServesFile Gives objects remaining contents file.now lasting reader reader' writer writer' done
+  Does (Explain file question) reader reader' writer writer' done = HasDone
+      (Explains Gives objects remaining contents (question_view question) file.now reader reader'
+      writer writer') done
+  Does (Tell path order) reader reader' writer writer' done =
+      HasDone (Commands path.now (order_view order) reader reader' writer writer') done
 
   -- The program did what is asked, and this is left to be served, if anything: its status is
   -- that of how it ended, and on standard error stands the line that says so, whole or a front of it

@@ -13,7 +13,7 @@ use Rattle.udp_agent.specs.declared.setup.Unserved.TheVariants.{NoServe, NoSocke
 use Rattle.agent_program.specs.declared.files.NotRead.{NotRead}
 use Rattle.agent_program.specs.declared.files.NotRead.TheVariants.{Memory as FileMemory, Unreadable}
 use Rattle.agent_program.specs.declared.failure.Failure.{Failure}
-use Rattle.agent_program.specs.declared.failure.Failure.TheVariants.{NotText, NoName, CannotRead, Refused, Input, Output, Run as RunFailed}
+use Rattle.agent_program.specs.declared.failure.Failure.TheVariants.{NotText, NoName, CannotRead, Refused, Input, Output, Unanswered, NotDone, Run as RunFailed}
 use Rattle.agent_program.specs.Endings.{TakesFront}
 use Rattle.agent_program.specs.Files.{IsReadOf}
 
@@ -44,6 +44,8 @@ module _ {O : Type 0} (contents : O → Option (List ℕ)) where
   IsCutOff text writer writer' Refused = ⊥
   IsCutOff text writer writer' Input = ⊥
   IsCutOff text writer writer' Output = TakesFront (contents writer) (contents writer') text
+  IsCutOff text writer writer' Unanswered = ⊥
+  IsCutOff text writer writer' NotDone = ⊥
   IsCutOff text writer writer' RunFailed = ⊥
 
   -- This text was written, or a front of it until the output failed.
@@ -62,6 +64,8 @@ module _ {O : Type 0} (contents : O → Option (List ℕ)) where
   IsFaultTold fault writer writer' Input = ⊥
   IsFaultTold fault writer writer' Output =
       TakesFront (contents writer) (contents writer') (fault_text fault)
+  IsFaultTold fault writer writer' Unanswered = ⊥
+  IsFaultTold fault writer writer' NotDone = ⊥
   IsFaultTold fault writer writer' RunFailed = writer' ≡ writer
 
   -- the octets are no configuration, and that is told

@@ -36,6 +36,10 @@ pub enum Failure<'a> {
     Input,
     /// The output could not be written.
     Output,
+    /// The agent that was to do a command gave no answer.
+    Unanswered,
+    /// The agent did not do the command, as its answer says.
+    NotDone,
     /// The run found no memory for its own lines and lists, or what was to be served was not, or
     /// failed.
     Run,
@@ -103,7 +107,11 @@ impl Failure<'_> {
         match self {
             Failure::NotText | Failure::NoName(_) | Failure::CannotRead(_) | Failure::Refused =>
                 USAGE,
-            Failure::Input | Failure::Output | Failure::Run => FAILED,
+            Failure::Input
+            | Failure::Output
+            | Failure::Unanswered
+            | Failure::NotDone
+            | Failure::Run => FAILED,
         }
     }
 
@@ -118,6 +126,8 @@ impl Failure<'_> {
             Failure::Refused => b"configuration refused",
             Failure::Input => b"input failed",
             Failure::Output => b"output failed",
+            Failure::Unanswered => b"no answer",
+            Failure::NotDone => b"command refused",
             Failure::Run => b"run failed",
         }
     }
@@ -129,8 +139,13 @@ impl Failure<'_> {
         match self {
             Failure::NoName(word) => word.as_bytes(),
             Failure::CannotRead(file) => file.as_bytes(),
-            Failure::NotText | Failure::Refused | Failure::Input | Failure::Output | Failure::Run =>
-                b"",
+            Failure::NotText
+            | Failure::Refused
+            | Failure::Input
+            | Failure::Output
+            | Failure::Unanswered
+            | Failure::NotDone
+            | Failure::Run => b"",
         }
     }
 }

@@ -6,7 +6,8 @@
 //! [`Ended`], that is the exit status, 0, 1 or 2, and whether the line of a failure was written
 //! whole; and what is left to be served, if that is asked, and for how long: an [`Opened`], and
 //! [`agent_words::Lasting`]. [`end_answered`] ends words that are no command. A [`ReadFile`] gives
-//! the octets of a file or [`NotRead`], [`SystemFiles`] those of the system. [`run_octets`] runs the
+//! the octets of a file or [`NotRead`], an [`AskAgent`] what a served agent answers to a command,
+//! [`SystemFiles`] those of the system. [`run_octets`] runs the
 //! script over objects by the octets of a configuration, and refuses octets that say none, or objects
 //! that make no registry, before it reads or writes; [`NotRun`] says why there was no run to the end.
 //! [`check_octets`] reports whether octets are one, [`check_read`] whether what was read of a file is.
@@ -19,7 +20,8 @@
 //! configuration opens; `specs/Runs.antt`: what a run by octets promises; `specs/Services.antt`: what
 //! they give to be served; `specs/Endings.antt`: statuses, and the line of each failure;
 //! `specs/Telling.antt`: what a check reports; `specs/Explanations.antt`: what is said of the decision on
-//! a request; `specs/Programs.antt`: what the program does for what is asked. What words ask for
+//! a request; `specs/Commands.antt`: what is done to have a served agent do a command;
+//! `specs/Programs.antt`: what the program does for what is asked. What words ask for
 //! stands in `agent_words`.
 //!
 //! # Laws
@@ -33,6 +35,7 @@
 
 mod checking;
 mod collecting;
+mod commanding;
 mod explaining;
 mod failure;
 mod files;
@@ -44,6 +47,7 @@ mod telling;
 
 pub use checking::{check_octets, check_read};
 pub use collecting::collect_words;
+pub use commanding::AskAgent;
 pub use failure::{Ended, Failure, end_answered, report};
 pub use files::{NotRead, ReadFile, SystemFiles};
 pub use opening::NotRun;

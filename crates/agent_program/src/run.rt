@@ -7,6 +7,7 @@ ghost use Rattle.agent_program.specs.Services.{OpensRead, OpensFile};
 ghost use Rattle.agent_program.specs.Programs.{RunsBy, RunsRead, RunsFile, Does, IsProgramRun, nothing_left};
 
 use crate::checking::check_read;
+use crate::commanding::{AskAgent, send_order};
 use crate::explaining::explain_file;
 use crate::failure::{Ended, Failure, failure_of, read_failure, report};
 use crate::files::{NotRead, ReadFile};
@@ -24,24 +25,26 @@ use std::io::{Read, Write};
 /// gives for its name. The script runs over exactly the objects that are handed in; where they make
 /// no registry, its configuration is refused.
 ///
+/// A command of an operator goes to the agent whose control socket it names, as `files` has it asked.
+///
 /// Where it is asked to serve, it gives what is to be served as well, and for how long, and has
 /// neither read from `reader` nor written anything; the caller has then to serve it.
-pub fn run_asked<F, M, I, O, E>(
+pub fn run_asked<'a, F, M, I, O, E>(
     alloc: Global,
     files: &F,
     objects: Vec<M>,
-    asked: Asked<'_>,
+    asked: Asked<'a>,
     reader: &mut I,
     writer: &mut O,
     errors: &mut E,
-) -> (Ended, Option<(Registry<M>, Opened, Lasting)>)
+) -> (Ended, Option<(Registry<M>, Opened, Lasting<'a>)>)
 where
-    F: ReadFile,
+    F: ReadFile + AskAgent,
     M: MibObject,
     I: Read,
     O: Write,
     E: Write,
-    ensures { IsProgramRun (F.gives files.now) (map M.state objects.items)
+    ensures { IsProgramRun (F.gives files.now) (F.answers files.now) (map M.state objects.items)
         I.remaining O.contents asked.entry
         reader.old reader.new writer.old writer.new
         (E.contents errors.old) (E.contents errors.new) result.0 result.1 }
@@ -66,13 +69,13 @@ fn do_asked<'a, F, M, I, O>(
     asked: Asked<'a>,
     reader: &mut I,
     writer: &mut O,
-) -> Result<Option<(Registry<M>, Opened, Lasting)>, Failure<'a>>
+) -> Result<Option<(Registry<M>, Opened, Lasting<'a>)>, Failure<'a>>
 where
-    F: ReadFile,
+    F: ReadFile + AskAgent,
     M: MibObject,
     I: Read,
     O: Write,
-    ensures { Does (F.gives files.now) (map M.state objects.items)
+    ensures { Does (F.gives files.now) (F.answers files.now) (map M.state objects.items)
         I.remaining O.contents asked.entry
         reader.old reader.new writer.old writer.new result }
 {
@@ -84,13 +87,14 @@ where
         Asked::Explain(file, question) => {
             finish(explain_file(alloc, files, &question, file, writer))
         }
+        Asked::Tell(path, order) => finish(send_order(alloc, files, path, order, writer)),
     }
 }
 
 // What has ended so leaves nothing to be served.
 fn finish<'a, M: MibObject>(
     ended: Result<(), Failure<'a>>,
-) -> Result<Option<(Registry<M>, Opened, Lasting)>, Failure<'a>>
+) -> Result<Option<(Registry<M>, Opened, Lasting<'a>)>, Failure<'a>>
     ensures { result ≡ nothing_left ended.entry }
 {
     match ended {
@@ -104,9 +108,9 @@ fn serve_read<'a, M: MibObject>(
     alloc: Global,
     objects: Vec<M>,
     read: Result<Vec<u8>, NotRead<'a>>,
-    lasting: Lasting,
-) -> Result<Option<(Registry<M>, Opened, Lasting)>, Failure<'a>>
-    ensures { OpensRead (map M.state objects.items) lasting (read_view read.entry) result }
+    lasting: Lasting<'a>,
+) -> Result<Option<(Registry<M>, Opened, Lasting<'a>)>, Failure<'a>>
+    ensures { OpensRead (map M.state objects.items) lasting.entry (read_view read.entry) result }
 {
     match read {
         Ok(octets) => match open_service(alloc, objects, &octets) {
@@ -124,9 +128,9 @@ fn serve_file<'a, F: ReadFile, M: MibObject>(
     files: &F,
     objects: Vec<M>,
     file: &'a str,
-    lasting: Lasting,
-) -> Result<Option<(Registry<M>, Opened, Lasting)>, Failure<'a>>
-    ensures { OpensFile (F.gives files.now) (map M.state objects.items) lasting file.now result }
+    lasting: Lasting<'a>,
+) -> Result<Option<(Registry<M>, Opened, Lasting<'a>)>, Failure<'a>>
+    ensures { OpensFile (F.gives files.now) (map M.state objects.items) lasting.entry file.now result }
 {
     serve_read(alloc, objects, files.read_file(file), lasting)
 }

@@ -1,6 +1,6 @@
 //! Serves an agent by the octets of a configuration.
 ghost use Rattle.std.specs.Prelude.{IfOk, IfErr, map};
-ghost use Rattle.std.specs.Prelude.{◌≡◌};
+ghost use Rattle.std.specs.Prelude.{◌≡◌, is_some};
 ghost use Rattle.history_core.specs.History.{fresh};
 ghost use Rattle.live_audit.specs.Audited.{is_audited};
 ghost use Rattle.udp_agent.specs.Binding.{is_audited_worker};
@@ -9,9 +9,11 @@ ghost use Rattle.udp_agent.specs.Lasting.{IsServedForever};
 ghost use Rattle.agent_program.specs.Services.{IsOpened, IsNotSetUp, IsServiceBy};
 
 use crate::opening::{NotRun, open_bridge, read_configuration, registry_of, undropped};
+use control_socket::ControlSocket;
 use history_core::Kept;
 use live_agent::{End, GatedWire, PacedWire};
 use live_audit::Auditing;
+use live_control::ControlWire;
 use live_laps::Watch;
 use live_run::Report;
 use log::Log;
@@ -23,7 +25,8 @@ use std::sync::Wait;
 use std::thread::Threads;
 use std::time::Clock;
 use udp_agent::{
-    LastingTicker, LastingWorker, ServeFault, Setup, Teller, UdpTicker, UdpWorker, setup_of,
+    LastingControl, LastingTicker, LastingWorker, ServeFault, Setup, Teller, UdpTicker, UdpWorker,
+    setup_of,
 };
 use wire_core::{LastingWire, Pace, SecondPace, UdpWire, Wire};
 
@@ -115,7 +118,8 @@ pub fn serve_opened<'r, M: MibObject + Send, R: Threads + Wait + Net + Clock + S
 /// The same without an end, by an agent of this version: each line begins its rounds anew when they
 /// are done, and a second after its socket failed or there was no memory, until no number is left for
 /// an entry. It is logged what is served, and how the lines go on. Each worker has such a gate, by
-/// which its requests are audited or not.
+/// which its requests are audited or not. Where a control socket is handed in, an operator's commands are
+/// taken at it.
 ///
 /// # Errors
 /// As of [`udp_agent::serve_forever`]; also that there was no memory for the history.
@@ -126,16 +130,18 @@ pub fn serve_opened_forever<'r, M: MibObject + Send, R: Threads + Wait + Net + C
     registry: Registry<M>,
     opened: Opened,
     audits: &Auditing<'r>,
+    control: Option<ControlSocket<&'r R>>,
 ) -> io::Result<Vec<End>>
     ensures { IsServedForever
         ⟦<LastingWorker<'r, &'r R> as GatedWire>⟧.did
         ⟦<LastingWorker<'r, &'r R> as Wire>⟧.failures
         ⟦<LastingWire<&'r R> as Wire>⟧.went ⟦<LastingWire<&'r R> as Wire>⟧.failures
         ⟦<LastingTicker<&'r R> as PacedWire>⟧.did ⟦<LastingTicker<&'r R> as Wire>⟧.failures
+        ⟦<LastingControl<&'r R> as ControlWire>⟧.did
         ⟦<Teller<'r, R> as Watch>⟧.went ⟦<SecondPace<&'r R> as Pace>⟧.went
-        is_audited_worker opened.setup (is_audited audits.now) (fresh registry opened.world 0)
-        result }
+        is_audited_worker opened.setup (is_audited audits.now) (is_some control.entry)
+        (fresh registry opened.world 0) result }
 {
     let kept = begin(alloc, registry, opened.world)?;
-    udp_agent::serve_forever(rt, alloc, version, &opened.setup, kept, audits)
+    udp_agent::serve_forever(rt, alloc, version, &opened.setup, kept, audits, control)
 }

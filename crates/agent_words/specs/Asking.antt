@@ -5,7 +5,8 @@ use Rattle.clap.specs.Words.{Row, Text, all_of, first_of, found_of, one_of, rows
 use Rattle.clap.specs.declared.parser.matches.ArgMatches.{ArgMatches}
 use Rattle.agent_words.specs.Options.{agent_app}
 use Rattle.agent_words.specs.declared.asked.Asked.{Asked}
-use Rattle.agent_words.specs.declared.asked.Asked.TheVariants.{BuiltIn, Script, Check, Serve, Explain}
+use Rattle.agent_words.specs.Orders.{Command, order_of, order_view}
+use Rattle.agent_words.specs.declared.asked.Asked.TheVariants.{BuiltIn, Script, Check, Serve, Explain, Tell}
 use Rattle.agent_words.specs.declared.asked.Lasting.{Lasting}
 use Rattle.agent_words.specs.declared.asked.Lasting.TheVariants.{Rounds, Forever}
 use Rattle.agent_words.specs.declared.asked.Operation.{Operation}
@@ -18,6 +19,14 @@ pub record Inquiry : Type 0 where
   pub operation : Operation
   pub names : List (List ℕ)
 
+-- For how long an agent is served.
+pub data Term : Type 0 where
+  -- until each of its lines has made its rounds
+  for_rounds : Term
+  -- without an end; whether the audit of each request is written, and the path of its control socket,
+  -- if it has one
+  forever : (audit : Bool) → (control : Option (List ℕ)) → Term
+
 pub data Asking : Type 0 where
   -- the script by the built-in configuration
   built_in : Asking
@@ -26,9 +35,11 @@ pub data Asking : Type 0 where
   -- whether this file is a configuration
   check : (file : List ℕ) → Asking
   -- the agent by the configuration of this file, over UDP, for so long
-  serve : (file : List ℕ) → Lasting → Asking
+  serve : (file : List ℕ) → Term → Asking
   -- what the policy of the configuration of this file decides on such a request
   explain : (file : List ℕ) → Inquiry → Asking
+  -- that the agent whose control socket has this path does such a command
+  tell : (path : List ℕ) → Command → Asking
 
 -- the rows of a level's matches
 abbrev pub rows_in : ArgMatches → List Row
@@ -39,12 +50,19 @@ abbrev pub is_set : Option Text → Bool
 is_set None = false
 is_set (Some value) = bytes_eq value (codes "true")
 
--- for how long an agent is served, by whether `--forever` and whether `--audit` is given: the audit of
--- each request is written only by an agent without an end
-abbrev pub lasting_by : Bool → Bool → Option Lasting
-lasting_by true audit = Some (Forever audit)
-lasting_by false true = None
-lasting_by false false = Some Rounds
+-- for how long an agent is served, by whether `--forever` and whether `--audit` is given, and by the
+-- path that `--control` names: only an agent without an end writes the audit of each request, or has a
+-- control socket
+abbrev pub lasting_by : Bool → Bool → Option Text → Option Term
+lasting_by true audit control = Some (forever audit control)
+lasting_by false true control = None
+lasting_by false false (Some path) = None
+lasting_by false false None = Some for_rounds
+
+-- the same as its words are
+abbrev pub lasting_view : Lasting → Term
+lasting_view Rounds = for_rounds
+lasting_view (Forever audit control) = forever audit (option_map (λ path. path.now) control)
 
 -- what a word says that a request does
 abbrev pub operation_of : Text → Option Operation
@@ -68,8 +86,9 @@ inquiry_by rows = inquiry_with (first_of (codes "COMMUNITY") rows)
     (option_and_then operation_of (first_of (codes "REQUEST") rows)) (all_of (codes "NAME") rows)
 
 -- for how long an agent is served, by the rows of matches
-abbrev pub lasting_in : List Row → Option Lasting
-lasting_in rows = lasting_by (is_set (one_of (codes "forever") rows)) (is_set (one_of (codes "audit") rows))
+abbrev pub lasting_in : List Row → Option Term
+lasting_in rows = lasting_by (is_set (one_of (codes "forever") rows))
+    (is_set (one_of (codes "audit") rows)) (first_of (codes "PATH") rows)
 
 -- what a subcommand asks for of a file, by the rows of its matches
 abbrev pub asking_with : Text → List Row → List ℕ → Option Asking
@@ -81,8 +100,24 @@ asking_with name rows file =
     else None
 
 -- the same where the matches have a file
+abbrev pub file_asking_by : Text → List Row → Option Asking
+file_asking_by name rows = option_and_then (asking_with name rows) (first_of (codes "FILE") rows)
+
+-- a command for the agent whose control socket has this path
+abbrev pub telling_with : Option Text → Option Command → Option Asking
+telling_with (Some path) (Some command) = Some (tell path command)
+telling_with (Some path) None = None
+telling_with None command = None
+
+-- the command for a served agent, by the rows of matches
+abbrev pub telling_by : List Row → Option Asking
+telling_by rows = telling_with (first_of (codes "PATH") rows)
+    (option_and_then order_of (all_of (codes "COMMAND") rows))
+
+-- what a subcommand asks for, by the rows of its matches
 abbrev pub asking_by : Text → List Row → Option Asking
-asking_by name rows = option_and_then (asking_with name rows) (first_of (codes "FILE") rows)
+asking_by name rows =
+    if bytes_eq name (codes "tell") then telling_by rows else file_asking_by name rows
 
 -- what matches ask for: without a subcommand the script by the built-in configuration
 abbrev pub asking_in : Option (Text × List Row) → Option Asking
@@ -105,8 +140,9 @@ abbrev pub asked_view : Asked → Asking
 asked_view BuiltIn = built_in
 asked_view (Script file) = script file.now
 asked_view (Check file) = check file.now
-asked_view (Serve file lasting) = serve file.now lasting
+asked_view (Serve file lasting) = serve file.now (lasting_view lasting)
 asked_view (Explain file question) = explain file.now (question_view question)
+asked_view (Tell path order) = tell path.now (order_view order)
 
 -- These words ask for this: they have no fault, and it is what their matches say.
 pub record IsAsked (words : List Text) (asked : Asked) : Type 0 where
@@ -120,3 +156,4 @@ is_serving BuiltIn = false
 is_serving (Script file) = false
 is_serving (Check file) = false
 is_serving (Explain file question) = false
+is_serving (Tell path order) = false

@@ -1,4 +1,5 @@
 pub mod Options
 pub mod Built
+pub mod Orders
 pub mod Asking
 pub mod Answers

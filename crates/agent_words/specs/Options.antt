@@ -1,4 +1,4 @@
--- The words of `agentd` as `clap` reads them: one command with four subcommands, none of which has to stand.
+-- The words of `agentd` as `clap` reads them: one command with five subcommands, none of which has to stand.
 use Rattle.std.specs.Prelude.{codes, true, false, [], ◌∷◌, Some}
 use Rattle.clap.specs.Lexer.{usize_max}
 use Rattle.clap.specs.Words.{App, Rule, Shape, Text, new_rule}
@@ -13,6 +13,17 @@ config_option = record (new_rule (codes "FILE")) {
   parser = Some parser.NonEmptyString;
   required = true;
 }
+
+-- `--control` and the path of a socket
+abbrev pub control_option : Rule
+control_option = record (new_rule (codes "PATH")) {
+  long = Some (codes "control");
+  parser = Some parser.NonEmptyString;
+}
+
+-- the same, which has to stand
+abbrev pub control_needed : Rule
+control_needed = record control_option { required = true }
 
 -- a flag of this name, which stands or not
 abbrev pub flag_rule : Text → Rule
@@ -44,12 +55,18 @@ abbrev pub file_shape : Text → Shape
 file_shape name = record (new_shape name) { rules = config_option ∷ [] }
 
 abbrev pub serve_shape : Shape
-serve_shape = record (new_shape (codes "serve")) { rules = config_option ∷ (forever_flag ∷ (audit_flag ∷ [])) }
+serve_shape = record (new_shape (codes "serve")) { rules = config_option ∷ (forever_flag ∷ (audit_flag ∷ (control_option ∷ []))) }
 
 -- a file, and the request of which the decision is asked for
 abbrev pub explain_shape : Shape
 explain_shape = record (new_shape (codes "explain")) {
   rules = config_option ∷ (one_word (codes "COMMUNITY") ∷ (one_word (codes "REQUEST") ∷ (some_words (codes "NAME") ∷ [])));
+}
+
+-- a control socket, and the command for the agent that has it
+abbrev pub tell_shape : Shape
+tell_shape = record (new_shape (codes "tell")) {
+  rules = control_needed ∷ (some_words (codes "COMMAND") ∷ []);
 }
 
 -- what stands in front of that
@@ -63,5 +80,5 @@ agent_shape = record (new_shape (codes "agentd")) {
 abbrev pub agent_app : App
 agent_app = record {
   top = record agent_shape { is_leaf = false };
-  subs = file_shape (codes "script") ∷ (file_shape (codes "check") ∷ (serve_shape ∷ (explain_shape ∷ [])));
+  subs = file_shape (codes "script") ∷ (file_shape (codes "check") ∷ (serve_shape ∷ (explain_shape ∷ (tell_shape ∷ []))));
 }

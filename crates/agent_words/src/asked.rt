@@ -12,9 +12,22 @@ pub enum Asked<'a> {
     /// Whether this file is a configuration.
     Check(&'a str),
     /// The agent by the configuration of this file, over UDP, for so long.
-    Serve(&'a str, Lasting),
+    Serve(&'a str, Lasting<'a>),
     /// What the policy of this file decides on such a request.
     Explain(&'a str, Question<'a>),
+    /// That a served agent, whose control socket has this path, does such a command.
+    Tell(&'a str, Order<'a>),
+}
+
+/// A command of an operator for a served agent.
+#[derive(Clone, Copy, Debug, Drop)]
+pub enum Order<'a> {
+    /// The counts of what was dropped.
+    Counts,
+    /// The link of the port of this number, as it is written, goes up, or down.
+    Link(&'a str, bool),
+    /// The policy whose text is in this file.
+    Policy(&'a str),
 }
 
 /// A request of which the decision is asked for.
@@ -40,14 +53,16 @@ pub enum Operation {
 }
 
 /// For how long an agent is served.
-#[derive(Clone, Copy, Debug, PartialEq, Eq, Drop)]
-pub enum Lasting {
+#[derive(Clone, Copy, Debug, Drop)]
+pub enum Lasting<'a> {
     /// Until each of its lines has made its rounds.
     Rounds,
     /// Without an end: each line begins its rounds anew.
     Forever {
         /// Whether the audit of each request is written to standard output.
         audit: bool,
+        /// The path of the control socket, if there is to be one.
+        control: Option<&'a str>,
     },
 }
 

@@ -1,15 +1,16 @@
 //! The words of `agentd`: what a command line asks for, or how it is answered.
 //!
 //! # Entry points
-//! [`read_words`] gives what words ask for, [`Asked`], and where it is to serve, for how long:
-//! [`Lasting`]. Words that are no command it answers, with help, the version or what is wrong with
-//! them, and says how: [`Answered`]. [`asks_to_serve`] says whether it is asked to serve an agent.
-//! [`VERSION`] is the version that they are answered with.
+//! [`read_words`] gives what words ask for, [`Asked`]; where it is to serve, for how long, [`Lasting`];
+//! and where a served agent is to do a command, which, an [`Order`]. Words that are no command it
+//! answers, with help, the version or what is wrong with them, and says how: [`Answered`].
+//! [`asks_to_serve`] says whether it is asked to serve an agent. [`VERSION`] is the version that they
+//! are answered with.
 //!
 //! # Definitions
 //! `specs/Options.antt`: the words, as clap reads them; `specs/Built.antt`: what is built of them;
-//! `specs/Asking.antt`: what words ask for; `specs/Answers.antt`: how words that are no command are
-//! answered.
+//! `specs/Orders.antt`: the commands for a served agent; `specs/Asking.antt`: what words ask for;
+//! `specs/Answers.antt`: how words that are no command are answered.
 //!
 //! # Laws
 //! None.
@@ -24,6 +25,6 @@ mod matches;
 mod options;
 mod program;
 
-pub use asked::{Asked, Lasting, Operation, Question, asks_to_serve};
+pub use asked::{Asked, Lasting, Operation, Order, Question, asks_to_serve};
 pub use options::VERSION;
 pub use program::{Answered, read_words};

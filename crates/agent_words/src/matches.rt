@@ -1,9 +1,10 @@
 //! What the matches of a command line ask for.
 ghost use Rattle.std.specs.Prelude.{◌≡◌, codes, map, option_and_then, option_map, IfOk, IsOkAnd};
 ghost use Rattle.clap.specs.Words.{all_of, first_of, one_of, subcommand_rows_of};
-ghost use Rattle.agent_words.specs.Asking.{rows_in, is_set, lasting_in, operation_of, inquiry_by, asking_by, asking_in, asked_view, question_view, explain};
+ghost use Rattle.agent_words.specs.Asking.{rows_in, is_set, serve, lasting_in, lasting_view, operation_of, inquiry_by, file_asking_by, telling_by, asking_by, asking_in, asked_view, question_view, explain};
+ghost use Rattle.agent_words.specs.Orders.{order_view, order_of, order_alone, order_of_file, order_of_port};
 
-use crate::asked::{Asked, Lasting, Operation, Question};
+use crate::asked::{Asked, Lasting, Operation, Order, Question};
 use clap::ArgMatches;
 use std::alloc::{AllocError, Global};
 
@@ -30,15 +31,104 @@ fn asked_by<'a>(
     ensures { IfOk result (λ asked.
         option_map asked_view asked ≡ asking_by name.now (rows_in entered.now)) }
 {
+    match name {
+        "tell" => Ok(told_in(entered)),
+        _ => asked_of_file(alloc, name, entered),
+    }
+}
+
+// What a subcommand asks for of a file.
+fn asked_of_file<'a>(
+    alloc: Global,
+    name: &str,
+    entered: &ArgMatches<'a>,
+) -> Result<Option<Asked<'a>>, AllocError>
+    ensures { IfOk result (λ asked.
+        option_map asked_view asked ≡ file_asking_by name.now (rows_in entered.now)) }
+{
     let Some(file) = word_in(entered, "FILE") else {
         return Ok(None);
     };
     match name {
         "script" => Ok(Some(Asked::Script(file))),
         "check" => Ok(Some(Asked::Check(file))),
-        "serve" => Ok(lasting_in(entered).map(|lasting| Asked::Serve(file, lasting))),
+        "serve" => Ok(served(file, lasting_in(entered))),
         "explain" => explained(file, question_in(alloc, entered)),
         _ => Ok(None),
+    }
+}
+
+// An agent that is to be served, if the words say for how long.
+fn served<'a>(file: &'a str, lasting: Option<Lasting<'a>>) -> Option<Asked<'a>>
+    ensures { option_map asked_view result
+        ≡ option_map (serve file.now) (option_map lasting_view lasting.entry) }
+{
+    match lasting {
+        Some(lasting) => Some(Asked::Serve(file, lasting)),
+        None => None,
+    }
+}
+
+// The command for a served agent, if the words say one.
+fn told_in<'a>(entered: &ArgMatches<'a>) -> Option<Asked<'a>>
+    ensures { option_map asked_view result ≡ telling_by (rows_in entered.now) }
+{
+    let Some(path) = word_in(entered, "PATH") else {
+        return None;
+    };
+    let Some(words) = words_in(entered, "COMMAND") else {
+        return None;
+    };
+    let Some(order) = order_of(words) else {
+        return None;
+    };
+    Some(Asked::Tell(path, order))
+}
+
+// The command that words say, if they say one.
+fn order_of<'a>(words: &[&'a str]) -> Option<Order<'a>>
+    ensures { option_map order_view result ≡ order_of (map (λ word. word.now) words.now) }
+{
+    match words {
+        [] => None,
+        [word] => order_alone(word),
+        [word, file] => order_of_file(word, file),
+        [word, port, direction] => order_of_port(word, port, direction),
+        [_, _, _, _, ..] => None,
+    }
+}
+
+// The command that one word says.
+fn order_alone<'a>(word: &str) -> Option<Order<'a>>
+    ensures { option_map order_view result ≡ order_alone word.now }
+{
+    match word {
+        "counts" => Some(Order::Counts),
+        _ => None,
+    }
+}
+
+// The command that a word says of a file.
+fn order_of_file<'a>(word: &str, file: &'a str) -> Option<Order<'a>>
+    ensures { option_map order_view result ≡ order_of_file word.now file.now }
+{
+    match word {
+        "policy" => Some(Order::Policy(file)),
+        _ => None,
+    }
+}
+
+// The command that a word says of a port and a direction.
+fn order_of_port<'a>(word: &str, port: &'a str, direction: &str) -> Option<Order<'a>>
+    ensures { option_map order_view result ≡ order_of_port word.now port.now direction.now }
+{
+    if word != "link" {
+        return None;
+    }
+    match direction {
+        "up" => Some(Order::Link(port, true)),
+        "down" => Some(Order::Link(port, false)),
+        _ => None,
     }
 }
 
@@ -120,20 +210,25 @@ fn words_in<'m, 'a>(entered: &'m ArgMatches<'a>, id: &str) -> Option<&'m [&'a st
     entered.get_strs(id)
 }
 
-// For how long an agent is to be served, if the flags say it: the audit of each request is written
-// only by an agent without an end.
-fn lasting_in(entered: &ArgMatches<'_>) -> Option<Lasting>
-    ensures { result ≡ lasting_in (rows_in entered.now) }
+// For how long an agent is to be served, if the flags say it: only one without an end writes the audit
+// of each request, or has a control socket.
+fn lasting_in<'a>(entered: &ArgMatches<'a>) -> Option<Lasting<'a>>
+    ensures { option_map lasting_view result ≡ lasting_in (rows_in entered.now) }
 {
-    match (is_given(entered, "forever"), is_given(entered, "audit")) {
-        (true, audit) => Some(Lasting::Forever { audit }),
-        (false, false) => Some(Lasting::Rounds),
-        (false, true) => None,
+    let control = word_in(entered, "PATH");
+    match (
+        is_given(entered, "forever"),
+        is_given(entered, "audit"),
+        control,
+    ) {
+        (true, audit, control) => Some(Lasting::Forever { audit, control }),
+        (false, false, None) => Some(Lasting::Rounds),
+        (false, false, Some(_)) | (false, true, _) => None,
     }
 }
 
 // Whether the flag of this name is given.
-fn is_given(entered: &ArgMatches<'_>, flag: &str) -> bool
+pub(crate) fn is_given(entered: &ArgMatches<'_>, flag: &str) -> bool
     ensures { result ≡ is_set (one_of flag.now (rows_in entered.now)) }
 {
     entered.get_one::<bool>(flag).unwrap_or(false)

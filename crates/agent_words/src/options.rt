@@ -1,7 +1,7 @@
 //! The words of `agentd`, and what its help says of them.
 ghost use Rattle.std.specs.Prelude.{[], codes, IfOk, IsOkAnd};
 ghost use Rattle.clap.specs.Words.{AddsSubcommand};
-ghost use Rattle.agent_words.specs.Options.{config_option, flag_rule, one_word, some_words, file_shape, serve_shape, explain_shape, agent_shape, agent_app};
+ghost use Rattle.agent_words.specs.Options.{config_option, control_option, control_needed, flag_rule, one_word, some_words, file_shape, serve_shape, explain_shape, tell_shape, agent_shape, agent_app};
 ghost use Rattle.agent_words.specs.Built.{IsArgument, HasWords};
 
 use clap::builder::ValueParser;
@@ -52,6 +52,9 @@ entered, answered or dropped: its number, who asked, the request-id, and the aud
 17 192.0.2.7:40000 12 get 0 0 ok access(readers,,2,1) view bridge. Where standard output takes them
 too slowly, or fails, the agent goes on, and logs how many lines were lost.
 
+With --control, which wants --forever, the agent does what 'agentd tell' asks of it at a Unix socket
+of that path. The directory of PATH has to be the agent's own, and closed to all others.
+
 Exit status: 0; 1 if nothing could be served, or if one of them failed; 2 if the words are no
 command, or if FILE cannot be read or is refused.";
 
@@ -68,14 +71,27 @@ NAME out of view V by none.
 Exit status: 0; 1 if that cannot be printed; 2 if the words are no command, if a NAME is none, or if
 FILE cannot be read or is refused.";
 
-/// The words of `agentd`: a subcommand for what is done with a file.
+/// The commands for a served agent.
+const TELL_HELP: &str = "COMMAND is one of:
+  link P up           the link of port P goes up: the BPDUs that are sent
+  link P down         the link of port P goes down: the same
+  policy POLICYFILE   the TOML in POLICYFILE is the policy from there on: policy ok, or policy refused
+  counts              how many datagrams and requests were dropped, by cause
+
+The agent runs with 'agentd serve --forever --control PATH'. What it answers is printed.
+
+Exit status: 0; 1 if no answer comes within two seconds, or if it is badline, policy refused, short
+or full; 2 if the words are no command, or if POLICYFILE cannot be read.";
+
+/// The words of `agentd`: a subcommand for what is done with a file, and one for a served agent.
 pub(crate) fn agent_command<'a>(alloc: Global) -> Result<Command<'a>, AllocError>
     ensures { IfOk result (HasWords agent_app) }
 {
     let agent = added(agent_options(alloc), script_command(alloc))?;
     let agent = added(agent, check_command(alloc))?;
     let agent = added(agent, serve_command(alloc))?;
-    added(agent, explain_command(alloc))
+    let agent = added(agent, explain_command(alloc))?;
+    added(agent, tell_command(alloc))
 }
 
 // A command with a subcommand more, where that is made.
@@ -138,7 +154,8 @@ fn serve_command<'a>(alloc: Global) -> Result<Command<'a>, AllocError>
         alloc,
         "audit",
         "Write the audit of each request to standard output; wants --forever",
-    ))
+    ))?
+    .arg(control_option(alloc))
 }
 
 // `explain`: what the policy of a file decides on a request.
@@ -162,6 +179,21 @@ fn explain_command<'a>(alloc: Global) -> Result<Command<'a>, AllocError>
         "NAME",
         "An object identifier with dots, as 1.3.6.1.2.1.17.1.2.0",
     ))
+}
+
+// `tell`: a command for a served agent.
+fn tell_command<'a>(alloc: Global) -> Result<Command<'a>, AllocError>
+    ensures { IfOk result (HasWords (record { top = tell_shape; subs = [] })) }
+{
+    Command::new(alloc, "tell")
+        .about("Has the agent that is served with a control socket do a command")
+        .after_help(TELL_HELP)
+        .arg(control_needed(alloc))?
+        .arg(some_words(
+            alloc,
+            "COMMAND",
+            "link P up, link P down, policy POLICYFILE, or counts",
+        ))
 }
 
 // What is done with a file.
@@ -188,6 +220,23 @@ fn config_option<'a>(alloc: Global) -> Arg<'a>
         .value_parser(ValueParser::NonEmptyString)
         .required(true)
         .help("The configuration, a TOML document")
+}
+
+// `--control PATH`.
+fn control_option<'a>(alloc: Global) -> Arg<'a>
+    ensures { IsArgument control_option result }
+{
+    Arg::new(alloc, "PATH")
+        .long("control")
+        .value_parser(ValueParser::NonEmptyString)
+        .help("The control socket; with serve it wants --forever")
+}
+
+// The same, which has to stand.
+fn control_needed<'a>(alloc: Global) -> Arg<'a>
+    ensures { IsArgument control_needed result }
+{
+    control_option(alloc).required(true)
 }
 
 // A flag of this name, with its help.

@@ -6,7 +6,7 @@ ghost use Rattle.agent_words.specs.Asking.{IsAsked};
 ghost use Rattle.agent_words.specs.Answers.{IsText, IsRefusal, IsAnswerTo, IsAnswered};
 
 use crate::asked::Asked;
-use crate::matches::asked_in;
+use crate::matches::{asked_in, is_given};
 use crate::options::agent_command;
 use clap::error::ErrorKind;
 use clap::{ArgMatches, Command, Error};
@@ -64,8 +64,10 @@ fn asked_by<'a>(alloc: Global, words: &'a [String]) -> Result<Asked<'a>, Error>
 
 // What is wrong with matches that ask for nothing, though clap lets them pass.
 fn mistake_in(matches: &ArgMatches<'_>) -> &'static str {
-    match matches.subcommand_name() {
-        Some("explain") => "a request is get, next or set",
+    match matches.subcommand() {
+        Some(("explain", _)) => "a request is get, next or set",
+        Some(("tell", _)) => "a command is link P up, link P down, counts or policy POLICYFILE",
+        Some((_, entered)) if !is_given(entered, "audit") => "--control wants --forever",
         _ => "--audit wants --forever",
     }
 }

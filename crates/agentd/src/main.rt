@@ -1,11 +1,11 @@
 //! The agent, driven by a script from standard input, or served over UDP.
 //!
 //! # Entry points
-//! `main` reads the words of the command line by `agent_words::read_words`. It puts the 55 objects of
+//! `main` reads the words of the command line by `agent_words::read_words`. It puts the 57 objects of
 //! `object_list` into boxes, and hands them to `run_objects` with what is asked, the standard streams
 //! and the files of the system. That runs `agent_program::run_asked`; where it leaves something to be
-//! served, it is served over UDP, for its rounds or without an end, audited or not, and it is logged what
-//! was done.
+//! served, it is served over UDP, for its rounds or without an end, audited or not, with a control socket
+//! or without, and it is logged what was done.
 //!
 //! # Definitions
 //! None: what words ask for stands in `agent_words`, what is done for that in `agent_program`.
@@ -14,18 +14,19 @@
 //! None.
 //!
 //! # Not claimed
-//! That the words are those of the command line, that the objects that `main` makes are the 55 of
+//! That the words are those of the command line, that the objects that `main` makes are the 57 of
 //! `object_list`, which driver stands under dot1dStpPortEnable, that what is left to be served is
-//! served, the status then, and what is logged. What a file of the system holds and a terminal
+//! served, at which path a control socket is made, the status then, and what is logged. What a file of the system holds and a terminal
 //! shows.
 #![tactic(auto)]
 
 use agent_program::{
-    Failure, Opened, ReadFile, SystemFiles, collect_words, end_answered, report, run_asked,
-    serve_opened, serve_opened_forever,
+    AskAgent, Failure, Opened, ReadFile, SystemFiles, collect_words, end_answered, report,
+    run_asked, serve_opened, serve_opened_forever,
 };
 use agent_words::{Asked, Lasting, VERSION, asks_to_serve, read_words};
 use bridge_mib::{Planned, PortEnable, Steady};
+use control_socket::{ControlFault, ControlSocket, bind_control};
 use live_audit::{AuditBacklog, Auditing, QueuedAudits, audit_queue, write_audits};
 use log::Log;
 use object_list::{COLUMNS, ColumnDescriptor, ENABLE, PlainObject};
@@ -33,6 +34,7 @@ use setphase_core::{MibObject, Registry};
 use std::alloc::Global;
 use std::net::Net;
 use std::process::ExitCode;
+use std::rt::Files;
 use std::sync::Wait;
 use std::thread::{Threads, join};
 use std::time::Clock;
@@ -99,12 +101,12 @@ fn run_objects<F, M, I, O, E, R>(
     errors: &mut E,
 ) -> ExitCode
 where
-    F: ReadFile,
+    F: ReadFile + AskAgent,
     M: MibObject + Send,
     I: io::Read,
     O: io::Write + Send,
     E: io::Write,
-    R: Threads + Wait + Net + Clock + Log + Sync,
+    R: Threads + Wait + Net + Files + Clock + Log + Sync,
 {
     let (ended, left) = run_asked(alloc, files, objects, asked, reader, writer, errors);
     let Some((registry, opened, lasting)) = left else {
@@ -112,10 +114,9 @@ where
     };
     let done = match lasting {
         Lasting::Rounds => serve_rounds(rt, alloc, registry, opened),
-        Lasting::Forever { audit: false } => {
-            serve_forever(rt, alloc, registry, opened, &Auditing::Off)
+        Lasting::Forever { audit, control } => {
+            serve_lasting(rt, alloc, registry, opened, audit, control, writer)
         }
-        Lasting::Forever { audit: true } => serve_audited(rt, alloc, registry, opened, writer),
     };
     match done {
         Ok(()) => ExitCode::SUCCESS,
@@ -142,12 +143,53 @@ fn serve_rounds<M: MibObject + Send, R: Threads + Wait + Net + Clock + Log + Syn
     }
 }
 
-// The same as `serve_forever`, where the audit of each request is written, by a thread of its own.
-fn serve_audited<M, O, R>(
+// Serves without an end, with a control socket at this path, if there is one, and audited or not.
+fn serve_lasting<M, O, R>(
     rt: &R,
     alloc: Global,
     registry: Registry<M>,
     opened: Opened,
+    audit: bool,
+    path: Option<&str>,
+    writer: &mut O,
+) -> Result<(), Failure<'static>>
+where
+    M: MibObject + Send,
+    O: io::Write + Send,
+    R: Threads + Wait + Net + Files + Clock + Log + Sync,
+{
+    let control = match bind_path(rt, path) {
+        Ok(control) => control,
+        Err(why) => {
+            tell_not_begun(rt, &why);
+            return Err(Failure::Run);
+        }
+    };
+    if audit {
+        serve_audited(rt, alloc, registry, opened, control, writer)
+    } else {
+        serve_forever(rt, alloc, registry, opened, &Auditing::Off, control)
+    }
+}
+
+// The control socket at a path, if there is one.
+fn bind_path<'r, R: Net + Files>(
+    rt: &'r R,
+    path: Option<&str>,
+) -> Result<Option<ControlSocket<&'r R>>, ControlFault> {
+    match path {
+        Some(path) => Ok(Some(bind_control(rt, rt, path)?)),
+        None => Ok(None),
+    }
+}
+
+// The same as `serve_forever`, where the audit of each request is written, by a thread of its own.
+fn serve_audited<'r, M, O, R>(
+    rt: &'r R,
+    alloc: Global,
+    registry: Registry<M>,
+    opened: Opened,
+    control: Option<ControlSocket<&'r R>>,
     writer: &mut O,
 ) -> Result<(), Failure<'static>>
 where
@@ -168,7 +210,7 @@ where
     let ((), served) = join(
         rt,
         || write_audits(rt, alloc, &lines, writer, &backlog),
-        move || serve_forever(rt, alloc, registry, opened, &audits),
+        move || serve_forever(rt, alloc, registry, opened, &audits, control),
     );
     served
 }
@@ -181,8 +223,9 @@ fn serve_forever<'r, M: MibObject + Send, R: Threads + Wait + Net + Clock + Log 
     registry: Registry<M>,
     opened: Opened,
     audits: &Auditing<'r>,
+    control: Option<ControlSocket<&'r R>>,
 ) -> Result<(), Failure<'static>> {
-    match serve_opened_forever(rt, alloc, VERSION, registry, opened, audits) {
+    match serve_opened_forever(rt, alloc, VERSION, registry, opened, audits, control) {
         Ok(ends) if any_failed(ends.as_slice()) => Err(Failure::Run),
         Ok(_) => Ok(()),
         Err(why) => {

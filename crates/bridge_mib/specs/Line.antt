@@ -6,7 +6,7 @@ use Rattle.rstp_settings.specs.declared.key.PortKey.TheVariants as port
 use Rattle.setting_keys.specs.declared.SettingKey.{SettingKey}
 use Rattle.setting_keys.specs.declared.SettingKey.TheVariants as setting
 use Rattle.setting_keys.specs.declared.SettingValue.{SettingValue}
-use Rattle.setting_keys.specs.declared.SettingValue.TheVariants.{Number, Ports}
+use Rattle.setting_keys.specs.declared.SettingValue.TheVariants.{Number, Ports, Mask}
 use Rattle.setphase_core.specs.declared.object.Reservation.{Reservation}
 use Rattle.setphase_core.specs.declared.column.Column.TheVariants as column
 use Rattle.setphase_core.specs.declared.column.StpPort.TheVariants as stp_port
@@ -32,6 +32,7 @@ AreEnables rs = AllByRecursion (λ r. IsLine r.key) rs
 abbrev pub is_enabled : SettingValue → Bool
 is_enabled (Number n) = n == 1
 is_enabled (Ports s) = false
+is_enabled (Mask m) = false
 
 -- An object over a driver: the driver, and what it has reserved for the Set that is being made, by
 -- place.

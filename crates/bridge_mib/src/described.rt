@@ -10,7 +10,7 @@ use setphase_core::{
 use std::alloc::Global;
 use std::marker::Model;
 
-/// What a descriptor of RFC 4188 or RFC 4318 says of its object: the name, what it shows of a
+/// What a descriptor of RFC 4188, RFC 4318 or RFC 3415 says of its object: the name, what it shows of a
 /// world, and how it is written.
 pub trait Descriptor: Copy {
     ghost use Rattle.setphase_core.specs.declared.column.Column.{Column};

@@ -51,11 +51,11 @@ impl<L: LineDriver> PortEnable<L> {
 fn tell<L: LineDriver>(
     driver: &mut L,
     key: SettingKey,
-    value: SettingValue,
+    value: &SettingValue,
 ) -> Result<(), DeviceFault>
     requires { IsLine key }
     ensures told { (port : ℕ) → key ≡ port_enable port
-        → L.told driver.old port (is_enabled value) result driver.new }
+        → L.told driver.old port (is_enabled value.now) result driver.new }
     ensures done { OnOk result (L.failures driver.new ≡ L.failures driver.old) }
     ensures failed { OnErr result (L.failures driver.new ≡ L.failures driver.old + 1) }
     ensures spent { L.plan_left driver.new ≡ plan_after_call (L.plan_left driver.old) }
@@ -74,8 +74,8 @@ fn tell<L: LineDriver>(
 }
 
 // Whether a value of dot1dStpPortEnable is enabled (RFC 4188).
-fn is_enabled(value: SettingValue) -> bool
-    ensures { result ≡ is_enabled value }
+fn is_enabled(value: &SettingValue) -> bool
+    ensures { result ≡ is_enabled value.now }
 {
     matches!(value, SettingValue::Number(1))
 }
@@ -124,7 +124,7 @@ impl<L: LineDriver> MibObject for PortEnable<L> {
         ensures told { (port : ℕ) → slot.key ≡ port_enable port
             → L.told self.old.driver port (is_enabled slot.value) result self.new.driver }
     {
-        tell(&mut self.driver, slot.key, slot.value)?;
+        tell(&mut self.driver, slot.key, &slot.value)?;
         self.slots.commit(world, slot);
         Ok(())
     }
@@ -152,9 +152,10 @@ impl<L: LineDriver> MibObject for PortEnable<L> {
             → slot.key ≡ port_enable port
             → L.told self.old.driver port (is_enabled before) result self.new.driver }
     {
+        let key = slot.key;
         let before = self.slots.before(slot);
-        tell(&mut self.driver, slot.key, before)?;
-        world.put_setting(slot.key, before);
+        tell(&mut self.driver, key, &before)?;
+        world.put_setting(key, before);
         Ok(())
     }
 

@@ -42,7 +42,7 @@ pub fn ticks(seconds: u64) -> Value
 }
 
 /// So few octets as OCTET STRING. It takes no memory.
-pub(crate) fn string(alloc: Global, octets: &[u8]) -> Value
+pub fn string(alloc: Global, octets: &[u8]) -> Value
     requires { length octets.now ≤ INLINE_OCTETS }
     ensures { result ≡ OctetString octets.now }
 {

@@ -32,7 +32,7 @@ impl DropTally for Dropped {
 
     ghost tells = { λ _ _. ⊤ };
 
-    fn dropped(&self) -> DropCounts {
+    fn dropped<R: Wait>(&self, _rt: &R) -> DropCounts {
         DropCounts {
             too_long: 1,
             malformed: 2,

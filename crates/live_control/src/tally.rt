@@ -1,4 +1,5 @@
 //! How many datagrams each cause dropped.
+use std::sync::Wait;
 
 /// How many datagrams each cause dropped, each modulo 2^32.
 #[derive(Clone, Copy, Debug, Default, PartialEq, Eq)]
@@ -24,6 +25,6 @@ pub trait DropTally {
     ghost tells: { Self → DropCounts → Type 0 };
 
     /// The counts of the intervals that ended.
-    fn dropped(&self) -> DropCounts
+    fn dropped<R: Wait>(&self, rt: &R) -> DropCounts
         ensures { tells self.now result };
 }

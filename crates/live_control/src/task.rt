@@ -161,7 +161,7 @@ fn take_command<O: MibObject, L: Run, W: ControlWire, K: ControlRecorder, D: Dro
         }
         Ok(Command::Counts) => {
             let world = live.counts(rt, share);
-            let text = counts_text(plan.alloc, &tally.dropped(), &world);
+            let text = counts_text(plan.alloc, &tally.dropped(rt), &world);
             let answered = send_text(wire, peer, &text);
             state.recorder.record(ControlItem::Told);
             end_by_reply(answered)

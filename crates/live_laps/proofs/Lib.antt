@@ -1,3 +1,4 @@
+mod Commanding
 pub mod Lapping
 mod Noting
 mod Summing

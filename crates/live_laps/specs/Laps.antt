@@ -9,6 +9,7 @@ use Rattle.live_lock.specs.Counting.{IsCounted}
 use Rattle.live_lock.specs.Sharing.{IsHeld}
 use Rattle.live_lock.specs.declared.held.Counts.{Counts}
 use Rattle.live_agent.specs.Deeds.{Deed}
+use Rattle.live_control.specs.Deeds.{Deed as ControlDeed}
 use Rattle.live_agent.specs.Lines.{Setting, setting_of, IsPortTurn, HasWorked, HasPortRun, HasTicked}
 use Rattle.live_agent.specs.Runs.{HasRun, failures_at, adds}
 use Rattle.live_agent.specs.Turns.{acts_of}
@@ -18,10 +19,13 @@ use Rattle.live_agent.specs.declared.trace.End.TheVariants.{Rounds, Closed, Full
 use Rattle.live_agent.specs.declared.trace.Item.{Item}
 use Rattle.live_agent.specs.declared.trace.Item.TheVariants.{Entered, Refused, Short}
 use Rattle.live_agent.specs.declared.trace.Item.TheVariants as item
+use Rattle.live_control.specs.Lines.{HasControlled}
+use Rattle.live_control.specs.Runs.{adds as control_adds}
+use Rattle.live_control.specs.declared.item.ControlItem.{ControlItem}
 use Rattle.live_laps.specs.Lines.{name_of}
 use Rattle.live_laps.specs.Notes.{Note, lap_worked, lap_ticked, line_failed, line_ended, worked_in}
 use Rattle.live_laps.specs.declared.line.Line.{Line}
-use Rattle.live_laps.specs.declared.line.Line.TheVariants.{Worker, Port, Ticker}
+use Rattle.live_laps.specs.declared.line.Line.TheVariants.{Worker, Port, Ticker, Control}
 use Rattle.live_laps.specs.declared.line.Watched.{Watched}
 
 -- the first event or datagram of a trace was entered
@@ -32,9 +36,34 @@ is_first_entered (Refused cause ∷ items) = false
 is_first_entered (Short ∷ items) = false
 is_first_entered (item.Full ∷ items) = false
 
-module _ {A W T : Type 0} (worker_did : A → List Deed → A → Type 0) (worker_failures : A → ℕ)
+-- An interval of the control line of so many ports: one item for each command, whichever counts of
+-- datagrams it was handed.
+abbrev pub HasCommanded : {C : Type 0} → (C → List ControlDeed → C → Type 0) → Setting → ℕ → ℕ → C → C
+    → ℕ → ℕ → End → Type 0
+HasCommanded control_did s rounds ports a b m n end = (items : List ControlItem)
+    × HasControlled control_did control_adds (λ counts. Unit) s ports rounds a b [] items m n end
+
+-- Each of these went on so, and ended so; together they made the entries between two counts.
+abbrev pub AllGone : {N : Type 0} → (N → ℕ → N → ℕ → End → Type 0) → List N → List N → List End → ℕ → ℕ
+    → Type 0
+AllGone gone [] [] [] m n = n ≡ m
+AllGone gone (a ∷ olds) (b ∷ news) (end ∷ ends) m n =
+    (made : ℕ) × gone a 0 b made end × AllGone gone olds news ends (m + made) n
+AllGone gone _ _ _ m n = ⊥
+
+-- All of these went on over the history that was handed in, and this is what became of it: a legal
+-- one, which goes on from it by as many entries as they made.
+pub record HaveGone {N : Type 0} (gone : Setting → ℕ → N → ℕ → N → ℕ → End → Type 0) (plan : Plan)
+    (start later : History) (olds news : List N) (ends : List End) : Type 0 where
+  pub entries : ℕ
+  pub lines : AllGone (gone (setting_of start plan) plan.rounds) olds news ends 0 entries
+  pub held : IsHeld start later entries
+  pub legal : IsHistory later
+
+module _ {A W T C : Type 0} (worker_did : A → List Deed → A → Type 0) (worker_failures : A → ℕ)
     (went : W → List Act → W → Type 0) (failures : W → ℕ)
-    (ticker_did : T → List Deed → T → Type 0) (ticker_failures : T → ℕ) (s : Setting) (rounds : ℕ) where
+    (ticker_did : T → List Deed → T → Type 0) (ticker_failures : T → ℕ)
+    (control_did : C → List ControlDeed → C → Type 0) (s : Setting) (rounds : ℕ) where
   -- An interval of a port, which begins with its link until that was entered.
   abbrev pub HasPassed : Bool → ℕ → W → W → ℕ → ℕ → List Item → End → Type 0
   HasPassed false port a b m n trace end = HasPortRun went adds s port rounds a b [] trace m n end
@@ -42,10 +71,12 @@ module _ {A W T : Type 0} (worker_did : A → List Deed → A → Type 0) (worke
       HasRun went adds acts_of (IsPortTurn s port) rounds a b [] trace m n end
 
   -- An interval of a line, from one count of its thread's entries to another, with the trace of what
-  -- became of its events and datagrams and how it ended: the line is the same afterwards but for its wire, and that a port's link went up:
-  -- where it begins an interval, it is the first item of the trace, and it went up if that was entered
-  -- (an interval may end for want of memory before it is). A wire counts a fault that ended it.
-  abbrev pub IsLap : Line A W T → Line A W T → ℕ → ℕ → List Item → End → Type 0
+  -- became of its events and datagrams and how it ended: the line is the same afterwards but for its
+  -- wire, and that a port's link went up: where it begins an interval, it is the first item of the
+  -- trace, and it went up if that was entered (an interval may end for want of memory before it is). A
+  -- wire counts a fault that ended it, but for that of the control line, whose commands are no items of
+  -- the trace.
+  abbrev pub IsLap : Line A W T C → Line A W T C → ℕ → ℕ → List Item → End → Type 0
   IsLap (Worker number a) (Worker number' b) m n trace end =
       (number' ≡ number) × HasWorked worker_did adds s rounds number a b [] trace m n end
       × (worker_failures b ≡ failures_at end (worker_failures a))
@@ -56,31 +87,34 @@ module _ {A W T : Type 0} (worker_did : A → List Deed → A → Type 0) (worke
   IsLap (Ticker a) (Ticker b) m n trace end =
       HasTicked ticker_did adds s rounds a b [] trace m n end
       × (ticker_failures b ≡ failures_at end (ticker_failures a))
+  IsLap (Control ports a) (Control ports' b) m n trace end =
+      (ports' ≡ ports) × (trace ≡ []) × HasCommanded control_did s rounds ports a b m n end
   IsLap _ _ m n trace end = ⊥
 
 -- What is reported to the watch of a line of an interval that left this trace, once its thread has
 -- made so many entries: what a worker's interval came to, and for one of the ticker how far the
 -- history was at some time, by no fewer entries than these.
-abbrev pub IsNoted : {A W T : Type 0} → History → Line A W T → ℕ → List Item → List Note → Type 0
+abbrev pub IsNoted : {A W T C : Type 0} → History → Line A W T C → ℕ → List Item → List Note → Type 0
 IsNoted start (Worker number wire) made trace notes = notes ≡ lap_worked (worked_in trace) ∷ []
 IsNoted start (Port number is_begun wire) made trace notes = notes ≡ []
 IsNoted start (Ticker wire) made trace notes =
     (counts : Counts) × IsCounted start made counts × (notes ≡ lap_ticked counts ∷ [])
+IsNoted start (Control ports wire) made trace notes = notes ≡ []
 
 -- A line with its watch, its pace and its count of faults, and how many entries its thread has made by
 -- then.
-pub record Place (A W T V P : Type 0) : Type 0 where
-  pub watched : Watched A W T V P
+pub record Place (A W T C V P : Type 0) : Type 0 where
+  pub watched : Watched A W T C V P
   pub amount : ℕ
 
-abbrev pub place_of : {A W T V P : Type 0} → Watched A W T V P → ℕ → Place A W T V P
+abbrev pub place_of : {A W T C V P : Type 0} → Watched A W T C V P → ℕ → Place A W T C V P
 place_of watched amount = record { watched = watched; amount = amount }
 
-module _ {A W T V P : Type 0} (watch_went : V → List Note → V → Type 0)
+module _ {A W T C V P : Type 0} (watch_went : V → List Note → V → Type 0)
     (pace_went : P → List Bool → P → Type 0) where
   -- A fault that ended an interval so: it was counted, and reported once to the watch with that count,
   -- and the pace answered this once.
-  pub record HasFailed (a b : Watched A W T V P) (how : End) (answer : Bool) : Type 0 where
+  pub record HasFailed (a b : Watched A W T C V P) (how : End) (answer : Bool) : Type 0 where
     pub line_is : b.line ≡ a.line
     pub faults_are : b.faults ≡ one_more a.faults
     pub told : watch_went a.watch (line_failed (name_of a.line) how b.faults ∷ []) b.watch
@@ -89,32 +123,35 @@ module _ {A W T V P : Type 0} (watch_went : V → List Note → V → Type 0)
   -- Whether a line goes on behind an interval that ended so: where its rounds are over, at once; where
   -- a fault ended it, if its pace says so behind the report; and not where its wire or its ticker's
   -- pace has ended, or no number is left for an entry.
-  abbrev pub GoesOn : Watched A W T V P → Watched A W T V P → End → Bool → Type 0
+  abbrev pub GoesOn : Watched A W T C V P → Watched A W T C V P → End → Bool → Type 0
   GoesOn a b Rounds answer = (answer ≡ true) × (b ≡ a)
   GoesOn a b Closed answer = (answer ≡ false) × (b ≡ a)
   GoesOn a b Full answer = (answer ≡ false) × (b ≡ a)
   GoesOn a b (Wire fault) answer = HasFailed a b (Wire fault) answer
   GoesOn a b Memory answer = HasFailed a b Memory answer
 
--- The link of a port that was not up found no memory, and nothing else became of the interval.
-abbrev pub HasShortLink : {A W T : Type 0} → Line A W T → List Item → Type 0
-HasShortLink (Worker number wire) trace = ⊥
-HasShortLink (Port number false wire) trace = trace ≡ Short ∷ []
-HasShortLink (Port number true wire) trace = ⊥
-HasShortLink (Ticker wire) trace = ⊥
+-- An interval of such a line may end for want of memory: where the link of a port that was not up found
+-- none, and nothing else became of the interval; or the control line, for an answer.
+abbrev pub IsShort : {A W T C : Type 0} → Line A W T C → List Item → Type 0
+IsShort (Worker number wire) trace = ⊥
+IsShort (Port number false wire) trace = trace ≡ Short ∷ []
+IsShort (Port number true wire) trace = ⊥
+IsShort (Ticker wire) trace = ⊥
+IsShort (Control ports wire) trace = Unit
 
-module _ {A W T V P : Type 0} (worker_did : A → List Deed → A → Type 0) (worker_failures : A → ℕ)
+module _ {A W T C V P : Type 0} (worker_did : A → List Deed → A → Type 0) (worker_failures : A → ℕ)
     (went : W → List Act → W → Type 0) (failures : W → ℕ)
     (ticker_did : T → List Deed → T → Type 0) (ticker_failures : T → ℕ)
+    (control_did : C → List ControlDeed → C → Type 0)
     (watch_went : V → List Note → V → Type 0) (pace_went : P → List Bool → P → Type 0)
     (s : Setting) (rounds : ℕ) where
   -- An interval from one place to another that ended so, and was reported once to the watch. The pace
-  -- and the count of faults are the same. Only a port's link ends one for want of memory.
-  pub record IsNotedLap (a b : Place A W T V P) (how : End) : Type 0 where
+  -- and the count of faults are the same. Only a port's link, and a command, ends one for want of memory.
+  pub record IsNotedLap (a b : Place A W T C V P) (how : End) : Type 0 where
     pub trace : List Item
-    pub lap : IsLap worker_did worker_failures went failures ticker_did ticker_failures s rounds
+    pub lap : IsLap worker_did worker_failures went failures ticker_did ticker_failures control_did s rounds
         a.watched.line b.watched.line a.amount b.amount trace how
-    pub memory : how ≡ Memory → HasShortLink a.watched.line trace
+    pub memory : how ≡ Memory → IsShort a.watched.line trace
     pub notes : List Note
     pub noted : IsNoted s.start b.watched.line b.amount trace notes
     pub told : watch_went a.watched.watch notes b.watched.watch
@@ -122,63 +159,56 @@ module _ {A W T V P : Type 0} (worker_did : A → List Deed → A → Type 0) (w
     pub faults_are : b.watched.faults ≡ a.watched.faults
 
   -- An interval that ended so, and what is behind it: the next, or none.
-  pub record HasPassedOn (a b : Place A W T V P) (how : End) (answer : Bool) : Type 0 where
-    pub between : Watched A W T V P
+  pub record HasPassedOn (a b : Place A W T C V P) (how : End) (answer : Bool) : Type 0 where
+    pub between : Watched A W T C V P
     pub interval : IsNotedLap a (place_of between b.amount) how
     pub behind : GoesOn watch_went pace_went between b.watched how answer
 
   -- Intervals lead from one place to another, each from the place to which the one before it led, and
   -- behind each the line went on: that of the latest first.
-  abbrev pub AreLaps : List (Place A W T V P) → Place A W T V P → Place A W T V P → Type 0
+  abbrev pub AreLaps : List (Place A W T C V P) → Place A W T C V P → Place A W T C V P → Type 0
   AreLaps [] a b = b ≡ a
   AreLaps (at ∷ before) a b = AreLaps before a at × (how : End) × HasPassedOn at b how true
 
   -- so many of them
-  pub record HasLapped (count : ℕ) (a b : Place A W T V P) : Type 0 where
-    pub places : List (Place A W T V P)
+  pub record HasLapped (count : ℕ) (a b : Place A W T C V P) : Type 0 where
+    pub places : List (Place A W T C V P)
     pub count_is : length places ≡ count
     pub laps : AreLaps places a b
 
   -- Intervals behind which the line went on, and one behind which it did not, as was reported to the
   -- watch last of all.
-  pub record HasEnded (a b : Place A W T V P) (end : End) : Type 0 where
+  pub record HasEnded (a b : Place A W T C V P) (end : End) : Type 0 where
     pub count : ℕ
-    pub place : Place A W T V P
+    pub place : Place A W T C V P
     pub lapped : HasLapped count a place
-    pub closing : Watched A W T V P
+    pub closing : Watched A W T C V P
     pub last : HasPassedOn place (place_of closing b.amount) end false
     pub told : watch_went closing.watch (line_ended (name_of closing.line) end ∷ []) b.watched.watch
     pub rest_is : b.watched ≡ record closing { watch = b.watched.watch }
 
   -- A line went on interval by interval until one ended it, or there were as many as can be counted.
-  abbrev pub HasGoneOn : Place A W T V P → Place A W T V P → End → Type 0
+  abbrev pub HasGoneOn : Place A W T C V P → Place A W T C V P → End → Type 0
   HasGoneOn a b end = HasEnded a b end ⊎ ((end ≡ Rounds) × HasLapped 18446744073709551615 a b)
 
-  -- Each of these lines went on so, and ended so; together they made the entries between two counts.
-  abbrev pub AllGoneOn : List (Watched A W T V P) → List (Watched A W T V P) → List End → ℕ → ℕ → Type 0
-  AllGoneOn [] [] [] m n = n ≡ m
-  AllGoneOn (a ∷ olds) (b ∷ news) (end ∷ ends) m n =
-      (made : ℕ) × HasGoneOn (place_of a 0) (place_of b made) end
-      × AllGoneOn olds news ends (m + made) n
-  AllGoneOn _ _ _ m n = ⊥
-
-module _ {A W T V P : Type 0} (worker_did : A → List Deed → A → Type 0) (worker_failures : A → ℕ)
+module _ {A W T C V P : Type 0} (worker_did : A → List Deed → A → Type 0) (worker_failures : A → ℕ)
     (went : W → List Act → W → Type 0) (failures : W → ℕ)
     (ticker_did : T → List Deed → T → Type 0) (ticker_failures : T → ℕ)
+    (control_did : C → List ControlDeed → C → Type 0)
     (watch_went : V → List Note → V → Type 0) (pace_went : P → List Bool → P → Type 0) where
-  -- All lines went on over the history that was handed in, and this is what became of it: a legal
-  -- one, which goes on from it by as many entries as the lines made.
-  pub record HaveGoneOn (plan : Plan) (start later : History) (olds news : List (Watched A W T V P))
-      (ends : List End) : Type 0 where
-    pub entries : ℕ
-    pub lines : AllGoneOn worker_did worker_failures went failures ticker_did ticker_failures
-        watch_went pace_went (setting_of start plan) plan.rounds olds news ends 0 entries
-    pub held : IsHeld start later entries
-    pub legal : IsHistory later
+  -- A line went on so between two counts of its thread's entries.
+  abbrev pub GoneOn : Setting → ℕ → Watched A W T C V P → ℕ → Watched A W T C V P → ℕ → End → Type 0
+  GoneOn s rounds a m b n end = HasGoneOn worker_did worker_failures went failures ticker_did
+      ticker_failures control_did watch_went pace_went s rounds (place_of a m) (place_of b n) end
+
+  -- All lines went on over the history that was handed in, and this is what became of it.
+  abbrev pub HaveGoneOn : Plan → History → History → List (Watched A W T C V P)
+      → List (Watched A W T C V P) → List End → Type 0
+  HaveGoneOn plan start later olds news ends = HaveGone GoneOn plan start later olds news ends
 
   -- What a run without an end answers: how each line ended, or that there was no memory to begin
   -- with, and nothing ran.
-  abbrev pub ServesLaps : Plan → History → History → List (Watched A W T V P)
-      → List (Watched A W T V P) → Result (Vec End Global) AllocError → Type 0
+  abbrev pub ServesLaps : Plan → History → History → List (Watched A W T C V P)
+      → List (Watched A W T C V P) → Result (Vec End Global) AllocError → Type 0
   ServesLaps plan start later olds news (Ok ends) = HaveGoneOn plan start later olds news ends.items
   ServesLaps plan start later olds news (Err refused) = (later ≡ start) × (news ≡ olds)

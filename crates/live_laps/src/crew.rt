@@ -5,46 +5,33 @@ ghost use Rattle.history_core.specs.History.{IsHistory};
 ghost use Rattle.live_lock.specs.Sharing.{IsHeld};
 ghost use Rattle.live_agent.specs.Lines.{setting_of};
 ghost use Rattle.live_run.specs.Shared.{MayShare};
-ghost use Rattle.live_laps.specs.Laps.{HasGoneOn, AllGoneOn, HaveGoneOn, place_of};
+ghost use Rattle.live_laps.specs.Laps.{AllGone, HaveGone};
 
-use crate::lap::go_on;
-use crate::line::Watched;
-use crate::watch::Watch;
+use crate::going::Going;
 use history_core::Kept;
-use live_agent::{End, GatedWire, PacedWire, Plan};
+use live_agent::{End, Plan};
 use live_lock::{Live, Run, Share};
 use rising::Blank;
 use setphase_core::MibObject;
 use std::marker::Brand;
 use std::sync::{Wait, ledger};
 use std::thread::{Threads, join};
-use wire_core::{Pace, Wire};
 
 // Each line in a thread beside the others. Gives back the share, the lines, and how each ended, in
 // their order.
-fn run_lines<
-    O: MibObject + Send,
-    L: Run + Send + Sync,
-    A: GatedWire + Send,
-    W: Wire + Send,
-    T: PacedWire + Send,
-    V: Watch + Send,
-    P: Pace + Send,
-    R: Threads + Wait + Sync,
->(
+fn run_lines<O: MibObject + Send, L: Run + Send + Sync, N: Going + Send, R: Threads + Wait + Sync>(
     rt: &R,
     plan: &Plan,
     live: &Live<O, L>,
     share: Share<L>,
-    lines: Vec<Watched<A, W, T, V, P>>,
+    lines: Vec<N>,
     ends: Vec<End>,
-) -> (Share<L>, Vec<Watched<A, W, T, V, P>>, Vec<End>)
+) -> (Share<L>, Vec<N>, Vec<End>)
     requires shared { MayShare O.row L.row O.MibObject L.start L.base_rise L.name L.parts L.rise }
     requires parts { vec_len lines < share.parts }
     requires empty { ends.items ≡ [] }
     requires room { vec_len lines ≤ vec_capacity ends }
-    ensures lines { AllGoneOn A.did A.failures W.went W.failures T.did T.failures V.went P.went
-        (setting_of L.start plan.now) plan.now.rounds lines.items result.1.items result.2.items share.amount result.0.amount }
+    ensures lines { AllGone (N.gone (setting_of L.start plan.now) plan.now.rounds) lines.items result.1.items result.2.items share.amount result.0.amount }
     ensures parts { result.0.parts ≡ share.parts }
     ensures lens { (vec_len result.1 ≡ vec_len lines) × (vec_len result.2 ≡ vec_len lines) }
     ensures lines_room { vec_capacity result.1 ≡ vec_capacity lines }
@@ -58,19 +45,18 @@ fn run_lines<
     let mine = share.split_off(1);
     let (one, others) = join(
         rt,
-        move || -> (Share<L>, Watched<A, W, T, V, P>, End)
+        move || -> (Share<L>, N, End)
             requires { 0 < mine.parts }
-            ensures laps { HasGoneOn A.did A.failures W.went W.failures T.did T.failures V.went P.went
-                (setting_of L.start plan.entry.now) plan.entry.now.rounds (place_of line mine.amount)
-                (place_of result.1 result.0.amount) result.2 }
+            ensures gone { N.gone (setting_of L.start plan.entry.now) plan.entry.now.rounds line mine.amount
+                result.1 result.0.amount result.2 }
             ensures parts { result.0.parts ≡ mine.parts }
-        { go_on(rt, plan, live, mine, line) },
-        move || -> (Share<L>, Vec<Watched<A, W, T, V, P>>, Vec<End>)
+        { line.go_on(rt, plan, live, mine) },
+        move || -> (Share<L>, Vec<N>, Vec<End>)
             requires { IsSync R.row × MayShare O.row L.row O.MibObject L.start L.base_rise L.name L.parts L.rise
                 × (vec_len lines < share.parts)
                 × (ends.items ≡ []) × (vec_len lines ≤ vec_capacity ends) }
-            ensures lines { AllGoneOn A.did A.failures W.went W.failures T.did T.failures V.went P.went
-                (setting_of L.start plan.entry.now) plan.entry.now.rounds lines.items
+            ensures lines { AllGone (N.gone (setting_of L.start plan.entry.now) plan.entry.now.rounds)
+                lines.items
                 result.1.items result.2.items share.amount result.0.amount }
             ensures parts { result.0.parts ≡ share.parts }
             ensures lens { (vec_len result.1 ≡ vec_len lines)
@@ -88,25 +74,16 @@ fn run_lines<
 }
 
 // A history under a lock, the lines over it, and the history again.
-fn run_over<
-    O: MibObject + Send,
-    L: Run + Send + Sync,
-    A: GatedWire + Send,
-    W: Wire + Send,
-    T: PacedWire + Send,
-    V: Watch + Send,
-    P: Pace + Send,
-    R: Threads + Wait + Sync,
->(
+fn run_over<O: MibObject + Send, L: Run + Send + Sync, N: Going + Send, R: Threads + Wait + Sync>(
     rt: &R,
     plan: &Plan,
     kept: Kept<O>,
     blank: ledger::Blank,
     number: Blank,
     moved: Blank,
-    lines: Vec<Watched<A, W, T, V, P>>,
+    lines: Vec<N>,
     ends: Vec<End>,
-) -> (Kept<O>, Vec<Watched<A, W, T, V, P>>, Vec<End>)
+) -> (Kept<O>, Vec<N>, Vec<End>)
     requires name { blank.name ≡ L.name }
     requires all { blank.parts ≡ L.parts }
     requires number { number.name ≡ L.rise }
@@ -115,7 +92,7 @@ fn run_over<
     requires parts { vec_len lines < blank.parts }
     requires empty { ends.items ≡ [] }
     requires room { vec_len lines ≤ vec_capacity ends }
-    ensures { HaveGoneOn A.did A.failures W.went W.failures T.did T.failures V.went P.went plan.now L.start result.0 lines.items
+    ensures { HaveGone N.gone plan.now L.start result.0 lines.items
         result.1.items result.2.items }
 {
     let (live, share) = Live::<O, L>::new(kept, blank, number, moved);
@@ -126,30 +103,22 @@ fn run_over<
 
 /// Runs all lines over a history at the same time, each in a thread of its own, interval by
 /// interval, until all have ended. The history comes back, and so do the lines.
-pub fn run_from<
-    O: MibObject + Send,
-    A: GatedWire + Send,
-    W: Wire + Send,
-    T: PacedWire + Send,
-    V: Watch + Send,
-    P: Pace + Send,
-    R: Threads + Wait + Sync,
->(
+pub fn run_from<O: MibObject + Send, N: Going + Send, R: Threads + Wait + Sync>(
     rt: &R,
     plan: &Plan,
     kept: Kept<O>,
-    lines: Vec<Watched<A, W, T, V, P>>,
+    lines: Vec<N>,
     ends: Vec<End>,
-) -> (Kept<O>, Vec<Watched<A, W, T, V, P>>, Vec<End>)
+) -> (Kept<O>, Vec<N>, Vec<End>)
     requires few { vec_len lines < 2 ^ 32 }
     requires empty { ends.items ≡ [] }
     requires room { vec_len lines ≤ vec_capacity ends }
-    ensures { HaveGoneOn A.did A.failures W.went W.failures T.did T.failures V.went P.went plan.now kept result.0 lines.items
+    ensures { HaveGone N.gone plan.now kept result.0 lines.items
         result.1.items result.2.items }
 {
     // A part for each line, and one for who starts them.
     let blank = ledger::Blank::new(lines.len() as u64 + 1);
-    run_over::<O, Brand, A, W, T, V, P, R>(
+    run_over::<O, Brand, N, R>(
         rt,
         plan,
         kept,

@@ -2,7 +2,8 @@
 //! keeps of an interval only its counts.
 //!
 //! # Entry points
-//! [`serve_laps`] takes a history and its [`Line`]s, which [`lines_of`] makes of a run's, runs each
+//! [`serve_laps`] takes a history and its [`Line`]s, which [`lines_of`] makes of a run's and, where there
+//! is one, of a control wire, runs each
 //! in a thread of its own until it is ended, and gives back the lines, the history, and how each
 //! ended. Each line has a [`Watch`] ([`Watched`]), to which each interval of a worker and of the
 //! ticker, each fault and the line's end is reported, and a pace, by which it waits behind a fault
@@ -20,16 +21,18 @@
 //! is in `live_agent`, until one ended it or 2^64 - 1 were done; behind a fault of its wire, or want of
 //! memory, it went on where its pace said `true`; a port's link was entered once; each interval was
 //! reported once to its watch, in order, each fault once with its count, and its end once; only a
-//! port's link ends an interval for want of memory; the history that comes back is legal, and goes on
+//! port's link, or a command, ends an interval for want of memory; the history that comes back is legal, and goes on
 //! from the one that was handed in by as many entries as the lines made.
 //!
 //! # Not claimed
 //! That a line ends; how long a pace waits; that two threads run at the same time; what a [`Book`]
-//! holds; that an interval is reported before the next one begins.
+//! holds, nor what an operator is answered of it; that an interval is reported before the next one begins.
 #![tactic(auto)]
 
 mod book;
+mod commands;
 mod crew;
+mod going;
 mod lap;
 mod line;
 mod serving;

@@ -7,6 +7,7 @@ use crate::line::Watched;
 use crate::watch::Watch;
 use history_core::Kept;
 use live_agent::{End, GatedWire, PacedWire, Plan};
+use live_control::ControlWire;
 use setphase_core::MibObject;
 use std::alloc::{AllocError, Global};
 use std::sync::Wait;
@@ -38,6 +39,7 @@ pub fn serve_laps<
     A: GatedWire + Send,
     W: Wire + Send,
     T: PacedWire + Send,
+    C: ControlWire + Send,
     V: Watch + Send,
     P: Pace + Send,
     R: Threads + Wait + Sync,
@@ -45,14 +47,14 @@ pub fn serve_laps<
     rt: &R,
     plan: &Plan,
     kept: Kept<O>,
-    lines: Vec<Watched<A, W, T, V, P>>,
+    lines: Vec<Watched<A, W, T, C, V, P>>,
 ) -> (
     Kept<O>,
-    Vec<Watched<A, W, T, V, P>>,
+    Vec<Watched<A, W, T, C, V, P>>,
     Result<Vec<End>, AllocError>,
 )
     requires few { vec_len lines < 2 ^ 32 }
-    ensures { ServesLaps A.did A.failures W.went W.failures T.did T.failures V.went P.went plan.now kept result.0 lines.items result.1.items
+    ensures { ServesLaps A.did A.failures W.went W.failures T.did T.failures C.did V.went P.went plan.now kept result.0 lines.items result.1.items
         result.2 }
 {
     match room_for(plan.alloc, lines.len()) {

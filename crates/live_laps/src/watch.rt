@@ -1,7 +1,7 @@
 //! To whom it is reported how a line goes on.
 ghost use Rattle.std.specs.Prelude.{◌≡◌};
 
-use crate::book::Worked;
+use crate::book::{Drops, Worked};
 use crate::line::LineName;
 use live_agent::End;
 use live_lock::Counts;
@@ -20,6 +20,9 @@ pub trait Watch: Drop {
     /// Another of the same, for another line.
     fn another(&self) -> Self
         ensures { result ≡ self.now };
+
+    /// The datagrams that each cause dropped so far, for an operator who asks for them.
+    fn dropped<R: Wait>(&self, rt: &R) -> Drops;
 
     /// At the end of each interval of a worker: its counts.
     fn worked<R: Wait>(&mut self, rt: &R, worked: Worked)

@@ -3,9 +3,9 @@
 use Rattle.std.proofs.Common.{◌≡◌, ℕ, zero, suc, ◌+◌, ◌<◌, ◌∙◌, ap, sym, subst, false, arith, List, [], ◌∷◌, ◌++◌, length}
 use Rattle.message_core.specs.declared.binding.Binding.{Binding}
 use Rattle.setting_keys.specs.declared.SettingKey.{SettingKey}
-use Rattle.setting_keys.specs.declared.SettingKey.TheVariants.{Bridge, Made, Allowed}
+use Rattle.setting_keys.specs.declared.SettingKey.TheVariants.{Bridge, Made, Allowed, FamilyMask, FamilyType}
 use Rattle.setting_keys.specs.declared.SettingValue.{SettingValue}
-use Rattle.setting_keys.specs.declared.SettingValue.TheVariants.{Number, Ports}
+use Rattle.setting_keys.specs.declared.SettingValue.TheVariants.{Number, Ports, Mask}
 use Rattle.setphase_core.specs.declared.object.Slot.{Slot}
 use Rattle.setphase_core.specs.declared.staging.Staged.{Staged}
 use Rattle.setphase_core.specs.declared.staging.Standing.TheVariants.{First}
@@ -19,8 +19,11 @@ use Rattle.setphase_core.specs.Tested.{staged_by, IsPassedAt, IsPassed}
 pub plain_room : (w : World) (k : SettingKey) (v : SettingValue) → is_static k ≡ false → HasRoom w k v
 plain_room w (Bridge k) (Number n) e = tt
 plain_room w (Bridge k) (Ports s) e = tt
+plain_room w (Bridge k) (Mask m) e = tt
 plain_room w (Made i) v e = absurd (cc)
 plain_room w (Allowed i) v e = absurd (cc)
+plain_room w (FamilyMask n) v e = tt
+plain_room w (FamilyType n) v e = tt
 
 passed_plain : (os ns : List ObjectState) (w : World) (b : Binding) (es fs : List Staged) (n p : ℕ)
     (slot : Slot) (v : TestedVariable) → IsPassedAt os ns w b es fs n p slot v → is_static v.key ≡ false →

@@ -1,4 +1,4 @@
-//! The 55 objects as boxed ones: a registry takes them in the order of their names, and hands each
+//! The 57 objects as boxed ones: a registry takes them in the order of their names, and hands each
 //! of them back where it refuses them.
 use bridge_mib::Steady;
 use object_list::{COLUMNS, Object};
@@ -7,8 +7,9 @@ use std::alloc::Global;
 use std::io::Write;
 use std::test::Fail;
 
-/// The objects' names behind dot1dBridge (RFC 4188, RFC 4318).
-pub const NAMES: [&str; 55] = [
+/// The objects' names behind dot1dBridge (RFC 4188, RFC 4318), and those that stand elsewhere whole
+/// (RFC 3415).
+pub const NAMES: [&str; 57] = [
     "1.1",
     "1.2",
     "1.3",
@@ -64,10 +65,12 @@ pub const NAMES: [&str; 55] = [
     "5.1.1.2",
     "5.1.1.3",
     "5.1.1.4",
+    "1.3.6.1.6.3.16.1.5.2.1.3",
+    "1.3.6.1.6.3.16.1.5.2.1.4",
 ];
 
-/// Appends numbers, each behind a dot but the first.
-pub fn say_numbers(numbers: &[u32], text: &mut Vec<u8>) -> Result<(), Fail> {
+// Appends numbers, each behind a dot but the first.
+fn say_numbers(numbers: &[u32], text: &mut Vec<u8>) -> Result<(), Fail> {
     for (place, number) in numbers.iter().enumerate() {
         if place > 0 {
             text.push(b'.')?;
@@ -89,12 +92,16 @@ fn boxed(alloc: Global, columns: &[Column]) -> Result<Vec<AnyObject>, Fail> {
     Ok(objects)
 }
 
+/// Appends the numbers of a name behind dot1dBridge, or all of them where it stands elsewhere.
+pub fn say_name(name: &[u32], text: &mut Vec<u8>) -> Result<(), Fail> {
+    let rest = name.strip_prefix(&[1, 3, 6, 1, 2, 1, 17]);
+    say_numbers(rest.unwrap_or(name), text)
+}
+
 // The name of an object behind dot1dBridge, or all of it where it stands elsewhere.
 fn name_of<O: MibObject>(alloc: Global, object: &O) -> Result<Vec<u8>, Fail> {
     let mut text = Vec::new(alloc);
-    let name = object.prefix();
-    let rest = name.strip_prefix(&[1, 3, 6, 1, 2, 1, 17]);
-    say_numbers(rest.unwrap_or(name), &mut text)?;
+    say_name(object.prefix(), &mut text)?;
     Ok(text)
 }
 
@@ -123,7 +130,7 @@ fn end_of<O: MibObject>(alloc: Global, objects: Vec<O>, names: &[&str]) -> Resul
 }
 
 // The columns, and their names, of which two are exchanged.
-fn exchanged() -> ([Column; 55], [&'static str; 55]) {
+fn exchanged() -> ([Column; 57], [&'static str; 57]) {
     let (mut columns, mut names) = (COLUMNS, NAMES);
     columns.swap(6, 7);
     names.swap(6, 7);
@@ -131,7 +138,7 @@ fn exchanged() -> ([Column; 55], [&'static str; 55]) {
 }
 
 // The columns, and their names, of which one is there twice.
-fn doubled() -> ([Column; 55], [&'static str; 55]) {
+fn doubled() -> ([Column; 57], [&'static str; 57]) {
     let (mut columns, mut names) = (COLUMNS, NAMES);
     columns[2] = COLUMNS[1];
     names[2] = NAMES[1];
@@ -141,8 +148,8 @@ fn doubled() -> ([Column; 55], [&'static str; 55]) {
 // Whether the objects of these columns have these names, and how a registry of them ends.
 fn registration(
     alloc: Global,
-    columns: [Column; 55],
-    names: [&'static str; 55],
+    columns: [Column; 57],
+    names: [&'static str; 57],
 ) -> Result<(bool, End), Fail> {
     let objects = boxed(alloc, &columns)?;
     let named = are(alloc, objects.as_slice(), &names)?;
@@ -152,7 +159,7 @@ fn registration(
 #[test]
 fn a_registry_takes_objects_in_order(rt: HostRuntime) -> Result<(), Fail> {
     let all = registration(rt.alloc(), COLUMNS, NAMES)?;
-    assert_eq!(rt; all, (true, (Ok(55), true)));
+    assert_eq!(rt; all, (true, (Ok(57), true)));
     Ok(())
 }
 

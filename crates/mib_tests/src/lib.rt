@@ -1,7 +1,7 @@
-//! Tests of the 55 objects of a bridge: what a registry makes of them as boxed ones, in how many
+//! Tests of the 57 objects of a bridge: what a registry makes of them as boxed ones, in how many
 //! comparisons it finds the object of a name, what each of them reserves for a Set, Sets of one of
-//! them whose device fails, and Sets of as many static rows as there are places. And of the registry
-//! and of settings by key, with objects made by hand.
+//! them whose device fails, Sets of as many static rows as there are places, and the rows of
+//! vacmViewTreeFamilyTable. And of the registry and of settings by key, with objects made by hand.
 //!
 //! # Entry points
 //! None: the tests call what `object_list` and `setphase_core` offer.
@@ -18,6 +18,8 @@
 
 #[cfg(test)]
 mod boxed;
+#[cfg(test)]
+mod families;
 #[cfg(test)]
 mod owners;
 #[cfg(test)]

@@ -1,9 +1,9 @@
-//! The object of a name among the 55, which six comparisons find, or find that there is none.
+//! The object of a name among the 57, which six comparisons find, or find that there is none.
 ghost use Rattle.std.specs.Prelude.{◌≡◌, ◌+◌, ◌<◌, ◌≤◌, IfOk};
 ghost use Rattle.setphase_core.specs.Registry.{rows_of};
 ghost use Rattle.setphase_core.specs.Names.{bridge_rows};
 
-use crate::boxed::{NAMES, say_numbers};
+use crate::boxed::{NAMES, say_name};
 use bridge_mib::Steady;
 use object_list::{Object, objects};
 use setphase_core::laws::{an_object_takes_a_comparison, objects_are_accepted};
@@ -15,18 +15,19 @@ use std::test::Fail;
 use steps::Steps;
 
 // Names of no object: before all, between two, behind all.
-const NAMES_OF_NONE: [&[u32]; 7] = [
+const NAMES_OF_NONE: [&[u32]; 8] = [
     &[0, 0],
     &[1, 3, 6, 1, 2, 1, 17],
     &[1, 3, 6, 1, 2, 1, 17, 2, 18, 0],
     &[1, 3, 6, 1, 2, 1, 17, 3, 1],
     &[1, 3, 6, 1, 2, 1, 17, 4, 5],
     &[1, 3, 6, 1, 2, 1, 17, 5, 1, 1, 5],
+    &[1, 3, 6, 1, 6, 3, 16, 1, 5, 2, 1, 5],
     &[2, 5],
 ];
 
-// All objects of a bridge.
-fn all_objects(alloc: Global) -> Result<Registry<Object<Steady>>, Fail>
+/// All objects of a bridge and its policy.
+pub fn all_objects(alloc: Global) -> Result<Registry<Object<Steady>>, Fail>
     ensures { IfOk result (λ registry. rows_of registry ≡ bridge_rows) }
 {
     match Registry::new(objects(alloc, Steady)?) {
@@ -65,7 +66,7 @@ fn owner_of<'a, L: Ledger>(
     owner_in_six(registry, name, &mut steps)
 }
 
-// Says the name of the object of a name behind dot1dBridge, or nothing.
+// Says the name of the object of a name, behind dot1dBridge or whole, or nothing.
 fn say_owner(
     alloc: Global,
     registry: &Registry<Object<Steady>>,
@@ -75,8 +76,8 @@ fn say_owner(
 {
     let mut text = Vec::new(alloc);
     let owner = owner_of::<Brand>(registry, name, Blank::new(1));
-    if let Some([1, 3, 6, 1, 2, 1, 17, rest @ ..]) = owner {
-        say_numbers(rest, &mut text)?;
+    if let Some(owner) = owner {
+        say_name(owner, &mut text)?;
     }
     Ok(text)
 }

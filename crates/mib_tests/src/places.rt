@@ -1,9 +1,11 @@
 //! What each object reserves of its 64 places.
-use crate::worlds::{port, world_of};
+use crate::worlds::{port, seen_world_of};
 use bridge_mib::Steady;
 use message_core::{Octets, Value};
 use object_list::{COLUMNS, Object};
-use setphase_core::{Column, ExtPort, MibObject, Rapid, SetFault, Static, Stp, StpPort, Tp, World};
+use setphase_core::{
+    Column, ExtPort, Family, MibObject, Rapid, SetFault, Static, Stp, StpPort, Tp, World,
+};
 use std::alloc::Global;
 use std::test::Fail;
 
@@ -14,8 +16,11 @@ type Written = (Column, &'static [u32], i32, i32);
 // The index of a static row: frames to 02-00-00-00-01-01 by any port.
 const ROW: [u32; 7] = [2, 0, 0, 0, 1, 1, 0];
 
-// The objects that take INTEGERs of a Set, by their names (RFC 4188, RFC 4318).
-const WRITTEN: [Written; 16] = [
+// The index of the family of the view `all` (RFC 3415): each part behind its length.
+const FAMILY: [u32; 12] = [3, 97, 108, 108, 7, 1, 3, 6, 1, 2, 1, 17];
+
+// The objects that take INTEGERs of a Set, by their names (RFC 4188, RFC 4318, RFC 3415).
+const WRITTEN: [Written; 17] = [
     (Column::Stp(Stp::Priority), &[0], 61_440, 4_095),
     (Column::Stp(Stp::BridgeMaxAge), &[0], 600, 500),
     (Column::Stp(Stp::BridgeHelloTime), &[0], 1_000, 1_100),
@@ -32,11 +37,12 @@ const WRITTEN: [Written; 16] = [
     (Column::ExtPort(ExtPort::AdminPathCost), &[1], 0, -1),
     (Column::Tp(Tp::AgingTime), &[0], 1_000_000, 9),
     (Column::Static(Static::Status), &ROW, 3, 4),
+    (Column::Family(Family::Type), &FAMILY, 2, 3),
 ];
 
-// A world of one port.
+// A world of one port, whose policy has one family.
 fn one_port(alloc: Global) -> Result<World, Fail> {
-    world_of(alloc, &[port(1, 1_000, true)])
+    seen_world_of(alloc, &[port(1, 1_000, true)])
 }
 
 // The object of a column, of which a test of an instance took all 64 places.
@@ -52,7 +58,7 @@ fn filled(world: &World, column: Column, at: &[u32], right: i32) -> Result<Objec
 
 // The faults of tests that find all places taken, and how many slots are reserved then. All but the
 // first keep their fault: another type, a value that the object does not take, an instance that
-// there is not (port 2, and a scalar's at .2).
+// there is not (port 2, a scalar's at .2, and a row of such an index).
 fn faults(world: &World, written: Written) -> Result<([Option<SetFault>; 4], usize), Fail> {
     let (column, at, right, wrong) = written;
     let mut object = filled(world, column, at, right)?;
@@ -86,11 +92,16 @@ fn octets(alloc: Global, octets: &[u8]) -> Result<Value, Fail> {
     Ok(Value::OctetString(Octets::from_slice(alloc, octets)?))
 }
 
-// The object of the ports of static rows, of which a test of a row took all 64 places.
-fn filled_by(world: &World, right: &Value) -> Result<Object<Steady>, Fail> {
-    let mut object = Object::over(ALLOWED, &mut Some(Steady));
+// The object of a column that takes octets, of which a test of a row took all 64 places.
+fn filled_by(
+    world: &World,
+    column: Column,
+    at: &[u32],
+    right: &Value,
+) -> Result<Object<Steady>, Fail> {
+    let mut object = Object::over(column, &mut Some(Steady));
     for _ in 0..64 {
-        if object.test(world, &ROW, right).is_err() {
+        if object.test(world, at, right).is_err() {
             return Err(Fail::from("a place"));
         }
     }
@@ -98,6 +109,8 @@ fn filled_by(world: &World, right: &Value) -> Result<Object<Steady>, Fail> {
 }
 
 const ALLOWED: Column = Column::Static(Static::AllowedToGoTo);
+
+const MASK: Column = Column::Family(Family::Mask);
 
 // All but the first keep their fault: another type, 513 octets, the bit of a port that there is not,
 // and a scalar's instance.
@@ -115,7 +128,7 @@ fn has_64_places_for_sets_of_ports(rt: HostRuntime) -> Result<(), Fail> {
     let right = octets(rt.alloc(), &[0x80])?;
     let long = octets(rt.alloc(), &[0; 513])?;
     let other = octets(rt.alloc(), &[0x40])?;
-    let mut object = filled_by(&world, &right)?;
+    let mut object = filled_by(&world, ALLOWED, &ROW, &right)?;
     let faults = [
         object.test(&world, &ROW, &right).err(),
         object.test(&world, &ROW, &Value::Integer(1)).err(),
@@ -127,9 +140,33 @@ fn has_64_places_for_sets_of_ports(rt: HostRuntime) -> Result<(), Fail> {
     Ok(())
 }
 
+// All but the first keep their fault: another type, 17 octets, and an index that no row has.
+const MASK_FAULTS: [Option<SetFault>; 4] = [
+    Some(SetFault::ResourceUnavailable),
+    Some(SetFault::WrongType),
+    Some(SetFault::WrongLength),
+    Some(SetFault::NoCreation),
+];
+
+#[test]
+fn has_64_places_for_masks(rt: HostRuntime) -> Result<(), Fail> {
+    let world = one_port(rt.alloc())?;
+    let right = octets(rt.alloc(), &[0xFE])?;
+    let long = octets(rt.alloc(), &[0; 17])?;
+    let mut object = filled_by(&world, MASK, &FAMILY, &right)?;
+    let faults = [
+        object.test(&world, &FAMILY, &right).err(),
+        object.test(&world, &FAMILY, &Value::Integer(1)).err(),
+        object.test(&world, &FAMILY, &long).err(),
+        object.test(&world, &[0], &right).err(),
+    ];
+    assert_eq!(rt; (faults, object.held()), (MASK_FAULTS, 64));
+    Ok(())
+}
+
 // Whether a Set writes an object.
 fn is_written(column: Column) -> bool {
-    column == ALLOWED || WRITTEN.iter().any(|(written, ..)| *written == column)
+    column == ALLOWED || column == MASK || WRITTEN.iter().any(|(written, ..)| *written == column)
 }
 
 // The fault of the test of an INTEGER, and how many slots are reserved then.

@@ -40,18 +40,18 @@ pub fn port(ifindex: u32, speed: u32, full: bool) -> PortConfig
 
 /// A bridge of these ports, as it opens, under a policy of no rows.
 pub fn world_of(alloc: Global, ports: &[PortConfig]) -> Result<World, Fail> {
-    world_under(alloc, ports, NO_POLICY)
+    world_under(alloc, ports, NO_POLICY.as_bytes())
 }
 
 /// The same of these ports under a policy of one view, `all`, in which all of the bridge is.
 pub fn seen_world_of(alloc: Global, ports: &[PortConfig]) -> Result<World, Fail> {
-    world_under(alloc, ports, ALL_SEEN)
+    world_under(alloc, ports, ALL_SEEN.as_bytes())
 }
 
-// A bridge of these ports, as it opens, under this policy.
-fn world_under(alloc: Global, ports: &[PortConfig], policy: &str) -> Result<World, Fail> {
+/// A bridge of these ports, as it opens, under this policy.
+pub fn world_under(alloc: Global, ports: &[PortConfig], policy: &[u8]) -> Result<World, Fail> {
     let bridge = Bridge::new(alloc, OWN, ports).ok().ok_or("a bridge")?;
-    let policy = policy_in(alloc, policy.as_bytes())?.ok_or("a policy")?;
+    let policy = policy_in(alloc, policy)?.ok_or("a policy")?;
     Ok(World {
         bridge,
         policy,

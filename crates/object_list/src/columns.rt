@@ -8,12 +8,13 @@ use crate::object::Object;
 use bridge_mib::{LineDriver, PortEnable};
 use setphase_core::laws::objects_are_accepted;
 use setphase_core::{
-    Base, BasePort, Column, ExtPort, Rapid, Static, Stp, StpPort, Tp, TpFdb, TpPort,
+    Base, BasePort, Column, ExtPort, Family, Rapid, Static, Stp, StpPort, Tp, TpFdb, TpPort,
 };
 use std::alloc::{AllocError, Global};
 
-/// What the objects of a bridge show, in the order of the objects' names (RFC 4188, RFC 4318).
-pub const COLUMNS: [Column; 55] = [
+/// What the objects of a bridge show, in the order of the objects' names (RFC 4188, RFC 4318, RFC
+/// 3415).
+pub const COLUMNS: [Column; 57] = [
     Column::Base(Base::BridgeAddress),
     Column::Base(Base::NumPorts),
     Column::Base(Base::Type),
@@ -69,6 +70,8 @@ pub const COLUMNS: [Column; 55] = [
     Column::Static(Static::ReceivePort),
     Column::Static(Static::AllowedToGoTo),
     Column::Static(Static::Status),
+    Column::Family(Family::Mask),
+    Column::Family(Family::Type),
 ];
 
 /// The place of dot1dStpPortEnable in [`COLUMNS`], counted from 0.

@@ -6,6 +6,7 @@ use message_core::Value;
 use rstp_mib::{ExtPortDescriptor, RapidDescriptor};
 use setphase_core::{Column, Index, World, Writable};
 use std::alloc::Global;
+use vacm_mib::FamilyDescriptor;
 
 /// A column of any module, by its descriptor.
 #[derive(Clone, Copy, Debug)]
@@ -29,6 +30,7 @@ impl Descriptor for ColumnDescriptor {
             Column::TpFdb(which) => which.prefix(),
             Column::TpPort(which) => which.prefix(),
             Column::Static(which) => which.prefix(),
+            Column::Family(which) => FamilyDescriptor(which).prefix(),
         }
     }
 
@@ -44,6 +46,7 @@ impl Descriptor for ColumnDescriptor {
             Column::TpFdb(which) => which.read(alloc, world, at),
             Column::TpPort(which) => which.read(alloc, world, at),
             Column::Static(which) => which.read(alloc, world, at),
+            Column::Family(which) => FamilyDescriptor(which).read(alloc, world, at),
         }
     }
 
@@ -59,6 +62,7 @@ impl Descriptor for ColumnDescriptor {
             Column::TpFdb(which) => which.next_into(world, after, into),
             Column::TpPort(which) => which.next_into(world, after, into),
             Column::Static(which) => which.next_into(world, after, into),
+            Column::Family(which) => FamilyDescriptor(which).next_into(world, after, into),
         }
     }
 
@@ -74,6 +78,7 @@ impl Descriptor for ColumnDescriptor {
             Column::TpFdb(which) => which.writable(),
             Column::TpPort(which) => which.writable(),
             Column::Static(which) => which.writable(),
+            Column::Family(which) => FamilyDescriptor(which).writable(),
         }
     }
 }

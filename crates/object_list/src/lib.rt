@@ -1,11 +1,11 @@
-//! The managed objects of a bridge in the order of their names (RFC 4188, RFC 4318), one type for
-//! all of them.
+//! The managed objects of a bridge and its policy in the order of their names (RFC 4188, RFC 4318,
+//! RFC 3415), one type for all of them.
 //!
 //! # Entry points
 //! [`ColumnDescriptor`]: the descriptor of any column, which does what that of the column's module
 //! does; [`PlainObject`]: the managed object of it, without a device. [`Object`]: a plain object, or
 //! dot1dStpPortEnable over a driver, by `of` a column, or by `over` a column and a driver, which
-//! dot1dStpPortEnable takes. [`COLUMNS`]: the columns of the 55 objects in the order of their names;
+//! dot1dStpPortEnable takes. [`COLUMNS`]: the columns of the 57 objects in the order of their names;
 //! [`objects`]: the objects themselves, dot1dStpPortEnable over a driver, of which `Registry::new`
 //! makes a registry. [`ENABLE`] is the place of dot1dStpPortEnable among them, counted from 0.
 //!

@@ -1,15 +1,21 @@
 -- Settings that are given values one after the other, and one among them that is put back.
-use Rattle.std.proofs.Common.{◌≡◌, ◌≢◌, ℕ, zero, suc, ◌+◌, ◌<◌, ◌≤◌, ◌∙◌, sym, ap, subst, refl, Bool, true, false, List, [], ◌∷◌, ◌++◌, length, take, drop, arith, add-one, append_assoc}
-use Rattle.std.proofs.lemmas.List.{take-map}
+use Rattle.std.proofs.Common.{◌≡◌, ◌≢◌, ℕ, zero, suc, ◌+◌, ◌<◌, ◌≤◌, ◌∙◌, sym, ap, subst, refl, Bool, true, false, List, [], ◌∷◌, ◌++◌, length, take, drop, slice_index_or, arith, add-one, append_assoc}
+use Rattle.std.proofs.lemmas.List.{take-map, get_or_default}
 use Rattle.setting_keys.specs.declared.SettingKey.{SettingKey}
 use Rattle.setting_keys.specs.declared.SettingValue.{SettingValue}
 use Rattle.setphase_core.specs.declared.object.Assignment.{Assignment}
 use Rattle.setphase_core.specs.declared.staging.Staged.{Staged}
 use Rattle.setphase_core.specs.declared.world.World.{World}
 use Rattle.setphase_core.specs.Settings.{setting, put, HasSetting, IsSettingInRange, same_setting}
-use Rattle.setphase_core.specs.Staging.{assignment_of_entry, assignments_of, entry_at, Without, IsDistinct, IsLegal, AreLegal}
+use Rattle.setphase_core.specs.Staging.{assignment_of_entry, assignments_of, no_entry, entry_at, Without, IsDistinct, IsLegal, AreLegal}
 use Rattle.setphase_core.specs.Together.{assign}
 use Rattle.setphase_core.proofs.Puts.{setting-put_other, put-restored, puts-commuted, keys-kept, range-kept, range-before, same-exact}
+
+-- An entry that is read where it stands, in a list that is this one.
+pub entry_read : (es fs : List Staged) (k : ℕ) (x : Staged) → fs ≡ es → k < length es →
+    x ≡ slice_index_or fs k x → x ≡ entry_at es k
+entry_read es fs k x same h is =
+    is ∙ ap (λ (xs : List Staged). slice_index_or xs k x) same ∙ get_or_default es k x no_entry h
 
 pub different : (k l : SettingKey) → k ≢ l → same_setting k l ≡ false
 different k l ne = off (same_setting k l) refl

@@ -1,5 +1,5 @@
 -- `==` of keys and of values is their sameness.
-use Rattle.std.proofs.Common.{◌≡◌, Bool, true, false, refl, sym, ap, ap₂, List, rules}
+use Rattle.std.proofs.Common.{◌≡◌, ◌∙◌, ℕ, ◌-◌, Bool, true, false, refl, sym, ap, ap₂, List, [], ◌∷◌, ◌++◌, length, take, replicate, rules}
 use Rattle.std.specs.Prelude.{◌&&◌}
 use Rattle.std.specs.Bool.{Decides}
 use Rattle.std.specs.Cmp.{unsigned_Decides, booleans_Decides}
@@ -8,6 +8,9 @@ use Rattle.fdb_core.specs.declared.port_set.PortSet.{PortSet}
 use Rattle.fdb_core.specs.declared.static_row.StaticIndex.{StaticIndex}
 use Rattle.fdb_core.specs.contracts.port_set.PortSetPartialEq.TheImpl as sets
 use Rattle.fdb_core.specs.contracts.static_row.StaticIndexPartialEq.TheImpl as indexes
+use Rattle.vacm_core.specs.contracts.name.MaskPartialEq.TheImpl as masks
+use Rattle.vacm_core.specs.declared.limits.TheConstants.{MAX_MASK}
+use Rattle.vacm_core.specs.Masks.{with_zeros}
 use Rattle.rstp_settings.specs.declared.key.Key.{Key}
 use Rattle.rstp_settings.specs.declared.key.Key.TheVariants as key
 use Rattle.rstp_settings.specs.declared.key.BridgeKey.{BridgeKey}
@@ -16,9 +19,9 @@ use Rattle.rstp_settings.specs.contracts.key.KeyPartialEq.TheImpl as keys
 use Rattle.rstp_settings.specs.contracts.key.BridgeKeyPartialEq.TheImpl as bridge_keys
 use Rattle.rstp_settings.specs.contracts.key.PortKeyPartialEq.TheImpl as port_keys
 use Rattle.setting_keys.specs.declared.SettingKey.{SettingKey}
-use Rattle.setting_keys.specs.declared.SettingKey.TheVariants.{Bridge, Made, Allowed}
+use Rattle.setting_keys.specs.declared.SettingKey.TheVariants.{Bridge, Made, Allowed, FamilyMask, FamilyType}
 use Rattle.setting_keys.specs.declared.SettingValue.{SettingValue}
-use Rattle.setting_keys.specs.declared.SettingValue.TheVariants.{Number, Ports}
+use Rattle.setting_keys.specs.declared.SettingValue.TheVariants.{Number, Ports, Mask}
 use Rattle.setting_keys.specs.contracts.SettingKeyPartialEq.TheImpl as setting_keys
 use Rattle.setting_keys.specs.contracts.SettingValuePartialEq.TheImpl as setting_values
 use Rattle.setphase_core.specs.Settings.{same_setting, same_value}
@@ -61,22 +64,59 @@ key_decides (key.Port n a) (key.Bridge b) = ((λ e. cc), λ e. cc)
 key_decides (key.Port n a) (key.Port m b) =
     amounts _ (both _ _ (unsigned_Decides n m) (port_key_decides a b)) (λ p. ap₂ key.Port p.0 p.1) (λ e. (cc, cc))
 
+front_of : (xs ys : List ℕ) → take (length xs) (xs ++ ys) ≡ xs
+front_of [] ys = refl
+front_of (x ∷ xs) ys = ap (λ (zs : List ℕ). x ∷ zs) (front_of xs ys)
+
+-- Masks are kept with zeros behind them, and with their lengths.
+octets_of : (a b : List ℕ) → with_zeros a ≡ with_zeros b → length a ≡ length b → a ≡ b
+octets_of a b same long =
+    sym (front_of a (replicate (MAX_MASK - length a) 0))
+    ∙ ap₂ (λ (n : ℕ) (l : List ℕ). take n l) long same
+    ∙ front_of b (replicate (MAX_MASK - length b) 0)
+
+mask_decides : (a b : List ℕ) → Decides (masks.eq-value.it a b) (a ≡ b)
+mask_decides a b =
+    amounts _ (both _ _ (slice_eq-Decides unsigned_Decides (with_zeros a) (with_zeros b) _ refl) (unsigned_Decides (length a) (length b)))
+    (λ h. octets_of a b h.0 h.1) (λ e. (ap with_zeros e, ap length e))
+
 setting_decides : (k l : SettingKey) → Decides (setting_keys.eq-value.it k l) (k ≡ l)
 setting_decides (Bridge a) (Bridge b) = amounts _ (key_decides a b) (ap Bridge) (λ e. cc)
-setting_decides (Bridge a) (Made j) = ((λ e. cc), λ e. cc)
-setting_decides (Bridge a) (Allowed j) = ((λ e. cc), λ e. cc)
-setting_decides (Made i) (Bridge b) = ((λ e. cc), λ e. cc)
-setting_decides (Made i) (Made j) = amounts _ (index_decides i j) (ap Made) (λ e. cc)
-setting_decides (Made i) (Allowed j) = ((λ e. cc), λ e. cc)
-setting_decides (Allowed i) (Bridge b) = ((λ e. cc), λ e. cc)
-setting_decides (Allowed i) (Made j) = ((λ e. cc), λ e. cc)
-setting_decides (Allowed i) (Allowed j) = amounts _ (index_decides i j) (ap Allowed) (λ e. cc)
+setting_decides (Bridge a) (Made b) = ((λ e. cc), λ e. cc)
+setting_decides (Bridge a) (Allowed b) = ((λ e. cc), λ e. cc)
+setting_decides (Bridge a) (FamilyMask b) = ((λ e. cc), λ e. cc)
+setting_decides (Bridge a) (FamilyType b) = ((λ e. cc), λ e. cc)
+setting_decides (Made a) (Bridge b) = ((λ e. cc), λ e. cc)
+setting_decides (Made a) (Made b) = amounts _ (index_decides a b) (ap Made) (λ e. cc)
+setting_decides (Made a) (Allowed b) = ((λ e. cc), λ e. cc)
+setting_decides (Made a) (FamilyMask b) = ((λ e. cc), λ e. cc)
+setting_decides (Made a) (FamilyType b) = ((λ e. cc), λ e. cc)
+setting_decides (Allowed a) (Bridge b) = ((λ e. cc), λ e. cc)
+setting_decides (Allowed a) (Made b) = ((λ e. cc), λ e. cc)
+setting_decides (Allowed a) (Allowed b) = amounts _ (index_decides a b) (ap Allowed) (λ e. cc)
+setting_decides (Allowed a) (FamilyMask b) = ((λ e. cc), λ e. cc)
+setting_decides (Allowed a) (FamilyType b) = ((λ e. cc), λ e. cc)
+setting_decides (FamilyMask a) (Bridge b) = ((λ e. cc), λ e. cc)
+setting_decides (FamilyMask a) (Made b) = ((λ e. cc), λ e. cc)
+setting_decides (FamilyMask a) (Allowed b) = ((λ e. cc), λ e. cc)
+setting_decides (FamilyMask a) (FamilyMask b) = amounts _ (unsigned_Decides a b) (ap FamilyMask) (λ e. cc)
+setting_decides (FamilyMask a) (FamilyType b) = ((λ e. cc), λ e. cc)
+setting_decides (FamilyType a) (Bridge b) = ((λ e. cc), λ e. cc)
+setting_decides (FamilyType a) (Made b) = ((λ e. cc), λ e. cc)
+setting_decides (FamilyType a) (Allowed b) = ((λ e. cc), λ e. cc)
+setting_decides (FamilyType a) (FamilyMask b) = ((λ e. cc), λ e. cc)
+setting_decides (FamilyType a) (FamilyType b) = amounts _ (unsigned_Decides a b) (ap FamilyType) (λ e. cc)
 
 setting_value_decides : (u v : SettingValue) → Decides (setting_values.eq-value.it u v) (u ≡ v)
-setting_value_decides (Number n) (Number m) = amounts _ (unsigned_Decides n m) (ap Number) (λ e. cc)
-setting_value_decides (Number n) (Ports t) = ((λ e. cc), λ e. cc)
-setting_value_decides (Ports s) (Number m) = ((λ e. cc), λ e. cc)
-setting_value_decides (Ports s) (Ports t) = amounts _ (set_decides s t) (ap Ports) (λ e. cc)
+setting_value_decides (Number a) (Number b) = amounts _ (unsigned_Decides a b) (ap Number) (λ e. cc)
+setting_value_decides (Number a) (Ports b) = ((λ e. cc), λ e. cc)
+setting_value_decides (Number a) (Mask b) = ((λ e. cc), λ e. cc)
+setting_value_decides (Ports a) (Number b) = ((λ e. cc), λ e. cc)
+setting_value_decides (Ports a) (Ports b) = amounts _ (set_decides a b) (ap Ports) (λ e. cc)
+setting_value_decides (Ports a) (Mask b) = ((λ e. cc), λ e. cc)
+setting_value_decides (Mask a) (Number b) = ((λ e. cc), λ e. cc)
+setting_value_decides (Mask a) (Ports b) = ((λ e. cc), λ e. cc)
+setting_value_decides (Mask a) (Mask b) = amounts _ (mask_decides a b) (ap Mask) (λ e. cc)
 
 pub key_equal : (k l : SettingKey) → setting_keys.eq-value.it k l ≡ same_setting k l
 key_equal k l = alike _ _ (setting_decides k l) (same-exact k l)

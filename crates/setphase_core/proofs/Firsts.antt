@@ -2,10 +2,10 @@
 use Rattle.std.proofs.Common.{◌≡◌, ◌≢◌, ℕ, ◌∙◌, sym, ap, refl, Bool, true, false, not, cond, ◌&&◌, ◌||◌, List, [], ◌∷◌, ◌++◌, Option, Some, None, is_some, append_assoc}
 use Rattle.setting_keys.specs.declared.SettingKey.{SettingKey}
 use Rattle.setting_keys.specs.declared.SettingValue.{SettingValue}
-use Rattle.setting_keys.specs.declared.SettingValue.TheVariants.{Number, Ports}
+use Rattle.setting_keys.specs.declared.SettingValue.TheVariants.{Number, Ports, Mask}
 use Rattle.std.specs.Bool.{Decides}
 use Rattle.std.proofs.lemmas.Bool.Decides.{Decides-eqb, Decides-like}
-use Rattle.std.proofs.lemmas.Slice.Eq.{slice_eq-Decides}
+use Rattle.std.proofs.lemmas.Slice.Eq.{slice_eq-Decides, bytes_eq-Decides}
 use Rattle.fdb_core.specs.declared.port_set.PortSet.{PortSet}
 use Rattle.setphase_core.specs.declared.world.World.{World}
 use Rattle.setphase_core.specs.declared.object.Assignment.{Assignment}
@@ -16,7 +16,8 @@ use Rattle.setphase_core.specs.Together.{assign, assignments, contradicts}
 use Rattle.setphase_core.specs.Outcomes.{has_key, keys_of, firsts, committed_of}
 use Rattle.setphase_core.specs.Staging.{Without, IsDistinct, AreLegal}
 use Rattle.setphase_core.specs.Tested.{first_in, value_among, standing_by, is_contradicting}
-use Rattle.setphase_core.proofs.Puts.{put-put, puts-commuted, keys-kept, range-kept, same-exact}
+use Rattle.setphase_core.proofs.FamilyPuts.{same_bool-Decides}
+use Rattle.setphase_core.proofs.Puts.{same_number, same_set, same_octets, put-put, puts-commuted, keys-kept, range-kept, same-exact}
 use Rattle.setphase_core.proofs.Assigns.{legal_after}
 
 -- ---- numbers
@@ -32,28 +33,21 @@ first_in-append (Some n) xs ys = refl
 pub same_itself : (k : SettingKey) → same_setting k k ≡ true
 same_itself k = (same-exact k k).1 refl
 
-pub same_bool-Decides : (a b : Bool) → Decides (same_bool a b) (a ≡ b)
-same_bool-Decides true true = (λ e. refl, λ e. refl)
-same_bool-Decides true false = (λ e. sym e, λ e. sym e)
-same_bool-Decides false true = (λ e. e, λ e. e)
-same_bool-Decides false false = (λ e. refl, λ e. refl)
-
 pub same_ports-Decides : (s t : PortSet) → Decides (same_ports s t) (s ≡ t)
 same_ports-Decides s t =
     let of : List Bool → PortSet = λ ports. record { 0 = ports } in
     Decides-like _ (ap of) (ap (λ (x : PortSet). x.0)) (slice_eq-Decides {E = same_bool} same_bool-Decides s.0 t.0 _ refl)
 
 pub value-Decides : (u v : SettingValue) → Decides (same_value u v) (u ≡ v)
-value-Decides (Number n) (Number m) = Decides-like _ (ap Number) (λ (e : Number n ≡ Number m). same_number n m e) (Decides-eqb n m)
-  where
-    same_number : (n m : ℕ) → Number n ≡ Number m → n ≡ m
-    same_number n m e = cc
+value-Decides (Number n) (Number m) = Decides-like _ (ap Number) (same_number n m) (Decides-eqb n m)
 value-Decides (Number n) (Ports t) = (λ e. absurd cc, λ e. absurd cc)
+value-Decides (Number n) (Mask b) = (λ e. absurd cc, λ e. absurd cc)
 value-Decides (Ports s) (Number m) = (λ e. absurd cc, λ e. absurd cc)
-value-Decides (Ports s) (Ports t) = Decides-like _ (ap Ports) (λ (e : Ports s ≡ Ports t). same_set s t e) (same_ports-Decides s t)
-  where
-    same_set : (s t : PortSet) → Ports s ≡ Ports t → s ≡ t
-    same_set s t e = cc
+value-Decides (Ports s) (Ports t) = Decides-like _ (ap Ports) (same_set s t) (same_ports-Decides s t)
+value-Decides (Ports s) (Mask b) = (λ e. absurd cc, λ e. absurd cc)
+value-Decides (Mask a) (Number m) = (λ e. absurd cc, λ e. absurd cc)
+value-Decides (Mask a) (Ports t) = (λ e. absurd cc, λ e. absurd cc)
+value-Decides (Mask a) (Mask b) = Decides-like _ (ap Mask) (same_octets a b) (bytes_eq-Decides a b)
 
 pub value-exact : (u v : SettingValue) → same_value u v ≡ true → u ≡ v
 value-exact u v e = (value-Decides u v).0 e

@@ -1,4 +1,5 @@
 pub mod StaticPuts
+pub mod FamilyPuts
 pub mod Puts
 pub mod Below
 pub mod Ordered
@@ -10,6 +11,7 @@ pub mod Next
 pub mod Passed
 pub mod Walks
 pub mod AtSpots
+pub mod Families
 pub mod Rising
 pub mod Served
 pub mod Indexes

@@ -1,10 +1,11 @@
 -- What the objects show of a bridge as it opens, and that they make a registry.
-use Rattle.std.proofs.Common.{◌≡◌, ◌+◌, Bool, true, ◌&&◌, nat_le, List, [], ◌∷◌, map, length, None, refl, inl, inr}
+use Rattle.std.proofs.Common.{◌≡◌, ◌+◌, Bool, true, ◌&&◌, nat_le, List, [], ◌∷◌, map, length, None, refl, ap, ◌∙◌, inl, inr}
 use Rattle.std.proofs.lemmas.Bool.{and_parts}
 use Rattle.std.proofs.lemmas.Bool.Decides.{leb_tells}
 use Rattle.oid_core.specs.Order.{is_prefix}
 use Rattle.oid_core.specs.declared.limits.TheConstants.{MAX_NUMBERS}
-use Rattle.community_core.specs.Communities.{PolicyTables}
+use Rattle.vacm_core.specs.declared.tables.FamilyRow.{FamilyRow}
+use Rattle.community_core.specs.Communities.{PolicyTables, with_families}
 use Rattle.bridge_core.specs.Opening.{opening_bridge}
 use Rattle.bridge_core.specs.Facts.{facts_of, port_facts_of}
 use Rattle.setphase_core.specs.Columns.{shown_by, longest_index}
@@ -17,11 +18,14 @@ pub objects_accepted : first_fault bridge_rows ≡ None
 unfolding bridge_rows
 objects_accepted = refl
 
-pub opening_is : (policy : PolicyTables) → instances bridge_rows (opening_world policy) ≡ opening_instances
+opening_without : (policy : PolicyTables) → instances bridge_rows (opening_world (with_families policy [])) ≡ opening_instances
 unfolding bridge_rows instances shown_by facts_of port_facts_of opening_bridge opening_instances
-opening_is policy = refl
+opening_without policy = refl
 
-pub objects_count : length bridge_rows ≡ 55
+pub opening_is : (policy : PolicyTables) → policy.vacm.families ≡ [] → instances bridge_rows (opening_world policy) ≡ opening_instances
+opening_is policy none = ap (λ (rows : List FamilyRow). instances bridge_rows (opening_world (with_families policy rows))) none ∙ opening_without policy
+
+pub objects_count : length bridge_rows ≡ 57
 unfolding bridge_rows
 objects_count = refl
 

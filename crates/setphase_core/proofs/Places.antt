@@ -84,6 +84,7 @@ index_at_most (column.Tp c) = omega arith
 index_at_most (column.TpFdb c) = omega arith
 index_at_most (column.TpPort c) = omega arith
 index_at_most (column.Static c) = omega arith
+index_at_most (column.Family c) = omega arith
 
 -- so names behind which any index may stand are those that a registry asks for
 pub named_of_taken : (rows : List ObjectRow) → TakeAnyIndex (prefixes_of rows) → AreNamed rows

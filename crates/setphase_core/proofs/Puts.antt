@@ -1,6 +1,7 @@
--- The settings of a world as a finite map, from those of its bridge and from its static rows.
-use Rattle.std.proofs.Common.{◌≡◌, ◌≢◌, ℕ, ◌≤◌, zero, suc, Bool, true, false, cond, nat_eq, List, length, refl, sym, ap, subst, ◌∙◌, ◌↔◌, arith}
-use Rattle.std.proofs.lemmas.Bool.Decides.{nat_tests}
+-- The settings of a world as a finite map, from those of its bridge, from its static rows and from the
+-- rows of view families.
+use Rattle.std.proofs.Common.{◌≡◌, ◌≢◌, ℕ, ◌<◌, ◌≤◌, zero, suc, Bool, true, false, cond, nat_eq, List, length, refl, sym, ap, subst, ◌∙◌, ◌↔◌, arith}
+use Rattle.std.proofs.lemmas.Bool.Decides.{nat_tests, Decides-eqb}
 use Rattle.std.proofs.lemmas.List.{length-set}
 use Rattle.rstp_settings.specs.declared.key.PortValues.{PortValues}
 use Rattle.rstp_settings.specs.Table.{Table, get, put as put_key, HasKey, same_key}
@@ -13,9 +14,9 @@ use Rattle.rstp_settings.specs.declared.key.PortKey.{PortKey}
 use Rattle.rstp_settings.specs.declared.key.PortKey.TheVariants as port
 use Rattle.rstp_settings.specs.Values.{same_bridge_key, same_port_key}
 use Rattle.setting_keys.specs.declared.SettingKey.{SettingKey}
-use Rattle.setting_keys.specs.declared.SettingKey.TheVariants.{Bridge, Made, Allowed}
+use Rattle.setting_keys.specs.declared.SettingKey.TheVariants.{Bridge, Made, Allowed, FamilyMask, FamilyType}
 use Rattle.setting_keys.specs.declared.SettingValue.{SettingValue}
-use Rattle.setting_keys.specs.declared.SettingValue.TheVariants.{Number, Ports}
+use Rattle.setting_keys.specs.declared.SettingValue.TheVariants.{Number, Ports, Mask}
 use Rattle.fdb_core.specs.declared.port_set.PortSet.{PortSet}
 use Rattle.fdb_core.specs.declared.static_row.StaticIndex.{StaticIndex}
 use Rattle.fdb_core.specs.declared.static_row.StaticRow.{StaticRow}
@@ -25,7 +26,10 @@ use Rattle.fdb_core.proofs.StaticFound.{same_tables}
 use Rattle.bridge_core.specs.Bridge.{BridgeState, port_count}
 use Rattle.bridge_core.specs.Statics.{is_made_in, ports_of, is_made, allowed, with_static, set_made, set_allowed, HasStatics}
 use Rattle.bridge_core.proofs.StaticKept.{allowed_ports, with_row}
-use Rattle.setphase_core.specs.Settings.{setting, put, HasSetting, HasStaticSetting, IsSettingInRange, made_number, made_by, same_index, same_setting, is_static, with_settings, with_rows}
+use Rattle.vacm_core.specs.Changes.{with_mask, with_type}
+use Rattle.vacm_core.specs.declared.tables.FamilyRow.{FamilyRow}
+use Rattle.setphase_core.specs.Settings.{families_of, setting, put, HasSetting, HasStaticSetting, IsSettingInRange, made_number, made_by, included_by, mask_at, type_at, same_index, same_setting, is_static, with_settings, with_rows, with_families_in, with_marks_of}
+use Rattle.setphase_core.proofs.FamilyPuts.{mask_put, mask_elsewhere, mask_kept, mask_twice, mask_again, masks_either, masks_long, type_put, type_elsewhere, type_kept, type_twice, type_again, types_either, types_long, marks_either, marks_agree}
 use Rattle.setphase_core.proofs.StaticPuts.{index-exact, index-itself, index-other, left_by, same_there, rising_with, made_twice, allowed_twice, made_again, allowed_again, made_either, allowed_either, both_either, made_after, ports_after, made_others, allowed_others, made_keeps_ports, allowed_keeps_made}
 use Rattle.setphase_core.specs.declared.world.World.{World}
 
@@ -71,53 +75,144 @@ allowed-kept w i j n h = ap Ports (made_keeps_ports (port_count w.bridge) w.brid
 made-kept : (w : World) (i j : StaticIndex) (s : PortSet) → HasStatics w.bridge → setting (put w (Allowed i) (Ports s)) (Made j) ≡ setting w (Made j)
 made-kept w i j s h = ap (λ (m : Bool). Number (made_number m)) (allowed_keeps_made (port_count w.bridge) w.bridge.statics.rows h.rising h.rows i j s)
 
+-- What masks and types have after a put.
+mask-put : (w : World) (n k : ℕ) (m : List ℕ) (b : Bool) → nat_eq n k ≡ b → HasSetting w (FamilyMask n) → setting (put w (FamilyMask n) (Mask m)) (FamilyMask k) ≡ cond b (Mask m) (setting w (FamilyMask k))
+mask-put w n k m true e h =
+    let same : n ≡ k = grind (arith, nat_tests, e) in
+    ap (λ (i : ℕ). setting (put w (FamilyMask n) (Mask m)) (FamilyMask i)) (sym same)
+    ∙ ap Mask (mask_put (families_of w) n m h)
+mask-put w n k m false e h =
+    let other : n ≢ k = grind (arith, nat_tests, e) in
+    ap Mask (mask_elsewhere (families_of w) n k m other)
+
+type-put : (w : World) (n k t : ℕ) (b : Bool) → nat_eq n k ≡ b → HasSetting w (FamilyType n) → (1 ≤ t) × (t ≤ 2) → setting (put w (FamilyType n) (Number t)) (FamilyType k) ≡ cond b (Number t) (setting w (FamilyType k))
+type-put w n k t true e h range =
+    let same : n ≡ k = grind (arith, nat_tests, e) in
+    ap (λ (i : ℕ). setting (put w (FamilyType n) (Number t)) (FamilyType i)) (sym same)
+    ∙ ap Number (type_put (families_of w) n t h range)
+type-put w n k t false e h range =
+    let other : n ≢ k = grind (arith, nat_tests, e) in
+    ap Number (type_elsewhere (families_of w) n k (included_by t) other)
+
+type-kept : (w : World) (n k : ℕ) (m : List ℕ) → setting (put w (FamilyMask n) (Mask m)) (FamilyType k) ≡ setting w (FamilyType k)
+type-kept w n k m = ap Number (type_kept (families_of w) n k m)
+
+mask-kept : (w : World) (n k t : ℕ) → setting (put w (FamilyType n) (Number t)) (FamilyMask k) ≡ setting w (FamilyMask k)
+mask-kept w n k t = ap Mask (mask_kept (families_of w) n k (included_by t))
+
 pub setting-put : (w : World) (k l : SettingKey) (v : SettingValue) → HasSetting w k → HasSetting w l → IsSettingInRange w k v → setting (put w k v) l ≡ cond (same_setting k l) v (setting w l)
 setting-put w (Bridge k) (Bridge l) (Number n) h i range = bridge-put w k l n h i
 setting-put w (Bridge k) (Made l) (Number n) h i range = refl
 setting-put w (Bridge k) (Allowed l) (Number n) h i range = refl
+setting-put w (Bridge k) (FamilyMask l) (Number n) h i range = refl
+setting-put w (Bridge k) (FamilyType l) (Number n) h i range = refl
 setting-put w (Bridge k) l (Ports s) h i range = absurd range
+setting-put w (Bridge k) l (Mask m) h i range = absurd range
 setting-put w (Made k) (Bridge l) (Number n) h i range = refl
 setting-put w (Made k) (Made l) (Number n) h i range = made-put w k l n (same_index k l) refl i.rows range
 setting-put w (Made k) (Allowed l) (Number n) h i range = allowed-kept w k l n i.rows
+setting-put w (Made k) (FamilyMask l) (Number n) h i range = refl
+setting-put w (Made k) (FamilyType l) (Number n) h i range = refl
 setting-put w (Made k) l (Ports s) h i range = absurd range
+setting-put w (Made k) l (Mask m) h i range = absurd range
 setting-put w (Allowed k) l (Number n) h i range = absurd range
 setting-put w (Allowed k) (Bridge l) (Ports s) h i range = refl
 setting-put w (Allowed k) (Made l) (Ports s) h i range = made-kept w k l s i.rows
 setting-put w (Allowed k) (Allowed l) (Ports s) h i range = allowed-put w k l s (same_index k l) refl i.rows range
+setting-put w (Allowed k) (FamilyMask l) (Ports s) h i range = refl
+setting-put w (Allowed k) (FamilyType l) (Ports s) h i range = refl
+setting-put w (Allowed k) l (Mask m) h i range = absurd range
+setting-put w (FamilyMask k) l (Number n) h i range = absurd range
+setting-put w (FamilyMask k) l (Ports s) h i range = absurd range
+setting-put w (FamilyMask k) (Bridge l) (Mask m) h i range = refl
+setting-put w (FamilyMask k) (Made l) (Mask m) h i range = refl
+setting-put w (FamilyMask k) (Allowed l) (Mask m) h i range = refl
+setting-put w (FamilyMask k) (FamilyMask l) (Mask m) h i range = mask-put w k l m (nat_eq k l) refl h
+setting-put w (FamilyMask k) (FamilyType l) (Mask m) h i range = type-kept w k l m
+setting-put w (FamilyType k) (Bridge l) (Number n) h i range = refl
+setting-put w (FamilyType k) (Made l) (Number n) h i range = refl
+setting-put w (FamilyType k) (Allowed l) (Number n) h i range = refl
+setting-put w (FamilyType k) (FamilyMask l) (Number n) h i range = mask-kept w k l n
+setting-put w (FamilyType k) (FamilyType l) (Number n) h i range = type-put w k l n (nat_eq k l) refl h range
+setting-put w (FamilyType k) l (Ports s) h i range = absurd range
+setting-put w (FamilyType k) l (Mask m) h i range = absurd range
 
 -- Whatever a setting is given, the others have what they had.
 pub setting-put_other : (w : World) (k l : SettingKey) (v : SettingValue) → same_setting k l ≡ false → HasSetting w k → HasSetting w l → setting (put w k v) l ≡ setting w l
 setting-put_other w (Bridge k) (Bridge l) (Number n) other h i = bridge-put w k l n h i ∙ ap (λ (b : Bool). cond b (Number n) (setting w (Bridge l))) other
 setting-put_other w (Bridge k) (Made l) (Number n) other h i = refl
 setting-put_other w (Bridge k) (Allowed l) (Number n) other h i = refl
+setting-put_other w (Bridge k) (FamilyMask l) (Number n) other h i = refl
+setting-put_other w (Bridge k) (FamilyType l) (Number n) other h i = refl
 setting-put_other w (Bridge k) l (Ports s) other h i = refl
+setting-put_other w (Bridge k) l (Mask m) other h i = refl
 setting-put_other w (Made k) (Bridge l) (Number n) other h i = refl
 setting-put_other w (Made k) (Made l) (Number n) other h i =
     ap (λ o. Number (made_number (is_made_in o))) (made_others (port_count w.bridge) w.bridge.statics.rows i.rows.rising i.rows.rows k l (made_by n) (λ q. index-other k l other (sym q)))
 setting-put_other w (Made k) (Allowed l) (Number n) other h i = allowed-kept w k l n i.rows
+setting-put_other w (Made k) (FamilyMask l) (Number n) other h i = refl
+setting-put_other w (Made k) (FamilyType l) (Number n) other h i = refl
 setting-put_other w (Made k) l (Ports s) other h i = refl
+setting-put_other w (Made k) l (Mask m) other h i = refl
 setting-put_other w (Allowed k) l (Number n) other h i = refl
 setting-put_other w (Allowed k) (Bridge l) (Ports s) other h i = refl
 setting-put_other w (Allowed k) (Made l) (Ports s) other h i = made-kept w k l s i.rows
 setting-put_other w (Allowed k) (Allowed l) (Ports s) other h i =
     ap (λ o. Ports (ports_of (port_count w.bridge) o)) (allowed_others (port_count w.bridge) w.bridge.statics.rows i.rows.rising i.rows.rows k l s (λ q. index-other k l other (sym q)))
+setting-put_other w (Allowed k) (FamilyMask l) (Ports s) other h i = refl
+setting-put_other w (Allowed k) (FamilyType l) (Ports s) other h i = refl
+setting-put_other w (Allowed k) l (Mask m) other h i = refl
+setting-put_other w (FamilyMask k) l (Number n) other h i = refl
+setting-put_other w (FamilyMask k) l (Ports s) other h i = refl
+setting-put_other w (FamilyMask k) (Bridge l) (Mask m) other h i = refl
+setting-put_other w (FamilyMask k) (Made l) (Mask m) other h i = refl
+setting-put_other w (FamilyMask k) (Allowed l) (Mask m) other h i = refl
+setting-put_other w (FamilyMask k) (FamilyMask l) (Mask m) other h i = mask-put w k l m false other h
+setting-put_other w (FamilyMask k) (FamilyType l) (Mask m) other h i = type-kept w k l m
+setting-put_other w (FamilyType k) (Bridge l) (Number n) other h i = refl
+setting-put_other w (FamilyType k) (Made l) (Number n) other h i = refl
+setting-put_other w (FamilyType k) (Allowed l) (Number n) other h i = refl
+setting-put_other w (FamilyType k) (FamilyMask l) (Number n) other h i = mask-kept w k l n
+setting-put_other w (FamilyType k) (FamilyType l) (Number n) other h i =
+    let apart : k ≢ l = grind (arith, nat_tests, other) in
+    ap Number (type_elsewhere (families_of w) k l (included_by n) apart)
+setting-put_other w (FamilyType k) l (Ports s) other h i = refl
+setting-put_other w (FamilyType k) l (Mask m) other h i = refl
 
 -- and each has its range, which goes by the number of ports alone.
 pub ports-kept : (w : World) (k : SettingKey) (v : SettingValue) → port_count (put w k v).bridge ≡ port_count w.bridge
 ports-kept w (Bridge k) (Number n) = refl
 ports-kept w (Bridge k) (Ports s) = refl
+ports-kept w (Bridge k) (Mask m) = refl
 ports-kept w (Made k) (Number n) = refl
 ports-kept w (Made k) (Ports s) = refl
+ports-kept w (Made k) (Mask m) = refl
 ports-kept w (Allowed k) (Number n) = refl
 ports-kept w (Allowed k) (Ports s) = refl
+ports-kept w (Allowed k) (Mask m) = refl
+ports-kept w (FamilyMask k) (Number n) = refl
+ports-kept w (FamilyMask k) (Ports s) = refl
+ports-kept w (FamilyMask k) (Mask m) = refl
+ports-kept w (FamilyType k) (Number n) = refl
+ports-kept w (FamilyType k) (Ports s) = refl
+ports-kept w (FamilyType k) (Mask m) = refl
 
 range-same : (w x : World) (l : SettingKey) (u : SettingValue) → port_count x.bridge ≡ port_count w.bridge → IsSettingInRange w l u → IsSettingInRange x l u
 range-same w x (Bridge l) (Number n) e h = h
 range-same w x (Bridge l) (Ports s) e h = h
+range-same w x (Bridge l) (Mask m) e h = h
 range-same w x (Made l) (Number n) e h = h
 range-same w x (Made l) (Ports s) e h = h
+range-same w x (Made l) (Mask m) e h = h
 range-same w x (Allowed l) (Number n) e h = h
 range-same w x (Allowed l) (Ports s) e h = subst (λ n. IsOfPorts n s) (sym e) h
+range-same w x (Allowed l) (Mask m) e h = h
+range-same w x (FamilyMask l) (Number n) e h = h
+range-same w x (FamilyMask l) (Ports s) e h = h
+range-same w x (FamilyMask l) (Mask m) e h = h
+range-same w x (FamilyType l) (Number n) e h = h
+range-same w x (FamilyType l) (Ports s) e h = h
+range-same w x (FamilyType l) (Mask m) e h = h
 
 pub range-kept : (w : World) (k l : SettingKey) (v u : SettingValue) → IsSettingInRange w l u → IsSettingInRange (put w k v) l u
 range-kept w k l v u h = range-same w (put w k v) l u (ports-kept w k v) h
@@ -188,15 +283,31 @@ same_key-itself (key.Port n k) =
 pub put-put : (w : World) (k : SettingKey) (v u : SettingValue) → HasSetting w k → IsSettingInRange w k u → put (put w k v) k u ≡ put w k u
 put-put w (Bridge k) (Number m) (Number n) h range = ap (with_settings w) (put_put w.bridge.settings k m n h)
 put-put w (Bridge k) (Ports s) (Number n) h range = refl
+put-put w (Bridge k) (Mask m) (Number n) h range = refl
 put-put w (Bridge k) v (Ports s) h range = absurd range
+put-put w (Bridge k) v (Mask m) h range = absurd range
 put-put w (Made k) (Number m) (Number n) h range =
     ap (with_rows w) (made_twice (port_count w.bridge) w.bridge.statics.rows h.rows.rising h.rows.rows k (made_by n) (made_by m))
 put-put w (Made k) (Ports s) (Number n) h range = refl
+put-put w (Made k) (Mask m) (Number n) h range = refl
 put-put w (Made k) v (Ports s) h range = absurd range
+put-put w (Made k) v (Mask m) h range = absurd range
 put-put w (Allowed k) v (Number n) h range = absurd range
+put-put w (Allowed k) v (Mask m) h range = absurd range
 put-put w (Allowed k) (Number m) (Ports s) h range = refl
+put-put w (Allowed k) (Mask m) (Ports s) h range = refl
 put-put w (Allowed k) (Ports t) (Ports s) h range =
     ap (with_rows w) (allowed_twice (port_count w.bridge) w.bridge.statics.rows h.rows.rising h.rows.rows k s t)
+put-put w (FamilyMask k) v (Number n) h range = absurd range
+put-put w (FamilyMask k) v (Ports s) h range = absurd range
+put-put w (FamilyMask k) (Number t) (Mask m) h range = refl
+put-put w (FamilyMask k) (Ports s) (Mask m) h range = refl
+put-put w (FamilyMask k) (Mask a) (Mask b) h range = ap (with_families_in w) (mask_twice (families_of w) k a b)
+put-put w (FamilyType k) v (Ports s) h range = absurd range
+put-put w (FamilyType k) v (Mask m) h range = absurd range
+put-put w (FamilyType k) (Number t) (Number n) h range = ap (with_families_in w) (type_twice (families_of w) k (included_by t) (included_by n))
+put-put w (FamilyType k) (Ports s) (Number n) h range = refl
+put-put w (FamilyType k) (Mask m) (Number n) h range = refl
 
 pub put-again : (w : World) (k : SettingKey) → HasSetting w k → put w k (setting w k) ≡ w
 put-again w (Bridge k) h = ap (with_settings w) (put_same w.bridge.settings k h)
@@ -204,46 +315,85 @@ put-again w (Made k) h =
     ap (λ (m : Bool). record w { bridge = set_made k m w.bridge }) (made_same (is_made w.bridge k))
     ∙ ap (with_rows w) (made_again (port_count w.bridge) w.bridge.statics.rows h.rows.rising h.rows.rows k)
 put-again w (Allowed k) h = ap (with_rows w) (allowed_again (port_count w.bridge) w.bridge.statics.rows h.rows.rising h.rows.rows k)
+put-again w (FamilyMask k) h = ap (with_families_in w) (mask_again (families_of w) k)
+put-again w (FamilyType k) h = ap (with_families_in w) (type_again (families_of w) k)
 
 pub put-restored : (w : World) (k : SettingKey) (v : SettingValue) → HasSetting w k → put (put w k v) k (setting w k) ≡ w
 put-restored w (Bridge k) (Number n) h = ap (with_settings w) (put-back w.bridge.settings k n h)
 put-restored w (Bridge k) (Ports s) h = put-again w (Bridge k) h
+put-restored w (Bridge k) (Mask m) h = put-again w (Bridge k) h
 put-restored w (Made k) (Number n) h =
     ap (with_rows w) (made_twice (port_count w.bridge) w.bridge.statics.rows h.rows.rising h.rows.rows k (made_by (made_number (is_made w.bridge k))) (made_by n))
     ∙ put-again w (Made k) h
 put-restored w (Made k) (Ports s) h = put-again w (Made k) h
+put-restored w (Made k) (Mask m) h = put-again w (Made k) h
 put-restored w (Allowed k) (Number n) h = put-again w (Allowed k) h
+put-restored w (Allowed k) (Mask m) h = put-again w (Allowed k) h
 put-restored w (Allowed k) (Ports s) h =
     ap (with_rows w) (allowed_twice (port_count w.bridge) w.bridge.statics.rows h.rows.rising h.rows.rows k (allowed w.bridge k) s)
     ∙ put-again w (Allowed k) h
+put-restored w (FamilyMask k) (Number n) h = put-again w (FamilyMask k) h
+put-restored w (FamilyMask k) (Ports s) h = put-again w (FamilyMask k) h
+put-restored w (FamilyMask k) (Mask m) h =
+    ap (with_families_in w) (mask_twice (families_of w) k m (mask_at (families_of w) k))
+    ∙ put-again w (FamilyMask k) h
+put-restored w (FamilyType k) (Number n) h =
+    ap (with_families_in w) (type_twice (families_of w) k (included_by n) (included_by (type_at (families_of w) k)))
+    ∙ put-again w (FamilyType k) h
+put-restored w (FamilyType k) (Ports s) h = put-again w (FamilyType k) h
+put-restored w (FamilyType k) (Mask m) h = put-again w (FamilyType k) h
 
 -- a put of another kind's value needs no second look
 pub puts-commuted : (w : World) (k l : SettingKey) (v u : SettingValue) → k ≢ l → HasSetting w k → HasSetting w l → IsSettingInRange w k v → IsSettingInRange w l u → put (put w k v) l u ≡ put (put w l u) k v
 puts-commuted w (Bridge k) l (Ports s) u ne h i range fits = absurd range
+puts-commuted w (Bridge k) l (Mask a) u ne h i range fits = absurd range
 puts-commuted w (Made k) l (Ports s) u ne h i range fits = absurd range
-puts-commuted w (Allowed k) l (Number n) u ne h i range fits = absurd range
+puts-commuted w (Made k) l (Mask a) u ne h i range fits = absurd range
+puts-commuted w (Allowed k) l (Number m) u ne h i range fits = absurd range
+puts-commuted w (Allowed k) l (Mask a) u ne h i range fits = absurd range
+puts-commuted w (FamilyMask k) l (Number m) u ne h i range fits = absurd range
+puts-commuted w (FamilyMask k) l (Ports s) u ne h i range fits = absurd range
+puts-commuted w (FamilyType k) l (Ports s) u ne h i range fits = absurd range
+puts-commuted w (FamilyType k) l (Mask a) u ne h i range fits = absurd range
+puts-commuted w k (Bridge l) v (Ports t) ne h i range fits = absurd fits
+puts-commuted w k (Bridge l) v (Mask b) ne h i range fits = absurd fits
+puts-commuted w k (Made l) v (Ports t) ne h i range fits = absurd fits
+puts-commuted w k (Made l) v (Mask b) ne h i range fits = absurd fits
+puts-commuted w k (Allowed l) v (Number n) ne h i range fits = absurd fits
+puts-commuted w k (Allowed l) v (Mask b) ne h i range fits = absurd fits
+puts-commuted w k (FamilyMask l) v (Number n) ne h i range fits = absurd fits
+puts-commuted w k (FamilyMask l) v (Ports t) ne h i range fits = absurd fits
+puts-commuted w k (FamilyType l) v (Ports t) ne h i range fits = absurd fits
+puts-commuted w k (FamilyType l) v (Mask b) ne h i range fits = absurd fits
 puts-commuted w (Bridge k) (Bridge l) (Number m) (Number n) ne h i range fits = ap (with_settings w) (put-comm w.bridge.settings k l m n (λ e. ne (ap Bridge e)) h i)
-puts-commuted w (Bridge k) (Bridge l) (Number m) (Ports t) ne h i range fits = absurd fits
 puts-commuted w (Bridge k) (Made l) (Number m) (Number n) ne h i range fits = refl
-puts-commuted w (Bridge k) (Made l) (Number m) (Ports t) ne h i range fits = absurd fits
-puts-commuted w (Bridge k) (Allowed l) (Number m) (Number n) ne h i range fits = absurd fits
 puts-commuted w (Bridge k) (Allowed l) (Number m) (Ports t) ne h i range fits = refl
+puts-commuted w (Bridge k) (FamilyMask l) (Number m) (Mask b) ne h i range fits = refl
+puts-commuted w (Bridge k) (FamilyType l) (Number m) (Number n) ne h i range fits = refl
 puts-commuted w (Made k) (Bridge l) (Number m) (Number n) ne h i range fits = refl
-puts-commuted w (Made k) (Bridge l) (Number m) (Ports t) ne h i range fits = absurd fits
 puts-commuted w (Made k) (Made l) (Number m) (Number n) ne h i range fits =
     ap (with_rows w) (made_either (port_count w.bridge) w.bridge.statics.rows h.rows.rising h.rows.rows k l (made_by m) (made_by n) (λ e. ne (ap Made e)))
-puts-commuted w (Made k) (Made l) (Number m) (Ports t) ne h i range fits = absurd fits
-puts-commuted w (Made k) (Allowed l) (Number m) (Number n) ne h i range fits = absurd fits
 puts-commuted w (Made k) (Allowed l) (Number m) (Ports t) ne h i range fits =
     ap (with_rows w) (both_either (port_count w.bridge) w.bridge.statics.rows h.rows.rising h.rows.rows k l (made_by m) t fits)
+puts-commuted w (Made k) (FamilyMask l) (Number m) (Mask b) ne h i range fits = refl
+puts-commuted w (Made k) (FamilyType l) (Number m) (Number n) ne h i range fits = refl
 puts-commuted w (Allowed k) (Bridge l) (Ports s) (Number n) ne h i range fits = refl
-puts-commuted w (Allowed k) (Bridge l) (Ports s) (Ports t) ne h i range fits = absurd fits
 puts-commuted w (Allowed k) (Made l) (Ports s) (Number n) ne h i range fits =
     ap (with_rows w) (sym (both_either (port_count w.bridge) w.bridge.statics.rows h.rows.rising h.rows.rows l k (made_by n) s range))
-puts-commuted w (Allowed k) (Made l) (Ports s) (Ports t) ne h i range fits = absurd fits
-puts-commuted w (Allowed k) (Allowed l) (Ports s) (Number n) ne h i range fits = absurd fits
 puts-commuted w (Allowed k) (Allowed l) (Ports s) (Ports t) ne h i range fits =
     ap (with_rows w) (allowed_either (port_count w.bridge) w.bridge.statics.rows h.rows.rising h.rows.rows k l s t (λ e. ne (ap Allowed e)))
+puts-commuted w (Allowed k) (FamilyMask l) (Ports s) (Mask b) ne h i range fits = refl
+puts-commuted w (Allowed k) (FamilyType l) (Ports s) (Number n) ne h i range fits = refl
+puts-commuted w (FamilyMask k) (Bridge l) (Mask a) (Number n) ne h i range fits = refl
+puts-commuted w (FamilyMask k) (Made l) (Mask a) (Number n) ne h i range fits = refl
+puts-commuted w (FamilyMask k) (Allowed l) (Mask a) (Ports t) ne h i range fits = refl
+puts-commuted w (FamilyMask k) (FamilyMask l) (Mask a) (Mask b) ne h i range fits = ap (with_families_in w) (masks_either (families_of w) k l a b (λ e. ne (ap FamilyMask e)))
+puts-commuted w (FamilyMask k) (FamilyType l) (Mask a) (Number n) ne h i range fits = ap (with_families_in w) (marks_either (families_of w) k l a (included_by n))
+puts-commuted w (FamilyType k) (Bridge l) (Number m) (Number n) ne h i range fits = refl
+puts-commuted w (FamilyType k) (Made l) (Number m) (Number n) ne h i range fits = refl
+puts-commuted w (FamilyType k) (Allowed l) (Number m) (Ports t) ne h i range fits = refl
+puts-commuted w (FamilyType k) (FamilyMask l) (Number m) (Mask b) ne h i range fits = ap (with_families_in w) (sym (marks_either (families_of w) l k b (included_by m)))
+puts-commuted w (FamilyType k) (FamilyType l) (Number m) (Number n) ne h i range fits = ap (with_families_in w) (types_either (families_of w) k l (included_by m) (included_by n) (λ e. ne (ap FamilyType e)))
 
 -- A put of a value in range takes no setting away.
 statics-kept : (b : BridgeState) (row : StaticRow) → IsOfPorts (port_count b) row.ports → HasStatics b → HasStatics (with_static row b)
@@ -285,37 +435,85 @@ bridge-has b t l h = record {
   rows = record { rising = h.rows.rising; rows = h.rows.rows };
 }
 
+mask-has : (w : World) (n k : ℕ) (m : List ℕ) → k < length (families_of w) → k < length (with_mask (families_of w) n m)
+mask-has w n k m h = omega (arith, h, masks_long (families_of w) n m)
+
+type-has : (w : World) (n k : ℕ) (b : Bool) → k < length (families_of w) → k < length (with_type (families_of w) n b)
+type-has w n k b h = omega (arith, h, types_long (families_of w) n b)
+
 pub keys-kept : (w : World) (k l : SettingKey) (v : SettingValue) → IsSettingInRange w k v → HasSetting w l → HasSetting (put w k v) l
+keys-kept w (Bridge k) l (Ports s) range h = absurd range
+keys-kept w (Bridge k) l (Mask m) range h = absurd range
+keys-kept w (Made k) l (Ports s) range h = absurd range
+keys-kept w (Made k) l (Mask m) range h = absurd range
+keys-kept w (Allowed k) l (Number n) range h = absurd range
+keys-kept w (Allowed k) l (Mask m) range h = absurd range
+keys-kept w (FamilyMask k) l (Number n) range h = absurd range
+keys-kept w (FamilyMask k) l (Ports s) range h = absurd range
+keys-kept w (FamilyType k) l (Ports s) range h = absurd range
+keys-kept w (FamilyType k) l (Mask m) range h = absurd range
 keys-kept w (Bridge k) (Bridge l) (Number n) range h = has_after w.bridge.settings k l n h
 keys-kept w (Bridge k) (Made l) (Number n) range h = bridge-has w.bridge (put_key w.bridge.settings k n) l h
 keys-kept w (Bridge k) (Allowed l) (Number n) range h = bridge-has w.bridge (put_key w.bridge.settings k n) l h
-keys-kept w (Bridge k) l (Ports s) range h = absurd range
+keys-kept w (Bridge k) (FamilyMask l) (Number n) range h = h
+keys-kept w (Bridge k) (FamilyType l) (Number n) range h = h
 keys-kept w (Made k) (Bridge l) (Number n) range h = h
 keys-kept w (Made k) (Made l) (Number n) range h = made-has w.bridge k l (made_by n) h
 keys-kept w (Made k) (Allowed l) (Number n) range h = made-has w.bridge k l (made_by n) h
-keys-kept w (Made k) l (Ports s) range h = absurd range
-keys-kept w (Allowed k) l (Number n) range h = absurd range
+keys-kept w (Made k) (FamilyMask l) (Number n) range h = h
+keys-kept w (Made k) (FamilyType l) (Number n) range h = h
 keys-kept w (Allowed k) (Bridge l) (Ports s) range h = h
 keys-kept w (Allowed k) (Made l) (Ports s) range h = allowed-has w.bridge k l s range h
 keys-kept w (Allowed k) (Allowed l) (Ports s) range h = allowed-has w.bridge k l s range h
+keys-kept w (Allowed k) (FamilyMask l) (Ports s) range h = h
+keys-kept w (Allowed k) (FamilyType l) (Ports s) range h = h
+keys-kept w (FamilyMask k) (Bridge l) (Mask m) range h = h
+keys-kept w (FamilyMask k) (Made l) (Mask m) range h = h
+keys-kept w (FamilyMask k) (Allowed l) (Mask m) range h = h
+keys-kept w (FamilyMask k) (FamilyMask l) (Mask m) range h = mask-has w k l m h
+keys-kept w (FamilyMask k) (FamilyType l) (Mask m) range h = mask-has w k l m h
+keys-kept w (FamilyType k) (Bridge l) (Number n) range h = h
+keys-kept w (FamilyType k) (Made l) (Number n) range h = h
+keys-kept w (FamilyType k) (Allowed l) (Number n) range h = h
+keys-kept w (FamilyType k) (FamilyMask l) (Number n) range h = type-has w k l (included_by n) h
+keys-kept w (FamilyType k) (FamilyType l) (Number n) range h = type-has w k l (included_by n) h
 
 bridge-same : (k l : Key) → (same_key k l ≡ true) ↔ (Bridge k ≡ Bridge l)
 bridge-same k l = (λ h. ap Bridge (same_key-is k l h), λ e. subst (λ m. same_setting (Bridge k) m ≡ true) e (same_key-itself k))
+
+number-itself : (n : ℕ) → nat_eq n n ≡ true
+number-itself n = (Decides-eqb n n).1 refl
 
 pub same-exact : (k l : SettingKey) → (same_setting k l ≡ true) ↔ (k ≡ l)
 same-exact (Bridge k) (Bridge l) = bridge-same k l
 same-exact (Bridge k) (Made l) = (λ h. absurd cc, λ e. absurd cc)
 same-exact (Bridge k) (Allowed l) = (λ h. absurd cc, λ e. absurd cc)
+same-exact (Bridge k) (FamilyMask l) = (λ h. absurd cc, λ e. absurd cc)
+same-exact (Bridge k) (FamilyType l) = (λ h. absurd cc, λ e. absurd cc)
 same-exact (Made k) (Bridge l) = (λ h. absurd cc, λ e. absurd cc)
 same-exact (Made k) (Made l) = (λ h. ap Made (index-exact k l h), λ e. subst (λ m. same_setting (Made k) m ≡ true) e (index-itself k))
 same-exact (Made k) (Allowed l) = (λ h. absurd cc, λ e. absurd cc)
+same-exact (Made k) (FamilyMask l) = (λ h. absurd cc, λ e. absurd cc)
+same-exact (Made k) (FamilyType l) = (λ h. absurd cc, λ e. absurd cc)
 same-exact (Allowed k) (Bridge l) = (λ h. absurd cc, λ e. absurd cc)
 same-exact (Allowed k) (Made l) = (λ h. absurd cc, λ e. absurd cc)
 same-exact (Allowed k) (Allowed l) = (λ h. ap Allowed (index-exact k l h), λ e. subst (λ m. same_setting (Allowed k) m ≡ true) e (index-itself k))
+same-exact (Allowed k) (FamilyMask l) = (λ h. absurd cc, λ e. absurd cc)
+same-exact (Allowed k) (FamilyType l) = (λ h. absurd cc, λ e. absurd cc)
+same-exact (FamilyMask k) (Bridge l) = (λ h. absurd cc, λ e. absurd cc)
+same-exact (FamilyMask k) (Made l) = (λ h. absurd cc, λ e. absurd cc)
+same-exact (FamilyMask k) (Allowed l) = (λ h. absurd cc, λ e. absurd cc)
+same-exact (FamilyMask k) (FamilyMask l) = (λ h. ap FamilyMask ((Decides-eqb k l).0 h), λ e. subst (λ m. same_setting (FamilyMask k) m ≡ true) e (number-itself k))
+same-exact (FamilyMask k) (FamilyType l) = (λ h. absurd cc, λ e. absurd cc)
+same-exact (FamilyType k) (Bridge l) = (λ h. absurd cc, λ e. absurd cc)
+same-exact (FamilyType k) (Made l) = (λ h. absurd cc, λ e. absurd cc)
+same-exact (FamilyType k) (Allowed l) = (λ h. absurd cc, λ e. absurd cc)
+same-exact (FamilyType k) (FamilyMask l) = (λ h. absurd cc, λ e. absurd cc)
+same-exact (FamilyType k) (FamilyType l) = (λ h. ap FamilyType ((Decides-eqb k l).0 h), λ e. subst (λ m. same_setting (FamilyType k) m ≡ true) e (number-itself k))
 
 -- ---- settings that agree
 
-same_number : (m n : ℕ) → Number m ≡ Number n → m ≡ n
+pub same_number : (m n : ℕ) → Number m ≡ Number n → m ≡ n
 same_number m n e = cc
 
 pub settings-ext : (w : World) (t : Table) → length t.ports ≡ length w.bridge.settings.ports → ((k : SettingKey) → HasSetting w k → setting (with_settings w t) k ≡ setting w k) → with_settings w t ≡ w
@@ -329,7 +527,7 @@ same_made true false e = let no : 1 ≡ 0 = same_number 1 0 e in absurd (omega (
 same_made false true e = let no : 0 ≡ 1 = same_number 0 1 e in absurd (omega (arith, no))
 same_made false false e = refl
 
-same_set : (s t : PortSet) → Ports s ≡ Ports t → s ≡ t
+pub same_set : (s t : PortSet) → Ports s ≡ Ports t → s ≡ t
 same_set s t e = cc
 
 pub rows-ext : (w : World) (rows : List StaticRow) → HasStatics (with_rows w rows).bridge → HasStatics w.bridge → ((k : SettingKey) → is_static k ≡ true → setting (with_rows w rows) k ≡ setting w k) → with_rows w rows ≡ w
@@ -339,3 +537,13 @@ rows-ext w rows h i e =
     ∙ ap (λ (m : Bool). left_by (port_count w.bridge) (record { index = j; made = m; ports = ports_of (port_count w.bridge) (row_of rows j) })) (same_made (is_made_in (row_of rows j)) (is_made w.bridge j) (e (Made j) refl))
     ∙ ap (λ (s : PortSet). left_by (port_count w.bridge) (record { index = j; made = is_made w.bridge j; ports = s })) (same_set (ports_of (port_count w.bridge) (row_of rows j)) (allowed w.bridge j) (e (Allowed j) refl))
     ∙ same_there (port_count w.bridge) w.bridge.statics.rows j i.rows))
+
+-- masks and types that agree on each row
+pub same_octets : (a b : List ℕ) → Mask a ≡ Mask b → a ≡ b
+same_octets a b e = cc
+
+pub marks-ext : (w : World) (rows : List FamilyRow) → ((k : SettingKey) → HasSetting w k → setting (with_families_in w rows) k ≡ setting w k) → with_marks_of rows (families_of w) ≡ families_of w
+marks-ext w rows e =
+    marks_agree rows (families_of w)
+    (λ n h. same_octets (mask_at rows n) (mask_at (families_of w) n) (e (FamilyMask n) h))
+    (λ n h. same_number (type_at rows n) (type_at (families_of w) n) (e (FamilyType n) h))

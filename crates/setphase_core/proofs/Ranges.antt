@@ -1,6 +1,7 @@
 -- What a test lets pass is a setting that there is, and a value that it may have.
-use Rattle.std.proofs.Common.{◌≡◌, ℕ, zero, suc, ◌≤◌, ◌%◌, subst, refl, Bool, true, false, cond, nat_le, List, [], ◌∷◌, length, Option, Some, None, IfSome, Ok, Err, nat_lt, arith, ◌⊎◌, inl, inr, ◌==◌, ◌&&◌, pos, negsuc}
+use Rattle.std.proofs.Common.{◌≡◌, ℕ, zero, suc, ◌<◌, ◌≤◌, ◌%◌, subst, refl, Bool, true, false, cond, nat_le, List, [], ◌∷◌, length, Option, Some, None, IfSome, Ok, Err, nat_lt, arith, position, ◌⊎◌, inl, inr, ◌==◌, ◌&&◌, pos, negsuc}
 use Rattle.std.specs.Option.{option_map}
+use Rattle.std.specs.List.{position_or_len}
 use Rattle.std.proofs.lemmas.Bool.Decides.{nat_tests}
 use Rattle.oid_core.specs.Order.{name_eq}
 use Rattle.message_core.specs.declared.value.Value.{Value}
@@ -16,7 +17,10 @@ use Rattle.fdb_core.specs.declared.static_row.StaticIndex.{StaticIndex}
 use Rattle.fdb_core.specs.PortSets.{ports_in, has_other_port}
 use Rattle.fdb_core.proofs.PortSets.{read_of_ports}
 use Rattle.setting_keys.specs.declared.SettingKey.TheVariants as setting
-use Rattle.setting_keys.specs.declared.SettingValue.TheVariants.{Number, Ports}
+use Rattle.setting_keys.specs.declared.SettingValue.TheVariants.{Number, Ports, Mask}
+use Rattle.vacm_core.specs.FamilyIndex.{family_at, has_index}
+use Rattle.vacm_core.specs.declared.tables.FamilyRow.{FamilyRow}
+use Rattle.vacm_core.specs.declared.limits.TheConstants.{MAX_MASK}
 use Rattle.setphase_core.specs.declared.world.World.{World}
 use Rattle.setphase_core.specs.declared.object.Assignment.{Assignment}
 use Rattle.setphase_core.specs.declared.object.SetFault.TheVariants.{WrongLength, WrongValue}
@@ -25,7 +29,7 @@ use Rattle.setphase_core.specs.declared.writable.Target.{Target}
 use Rattle.setphase_core.specs.declared.writable.Target.TheVariants as target
 use Rattle.setphase_core.specs.declared.writable.IntegerTarget.{IntegerTarget}
 use Rattle.setphase_core.specs.declared.writable.Writable.{Writable}
-use Rattle.setphase_core.specs.declared.writable.Writable.TheVariants.{Integer as Integers, Ports as PortOctets}
+use Rattle.setphase_core.specs.declared.writable.Writable.TheVariants.{Integer as Integers, Ports as PortOctets, Mask as MaskOctets}
 use Rattle.setphase_core.specs.declared.column.Stp.{Stp}
 use Rattle.setphase_core.specs.declared.column.Stp.TheVariants as stp
 use Rattle.setphase_core.specs.declared.column.StpPort.{StpPort}
@@ -38,12 +42,14 @@ use Rattle.setphase_core.specs.declared.column.Tp.{Tp}
 use Rattle.setphase_core.specs.declared.column.Tp.TheVariants as tp
 use Rattle.setphase_core.specs.declared.column.Static.{Static}
 use Rattle.setphase_core.specs.declared.column.Static.TheVariants as static_column
+use Rattle.setphase_core.specs.declared.column.Family.{Family}
+use Rattle.setphase_core.specs.declared.column.Family.TheVariants as family
 use Rattle.setphase_core.specs.declared.column.Column.{Column}
 use Rattle.setphase_core.specs.declared.column.Column.TheVariants as column
 use Rattle.setphase_core.specs.Staging.{IsLegal}
 use Rattle.setphase_core.specs.Values.{port_index}
 use Rattle.setphase_core.proofs.StaticIndexes.{named_is_index}
-use Rattle.setphase_core.specs.Writing.{writable_of, takes, number_given, key_at, static_index, assignment_at, allowed_assignment, assignment_by, assignment_of, stp_writable, stp_port_writable, rapid_writable, ext_port_writable, tp_writable, static_writable}
+use Rattle.setphase_core.specs.Writing.{writable_of, takes, number_given, key_at, static_index, assignment_at, allowed_assignment, masked_assignment, assignment_by, assignment_of, stp_writable, stp_port_writable, rapid_writable, ext_port_writable, tp_writable, static_writable, family_writable}
 
 -- What holds of every world whose bridge is one.
 pub record IsSound (w : World) : Type 0 where
@@ -68,12 +74,14 @@ abbrev IsTargetRange : Target → ℕ → Type 0
 IsTargetRange (target.Bridge k) v = IsBridgeRange k v
 IsTargetRange (target.Port k) v = IsPortRange k v
 IsTargetRange target.Made v = v ≤ 1
+IsTargetRange target.FamilyType v = (1 ≤ v) × (v ≤ 2)
 
 -- What each object that is written gives is in the range of its setting.
 abbrev GivesRange : Option Writable → Type 0
 GivesRange None = Unit {0}
 GivesRange (Some (Integers x)) = (n : ℕ) → Taken x n → IsTargetRange x.target (number_given x.target n)
 GivesRange (Some PortOctets) = Unit {0}
+GivesRange (Some MaskOctets) = Unit {0}
 
 two_or_none : (n : ℕ) → n ≤ 2 → n % 2 ≡ 0 → (n ≡ 0) ⊎ (n ≡ 2)
 two_or_none zero h e = inl refl
@@ -136,6 +144,10 @@ static_gives static_column.ReceivePort = tt
 static_gives static_column.AllowedToGoTo = tt
 static_gives static_column.Status = λ n t. asked (n == 3)
 
+family_gives : (c : Family) → GivesRange (family_writable c)
+family_gives family.Mask = tt
+family_gives family.Type = λ n t. (t.least, t.most)
+
 gives : (c : Column) → GivesRange (writable_of c)
 gives (column.Base c) = tt
 gives (column.BasePort c) = tt
@@ -147,6 +159,7 @@ gives (column.Tp c) = tp_gives c
 gives (column.TpFdb c) = tt
 gives (column.TpPort c) = tt
 gives (column.Static c) = static_gives c
+gives (column.Family c) = family_gives c
 
 within : (n m : ℕ) → (nat_le 1 n && nat_le n m) ≡ true → n ≤ m
 within n m is = grind (arith, nat_tests, is)
@@ -183,12 +196,38 @@ made_legal w (Some i) v a statics is range e =
     let same : record { key = setting.Made i; value = Number v } ≡ a = cc in
     subst (IsLegal w) same (record { key = record { index = is; rows = statics }; value = range })
 
+-- The row of an index is one of them.
+row_within : (has : FamilyRow → Bool) (rows : List FamilyRow) (n : ℕ) → position has rows ≡ Some n → n < length rows
+row_within has rows n e = pick (nat_lt (position_or_len has rows) (length rows)) refl e
+  where
+    pick : (b : Bool) → nat_lt (position_or_len has rows) (length rows) ≡ b
+        → cond b (Some (position_or_len has rows)) None ≡ Some n → n < length rows
+    pick true is e =
+        let one : position_or_len has rows ≡ n = cc in
+        let below : position_or_len has rows < length rows = grind (arith, nat_tests, is) in
+        omega (arith, one, below)
+    pick false is e = absurd (cc)
+
+type_legal : (w : World) (o : Option ℕ) (v : ℕ) (a : Assignment) → IfSome o (λ n. n < length w.policy.vacm.families)
+    → (1 ≤ v) × (v ≤ 2) → assignment_at (option_map setting.FamilyType o) v ≡ Ok a → IsLegal w a
+type_legal w None v a within range e = absurd (cc)
+type_legal w (Some n) v a within range e =
+    let same : record { key = setting.FamilyType n; value = Number v } ≡ a = cc in
+    subst (IsLegal w) same (record { key = within; value = range })
+
+found_within : (w : World) (at : List ℕ) (o : Option ℕ) → family_at w.policy.vacm.families at ≡ o
+    → IfSome o (λ n. n < length w.policy.vacm.families)
+found_within w at None e = tt
+found_within w at (Some n) e = row_within (has_index at) w.policy.vacm.families n e
+
 target_legal : (t : Target) (w : World) (at : List ℕ) (v : ℕ) (a : Assignment) →
     IsSound w → IsTargetRange t v → assignment_at (key_at t w at) v ≡ Ok a → IsLegal w a
 target_legal (target.Bridge k) w at v a sound range e = bridge_legal k w (name_eq (0 ∷ []) at) v a range e
 target_legal (target.Port k) w at v a sound range e = port_legal k w at v a sound.even range e
 target_legal target.Made w at v a sound range e =
     made_legal w (static_index w.bridge at) v a sound.statics (named_is_index w.bridge at) range e
+target_legal target.FamilyType w at v a sound range e =
+    type_legal w (family_at w.policy.vacm.families at) v a (found_within w at _ refl) range e
 
 integer_legal : (x : IntegerTarget) (w : World) (at : List ℕ) (n : ℕ) (a : Assignment) (b : Bool) →
     IsSound w → GivesRange (Some (Integers x)) → takes x n ≡ b →
@@ -216,6 +255,19 @@ ports_legal w at octets a true other statics is e = absurd (cc)
 ports_legal w at octets a false true statics is e = absurd (cc)
 ports_legal w at octets a false false statics is e =
     allowed_legal w (static_index w.bridge at) octets a statics (named_is_index w.bridge at) is e
+
+masked_legal : (w : World) (o : Option ℕ) (octets : List ℕ) (a : Assignment) → IfSome o (λ n. n < length w.policy.vacm.families)
+    → length octets ≤ MAX_MASK → masked_assignment o octets ≡ Ok a → IsLegal w a
+masked_legal w None octets a within short e = absurd (cc)
+masked_legal w (Some n) octets a within short e =
+    let same : record { key = setting.FamilyMask n; value = Mask octets } ≡ a = cc in
+    subst (IsLegal w) same (record { key = within; value = short })
+
+mask_legal : (w : World) (at octets : List ℕ) (a : Assignment) (long : Bool) → nat_lt MAX_MASK (length octets) ≡ long
+    → cond long (Err WrongLength) (masked_assignment (family_at w.policy.vacm.families at) octets) ≡ Ok a → IsLegal w a
+mask_legal w at octets a true is e = absurd (cc)
+mask_legal w at octets a false is e =
+    masked_legal w (family_at w.policy.vacm.families at) octets a (found_within w at _ refl) (grind (arith, nat_tests, is)) e
 
 by_legal : (x : Option Writable) (w : World) (at : List ℕ) (v : Value) (a : Assignment) →
     IsSound w → GivesRange x → assignment_by x w at v ≡ Ok a → IsLegal w a
@@ -249,6 +301,20 @@ by_legal (Some PortOctets) w at (value.Counter64 v) a sound range e = absurd (cc
 by_legal (Some PortOctets) w at value.NoSuchObject a sound range e = absurd (cc)
 by_legal (Some PortOctets) w at value.NoSuchInstance a sound range e = absurd (cc)
 by_legal (Some PortOctets) w at value.EndOfMibView a sound range e = absurd (cc)
+by_legal (Some MaskOctets) w at (value.Integer v) a sound range e = absurd (cc)
+by_legal (Some MaskOctets) w at (value.OctetString octets) a sound range e =
+    mask_legal w at octets a (nat_lt MAX_MASK (length octets)) refl e
+by_legal (Some MaskOctets) w at value.Null a sound range e = absurd (cc)
+by_legal (Some MaskOctets) w at (value.ObjectIdentifier v) a sound range e = absurd (cc)
+by_legal (Some MaskOctets) w at (value.IpAddress v) a sound range e = absurd (cc)
+by_legal (Some MaskOctets) w at (value.Counter32 v) a sound range e = absurd (cc)
+by_legal (Some MaskOctets) w at (value.Gauge32 v) a sound range e = absurd (cc)
+by_legal (Some MaskOctets) w at (value.TimeTicks v) a sound range e = absurd (cc)
+by_legal (Some MaskOctets) w at (value.Opaque v) a sound range e = absurd (cc)
+by_legal (Some MaskOctets) w at (value.Counter64 v) a sound range e = absurd (cc)
+by_legal (Some MaskOctets) w at value.NoSuchObject a sound range e = absurd (cc)
+by_legal (Some MaskOctets) w at value.NoSuchInstance a sound range e = absurd (cc)
+by_legal (Some MaskOctets) w at value.EndOfMibView a sound range e = absurd (cc)
 
 -- What a variable of a column writes, a world can take.
 pub legal : (c : Column) (w : World) (at : List ℕ) (v : Value) (a : Assignment) →

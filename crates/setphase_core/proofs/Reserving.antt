@@ -3,9 +3,9 @@ use Rattle.std.proofs.Common.{◌≡◌, ℕ, ◌+◌, ◌<◌, ◌≤◌, ◌�
 use Rattle.fdb_core.specs.Statics.{with_places_for}
 use Rattle.bridge_core.specs.Bridge.{BridgeState}
 use Rattle.setting_keys.specs.declared.SettingKey.{SettingKey}
-use Rattle.setting_keys.specs.declared.SettingKey.TheVariants.{Bridge, Made, Allowed}
+use Rattle.setting_keys.specs.declared.SettingKey.TheVariants.{Bridge, Made, Allowed, FamilyMask, FamilyType}
 use Rattle.setting_keys.specs.declared.SettingValue.{SettingValue}
-use Rattle.setting_keys.specs.declared.SettingValue.TheVariants.{Number, Ports}
+use Rattle.setting_keys.specs.declared.SettingValue.TheVariants.{Number, Ports, Mask}
 use Rattle.setphase_core.specs.declared.object.Assignment.{Assignment}
 use Rattle.setphase_core.specs.declared.staging.Staged.{Staged}
 use Rattle.setphase_core.specs.declared.world.World.{World}
@@ -25,12 +25,21 @@ with_places places w = record w { bridge = bridge_with places w.bridge }
 
 put_with : (p : ℕ) (w : World) (k : SettingKey) (v : SettingValue) →
     put (with_places p w) k v ≡ with_places p (put w k v)
-put_with p w (Bridge k) (Number n) = refl
+put_with p w (Bridge k) (Number a) = refl
 put_with p w (Bridge k) (Ports s) = refl
-put_with p w (Made i) (Number n) = refl
+put_with p w (Bridge k) (Mask m) = refl
+put_with p w (Made i) (Number a) = refl
 put_with p w (Made i) (Ports s) = refl
-put_with p w (Allowed i) (Number n) = refl
+put_with p w (Made i) (Mask m) = refl
+put_with p w (Allowed i) (Number a) = refl
 put_with p w (Allowed i) (Ports s) = refl
+put_with p w (Allowed i) (Mask m) = refl
+put_with p w (FamilyMask n) (Number a) = refl
+put_with p w (FamilyMask n) (Ports s) = refl
+put_with p w (FamilyMask n) (Mask m) = refl
+put_with p w (FamilyType n) (Number a) = refl
+put_with p w (FamilyType n) (Ports s) = refl
+put_with p w (FamilyType n) (Mask m) = refl
 
 pub assign_with : (p : ℕ) (ps : List Assignment) (w : World) →
     assign ps (with_places p w) ≡ with_places p (assign ps w)
@@ -48,15 +57,26 @@ static_with p w (Allowed i) h = record {
   index = record { address = h.index.address; port = h.index.port; foreign = h.index.foreign; unreserved = h.index.unreserved };
   rows = record { rising = h.rows.rising; rows = h.rows.rows };
 }
+static_with p w (FamilyMask n) h = h
+static_with p w (FamilyType n) h = h
 
 range_with : (p : ℕ) (w : World) (k : SettingKey) (v : SettingValue) → IsSettingInRange w k v →
     IsSettingInRange (with_places p w) k v
-range_with p w (Bridge k) (Number n) h = h
+range_with p w (Bridge k) (Number a) h = h
 range_with p w (Bridge k) (Ports s) h = h
-range_with p w (Made i) (Number n) h = h
+range_with p w (Bridge k) (Mask m) h = h
+range_with p w (Made i) (Number a) h = h
 range_with p w (Made i) (Ports s) h = h
-range_with p w (Allowed i) (Number n) h = h
+range_with p w (Made i) (Mask m) h = h
+range_with p w (Allowed i) (Number a) h = h
 range_with p w (Allowed i) (Ports s) h = h
+range_with p w (Allowed i) (Mask m) h = h
+range_with p w (FamilyMask n) (Number a) h = h
+range_with p w (FamilyMask n) (Ports s) h = h
+range_with p w (FamilyMask n) (Mask m) h = h
+range_with p w (FamilyType n) (Number a) h = h
+range_with p w (FamilyType n) (Ports s) h = h
+range_with p w (FamilyType n) (Mask m) h = h
 
 -- A Set that is under way is so in the other world.
 pub under_way_with : (p : ℕ) (w : World) (os : List ObjectState) (es : List Staged) (tested committed : ℕ) →

@@ -21,10 +21,13 @@ use Rattle.setphase_core.specs.declared.world.World.{World}
 use Rattle.setphase_core.specs.declared.column.Column.{Column}
 use Rattle.setphase_core.specs.declared.column.Column.TheVariants as column
 use Rattle.message_core.specs.declared.value.Value.{Value}
-use Rattle.setphase_core.specs.Values.{IndexedValue, numbers_from, by_address, by_static}
+use Rattle.setphase_core.specs.Values.{IndexedValue, numbers_from, by_address, by_static, in_index_order}
 use Rattle.setphase_core.specs.Columns.{shown_by}
 use Rattle.setphase_core.specs.Objects.{ObjectRow}
 use Rattle.setphase_core.specs.Registry.{prefixes_of, first_fault, IsKept, under, instances_under, instances}
+use Rattle.vacm_core.specs.declared.tables.FamilyRow.{FamilyRow}
+use Rattle.vacm_core.specs.FamilyIndex.{family_index}
+use Rattle.setphase_core.proofs.Families.{AreAscending, ascending, instance_of}
 use Rattle.setphase_core.proofs.Below.{is_below, below_lt}
 use Rattle.setphase_core.proofs.Ordered.{AreOrdered, ordered_from}
 use Rattle.setphase_core.proofs.Found.{instances-cons, instances-nil}
@@ -119,6 +122,15 @@ statics_climb (r ∷ rows) f h =
     made_climb r rows f r.made (below_statics r rows f (sorted_head (λ (a b : StaticRow). index_cmp a.index b.index) r rows h))
     (statics_climb rows f (sorted_tail (λ (a b : StaticRow). index_cmp a.index b.index) r rows h))
 
+below_families : (i : List ℕ) (rows : List FamilyRow) (f : FamilyRow → Value) → AllByRecursion (λ (s : FamilyRow). name_lt i (family_index s) ≡ true) rows →
+    AllByRecursion (λ (t : IndexedValue). name_lt i t.index ≡ true) (map (instance_of f) rows)
+below_families i [] f h = tt
+below_families i (r ∷ rows) f h = (h.0, below_families i rows f h.1)
+
+families_climb : (rows : List FamilyRow) (f : FamilyRow → Value) → AreAscending rows → Climbs (map (instance_of f) rows)
+families_climb [] f h = tt
+families_climb (r ∷ rows) f h = (below_families (family_index r) rows f h.0, families_climb rows f h.1)
+
 climbs : (c : Column) (w : World) → IsKept w → Climbs (shown_by c w)
 unfolding shown_by
 climbs (column.Base c) w h = (tt, tt)
@@ -131,6 +143,7 @@ climbs (column.Tp c) w h = (tt, tt)
 climbs (column.TpFdb c) w h = addresses_climb w.bridge.learned _ h.learned
 climbs (column.TpPort c) w h = ports_climb 1 (port_count w.bridge) _
 climbs (column.Static c) w h = statics_climb w.bridge.statics.rows _ h.statics
+climbs (column.Family c) w h = families_climb (in_index_order w.policy.vacm.families) _ (ascending w.policy.vacm.families h.families)
 
 -- ---- several objects
 

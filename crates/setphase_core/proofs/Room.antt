@@ -3,9 +3,9 @@ use Rattle.std.proofs.Common.{◌≡◌, ℕ, zero, suc, ◌+◌, ◌<◌, ◌�
 use Rattle.bridge_core.specs.Bridge.{port_count}
 use Rattle.bridge_core.specs.Statics.{is_made, allowed}
 use Rattle.setting_keys.specs.declared.SettingKey.{SettingKey}
-use Rattle.setting_keys.specs.declared.SettingKey.TheVariants.{Bridge, Made, Allowed}
+use Rattle.setting_keys.specs.declared.SettingKey.TheVariants.{Bridge, Made, Allowed, FamilyMask, FamilyType}
 use Rattle.setting_keys.specs.declared.SettingValue.{SettingValue}
-use Rattle.setting_keys.specs.declared.SettingValue.TheVariants.{Number, Ports}
+use Rattle.setting_keys.specs.declared.SettingValue.TheVariants.{Number, Ports, Mask}
 use Rattle.setphase_core.specs.declared.object.Assignment.{Assignment}
 use Rattle.setphase_core.specs.declared.staging.Staged.{Staged}
 use Rattle.setphase_core.specs.declared.world.World.{World}
@@ -21,36 +21,63 @@ use Rattle.setphase_core.proofs.StaticPuts.{one_more, brought_in}
 
 rows-put : (w : World) (k : SettingKey) (v : SettingValue) →
     length (put w k v).bridge.statics.rows ≤ cond (is_static k) 1 0 + length w.bridge.statics.rows
-rows-put w (Bridge k) (Number n) = omega arith
+rows-put w (Bridge k) (Number a) = omega arith
 rows-put w (Bridge k) (Ports s) = omega arith
-rows-put w (Made i) (Number n) =
-    omega (arith, one_more (port_count w.bridge) (record { index = i; made = made_by n; ports = allowed w.bridge i }) w.bridge.statics.rows)
+rows-put w (Bridge k) (Mask m) = omega arith
+rows-put w (Made i) (Number a) =
+    omega (arith, one_more (port_count w.bridge) (record { index = i; made = made_by a; ports = allowed w.bridge i }) w.bridge.statics.rows)
 rows-put w (Made i) (Ports s) = omega arith
-rows-put w (Allowed i) (Number n) = omega arith
+rows-put w (Made i) (Mask m) = omega arith
+rows-put w (Allowed i) (Number a) = omega arith
 rows-put w (Allowed i) (Ports s) =
     omega (arith, one_more (port_count w.bridge) (record { index = i; made = is_made w.bridge i; ports = s }) w.bridge.statics.rows)
+rows-put w (Allowed i) (Mask m) = omega arith
+rows-put w (FamilyMask n) (Number a) = omega arith
+rows-put w (FamilyMask n) (Ports s) = omega arith
+rows-put w (FamilyMask n) (Mask m) = omega arith
+rows-put w (FamilyType n) (Number a) = omega arith
+rows-put w (FamilyType n) (Ports s) = omega arith
+rows-put w (FamilyType n) (Mask m) = omega arith
 
 places-put : (w : World) (k : SettingKey) (v : SettingValue) →
     (put w k v).bridge.statics.places ≡ w.bridge.statics.places
-places-put w (Bridge k) (Number n) = refl
+places-put w (Bridge k) (Number a) = refl
 places-put w (Bridge k) (Ports s) = refl
-places-put w (Made i) (Number n) = refl
+places-put w (Bridge k) (Mask m) = refl
+places-put w (Made i) (Number a) = refl
 places-put w (Made i) (Ports s) = refl
-places-put w (Allowed i) (Number n) = refl
+places-put w (Made i) (Mask m) = refl
+places-put w (Allowed i) (Number a) = refl
 places-put w (Allowed i) (Ports s) = refl
+places-put w (Allowed i) (Mask m) = refl
+places-put w (FamilyMask n) (Number a) = refl
+places-put w (FamilyMask n) (Ports s) = refl
+places-put w (FamilyMask n) (Mask m) = refl
+places-put w (FamilyType n) (Number a) = refl
+places-put w (FamilyType n) (Ports s) = refl
+places-put w (FamilyType n) (Mask m) = refl
 
 -- Where the rows after a put are within the places, there is memory for it.
 room_fits : (w : World) (k : SettingKey) (v : SettingValue) →
     (is_static k ≡ true → length (put w k v).bridge.statics.rows ≤ w.bridge.statics.places) →
     HasRoom w k v
-room_fits w (Bridge k) (Number n) h = tt
+room_fits w (Bridge k) (Number a) h = tt
 room_fits w (Bridge k) (Ports s) h = tt
-room_fits w (Made i) (Number n) h = λ says none.
-    omega (arith, h refl, brought_in (port_count w.bridge) (record { index = i; made = made_by n; ports = allowed w.bridge i }) w.bridge.statics.rows says none)
+room_fits w (Bridge k) (Mask m) h = tt
+room_fits w (Made i) (Number a) h = λ says none.
+    omega (arith, h refl, brought_in (port_count w.bridge) (record { index = i; made = made_by a; ports = allowed w.bridge i }) w.bridge.statics.rows says none)
 room_fits w (Made i) (Ports s) h = tt
-room_fits w (Allowed i) (Number n) h = tt
+room_fits w (Made i) (Mask m) h = tt
+room_fits w (Allowed i) (Number a) h = tt
 room_fits w (Allowed i) (Ports s) h = λ says none.
     omega (arith, h refl, brought_in (port_count w.bridge) (record { index = i; made = is_made w.bridge i; ports = s }) w.bridge.statics.rows says none)
+room_fits w (Allowed i) (Mask m) h = tt
+room_fits w (FamilyMask n) (Number a) h = tt
+room_fits w (FamilyMask n) (Ports s) h = tt
+room_fits w (FamilyMask n) (Mask m) h = tt
+room_fits w (FamilyType n) (Number a) h = tt
+room_fits w (FamilyType n) (Ports s) h = tt
+room_fits w (FamilyType n) (Mask m) h = tt
 
 -- ---- assignments
 

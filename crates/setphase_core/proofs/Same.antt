@@ -1,5 +1,5 @@
 -- Whether the settings of two worlds are the same.
-use Rattle.std.proofs.Common.{◌≡◌, ◌≢◌, ◌∙◌, ℕ, zero, suc, ◌<◌, ◌+◌, Bool, true, false, not, cond, List, [], ◌∷◌, length, take, Some, ap, sym, subst, refl, arith}
+use Rattle.std.proofs.Common.{◌≡◌, ◌≢◌, ◌∙◌, ℕ, zero, suc, ◌<◌, ◌+◌, Bool, true, false, not, cond, ◌&&◌, List, [], ◌∷◌, length, take, Some, ap, sym, subst, refl, arith}
 use Rattle.std.specs.Bool.{Decides}
 use Rattle.std.specs.Cmp.Lexicographic.{pointwise}
 use Rattle.std.proofs.lemmas.Bool.Decides.{Decides-and, Decides-like}
@@ -12,17 +12,18 @@ use Rattle.bridge_core.specs.Statics.{is_made_in, ports_of}
 use Rattle.rstp_settings.specs.Table.{Table, get}
 use Rattle.rstp_settings.proofs.Same.{same_port-Decides, same_bridge-Decides}
 use Rattle.setting_keys.specs.declared.SettingKey.{SettingKey}
-use Rattle.setting_keys.specs.declared.SettingKey.TheVariants.{Bridge, Made, Allowed}
-use Rattle.setting_keys.specs.declared.SettingValue.TheVariants.{Number, Ports}
+use Rattle.setting_keys.specs.declared.SettingKey.TheVariants.{Bridge, Made, Allowed, FamilyMask, FamilyType}
+use Rattle.setting_keys.specs.declared.SettingValue.TheVariants.{Number, Ports, Mask}
 use Rattle.setphase_core.specs.declared.object.Assignment.{Assignment}
 use Rattle.setphase_core.specs.declared.staging.Staged.{Staged}
 use Rattle.setphase_core.specs.declared.world.World.{World}
-use Rattle.setphase_core.specs.Settings.{setting, put, same_index, same_settings, same_port_values, made_number, same_static_row, same_static_rows, same_settings_of}
+use Rattle.setphase_core.specs.Settings.{families_of, setting, put, same_index, same_settings, same_port_values, made_number, same_static_row, same_static_rows, same_marks, same_settings_of}
 use Rattle.setphase_core.specs.Staging.{entry_at, assignment_of_entry, assignments_of, IsDistinct, IsLegal, AreLegal}
 use Rattle.setphase_core.specs.Tested.{value_among}
 use Rattle.setphase_core.specs.Together.{assign}
 use Rattle.setphase_core.proofs.Assigns.{different, distinct_below, assign_more}
-use Rattle.setphase_core.proofs.Firsts.{same_itself, same_bool-Decides, same_ports-Decides}
+use Rattle.setphase_core.proofs.FamilyPuts.{same_bool-Decides, marks, marks-Decides, mask_alike, type_alike}
+use Rattle.setphase_core.proofs.Firsts.{same_itself, same_ports-Decides}
 use Rattle.setphase_core.proofs.Puts.{put-again, ports-kept}
 use Rattle.setphase_core.proofs.StaticPuts.{index-exact, index-itself}
 use Rattle.setphase_core.proofs.Timers.{given_value}
@@ -45,26 +46,35 @@ row-Decides r s =
 pub rows-Decides : (rows others : List StaticRow) → Decides (same_static_rows rows others) (rows ≡ others)
 rows-Decides rows others = slice_eq-Decides {E = same_static_row} row-Decides rows others _ refl
 
--- Settings are the same where both parts are.
-pub same_of-Decides : (v w : World) → Decides (same_settings_of v w) ((v.bridge.settings ≡ w.bridge.settings) × (v.bridge.statics.rows ≡ w.bridge.statics.rows))
+-- The settings that are none of the bridge or of its ports are the same where the static rows are,
+-- and the masks and types of family rows.
+pub others-Decides : (v w : World) → Decides (same_static_rows v.bridge.statics.rows w.bridge.statics.rows && same_marks (families_of v) (families_of w)) ((v.bridge.statics.rows ≡ w.bridge.statics.rows) × (marks (families_of v) ≡ marks (families_of w)))
+others-Decides v w =
+    Decides-and _ _ (rows-Decides v.bridge.statics.rows w.bridge.statics.rows) (marks-Decides (families_of v) (families_of w))
+
+-- Settings are the same where all parts are.
+pub same_of-Decides : (v w : World) → Decides (same_settings_of v w) ((v.bridge.settings ≡ w.bridge.settings) × ((v.bridge.statics.rows ≡ w.bridge.statics.rows) × (marks (families_of v) ≡ marks (families_of w))))
 same_of-Decides v w =
-    Decides-like _ (λ h. (h.0, h.1)) (λ h. (h.0, h.1))
-    (Decides-and _ _ (same_settings-Decides v.bridge.settings w.bridge.settings) (rows-Decides v.bridge.statics.rows w.bridge.statics.rows))
+    Decides-and _ _ (same_settings-Decides v.bridge.settings w.bridge.settings) (others-Decides v w)
 
 -- A world and itself.
 pub same_itself_of : (w v : World) → v ≡ w → false ≡ not (same_settings_of w v)
 same_itself_of w v e =
-    ap not (sym ((same_of-Decides w v).1 (ap (λ (x : World). x.bridge.settings) (sym e), ap (λ (x : World). x.bridge.statics.rows) (sym e))))
+    ap not (sym ((same_of-Decides w v).1 (ap (λ (x : World). x.bridge.settings) (sym e), (ap (λ (x : World). x.bridge.statics.rows) (sym e), ap (λ (x : World). marks (families_of x)) (sym e)))))
 
--- Static settings are the same where the rows are, at bridges of as many ports.
+-- Each setting is the same then, those of static rows at bridges of as many ports.
 same_each : (w v : World) (k : SettingKey) → port_count w.bridge ≡ port_count v.bridge →
     same_settings_of w v ≡ true → setting w k ≡ setting v k
 same_each w v (Bridge k) n e = ap (λ (t : Table). Number (get t k)) ((same_of-Decides w v).0 e).0
 same_each w v (Made i) n e =
-    ap (λ (rows : List StaticRow). Number (made_number (is_made_in (row_of rows i)))) ((same_of-Decides w v).0 e).1
+    ap (λ (rows : List StaticRow). Number (made_number (is_made_in (row_of rows i)))) ((same_of-Decides w v).0 e).1.0
 same_each w v (Allowed i) n e =
-    ap (λ (rows : List StaticRow). Ports (ports_of (port_count w.bridge) (row_of rows i))) ((same_of-Decides w v).0 e).1
+    ap (λ (rows : List StaticRow). Ports (ports_of (port_count w.bridge) (row_of rows i))) ((same_of-Decides w v).0 e).1.0
     ∙ ap (λ m. Ports (ports_of m (row_of v.bridge.statics.rows i))) n
+same_each w v (FamilyMask k) n e =
+    ap Mask (mask_alike (families_of w) (families_of v) k ((same_of-Decides w v).0 e).1.1)
+same_each w v (FamilyType k) n e =
+    ap Number (type_alike (families_of w) (families_of v) k ((same_of-Decides w v).0 e).1.1)
 
 -- A setting that has another value in the other world.
 pub other_of : (w v : World) (k : SettingKey) → port_count w.bridge ≡ port_count v.bridge →

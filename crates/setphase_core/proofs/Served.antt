@@ -34,12 +34,16 @@ use Rattle.setphase_core.specs.declared.column.TpPort.{TpPort}
 use Rattle.setphase_core.specs.declared.column.TpPort.TheVariants as tp_port
 use Rattle.setphase_core.specs.declared.column.Static.{Static}
 use Rattle.setphase_core.specs.declared.column.Static.TheVariants as static_column
+use Rattle.setphase_core.specs.declared.column.Family.{Family}
+use Rattle.setphase_core.specs.declared.column.Family.TheVariants as family
 use Rattle.setphase_core.specs.declared.column.Column.{Column}
 use Rattle.setphase_core.specs.declared.column.Column.TheVariants as column
-use Rattle.setphase_core.specs.Values.{IndexedValue, by_address, by_static, numbers_from}
-use Rattle.setphase_core.specs.Columns.{shown_by, base_value, base_port_value, stp_value, stp_port_value, rapid_value, ext_port_value, tp_value, tp_fdb_value, tp_port_value, static_value}
+use Rattle.setphase_core.specs.Values.{IndexedValue, by_address, by_static, in_index_order, numbers_from}
+use Rattle.setphase_core.specs.Columns.{shown_by, base_value, base_port_value, stp_value, stp_port_value, rapid_value, ext_port_value, tp_value, tp_fdb_value, tp_port_value, static_value, family_value}
 use Rattle.setphase_core.specs.Objects.{ObjectRow}
 use Rattle.setphase_core.specs.Registry.{first_fault, AreNamed, IsKept, under, instances_under, instances}
+use Rattle.vacm_core.specs.declared.tables.FamilyRow.{FamilyRow}
+use Rattle.setphase_core.proofs.Families.{instance_of}
 use Rattle.setphase_core.proofs.Found.{instances-cons, instances-nil}
 use Rattle.setphase_core.proofs.Rising.{instances_rising}
 
@@ -129,6 +133,10 @@ static_served static_column.ReceivePort b r = record { encodable = tt; valued = 
 static_served static_column.AllowedToGoTo b r = record { encodable = tt; valued = tt }
 static_served static_column.Status b r = record { encodable = tt; valued = tt }
 
+family_served : (c : Family) (r : FamilyRow) → IsServed (family_value c r)
+family_served family.Mask r = record { encodable = tt; valued = tt }
+family_served family.Type r = record { encodable = tt; valued = tt }
+
 ports_served : (first count : ℕ) (f : ℕ → Value) → ((n : ℕ) → IsServed (f n)) → AllByRecursion (λ (s : IndexedValue). IsServed s.value) (map (λ n. record { index = n ∷ []; value = f n }) (numbers_from first count))
 ports_served first zero f h = tt
 ports_served first (suc count) f h = (h first, ports_served (first + 1) count f h)
@@ -146,6 +154,10 @@ statics_served : (rows : List StaticRow) (f : StaticRow → Value) → ((r : Sta
 statics_served [] f h = tt
 statics_served (r ∷ rows) f h = made_served r rows f r.made (h r) (statics_served rows f h)
 
+families_served : (rows : List FamilyRow) (f : FamilyRow → Value) → ((r : FamilyRow) → IsServed (f r)) → AllByRecursion (λ (s : IndexedValue). IsServed s.value) (map (instance_of f) rows)
+families_served [] f h = tt
+families_served (r ∷ rows) f h = (h r, families_served rows f h)
+
 all_served : (c : Column) (w : World) → AllByRecursion (λ s. IsServed s.value) (shown_by c w)
 unfolding shown_by
 all_served (column.Base c) w = (base_served c w.bridge, tt)
@@ -158,6 +170,7 @@ all_served (column.Tp c) w = (tp_served c w.bridge, tt)
 all_served (column.TpFdb c) w = addresses_served w.bridge.learned (tp_fdb_value c) (tp_fdb_served c)
 all_served (column.TpPort c) w = ports_served 1 (port_count w.bridge) (tp_port_value c w.bridge) (tp_port_served c w.bridge)
 all_served (column.Static c) w = statics_served w.bridge.statics.rows (static_value c w.bridge) (static_served c w.bridge)
+all_served (column.Family c) w = families_served (in_index_order w.policy.vacm.families) (family_value c) (family_served c)
 
 -- ---- names
 

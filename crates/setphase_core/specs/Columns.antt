@@ -1,6 +1,7 @@
--- What each object shows of a world, as RFC 4188 (BRIDGE-MIB) and RFC 4318 (RSTP-MIB) have it, in
--- the order of the objects' names. Above each row stand its name under 1.3.6.1.2.1.17 and its
--- descriptor.
+-- What each object shows of a world, as RFC 4188 (BRIDGE-MIB), RFC 4318 (RSTP-MIB) and RFC 3415
+-- (SNMP-VIEW-BASED-ACM-MIB) have it, in the order of the objects' names. Above each row stand its
+-- name and its descriptor: the names of the first two modules under 1.3.6.1.2.1.17, those of the
+-- third under 1.3.6.1.6.3.16.
 use Rattle.std.specs.Prelude.{ℕ, ◌*◌, ◌/◌, ◌%◌, ◌^◌, pos, Bool, min, if◌then◌else◌, List, [], ◌∷◌, ◌++◌}
 use Rattle.frame_core.specs.declared.bpdu.BridgeId.{BridgeId}
 use Rattle.fdb_core.specs.declared.row.Row.{Row}
@@ -19,8 +20,9 @@ use Rattle.bridge_core.specs.Bridge.{BridgeState, port_count}
 use Rattle.bridge_core.specs.Facts.{facts_of, port_facts_of}
 use Rattle.message_core.specs.declared.value.Value.{Value}
 use Rattle.message_core.specs.declared.value.Value.TheVariants.{Integer, OctetString, ObjectIdentifier, Counter32, TimeTicks}
+use Rattle.vacm_core.specs.declared.tables.FamilyRow.{FamilyRow}
 use Rattle.setphase_core.specs.declared.world.World.{World}
-use Rattle.setphase_core.specs.declared.limits.TheConstants.{MAX_COST, MAX_PATH_COST, MAX_INFO}
+use Rattle.setphase_core.specs.declared.limits.TheConstants.{MAX_COST, MAX_PATH_COST, MAX_INFO, MAX_INDEX}
 use Rattle.setphase_core.specs.declared.column.Base.{Base}
 use Rattle.setphase_core.specs.declared.column.Base.TheVariants as base
 use Rattle.setphase_core.specs.declared.column.BasePort.{BasePort}
@@ -41,9 +43,11 @@ use Rattle.setphase_core.specs.declared.column.TpPort.{TpPort}
 use Rattle.setphase_core.specs.declared.column.TpPort.TheVariants as tp_port
 use Rattle.setphase_core.specs.declared.column.Static.{Static}
 use Rattle.setphase_core.specs.declared.column.Static.TheVariants as static_column
+use Rattle.setphase_core.specs.declared.column.Family.{Family}
+use Rattle.setphase_core.specs.declared.column.Family.TheVariants as family
 use Rattle.setphase_core.specs.declared.column.Column.{Column}
 use Rattle.setphase_core.specs.declared.column.Column.TheVariants as column
-use Rattle.setphase_core.specs.Values.{IndexedValue, scalar, by_port, by_address, by_static}
+use Rattle.setphase_core.specs.Values.{IndexedValue, scalar, by_port, by_address, by_static, by_family}
 
 -- ---- values
 
@@ -237,6 +241,14 @@ static_value static_column.AllowedToGoTo b r = OctetString (octets_of (port_coun
 -- 5.1.1.4 dot1dStaticStatus: permanent
 static_value static_column.Status b r = number 3
 
+-- ---- RFC 3415, vacmMIBViews
+
+abbrev pub family_value : Family → FamilyRow → Value
+-- 1.5.2.1.3 vacmViewTreeFamilyMask
+family_value family.Mask r = OctetString r.mask
+-- 1.5.2.1.4 vacmViewTreeFamilyType: 1 included, 2 excluded
+family_value family.Type r = number (if r.included then 1 else 2)
+
 -- ---- all objects
 
 -- What a column shows of a world, by rising index.
@@ -251,9 +263,11 @@ shown_by (column.Tp c) w = scalar (tp_value c w.bridge)
 shown_by (column.TpFdb c) w = by_address w.bridge.learned (tp_fdb_value c)
 shown_by (column.TpPort c) w = by_port (port_count w.bridge) (tp_port_value c w.bridge)
 shown_by (column.Static c) w = by_static w.bridge.statics.rows (static_value c w.bridge)
+shown_by (column.Family c) w = by_family w.policy.vacm.families (family_value c)
 
 -- How many numbers an index of a column has at most (RFC 2578, 7.7): the 0 of a scalar, the number
--- of a port, the octets of an address, and those of a static row with its port.
+-- of a port, the octets of an address, those of a static row with its port, and the longest of all,
+-- that of a family.
 abbrev pub longest_index : Column → ℕ
 longest_index (column.Base c) = 1
 longest_index (column.BasePort c) = 1
@@ -265,3 +279,4 @@ longest_index (column.Tp c) = 1
 longest_index (column.TpFdb c) = 6
 longest_index (column.TpPort c) = 1
 longest_index (column.Static c) = 7
+longest_index (column.Family c) = MAX_INDEX

@@ -1,7 +1,7 @@
 -- What a bridge of four ports, made by hand as if in use, shows, all its instances: three speeds
 -- and all states, other settings than the opening ones, two learned addresses, two made static rows,
--- and facts of which most differ from one another, so that few objects could stand for another. No
--- run leads to it, since its root is no port's.
+-- three families of its policy, and facts of which most differ from one another, so that few objects
+-- could stand for another. No run leads to it, since its root is no port's.
 use Rattle.std.specs.Prelude.{ℕ, Bool, true, false, List, [], ◌∷◌, ◌++◌}
 use Rattle.frame_core.specs.declared.mac.Mac.{Mac}
 use Rattle.frame_core.specs.declared.bpdu.Times.{Times}
@@ -17,6 +17,7 @@ use Rattle.rstp_rules.specs.Ports.{opening_port}
 use Rattle.rstp_core.specs.Tree.{Tree}
 use Rattle.rstp_core.specs.Settled.{settled_of}
 use Rattle.bridge_core.specs.Bridge.{BridgeState, Counters}
+use Rattle.vacm_core.specs.declared.tables.FamilyRow.{FamilyRow}
 use Rattle.community_core.specs.Communities.{PolicyTables}
 use Rattle.message_core.specs.declared.binding.Binding.{Binding}
 use Rattle.message_core.specs.declared.value.Value.{Value}
@@ -151,6 +152,29 @@ bridge_in_use = record {
   counters = counters_in_use;
 }
 
+-- The families of the views "wide" and "ops". Their order is not that of their indexes: the shorter
+-- name comes first, and of two subtrees the shorter.
+abbrev pub families_in_use : List FamilyRow
+families_in_use =
+    record {
+      view = 119 ∷ 105 ∷ 100 ∷ 101 ∷ [];
+      subtree = 1 ∷ 3 ∷ 6 ∷ 1 ∷ 2 ∷ 1 ∷ 17 ∷ [];
+      mask = 254 ∷ 0 ∷ [];
+      included = true;
+    }
+    ∷ record {
+      view = 111 ∷ 112 ∷ 115 ∷ [];
+      subtree = 1 ∷ 3 ∷ 6 ∷ 1 ∷ 2 ∷ 1 ∷ 17 ∷ 4 ∷ [];
+      mask = 255 ∷ [];
+      included = false;
+    }
+    ∷ record {
+      view = 111 ∷ 112 ∷ 115 ∷ [];
+      subtree = 1 ∷ 3 ∷ 6 ∷ 1 ∷ 6 ∷ 3 ∷ [];
+      mask = [];
+      included = true;
+    } ∷ []
+
 -- The world of that bridge, whatever its policy.
 abbrev pub world_in_use : PolicyTables → World
 world_in_use policy =
@@ -271,7 +295,29 @@ static_in_use =
     ++ of_statics (5 ∷ 1 ∷ 1 ∷ 3 ∷ []) (OctetString (160 ∷ [])) (OctetString (0 ∷ []))
     ++ of_statics (5 ∷ 1 ∷ 1 ∷ 4 ∷ []) (number 3) (number 3)
 
+-- An instance of vacmViewTreeFamilyEntry.
+abbrev pub family_instance : ℕ → List ℕ → Value → Binding
+family_instance column index v = record {
+  name = (1 ∷ 3 ∷ 6 ∷ 1 ∷ 6 ∷ 3 ∷ 16 ∷ 1 ∷ 5 ∷ 2 ∷ 1 ∷ column ∷ []) ++ index;
+  value = v;
+}
+
+-- The instances of a column of the three families.
+abbrev pub of_families : ℕ → Value → Value → Value → List Binding
+of_families column v1 v2 v3 =
+    family_instance column (3 ∷ 111 ∷ 112 ∷ 115 ∷ 6 ∷ 1 ∷ 3 ∷ 6 ∷ 1 ∷ 6 ∷ 3 ∷ []) v1
+    ∷ family_instance column (3 ∷ 111 ∷ 112 ∷ 115 ∷ 8 ∷ 1 ∷ 3 ∷ 6 ∷ 1 ∷ 2 ∷ 1 ∷ 17 ∷ 4 ∷ []) v2
+    ∷ family_instance column
+    (4 ∷ 119 ∷ 105 ∷ 100 ∷ 101 ∷ 7 ∷ 1 ∷ 3 ∷ 6 ∷ 1 ∷ 2 ∷ 1 ∷ 17 ∷ []) v3 ∷ []
+
+-- vacmViewTreeFamilyTable
+abbrev pub family_in_use : List Binding
+family_in_use =
+    of_families 3 (OctetString []) (OctetString (255 ∷ [])) (OctetString (254 ∷ 0 ∷ []))
+    ++ of_families 4 (number 1) (number 2) (number 1)
+
 -- All its instances, by rising name.
 unfoldable pub instances_in_use : List Binding
 instances_in_use =
     base_in_use ++ stp_in_use ++ stp_ports_in_use ++ rapid_in_use ++ tp_in_use ++ static_in_use
+    ++ family_in_use

@@ -1,5 +1,5 @@
--- The names of the objects, as the modules of RFC 4188 (BRIDGE-MIB) and RFC 4318 (RSTP-MIB) place
--- them under dot1dBridge.
+-- The names of the objects, as the modules of RFC 4188 (BRIDGE-MIB), RFC 4318 (RSTP-MIB) and RFC
+-- 3415 (SNMP-VIEW-BASED-ACM-MIB) place them.
 use Rattle.std.specs.Prelude.{ℕ, List, [], ◌∷◌, ◌++◌, map}
 use Rattle.setphase_core.specs.declared.column.Base.{Base}
 use Rattle.setphase_core.specs.declared.column.Base.TheVariants as base
@@ -21,6 +21,8 @@ use Rattle.setphase_core.specs.declared.column.TpPort.{TpPort}
 use Rattle.setphase_core.specs.declared.column.TpPort.TheVariants as tp_port
 use Rattle.setphase_core.specs.declared.column.Static.{Static}
 use Rattle.setphase_core.specs.declared.column.Static.TheVariants as static_column
+use Rattle.setphase_core.specs.declared.column.Family.{Family}
+use Rattle.setphase_core.specs.declared.column.Family.TheVariants as family
 use Rattle.setphase_core.specs.declared.column.Column.{Column}
 use Rattle.setphase_core.specs.declared.column.Column.TheVariants as column
 use Rattle.setphase_core.specs.Objects.{ObjectRow}
@@ -114,6 +116,11 @@ static_name static_column.ReceivePort = bridge_name (5 ∷ 1 ∷ 1 ∷ 2 ∷ [])
 static_name static_column.AllowedToGoTo = bridge_name (5 ∷ 1 ∷ 1 ∷ 3 ∷ [])
 static_name static_column.Status = bridge_name (5 ∷ 1 ∷ 1 ∷ 4 ∷ [])
 
+-- vacmViewTreeFamilyEntry, 1.3.6.1.6.3.16.1.5.2.1
+abbrev pub family_name : Family → List ℕ
+family_name family.Mask = 1 ∷ 3 ∷ 6 ∷ 1 ∷ 6 ∷ 3 ∷ 16 ∷ 1 ∷ 5 ∷ 2 ∷ 1 ∷ 3 ∷ []
+family_name family.Type = 1 ∷ 3 ∷ 6 ∷ 1 ∷ 6 ∷ 3 ∷ 16 ∷ 1 ∷ 5 ∷ 2 ∷ 1 ∷ 4 ∷ []
+
 -- ---- all objects
 
 abbrev pub name_of : Column → List ℕ
@@ -127,6 +134,7 @@ name_of (column.Tp c) = tp_name c
 name_of (column.TpFdb c) = tp_fdb_name c
 name_of (column.TpPort c) = tp_port_name c
 name_of (column.Static c) = static_name c
+name_of (column.Family c) = family_name c
 
 -- The row of the object of a column.
 abbrev pub row_of : Column → ObjectRow
@@ -158,6 +166,7 @@ columns =
     ++ map column.Static
     (static_column.Address ∷ static_column.ReceivePort ∷ static_column.AllowedToGoTo
     ∷ static_column.Status ∷ [])
+    ++ map column.Family (family.Mask ∷ family.Type ∷ [])
 
 -- The rows of all objects.
 unfoldable pub bridge_rows : List ObjectRow

@@ -1,5 +1,6 @@
 -- What a bridge of two ports shows as it opens, all its instances: of the address
--- 02-00-00-00-00-0A, its ports of 1000 Mb/s and full duplex, with the interface numbers 1 and 2.
+-- 02-00-00-00-00-0A, its ports of 1000 Mb/s and full duplex, with the interface numbers 1 and 2, and
+-- no families in its policy.
 use Rattle.std.specs.Prelude.{ℕ, true, List, [], ◌∷◌}
 use Rattle.rstp_settings.specs.declared.config.PortConfig.{PortConfig}
 use Rattle.community_core.specs.Communities.{PolicyTables}

@@ -6,6 +6,9 @@ use Rattle.fdb_core.specs.Rows.{IsRising as AreRising}
 use Rattle.fdb_core.specs.Statics.{IsRising as AreRisingStatics}
 use Rattle.oid_core.specs.Order.{name_lt, is_prefix}
 use Rattle.oid_core.specs.declared.limits.TheConstants.{INLINE_NUMBERS, MAX_NUMBERS}
+use Rattle.vacm_core.specs.declared.limits.TheConstants.{MAX_FAMILY}
+use Rattle.vacm_core.specs.Rows.{same_family}
+use Rattle.vacm_core.specs.Tables.{KeysDiffer}
 use Rattle.message_core.specs.declared.binding.Binding.{Binding}
 use Rattle.setphase_core.specs.declared.world.World.{World}
 use Rattle.setphase_core.specs.declared.registry.RegistryFault.{RegistryFault}
@@ -71,11 +74,15 @@ instances_under row w = map (under row.prefix) (shown_by row.column w)
 unfoldable pub instances : List ObjectRow → World → List Binding
 instances rows w = flat_map (λ row. instances_under row w) rows
 
--- What holds of every world that is kept: the learned rows of its bridge are by rising address, and
--- its static rows by rising index.
+-- What holds of every world that is kept: the learned rows of its bridge are by rising address, its
+-- static rows by rising index, and of the families of its policy no two have one key, and each has
+-- an index of at most MAX_INDEX numbers.
 pub record IsKept (w : World) : Type 0 where
   pub learned : AreRising w.bridge.learned
   pub statics : AreRisingStatics w.bridge.statics.rows
+  pub families : KeysDiffer same_family w.policy.vacm.families
+  pub short : AllByRecursion (λ row. length row.view + length row.subtree ≤ MAX_FAMILY)
+      w.policy.vacm.families
 
 -- The instance that is found, if one is, has a name that takes no memory.
 abbrev pub HasShortName : Option Binding → Type 0

@@ -12,7 +12,7 @@ use Rattle.rstp_settings.specs.declared.key.Key.TheVariants as key
 use Rattle.rstp_settings.specs.declared.key.BridgeKey.{BridgeKey}
 use Rattle.rstp_settings.specs.declared.key.BridgeKey.TheVariants as bridge
 use Rattle.setting_keys.specs.declared.SettingKey.{SettingKey}
-use Rattle.setting_keys.specs.declared.SettingKey.TheVariants.{Bridge, Made, Allowed}
+use Rattle.setting_keys.specs.declared.SettingKey.TheVariants.{Bridge, Made, Allowed, FamilyMask, FamilyType}
 use Rattle.setphase_core.specs.declared.world.World.{World}
 use Rattle.setphase_core.specs.declared.object.Assignment.{Assignment}
 use Rattle.setphase_core.specs.declared.sets.Refusal.{Refusal}
@@ -52,6 +52,8 @@ abbrev pub lacks_row : World → SettingKey → Bool
 lacks_row w (Bridge k) = false
 lacks_row w (Made i) = false
 lacks_row w (Allowed i) = not (is_made w.bridge i)
+lacks_row w (FamilyMask n) = false
+lacks_row w (FamilyType n) = false
 
 -- The numbers of the variables that write the allowed ports of a row that is not there once all
 -- values are in place.

@@ -6,6 +6,8 @@ use Rattle.fdb_core.specs.declared.row.Row.{Row}
 use Rattle.fdb_core.specs.declared.static_row.StaticRow.{StaticRow}
 use Rattle.fdb_core.specs.Statics.{numbers_of, made_rows}
 use Rattle.oid_core.specs.Order.{name_lt, name_eq}
+use Rattle.vacm_core.specs.declared.tables.FamilyRow.{FamilyRow}
+use Rattle.vacm_core.specs.FamilyIndex.{family_index, index_before}
 use Rattle.message_core.specs.declared.value.Value.{Value}
 
 -- The value of one instance, and what follows the object's name in its name.
@@ -39,6 +41,22 @@ by_address rows f = map (λ r. record { index = r.address.0; value = f r }) rows
 -- the row for index: the octets of its address, and its port.
 abbrev pub by_static : List StaticRow → (StaticRow → Value) → List IndexedValue
 by_static rows f = map (λ r. record { index = numbers_of r.index; value = f r }) (made_rows rows)
+
+-- A row in front of the first whose index is not before its own.
+abbrev pub with_row : FamilyRow → List FamilyRow → List FamilyRow
+with_row row [] = row ∷ []
+with_row row (next ∷ rows) =
+    if index_before next row then next ∷ with_row row rows else row ∷ next ∷ rows
+
+-- The rows of the table of families by rising index, in whatever order they are kept.
+abbrev pub in_index_order : List FamilyRow → List FamilyRow
+in_index_order [] = []
+in_index_order (row ∷ rows) = with_row row (in_index_order rows)
+
+-- The instances of the table of families have for index the length of the view's name, its octets,
+-- the length of the subtree, and its numbers (RFC 3415, vacmViewTreeFamilyTable).
+abbrev pub by_family : List FamilyRow → (FamilyRow → Value) → List IndexedValue
+by_family rows f = map (λ r. record { index = family_index r; value = f r }) (in_index_order rows)
 
 -- The value under an index, if an instance has it.
 abbrev pub value_at : List IndexedValue → List ℕ → Option Value

@@ -1,6 +1,7 @@
--- How a Set writes each object, as RFC 4188 (BRIDGE-MIB) and RFC 4318 (RSTP-MIB) have it: which
--- setting, which INTEGERs, and what the test of a variable answers (RFC 3416, 4.2.5). Above each
--- row stand its name under 1.3.6.1.2.1.17 and its descriptor; all other objects are read-only.
+-- How a Set writes each object, as RFC 4188 (BRIDGE-MIB), RFC 4318 (RSTP-MIB) and RFC 3415
+-- (SNMP-VIEW-BASED-ACM-MIB) have it: which setting, which INTEGERs, and what the test of a variable
+-- answers (RFC 3416, 4.2.5). Above each row stand its name under 1.3.6.1.2.1.17, or that of the family
+-- table's under 1.3.6.1.6.3.16, and its descriptor; all other objects are read-only.
 use Rattle.std.specs.Prelude.{ℕ, ◌+◌, ◌%◌, ◌==◌, ◌&&◌, ◌<◌, nat_le, nat_lt, ℤ, pos, negsuc, Bool, false, not, if◌then◌else◌, List, [], ◌∷◌, ◌++◌, length, map, filter, Option, Some, None, Result, Ok, Err}
 use Rattle.std.specs.List.{list_all, list_any}
 use Rattle.std.specs.Option.{option_map}
@@ -23,7 +24,9 @@ use Rattle.bridge_core.specs.Statics.{is_made}
 use Rattle.setting_keys.specs.declared.SettingKey.{SettingKey}
 use Rattle.setting_keys.specs.declared.SettingKey.TheVariants as setting
 use Rattle.setting_keys.specs.declared.SettingValue.{SettingValue}
-use Rattle.setting_keys.specs.declared.SettingValue.TheVariants.{Number, Ports}
+use Rattle.setting_keys.specs.declared.SettingValue.TheVariants.{Number, Ports, Mask}
+use Rattle.vacm_core.specs.FamilyIndex.{family_at}
+use Rattle.vacm_core.specs.declared.limits.TheConstants.{MAX_MASK}
 use Rattle.setphase_core.specs.declared.world.World.{World}
 use Rattle.setphase_core.specs.declared.limits.TheConstants.{MAX_SLOTS, MAX_PATH_COST, MAX_STATIC_ROWS, MAX_PORT_OCTETS}
 use Rattle.setphase_core.specs.declared.object.Assignment.{Assignment}
@@ -35,7 +38,7 @@ use Rattle.setphase_core.specs.declared.writable.Target.{Target}
 use Rattle.setphase_core.specs.declared.writable.Target.TheVariants as target
 use Rattle.setphase_core.specs.declared.writable.IntegerTarget.{IntegerTarget}
 use Rattle.setphase_core.specs.declared.writable.Writable.{Writable}
-use Rattle.setphase_core.specs.declared.writable.Writable.TheVariants.{Integer as Integers, Ports as PortOctets}
+use Rattle.setphase_core.specs.declared.writable.Writable.TheVariants.{Integer as Integers, Ports as PortOctets, Mask as MaskOctets}
 use Rattle.setphase_core.specs.Settings.{same_setting, made_by}
 use Rattle.setphase_core.specs.Values.{port_index}
 use Rattle.setphase_core.specs.declared.column.Stp.{Stp}
@@ -50,6 +53,8 @@ use Rattle.setphase_core.specs.declared.column.Tp.{Tp}
 use Rattle.setphase_core.specs.declared.column.Tp.TheVariants as tp
 use Rattle.setphase_core.specs.declared.column.Static.{Static}
 use Rattle.setphase_core.specs.declared.column.Static.TheVariants as static_column
+use Rattle.setphase_core.specs.declared.column.Family.{Family}
+use Rattle.setphase_core.specs.declared.column.Family.TheVariants as family
 use Rattle.setphase_core.specs.declared.column.Column.{Column}
 use Rattle.setphase_core.specs.declared.column.Column.TheVariants as column
 
@@ -115,6 +120,13 @@ static_writable static_column.Status =
     Some (Integers (record { target = target.Made; least = 2; most = 3; step = 1 }))
 static_writable other = None
 
+abbrev pub family_writable : Family → Option Writable
+-- 1.5.2.1.3 vacmViewTreeFamilyMask
+family_writable family.Mask = Some MaskOctets
+-- 1.5.2.1.4 vacmViewTreeFamilyType: 1 included, 2 excluded
+family_writable family.Type =
+    Some (Integers (record { target = target.FamilyType; least = 1; most = 2; step = 1 }))
+
 -- How the instances of a column are written; none where it is read-only.
 abbrev pub writable_of : Column → Option Writable
 writable_of (column.Base c) = None
@@ -127,6 +139,7 @@ writable_of (column.Tp c) = tp_writable c
 writable_of (column.TpFdb c) = None
 writable_of (column.TpPort c) = None
 writable_of (column.Static c) = static_writable c
+writable_of (column.Family c) = family_writable c
 
 -- ---- what a variable writes
 
@@ -134,6 +147,7 @@ writable_of (column.Static c) = static_writable c
 abbrev pub HasStep : Writable → Type 0
 HasStep (Integers x) = 0 < x.step
 HasStep PortOctets = Unit {0}
+HasStep MaskOctets = Unit {0}
 
 -- The object takes this number.
 abbrev pub takes : IntegerTarget → ℕ → Bool
@@ -176,6 +190,8 @@ key_at (target.Bridge k) w at =
 key_at (target.Port k) w at =
     option_map (λ n. setting.Bridge (key.Port n k)) (port_index (port_count w.bridge) at)
 key_at target.Made w at = option_map setting.Made (static_index w.bridge at)
+key_at target.FamilyType w at =
+    option_map setting.FamilyType (family_at w.policy.vacm.families at)
 
 -- ---- what a variable writes, or the first of its faults
 
@@ -204,11 +220,24 @@ ports_assignment w at octets =
     else (if has_other_port (port_count w.bridge) octets then Err WrongValue
     else allowed_assignment (static_index w.bridge at) octets)
 
+abbrev pub masked_assignment : Option ℕ → List ℕ → Result Assignment SetFault
+masked_assignment None octets = Err NoCreation
+masked_assignment (Some n) octets =
+    Ok (record { key = setting.FamilyMask n; value = Mask octets })
+
+-- The mask of a family row is 16 octets at most (RFC 3415, vacmViewTreeFamilyMask).
+abbrev pub mask_assignment : World → List ℕ → List ℕ → Result Assignment SetFault
+mask_assignment w at octets =
+    if nat_lt MAX_MASK (length octets) then Err WrongLength
+    else masked_assignment (family_at w.policy.vacm.families at) octets
+
 abbrev pub typed_assignment : Writable → World → List ℕ → Value → Result Assignment SetFault
 typed_assignment (Integers x) w at (Integer i) = integer_assignment x w at i
 typed_assignment (Integers x) w at other = Err WrongType
 typed_assignment PortOctets w at (OctetString octets) = ports_assignment w at octets
 typed_assignment PortOctets w at other = Err WrongType
+typed_assignment MaskOctets w at (OctetString octets) = mask_assignment w at octets
+typed_assignment MaskOctets w at other = Err WrongType
 
 abbrev pub assignment_by : Option Writable → World → List ℕ → Value → Result Assignment SetFault
 assignment_by None w at v = Err NotWritable

@@ -1,5 +1,5 @@
-//! What the managed objects of BRIDGE-MIB (RFC 4188) and RSTP-MIB (RFC 4318) show, by the
-//! descriptors of those modules.
+//! What the managed objects of BRIDGE-MIB (RFC 4188), RSTP-MIB (RFC 4318) and
+//! SNMP-VIEW-BASED-ACM-MIB (RFC 3415) show, by the descriptors of those modules.
 
 /// The scalars of dot1dBase (RFC 4188).
 #[derive(Clone, Copy, Debug, PartialEq, Eq)]
@@ -161,6 +161,15 @@ pub enum Static {
     Status,
 }
 
+/// The columns of vacmViewTreeFamilyTable that may be read (RFC 3415).
+#[derive(Clone, Copy, Debug, PartialEq, Eq)]
+pub enum Family {
+    /// vacmViewTreeFamilyMask
+    Mask,
+    /// vacmViewTreeFamilyType
+    Type,
+}
+
 /// What an object shows.
 #[derive(Clone, Copy, Debug, PartialEq, Eq)]
 pub enum Column {
@@ -184,4 +193,6 @@ pub enum Column {
     TpPort(TpPort),
     /// A column of dot1dStaticTable.
     Static(Static),
+    /// A column of vacmViewTreeFamilyTable.
+    Family(Family),
 }

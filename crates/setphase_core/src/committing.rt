@@ -50,7 +50,10 @@ fn put_line(keys: &mut SettingKeys, key: SettingKey)
 {
     match key {
         SettingKey::Bridge(key) => keys.put_first(key),
-        SettingKey::Made(_) | SettingKey::Allowed(_) => unreachable!(),
+        SettingKey::Made(_)
+        | SettingKey::Allowed(_)
+        | SettingKey::FamilyMask(_)
+        | SettingKey::FamilyType(_) => unreachable!(),
     }
 }
 

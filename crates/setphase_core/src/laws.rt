@@ -1,6 +1,6 @@
 //! Laws of worlds, of what they show, and of lists of objects. Each function does nothing: its
 //! contract is the law.
-ghost use Rattle.std.specs.Prelude.{◌≡◌, ◌≢◌, ◌↔◌, ◌≤◌, ◌<◌, ℕ, Bool, if◌then◌else◌, List, length, filter, None, IsTrue, true};
+ghost use Rattle.std.specs.Prelude.{◌≡◌, ◌≢◌, ◌↔◌, ◌≤◌, ◌<◌, ℕ, Bool, if◌then◌else◌, List, [], length, filter, None, IsTrue, true};
 ghost use Rattle.std.specs.List.{count_by};
 ghost use Rattle.community_core.specs.Communities.{PolicyTables};
 ghost use Rattle.fdb_core.specs.declared.static_row.StaticRow.{StaticRow};
@@ -9,7 +9,8 @@ ghost use Rattle.message_core.specs.Instances.{IsRising};
 ghost use Rattle.rstp_settings.specs.Table.{Table};
 ghost use Rattle.setting_keys.specs.declared.SettingKey.{SettingKey};
 ghost use Rattle.setting_keys.specs.declared.SettingValue.{SettingValue};
-ghost use Rattle.setphase_core.specs.Settings.{setting, put, HasSetting, IsSettingInRange, same_setting, is_static, with_settings, with_rows};
+ghost use Rattle.vacm_core.specs.declared.tables.FamilyRow.{FamilyRow};
+ghost use Rattle.setphase_core.specs.Settings.{families_of, setting, put, HasSetting, IsSettingInRange, same_setting, is_static, with_settings, with_rows, with_families_in, with_marks_of};
 ghost use Rattle.setphase_core.specs.declared.world.World.{World};
 ghost use Rattle.setphase_core.specs.Objects.{ObjectRow};
 ghost use Rattle.setphase_core.specs.Names.{bridge_rows};
@@ -17,7 +18,7 @@ ghost use Rattle.setphase_core.specs.Registry.{first_fault, prefixes_of, AreApar
 ghost use Rattle.setphase_core.specs.Passing.{open_instances, passed_after, PassesHidden};
 ghost use Rattle.setphase_core.specs.Searching.{least_comparisons};
 ghost use Rattle.setphase_core.specs.Opening.{opening_world, opening_instances};
-ghost use Rattle.setphase_core.specs.InUse.{world_in_use, instances_in_use};
+ghost use Rattle.setphase_core.specs.InUse.{families_in_use, world_in_use, instances_in_use};
 
 use crate::limits::{
     MAX_COST, MAX_INDEX, MAX_INFO, MAX_PATH_COST, MAX_PORT_OCTETS, MAX_SLOTS, MAX_STATIC_ROWS,
@@ -66,8 +67,8 @@ pub fn puts_commute()
         → put (put w k v) l u ≡ put (put w l u) k v }
 {}
 
-/// Settings that agree on every key are equal: those of a bridge, and static rows that are in order,
-/// of the bridge's ports, and each made or with not all ports.
+/// Settings that agree on every key are equal: those of a bridge, static rows that are in order, of
+/// the bridge's ports, and each made or with not all ports, and the masks and types of family rows.
 pub fn equal_on_every_key()
     ensures bridge { (w : World) (t : Table) → length t.ports ≡ length w.bridge.settings.ports
         → ((k : SettingKey) → HasSetting w k → setting (with_settings w t) k ≡ setting w k)
@@ -75,6 +76,9 @@ pub fn equal_on_every_key()
     ensures statics { (w : World) (rows : List StaticRow) → HasStatics (with_rows w rows).bridge
         → HasStatics w.bridge → ((k : SettingKey) → is_static k ≡ true
         → setting (with_rows w rows) k ≡ setting w k) → with_rows w rows ≡ w }
+    ensures families { (w : World) (rows : List FamilyRow) → ((k : SettingKey) → HasSetting w k
+        → setting (with_families_in w rows) k ≡ setting w k)
+        → with_marks_of rows (families_of w) ≡ families_of w }
 {}
 
 /// Of the names of objects that make a registry none begins another.
@@ -110,25 +114,25 @@ pub fn an_object_takes_a_comparison()
         → 1 ≤ least_comparisons prefixes name }
 {}
 
-/// The 55 objects of RFC 4188 and RFC 4318 in the order of their names make a registry.
+/// The 57 objects of RFC 4188, RFC 4318 and RFC 3415 in the order of their names make a registry.
 pub fn objects_are_accepted()
-    ensures count { length bridge_rows ≡ 55 }
+    ensures count { length bridge_rows ≡ 57 }
     ensures accepted { first_fault bridge_rows ≡ None }
     ensures named { AreNamed bridge_rows }
 {}
 
-/// What they show of a bridge of two ports as it opens: 75 instances.
+/// What they show of a bridge of two ports as it opens, whose policy has no families: 75 instances.
 pub fn opening_bridge_shows_75()
     ensures count { length opening_instances ≡ 75 }
-    ensures instances { (policy : PolicyTables)
+    ensures instances { (policy : PolicyTables) → policy.vacm.families ≡ []
         → instances bridge_rows (opening_world policy) ≡ opening_instances }
 {}
 
 /// What they show of a bridge of four ports, made by hand as if in use, most of whose facts differ
-/// from one another: 143 instances.
-pub fn bridge_in_use_shows_143()
-    ensures count { length instances_in_use ≡ 143 }
-    ensures instances { (policy : PolicyTables)
+/// from one another, and of three families that its policy has in another order: 149 instances.
+pub fn bridge_in_use_shows_149()
+    ensures count { length instances_in_use ≡ 149 }
+    ensures instances { (policy : PolicyTables) → policy.vacm.families ≡ families_in_use
         → instances bridge_rows (world_in_use policy) ≡ instances_in_use }
 {}
 

@@ -1,5 +1,5 @@
 //! The world that an agent serves, its settings by key, and the managed objects that show it (RFC
-//! 4188, RFC 4318).
+//! 4188, RFC 4318, RFC 3415).
 //!
 //! # Entry points
 //! [`World`]: the bridge, the policy, and what was dropped, with `get_setting` and `put_setting` by
@@ -17,10 +17,11 @@
 //! [`run_set`]: a Set over a registry and a world, all its variables or none, told as a
 //! [`SetOutcome`], with its [`Refusal`]; [`Staging`]: its steps.
 //! [`is_scalar`], [`scalar_after`], [`port_at`], [`port_after`]: the indexes of scalars and ports;
+//! [`family_at`], [`family_after`]: the rows of vacmViewTreeFamilyTable by index;
 //! [`Writable`], [`assignment_by`], [`Slots`]: how an object is written, what a variable of it
 //! writes, and what it reserved; for those who write objects.
 //! [`Column`] is what an object shows: [`Base`], [`BasePort`], [`Stp`], [`StpPort`], [`Rapid`],
-//! [`ExtPort`], [`Tp`], [`TpFdb`], [`TpPort`], [`Static`], by an [`Index`]. [`Target`] is the setting
+//! [`ExtPort`], [`Tp`], [`TpFdb`], [`TpPort`], [`Static`], [`Family`], by an [`Index`]. [`Target`] is the setting
 //! that an object writes by INTEGERs, [`IntegerTarget`] with those that it takes; the ports of a static
 //! row are written by octets. [`Assignment`] is what a variable writes, [`Slot`] what a test reserves,
 //! [`Reservation`] what stands at a place; [`TestedVariable`], [`Standing`] and [`Staged`] are
@@ -29,8 +30,9 @@
 //! [`MAX_PATH_COST`], [`MAX_INFO`], [`MAX_STATIC_ROWS`], [`MAX_PORT_OCTETS`].
 //!
 //! # Definitions
-//! `specs/Settings.antt`: the settings of a world as a finite map, those of its bridge and of its
-//! static rows; `specs/Flat.antt`: a policy as its rows; `specs/Columns.antt`: what each object
+//! `specs/Settings.antt`: the settings of a world as a finite map, those of its bridge, of its
+//! static rows and of its rows of view families; `specs/Flat.antt`: a policy as its rows;
+//! `specs/Columns.antt`: what each object
 //! shows, row by row, and its longest index; `specs/Writing.antt`: how each is written;
 //! `specs/Names.antt`: the objects' names; `specs/Values.antt`: values by index;
 //! `specs/Objects.antt`: an object as plain data; `specs/Plans.antt`: which of the next calls of
@@ -57,18 +59,20 @@
 //! `specs/Objects.antt`, and `proofs/Room.antt`. Beside these the
 //! timers and the ports of rows that are not there (`specs/Together.antt`, `src/sets.rt`) and what
 //! could not be undone (`src/committing.rt`) go by kinds of keys, and say of a new one that it is
-//! none of theirs.
+//! none of theirs. A value may have a type with a model, as a mask has: a slot that is used
+//! again is then handed on by reference, and what is known of an entry that is read from a list is
+//! in `entry_read` of `proofs/Assigns.antt`.
 //!
 //! # Laws
 //! In [`laws`]: the settings of a world are a finite map; of the names of a registry's objects none
 //! begins another; the names of all instances rise, whatever the objects are, where the learned
-//! rows of the bridge are by rising address, and its static rows by rising index, as those of every
-//! `Bridge` are; a walk that passes
-//! over only objects none of whose names is shown misses nothing that is shown, and passes over no
+//! rows of the bridge are by rising address, its static rows by rising index, and no two families
+//! of the policy have one key, as it is in every `Bridge` and `Policy`; a walk that passes over
+//! only objects none of whose names is shown misses nothing that is shown, and passes over no
 //! more of them after a name than there are; where there are objects, the object of a name is not
-//! known without a comparison; the 55 objects make a registry; they show 75 instances of a bridge
-//! of two ports as it opens, and 143 of a bridge of four ports, made by hand as if in use, most of
-//! whose facts differ from one another.
+//! known without a comparison; the 57 objects make a registry; they show 75 instances of a bridge
+//! of two ports as it opens, without families, and 149 of a bridge of four ports and three
+//! families, made by hand as if in use, most of whose facts differ from one another.
 //!
 //! # Not claimed
 //! That changed settings are in force: `Bridge::settle` comes behind them. That an object without a
@@ -76,13 +80,14 @@
 //! the devices are called, but where it shows in which calls of one plan failed: of two objects, and
 //! of calls of which the plan says the same, no clause tells. That a step of `owner_steps` is a
 //! comparison: the clauses say how many there are at least and at most. How long `place_near` takes
-//! by the number `near`. That the objects of a program are the 55.
+//! by the number `near`. That the objects of a program are the 57.
 #![tactic(auto)]
 
 mod boxed;
 mod changing;
 mod column;
 mod committing;
+mod family_index;
 mod flat_world;
 mod held;
 mod index;
@@ -103,7 +108,10 @@ mod testing;
 mod world;
 mod writable;
 
-pub use column::{Base, BasePort, Column, ExtPort, Rapid, Static, Stp, StpPort, Tp, TpFdb, TpPort};
+pub use column::{
+    Base, BasePort, Column, ExtPort, Family, Rapid, Static, Stp, StpPort, Tp, TpFdb, TpPort,
+};
+pub use family_index::{family_after, family_at};
 pub use flat_world::FlatWorld;
 pub use index::{is_scalar, port_after, port_at, scalar_after};
 pub use limits::{

@@ -130,6 +130,7 @@ impl<O: MibObject> Registry<O> {
         let _objects = self.objects.as_slice();
         world.bridge.fdb().known();
         world.bridge.known_statics();
+        world.policy.vacm().rows_are_right();
     }
 
     /// The name of the object whose name begins a name, where there is one. It takes no memory.

@@ -75,7 +75,11 @@ fn is_timer(key: SettingKey) -> bool
                 BridgeKey::MaxAge | BridgeKey::Hello | BridgeKey::ForwardDelay
             )
         }
-        SettingKey::Bridge(Key::Port(..)) | SettingKey::Made(_) | SettingKey::Allowed(_) => false,
+        SettingKey::Bridge(Key::Port(..))
+        | SettingKey::Made(_)
+        | SettingKey::Allowed(_)
+        | SettingKey::FamilyMask(_)
+        | SettingKey::FamilyType(_) => false,
     }
 }
 
@@ -202,7 +206,7 @@ fn timer_after(world: &World, staged: &[Staged], key: BridgeKey) -> u64
 {
     match value_after(world, staged, SettingKey::Bridge(Key::Bridge(key))) {
         SettingValue::Number(number) => u64::from(number),
-        SettingValue::Ports(_) => unreachable!(),
+        SettingValue::Ports(_) | SettingValue::Mask(_) => unreachable!(),
     }
 }
 
@@ -232,7 +236,10 @@ fn lacks_row(world: &World, staged: &[Staged], key: SettingKey) -> bool
             let made = value_after(world, staged, SettingKey::Made(index));
             made == SettingValue::Number(0)
         }
-        SettingKey::Bridge(_) | SettingKey::Made(_) => false,
+        SettingKey::Bridge(_)
+        | SettingKey::Made(_)
+        | SettingKey::FamilyMask(_)
+        | SettingKey::FamilyType(_) => false,
     }
 }
 
@@ -337,7 +344,9 @@ fn count_static(staged: &[Staged]) -> usize
         return 0;
     };
     match first.slot.key {
-        SettingKey::Bridge(_) => count_static(others),
+        SettingKey::Bridge(_) | SettingKey::FamilyMask(_) | SettingKey::FamilyType(_) => {
+            count_static(others)
+        }
         SettingKey::Made(_) | SettingKey::Allowed(_) => 1 + count_static(others),
     }
 }

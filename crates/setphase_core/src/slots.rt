@@ -28,6 +28,17 @@ impl Model for Slots {
     ghost view = { λ s. s.slots.items };
 }
 
+// What stands at the place of a slot before its commit.
+fn pending(slot: &Slot) -> Reservation
+    ensures { result ≡ pending_reservation slot.now }
+{
+    Reservation {
+        key: slot.key,
+        value: slot.value,
+        old: None,
+    }
+}
+
 impl Slots {
     /// None.
     pub fn new() -> Slots
@@ -63,17 +74,13 @@ impl Slots {
         ensures refused { OnErr result (self.new ≡ self.old) }
     {
         let Assignment { key, value } = tested?;
-        if !is_within_rows(world, self.slots.as_slice(), key, value) {
+        if !is_within_rows(world, self.slots.as_slice(), key, &value) {
             return Err(SetFault::ResourceUnavailable);
         }
         let place = self.slots.len();
-        let reservation = Reservation {
-            key,
-            value,
-            old: None,
-        };
-        match self.slots.try_push(reservation) {
-            Ok(()) => Ok(Slot { key, value, place }),
+        let slot = Slot { key, value, place };
+        match self.slots.try_push(pending(&slot)) {
+            Ok(()) => Ok(slot),
             Err(_) => Err(SetFault::ResourceUnavailable),
         }
     }

@@ -86,9 +86,9 @@ pub(crate) fn value_among(staged: &[Staged], key: SettingKey) -> Option<SettingV
 
 // What a slot is to those that are staged.
 #[tactic(auto, using(crate::proofs::Equal::value_equal))]
-fn standing_of(staged: &[Staged], slot: Slot) -> Standing
+fn standing_of(staged: &[Staged], slot: &Slot) -> Standing
     ensures { result
-        ≡ standing_by (value_among (assignments_of staged.now) slot.key) slot.value }
+        ≡ standing_by (value_among (assignments_of staged.now) slot.now.key) slot.now.value }
 {
     match value_among(staged, slot.key) {
         None => Standing::First,
@@ -191,7 +191,8 @@ impl<'a, O: MibObject> Staging<'a, O> {
             return Err(VariableFault::Refused(SetFault::ResourceUnavailable));
         }
         self.tested += 1;
-        let standing = standing_of(self.staged.as_slice(), slot);
+        let standing = standing_of(self.staged.as_slice(), &slot);
+        let key = slot.key;
         if standing == Standing::First {
             let number = self.tested;
             self.staged.push(Staged {
@@ -200,7 +201,6 @@ impl<'a, O: MibObject> Staging<'a, O> {
                 number,
             });
         }
-        let key = slot.key;
         Ok(TestedVariable { key, standing })
     }
 

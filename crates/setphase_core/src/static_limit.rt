@@ -53,13 +53,13 @@ pub(crate) fn is_within_rows(
     world: &World,
     reserved: &[Reservation],
     key: SettingKey,
-    value: SettingValue,
+    value: &SettingValue,
 ) -> bool
-    ensures { result ≡ not (makes_row world.now key value
+    ensures { result ≡ not (makes_row world.now key value.now
         && not (has_rows_left world.now
-        (record { key = key; value = value } ∷ assignments_in reserved.now))) }
+        (record { key = key; value = value.now } ∷ assignments_in reserved.now))) }
 {
-    if !makes_row(world, key, value) {
+    if !makes_row(world, key, *value) {
         return true;
     }
     let Some(left) = MAX_STATIC_ROWS.checked_sub(world.bridge.made_statics()) else {

@@ -1,6 +1,7 @@
 //! What an agent serves.
 ghost use Rattle.std.specs.Prelude.{◌≡◌, IfOk};
 ghost use Rattle.setphase_core.specs.Flat.{policy_of_rows, AreRowsOfTheirPolicy};
+ghost use Rattle.setphase_core.specs.Settings.{type_number};
 
 use crate::flat_world::FlatWorld;
 use bridge_core::Bridge;
@@ -81,13 +82,22 @@ impl World {
             SettingKey::Bridge(key) => SettingValue::Number(self.bridge.get_setting(key)),
             SettingKey::Made(index) => SettingValue::Number(u32::from(self.bridge.is_made(index))),
             SettingKey::Allowed(index) => SettingValue::Ports(self.bridge.allowed(index)),
+            SettingKey::FamilyMask(n) => {
+                let mask = self.policy.vacm().family_row(n).mask;
+                let _short = mask.as_slice();
+                SettingValue::Mask(mask)
+            }
+            SettingKey::FamilyType(n) => {
+                SettingValue::Number(type_number(self.policy.vacm().family_row(n).included))
+            }
         }
     }
 
     /// Gives a setting that there is a value in its range, and answers the one before. Nothing else
     /// changes: the bridge is to be settled behind the last of several (`Bridge::settle`). It takes
     /// no memory: where it brings in a static row, a place must be left of those reserved
-    /// (`Bridge::reserve_static`).
+    /// (`Bridge::reserve_static`). A mask in the place of one with a bit that is 0 takes a walk over
+    /// all family rows (`Vacm::put_mask`).
     pub fn put_setting(&mut self, key: SettingKey, value: SettingValue) -> SettingValue
         requires key { HasSetting self.old key }
         requires value { IsSettingInRange self.old key value }
@@ -105,10 +115,30 @@ impl World {
             (SettingKey::Allowed(index), SettingValue::Ports(ports)) => {
                 SettingValue::Ports(self.bridge.put_allowed(index, ports))
             }
-            (SettingKey::Bridge(_) | SettingKey::Made(_), SettingValue::Ports(_))
-            | (SettingKey::Allowed(_), SettingValue::Number(_)) => unreachable!(),
+            (SettingKey::FamilyMask(n), SettingValue::Mask(mask)) => {
+                SettingValue::Mask(self.policy.put_mask(n, mask))
+            }
+            (SettingKey::FamilyType(n), SettingValue::Number(number)) => {
+                SettingValue::Number(type_number(self.policy.put_type(n, number == 1)))
+            }
+            (
+                SettingKey::Bridge(_) | SettingKey::Made(_) | SettingKey::FamilyType(_),
+                SettingValue::Ports(_) | SettingValue::Mask(_),
+            )
+            | (SettingKey::Allowed(_), SettingValue::Number(_) | SettingValue::Mask(_))
+            | (SettingKey::FamilyMask(_), SettingValue::Number(_) | SettingValue::Ports(_)) => {
+                unreachable!()
+            }
         }
     }
+}
+
+// The type of a family row (RFC 3415, vacmViewTreeFamilyType): 1 where the view includes the
+// family, and 2 where it excludes it.
+fn type_number(included: bool) -> u32
+    ensures { result ≡ type_number included }
+{
+    if included { 1 } else { 2 }
 }
 
 // The rows of a policy as they are written. They stand for it, and are all that it is written as.

@@ -1,6 +1,6 @@
 //! How a Set writes an object, and what one of its variables writes.
 ghost use Rattle.std.specs.Prelude.{◌≡◌, ◌<◌, IfSome};
-ghost use Rattle.setphase_core.specs.Writing.{takes, number_given, key_at, integer_assignment, ports_assignment, assignment_by, HasStep};
+ghost use Rattle.setphase_core.specs.Writing.{takes, number_given, key_at, integer_assignment, ports_assignment, mask_assignment, assignment_by, HasStep};
 
 use crate::index::{is_scalar, port_at};
 use crate::limits::MAX_PORT_OCTETS;
@@ -11,6 +11,7 @@ use fdb_core::{PortSet, has_other_port};
 use message_core::Value;
 use rstp_settings::key::{BridgeKey, Key, MIGRATION_CHECK, PortKey};
 use setting_keys::{SettingKey, SettingValue};
+use vacm_core::{MAX_MASK, Mask};
 
 /// Which setting the instances of an object write.
 #[derive(Clone, Copy, Debug, PartialEq, Eq)]
@@ -21,6 +22,8 @@ pub enum Target {
     Port(PortKey),
     /// Whether the static row of the index is made.
     Made,
+    /// The type of the family row of the index (RFC 3415, vacmViewTreeFamilyType).
+    FamilyType,
 }
 
 impl Target {
@@ -46,6 +49,11 @@ impl Target {
                 Some(SettingKey::Bridge(Key::Port(port, key)))
             }
             Target::Made => static_index(&world.bridge, at).map(SettingKey::Made),
+            Target::FamilyType => world
+                .policy
+                .vacm()
+                .family_at(at)
+                .map(SettingKey::FamilyType),
         }
     }
 }
@@ -58,6 +66,8 @@ pub enum Writable {
     Integer(IntegerTarget),
     /// By the octets of a set of ports, which the static row of the index gets.
     Ports,
+    /// By the octets of a mask, which the family row of the index gets.
+    Mask,
 }
 
 /// Which setting an INTEGER writes, and which INTEGERs are taken: from the least to the most those
@@ -118,6 +128,23 @@ fn ports_assignment(world: &World, at: &[u32], octets: &[u8]) -> Result<Assignme
     Ok(Assignment { key, value })
 }
 
+// What the instance of an index of a family row's mask writes for octets.
+fn mask_assignment(world: &World, at: &[u32], octets: &[u8]) -> Result<Assignment, SetFault>
+    ensures { result ≡ mask_assignment world.now at.now octets.now }
+{
+    if octets.len() > MAX_MASK {
+        return Err(SetFault::WrongLength);
+    }
+    let row = world
+        .policy
+        .vacm()
+        .family_at(at)
+        .ok_or(SetFault::NoCreation)?;
+    let key = SettingKey::FamilyMask(row);
+    let value = SettingValue::Mask(Mask::of(octets));
+    Ok(Assignment { key, value })
+}
+
 /// What a variable of an object that is written so writes, or the first fault that neither
 /// the limit of static rows nor the object's places decide; an object that is read-only refuses each (RFC 3416, 4.2.5). It takes no
 /// memory.
@@ -139,6 +166,11 @@ pub fn assignment_by(
             at,
             octets.as_slice(),
         ),
-        (Writable::Integer(_) | Writable::Ports, _) => Err(SetFault::WrongType),
+        (Writable::Mask, Value::OctetString(octets)) => mask_assignment(
+            world,
+            at,
+            octets.as_slice(),
+        ),
+        (Writable::Integer(_) | Writable::Ports | Writable::Mask, _) => Err(SetFault::WrongType),
     }
 }

@@ -1,5 +1,6 @@
 //! The keys of the settings that a Set may write, and the values that they take: those of a bridge
-//! and of its ports, and those of its static rows (IEEE 802.1D-2004, 7.9.1).
+//! and of its ports, those of its static rows (IEEE 802.1D-2004, 7.9.1), and those of the rows of
+//! view families (RFC 3415, vacmViewTreeFamilyTable).
 //!
 //! # Entry points
 //! [`SettingKey`], [`SettingValue`]: plain data. Of what stands above, `setphase_core` alone tells
@@ -23,6 +24,7 @@ use arrayvec::ArrayVec;
 use fdb_core::{PortSet, StaticIndex};
 use rstp_settings::key::{BridgeKey, Key, PortKey};
 use std::marker::Model;
+use vacm_core::Mask;
 
 /// The name of a setting.
 #[derive(Clone, Copy, Debug, PartialEq, Eq)]
@@ -35,6 +37,12 @@ pub enum SettingKey {
     /// The ports by which frames of an index may go out, where its row is made (RFC 4188,
     /// dot1dStaticAllowedToGoTo).
     Allowed(StaticIndex),
+    /// The mask of the family row of this number, counted from 0 in the policy (RFC 3415,
+    /// vacmViewTreeFamilyMask).
+    FamilyMask(usize),
+    /// The type of the family row of this number, counted from 0 in the policy (RFC 3415,
+    /// vacmViewTreeFamilyType): 1 where the view includes the family, and 2 where it excludes it.
+    FamilyType(usize),
 }
 
 impl Default for SettingKey {
@@ -53,6 +61,8 @@ pub enum SettingValue {
     Number(u32),
     /// A set of ports.
     Ports(PortSet),
+    /// A mask of 0 to 16 octets.
+    Mask(Mask),
 }
 
 impl Default for SettingValue {

@@ -1,5 +1,5 @@
 -- What comes of serving lines that go on interval by interval.
-use Rattle.std.specs.Prelude.{◌||◌, ℕ, Bool, true, false, List, [], ◌∷◌, Result, Ok, Err, Vec}
+use Rattle.std.specs.Prelude.{◌||◌, ◌≡◌, ℕ, Bool, true, false, List, [], ◌∷◌, Option, is_some, Result, Ok, Err, Vec}
 use Rattle.std.specs.declared.alloc.AllocError.{AllocError}
 use Rattle.std.specs.declared.alloc.Global.{Global}
 use Rattle.std.specs.declared.io.Error.{Error}
@@ -9,6 +9,7 @@ use Rattle.live_agent.specs.Deeds.{Deed}
 use Rattle.live_agent.specs.declared.plan.Plan.{Plan}
 use Rattle.live_agent.specs.declared.trace.End.{End}
 use Rattle.live_agent.specs.declared.trace.End.TheVariants.{Rounds, Closed, Full, Wire, Memory}
+use Rattle.live_control.specs.Deeds.{Deed as ControlDeed}
 use Rattle.live_run.specs.declared.lines.Lines.{Lines}
 use Rattle.live_laps.specs.Laps.{HaveGoneOn}
 use Rattle.live_laps.specs.Lines.{all_lines}
@@ -30,39 +31,46 @@ abbrev pub is_any_failure : List End → Bool
 is_any_failure [] = false
 is_any_failure (end ∷ ends) = is_failure end || is_any_failure ends
 
-module _ {A W T V P : Type 0} (worker_did : A → List Deed → A → Type 0) (worker_failures : A → ℕ)
+module _ {A W T C V P : Type 0} (worker_did : A → List Deed → A → Type 0) (worker_failures : A → ℕ)
     (went : W → List Act → W → Type 0) (failures : W → ℕ)
     (ticker_did : T → List Deed → T → Type 0) (ticker_failures : T → ℕ)
+    (control_did : C → List ControlDeed → C → Type 0)
     (watch_went : V → List Note → V → Type 0) (pace_went : P → List Bool → P → Type 0) where
-  -- All these lines, each with such a watch and such a pace, went on interval by interval over this
-  -- history, by this plan, and each ended so.
-  pub record HaveServed (watch : V) (pace : P) (plan : Plan) (start : History) (run : Lines A W T) (ends : List End) : Type 0 where
+  -- All these lines, and the control line where there is a wire for it, each with such a watch and such
+  -- a pace, went on interval by interval over this history, by this plan, and each ended so.
+  pub record HaveServed (watch : V) (pace : P) (plan : Plan) (start : History) (run : Lines A W T)
+      (control : Option C) (ends : List End) : Type 0 where
     pub later : History
-    pub left : List (Watched A W T V P)
+    pub left : List (Watched A W T C V P)
     pub gone_on : HaveGoneOn worker_did worker_failures went failures ticker_did ticker_failures
-        watch_went pace_went plan start later (all_lines watch pace run) left ends
+        control_did watch_went pace_went plan start later (all_lines watch pace run control) left ends
 
   -- What comes of lines that are to go on: nothing is said of where there was no memory to begin with.
-  abbrev pub IsServingForever : V → P → Plan → History → Lines A W T → Result (Vec End Global) AllocError → Type 0
-  IsServingForever watch pace plan start run (Ok ends) = HaveServed watch pace plan start run ends.items
-  IsServingForever watch pace plan start run (Err refused) = Unit {0}
+  abbrev pub IsServingForever : V → P → Plan → History → Lines A W T → Option C
+      → Result (Vec End Global) AllocError → Type 0
+  IsServingForever watch pace plan start run control (Ok ends) =
+      HaveServed watch pace plan start run control ends.items
+  IsServingForever watch pace plan start run control (Err refused) = Unit {0}
 
-  -- Lines of this setup went on, by its plan, with their requests audited where that was asked for.
-  pub record IsServedForeverBy (is_worker_audited : A → Bool) (setup : Setup) (asked : Bool)
+  -- Lines of this setup went on, by its plan, with their requests audited where that was asked for, and
+  -- with a control line where that was.
+  pub record IsServedForeverBy (is_worker_audited : A → Bool) (setup : Setup) (asked controlled : Bool)
       (start : History) (ends : List End) : Type 0 where
     pub plan : Plan
     pub planned : IsPlan setup plan
     pub run : Lines A W T
     pub bound : AreLines setup run
     pub audited : AreAudited is_worker_audited asked run
+    pub control : Option C
+    pub control_is : is_some control ≡ controlled
     pub watch : V
     pub pace : P
-    pub served : HaveServed watch pace plan start run ends
+    pub served : HaveServed watch pace plan start run control ends
 
   -- What comes of a setup that is served without an end: nothing is said of where its sockets could
   -- not be bound, or where there was no memory to begin with.
-  abbrev pub IsServedForever : (A → Bool) → Setup → Bool → History
+  abbrev pub IsServedForever : (A → Bool) → Setup → Bool → Bool → History
       → Result (Vec End Global) Error → Type 0
-  IsServedForever is_worker_audited setup asked start (Ok ends) =
-      IsServedForeverBy is_worker_audited setup asked start ends.items
-  IsServedForever is_worker_audited setup asked start (Err error) = Unit {0}
+  IsServedForever is_worker_audited setup asked controlled start (Ok ends) =
+      IsServedForeverBy is_worker_audited setup asked controlled start ends.items
+  IsServedForever is_worker_audited setup asked controlled start (Err error) = Unit {0}

@@ -1,17 +1,19 @@
 //! Serves an agent without an end.
-ghost use Rattle.std.specs.Prelude.{◌≡◌, ◌<◌, ◌^◌, ◌-◌, true, false, vec_len, IfOk};
+ghost use Rattle.std.specs.Prelude.{◌≡◌, ◌<◌, ◌^◌, ◌-◌, true, false, vec_len, IfOk, is_some};
 ghost use Rattle.live_audit.specs.Audited.{is_audited};
 ghost use Rattle.udp_agent.specs.Binding.{is_audited_worker};
 ghost use Rattle.udp_agent.specs.Lasting.{is_failure, is_any_failure, IsServingForever, IsServedForever};
 
 use crate::binding::plan_of;
-use crate::lasting_binding::{LastingWorker, bind_lasting};
+use crate::lasting_binding::{LastingControl, LastingWorker, bind_lasting, control_wire};
 use crate::ready::log_ready;
 use crate::setup::Setup;
 use crate::telling::Teller;
+use control_socket::ControlSocket;
 use history_core::Kept;
 use live_agent::{End, GatedWire, Paced, PacedWire, Plan};
 use live_audit::Auditing;
+use live_control::ControlWire;
 use live_laps::{Book, Watch, lines_of, serve_laps};
 use live_run::Lines;
 use log::Log;
@@ -47,7 +49,8 @@ pub fn any_failed(ends: &[End]) -> bool
 
 /// Runs the lines of an agent over a history, each in a thread of its own and interval by interval, an
 /// interval being as many rounds as the plan has, until all have ended. Gives how each ended: the
-/// workers, from the first on, the ports, the ticker. Each line has such a watch, to which each
+/// workers, from the first on, the ports, the ticker, and the line of the control socket, where a wire is
+/// handed in for it. Each line has such a watch, to which each
 /// interval of a worker and of the ticker, each fault and the line's end is reported; and such a pace,
 /// by which it waits behind a fault of its wire or want of memory before it begins anew.
 ///
@@ -58,6 +61,7 @@ pub fn serve_lines_forever<
     A: GatedWire + Send,
     W: Wire + Send,
     T: PacedWire + Send,
+    C: ControlWire + Send,
     V: Watch + Send,
     P: Pace + Copy + Send,
     R: Threads + Wait + Sync,
@@ -68,11 +72,13 @@ pub fn serve_lines_forever<
     pace: P,
     kept: Kept<O>,
     lines: Lines<A, W, T>,
+    control: Option<C>,
 ) -> Result<Vec<End>, AllocError>
     requires few { (vec_len lines.workers < 2 ^ 16) × (vec_len lines.ports < 2 ^ 16 - 1) }
-    ensures { IsServingForever A.did A.failures W.went W.failures T.did T.failures V.went P.went watch pace plan.now kept lines result }
+    ensures { IsServingForever A.did A.failures W.went W.failures T.did T.failures C.did V.went P.went
+        watch pace plan.now kept lines control result }
 {
-    let lines = lines_of(plan.alloc, lines, watch, pace)?;
+    let lines = lines_of(plan.alloc, lines, control, watch, pace)?;
     let (_, _, answer) = serve_laps(rt, plan, kept, lines);
     answer
 }
@@ -82,7 +88,8 @@ pub fn serve_lines_forever<
 /// a datagram that the system refuses is lost. A line waits for a second behind a fault of its socket
 /// or want of memory, and begins anew. At the end of each interval of the ticker it logs what all did so
 /// far, and what was lost; where a fault ended an interval, and where a line ends, why. Each worker has
-/// such a gate, by which its requests are audited or not.
+/// such a gate, by which its requests are audited or not. Where a control socket is handed in, an
+/// operator's commands are taken at it; what the ports send of them goes as their frames do.
 ///
 /// # Errors
 /// That of the system where a socket could not be bound, or that there was no memory for what the
@@ -94,14 +101,16 @@ pub fn serve_forever<'r, O: MibObject + Send, R: Threads + Wait + Net + Clock + 
     setup: &Setup,
     kept: Kept<O>,
     audits: &Auditing<'r>,
+    control: Option<ControlSocket<&'r R>>,
 ) -> io::Result<Vec<End>>
     ensures { IsServedForever
         ⟦<LastingWorker<'r, &'r R> as GatedWire>⟧.did
         ⟦<LastingWorker<'r, &'r R> as Wire>⟧.failures
         ⟦<LastingWire<&'r R> as Wire>⟧.went ⟦<LastingWire<&'r R> as Wire>⟧.failures
         ⟦<LastingTicker<&'r R> as PacedWire>⟧.did ⟦<LastingTicker<&'r R> as Wire>⟧.failures
+        ⟦<LastingControl<&'r R> as ControlWire>⟧.did
         ⟦<Teller<'r, R> as Watch>⟧.went ⟦<SecondPace<&'r R> as Pace>⟧.went
-        is_audited_worker setup.now (is_audited audits.now) kept result }
+        is_audited_worker setup.now (is_audited audits.now) (is_some control.entry) kept result }
 {
     let plan = plan_of(alloc, setup)?;
     let sending = Arc::new(
@@ -110,6 +119,7 @@ pub fn serve_forever<'r, O: MibObject + Send, R: Threads + Wait + Net + Clock + 
     )?;
     let pace = WholeSecondPace::new(rt)?;
     let lines = bind_lasting(rt, rt, pace, alloc, setup, &sending, audits)?;
+    let control = control_wire(lines.ports.as_slice(), control)?;
     log_ready(rt, version, setup, audits.backlog().is_some());
     let book = Book::new();
     let watch = Teller {
@@ -119,6 +129,6 @@ pub fn serve_forever<'r, O: MibObject + Send, R: Threads + Wait + Net + Clock + 
         audits: audits.backlog(),
     };
     // Of want of memory `?` makes an error of the system.
-    let ends = serve_lines_forever(rt, &plan, watch, SecondPace::new(rt), kept, lines)?;
+    let ends = serve_lines_forever(rt, &plan, watch, SecondPace::new(rt), kept, lines, control)?;
     Ok(ends)
 }

@@ -1,13 +1,15 @@
 //! Binds the sockets of a setup that is served without an end.
-ghost use Rattle.std.specs.Prelude.{◌≡◌, ◌<◌, ◌-◌, ◌^◌, All, IfOk, length, vec_len};
+ghost use Rattle.std.specs.Prelude.{◌≡◌, ◌<◌, ◌-◌, ◌^◌, All, IfOk, is_some, length, vec_len};
 ghost use Rattle.live_audit.specs.Audited.{is_audited};
 ghost use Rattle.udp_agent.specs.Binding.{AreLines, AreAudited, is_audited_worker};
 
 use crate::binding::{address_of, few};
 use crate::setup::Setup;
 use configuration::{Port, Serve};
+use control_socket::ControlSocket;
 use live_agent::{Gated, Paced};
 use live_audit::Auditing;
+use live_control::Controlled;
 use live_run::Lines;
 use std::alloc::Global;
 use std::io::{self, ErrorKind};
@@ -19,6 +21,10 @@ use wire_core::{LastingWire, Pace, SendingSockets};
 /// The wire of a worker of an agent without an end, whose gate holds nobody, and may be asked for
 /// audits.
 pub type LastingWorker<'b, C> = Gated<LastingWire<C>, Auditing<'b>>;
+
+/// The wire of the line of the control socket: a port's, by which all ports' frames may go, and beside it
+/// the control socket.
+pub type LastingControl<C> = Controlled<LastingWire<C>, ControlSocket<C>>;
 
 /// The lines of an agent without an end, whose ticks go at this pace.
 pub type LastingLines<'b, C, P> = Lines<
@@ -74,6 +80,26 @@ fn share_first<C: Clock + Copy>(ports: &[LastingWire<C>]) -> io::Result<LastingW
     match ports.first() {
         Some(port) => port.share(),
         None => Err(io::Error::from(ErrorKind::InvalidInput)),
+    }
+}
+
+/// The wire of the line of a control socket, if there is one, beside these ports: it shares the socket of
+/// port 1.
+///
+/// # Errors
+/// `InvalidInput` where there is no port; that there are as many wires over the socket as can be counted.
+pub(crate) fn control_wire<C: Clock + Copy + Drop>(
+    ports: &[LastingWire<C>],
+    control: Option<ControlSocket<C>>,
+) -> io::Result<Option<LastingControl<C>>>
+    ensures { IfOk result (λ wire. is_some wire ≡ is_some control) }
+{
+    match control {
+        None => Ok(None),
+        Some(control) => Ok(Some(Controlled {
+            wire: share_first(ports)?,
+            control,
+        })),
     }
 }
 

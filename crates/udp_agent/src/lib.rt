@@ -7,7 +7,8 @@
 //! sockets ([`bind_lines`]) and runs its lines over a history by its plan ([`plan_of`], [`serve_lines`]), each in a thread of its own; [`tell_report`] logs what
 //! they did, [`tell_fault`] why there is no report, a [`ServeFault`]. [`serve_forever`] does the
 //! same without an end ([`serve_lines_forever`]), over lines of its own ([`bind_lasting`]) at which no
-//! send fails and whose workers may be audited (`live_audit`), logs what it serves ([`log_ready`]), and
+//! send fails and whose workers may be audited (`live_audit`), and takes an operator's commands at a
+//! control socket, if it is handed one ([`LastingControl`]), logs what it serves ([`log_ready`]), and
 //! logs as it goes on; [`log_losses`] logs what could not be sent, [`any_failed`] says whether a line failed, [`tell_not_begun`] logs why nothing
 //! was served.
 //!
@@ -22,7 +23,8 @@
 //! On [`serve`] and [`serve_lines`]: what a whole run of the lines promises
 //! (`live_run::serve_run`). On [`serve_forever`] and [`serve_lines_forever`]: what lines that go on
 //! interval by interval promise (`live_laps::serve_laps`), and of [`serve_forever`] also that every
-//! worker is audited exactly where that is asked for.
+//! worker is audited exactly where that is asked for, and that there is a control line exactly where a
+//! control socket is handed in.
 //!
 //! # Not claimed
 //! To which addresses sockets are bound, and by which one a datagram goes; what UDP delivers; that a
@@ -40,7 +42,7 @@ mod telling;
 
 pub use binding::{UdpLines, UdpTicker, UdpWorker, bind_lines, plan_of};
 pub use lasting::{LastingTicker, any_failed, serve_forever, serve_lines_forever};
-pub use lasting_binding::{LastingLines, LastingWorker, bind_lasting};
+pub use lasting_binding::{LastingControl, LastingLines, LastingWorker, bind_lasting};
 pub use losses::log_losses;
 pub use ready::log_ready;
 pub use serving::{ServeFault, serve, serve_lines};

@@ -7,7 +7,7 @@ use live_laps::{Book, Drops, LineName, Watch, Worked};
 use live_lock::Counts;
 use live_run::{Report, RunFault};
 use log::{Log, error, info, warn};
-use std::io;
+use std::fmt::Display;
 use std::sync::Wait;
 use wire_core::{Losses, WireFault};
 
@@ -37,7 +37,7 @@ pub fn tell_fault<R: Log>(rt: &R, fault: &ServeFault) {
 }
 
 /// Logs why nothing was served, in one line of level Error: `not begun: WHY`.
-pub fn tell_not_begun<R: Log>(rt: &R, why: &io::Error) {
+pub fn tell_not_begun<R: Log, E: Display>(rt: &R, why: &E) {
     error!(rt; "not begun: {}", why);
 }
 
@@ -103,6 +103,10 @@ impl<R: Log> Watch for Teller<'_, R> {
         }
     }
 
+    fn dropped<S: Wait>(&self, rt: &S) -> Drops {
+        self.book.read(rt).by_cause
+    }
+
     fn worked<S: Wait>(&mut self, rt: &S, worked: Worked) {
         self.book.add(rt, worked);
     }
@@ -134,6 +138,9 @@ impl<R: Log> Watch for Teller<'_, R> {
                 warn!(self.rt; "port {}: {}, {} so far", number, why, faults)
             }
             LineName::Ticker => warn!(self.rt; "the clock: {}, {} so far", why, faults),
+            LineName::Control => {
+                warn!(self.rt; "the control socket: {}, {} so far", why, faults)
+            }
         }
     }
 
@@ -146,6 +153,7 @@ impl<R: Log> Watch for Teller<'_, R> {
             }
             LineName::Port(number) => error!(self.rt; "port {} ended: {}", number, why),
             LineName::Ticker => error!(self.rt; "the clock ended: {}", why),
+            LineName::Control => error!(self.rt; "the control socket ended: {}", why),
         }
     }
 }

@@ -1,5 +1,7 @@
-//! A worker, a port and a ticker of two rounds an interval, whose wires and pace give more than that.
-use crate::laps::support::{LinesOver, history, lines_broken, lines_failing, plan};
+//! A worker, a port, a ticker and a control line of two rounds an interval, whose wires and pace give more than that.
+use crate::laps::support::{
+    ControlOver, LinesOver, commanding, history, lines_broken, lines_failing, plan,
+};
 use crate::laps::watch::{self, HoldWatch, Told, Totals};
 use live_agent::End;
 use live_laps::{Watch, lines_of, serve_laps};
@@ -13,10 +15,10 @@ use wire_core::{CountPace, WireFault};
 // How the worker, the port and the ticker of a run ended.
 type Ends = (End, End, End);
 
-// How each of three lines ended.
+// How each of three lines ended, with a control line behind them or without.
 fn three(ends: &[End]) -> Option<Ends> {
     match ends {
-        [worker, port, ticker] => Some((*worker, *port, *ticker)),
+        [worker, port, ticker] | [worker, port, ticker, _] => Some((*worker, *port, *ticker)),
         _ => None,
     }
 }
@@ -29,11 +31,12 @@ fn run<V: Watch + Send, R: Threads + Wait + Sync>(
     watch: V,
     waits: u64,
     lines: LinesOver,
+    control: Option<ControlOver>,
 ) -> Result<(Option<Ends>, u64), Fail> {
     if lines.workers.len() > 1 || lines.ports.len() > 1 {
         return Err(Fail::from("three lines"));
     }
-    let lines = lines_of(alloc, lines, watch, CountPace::new(waits))?;
+    let lines = lines_of(alloc, lines, control, watch, CountPace::new(waits))?;
     let (history, _, ends) = serve_laps(rt, &plan(alloc), history(alloc)?, lines);
     Ok((three(ends?.as_slice()), history.next_number()))
 }
@@ -45,8 +48,20 @@ fn watched<R: Threads + Wait + Clock + Sync>(
     waits: u64,
     lines: LinesOver,
 ) -> Result<(Option<Ends>, u64, Told), Fail> {
+    commanded(rt, alloc, waits, lines, None)
+}
+
+// The same beside a control line, if there is a wire for it.
+fn commanded<R: Threads + Wait + Clock + Sync>(
+    rt: &R,
+    alloc: Global,
+    waits: u64,
+    lines: LinesOver,
+    control: Option<ControlOver>,
+) -> Result<(Option<Ends>, u64, Told), Fail> {
     let kept = watch::Kept::new();
-    let (ends, entries) = run(rt, alloc, HoldWatch::new(rt, &kept), waits, lines)?;
+    let watch = HoldWatch::new(rt, &kept);
+    let (ends, entries) = run(rt, alloc, watch, waits, lines, control)?;
     Ok((ends, entries, kept.told(rt)))
 }
 
@@ -158,5 +173,35 @@ fn broken_lines_end_with_their_pace(rt: HostRuntime) -> Result<(), Fail> {
         );
         assert_eq!(rt; ends_told(&told), (Some(RECEIVE), Some(RECEIVE), CLOSED));
     }
+    Ok(())
+}
+
+// At each call at which the control wire fails, or at none, its line goes on: its two links are entered
+// beside what the others enter, and it ends where its wire does.
+#[test]
+fn commands_are_done_beside_the_others(rt: HostRuntime) -> Result<(), Fail> {
+    let alloc = rt.alloc();
+    for call in 0..8 {
+        let lines = lines_failing(alloc, 0, 0)?;
+        let control = Some(commanding(alloc, call)?);
+        let (ends, entries, told) = commanded(&rt, alloc, 1, lines, control)?;
+        assert_eq!(rt; ends, Some((End::Closed, End::Closed, End::Closed)));
+        assert_eq!(rt; (entries, told.control), (11, CLOSED));
+        let faults = told.control_fault.map(|fault| fault.1);
+        assert_eq!(rt; faults, if call == 0 { None } else { Some(1) });
+        assert_eq!(rt; (told.worker_fault, told.port_fault), (None, None));
+    }
+    Ok(())
+}
+
+// A control line that may not wait ends with the fault of its wire, and the others go on.
+#[test]
+fn control_line_that_fails_ends_alone(rt: HostRuntime) -> Result<(), Fail> {
+    let alloc = rt.alloc();
+    let lines = lines_failing(alloc, 0, 0)?;
+    let control = Some(commanding(alloc, 1)?);
+    let (ends, entries, told) = commanded(&rt, alloc, 0, lines, control)?;
+    assert_eq!(rt; ends, Some((End::Closed, End::Closed, End::Closed)));
+    assert_eq!(rt; (entries, told.control), (9, Some(RECEIVE)));
     Ok(())
 }

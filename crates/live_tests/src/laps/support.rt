@@ -7,6 +7,7 @@ use bridge_mib::Planned;
 use frame_core::Mac;
 use history_core::Kept;
 use live_agent::{Gated, OpenGate, Paced, Plan};
+use live_control::Controlled;
 use live_run::Lines;
 use object_list::{Object, objects};
 use setphase_core::{Registry, are_named};
@@ -20,6 +21,9 @@ pub type Wires = FailingWire<MemoryWire>;
 
 /// Lines over them, whose workers no gate holds, and whose ticker has a number of seconds.
 pub type LinesOver = Lines<Gated<Wires, OpenGate>, Wires, Paced<Wires, CountPace>>;
+
+/// The wire of the control line.
+pub type ControlOver = Controlled<Wires, Wires>;
 
 // A manager on this machine.
 fn manager() -> SocketAddr {
@@ -108,4 +112,17 @@ pub fn lines_broken(alloc: Global) -> Result<LinesOver, Fail> {
     let worker = FailingWire::new(broken(alloc)?, 0);
     let port = FailingWire::new(broken(alloc)?, 0);
     lines_over(alloc, worker, port)
+}
+
+/// A control line's wire, which gives three commands, by two of which a link goes down and up, and is
+/// closed behind them; the control wire fails at this call, or at none where it is 0.
+pub fn commanding(alloc: Global, call: u64) -> Result<ControlOver, Fail> {
+    let mut wire = MemoryWire::new(alloc);
+    wire.give_datagram(manager(), b"link 1 down")?;
+    wire.give_datagram(manager(), b"link 1 up")?;
+    wire.give_datagram(manager(), b"counts")?;
+    Ok(Controlled {
+        wire: FailingWire::new(MemoryWire::new(alloc), 0),
+        control: FailingWire::new(wire, call),
+    })
 }

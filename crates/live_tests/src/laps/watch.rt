@@ -1,6 +1,6 @@
 //! A watch that keeps what is reported to it.
 use live_agent::End;
-use live_laps::{Book, LineName, Watch, Worked};
+use live_laps::{Book, Drops, LineName, Watch, Worked};
 use live_lock::Counts;
 use std::sync::{Mutex, Wait};
 use std::thread;
@@ -27,7 +27,7 @@ pub struct Totals {
     pub malformed: u64,
 }
 
-/// What was reported to a watch of a worker, a port and a ticker.
+/// What was reported to a watch of a worker, a port, a ticker and a control line.
 #[derive(Clone, Copy)]
 pub struct Told {
     /// How many intervals the ticker made.
@@ -46,6 +46,10 @@ pub struct Told {
     pub port_fault: Option<(End, u64)>,
     /// The same of the ticker.
     pub ticker_fault: Option<(End, u64)>,
+    /// How the control line ended.
+    pub control: Option<End>,
+    /// The latest fault of the control line, and how many there were.
+    pub control_fault: Option<(End, u64)>,
 }
 
 // Nothing.
@@ -64,6 +68,8 @@ const NOTHING: Told = Told {
     worker_fault: None,
     port_fault: None,
     ticker_fault: None,
+    control: None,
+    control_fault: None,
 };
 
 impl Told {
@@ -79,6 +85,7 @@ impl Told {
             LineName::Worker(_) => self.worker_fault = Some((end, faults)),
             LineName::Port(_) => self.port_fault = Some((end, faults)),
             LineName::Ticker => self.ticker_fault = Some((end, faults)),
+            LineName::Control => self.control_fault = Some((end, faults)),
         }
     }
 
@@ -88,6 +95,7 @@ impl Told {
             LineName::Worker(_) => self.worker = Some(end),
             LineName::Port(_) => self.port = Some(end),
             LineName::Ticker => self.ticker = Some(end),
+            LineName::Control => self.control = Some(end),
         }
     }
 
@@ -146,6 +154,10 @@ impl<R: Wait + Clock> Watch for HoldWatch<'_, R> {
             rt: self.rt,
             kept: self.kept,
         }
+    }
+
+    fn dropped<S: Wait>(&self, rt: &S) -> Drops {
+        self.kept.book.read(rt).by_cause
     }
 
     fn worked<S: Wait>(&mut self, rt: &S, worked: Worked) {

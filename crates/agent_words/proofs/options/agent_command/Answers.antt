@@ -1,7 +1,7 @@
 use Rattle.std.proofs.Common.{codes, []}
 use Rattle.std.proofs.lemmas.Result.{IfOk-weaker}
 use Rattle.clap.specs.Words.{App, with_subcommand}
-use Rattle.agent_words.specs.Options.{agent_shape, file_shape, serve_shape, explain_shape}
+use Rattle.agent_words.specs.Options.{agent_shape, file_shape, serve_shape, explain_shape, tell_shape}
 use Rattle.agent_words.specs.Built.{HasWords}
 use Rattle.agent_words.proofs.Added.{added}
 use Rattle.agent_words.proofs.options.agent_command.Goals as goal
@@ -17,4 +17,6 @@ returns c =
     let h2 = added one check c.in_ok-agent.agent c.check_command.result c.in_ok-agent-2.agent h1 c.check_command.ensures c.in_ok-agent-2.ensures in
     let three = with_subcommand two serve_shape in
     let h3 = added two serve_shape c.in_ok-agent-2.agent c.serve_command.result c.in_ok-agent-3.agent h2 c.serve_command.ensures c.in_ok-agent-3.ensures in
-    IfOk-weaker c.added-4.result _ (HasWords (with_subcommand three explain_shape)) (λ n adds. added three explain_shape c.in_ok-agent-3.agent c.explain_command.result n h3 c.explain_command.ensures adds) c.added-4.ensures
+    let four = with_subcommand three explain_shape in
+    let h4 = added three explain_shape c.in_ok-agent-3.agent c.explain_command.result c.in_ok-agent-4.agent h3 c.explain_command.ensures c.in_ok-agent-4.ensures in
+    IfOk-weaker c.added-5.result _ (HasWords (with_subcommand four tell_shape)) (λ n adds. added four tell_shape c.in_ok-agent-4.agent c.tell_command.result n h4 c.tell_command.ensures adds) c.added-5.ensures

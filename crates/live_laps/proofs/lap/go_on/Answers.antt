@@ -28,7 +28,7 @@ loop-preserved g c =
     let rounds = c.args.plan.now.rounds in
     let on : c.goes_on.result ≡ true = c.if-not-goes_on.false in
     record {
-      lapped = lap_more g.A.GatedWire.did g.A.Wire.failures g.W.Wire.went g.W.Wire.failures g.T.PacedWire.did g.T.Wire.failures g.V.Watch.went g.P.Pace.went s rounds c.loop.counter _ _ _ _ c.loop.invariant.lapped
+      lapped = lap_more g.A.GatedWire.did g.A.Wire.failures g.W.Wire.went g.W.Wire.failures g.T.PacedWire.did g.T.Wire.failures g.C.ControlWire.did g.V.Watch.went g.P.Pace.went s rounds c.loop.counter _ _ _ _ c.loop.invariant.lapped
           (record {
             between = c.pass-end.new.watched;
             interval = c.pass-end.ensures.interval;

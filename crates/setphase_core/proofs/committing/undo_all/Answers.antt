@@ -2,7 +2,8 @@ use Rattle.std.proofs.Common.{◌∙◌, ◌-◌, ap, sym, subst, refl, arith, l
 use Rattle.rstp_settings.specs.declared.key.Key.{Key}
 use Rattle.setting_keys.specs.declared.SettingKey.{SettingKey}
 use Rattle.setphase_core.specs.Settings.{bridge_keys}
-use Rattle.setphase_core.specs.Staging.{no_entry}
+use Rattle.setphase_core.specs.declared.staging.Staged.{Staged}
+use Rattle.setphase_core.proofs.Assigns.{entry_read}
 use Rattle.setphase_core.proofs.Undoes.{Undoes, undo_start, undo_step, undo_failed, undo_room}
 use Rattle.setphase_core.proofs.committing.undo_all.Goals as goal
 
@@ -38,10 +39,11 @@ loop-staging-preserved g c =
 pub loop-staging-preserved-in_default : goal.loop-staging-preserved-in_default
 loop-staging-preserved-in_default g c =
     let i = c.loop-staging.invariant in
-    let key : SettingKey = (slice_index_or c.as_slice.result.now (c.loop-staging.staging.committed - 1) no_entry).slot.key in
+    let key : SettingKey = (slice_index_or c.as_slice.result.now (c.loop-staging.staging.committed - 1) c.index-as_slice-staging.result).slot.key in
+    let here = entry_read c.loop-staging.staging.staged.items c.as_slice.result.now (c.loop-staging.staging.committed - 1) c.index-as_slice-staging.result c.as_slice.ensures.value (omega (arith, i.under_way.counted)) c.index-as_slice-staging.is in
     let after : Undoes c.args.world.now c.args.staging.now.registry.now c.args.staging.now.staged.items c.args.staging.now.committed c.undo_last.new.world c.undo_last.new.self.registry.now c.undo_last.new.self.committed (key ∷ bridge_keys c.loop-staging.stuck)
     = undo_failed c.args.world.now c.loop-staging.world _ c.args.staging.now.registry.now c.loop-staging.staging.registry.now _ c.args.staging.now.staged.items c.loop-staging.staging.staged.items c.args.staging.now.committed c.loop-staging.staging.committed c.undo_last.new.self.committed (bridge_keys c.loop-staging.stuck) i.staged c.requires.under_way.distinct c.requires.under_way.counted (omega (arith, i.counted)) c.undo_last.ensures.committed i.undoes
-    key (ap (λ xs. (slice_index_or xs (c.loop-staging.staging.committed - 1) no_entry).slot.key) c.as_slice.ensures.value)
+    key (ap (λ (x : Staged). x.slot.key) (sym c.index-as_slice-staging.is ∙ here))
     (i.under_way.undoable (c.loop-staging.staging.committed - 1) (omega arith)).within
     c.in_default.ensures.unchanged c.in_default.ensures.failed c.in_default.ensures.fails in
     record {

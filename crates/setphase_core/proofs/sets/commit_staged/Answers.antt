@@ -1,4 +1,5 @@
-use Rattle.std.proofs.Common.{◌≡◌, ◌∙◌, ℕ, ap, sym, refl, subst, not, List, [], ◌∷◌, map, take, Some}
+use Rattle.std.proofs.Common.{◌≡◌, ◌∙◌, ℕ, ◌<◌, ap, sym, refl, subst, not, List, [], ◌∷◌, map, length, take, slice_index_or, Some}
+use Rattle.std.proofs.lemmas.List.{get_or_default}
 use Rattle.setphase_core.specs.declared.staging.Staged.{Staged}
 use Rattle.setphase_core.specs.declared.world.World.{World}
 use Rattle.setphase_core.specs.Objects.{ObjectState}
@@ -7,12 +8,18 @@ use Rattle.setphase_core.specs.Settings.{bridge_keys, same_settings_of}
 use Rattle.setphase_core.specs.Together.{assign, assignments}
 use Rattle.setphase_core.specs.Calls.{calls_by, object_after_set, FollowPlans}
 use Rattle.setphase_core.specs.Outcomes.{CanFail, stuck}
-use Rattle.setphase_core.specs.Staging.{entry_at, entries_of, assignments_of, AreCommitted, HasFailed}
+use Rattle.setphase_core.specs.Staging.{no_entry, entry_at, entries_of, assignments_of, AreCommitted, HasFailed}
 use Rattle.setphase_core.proofs.Room.{may_undo, places-assign}
 use Rattle.setphase_core.proofs.Endings.{done_objects}
 use Rattle.setphase_core.proofs.Runs.{ended_notes, ended_world, ended_objects, ended_by_plan}
 use Rattle.setphase_core.proofs.Same.{same_itself_of}
 use Rattle.setphase_core.proofs.sets.commit_staged.Goals as goal
+
+-- The number of an entry that is read where it stands.
+number_read : (es fs : List Staged) (i : ℕ) (x : Staged) → fs ≡ es → i < length es →
+    (slice_index_or fs i x).number ≡ (entry_at fs i).number
+number_read es fs i x same h =
+    ap (λ (e : Staged). e.number) (get_or_default fs i x no_entry (subst (λ (xs : List Staged). i < length xs) (sym same) h))
 
 pub commit_all-requires-clause-room : goal.commit_all-requires-clause-room
 commit_all-requires-clause-room g c =
@@ -24,56 +31,80 @@ undo_all-keys-requires-clause-may g c =
     c.requires.room
 
 pub returns-then-is_empty-clause-notes : goal.returns-then-is_empty-clause-notes
-returns-then-is_empty-clause-notes g c = λ ws staged. subst (CanFail ws (Some (entry_at c.as_slice.result.now c.in-Some.failed).number)) (ap bridge_keys (c.is_empty.ensures.0 c.if-is_empty.true))
+returns-then-is_empty-clause-notes g c = λ ws staged.
+    let number = number_read c.args.staging.now.staged.items c.as_slice.result.now c.in-Some.failed c.index-as_slice-failed.result (c.as_slice.ensures.value ∙ c.commit_all.ensures.staged) c.in-Some.ensures.failed.within in
+    subst (λ (n : ℕ). CanFail ws (Some n) []) (sym number)
+    (subst (CanFail ws (Some (entry_at c.as_slice.result.now c.in-Some.failed).number)) (ap bridge_keys (c.is_empty.ensures.0 c.if-is_empty.true))
+    (ended_notes c.args.staging.now.registry.now c.commit_all.new.staging.registry.now c.undo_all-keys.new.staging.registry.now c.args.world.now c.commit_all.new.world c.undo_all-keys.new.world ws c.args.staging.now.staged.items c.commit_all.new.staging.staged.items c.as_slice.result.now c.in-Some.failed c.commit_all.new.staging.committed (bridge_keys c.undo_all-keys.result)
+    staged c.requires.distinct c.commit_all.ensures.staged c.as_slice.ensures.value c.in-Some.ensures.committed c.in-Some.ensures.failed
+    c.in-Some.ensures.called
+    c.undo_all-keys.ensures.keys c.undo_all-keys.ensures.undone c.undo_all-keys.ensures.called))
+
+pub returns-then-is_empty-clause-world : goal.returns-then-is_empty-clause-world
+returns-then-is_empty-clause-world g c = λ ws staged agree.
+    let number = number_read c.args.staging.now.staged.items c.as_slice.result.now c.in-Some.failed c.index-as_slice-failed.result (c.as_slice.ensures.value ∙ c.commit_all.ensures.staged) c.in-Some.ensures.failed.within in
+    (ended_world c.args.staging.now.registry.now c.commit_all.new.staging.registry.now c.undo_all-keys.new.staging.registry.now c.args.world.now c.commit_all.new.world c.undo_all-keys.new.world ws c.args.staging.now.staged.items c.commit_all.new.staging.staged.items c.as_slice.result.now c.in-Some.failed c.commit_all.new.staging.committed (bridge_keys c.undo_all-keys.result)
+    staged c.requires.distinct c.commit_all.ensures.staged c.as_slice.ensures.value c.in-Some.ensures.committed c.in-Some.ensures.failed
+    c.in-Some.ensures.called
+    c.undo_all-keys.ensures.keys c.undo_all-keys.ensures.undone c.undo_all-keys.ensures.called
+    ∙ ap (λ keys. assign (assignments (stuck ws (entry_at c.as_slice.result.now c.in-Some.failed).number keys)) c.args.world.now) (ap bridge_keys (c.is_empty.ensures.0 c.if-is_empty.true)))
+    ∙ ap (λ (n : ℕ). assign (assignments (stuck ws n [])) c.args.world.now) (sym number)
+
+pub returns-then-is_empty-clause-objects : goal.returns-then-is_empty-clause-objects
+returns-then-is_empty-clause-objects g c = λ ws staged.
+    let number = number_read c.args.staging.now.staged.items c.as_slice.result.now c.in-Some.failed c.index-as_slice-failed.result (c.as_slice.ensures.value ∙ c.commit_all.ensures.staged) c.in-Some.ensures.failed.within in
+    (ended_objects c.args.staging.now.registry.now c.commit_all.new.staging.registry.now c.undo_all-keys.new.staging.registry.now c.args.world.now c.commit_all.new.world c.undo_all-keys.new.world ws c.args.staging.now.staged.items c.commit_all.new.staging.staged.items c.as_slice.result.now c.in-Some.failed c.commit_all.new.staging.committed (bridge_keys c.undo_all-keys.result)
+    staged c.requires.distinct c.commit_all.ensures.staged c.as_slice.ensures.value c.in-Some.ensures.committed c.in-Some.ensures.failed
+    c.in-Some.ensures.called
+    c.undo_all-keys.ensures.keys c.undo_all-keys.ensures.undone c.undo_all-keys.ensures.called
+    ∙ ap (λ keys. map (object_after_set (calls_by ws (Some (entry_at c.as_slice.result.now c.in-Some.failed).number) keys)) c.args.staging.now.registry.now) (ap bridge_keys (c.is_empty.ensures.0 c.if-is_empty.true)))
+    ∙ ap (λ (n : ℕ). map (object_after_set (calls_by ws (Some n) [])) c.args.staging.now.registry.now) (sym number)
+
+pub returns-else-is_empty-clause-notes : goal.returns-else-is_empty-clause-notes
+returns-else-is_empty-clause-notes g c = λ ws staged.
+    let number = number_read c.args.staging.now.staged.items c.as_slice.result.now c.in-Some.failed c.index-as_slice-failed.result (c.as_slice.ensures.value ∙ c.commit_all.ensures.staged) c.in-Some.ensures.failed.within in
+    subst (λ (n : ℕ). CanFail ws (Some n) (bridge_keys c.undo_all-keys.result)) (sym number)
     (ended_notes c.args.staging.now.registry.now c.commit_all.new.staging.registry.now c.undo_all-keys.new.staging.registry.now c.args.world.now c.commit_all.new.world c.undo_all-keys.new.world ws c.args.staging.now.staged.items c.commit_all.new.staging.staged.items c.as_slice.result.now c.in-Some.failed c.commit_all.new.staging.committed (bridge_keys c.undo_all-keys.result)
     staged c.requires.distinct c.commit_all.ensures.staged c.as_slice.ensures.value c.in-Some.ensures.committed c.in-Some.ensures.failed
     c.in-Some.ensures.called
     c.undo_all-keys.ensures.keys c.undo_all-keys.ensures.undone c.undo_all-keys.ensures.called)
 
-pub returns-then-is_empty-clause-world : goal.returns-then-is_empty-clause-world
-returns-then-is_empty-clause-world g c = λ ws staged agree. ended_world c.args.staging.now.registry.now c.commit_all.new.staging.registry.now c.undo_all-keys.new.staging.registry.now c.args.world.now c.commit_all.new.world c.undo_all-keys.new.world ws c.args.staging.now.staged.items c.commit_all.new.staging.staged.items c.as_slice.result.now c.in-Some.failed c.commit_all.new.staging.committed (bridge_keys c.undo_all-keys.result)
-    staged c.requires.distinct c.commit_all.ensures.staged c.as_slice.ensures.value c.in-Some.ensures.committed c.in-Some.ensures.failed
-    c.in-Some.ensures.called
-    c.undo_all-keys.ensures.keys c.undo_all-keys.ensures.undone c.undo_all-keys.ensures.called
-    ∙ ap (λ keys. assign (assignments (stuck ws (entry_at c.as_slice.result.now c.in-Some.failed).number keys)) c.args.world.now) (ap bridge_keys (c.is_empty.ensures.0 c.if-is_empty.true))
-
-pub returns-then-is_empty-clause-objects : goal.returns-then-is_empty-clause-objects
-returns-then-is_empty-clause-objects g c = λ ws staged. ended_objects c.args.staging.now.registry.now c.commit_all.new.staging.registry.now c.undo_all-keys.new.staging.registry.now c.args.world.now c.commit_all.new.world c.undo_all-keys.new.world ws c.args.staging.now.staged.items c.commit_all.new.staging.staged.items c.as_slice.result.now c.in-Some.failed c.commit_all.new.staging.committed (bridge_keys c.undo_all-keys.result)
-    staged c.requires.distinct c.commit_all.ensures.staged c.as_slice.ensures.value c.in-Some.ensures.committed c.in-Some.ensures.failed
-    c.in-Some.ensures.called
-    c.undo_all-keys.ensures.keys c.undo_all-keys.ensures.undone c.undo_all-keys.ensures.called
-    ∙ ap (λ keys. map (object_after_set (calls_by ws (Some (entry_at c.as_slice.result.now c.in-Some.failed).number) keys)) c.args.staging.now.registry.now) (ap bridge_keys (c.is_empty.ensures.0 c.if-is_empty.true))
-
-pub returns-else-is_empty-clause-notes : goal.returns-else-is_empty-clause-notes
-returns-else-is_empty-clause-notes g c = λ ws staged. ended_notes c.args.staging.now.registry.now c.commit_all.new.staging.registry.now c.undo_all-keys.new.staging.registry.now c.args.world.now c.commit_all.new.world c.undo_all-keys.new.world ws c.args.staging.now.staged.items c.commit_all.new.staging.staged.items c.as_slice.result.now c.in-Some.failed c.commit_all.new.staging.committed (bridge_keys c.undo_all-keys.result)
-    staged c.requires.distinct c.commit_all.ensures.staged c.as_slice.ensures.value c.in-Some.ensures.committed c.in-Some.ensures.failed
-    c.in-Some.ensures.called
-    c.undo_all-keys.ensures.keys c.undo_all-keys.ensures.undone c.undo_all-keys.ensures.called
-
 pub returns-else-is_empty-clause-world : goal.returns-else-is_empty-clause-world
-returns-else-is_empty-clause-world g c = λ ws staged agree. ended_world c.args.staging.now.registry.now c.commit_all.new.staging.registry.now c.undo_all-keys.new.staging.registry.now c.args.world.now c.commit_all.new.world c.undo_all-keys.new.world ws c.args.staging.now.staged.items c.commit_all.new.staging.staged.items c.as_slice.result.now c.in-Some.failed c.commit_all.new.staging.committed (bridge_keys c.undo_all-keys.result)
+returns-else-is_empty-clause-world g c = λ ws staged agree.
+    let number = number_read c.args.staging.now.staged.items c.as_slice.result.now c.in-Some.failed c.index-as_slice-failed.result (c.as_slice.ensures.value ∙ c.commit_all.ensures.staged) c.in-Some.ensures.failed.within in
+    (ended_world c.args.staging.now.registry.now c.commit_all.new.staging.registry.now c.undo_all-keys.new.staging.registry.now c.args.world.now c.commit_all.new.world c.undo_all-keys.new.world ws c.args.staging.now.staged.items c.commit_all.new.staging.staged.items c.as_slice.result.now c.in-Some.failed c.commit_all.new.staging.committed (bridge_keys c.undo_all-keys.result)
     staged c.requires.distinct c.commit_all.ensures.staged c.as_slice.ensures.value c.in-Some.ensures.committed c.in-Some.ensures.failed
     c.in-Some.ensures.called
-    c.undo_all-keys.ensures.keys c.undo_all-keys.ensures.undone c.undo_all-keys.ensures.called
+    c.undo_all-keys.ensures.keys c.undo_all-keys.ensures.undone c.undo_all-keys.ensures.called)
+    ∙ ap (λ (n : ℕ). assign (assignments (stuck ws n (bridge_keys c.undo_all-keys.result))) c.args.world.now) (sym number)
 
 pub returns-else-is_empty-clause-objects : goal.returns-else-is_empty-clause-objects
-returns-else-is_empty-clause-objects g c = λ ws staged. ended_objects c.args.staging.now.registry.now c.commit_all.new.staging.registry.now c.undo_all-keys.new.staging.registry.now c.args.world.now c.commit_all.new.world c.undo_all-keys.new.world ws c.args.staging.now.staged.items c.commit_all.new.staging.staged.items c.as_slice.result.now c.in-Some.failed c.commit_all.new.staging.committed (bridge_keys c.undo_all-keys.result)
+returns-else-is_empty-clause-objects g c = λ ws staged.
+    let number = number_read c.args.staging.now.staged.items c.as_slice.result.now c.in-Some.failed c.index-as_slice-failed.result (c.as_slice.ensures.value ∙ c.commit_all.ensures.staged) c.in-Some.ensures.failed.within in
+    (ended_objects c.args.staging.now.registry.now c.commit_all.new.staging.registry.now c.undo_all-keys.new.staging.registry.now c.args.world.now c.commit_all.new.world c.undo_all-keys.new.world ws c.args.staging.now.staged.items c.commit_all.new.staging.staged.items c.as_slice.result.now c.in-Some.failed c.commit_all.new.staging.committed (bridge_keys c.undo_all-keys.result)
     staged c.requires.distinct c.commit_all.ensures.staged c.as_slice.ensures.value c.in-Some.ensures.committed c.in-Some.ensures.failed
     c.in-Some.ensures.called
-    c.undo_all-keys.ensures.keys c.undo_all-keys.ensures.undone c.undo_all-keys.ensures.called
+    c.undo_all-keys.ensures.keys c.undo_all-keys.ensures.undone c.undo_all-keys.ensures.called)
+    ∙ ap (λ (n : ℕ). map (object_after_set (calls_by ws (Some n) (bridge_keys c.undo_all-keys.result))) c.args.staging.now.registry.now) (sym number)
 
 pub returns-else-is_empty-clause-by_plan : goal.returns-else-is_empty-clause-by_plan
-returns-else-is_empty-clause-by_plan g c = λ ws staged. ended_by_plan c.args.staging.now.registry.now c.commit_all.new.staging.registry.now c.undo_all-keys.new.staging.registry.now c.args.world.now c.commit_all.new.world c.undo_all-keys.new.world ws c.args.staging.now.staged.items c.commit_all.new.staging.staged.items c.as_slice.result.now c.in-Some.failed c.commit_all.new.staging.committed (bridge_keys c.undo_all-keys.result)
-    staged c.requires.distinct c.commit_all.ensures.staged c.as_slice.ensures.value c.in-Some.ensures.committed c.in-Some.ensures.failed
-    c.in-Some.ensures.called
-    c.undo_all-keys.ensures.keys c.undo_all-keys.ensures.undone c.undo_all-keys.ensures.called
-
-pub returns-then-is_empty-clause-by_plan : goal.returns-then-is_empty-clause-by_plan
-returns-then-is_empty-clause-by_plan g c = λ ws staged. subst (λ keys. FollowPlans (calls_by ws (Some (entry_at c.as_slice.result.now c.in-Some.failed).number) keys) c.args.staging.now.registry.now) (ap bridge_keys (c.is_empty.ensures.0 c.if-is_empty.true))
+returns-else-is_empty-clause-by_plan g c = λ ws staged.
+    let number = number_read c.args.staging.now.staged.items c.as_slice.result.now c.in-Some.failed c.index-as_slice-failed.result (c.as_slice.ensures.value ∙ c.commit_all.ensures.staged) c.in-Some.ensures.failed.within in
+    subst (λ (n : ℕ). FollowPlans (calls_by ws (Some n) (bridge_keys c.undo_all-keys.result)) c.args.staging.now.registry.now) (sym number)
     (ended_by_plan c.args.staging.now.registry.now c.commit_all.new.staging.registry.now c.undo_all-keys.new.staging.registry.now c.args.world.now c.commit_all.new.world c.undo_all-keys.new.world ws c.args.staging.now.staged.items c.commit_all.new.staging.staged.items c.as_slice.result.now c.in-Some.failed c.commit_all.new.staging.committed (bridge_keys c.undo_all-keys.result)
     staged c.requires.distinct c.commit_all.ensures.staged c.as_slice.ensures.value c.in-Some.ensures.committed c.in-Some.ensures.failed
     c.in-Some.ensures.called
     c.undo_all-keys.ensures.keys c.undo_all-keys.ensures.undone c.undo_all-keys.ensures.called)
+
+pub returns-then-is_empty-clause-by_plan : goal.returns-then-is_empty-clause-by_plan
+returns-then-is_empty-clause-by_plan g c = λ ws staged.
+    let number = number_read c.args.staging.now.staged.items c.as_slice.result.now c.in-Some.failed c.index-as_slice-failed.result (c.as_slice.ensures.value ∙ c.commit_all.ensures.staged) c.in-Some.ensures.failed.within in
+    subst (λ (n : ℕ). FollowPlans (calls_by ws (Some n) []) c.args.staging.now.registry.now) (sym number)
+    (subst (λ keys. FollowPlans (calls_by ws (Some (entry_at c.as_slice.result.now c.in-Some.failed).number) keys) c.args.staging.now.registry.now) (ap bridge_keys (c.is_empty.ensures.0 c.if-is_empty.true))
+    (ended_by_plan c.args.staging.now.registry.now c.commit_all.new.staging.registry.now c.undo_all-keys.new.staging.registry.now c.args.world.now c.commit_all.new.world c.undo_all-keys.new.world ws c.args.staging.now.staged.items c.commit_all.new.staging.staged.items c.as_slice.result.now c.in-Some.failed c.commit_all.new.staging.committed (bridge_keys c.undo_all-keys.result)
+    staged c.requires.distinct c.commit_all.ensures.staged c.as_slice.ensures.value c.in-Some.ensures.committed c.in-Some.ensures.failed
+    c.in-Some.ensures.called
+    c.undo_all-keys.ensures.keys c.undo_all-keys.ensures.undone c.undo_all-keys.ensures.called))
 
 pub returns-in_default-clause-objects : goal.returns-in_default-clause-objects
 returns-in_default-clause-objects g c = λ ws staged. (done_objects c.args.staging.now.registry.now c.commit_all.new.staging.registry.now ws c.args.staging.now.staged.items staged

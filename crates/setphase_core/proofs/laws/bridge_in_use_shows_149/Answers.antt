@@ -1,5 +1,5 @@
 use Rattle.setphase_core.proofs.InUse.{in_use_count, in_use_is}
-use Rattle.setphase_core.proofs.laws.bridge_in_use_shows_143.Goals as goal
+use Rattle.setphase_core.proofs.laws.bridge_in_use_shows_149.Goals as goal
 
 pub returns-clause-count : goal.returns-clause-count
 returns-clause-count c = in_use_count

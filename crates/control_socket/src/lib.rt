@@ -1,0 +1,35 @@
+//! The control socket of a served agent: a wire over a Unix socket, whose one peer is the operator.
+//!
+//! # Entry points
+//! [`bind_control`] makes a [`ControlSocket`] at a path, or gives the [`ControlFault`] for which there
+//! is none. The socket is a `Wire`: a receive gives the command of one connection, and the send behind
+//! it answers over that connection, and ends it. [`ask_agent`] is the other end: it sends a command to
+//! such a socket, and gives what is answered; [`link_command`], [`policy_command`] and [`COUNTS`] are the
+//! commands, and [`is_refusal`] says whether an answer refuses one.
+//!
+//! # Definitions
+//! `specs/Whole.antt`: when a command is whole; `specs/Places.antt`: which directory a socket may be in;
+//! `specs/Sent.antt`: the octets of commands, and which answers refuse them.
+//!
+//! # Laws
+//! On a receive: what it gives is no longer than the slice; only a fault of the socket itself is a
+//! failure. On a send: none fails.
+//!
+//! # Not claimed
+//! What comes over a connection, and what of an answer arrives; how long a wait is; what a path names,
+//! and that a socket is made only in a directory of which nothing is wrong.
+#![tactic(auto)]
+
+mod asking;
+mod binding;
+mod command;
+mod fault;
+mod reading;
+mod socket;
+
+pub use asking::{MAX_ANSWER, ask_agent};
+pub use binding::bind_control;
+pub use command::{COUNTS, is_refusal, link_command, policy_command};
+pub use fault::ControlFault;
+pub use reading::COMMAND_WAIT_MILLIS;
+pub use socket::{ControlSocket, OPERATOR_WAIT_MILLIS};

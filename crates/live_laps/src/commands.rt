@@ -1,0 +1,89 @@
+//! An interval of the control line.
+ghost use Rattle.std.specs.Prelude.{◌≡◌, ◌<◌};
+ghost use Rattle.live_agent.specs.Lines.{setting_of};
+ghost use Rattle.live_laps.specs.Laps.{HasCommanded};
+
+use crate::book::Drops;
+use crate::watch::Watch;
+use live_agent::{End, Plan};
+use live_control::{
+    COMMAND_ROOM, ControlItem, ControlRecorder, ControlWire, DropCounts, DropTally, control_run,
+};
+use live_lock::{Live, Run, Share};
+use setphase_core::MibObject;
+use std::alloc::AllocError;
+use std::sync::Wait;
+
+// Keeps no item of a command.
+#[derive(Drop)]
+struct NoItems;
+
+impl ControlRecorder for NoItems {
+    ghost went = { λ _ _ _. Unit };
+
+    ghost has_room = { λ _. Unit };
+
+    ghost starts = { λ _. tt };
+
+    ghost goes_on = { λ _ _ _ _ _ _ _. tt };
+
+    fn reserve(&mut self) -> Result<(), AllocError> {
+        Ok(())
+    }
+
+    fn record(&mut self, _item: ControlItem) {}
+}
+
+// What a line's watch counts of drops, for an operator.
+#[derive(Drop)]
+struct WatchTally<'w, V> {
+    watch: &'w V,
+}
+
+impl<V: Watch> DropTally for WatchTally<'_, V> {
+    ghost tells = { λ _ _. Unit };
+
+    fn dropped<R: Wait>(&self, rt: &R) -> DropCounts {
+        counts_of(self.watch.dropped(rt))
+    }
+}
+
+// A count modulo 2^32.
+fn wrapped(count: u64) -> u32 {
+    (count % (1 << 32)) as u32
+}
+
+// The drops, each modulo 2^32.
+fn counts_of(drops: Drops) -> DropCounts {
+    DropCounts {
+        too_long: wrapped(drops.too_long),
+        malformed: wrapped(drops.malformed),
+        bad_version: wrapped(drops.bad_version),
+        bad_kind: wrapped(drops.bad_kind),
+        memory: wrapped(drops.memory),
+    }
+}
+
+/// An interval of the control line of so many ports, and how it ended. An operator who asks for the
+/// counts is answered what the watch gives then.
+pub(crate) fn command_lap<O: MibObject, L: Run, C: ControlWire, V: Watch, R: Wait>(
+    rt: &R,
+    plan: &Plan,
+    ports: u16,
+    watch: &V,
+    live: &Live<O, L>,
+    share: &mut Share<L>,
+    wire: &mut C,
+) -> End
+    requires { 0 < share.old.parts }
+    ensures run { HasCommanded C.did (setting_of L.start plan.now) plan.now.rounds ports wire.old
+        wire.new share.old.amount share.new.amount result }
+    ensures parts { share.new.parts ≡ share.old.parts }
+{
+    let mut room = [0u8; COMMAND_ROOM];
+    let tally = WatchTally { watch };
+    let (end, NoItems) = control_run(
+        rt, plan, ports, &tally, live, share, wire, &mut room, NoItems,
+    );
+    end
+}
