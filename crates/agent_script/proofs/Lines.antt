@@ -1,4 +1,4 @@
--- What is said to a line, from what is said to its events.
+-- What is written for a line, from what is written for its events.
 use Rattle.std.proofs.Common.{◌≡◌, ◌∙◌, ℕ, Bool, true, false, not, if◌then◌else◌, List, [], ◌++◌, Option, None, Some, Result, Ok, Err, ap, sym, refl, subst, arith}
 use Rattle.std.specs.Prelude.{codes, IfOk, IfErr}
 use Rattle.std.specs.Str.{bytes_eq}
@@ -201,7 +201,7 @@ open_says lines line a said now whole p = record {
 
 -- ---- under a result
 
--- what is said weakens
+-- what is written weakens
 pub under : {A B : List ℕ → Bool → Type 0} (result : Result Bool LineFault) (old new : List ℕ)
     → ((said : List ℕ) (whole : Bool) → A said whole → B said whole)
     → IfOk result (λ whole. Adds old new (λ said. A said whole)) → IfOk result (λ whole. Adds old new (λ said. B said whole))

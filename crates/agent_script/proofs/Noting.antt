@@ -57,7 +57,7 @@ notes_of s t (line ∷ lines) text p =
 answered_of : (s t : Session) (lines : List (List ℕ)) (text : List ℕ) → Says SaysToLine s lines text t → AreAnswered s.agent lines text
 answered_of s t lines text p = let n = notes_of s t lines text p in record { noted = n.noted; each = n.each; met = n.met; text_is = n.text_is }
 
--- where something is said at the end, a policy is open
+-- where something is written at the end, a policy is open
 open_where_said : (lines : Option (List ℕ)) (said : List ℕ) → said ≡ end_text_in lines → 0 < length said → IsSome lines
 open_where_said None said e some = absurd (omega (arith, ap length e))
 open_where_said (Some lines) said e some = refl

@@ -1,4 +1,4 @@
--- What a line makes the agent do, what is said to that, and what it changes.
+-- What a line makes the agent do, what is written for it, and what it changes.
 use Rattle.std.specs.Prelude.{ℕ, Bool, codes, decimal, if◌then◌else◌, List, [], ◌∷◌, ◌++◌, Option, Some, None, Result, Ok, Err}
 use Rattle.std.specs.List.{flat_map}
 use Rattle.std.specs.Str.{bytes_eq}
@@ -39,9 +39,9 @@ pub data Action : Type 0 where
   -- a policy has ended: it comes into force, where these events happen, or is refused
   accept : (happenings : List Happening) → Action
   refuse : Action
-  -- each request's audit is told from here on, or not
+  -- each request's audit is written from here on, or not
   switch : (on : Bool) → Action
-  -- it is told what was dropped
+  -- what was dropped is written
   tell : Action
   -- the objects' devices are to fail by this plan
   arm : (plan : ℕ) → Action
@@ -101,7 +101,7 @@ action_in agent None line note =
 unfoldable pub action_of : Agent → List ℕ → Note → Action
 action_of agent line note = action_in agent agent.policy_lines line note
 
--- ---- what is said
+-- ---- what is written
 
 -- the name of a cause
 abbrev pub cause_name : DropCause → List ℕ

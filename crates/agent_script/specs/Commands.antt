@@ -17,7 +17,7 @@ pub data Command : Type 0 where
   link : (port : ℕ) (up : Bool) → Command
   -- `policy`: the lines up to `end` are a policy
   policy : Command
-  -- `audit on`, `audit off`: whether each request's audit is told
+  -- `audit on`, `audit off`: whether each request's audit is written
   audit : (on : Bool) → Command
   -- `counts`: tell what was dropped
   counts : Command

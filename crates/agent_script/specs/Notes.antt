@@ -122,7 +122,7 @@ MayMeet agent line note = MayMeetIn agent agent.policy_lines line note
 -- ---- given up
 
 -- A command, or a line that is none, may be given up for want of memory: one that is read from
--- hexadecimal, or to which something may be said. The other commands take none.
+-- hexadecimal, or for which something may be written. The other commands take none.
 abbrev pub MayLackMemory : Option Command → Type 0
 MayLackMemory None = Unit {0}
 MayLackMemory (Some (request datagram)) = Unit {0}

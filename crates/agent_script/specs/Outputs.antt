@@ -37,7 +37,7 @@ abbrev pub reply_text : Option (List ℕ) → List ℕ
 reply_text (Some octets) = reply_line octets
 reply_text None = []
 
--- an audit, if there is one, where it is told
+-- an audit, if there is one, where audits are on
 abbrev pub told_audit : Bool → Option Audit → List ℕ
 told_audit on (Some audit) = if on then codes "audit " ++ audit_text audit ++ codes "\n" else []
 told_audit on None = []
@@ -66,7 +66,7 @@ bpdu_lines address port (bpdu ∷ bpdus) =
 abbrev pub forward_line : List ℕ → List ℕ
 forward_line egress = codes "forward " ++ egress_text egress ++ codes "\n"
 
--- What is said to an event that was entered, ahead of what the ports send: where a frame goes,
+-- What is written for an event that was entered, ahead of what the ports send: where a frame goes,
 -- that a policy is in force, or the reply and the audit of a request.
 abbrev pub answer_text : Bool → ReceiptEvent → List ℕ → Option (List ℕ) → Option Audit → List ℕ
 answer_text on (told.Frame port frame) egress reply audit = forward_line egress
@@ -80,7 +80,7 @@ abbrev pub receipt_text : Bool → Receipt → Option Audit → List ℕ
 receipt_text on receipt audit =
     answer_text on receipt.event receipt.egress receipt.reply audit
 
--- What is said to an event that was entered, and dropped for this cause, if for any.
+-- What is written for an event that was entered, and dropped for this cause, if for any.
 abbrev pub step_text : Bool → Mac → Option Cause → Event → Step → List ℕ
 step_text on address (Some cause) e step =
     drop_text (dropped_name cause) ++ told_audit on step.audit
@@ -88,13 +88,13 @@ step_text on address None e step =
     answer_text on (told_of e) step.egress step.reply step.audit
     ++ bpdu_lines address 1 step.bpdus
 
--- what is said to an event for which there was no memory: the reply to a request, or that there was
+-- what is written for an event for which there was no memory: the reply to a request, or that there was
 -- none
 abbrev pub short_text : List ℕ → List ℕ
 short_text [] = codes "short\n"
 short_text (octet ∷ octets) = reply_line (octet ∷ octets)
 
--- What is said to an event. Audits are told where `on`, and the bridge sends from its address.
+-- What is written for an event. Audits are written where `on`, and the bridge sends from its address.
 abbrev pub event_text : Bool → History → Event → Met → List ℕ
 event_text on h e (entered notes) =
     step_text on (address_of h.world.bridge) (cause_of h.world e) e (next_step h e notes)

@@ -12,7 +12,7 @@ use Rattle.agent_script.specs.declared.session.Run.{Run}
 module _ {I O : Type 0} (remaining : I → Option (List ℕ)) (contents : O → Option (List ℕ)) where
   -- A script was run over this agent, and went so.
   pub record IsScriptRun (agent : Agent) (reader reader' : I) (writer writer' : O) (went : Result Run RunFault) : Type 0 where
-    -- to its end: what is written is the script's text, and it is told whether all lines were
+    -- to its end: what is written is the script's text, and the answer says whether all lines were
     -- answered in full
     pub written : IfOk went (λ run. IfSome (remaining reader) (λ input.
         Writes (contents writer) (contents writer') (λ text. IsSaid agent (lines_of input) text run)))
@@ -24,7 +24,7 @@ module _ {I O : Type 0} (remaining : I → Option (List ℕ)) (contents : O → 
     pub given_up : IfErr went (λ fault. fault ≡ Memory →
         Reads (remaining reader) (remaining reader') (λ input rest.
         Writes (contents writer) (contents writer') (λ text. IsGivenUp agent input rest text)))
-    -- until a write failed: what is written is a front of what was said to the first lines, or to
+    -- until a write failed: what is written is a front of the text of the first lines, or of
     -- all of them and the end
     pub output : IfErr went (λ fault. fault ≡ Output → IfSome (remaining reader) (λ input.
         Writes (contents writer) (contents writer') (λ text. IsFrontOf (λ whole.

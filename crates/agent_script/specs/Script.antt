@@ -9,7 +9,7 @@ use Rattle.agent_script.specs.State.{Agent}
 use Rattle.agent_script.specs.declared.session.Run.{Run}
 use Rattle.agent_script.specs.declared.session.Run.TheVariants.{Whole, Short}
 
--- what is said to a line that met this, and the agent after it
+-- what is written for a line that met this, and the agent after it
 abbrev pub line_text : Agent → List ℕ → Note → List ℕ
 line_text agent line note = action_text agent (action_of agent line note)
 
@@ -21,7 +21,7 @@ pub record Noted : Type 0 where
   pub line : List ℕ
   pub note : Note
 
--- The lines of a script, each with its note: what is said to them in their order, the agent after
+-- The lines of a script, each with its note: what is written for them in their order, the agent after
 -- them, and that each note is one that its line may meet there.
 abbrev pub lines_text : Agent → List Noted → List ℕ
 lines_text agent [] = []
@@ -36,7 +36,7 @@ abbrev pub AreMet : Agent → List Noted → Type 0
 AreMet agent [] = Unit {0}
 AreMet agent (n ∷ ns) = MayMeet agent n.line n.note × AreMet (after_line agent n.line n.note) ns
 
--- what is said at the end of a script, and the agent after it: a policy that has not ended is
+-- what is written at the end of a script, and the agent after it: a policy that has not ended is
 -- refused
 abbrev pub end_text_in : Option (List ℕ) → List ℕ
 end_text_in (Some lines) = codes "policy refused\n"
@@ -48,7 +48,7 @@ end_text agent = end_text_in agent.policy_lines
 abbrev pub after_end : Agent → Agent
 after_end agent = record agent { policy_lines = None }
 
--- The text of a script: what is said to its lines, and at its end.
+-- The text of a script: what is written for its lines, and at its end.
 abbrev pub script_text : Agent → List Noted → List ℕ
 script_text agent ns = lines_text agent ns ++ end_text (after_lines agent ns)
 
@@ -56,7 +56,7 @@ script_text agent ns = lines_text agent ns ++ end_text (after_lines agent ns)
 abbrev pub are_whole : List Noted → Bool
 are_whole ns = list_all (λ n. is_whole n.note) ns
 
--- how a run is told: whole exactly where no line met want of memory
+-- how a run is reported: whole exactly where no line met want of memory
 abbrev pub run_of : List Noted → Run
 run_of ns = if are_whole ns then Whole else Short
 
@@ -65,7 +65,7 @@ abbrev pub lines_in : List Noted → List (List ℕ)
 lines_in ns = map (λ n. n.line) ns
 
 -- There are notes of these lines, each one that its line may meet, such that this text is the
--- script's, and the run is told by them.
+-- script's, and the run is reported by them.
 pub record IsSaid (agent : Agent) (lines : List (List ℕ)) (text : List ℕ) (run : Run) : Type 0 where
   pub noted : List Noted
   pub each : lines_in noted ≡ lines
@@ -74,7 +74,7 @@ pub record IsSaid (agent : Agent) (lines : List (List ℕ)) (text : List ℕ) (r
   pub run_is : run ≡ run_of noted
 
 -- There are notes of these lines, each one that its line may meet, such that this text is what is
--- said to the lines.
+-- written for the lines.
 pub record AreAnswered (agent : Agent) (lines : List (List ℕ)) (text : List ℕ) : Type 0 where
   pub noted : List Noted
   pub each : lines_in noted ≡ lines

@@ -11,7 +11,7 @@ use Rattle.agent_script.specs.Outputs.{events_text}
 use Rattle.agent_script.specs.Script.{end_text, after_end}
 use Rattle.agent_script.specs.State.{Agent}
 
--- An agent answers: there is a note of this kind, and what is said, the agent after it and whether
+-- An agent answers: there is a note of this kind, and what is written, the agent after it and whether
 -- nothing was given up for want of memory are those of that note.
 pub record Says (may : Note → Type 0) (action : Note → Action) (before : Agent) (said : List ℕ)
     (now : Agent) (whole : Bool) : Type 0 where

@@ -8,7 +8,7 @@ use Rattle.agent_script.specs.declared.drops.Drops.{Drops}
 pub record Agent : Type 0 where
   -- what happened so far, and the world and the objects as they are
   pub history : History
-  -- each request's audit is told
+  -- each request's audit is written
   pub is_auditing : Bool
   -- the datagrams that gave no request
   pub drops : Drops

@@ -74,7 +74,7 @@ impl<O: MibObject> Agent<O> {
         }
     }
 
-    /// Answers a line, and tells whether nothing in it was given up for want of memory.
+    /// Answers a line, and says whether nothing in it was given up for want of memory.
     ///
     /// # Errors
     /// `Memory` where there is none for what the line is or says, `Stopped` where no number is left
@@ -98,7 +98,7 @@ impl<O: MibObject> Agent<O> {
     }
 
     /// Answers the end of the script: a policy that has not ended is refused. Where none is open
-    /// nothing is said, and that takes no memory.
+    /// nothing is written, and that takes no memory.
     pub fn end(&mut self, out: &mut Vec<u8>) -> Result<(), AllocError>
         ensures said { OnOk result (out.new.items ≡ out.old.items ++ end_text self.old) }
         ensures after { OnOk result (self.new ≡ after_end self.old) }
@@ -110,7 +110,7 @@ impl<O: MibObject> Agent<O> {
         }
     }
 
-    // One event happens, and what comes of it is said.
+    // One event happens, and its outcome is written.
     fn event(&mut self, alloc: Global, event: Event, out: &mut Vec<u8>) -> Result<bool, LineFault>
         requires { IsEncodable event }
         ensures said { IfOk result (λ whole. Adds out.old.items out.new.items (λ said.

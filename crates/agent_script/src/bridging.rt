@@ -1,4 +1,4 @@
-//! What is said of a bridge: what its ports send, where a frame goes, and what is no frame.
+//! What is written of a bridge: what its ports send, where a frame goes, and what is no frame.
 ghost use Rattle.std.specs.Prelude.{◌≡◌, ◌++◌, codes, decimal, OnOk, Some};
 ghost use Rattle.std.specs.List.{flat_map};
 ghost use Rattle.bridge_core.specs.Bridge.{address_of};

@@ -31,7 +31,7 @@ pub enum Command {
     Link(u16, bool),
     /// `policy`: the lines up to `end` are a policy.
     Policy,
-    /// `audit on` or `audit off`: whether each request's audit is told.
+    /// `audit on` or `audit off`: whether each request's audit is written.
     Audit(bool),
     /// `counts`: tell what was dropped.
     Counts,

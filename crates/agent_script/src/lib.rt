@@ -23,7 +23,7 @@
 //!
 //! # Not claimed
 //! That a want of memory came only where memory was refused, and that a read failed where the
-//! answer is `Input`: that answer may come before anything is read. How much of what was said is
+//! answer is `Input`: that answer may come before anything is read. How much of the text is
 //! written where a write failed. That a device really failed where a Set is answered so, of an
 //! object without a device, or with one that takes no plans.
 #![tactic(auto)]

@@ -1,4 +1,4 @@
-//! What is said to events, to a datagram that gives none, and to `counts`.
+//! What is written for events, for a datagram that gives none, and for `counts`.
 ghost use Rattle.std.specs.Prelude.{◌≡◌, ◌++◌, Some, codes, OnOk};
 ghost use Rattle.std.specs.List.{flat_map};
 ghost use Rattle.agent_script.specs.Outputs.{drop_text, dropped_name, told_audit, reply_line, reply_text, short_text, receipt_text};
@@ -47,7 +47,7 @@ fn dropped_name(cause: &Cause) -> &'static [u8]
     }
 }
 
-/// Appends what drops a request, and its audit where it is told.
+/// Appends what drops a request, and its audit where audits are on.
 pub fn say_dropped(
     alloc: Global,
     on: bool,
@@ -92,7 +92,7 @@ fn say_reply_of(reply: &Option<Octets>, out: &mut Vec<u8>) -> Result<(), AllocEr
     }
 }
 
-// Appends an audit, where it is told.
+// Appends an audit, where audits are on.
 fn say_told(alloc: Global, on: bool, audit: &Audit, out: &mut Vec<u8>) -> Result<(), AllocError>
     ensures { OnOk result (out.new.items ≡ out.old.items ++ told_audit on (Some audit.now)) }
 {
@@ -103,7 +103,7 @@ fn say_told(alloc: Global, on: bool, audit: &Audit, out: &mut Vec<u8>) -> Result
     write_audit(alloc, audit, out)
 }
 
-// Appends an audit, if there is one, where it is told.
+// Appends an audit, if there is one, where audits are on.
 fn say_audit(
     alloc: Global,
     on: bool,

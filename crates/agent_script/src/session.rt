@@ -96,12 +96,12 @@ pub fn run_script<O: MibObject, R: Read, W: Write>(
 /// # Errors
 /// `Input` where a read fails or the input has not ended after
 /// [`MAX_READS`](script_core::MAX_READS) of them: each line that had ended is answered. `Memory`
-/// where there is none for a line, for the lines of a policy or for what is said: where a line is
+/// where there is none for a line, for the lines of a policy or for what is written: where a line is
 /// given up, each line before it is answered, and it was read, in part at least; where the end of
 /// the script is given up, the input was read to its end, all its lines are answered, a policy is
 /// open after them, and `policy refused` is not written. `Stopped` where no number is left for an
 /// entry: each line before it is answered. `Output` where a write fails or takes
-/// nothing: a front of what was said is written.
+/// nothing: a front of the text is written.
 pub fn run_kept<O: MibObject, R: Read, W: Write>(
     alloc: Global,
     kept: Kept<O>,

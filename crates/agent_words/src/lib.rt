@@ -17,7 +17,7 @@
 //!
 //! # Not claimed
 //! The texts of help, of the version and of errors; that a growth or a write succeeds; that memory
-//! was refused where that is said.
+//! was refused where that is reported.
 #![tactic(auto)]
 
 mod asked;

@@ -58,7 +58,7 @@ of that path. The directory of PATH has to be the agent's own, and closed to all
 Exit status: 0; 1 if nothing could be served, or if one of them failed; 2 if the words are no
 command, or if FILE cannot be read or is refused.";
 
-/// What is said of a decision.
+/// How the text of a decision reads.
 const EXPLAIN_HELP: &str =
     "The first line is the verdict, in the words of an audit: drop and the cause; why the request is
 refused; or ok, the access row that decides, and the view that it names, as

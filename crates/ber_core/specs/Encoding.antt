@@ -52,7 +52,7 @@ pub record IsInteger (content : List ℕ) (z : ℤ) : Type 0 where
   pub value : twos_complement content ≡ z
 
 -- The content of an unsigned number of so many octets, 4 or 8 (RFC 2578, 7.1): an INTEGER that is
--- not negative, so one octet more has room for its sign.
+-- not negative, so one octet more holds its sign.
 pub record IsUnsigned (width : ℕ) (content : List ℕ) (n : ℕ) : Type 0 where
   pub some : 1 ≤ length content
   pub few : length content ≤ width + 1

@@ -8,11 +8,11 @@ use Rattle.ber_core.specs.declared.out.Out.{Out}
 abbrev pub written_octets : Out → List ℕ
 written_octets out = drop out.start out.room.now
 
--- how many octets there is room for in all
+-- how many octets there is space for in all
 abbrev pub capacity : Out → ℕ
 capacity out = length out.room.now
 
--- Writing these octets: they stand in front of the others, or there is no room for them.
+-- Writing these octets: they stand in front of the others, or there is no space for them.
 abbrev pub Prepends : Out → Out → Result (Unit {0}) BerFault → List ℕ → Type 0
 Prepends old new (Ok _) octets =
     (written_octets new ≡ octets ++ written_octets old) × (capacity new ≡ capacity old)

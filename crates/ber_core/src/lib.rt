@@ -9,7 +9,7 @@
 //! # Definitions
 //! `specs/Encoding.antt`: heads and lengths, two's complement, and the shortest encoding;
 //! `specs/Reading.antt`: the same from left to right; `specs/Writing.antt`: what a writer wrote and
-//! its room; `specs/Fault.antt`: why octets begin with no tag, length and content.
+//! its space; `specs/Fault.antt`: why octets begin with no tag, length and content.
 //!
 //! # Laws
 //! In [`laws`]: the shortest encoding is one, none is shorter, one that is no longer is it, and no

@@ -8,7 +8,7 @@ use Rattle.bridge_core.specs.declared.counters.PortCounters.{PortCounters}
 use Rattle.bridge_core.specs.Bridge.{no_counters}
 use Rattle.bridge_core.specs.Counting.{with_frame_out, sent_from, sent_where, has_bpdu}
 
--- a loop that counts has not yet come to element i
+-- a loop that counts has not yet reached element i
 sent_read : (test : ℕ → Bool) (n : ℕ) (cs : List PortCounters) (i : ℕ) (d : PortCounters) → get_or (sent_from test n (take i cs) ++ drop i cs) i d ≡ get_or cs i d
 sent_read test n cs zero d = refl
 sent_read test n [] (suc i) d = refl

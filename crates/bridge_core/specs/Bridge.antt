@@ -11,7 +11,7 @@ use Rattle.rstp_core.specs.Tree.{Tree, port_at, config_at}
 use Rattle.rstp_core.specs.Runs.{is_on as tree_is_on}
 use Rattle.bridge_core.specs.declared.counters.PortCounters.{PortCounters}
 
--- The frames whose source was not learned for want of room, and the counters of port 1, port 2, ..
+-- The frames whose source was not learned for want of space, and the counters of port 1, port 2, ..
 pub record Counters : Type 0 where
   pub entry_discards : ℕ
   pub ports : List PortCounters

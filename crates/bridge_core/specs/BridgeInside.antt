@@ -10,7 +10,7 @@ use Rattle.bridge_core.specs.Statics.{AreStaticRows}
 use Rattle.bridge_core.specs.declared.bridge.TheConstants.{MAX_LEARNED_ROWS}
 
 -- Each port has settings, a place in the spanning tree, a configuration and counters. There is at
--- least one port and at most as many as a bridge may have, and there is room for as many learned
+-- least one port and at most as many as a bridge may have, and there is space for as many learned
 -- addresses as it may learn. Each static row is of its ports, and says something.
 pub record IsBridge (settings : Table) (tree : Tree) (fdb : Fdb) (statics : List StaticRow) (counters : List PortCounters) : Type 0 where
   pub configured : length tree.config ≡ length tree.ports

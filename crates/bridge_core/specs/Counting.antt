@@ -38,7 +38,7 @@ sent_where test counters = sent_from test 1 counters
 abbrev pub has_bpdu : List (Option Bpdu) → ℕ → Bool
 has_bpdu bpdus port = is_some (slice_index_or bpdus (port - 1) None)
 
--- A source that finds no room, or no memory, is a learned entry discard.
+-- A source that finds no space in the table, or no memory, is a learned entry discard.
 abbrev pub discards_after : Option Learnt → ℕ → ℕ
 discards_after None n = n
 discards_after (Some New) n = n

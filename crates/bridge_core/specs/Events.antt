@@ -24,7 +24,7 @@ after_tree_step e b = record b {
   counters = record b.counters { ports = sent_where (has_bpdu e.bpdus) b.counters.ports };
 }
 
--- A second passes: each learned row is a second older, and those that have come to the aging time
+-- A second passes: each learned row is a second older, and those that have reached the aging time
 -- go.
 abbrev pub after_ageing : BridgeState → BridgeState
 after_ageing b = record b { learned = young_rows (get b.settings (key.Bridge bridge.Aging)) (map older_row b.learned) }
@@ -79,7 +79,7 @@ no_bpdus b = replicate (port_count b) None
 unfoldable pub after_reception : ℕ → BridgeState → BridgeState
 after_reception port b = record b { counters = record b.counters { ports = at_port port with_frame_in b.counters.ports } }
 
--- The source is learned where it is to be; where there is no room for it, that is counted.
+-- The source is learned where it is to be; where there is no space for it, that is counted.
 unfoldable pub after_learning : ℕ → FrameIn → Bool → BridgeState → BridgeState
 after_learning port f no_room b = record b {
   learned = rows_after (learnt_of b port f no_room) b.learned f.source port;

@@ -381,7 +381,7 @@ impl Bridge {
 
     /// A frame comes by port `port`. Where the port is off nothing changes and nothing goes out. A
     /// BPDU goes to the spanning tree only. The source of any other frame is learned where the port
-    /// is learning or forwarding, the source is no group address, and there is room: it has a row,
+    /// is learning or forwarding, the source is no group address, and there is space: it has a row,
     /// or there are fewer than [`MAX_LEARNED_ROWS`] (7.8); but, by a rule of this profile alone,
     /// not where the destination is reserved. Then, where the port forwards, the frame goes out by
     /// the other forwarding ports (7.7): by those of the made static row of its destination and this

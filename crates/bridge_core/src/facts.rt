@@ -20,10 +20,10 @@ pub struct Facts {
     pub times: Times,
     /// How many topology changes there were, modulo 2^32.
     pub topology_changes: u32,
-    /// The seconds since no port tells a topology change any more, or since the opening where none
-    /// was told; 0 while one is told. At most 2^64 - 1.
+    /// The seconds since no port signals a topology change any more, or since the opening where none
+    /// was signalled; 0 while one is signalled. At most 2^64 - 1.
     pub since: u64,
-    /// How many sources were not learned for want of room, modulo 2^32.
+    /// How many sources were not learned because the table was full, modulo 2^32.
     pub entry_discards: u32,
 }
 

@@ -101,7 +101,7 @@ impl FlatBridge {
 
     /// Whether the two bridges are equal in all that they keep: settings, spanning tree, learned
     /// rows with their ages, static rows, and counters; for how many static rows they are sure of
-    /// memory is not looked at. It takes no memory.
+    /// memory is not compared. It takes no memory.
     pub fn same(&self, other: &FlatBridge) -> bool
         ensures { IsTrue result ↔ (without_places self.now ≡ without_places other.now) }
     {

@@ -8,7 +8,7 @@ use std::fmt;
 use thiserror::Error;
 use vacm_core::{TableFault, VacmTable, Wrong};
 
-/// The tables of a policy, in the order in which their rows are looked at.
+/// The tables of a policy, in the order in which their rows are checked.
 #[derive(Clone, Copy, Debug, PartialEq, Eq)]
 pub enum PolicyTable {
     /// Who is of which group (vacmSecurityToGroupTable).

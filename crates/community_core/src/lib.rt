@@ -2,10 +2,10 @@
 //! make.
 //!
 //! # Entry points
-//! `Policy::caller` says whom a community stands for; `Policy::new` takes written communities or
-//! names the first fault; `Policy::put_mask` and `Policy::put_type` change a family row where it
-//! stands. `Policy::try_copy` is a copy, and `Policy::rows` its rows as they are
-//! written, of which `PolicyRows::same` tells whether two are the same. A [`Caller`] is whom a name
+//! `Policy::caller` says whom a community stands for. `Policy::new` takes written communities or
+//! names the first fault. `Policy::put_mask` and `Policy::put_type` change a family row where it
+//! stands. `Policy::try_copy` copies a policy, and `Policy::rows` gives its rows as they are
+//! written; `PolicyRows::same` compares two of these. A [`Caller`] is whom a name
 //! stands for, by its [`CommunityRow`]; a [`WrittenCommunity`] is a row as it is written, whose
 //! name has at most [`MAX_COMMUNITY_NAME`] octets. A [`PolicyFault`] is want of memory, or the
 //! [`PolicyTable`] and the row at fault.
@@ -21,7 +21,7 @@
 //! `Policy::communities_are_right`, they break no rule.
 //!
 //! # Not claimed
-//! How long a caller takes to be found: each row is looked at.
+//! How long it takes to find a caller: each row is read.
 #![tactic(auto)]
 
 mod community;

@@ -1,4 +1,4 @@
--- What an operator is told of each fault: where it stands, and what would be right there.
+-- What an operator reads of each fault: where it stands, and what would be right there.
 use Rattle.std.specs.Prelude.{ℕ, ◌+◌, ◌-◌, ◌^◌, min, codes, decimal, List, ◌++◌}
 use Rattle.community_core.specs.declared.fault.PolicyFault.{PolicyFault}
 use Rattle.community_core.specs.declared.fault.PolicyFault.TheVariants.{Memory as NoMemory, Duplicate, BadLength, BadField}
@@ -82,7 +82,7 @@ port_rule Peer =
 port_rule AnotherOfPort =
     codes "its keys are to be ifindex, speed and full, and may be listen and peer, and no others"
 
--- what is said of `serve`
+-- the sentence on `serve`
 abbrev pub serve_sentence : ServeKey → List ℕ
 serve_sentence Serve = codes "table serve: it is to be one table"
 serve_sentence Snmp =
@@ -92,7 +92,7 @@ serve_sentence Rounds = codes "table serve: rounds is to be an integer of 1 to 1
 serve_sentence AnotherOfServe =
     codes "table serve: its keys are to be snmp, workers and rounds, and no others"
 
--- what is said of the keys at the top
+-- the sentence on the keys at the top
 abbrev pub keys_sentence : PolicyKey → List ℕ
 keys_sentence ContextsKey = codes "top level: contexts is to be an array of strings"
 keys_sentence CommunityKey = codes "top level: community is to be an array of tables"
@@ -103,13 +103,13 @@ keys_sentence AnotherOfPolicy =
     codes "top level: its keys are to be address, port, contexts, community, group, access and "
     ++ codes "family, and may be serve, and no others"
 
--- what is said of a text that is no TOML document, by one of its lines, counted from 1
+-- the sentence on a text that is no TOML document, by one of its lines, counted from 1
 abbrev pub text_sentence : ℕ → List ℕ
 text_sentence line =
     codes "line " ++ (decimal line
     ++ codes " of the text, counted from 1: it is to be TOML, in which no key stands twice")
 
--- what is said of the bridge's address
+-- the sentence on the bridge's address
 abbrev pub address_sentence : List ℕ
 address_sentence =
     codes "top level: address is to be a string of 12 hexadecimal digits, and no group address: "

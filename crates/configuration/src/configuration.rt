@@ -18,9 +18,9 @@ pub const MAX_ROUNDS: u32 = 1000000;
 pub struct Port {
     /// Its interface number, 1 to 2147483647, its speed, 10, 100 or 1000 Mb/s, and its duplex.
     pub config: PortConfig,
-    /// Where the port's frames come in, if that is said.
+    /// Where the port's frames come in, if the configuration names that.
     pub listen: Option<SocketAddr>,
-    /// Where the port's frames go out to, if that is said.
+    /// Where the port's frames go out to, if the configuration names that.
     pub peer: Option<SocketAddr>,
 }
 
@@ -42,7 +42,7 @@ pub struct Configuration {
     pub address: Mac,
     /// The bridge's 1 to 32 ports, numbered from 1 in this order.
     pub ports: ArrayVec<Port, MAX_PORTS>,
-    /// How to serve, if that is said.
+    /// How to serve, if the configuration has a table `serve`.
     pub serve: Option<Serve>,
     /// Who may read and write what.
     pub policy: Policy,

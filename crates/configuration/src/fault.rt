@@ -5,7 +5,7 @@ ghost use Rattle.configuration.specs.Faults.{of_policy};
 use community_core::PolicyFault;
 use thiserror::Error;
 
-/// A key of a port's table; they are looked at in this order.
+/// A key of a port's table. The keys are read in this order.
 #[derive(Clone, Copy, Debug, PartialEq, Eq)]
 pub enum PortKey {
     /// `ifindex`, an integer.
@@ -22,7 +22,7 @@ pub enum PortKey {
     Other,
 }
 
-/// A key of the table that says how to serve; they are looked at in this order.
+/// A key of the table that says how to serve. The keys are read in this order.
 #[derive(Clone, Copy, Debug, PartialEq, Eq)]
 pub enum ServeKey {
     /// `serve` itself, a table.
@@ -37,7 +37,7 @@ pub enum ServeKey {
     Other,
 }
 
-/// A key of a policy; they are looked at in this order.
+/// A key of a policy. The keys are read in this order.
 #[derive(Clone, Copy, Debug, PartialEq, Eq)]
 pub enum PolicyKey {
     /// `contexts`, an array.

@@ -4,7 +4,7 @@
 //! # Entry points
 //! [`configuration_in`] reads octets, [`configuration_of_text`] a text, [`configuration_of`] a
 //! table of TOML; each gives the configuration or its first fault. [`sentence`] is what an operator
-//! is told of a fault. A [`Configuration`] has its [`Port`]s, and a [`Serve`] where it says how to
+//! reads of a fault. A [`Configuration`] has its [`Port`]s, and a [`Serve`] where it says how to
 //! serve; a [`ConfigurationFault`] is a first fault, some by a [`PortKey`], a [`ServeKey`] or a
 //! [`PolicyKey`]. [`BUILT_IN`] is the text where none is given; [`MAX_WORKERS`] and [`MAX_ROUNDS`]
 //! bound what serves.
@@ -23,7 +23,7 @@
 //!
 //! # Not claimed
 //! That memory is there; TOML and the texts of socket addresses, whose readers are the kit's; which
-//! line of a text that is no TOML is told: it is one of the text's, and a test holds which.
+//! line is reported of a text that is no TOML: it is one of the text's, and a test holds which.
 #![tactic(auto)]
 
 mod address;

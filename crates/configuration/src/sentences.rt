@@ -1,4 +1,4 @@
-//! What an operator is told of a fault.
+//! What an operator reads of a fault.
 ghost use Rattle.std.specs.Prelude.{◌≡◌, IfOk, string_bytes};
 ghost use Rattle.configuration.specs.Sentences.{row_count, row_sentence, table_key, key_rule, length_rule, field_rule, policy_sentence, port_rule, serve_sentence, keys_sentence, text_sentence, address_sentence, sentence};
 
@@ -6,7 +6,7 @@ use crate::fault::{ConfigurationFault, PolicyKey, PortKey, ServeKey};
 use community_core::{PolicyFault, PolicyTable};
 use std::alloc::{AllocError, Global};
 
-/// What is said where there was no memory for a configuration.
+/// The sentence where there was no memory for a configuration.
 const NO_MEMORY: &str =
     "there was no memory to read the configuration; whether it is right is not known";
 
@@ -38,7 +38,7 @@ fn table_key(table: PolicyTable) -> &'static str
     }
 }
 
-// Which keys no earlier row may have. Contexts may be equal, so no fault is told of one by this.
+// Which keys no earlier row may have. Contexts may be equal, so no fault is reported of one by this.
 fn key_rule(table: PolicyTable) -> &'static str
     ensures { result.now ≡ key_rule table }
 {
@@ -85,7 +85,7 @@ fn field_rule(table: PolicyTable) -> &'static str
     }
 }
 
-// What is said of a policy's fault.
+// The sentence on a policy's fault.
 fn policy_sentence(alloc: Global, fault: PolicyFault) -> Result<String, AllocError>
     ensures { IfOk result (λ text. string_bytes text ≡ policy_sentence fault) }
 {
@@ -129,7 +129,7 @@ fn port_rule(key: PortKey) -> &'static str
     }
 }
 
-// What is said of `serve`.
+// The sentence on `serve`.
 fn serve_sentence(key: ServeKey) -> &'static str
     ensures { result.now ≡ serve_sentence key }
 {
@@ -144,7 +144,7 @@ fn serve_sentence(key: ServeKey) -> &'static str
     }
 }
 
-// What is said of the keys at the top.
+// The sentence on the keys at the top.
 fn keys_sentence(key: PolicyKey) -> &'static str
     ensures { result.now ≡ keys_sentence key }
 {
@@ -160,7 +160,7 @@ fn keys_sentence(key: PolicyKey) -> &'static str
     }
 }
 
-// What is said of a text that is no TOML document, by one of its lines, counted from 1.
+// The sentence on a text that is no TOML document, by one of its lines, counted from 1.
 fn text_sentence(alloc: Global, line: usize) -> Result<String, AllocError>
     ensures { IfOk result (λ text. string_bytes text ≡ text_sentence line) }
 {
@@ -169,12 +169,12 @@ fn text_sentence(alloc: Global, line: usize) -> Result<String, AllocError>
     )
 }
 
-/// What is said of the bridge's address.
+/// The sentence on the bridge's address.
 const ADDRESS_SENTENCE: &str =
     "top level: address is to be a string of 12 hexadecimal digits, and no group address: \
      its first octet is even";
 
-/// What an operator is told of a fault, in one line without its end: the line of the text, the top
+/// What an operator reads of a fault, in one line without its end: the line of the text, the top
 /// level, or the table and the row, each counted from 1, and what would be right there; of the
 /// configuration's own keys, for the first that is wrong.
 ///

@@ -13,7 +13,7 @@
 //! None.
 //!
 //! # Not claimed
-//! That memory was refused where that is said.
+//! That memory was refused where that is reported.
 #![tactic(auto)]
 
 mod command;

@@ -1,4 +1,4 @@
--- Who is let in to what: the decision on a request up to its names, with the keys of its rows (RFC
+-- Who is authorized for what: the decision on a request up to its names, with the keys of its rows (RFC
 -- 3584, section 5.2.1; RFC 3415, section 3.2).
 use Rattle.std.specs.Prelude.{ℕ, Bool, true, false, ◌==◌, if◌then◌else◌, List, [], length, slice_index_or, Option, Some, None}
 use Rattle.message_core.specs.declared.request.Kind.{Kind}

@@ -1,4 +1,4 @@
-//! Who is let in to what.
+//! Who is authorized for what.
 ghost use Rattle.std.specs.Prelude.{◌≡◌, ◌≢◌, ◌≤◌, ◌<◌, length};
 ghost use Rattle.decision.specs.Deciding.{view_type, ask_of, access_key_at, decision_by, decision_unless_empty, decision_on};
 ghost use Rattle.vacm_core.specs.Access.{NamesRowOf};

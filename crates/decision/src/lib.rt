@@ -1,4 +1,4 @@
-//! The decision on a request: dropped, refused or let in to a view, by which rows (RFC 3584,
+//! The decision on a request: dropped, refused or authorized for a view, by which rows (RFC 3584,
 //! section 5.2.1; RFC 3415, section 3.2).
 //!
 //! # Entry points
@@ -16,7 +16,7 @@
 //! that is answered.
 //!
 //! # Not claimed
-//! What is visible: the names are looked at one by one, by `agent_core`.
+//! What is visible: `agent_core` tests the names one by one.
 #![tactic(auto)]
 
 mod choice;

@@ -1,4 +1,4 @@
--- What is said of the decision on a request: the verdict in the words of an audit, and where the
+-- The text of the decision on a request: the verdict in the words of an audit, and where the
 -- request is allowed, whether each of its names is in the view, and by which family (RFC 3415,
 -- section 3.2, and vacmViewTreeFamilyTable in section 4).
 use Rattle.std.specs.Prelude.{ℕ, codes, if◌then◌else◌, List, [], ◌++◌, slice_get, Option, None, option_map}
@@ -69,7 +69,7 @@ abbrev pub decision_text : List FamilyRow → List Binding → Decision → List
 decision_text families bindings decision =
     verdict_text decision ++ codes "\n" ++ names_text families bindings decision
 
--- What is said of the decision on a request.
+-- The text of the decision on a request.
 unfoldable pub explanation : PolicyTables → Request → List ℕ
 explanation policy request =
     decision_text policy.vacm.families request.bindings (decision_on policy request)

@@ -51,7 +51,7 @@ turned_gt Greater = refl
 turned : (a b : Mac) → mac_cmp a b ≡ ordering_reverse (mac_cmp b a)
 turned a b = nat_list_cmp_total.antisymm a.0 b.0
 
--- a look-up finds the address's row
+-- a lookup finds the address's row
 found_more : (tick : ℕ) (a : Mac) (e : Mac × Seen) (es : List (Mac × Seen)) → row_of (rows_at tick es) a ≡ option_map (λ s. row_at tick (a, s)) (lookup (λ k. is_eq (mac_cmp a k)) es) → (o : Ordering) → mac_cmp a e.0 ≡ o → row_of (rows_at tick (e ∷ es)) a ≡ option_map (λ s. row_at tick (a, s)) (lookup (λ k. is_eq (mac_cmp a k)) (e ∷ es))
 found_more tick a e es more Less is =
     let back : mac_cmp e.0 a ≡ Greater = turned e.0 a ∙ ap ordering_reverse is in
@@ -75,7 +75,7 @@ port_behind tick a (Some s) = refl
 pub port_found : (tick : ℕ) (a : Mac) (es : List (Mac × Seen)) → port_of (rows_at tick es) a ≡ option_map (λ s. s.port) (lookup (λ k. is_eq (mac_cmp a k)) es)
 port_found tick a es = ap (λ o. option_map (λ r. r.port) o) (found tick a es) ∙ port_behind tick a (lookup (λ k. is_eq (mac_cmp a k)) es)
 
--- what learning answers, by what the look-up finds
+-- what learning answers, by what the lookup finds
 module _ (tick : ℕ) (es : List (Mac × Seen)) (limit : ℕ) (a : Mac) (port : ℕ) where
   from_found : (o : Option Seen) → lookup (λ k. is_eq (mac_cmp a k)) es ≡ o → answer (rows_at tick es) limit a port ≡ answer_from (option_map (λ s. s.port) o) (rows_at tick es) limit port
   from_found o e = ap (λ p. answer_from p (rows_at tick es) limit port) (port_found tick a es ∙ ap (λ q. option_map (λ s. s.port) q) e)

@@ -127,7 +127,7 @@ impl Fdb {
         self.sightings.port_of(address)
     }
 
-    /// Lets one second pass: each row is a second older, and those whose age has come to the limit
+    /// Lets one second pass: each row is a second older, and those whose age has reached the limit
     /// go (7.9.2).
     pub fn age(&mut self, limit: u32)
         requires least { MIN_AGING_TIME ≤ limit }

@@ -30,7 +30,7 @@ pub struct Sightings {
     pub oldest: u32,
 }
 
-// Forgets the addresses whose age has come to the limit (7.9.2).
+// Forgets the addresses whose age has reached the limit (7.9.2).
 fn forget_old(seen: &mut BTreeMap<Mac, Seen>, tick: u32, limit: u32)
     ensures { seen.new.entries ≡ young_entries tick limit seen.old.entries }
 {
@@ -47,7 +47,7 @@ fn lower_all(seen: &mut BTreeMap<Mac, Seen>, by: u32)
     });
 }
 
-// Forgets the addresses of these ports (7.9). Where there is no port, no address is looked at.
+// Forgets the addresses of these ports (7.9). Where there is no port, no address is read.
 fn forget_ports(seen: &mut BTreeMap<Mac, Seen>, ports: &[u16])
     ensures { seen.new.entries ≡ other_entries ports.now seen.old.entries }
 {
@@ -182,7 +182,7 @@ impl Sightings {
         forget_ports(&mut self.seen, ports);
     }
 
-    // Forgets the addresses whose age has come to the limit (7.9.2), if one may be so old.
+    // Forgets the addresses whose age has reached the limit (7.9.2), if one may be so old.
     fn forget(&mut self, limit: u32)
         requires some { 0 < limit }
         requires timed { IsTimed self.old.oldest self.old.tick self.old.seen.entries }
@@ -214,9 +214,9 @@ impl Sightings {
         self.oldest = 0;
     }
 
-    /// Lets one second pass: each address is a second older, and those whose age has come to the
+    /// Lets one second pass: each address is a second older, and those whose age has reached the
     /// limit go (7.9.2). No address is touched in a second in which none is so old, but where the
-    /// tick number comes to its last value.
+    /// tick number reaches its last value.
     pub fn age(&mut self, limit: u32)
         requires some { 0 < limit }
         requires most { limit ≤ MAX_AGING_TIME }

@@ -17,7 +17,7 @@ shifted : (b : Bool) (n : ℕ) → weight b n ≡ weight b 0 * 2 ^ n
 shifted true n = omega arith
 shifted false n = omega arith
 
--- the bit that a flag was written to tells the flag
+-- the bit that a flag was written to gives the flag
 told : (b : Bool) (n : ℕ) → n ≡ weight b 0 → b ≡ (n == 1)
 told true n e = sym (ap (λ k. k == 1) e)
 told false n e = sym (ap (λ k. k == 1) e)

@@ -152,7 +152,7 @@ group_from d e = same_mac d BRIDGE_GROUP ((bytes_eq-Decides d.0 BRIDGE_GROUP.0).
     told true h = refl
     told false h = cc
 
--- an address that `!=` tells from the group address
+-- an address that `!=` separates from the group address
 pub other_from : (d : Mac) → true ≡ not (bytes_eq d.0 BRIDGE_GROUP.0) → d ≢ BRIDGE_GROUP
 other_from d e = λ group. told (bytes_eq d.0 BRIDGE_GROUP.0) e ((bytes_eq-Decides d.0 BRIDGE_GROUP.0).1 (ap (λ (m : Mac). m.0) group))
   where

@@ -12,7 +12,7 @@ use Rattle.frame_core.specs.declared.layout.TheConstants.{MAX_LENGTH}
 
 -- A frame whose length field counts at most 1,500 octets, all of them there. They are the LLC
 -- header of the spanning tree protocol, 42 42 03, and the octets of a BPDU. What stands behind them
--- is not looked at.
+-- is not read.
 pub record CarriesBpdu (frame : List ℕ) (b : Bpdu) : Type 0 where
   pub octets : List ℕ
   pub most : number_at frame 12 2 ≤ MAX_LENGTH

@@ -40,13 +40,13 @@ role_number roles.Root = 2
 role_number roles.Designated = 3
 
 -- The flags of a Configuration BPDU (9.3.1), with the proposal where an RST BPDU has it. The other
--- bits are not looked at.
+-- bits are not read.
 pub record AreConfigFlags (octet : ℕ) (c : ConfigFields) : Type 0 where
   pub topology_change : c.topology_change ≡ has_bit octet 0
   pub proposal : c.proposal ≡ has_bit octet 1
   pub acknowledge : c.acknowledge ≡ has_bit octet 7
 
--- The flags of an RST BPDU (9.3.3). The role has bits 2 and 3; bit 7 is not looked at.
+-- The flags of an RST BPDU (9.3.3). The role has bits 2 and 3; bit 7 is not read.
 pub record AreRapidFlags (octet : ℕ) (r : RapidFields) : Type 0 where
   pub topology_change : r.topology_change ≡ has_bit octet 0
   pub proposal : r.proposal ≡ has_bit octet 1
@@ -62,7 +62,7 @@ pub record IsConfig (octets : List ℕ) (c : ConfigFields) : Type 0 where
   pub times : AreTimes (drop 27 octets) c.times
 
 -- An RST BPDU likewise (9.3.3). Its last octet, the length of what a version 1 would say, is not
--- looked at.
+-- read.
 pub record IsRapid (octets : List ℕ) (r : RapidFields) : Type 0 where
   pub flags : AreRapidFlags (slice_index octets 4) r
   pub vector : IsVector (drop 5 octets) r.vector
@@ -75,7 +75,7 @@ pub record HasKind (octets : List ℕ) (least kind : ℕ) : Type 0 where
   pub protocol : number_at octets 0 2 ≡ 0
   pub kind_is : slice_index octets 3 ≡ kind
 
--- Octets that encode a BPDU (9.3.4). Octets behind it are not looked at, nor is the version of the
+-- Octets that encode a BPDU (9.3.4). Octets behind it are not read, nor is the version of the
 -- first two kinds.
 abbrev pub IsBpdu : List ℕ → Bpdu → Type 0
 IsBpdu octets (Config c) = HasKind octets 35 0 × IsConfig octets c

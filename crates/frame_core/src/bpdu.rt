@@ -50,7 +50,7 @@ pub enum PortRole {
     AlternateOrBackup,
     /// The root port of its bridge.
     Root,
-    /// The port by which its network comes to the root.
+    /// The port by which its network reaches the root.
     Designated,
 }
 
@@ -96,7 +96,7 @@ pub struct Config {
     pub times: Times,
 }
 
-/// What an RST BPDU says (9.3.3). Its bit of acknowledgment is not used: it is not looked at, and
+/// What an RST BPDU says (9.3.3). Its bit of acknowledgment is not used: it is not read, and
 /// sent as 0.
 #[derive(Clone, Copy, Debug, PartialEq, Eq, Hash)]
 pub struct Rapid {

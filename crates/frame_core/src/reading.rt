@@ -132,11 +132,11 @@ fn carried_by(frame: &[u8]) -> Option<Bpdu>
 }
 
 /// What a bridge reads of a frame: its addresses, and where it goes to the bridges' group address
-/// the BPDU that it carries. Of a frame to any other address nothing but the addresses is looked
-/// at.
+/// the BPDU that it carries. Of a frame to any other address only the addresses are
+/// read.
 ///
 /// The length field counts the octets of the BPDU and the three before them; what pads the frame is
-/// not looked at.
+/// not read.
 ///
 /// # Errors
 ///

@@ -57,7 +57,7 @@ no_link_audit os w port up false = refl
 same_some : (a b : Audit) → Some a ≡ Some b → a ≡ b
 same_some a b e = cc
 
--- an audit that is told has the decision on the request
+-- an audit that is reported has the decision on the request
 cause_told : (os : List ObjectState) (w : World) (e : Event) (n : Notes) (a : Audit) → Some a ≡ (step_of os w e n).audit
     → cause_of w e ≡ cause_in a.decision
 unfolding step_of

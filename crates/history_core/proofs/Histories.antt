@@ -59,7 +59,7 @@ same_replay : (h : History) (e : Event) (n : Notes) (entries : List Entry) (w : 
 same_replay h e n entries w rest is =
     is ∙ ap (λ (rows : List ObjectRow). replay rows h.base entries) (sym (step_rests h.objects h.world e n rest).rows)
 
--- one entry more, where there is room for it
+-- one entry more, where there is space for it
 with_entry-ok : (h : History) (e : Event) (n : Notes) → MayBe h e n → IsLegal (rows_of h.objects) h.base h.entries
     → h.world ≡ replay (rows_of h.objects) h.base h.entries → AreAtRest h.objects → length h.entries < MAX_ENTRIES
     → (k : ℕ) × (h.base_number ≡ h.first + MAX_ENTRIES * k) → next_of h < last_number → IsHistory (with_entry h e n)
@@ -140,7 +140,7 @@ room_by h false test new ok is none =
     let other : length h.entries ≢ MAX_ENTRIES = grind (arith, nat_tests) in
     let most = ok.at_most in omega (arith, most, other)
 
--- where the base does not move there is room for one more
+-- where the base does not move there is space for one more
 pub room-is : (h : History) (new : Option World) → IsHistory h
     → new ≡ (if length h.entries == MAX_ENTRIES then Some h.world else None) → new ≡ None → length h.entries < MAX_ENTRIES
 room-is h new ok is none = room_by h (length h.entries == MAX_ENTRIES) refl new ok is none

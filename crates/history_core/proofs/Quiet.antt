@@ -1,4 +1,4 @@
--- Events that are no requests came to their steps.
+-- The outcomes of events that are no requests are their steps.
 use Rattle.std.proofs.Common.{◌≡◌, ◌∙◌, ℕ, Bool, true, false, List, [], Option, None, ap, refl, sym, subst}
 use Rattle.std.specs.Prelude.{unwrap_or}
 use Rattle.frame_core.specs.declared.frame.FrameIn.{FrameIn}

@@ -1,4 +1,4 @@
--- What an answered request came to is its step.
+-- The outcome of an answered request is its step.
 use Rattle.std.proofs.Common.{◌≡◌, ◌≢◌, ◌∙◌, ◌<◌, arith, length, ℕ, Bool, true, false, List, [], Option, Some, None, Result, Ok, Err, OnErr, ap, refl, sym, subst}
 use Rattle.std.specs.Prelude.{unwrap_or}
 use Rattle.std.specs.Result.{OnOk}
@@ -170,13 +170,13 @@ room_by GetNext room given other = absurd (other (λ e. subst IsSet (sym e) tt))
 room_by GetBulk room given other = absurd (other (λ e. subst IsSet (sym e) tt))
 room_by Set room given other = given refl
 
--- Where a setting could not be put back there is room for it.
+-- Where a setting could not be restored there is space for it.
 pub undone_has_room : (os : List ObjectState) (w : World) (r : Request) (told : Answered) (b : Buffered) (later : World) (os_later : List ObjectState) (room : Bool)
     → IsTold os w r told b later os_later → (r.kind ≡ Set → room ≡ true) → (audit_told told).unrestored ≢ [] → room ≡ true
 undone_has_room os w r told b later os_later room h given some =
     room_by r.kind room given (λ reads. some (told_undoes_none os w r told b (meets_none (rows_of os) w r (met_by told) reads h.may) h.may h.done.answer))
 
--- ---- what an answered request came to
+-- ---- the outcome of an answered request
 
 abbrev pub notes_by : Answered → Notes
 notes_by told = record { no_room = false; devices = notes_told told; unnamed = unnamed_told told }
@@ -201,7 +201,7 @@ told_happens_by os w r told b later os_later h =
       bpdus = h.done.bpdus;
     }
 
--- what is noted of it is what was told
+-- what is noted of it is what was reported
 same_notes : (os : List ObjectState) (w : World) (r : Request) (told : Answered) (b : Buffered)
     → MayHave (rows_of os) w r (met_by told) → IsAnswered (answers.step_of os w r (met_by told)).outcome told b
     → notes_by told ≡ notes_in (happened_by told b.reply)

@@ -1,4 +1,4 @@
--- What an event came to, as `apply` hands it on inside the crate.
+-- The outcome of an event, as `apply` hands it on inside the crate.
 use Rattle.std.specs.Prelude.{◌≡◌, ℕ, false, List, [], Some, None, unwrap_or}
 use Rattle.audit_core.specs.declared.audit.Audit.{Audit}
 use Rattle.setphase_core.specs.Objects.{ObjectState}
@@ -13,7 +13,7 @@ use Rattle.history_core.specs.History.{undos_in}
 use Rattle.history_core.specs.declared.event.Event.{Event}
 use Rattle.history_core.specs.declared.happening.Happened.{Happened}
 
--- An event that is no frame and no request came to nothing beside what the ports send.
+-- An event that is no frame and no request has no outcome beside what the ports send.
 abbrev pub quiet : Happened
 quiet = record {
   no_room = false;
@@ -26,13 +26,13 @@ quiet = record {
   told_audit = None;
 }
 
--- the audit that an answer tells
+-- the audit that an answer reports
 abbrev pub audit_told : Answered → Audit
 audit_told (answered.Reply len audit failed) = audit
 audit_told (answered.Unnamed len audit i) = audit
 audit_told (answered.NoReply audit) = audit
 
--- What an answered request came to, where these octets are its reply, if it has one.
+-- The outcome of an answered request, where these octets are its reply, if it has one.
 abbrev pub happened_by : Answered → List ℕ → Happened
 happened_by (answered.Reply len audit failed) reply = record quiet {
   failed = failed;
@@ -58,7 +58,7 @@ notes_in h = record {
   unnamed = h.unnamed;
 }
 
--- An event that met this, and came to this, is the step.
+-- An event that met this, and had this outcome, is the step.
 pub record HappensBy (objects : List ObjectState) (w : World) (e : Event) (notes : Notes)
     (h : Happened) (objects_later : List ObjectState) (later : World) (buffer : Buffered) :
     Type 0 where

@@ -159,7 +159,7 @@ next_receipt h e notes = record {
 
 -- An event was entered: one entry more, at the next number, by the step of the event at the present
 -- world, with what it may have met, where each call of a device failed exactly where the plan of
--- its object said so, if that has one; the receipt and the audit are the step's, and the buffer
+-- its object has it so, if that has one; the receipt and the audit are the step's, and the buffer
 -- holds the reply, if any, and what the ports send.
 pub record IsEntered (h : History) (e : Event) (receipt : Receipt) (audit : Option Audit)
     (later : History) (buffer : Buffered) : Type 0 where

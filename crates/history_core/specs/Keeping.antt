@@ -24,7 +24,7 @@ world_in (Some base) = Some base.value
 abbrev pub due_base : History → Option World
 due_base h = if length h.entries == MAX_ENTRIES then Some h.world else None
 
--- the entry of an event that came to this, and its receipt under a number
+-- the entry of an event of this outcome, and its receipt under a number
 abbrev pub entry_of : Event → Happened → Entry
 entry_of e x = record {
   event = e;
@@ -53,7 +53,7 @@ Enters None next es w n entry es_later w_later n_later =
 Enters (Some base) next es w n entry es_later w_later n_later =
     (es_later ≡ entry ∷ []) × (w_later ≡ base) × (n_later ≡ next)
 
--- what is told of an event that was entered: that it is dropped, where it is
+-- what is reported of an event that was entered: that it is dropped, where it is
 abbrev pub applied_because : Receipt → Audit → Option Cause → Applied
 applied_because receipt audit (Some cause) = Dropped receipt cause audit
 applied_because receipt audit None = Done receipt (Some audit)

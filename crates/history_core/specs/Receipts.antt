@@ -1,4 +1,4 @@
--- What a receipt tells of an event, when a copy of it takes memory, and when it stands.
+-- What a receipt says of an event, when a copy of it takes memory, and when it stands.
 use Rattle.std.specs.Prelude.{◌≡◌, ◌≢◌, ℕ, ◌-◌, ◌<◌, ◌≤◌, ◌⊎◌, List, [], length, slice_get, Option, Some, None, IfSome}
 use Rattle.message_core.specs.declared.limits.TheConstants.{INLINE_OCTETS}
 use Rattle.history_core.specs.declared.entry.Entry.{Entry}

@@ -119,15 +119,15 @@ fn copies(alloc: Global, reply: &[u8]) -> Result<(Octets, Octets), AllocError>
     Ok((entered, told))
 }
 
-// Room for a reply and its copy, reserved where want of memory can still be told.
+// Memory for a reply and its copy, reserved where want of memory can still be reported.
 #[derive(Drop)]
 struct Rooms {
     entered: Room,
     told: Room,
 }
 
-// What is reserved for a Set, and for no other request: room for its reply and its copy, and for the
-// settings that could not be put back, in its audit and in the copy of that.
+// What is reserved for a Set, and for no other request: memory for its reply and its copy, and for the
+// settings that could not be restored, in its audit and in the copy of that.
 #[derive(Drop)]
 struct Reserved {
     replies: Option<Rooms>,
@@ -136,7 +136,7 @@ struct Reserved {
 }
 
 impl Rooms {
-    // Room for any reply, twice.
+    // Memory for any reply, twice.
     fn reserved(alloc: Global) -> Result<Rooms, AllocError>
         ensures entered { IfOk result (λ rooms. MAX_REPLY ≤ rooms.entered) }
         ensures told { IfOk result (λ rooms. MAX_REPLY ≤ rooms.told) }
@@ -158,7 +158,7 @@ impl Rooms {
     }
 }
 
-// What is reserved for a request of this kind: for a Set rooms for any reply and for any settings,
+// What is reserved for a request of this kind: for a Set memory for any reply and for any settings,
 // since what that writes cannot be taken back where there is then no memory.
 fn reserved_for(alloc: Global, kind: Kind) -> Result<Reserved, AllocError>
     ensures set { IfOk result (λ reserved. reserved.replies ≡ None → kind ≢ Kind.Set) }
@@ -182,8 +182,8 @@ fn reserved_for(alloc: Global, kind: Kind) -> Result<Reserved, AllocError>
     }
 }
 
-// A reply and its copy: of their own size where there is memory for that, and else in the rooms, if
-// there are some.
+// A reply and its copy: of their own size where there is memory for that, and else in what was
+// reserved, if anything was.
 fn replies_in(
     alloc: Global,
     rooms: Option<Rooms>,
@@ -205,8 +205,8 @@ fn replies_in(
     }
 }
 
-// What an answered request came to, where these octets are its reply, if it has one, and the settings
-// that could not be put back are copied into this room. The entry keeps the copy of the audit, whose
+// The outcome of an answered request, where these octets are its reply, if it has one, and the settings
+// that could not be restored are copied into this memory. The entry keeps the copy of the audit, whose
 // list of denied bindings takes no more memory than it needs.
 fn come_to(
     alloc: Global,
@@ -246,8 +246,8 @@ fn come_to(
     Ok(())
 }
 
-// A request comes. Want of memory for its reply or its audit changes nothing: of a Set the rooms for
-// its reply and for what could not be undone are there first, and one that is dropped is counted, and
+// A request comes. Want of memory for its reply or its audit changes nothing: of a Set the memory for
+// its reply and for what could not be undone is there first, and one that is dropped is counted, and
 // has no reply that takes memory.
 fn answer_request<O: MibObject>(
     alloc: Global,

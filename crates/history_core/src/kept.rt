@@ -24,7 +24,7 @@ use std::marker::Model;
 pub struct Kept<O: MibObject> {
     first: u64,
     base_number: u64,
-    // Boxed, so that an event at which the base does not move moves no room for one.
+    // Boxed, so that an event at which the base does not move moves no memory for one.
     base: Box<FlatWorld>,
     entries: Entries,
     world: World,
@@ -294,7 +294,7 @@ fn flat_copy(alloc: Global, world: &World) -> Result<Box<FlatWorld>, AllocError>
     Ok(Box::new(alloc, copy)?)
 }
 
-// What is made of an event that happened: its entry, its receipt, and the audit that is told.
+// What is made of an event that happened: its entry, its receipt, and the audit that is reported.
 #[derive(Drop)]
 struct Made {
     entry: Entry,
@@ -302,7 +302,7 @@ struct Made {
     audit: Option<Audit>,
 }
 
-// What is made of an event that came to this, under this number.
+// What is made of an event of this outcome, under this number.
 fn made_of(number: u64, event: KeptEvent, told: ReceiptEvent, happened: Happened) -> Made
     ensures entry { result.entry ≡ entry_of event happened }
     ensures receipt { result.receipt ≡ receipt_of number told happened }
@@ -361,7 +361,7 @@ fn enter(
     entries.push(entry);
 }
 
-// What is told of an event that was entered.
+// What is reported of an event that was entered.
 fn applied(receipt: Receipt, audit: Option<Audit>) -> Applied
     ensures { result ≡ applied_by receipt audit }
 {

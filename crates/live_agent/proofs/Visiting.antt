@@ -3,7 +3,7 @@ use Rattle.std.proofs.Common.{List, [], ◌∷◌, ◌++◌, ℕ}
 use Rattle.wire_core.specs.Acts.{Act}
 use Rattle.live_agent.specs.Deeds.{Deed, acted, visited, before, all_acted}
 
--- The datagram came, the gate was told, packets were sent, and then this was done.
+-- The datagram came, the gate was visited, packets were sent, and then this was done.
 pub taken_deeds : {W : Type 0} (went : W → List Act → W → Type 0) (did : W → List Deed → W → Type 0)
     → ((a b : W) (acts : List Act) → went a acts b → did a (all_acted acts) b)
     → ((a b c : W) (xs ys : List Deed) → did a xs b → did b ys c → did a (xs ++ ys) c)

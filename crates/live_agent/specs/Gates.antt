@@ -5,7 +5,7 @@ use Rattle.live_agent.specs.declared.gate.Gated.{Gated}
 use Rattle.live_agent.specs.declared.paced.Paced.{Paced}
 use Rattle.live_agent.specs.Deeds.{Deed, Visit, acts_in, visits_in, answers_in}
 
--- The wire did this, and nobody came to the gate.
+-- The wire did this, and nobody visited the gate.
 pub record ActsGated {W G : Type 0} (went : W → List Act → W → Type 0) (a : Gated W G) (acts : List Act) (b : Gated W G) : Type 0 where
   pub wire : went a.wire acts b.wire
   pub gate : b.gate ≡ a.gate

@@ -58,7 +58,7 @@ ports_packets s h = bpdu_packets s.source s.peers h.buffer.bpdus
 
 -- ---- workers
 
--- A worker lends room for one octet more than a request has at most.
+-- A worker lends memory for one octet more than a request has at most.
 abbrev pub request_room : ℕ
 request_room = MAX_REQUEST + 1
 
@@ -130,7 +130,7 @@ HasWorked did kept s rounds worker a b k l amount later_amount how =
 
 -- ---- ports
 
--- A port lends room for one octet more than a frame has at most.
+-- A port lends memory for one octet more than a frame has at most.
 abbrev pub frame_room : ℕ
 frame_room = MAX_FRAME_LEN + 1
 
@@ -237,7 +237,7 @@ ticker_deeds (was_own h) = answered true ∷ all_acted h.acts
 ticker_deeds paused = answered false ∷ []
 ticker_deeds turn = all_acted (acts_of turn)
 
--- Between two states of its wire a ticker of so many rounds has run: its pace said true once for each
+-- Between two states of its wire a ticker of so many rounds has run: its pace was true once for each
 -- second, ahead of what that second gave to send and behind what the seconds before it gave, and
 -- false where it ended.
 abbrev pub HasTicked : {W K : Type 0} → (W → List Deed → W → Type 0) → (K → List Item → K → Type 0)

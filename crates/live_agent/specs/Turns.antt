@@ -13,7 +13,7 @@ use Rattle.live_agent.specs.declared.trace.Item.{Item}
 use Rattle.live_agent.specs.declared.trace.Item.TheVariants as item
 use Rattle.live_agent.specs.declared.trace.Refusal.{Refusal}
 
--- A datagram that came, and how much room was lent for it.
+-- A datagram that came, and how much memory was lent for it.
 pub record Arrival : Type 0 where
   pub room : ℕ
   pub peer : SocketAddr

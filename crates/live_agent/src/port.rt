@@ -222,7 +222,7 @@ fn port_turn<O: MibObject, L: Run, W: Wire, K: Recorder, R: Wait>(
     }
 }
 
-// A datagram came to a port, with room in its trace.
+// A port received a datagram, with space in its trace.
 fn take_frame<O: MibObject, L: Run, W: Wire, K: Recorder, R: Wait>(
     rt: &R,
     plan: &Plan,

@@ -16,7 +16,7 @@ struct Backlog {
 }
 
 impl Backlog {
-    // Whether so many octets have room; they wait from then on.
+    // Whether there is space for so many octets; they wait from then on.
     fn enter(&mut self, octets: usize) -> bool
         ensures room { result ≡ true → (self.new ≡ waiting_more self.old octets)
             × (self.old.waiting + octets ≤ MAX_WAITING_OCTETS) }
@@ -80,7 +80,7 @@ impl AuditBacklog {
         self.backlog.lock(rt).take_lost()
     }
 
-    // Whether a line of so many octets has room; it waits from then on.
+    // Whether there is space for a line of so many octets; it waits from then on.
     pub(crate) fn enter<R: Wait>(&self, rt: &R, octets: usize) -> bool {
         self.backlog.lock(rt).enter(octets)
     }

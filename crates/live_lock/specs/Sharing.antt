@@ -1,4 +1,4 @@
--- A history that threads share: how it goes on from where it started, and what each thread is told.
+-- A history that threads share: how it goes on from where it started, and what each thread learns.
 use Rattle.std.specs.Prelude.{◌≡◌, ℕ, ◌+◌, ◌≤◌, List, [], ◌++◌, unwrap_or}
 use Rattle.agent_core.specs.Buffered.{Buffered}
 use Rattle.history_core.specs.History.{History, IsHistory, Applies, fresh, next_of}
@@ -35,7 +35,7 @@ pub record IsHeld (start h : History) (count : ℕ) : Type 0 where
   pub continues : Continues start h
   pub rows : rows_of h.objects ≡ rows_of start.objects
 
--- ---- what a thread is told
+-- ---- what a thread learns
 
 -- how many entries an event made
 abbrev pub entry_count : Applied → ℕ
@@ -65,7 +65,7 @@ IsDroppable (event.Link port up) = ⊥
 IsDroppable (event.Policy tables) = ⊥
 IsDroppable (event.Request request) = Unit {0}
 
--- What an answer tells of its event, wherever that took its place: the receipt of the event, whose
+-- What an answer says of its event, wherever that took its place: the receipt of the event, whose
 -- reply stands in the buffer, or the event itself.
 abbrev pub IsToldOf : Event → Applied → Buffered → Type 0
 IsToldOf e (Done receipt audit) buffer =

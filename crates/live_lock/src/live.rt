@@ -23,8 +23,8 @@ use std::hint::spin_loop;
 use std::sync::{Mutex, MutexGuard, Wait, ledger};
 use std::thread::yield_now;
 
-// How often a thread looks whether the lock is free, before it sleeps until it is; and after how many
-// looks it lets others run between two of them.
+// How often a thread tests whether the lock is free, before it sleeps until it is; and after how many
+// tests it lets others run between two of them.
 const MOST_LOOKS: u32 = 320;
 
 const LOOKS_ALONE: u32 = 256;
@@ -167,8 +167,8 @@ impl<O: MibObject, L: Run> Live<O, L> {
     }
 
     // The history, once the lock is free. An event takes a few microseconds, and a thread that sleeps
-    // takes longer to be woken; so it looks for a while first, and then lets others run between two
-    // looks, since one that has the lock may wait for a processor.
+    // takes longer to be woken; so it tests for a while first, and then lets others run between two
+    // tests, since one that has the lock may wait for a processor.
     fn locked<R: Wait>(&self, rt: &R) -> MutexGuard<'_, Held<O, L>> {
         for look in 0..MOST_LOOKS {
             if let Some(guard) = self.held.try_lock() {

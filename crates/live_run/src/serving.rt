@@ -14,7 +14,7 @@ use std::sync::Wait;
 use std::thread::Threads;
 use wire_core::Wire;
 
-// Room for how so many lines ran.
+// Memory for the ends of so many lines.
 fn room_for(alloc: Global, lines: usize) -> Result<Vec<Ran>, AllocError>
     ensures empty { IfOk result (λ runs. runs.items ≡ []) }
     ensures room { IfOk result (λ runs. lines ≤ vec_capacity runs) }

@@ -3,7 +3,7 @@
 //!
 //! # Entry points
 //! [`run_command`] does a [`Command`], which has an agent, a number of tries and an [`Errand`], and
-//! gives the exit status: 0 or [`FAILED`]. Where it is 0 nothing is said on standard error. [`ask`]
+//! gives the exit status: 0 or [`FAILED`]. Where it is 0 nothing is written on standard error. [`ask`]
 //! gives the bindings that answer a request, or a [`ManagerFault`]; [`walk`] those of a subtree of
 //! names, fewer than [`MAX_NAMES`]: 99,999 at most. [`report`] writes the line of a [`Failure`].
 //! [`RECEIVE_ROOM`] is how many octets are lent to a receive.
@@ -19,7 +19,7 @@
 //!
 //! # Not claimed
 //! That a peer answers; who it is that answers; that a growth or a write succeeds; that memory was
-//! refused where that is said; what stands on standard error where the status is not 0.
+//! refused where that is reported; what stands on standard error where the status is not 0.
 #![tactic(auto)]
 
 mod asking;

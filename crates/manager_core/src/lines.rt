@@ -15,7 +15,7 @@ use std::io::Write;
 /// Appends the line of each binding, in order: its name, its type and its value.
 ///
 /// # Errors
-/// There is no memory for them, and they are not empty; then nothing is said of what stands behind
+/// There is no memory for them, and they are not empty; then nothing is known of what stands behind
 /// what was there.
 pub(crate) fn push_lines(bindings: &[Binding], out: &mut Vec<u8>) -> Result<(), AllocError>
     ensures lines { OnOk result (out.new.items ≡ out.old.items ++ lines_of bindings.now) }

@@ -107,7 +107,7 @@ fn write_found<O: Write>(alloc: Global, found: &[Binding], out: &mut O) -> Resul
 }
 
 /// Writes the line of a failure, and says whether it was written whole: where a write fails,
-/// nothing is said of what the writer holds.
+/// nothing is known of what the writer holds.
 pub fn report<E: Write>(failure: Failure, errors: &mut E) -> bool
     ensures { IsTrue result → Appends (E.contents errors.old) (E.contents errors.new)
         (codes "manager: " ++ failure_text failure ++ codes "\n") }

@@ -24,7 +24,7 @@ pub const MAX_NAMES: u32 = 100_000;
 pub(crate) enum Step {
     /// The walk has found a binding, and goes on from its name.
     Found(Binding),
-    /// It has come to the end of the subtree.
+    /// It has reached the end of the subtree.
     Ended,
     /// It cannot go on.
     Broken(ManagerFault),

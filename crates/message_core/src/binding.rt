@@ -91,8 +91,8 @@ impl Bindings {
         items
     }
 
-    /// Adds a binding at the end. Takes memory; without it, nothing changes and the binding is let
-    /// go. Most lists have one binding, so the first takes room for itself alone.
+    /// Adds a binding at the end. Takes memory; without it nothing changes, and the binding is
+    /// dropped. Most lists have one binding, so the first takes memory for itself alone.
     pub fn push(&mut self, binding: Binding) -> Result<(), AllocError>
         ensures ok { OnOk result (self.new ≡ self.old ++ binding ∷ []) }
         ensures err { OnErr result (self.new ≡ self.old) }

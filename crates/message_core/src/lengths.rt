@@ -17,7 +17,7 @@ const MAX_CODED: usize = 5;
 // A tag and the length of at most 127 octets (X.690, 8.1.3.4).
 const SHORT_HEAD: usize = 2;
 
-// The most octets of the content of an unsigned number of 64 bits: one more has room for its sign.
+// The most octets of the content of an unsigned number of 64 bits: one more holds its sign.
 const MAX_UNSIGNED: usize = 9;
 
 // The octets of a coded number: one for each group of seven bits, and one for 0 (X.690, 8.19.2).

@@ -176,7 +176,7 @@ fn put_message(out: &mut Out<'_>, message: &Message<'_>) -> Result<(), BerFault>
 }
 
 /// Writes a message to the front of the buffer, and answers how long it is. A message that does not
-/// fit changes nothing there. The room, as long as the buffer, is written on the way.
+/// fit changes nothing there. The space, as long as the buffer, is written on the way.
 fn encode(message: &Message<'_>, room: &mut [u8], buffer: &mut [u8]) -> Result<usize, TooBig>
     requires names { AreEncodable message.now.bindings.now }
     requires same_len { length room.old ≡ length buffer.old }

@@ -15,8 +15,8 @@ IsListFault numbers TooLong = MAX_NUMBERS < length numbers
 IsListFault numbers BadContent = length numbers ≡ 0
 IsListFault numbers NoRoom = ⊥
 
--- A name is not written behind what was written: it has no encoding, or else its content has no
--- room.
+-- A name is not written behind what was written: it has no encoding, or else there is no space for
+-- its content.
 abbrev pub IsWriteFault : List ℕ → Out → OidFault → Type 0
 IsWriteFault name old Memory = ⊥
 IsWriteFault name old BadText = ⊥

@@ -24,7 +24,7 @@ fn put_coded(out: &mut Out<'_>, number: u64) -> Result<(), BerFault>
     Ok(())
 }
 
-/// Writes the last numbers of a name that have one octet each, as far as there is room, into a
+/// Writes the last numbers of a name that have one octet each, as far as there is space, into a
 /// slice in front of `start`, and says how many. The first two numbers are left.
 fn put_short(room: &mut [u8], start: usize, name: &[u32]) -> usize
     requires start { start ≤ length room.old }
@@ -44,7 +44,7 @@ fn put_short(room: &mut [u8], start: usize, name: &[u32]) -> usize
     count
 }
 
-/// Writes the last numbers of a name that have one octet each, as far as there is room, and says
+/// Writes the last numbers of a name that have one octet each, as far as there is space, and says
 /// how many. The first two numbers are left.
 fn put_last(out: &mut Out<'_>, name: &[u32]) -> usize
     requires { 2 ≤ length name.now }
@@ -82,7 +82,7 @@ fn put_numbers(out: &mut Out<'_>, name: &[u32]) -> Result<(), BerFault>
 /// The caller owes that the name has an encoding: two sub-identifiers or more, of which the first
 /// is at most 2, and the second at most 39 where the first is below 2 (X.690, 8.19.4). `NoRoom`
 /// where it does not fit, and then what is written is as it was; of the octets of the slice in
-/// front of it nothing is said then. A call that succeeds leaves those in front of what it wrote as
+/// front of it nothing is known then. A call that succeeds leaves those in front of what it wrote as
 /// they were.
 pub fn put_name(out: &mut Out<'_>, name: &[u32]) -> Result<(), BerFault>
     requires { HasRoot name.now }

@@ -47,7 +47,7 @@ no_more (Some x) = refl
 
 -- ---- rows of values
 
--- a function tells what a relation says
+-- what a function says is what a relation says
 record Tells {R : Type 0} (says : Data → Option R → Type 0) (f : Data → Option R) : Type 0 where
   row : (d : Data) (r : R) → says d (Some r) → f d ≡ Some r
   none : (d : Data) → says d None → f d ≡ None
@@ -322,7 +322,7 @@ said_policy ms policy e =
       is = k.1;
     }
 
--- what a call that gives the policy, or refuses the table, tells
+-- what a call that gives the policy, or refuses the table, says
 pub said_if : (ms : Members) (r : Result PolicyTables PolicyFault) → IfOk r (λ p. IsPolicy ms p) → IfOk r (λ p. policy_of_members ms ≡ Some p)
 said_if ms (Ok p) h = policy_told ms p h
 said_if ms (Err e) h = tt

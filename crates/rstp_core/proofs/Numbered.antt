@@ -1,4 +1,4 @@
--- The rows of an event are of port 1, port 2, .., and its turns come to one change of each port.
+-- The rows of an event are of port 1, port 2, .., and its turns make one change of each port.
 use Rattle.std.proofs.Common.{◌≡◌, ℕ, ◌+◌, ◌<◌, Bool, true, false, cond, List, length, get_or, map, refl, sym, ap, subst, ◌∙◌, arith}
 use Rattle.frame_core.specs.declared.bpdu.BridgeId.{BridgeId}
 use Rattle.rstp_settings.specs.Table.{Table}

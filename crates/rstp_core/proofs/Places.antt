@@ -147,7 +147,7 @@ candidate_from own (r ∷ rows) b k h e = by (candidate_from own rows b) (candid
   by rest (Some c) n zero h e = record { place = 0; within = omega arith; offers = n ∙ ap Some (rw n at e) }
   by rest (Some c) n (suc k) h e = let within : suc k < suc (length (filter_map (candidate own) rows)) = rw n at h in from_rest own r rows b (rest k (omega (arith, within)) (rw n at e))
 
--- a port whose learned rows go is told
+-- a port whose learned rows go is among the flushed ones
 contains_rest : (b : Bool) (r : Row) (rows : List Row) (n : ℕ) → Contains (map (λ x. x.line.number) rows) n → Contains (map (λ x. x.line.number) (cond b (r ∷ rows) rows)) n
 contains_rest true r rows n h = (suc h.0, omega (arith, h.1), h.2)
 contains_rest false r rows n h = h

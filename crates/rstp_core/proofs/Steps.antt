@@ -16,7 +16,7 @@ pub map_step : {X : Type 0} (f : X → X) (xs ys : List X) (i : ℕ) (d y : X) �
 map_step f xs ys i d y within same inv e =
     ap (set ys i) e ∙ map_over_more f xs ys i (get_or ys i d) (omega arith) inv (get_or_default ys i d (get_or ys i d) within)
 
--- such a loop has not yet come to element i
+-- such a loop has not yet reached element i
 unread : {X : Type 0} (f : X → X) (xs : List X) (i : ℕ) (d : X) → get_or (map f (take i xs) ++ drop i xs) i d ≡ get_or xs i d
 unread f [] zero d = refl
 unread f [] (suc i) d = refl

@@ -81,7 +81,7 @@ counted_started t r = if_push with_transition_counted (eqb r.port.change_while 0
 spread_if : (t : Timing) (r : Row) (h : Bool) → hears r ≡ h → with_change_spread t r ≡ cond h (flush (with_change_started t r)) r
 spread_if t r h e = ap (λ b. cond b (flush (with_change_started t r)) r) e
 
--- a change that is told twice is told once
+-- a change that is signalled twice is signalled once
 spread_twice : (t : Timing) (r : Row) (h : Bool) → hears r ≡ h → with_change_spread t (with_change_spread t r) ≡ with_change_spread t r
 spread_twice t r false e = ap (with_change_spread t) (spread_if t r false e)
 spread_twice t r true e =
@@ -94,7 +94,7 @@ spread_twice t r true e =
 abbrev begun_by : Timing → Bool → Row → Row
 begun_by t edge r = cond edge (with_transition_counted r) (with_change_started t (with_transition_counted r))
 
--- a port that is told of a change and then begins to forward is as one that begins and is then told
+-- a port that hears of a change and then begins to forward is as one that begins and then hears of it
 begun_told : (t : Timing) (r : Row) (edge : Bool) → r.port.edge ≡ edge → hears r ≡ true → after_begin t (flush (with_change_started t r)) ≡ flush (with_change_started t (begun_by t edge r))
 begun_told t r true e h =
     let y = flush (with_change_started t r) in
@@ -220,7 +220,7 @@ begins_here t xs k h b =
     let another = list_any (other r) (take k xs) in
     ap (λ (o : Bool). after_begin t (stage t o another r)) before ∙ (stage_begun t another r ∙ (λ i. stage t (after i) (sym (quiet xs r k h (not_itself r)) i) r))
 
--- another port is told
+-- another port hears of the change
 told_there : (t : Timing) (xs : List Row) (n k : ℕ) → n < length xs → n ≢ k → other (get_or xs k no_row) (get_or xs n no_row) ≡ true → with_change_spread t (staged t xs n k) ≡ staged t xs (suc n) k
 told_there t xs n k h d starts =
     let r = get_or xs k no_row in

@@ -60,14 +60,14 @@ rows_of s t = rows_from s t.settled 1 t.config t.ports
 abbrev pub ports_of : List Row → List Port
 ports_of rows = map (λ r. r.port) rows
 
--- Some port tells a topology change.
+-- Some port signals a topology change.
 abbrev pub has_change : List Port → Bool
 has_change ports = list_any (λ p. nat_lt 0 p.change_while) ports
 
--- The root, the times in force, and the counts of topology changes, where one was told before the
--- event or not, and one is told after it or not. A topology change is counted where one is told and
--- none was. The seconds run from where none is told any more, or from the opening where none was;
--- they are 0 while one is told.
+-- The root, the times in force, and the counts of topology changes, where one was signalled before
+-- the event or not, and one is signalled after it or not. A topology change is counted where one is
+-- signalled and none was. The seconds run from where none is signalled any more, or from the opening
+-- where none was; they are 0 while one is signalled.
 abbrev pub changes_after : ℕ → Bool → Bool → ℕ
 changes_after n had has = if has && not had then (n + 1) % 2 ^ 32 else n
 

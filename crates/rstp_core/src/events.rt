@@ -40,14 +40,14 @@ pub fn begin_all(
     rows
 }
 
-/// Whether some port tells a topology change.
+/// Whether some port signals a topology change.
 pub fn has_changes(ports: &[Port]) -> bool
     ensures { result ≡ has_change ports.now }
 {
     ports.iter().any(|port| port.change_while > 0)
 }
 
-/// A message at port `port`: what it tells the port, and then the topology change (17.21.8,
+/// A message at port `port`: what it says to the port, and then the topology change (17.21.8,
 /// 17.21.17, 17.21.18, 17.23).
 pub fn arrive_all(settings: &Settings, own: BridgeId, port: u16, bpdu: &Bpdu, rows: &mut [Row])
     ensures { rows.new ≡ after_arrival settings.now own port bpdu.now rows.old }

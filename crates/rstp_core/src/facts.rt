@@ -7,7 +7,7 @@ use frame_core::Times;
 use rstp_rules::row::{Best, Context};
 use rstp_rules::vector;
 
-/// What a bridge tells of its spanning tree (IEEE 802.1D-2004 17.18, 14.8.1.1).
+/// What a bridge shows of its spanning tree (IEEE 802.1D-2004 17.18, 14.8.1.1).
 #[derive(Clone, Copy, Debug, PartialEq, Eq)]
 pub struct BridgeFacts {
     /// The root vector: the root's identifier and the cost of the path to it; and the port by which
@@ -17,12 +17,12 @@ pub struct BridgeFacts {
     pub times: Times,
     /// How many topology changes there were, modulo 2^32 (14.8.1.1).
     pub topology_changes: u32,
-    /// The seconds since no port tells a topology change any more, or since the opening where none
-    /// was told; 0 while one is told. At most 2^64 - 1 (14.8.1.1).
+    /// The seconds since no port signals a topology change any more, or since the opening where none
+    /// was signalled; 0 while one is signalled. At most 2^64 - 1 (14.8.1.1).
     pub since: u64,
 }
 
-// A topology change is counted where one is told and none was (14.8.1.1).
+// A topology change is counted where one is signalled and none was (14.8.1.1).
 fn changes_now(changes: u32, had: bool, has: bool) -> u32
     ensures { result ≡ changes_after changes had has }
 {
@@ -33,7 +33,7 @@ fn changes_now(changes: u32, had: bool, has: bool) -> u32
     }
 }
 
-// The seconds since no port tells a topology change (14.8.1.1).
+// The seconds since no port signals a topology change (14.8.1.1).
 fn since_now(tick: bool, since: u64, has: bool) -> u64
     ensures { result ≡ since_after tick since has }
 {
@@ -54,8 +54,8 @@ impl BridgeFacts {
         vector::number_of_port(self.root.receiver)
     }
 
-    /// The facts after an event: `had` and `has` say whether a topology change was told before it,
-    /// and is told after it.
+    /// The facts after an event: `had` and `has` say whether a topology change was signalled before
+    /// it, and is signalled after it.
     pub(crate) fn renew(&mut self, tick: bool, context: &Context, had: bool, has: bool)
         ensures { self.new ≡ facts_after tick context.now had has self.old }
     {

@@ -94,8 +94,8 @@ pub fn starting_anew_flushes()
         → (port : ℕ) → HasPort t port → Restarts h s t port → IsAnew r u port }
 {}
 
-/// The turns in ascending order come to one change of each port: it starts a topology change where
-/// it began to forward and is not at the edge; and it tells one, and its learned rows go, where
+/// The turns in ascending order make one change of each port: it starts a topology change where
+/// it began to forward and is not at the edge; and it signals one, and its learned rows go, where
 /// another port starts one and it is on, root or designated, and not at the edge (17.31). So it is
 /// of any rows of which no two are of one port, and of each event after every run.
 pub fn turns_are_one_change()

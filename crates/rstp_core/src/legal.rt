@@ -87,7 +87,7 @@ pub fn rows_are_numbered()
         → let e = event_by h s t in AreNumbered (before_turns (event_context e) (roled_rows e)) }
 {}
 
-/// In each event the turns in ascending order come to one change of each port (17.31): `ready_rows`
+/// In each event the turns in ascending order make one change of each port (17.31): `ready_rows`
 /// is what the event makes of the rows before it sends.
 pub fn turns_of_an_event_are_one_change()
     ensures { (h : Happening) (s : Table) (t : Tree) → IsLegal s t → let e = event_by h s t in

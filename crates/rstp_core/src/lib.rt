@@ -5,7 +5,7 @@
 //! # Entry points
 //! [`Rstp`] with `on_bpdu`, `tick`, `link` and `settle`, each with its [`Outcome`]; `role`,
 //! `state`, `facts`, `bridge_facts`, `copy`, `is_same`. [`Settled`] is what is kept of the settings
-//! as they are settled, [`BridgeFacts`] what a bridge tells of its tree. The types of ports come
+//! as they are settled, [`BridgeFacts`] what a bridge shows of its tree. The types of ports come
 //! from `rstp_rules` ([`Port`], [`Info`], [`Role`], [`State`], [`Best`], [`SettledPort`],
 //! [`Timers`]), those of settings from `rstp_settings` ([`Settings`], [`MAX_PORTS`], [`Key`],
 //! [`BridgeKey`], [`PortKey`], [`BridgeConfig`], [`PortConfig`], [`IfIndex`], [`MAX_IFINDEX`]).

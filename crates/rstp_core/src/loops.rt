@@ -53,7 +53,7 @@ pub fn receive_all(own: BridgeId, rstp: bool, port: u16, bpdu: &Bpdu, rows: &mut
     }
 }
 
-// Whether a message at port `port` tells the other ports of a topology change (17.21.17).
+// Whether a message at port `port` signals a topology change to the other ports (17.21.17).
 fn has_news(own: BridgeId, port: u16, bpdu: &Bpdu, rows: &[Row]) -> bool
     ensures { result ≡ list_any (spreads own port bpdu.now) rows.now }
 {

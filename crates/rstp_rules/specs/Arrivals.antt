@@ -74,7 +74,7 @@ after_answer v agreement r =
     then record r { port = record r.port { agreed = agreement && r.line.point_to_point } }
     else r
 
--- 17.21.8. By the role that an RST message tells. One of unknown role does nothing here.
+-- 17.21.8. By the role that an RST message carries. One of unknown role does nothing here.
 abbrev pub after_rapid : PortRole → PriorityVector → Times → Bool → Bool → Row → Row
 after_rapid said.Unknown v t proposal agreement r = r
 after_rapid said.AlternateOrBackup v t proposal agreement r = after_answer v agreement r
@@ -93,20 +93,20 @@ abbrev pub after_reception : BridgeId → Bool → ℕ → Bpdu → Row → Row
 after_reception own rstp port b r =
     if r.line.number == port && is_taken own b r then after_message rstp b r else r
 
--- 17.21.17. Whether the message at a port tells the other ports of a topology change: with its
+-- 17.21.17. Whether the message at a port signals a topology change to the other ports: with its
 -- flag, or as a TCN, on a root or designated port.
 abbrev pub spreads : BridgeId → ℕ → Bpdu → Row → Bool
 spreads own port b r =
     r.line.number == port && is_taken own b r && is_root_or_designated r.port.role && tells_change b
 
--- 17.21.17. What it tells the port itself of a topology change: an acknowledgment to the root port,
--- which need not tell any longer; a notification to a designated port, which acknowledges it.
+-- 17.21.17. What it says to the port itself of a topology change: an acknowledgment to the root port,
+-- which need not signal any longer; a notification to a designated port, which acknowledges it.
 abbrev pub after_acknowledgment : Bpdu → Row → Row
 after_acknowledgment TopologyChange r = if is_designated r.port.role then record r { port = record r.port { acknowledge = true; pending = true } } else r
 after_acknowledgment (Config m) r = if m.acknowledge && is_root r.port.role then record r { port = record r.port { change_while = 0 } } else r
 after_acknowledgment (Rapid m) r = r
 
--- A message at a port: the topology change, where `change` says that it tells one.
+-- A message at a port: the topology change, where `change` says that it signals one.
 abbrev pub after_change_notice : Timing → BridgeId → ℕ → Bpdu → Bool → Row → Row
 after_change_notice t own port b change r =
     if r.line.number == port then (if is_taken own b r then after_acknowledgment b r else r)
@@ -119,7 +119,7 @@ after_change_notices t own port b rows =
 abbrev pub after_receptions : BridgeId → Bool → ℕ → Bpdu → List Row → List Row
 after_receptions own rstp port b rows = map (after_reception own rstp port b) rows
 
--- A message at a port: first what it tells the port, then the topology change, with the times in
+-- A message at a port: first what it says to the port, then the topology change, with the times in
 -- force then. Roles are as they were before the event.
 unfoldable pub after_arrival : Table → BridgeId → ℕ → Bpdu → List Row → List Row
 after_arrival s own port b rows =

@@ -1,4 +1,4 @@
--- What a BPDU tells of a topology change (IEEE 802.1D-2004 9.3, 17.21.17).
+-- What a BPDU says of a topology change (IEEE 802.1D-2004 9.3, 17.21.17).
 use Rattle.std.specs.Prelude.{Bool, true}
 use Rattle.frame_core.specs.declared.bpdu.Bpdu.{Bpdu}
 use Rattle.frame_core.specs.declared.bpdu.Bpdu.TheVariants.{Config, TopologyChange, Rapid}

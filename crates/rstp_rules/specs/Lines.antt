@@ -1,4 +1,4 @@
--- What the settings come to: for a port (IEEE 802.1D-2004 9.2.5, 9.2.7, 17.14), and as times in
+-- What follows from the settings: for a port (IEEE 802.1D-2004 9.2.5, 9.2.7, 17.14), and as times in
 -- force (17.18.4, 17.18.7, 17.20.6 to 17.20.8).
 use Rattle.std.specs.Prelude.{ℕ, ◌+◌, ◌*◌, ◌/◌, ◌≤◌, Bool, false, ◌&&◌, if◌then◌else◌, ◌==◌, min, max, List, Option, Some, None}
 use Rattle.std.specs.List.{find}

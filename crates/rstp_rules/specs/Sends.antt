@@ -49,7 +49,7 @@ rapid_of c r = record {
 }
 
 -- What a port has to send, whether or not it may now: a designated port RST or Config; a root port
--- RST, or a TCN while it tells a topology change; other ports nothing.
+-- RST, or a TCN while it signals a topology change; other ports nothing.
 abbrev pub message_due : Context → Row → Option Bpdu
 message_due c r =
     if is_designated r.port.role then (if sends_rapid c.timing r then Some (Rapid (rapid_of c r)) else Some (Config (config_of c r)))
@@ -63,7 +63,7 @@ sends c r = r.port.pending && is_some (message_due c r) && nat_lt r.port.sent_co
 abbrev pub bpdu_of : Context → Row → Option Bpdu
 bpdu_of c r = if sends c r then message_due c r else None
 
--- What sending leaves: one more is sent and nothing is pending; a Config message has told its
+-- What sending leaves: one more is sent and nothing is pending; a Config message has carried its
 -- acknowledgment. Where nothing is to be sent, nothing is pending.
 abbrev pub after_sending : Context → Row → Row
 after_sending c r =

@@ -18,7 +18,7 @@ after_tick r = record r {
 }
 
 -- 17.26. The hello step: a root or designated port whose hello time is over starts it again; a
--- designated one, or a root port that tells a topology change, has something to send.
+-- designated one, or a root port that signals a topology change, has something to send.
 abbrev pub after_hello_step : Timing → Row → Row
 after_hello_step t r = if is_root_or_designated r.port.role && r.port.hello_when == 0
     then record r { port = record r.port { hello_when = t.hello; pending = r.port.pending || is_designated r.port.role || nat_lt 0 r.port.change_while } }

@@ -1,6 +1,6 @@
 -- How the state of a port follows from its role (IEEE 802.1D-2004 17.29 to 17.31), in six steps,
 -- each taken for all ports before the next: a. blocked ports, b. changed roles, c. what is to be
--- told, d. synchronization, e. the next state, f. topology changes.
+-- announced, d. synchronization, e. the next state, f. topology changes.
 use Rattle.std.specs.Prelude.{ℕ, ◌+◌, ◌%◌, ◌^◌, Bool, true, false, ◌&&◌, ◌||◌, not, if◌then◌else◌, ◌==◌, List, map}
 use Rattle.std.specs.List.{list_any, list_all}
 use Rattle.rstp_rules.specs.declared.row.Row.{Row}
@@ -53,7 +53,7 @@ after_announcement c r = if is_designated r.port.role && (has_changed_role r || 
     then record r { port = record r.port { pending = true; agreed = r.port.agreed && same_vector r.was.vector r.port.vector } }
     else r
 
--- a to c, each of which looks at one port.
+-- a to c, each of which reads one port.
 abbrev pub after_first_transitions : Context → Row → Row
 after_first_transitions c r = after_announcement c (after_discarding (after_role_change (after_root_role c (after_delay c (after_blocking r)))))
 
@@ -100,7 +100,7 @@ after_advances c rows = map (after_advance c (no_recent_root rows)) rows
 abbrev pub has_begun : Row → Bool
 has_begun r = is_forwarding r.port.state && not (is_forwarding r.was.state)
 
--- 17.21.7. For how long a topology change is told: a hello time and a second to neighbours of RST,
+-- 17.21.7. For how long a topology change is signalled: a hello time and a second to neighbours of RST,
 -- and else the maximum age and the forward delay.
 abbrev pub change_time : Timing → Row → ℕ
 change_time t r = if sends_rapid t r then t.hello + 1 else t.max_age + t.forward_delay
@@ -111,7 +111,7 @@ with_change_started t r = if r.port.change_while == 0
     then record r { port = record r.port { change_while = change_time t r; pending = true } }
     else r
 
--- 17.21.18. Another port tells the change too, and its learned rows go: one that is on, root or
+-- 17.21.18. Another port signals the change too, and its learned rows go: one that is on, root or
 -- designated, and not at the edge.
 abbrev pub with_change_spread : Timing → Row → Row
 with_change_spread t r = if r.line.on && is_root_or_designated r.port.role && not r.port.edge

@@ -60,7 +60,7 @@ starts_change r = has_begun r && not r.port.edge
 abbrev pub another_starts : List Row → Row → Bool
 another_starts rows r = list_any (λ q. not (q.line.number == r.line.number) && starts_change q) rows
 
--- What becomes of a port: it begins to forward; and where another port starts a change, it tells
+-- What becomes of a port: it begins to forward; and where another port starts a change, it signals
 -- that too.
 abbrev pub with_changes_told : Timing → Bool → Row → Row
 with_changes_told t another r =

@@ -86,7 +86,7 @@ impl Row {
         }
     }
 
-    // An RST BPDU, by the role that it tells (17.21.8).
+    // An RST BPDU, by the role that it carries (17.21.8).
     fn take_rapid(&mut self, message: &Rapid, rstp: bool)
         ensures { self.new ≡ after_rapid message.now.role message.now.vector message.now.times
             (message.now.proposal && rstp) (message.now.agreement && rstp) self.old }
@@ -129,7 +129,7 @@ impl Row {
         }
     }
 
-    /// Whether a message at port `port` tells the other ports of a topology change (17.21.17).
+    /// Whether a message at port `port` signals a topology change to the other ports (17.21.17).
     pub fn spreads(&self, own: BridgeId, port: u16, bpdu: &Bpdu) -> bool
         ensures { result ≡ spreads own port bpdu.now self.now }
     {
@@ -139,7 +139,7 @@ impl Row {
             && has_topology_change(bpdu)
     }
 
-    // What a message tells the port itself of a topology change (17.21.17).
+    // What a message says to the port itself of a topology change (17.21.17).
     fn acknowledge(&mut self, bpdu: &Bpdu)
         ensures { self.new ≡ after_acknowledgment bpdu.now self.old }
     {
@@ -159,7 +159,7 @@ impl Row {
         }
     }
 
-    /// The topology change of a message at port `port`, where `change` says that it tells one
+    /// The topology change of a message at port `port`, where `change` says that it signals one
     /// (17.21.17, 17.21.18).
     pub fn hear_change(
         &mut self,

@@ -1,10 +1,10 @@
-//! What a BPDU tells of a topology change (IEEE 802.1D-2004 9.3, 17.21.17).
+//! What a BPDU says of a topology change (IEEE 802.1D-2004 9.3, 17.21.17).
 ghost use Rattle.std.specs.Prelude.{◌≡◌};
 ghost use Rattle.rstp_rules.specs.Bpdus.{tells_change};
 
 use frame_core::Bpdu;
 
-/// Whether a message tells a topology change: by its flag, or as a notification (9.3, 17.21.17).
+/// Whether a message signals a topology change: by its flag, or as a notification (9.3, 17.21.17).
 pub fn has_topology_change(bpdu: &Bpdu) -> bool
     ensures { result ≡ tells_change bpdu.now }
 {

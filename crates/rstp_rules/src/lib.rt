@@ -3,14 +3,14 @@
 //! proved equal to the rule's definition. What all ports do together is in `rstp_core`.
 //!
 //! # Entry points
-//! The types in [`port`], [`row`] and [`settled`]; their rules, as methods, one module a subject;
-//! and what the settings come to in [`lines`], a port's number in [`vector`]. Nothing here takes
+//! The types are in [`port`], [`row`] and [`settled`]; their rules are methods, one module a subject.
+//! What follows from the settings is in [`lines`], a port's number in [`vector`]. Nothing here takes
 //! memory.
 //!
 //! # Definitions
 //! `specs/`, a file a subject: `Vectors.antt`, identifiers, vectors and their order; `Ports.antt`,
-//! words for information, role and state; `Bpdus.antt`, what a BPDU tells of a topology change;
-//! `Lines.antt`, what the settings come to and the times in force; `Roles.antt`, the root vector
+//! words for information, role and state; `Bpdus.antt`, what a BPDU says of a topology change;
+//! `Lines.antt`, what follows from the settings, and the times in force; `Roles.antt`, the root vector
 //! and the roles; `Restarts.antt`, a port that starts anew and settling; `Arrivals.antt`, a BPDU
 //! that arrives; `Ticks.antt`, a tick; `Transitions.antt`, states by roles; `Turns.antt`, ports
 //! that became forwarding; `Sends.antt`, what is sent.

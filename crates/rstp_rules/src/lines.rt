@@ -1,4 +1,4 @@
-//! What the settings come to for a port, and the times in force (IEEE 802.1D-2004 9.2.5, 9.2.7,
+//! What follows from the settings for a port, and the times in force (IEEE 802.1D-2004 9.2.5, 9.2.7,
 //! 17.14, 17.18.4, 17.18.7, 17.20.6 to 17.20.8).
 ghost use Rattle.std.specs.Prelude.{◌≡◌, ◌≤◌, length};
 ghost use Rattle.std.specs.List.{find};
@@ -51,7 +51,7 @@ pub fn is_set_edge(settings: &Settings, port: u16) -> bool
 }
 
 impl Line {
-    // What the settings of port `port` and its link come to (6.4.3, 9.2.7, 17.14).
+    // What follows from the settings of port `port` and its link (6.4.3, 9.2.7, 17.14).
     fn of(
         settings: &Settings,
         settled: SettledPort,

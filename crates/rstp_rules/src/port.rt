@@ -21,9 +21,9 @@ pub enum Role {
     /// Off, by its setting or its link.
     #[default]
     Disabled,
-    /// The port by which its network comes to the root.
+    /// The port by which its network reaches the root.
     Designated,
-    /// The port by which this bridge comes to the root.
+    /// The port by which this bridge reaches the root.
     Root,
     /// It stands by for the root port.
     Alternate,
@@ -66,7 +66,7 @@ pub struct Port {
     pub forward_while: u16,
     /// How long the port counts as a recent root port (rrWhile).
     pub recent_root_while: u16,
-    /// How long the port tells a topology change (tcWhile).
+    /// How long the port signals a topology change (tcWhile).
     pub change_while: u16,
     /// The wait before the next regular message (helloWhen).
     pub hello_when: u16,
@@ -78,7 +78,7 @@ pub struct Port {
     pub send_rstp: bool,
     /// Whether the neighbour has agreed (agreed).
     pub agreed: bool,
-    /// Whether the port tells its agreement (agree).
+    /// Whether the port signals its agreement (agree).
     pub agree: bool,
     /// Whether the port owes a topology change acknowledgment (tcAck).
     pub acknowledge: bool,
@@ -98,7 +98,7 @@ impl Info {
 }
 
 impl Role {
-    /// Whether this is the role of a port that may come to forward (17.7).
+    /// Whether this is the role of a port that may begin to forward (17.7).
     pub(crate) fn is_root_or_designated(self) -> bool
         ensures { result ≡ is_root_or_designated self }
     {

@@ -2,7 +2,7 @@
 use crate::port::{Port, Role, State};
 use frame_core::{BridgeId, PriorityVector, Times};
 
-/// What a port's settings, its link and its number come to during an event.
+/// What follows from a port's settings, its link and its number during an event.
 #[derive(Clone, Copy, Debug, Default)]
 pub struct Line {
     /// The port's number, from 1.
@@ -41,7 +41,7 @@ pub struct Before {
 /// A port in the course of an event.
 #[derive(Clone, Copy, Debug)]
 pub struct Row {
-    /// What its settings, its link and its number come to.
+    /// What follows from its settings, its link and its number.
     pub line: Line,
     /// What it was before.
     pub was: Before,

@@ -149,7 +149,7 @@ impl Row {
         self.port.state.is_forwarding() && !self.was.state.is_forwarding()
     }
 
-    // For how many seconds a topology change is told (17.21.7).
+    // For how many seconds a topology change is signalled (17.21.7).
     fn change_time(&self, timing: &Timing) -> u16
         requires { IsSmall timing.now }
         ensures { result ≡ change_time timing.now self.now }

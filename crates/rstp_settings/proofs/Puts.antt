@@ -92,7 +92,7 @@ get-put t (Port n k) (Port m l) v h i = get_port-put t.ports n m k l v h.0 h.1 i
 set-back : (ps : List PortValues) (i : ℕ) (k : PortKey) (v : ℕ) → i < length ps → set (set ps i (with_port_value (get_or ps i no_values) k v)) i (with_port_value (get_or (set ps i (with_port_value (get_or ps i no_values) k v)) i no_values) k (port_value (get_or ps i no_values) k)) ≡ ps
 set-back ps i k v within = rw (get_or-set_same ps i (with_port_value (get_or ps i no_values) k v) no_values within, port_value-back (get_or ps i no_values) k v, set-set ps i _ (get_or ps i no_values)) (set-get_or ps i no_values)
 
--- the old value put back restores all settings
+-- a put of the old value restores all settings
 pub put-back : (t : Table) (k : Key) (v : ℕ) → HasKey t k → put (put t k v) k (get t k) ≡ t
 put-back t (Bridge k) v h = ap (λ (b : BridgeValues). record { bridge = b; ports = t.ports }) (bridge_value-back t.bridge k v)
 put-back t (Port n k) v h = ap (λ (ps : List PortValues). record { bridge = t.bridge; ports = ps }) (set-back t.ports (n - 1) k v (omega (arith, h.0, h.1)))

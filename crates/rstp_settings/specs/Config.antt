@@ -1,4 +1,4 @@
--- What is configured of a port, and what its settings come to by it (IEEE 802.1D-2004 6.4.3,
+-- What is configured of a port, and what its settings mean by it (IEEE 802.1D-2004 6.4.3,
 -- 17.14).
 use Rattle.std.specs.Prelude.{ℕ, Bool, false, ◌&&◌, ◌||◌, if◌then◌else◌, ◌==◌}
 use Rattle.rstp_settings.specs.declared.key.TheConstants.{POINT_TO_POINT_TRUE, POINT_TO_POINT_AUTO}

@@ -1,5 +1,5 @@
 //! What is configured of a bridge and its ports: address, interface number, speed, duplex; and what
-//! a port's settings come to by it (IEEE 802.1D-2004 6.4.3, 7.12.5, 17.14; RFC 2863).
+//! a port's settings mean by it (IEEE 802.1D-2004 6.4.3, 7.12.5, 17.14; RFC 2863).
 ghost use Rattle.std.specs.Prelude.{◌≡◌, ◌≤◌};
 ghost use Rattle.rstp_settings.specs.Config.{default_cost, cost_in_use, is_point_to_point};
 

@@ -10,7 +10,7 @@ pub fn copied<T: Copy + Default>(items: &[T]) -> ArrayVec<T, MAX_PORTS>
     ensures { result.items ≡ items.now }
 {
     let mut copies = ArrayVec::new();
-    // there is room for all of them
+    // there is space for all of them
     let _ = copies.try_extend_from_slice(items);
     copies
 }

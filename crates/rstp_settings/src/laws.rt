@@ -16,7 +16,7 @@ pub fn get_after_put()
         → get (put t k v) l ≡ (if same_key k l then v else get t l) }
 {}
 
-/// The old value put back restores all settings.
+/// A put of the old value restores all settings.
 pub fn put_back_restores()
     ensures { (t : Table) (k : Key) (v : ℕ) → HasKey t k → put (put t k v) k (get t k) ≡ t }
 {}

@@ -9,15 +9,15 @@
 //!
 //! # Definitions
 //! `specs/Table.antt`: the map; `specs/Values.antt`: ranges and steps; `specs/Config.antt`: what a
-//! port's settings come to by its configuration.
+//! port's settings mean by its configuration.
 //!
 //! # Laws
-//! In [`laws`]: get after put, put back restores, puts of two keys commute, settings that agree on
-//! every key are equal; the numbers that stand for values, and the bounds of the ageing time, are
-//! what they are.
+//! In [`laws`]: get after put; a put of the old value restores; puts of two keys commute; settings
+//! that agree on every key are equal; the numbers that stand for values, and the bounds of the ageing
+//! time, are what they are.
 //!
 //! # Not claimed
-//! That the three timers fit together: that is looked at where a Set assigns them.
+//! That the three timers fit together: that is tested where a Set assigns them.
 #![tactic(auto)]
 
 pub mod config;

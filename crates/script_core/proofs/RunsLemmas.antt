@@ -1,4 +1,4 @@
--- How what is said adds up, and how a reader's octets are followed.
+-- How texts add up, and how a reader's octets are followed.
 use Rattle.std.proofs.Common.{◌≡◌, ◌≢◌, ◌⊎◌, inl, inr, ◌<◌, length, Contains, ℕ, List, [], ◌∷◌, ◌++◌, Option, None, Some, IfSome, refl, ap, ◌∙◌, append_assoc, append-nil, length-append, sym, arith}
 use Rattle.std.proofs.KnownBytes.{Appends-nil, Appends-trans, Appends-kept}
 use Rattle.std.proofs.lemmas.List.Elements.{All-append, All-cons, All-nil}
@@ -122,7 +122,7 @@ Adds-front {a} {b} {none} {out} {P} Q e written p f =
     Writes-weaker (λ text. IsFrontOf Q text) written
     (λ text front. IsFrontOf-weaker Q front (λ s same. rw (same ∙ all) (f p.said p.holds)))
 
--- ---- what is said
+-- ---- what is answered
 
 module _ {X : Type 0} (line_says : X → List ℕ → List ℕ → X → Type 0) where
   pub Says-none : (s : X) → Says line_says s [] [] s
@@ -304,7 +304,7 @@ module _ {X : Type 0} (line_says : X → List ℕ → List ℕ → X → Type 0)
         → Writes old new (λ text. GivesUp line_says end_says may_line may_end a fault input rest text)
     Writes-gives_up_line p q = Writes-more _ p q (λ s t f g. inl (Feeds-gives_up_line may_line f g))
 
-  -- what was said to some of the lines that are left
+  -- what was answered to some of the lines that are left
   pub Feeds-says_some : (end_says : X → List ℕ → X → Type 0) {a b : X} {octets left s t : List ℕ} → Feeds line_says a octets b left s
       → SaysSome line_says end_says b (lines_of left) t → SaysSome line_says end_says a (lines_of octets) (s ++ t)
   Feeds-says_some end_says p (inl q) = inl (Feeds-says-first p q)
@@ -329,7 +329,7 @@ module _ {X : Type 0} (line_says : X → List ℕ → List ℕ → X → Type 0)
       → Writes old new (λ text. SaysAll line_says end_says a (lines_of input) text c)
   Writes-all end_says part p q = Writes-more _ p q (λ s t f g. Feeds-says-all end_says (rw append-nil at f) g)
 
-  -- where all was read, and a write of what is said to the rest fails
+  -- where all was read, and a write of the answers to the rest fails
   pub Writes-part : (end_says : X → List ℕ → X → Type 0) {old now new : Option (List ℕ)} {a b : X} {input : List ℕ} (part : List ℕ)
       → Writes old now (λ text. Feeds line_says a input b (part ++ []) text)
       → Writes now new (λ text. IsFrontOf (λ whole. SaysSome line_says end_says b (lines_of part) whole) text)
@@ -337,7 +337,7 @@ module _ {X : Type 0} (line_says : X → List ℕ → List ℕ → X → Type 0)
   Writes-part end_says part p q =
       Writes-more _ p q (λ s t f g. IsFrontOf-behind _ s g (λ u some. Feeds-says_some end_says (rw append-nil at f) some))
 
-  -- where more was read, and a write of what is said to it fails
+  -- where more was read, and a write of the answers to it fails
   pub Writes-front : (end_says : X → List ℕ → X → Type 0) {old now new : Option (List ℕ)} {a b : X} {input left : List ℕ}
       → Writes old now (λ text. Feeds line_says a input b left text)
       → Writes now new (λ text. IsFrontOf (λ whole. FeedsFirst line_says b left whole) text)

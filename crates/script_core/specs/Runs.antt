@@ -26,7 +26,7 @@ pub record IsFrontOf (P : List ℕ → Type 0) (front : List ℕ) : Type 0 where
   pub split : whole ≡ front ++ rest
   pub holds : P whole
 
--- what a reader had at first and has now, where it tells its octets
+-- what a reader had at first and has now, where it reports its octets
 abbrev pub Reads : Option (List ℕ) → Option (List ℕ) → (List ℕ → List ℕ → Type 0) → Type 0
 Reads None new P = Unit {0}
 Reads (Some input) None P = ⊥
@@ -39,17 +39,17 @@ pub record SaysSomething {X : Type 0} (says : List ℕ → X → Type 0) : Type 
   pub some : 0 < length said
   pub are_said : says said now
 
--- The end of a script may be given up: the session may do so, or there may be no memory for what is
--- said at it.
+-- The end of a script may be given up: the session may do so, or there may be no memory for the
+-- answer to it.
 abbrev pub MayGiveUpEnd : {X : Type 0} → (X → List ℕ → X → Type 0) → (X → LineFault → Type 0)
     → X → LineFault → Type 0
 MayGiveUpEnd end_says may_give_up_end session fault =
     may_give_up_end session fault ⊎ ((fault ≡ Memory) × SaysSomething (end_says session))
 
--- A session is asked line by line. `line_says before line said now` tells that the session `before`
--- may say this to the line, and be
--- `now` after it; `end_says before said now` tells the same of the end of the script.
--- `may_give_up_line before line fault` tells that it may give up this line for this fault, and
+-- A session answers line by line. `line_says before line said now` says that the session `before`
+-- may answer this to the line, and be
+-- `now` after it; `end_says before said now` says the same of the end of the script.
+-- `may_give_up_line before line fault` says that it may give up this line for this fault, and
 -- `may_give_up_end before fault` the same of the end.
 module _ {X : Type 0} (line_says : X → List ℕ → List ℕ → X → Type 0) where
   -- a line was answered, and what follows holds of the session after it and of the rest of the text
@@ -61,7 +61,7 @@ module _ {X : Type 0} (line_says : X → List ℕ → List ℕ → X → Type 0)
     pub split : text ≡ said ++ rest
     pub goes_on : follows between rest
 
-  -- lines were answered in their order: `text` was said to them
+  -- lines were answered in their order: `text` is the answers
   unfoldable pub Says : X → List (List ℕ) → List ℕ → X → Type 0
   Says before [] text now = (text ≡ []) × (before ≡ now)
   Says before (line ∷ lines) text now =
@@ -76,7 +76,7 @@ module _ {X : Type 0} (line_says : X → List ℕ → List ℕ → X → Type 0)
     pub ends : end_says between last now
     pub split : text ≡ said ++ last
 
-  -- the first of these lines were answered, and no others: `text` was said to them
+  -- the first of these lines were answered, and no others: `text` is the answers
   pub record SaysFirst (before : X) (lines : List (List ℕ)) (text : List ℕ) : Type 0 where
     pub first : List (List ℕ)
     pub left : List (List ℕ)
@@ -85,7 +85,7 @@ module _ {X : Type 0} (line_says : X → List ℕ → List ℕ → X → Type 0)
     pub says : Says before first text between
 
   -- of some octets, `left` were not yet answered: they stand behind lines that have ended, and
-  -- `text` was said to those
+  -- `text` is the answers to those
   pub record Feeds (before : X) (octets : List ℕ) (now : X) (left text : List ℕ) : Type 0 where
     pub ended : List (List ℕ)
     pub no_end : All HasNoEnd ended
@@ -106,7 +106,7 @@ module _ {X : Type 0} (line_says : X → List ℕ → List ℕ → X → Type 0)
     pub feeds : Feeds before input now (part ++ rest) text
 
   -- A line may be given up: the session may do so, or there may be no memory, to hold a line that
-  -- has octets or for what is said to it.
+  -- has octets or for the answer to it.
   abbrev pub MayGiveUpLine : (X → List ℕ → LineFault → Type 0) → X → List ℕ → LineFault → Type 0
   MayGiveUpLine may_give_up_line session line fault =
       may_give_up_line session line fault
@@ -141,7 +141,7 @@ module _ {X : Type 0} (line_says : X → List ℕ → List ℕ → X → Type 0)
       GivesUpLine may_give_up_line before fault input rest text
       ⊎ GivesUpEnd end_says may_give_up_end before fault input rest text
 
-  -- what was said to the first of these lines, or to all of them and to the end of the script
+  -- what was answered to the first of these lines, or to all of them and to the end of the script
   abbrev pub SaysSome : (X → List ℕ → X → Type 0) → X → List (List ℕ) → List ℕ → Type 0
   SaysSome end_says before lines text =
       SaysFirst before lines text ⊎ ((now : X) × SaysAll end_says before lines text now)

@@ -16,7 +16,7 @@
 //! In [`laws`]: each text has its lines; hexadecimal is read back.
 //!
 //! # Not claimed
-//! When a read or a write fails; that memory was refused where that is said; how many octets one
+//! When a read or a write fails; that memory was refused where that is reported; how many octets one
 //! read gives; how many reads are made, and that what one of them gives is answered, written and
 //! flushed before the next; how much memory a run holds.
 #![tactic(auto)]

@@ -30,7 +30,7 @@ struct Buffers {
     line: Vec<u8>,
     // What the session says to one line.
     said: Vec<u8>,
-    // What it said to the lines of one read.
+    // What it answered to the lines of one read.
     out: Vec<u8>,
 }
 
@@ -167,7 +167,7 @@ fn finish<S: Session>(session: &mut S, buffers: &mut Buffers) -> Result<(), Line
     Ok(())
 }
 
-// Writes what was said, and flushes it, if anything was. Where that fails, a front of it is
+// Writes the answers, and flushes them, if there are any. Where that fails, a front of them is
 // written.
 fn deliver<W: Write>(buffers: &mut Buffers, writer: &mut W) -> Result<(), RunFault>
     ensures written { OnOk result (Appends (W.contents writer.old)
@@ -199,7 +199,7 @@ fn read_octets<R: Read>(reader: &mut R, chunk: &mut [u8]) -> Result<usize, RunFa
     }
 }
 
-// Answers what one read gave. What was said to the lines before a fault is written too.
+// Answers what one read gave. The answers to the lines before a fault are written too.
 fn serve<S: Session, W: Write>(
     session: &mut S,
     buffers: &mut Buffers,
@@ -230,7 +230,7 @@ fn serve<S: Session, W: Write>(
     Ok(())
 }
 
-// Answers the end of the input. What was said to a last line before a fault is written too.
+// Answers the end of the input. The answer to a last line before a fault is written too.
 fn close<S: Session, W: Write>(
     session: &mut S,
     buffers: &mut Buffers,
@@ -267,9 +267,9 @@ fn close<S: Session, W: Write>(
 ///
 /// `Input` where a read fails or the reads run out: each line that had ended is answered, and what
 /// it says is written. `Memory` and `Stopped` where a line, or the end of the script, is given up:
-/// what is said to each line before it is written, and it was read, in part at least. It is
+/// the answer to each line before it is written, and it was read, in part at least. It is
 /// `Stopped` only where the session may end the run, at a line that was read to its end. `Output`
-/// where a write fails or takes nothing: a front of what was said is written. A write that was
+/// where a write fails or takes nothing: a front of the answers is written. A write that was
 /// interrupted is made again; a read that was interrupted has failed.
 pub fn run_script<S: Session, R: Read, W: Write>(
     alloc: Global,
@@ -278,7 +278,7 @@ pub fn run_script<S: Session, R: Read, W: Write>(
     reader: &mut R,
     writer: &mut W,
 ) -> Result<(), RunFault>
-    // What is written is what the session said to the lines of the input, and to its end.
+    // What is written is what the session answered to the lines of the input, and to its end.
     ensures written { OnOk result (IfSome (R.remaining reader.old) (λ input.
         Writes (W.contents writer.old) (W.contents writer.new) (λ text.
         SaysAll S.line_says S.end_says session.old (lines_of input) text session.new))) }
@@ -294,7 +294,7 @@ pub fn run_script<S: Session, R: Read, W: Write>(
         Writes (W.contents writer.old) (W.contents writer.new) (λ text.
         GivesUp S.line_says S.end_says S.may_give_up_line S.may_give_up_end session.old fault
         input rest text))) }
-    // Where a write failed, what is written is a front of what was said to the first lines of the
+    // Where a write failed, what is written is a front of the answers to the first lines of the
     // input, or to all of it.
     ensures output { IfErr result (λ e. e ≡ RunFault.Output →
         IfSome (R.remaining reader.old) (λ input.

@@ -11,10 +11,10 @@ use crate::fault::LineFault;
 /// in more than one way, as with memory or without, the relation says which ways there are. So a
 /// run over any session is proved once, and without a premise.
 pub trait Session {
-    // From a session, to a line, this may be said, and the session is this after it.
+    // From a session, this may be the answer to a line, and the session is this after it.
     ghost line_says: { Self → List ℕ → List ℕ → Self → Type 0 };
 
-    // From a session, at the end of the script, this may be said, and the session is this after it.
+    // From a session, this may be the answer to the end of the script, and the session is this after it.
     ghost end_says: { Self → List ℕ → Self → Type 0 };
 
     // From a session, this line may be given up for this fault.
@@ -23,14 +23,14 @@ pub trait Session {
     // From a session, the end of the script may be given up for this fault.
     ghost may_give_up_end: { Self → LineFault → Type 0 };
 
-    /// Appends to `out` what is said to one line, which is given without its end. After an error
+    /// Appends to `out` the answer to one line, which is given without its end. After an error
     /// the run stops, and what `out` then holds is dropped.
     fn line(&mut self, line: &[u8], out: &mut Vec<u8>) -> Result<(), LineFault>
         ensures said { OnOk result (Adds out.old.items out.new.items (λ said.
             line_says self.old line.now said self.new)) }
         ensures given_up { IfErr result (λ fault. may_give_up_line self.old line.now fault) };
 
-    /// Appends to `out` what is said at the end of the script. After an error the run stops.
+    /// Appends to `out` the answer to the end of the script. After an error the run stops.
     fn end(&mut self, out: &mut Vec<u8>) -> Result<(), LineFault>
         ensures said { OnOk result (Adds out.old.items out.new.items (λ said.
             end_says self.old said self.new)) }

@@ -1,4 +1,4 @@
-//! Writes octets, and tells which were taken where a write fails.
+//! Writes octets, and answers which were taken where a write fails.
 ghost use Rattle.std.specs.Prelude.{◌≡◌, ◌<◌, ◌++◌, length, IfOk, IfErr, OnOk, OnErr};
 ghost use Rattle.std.specs.Io.KnownBytes.{Appends, Keeps};
 ghost use Rattle.script_core.specs.Runs.{Writes, IsFrontOf};

@@ -1,5 +1,5 @@
 -- Whether a view is seen to hide each name that begins with a prefix, by its rows alone (RFC 3415,
--- vacmViewTreeFamilyTable). 'Below' is said of such names, the prefix itself among them.
+-- vacmViewTreeFamilyTable). 'Below' means such names, the prefix itself among them.
 use Rattle.std.specs.Prelude.{ℕ, Bool, not, ◌&&◌, ◌||◌, List, length, take, bytes_eq}
 use Rattle.std.specs.List.{list_any, list_all}
 use Rattle.vacm_core.specs.declared.tables.FamilyRow.{FamilyRow}

@@ -27,7 +27,7 @@ pub fn mask_bit(mask: &[u8], k: usize) -> bool
 }
 
 /// Whether a name is at least as long as a subtree, and equal to it wherever the mask's bit is 1.
-/// Where the name begins with the subtree, the mask is not looked at.
+/// Where the name begins with the subtree, the mask is not read.
 pub fn agrees(mask: &[u8], subtree: &[u32], name: &[u32]) -> bool
     ensures { result ≡ agrees_from 0 mask.now subtree.now name.now }
 {
@@ -207,7 +207,7 @@ impl Keyed for AccessRow {
     }
 }
 
-/// The number of the access row that decides. Only the rows of the group are looked at, by the
+/// The number of the access row that decides. Only the rows of the group are compared, by the
 /// index of the rows.
 pub fn deciding_access(
     rows: &[AccessRow],

@@ -4,7 +4,7 @@ ghost use Rattle.vacm_core.specs.declared.fault.TableFault.TheVariants.{Memory};
 
 use std::alloc::{AllocError, AllocFailed};
 
-/// The tables of access control, in the order in which their rows are looked at (RFC 3415, section
+/// The tables of access control, in the order in which their rows are checked (RFC 3415, section
 /// 4).
 #[derive(Clone, Copy, Debug, PartialEq, Eq)]
 pub enum VacmTable {
@@ -18,7 +18,7 @@ pub enum VacmTable {
     Contexts,
 }
 
-/// What may be wrong with a row, in the order in which it is looked for.
+/// What may be wrong with a row, in the order in which it is checked.
 #[derive(Clone, Copy, Debug, PartialEq, Eq)]
 pub enum Wrong {
     /// A text, a mask or a name is too short or too long.

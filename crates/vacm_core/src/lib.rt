@@ -7,10 +7,10 @@
 //! `Vacm::next_family` and `Vacm::family_at` find a family row by its index in
 //! vacmViewTreeFamilyTable; `Vacm::put_mask` and `Vacm::put_type` change it where it stands, and give
 //! what it had. `Vacm::in_view_under` gives with the answer on a name the shortest front of the name
-//! under which the answer holds for every name. `Vacm::hides_all` tells where a view is seen to hide
-//! every name that begins with a prefix. None of these but `new` takes memory. `Vacm::try_copy` is a
-//! copy, and `Vacm::rows` the rows as they are written, of which [`Same`] tells whether two are the
-//! same. [`checked_rows`] checks a table of any rows that are [`Written`], [`copied_rows`] copies any
+//! under which the answer holds for every name. `Vacm::hides_all` says where a view is seen to hide
+//! every name that begins with a prefix. None of these but `new` takes memory. `Vacm::try_copy` copies
+//! the tables, and `Vacm::rows` gives the rows as they are written; [`Same`] compares two of these.
+//! [`checked_rows`] checks a table of any rows that are [`Written`], [`copied_rows`] copies any
 //! that are [`CopiedAs`] others, and [`deciding_row`] finds the row that decides a [`Contest`];
 //! `community_core` uses all three.
 //! Written: [`VacmRows`] of [`WrittenGroup`], [`WrittenAccess`] and [`WrittenFamily`], with
@@ -53,16 +53,16 @@
 //! and then each half so. On a way each step to a smaller or greater number then leads from a row
 //! to one within a half of its rows, so there are at most as many as the rows have halvings, and
 //! with them at most [`MAX_FAMILY`] and one numbers of the way, in whatever order the rows are
-//! written. Nor how long rows take to be checked: duplicates are looked for by a sort.
+//! written. Nor how long rows take to be checked: duplicates are found by a sort.
 //!
-//! How long a decision takes: `Vacm::decide` finds the group row by halves, and looks at the access
-//! rows of the group, and at the contexts up to the one asked for. It looks by halves whether the
-//! view has a family. `Vacm::hides_all` looks at each family row, `Vacm::in_view` at those that its
+//! How long a decision takes: `Vacm::decide` finds the group row by halves, and goes over the access
+//! rows of the group, and over the contexts up to the one asked for. It finds by halves whether the
+//! view has a family. `Vacm::hides_all` reads each family row, `Vacm::in_view` those that its
 //! tree leads to. Where so many places are open that a walk of the tree would enter a large part of
 //! it, and where there are few rows, it goes over the rows of the view that are no longer than
 //! the name, found by halves, from the longest on until one has the name; so it takes at most some
 //! twice the time of a scan of the view's rows, but where a view has a few of many rows.
-//! `Vacm::in_view_under` takes the time of `Vacm::in_view`, and then looks at each family row once.
+//! `Vacm::in_view_under` takes the time of `Vacm::in_view`, and then reads each family row once.
 //! `Vacm::put_mask` goes along the way of its row where the mask before had no 0, else along that of
 //! each row, some 0.3 ms at 1,000 rows.
 //! A run of numbers of which a put mask leaves one open is passed whole, while any does.

@@ -70,7 +70,7 @@ fn is_spent(left: &mut usize, steps: usize) -> bool
 }
 
 /// The best of the rows so far and those of a tree whose way a name fits, in which the deepest are
-/// looked at first. It takes no memory. It takes fewer steps than are left, one for each fork that it
+/// read first. It takes no memory. It takes fewer steps than are left, one for each fork that it
 /// enters and [`LOOSE_STEPS`] where it may go on in several ways: where none is left afterwards, it gave
 /// up, and there may be a better row.
 pub fn best_below<C: Contest>(
