@@ -1,9 +1,9 @@
-//! The script of the agent: what it says to each line.
+//! The script of the agent: what it answers to each line.
 //!
 //! # Entry points
-//! [`run_script`] reads a script to its end over what managed objects show of a world, and
-//! [`run_kept`] over a history that has begun. Each says by a [`Run`] whether each line was
-//! answered in full. A line lets [`MAX_SECONDS`] seconds pass at most.
+//! [`run_script`] reads a script to its end over what managed objects show of a world, [`run_kept`]
+//! over a history that has begun. Each says by a [`Run`] whether each line was answered in full.
+//! One line lets at most [`MAX_SECONDS`] seconds pass.
 //!
 //! # Definitions
 //! `specs/Commands.antt`: which command a line is; `specs/Actions.antt`: what a line does;
@@ -18,14 +18,14 @@
 //! # Laws
 //! In [`laws`]: how many seconds one line lets pass at most, and how many calls it plans. On a run:
 //! where the device of an object takes plans, its calls in Sets fail exactly where what is left of
-//! its plan says so, which each `driver` line puts anew; a device that has failed `u64::MAX` times
-//! fails no more.
+//! its plan says so; each `driver` line gives it a new plan. A device that has failed `u64::MAX`
+//! times fails no more.
 //!
 //! # Not claimed
 //! That a want of memory came only where memory was refused, and that a read failed where the
-//! answer is `Input`: that answer may come before anything is read. How much of the text is
-//! written where a write failed. That a device really failed where a Set is answered so, of an
-//! object without a device, or with one that takes no plans.
+//! answer is `Input`: that answer may come before anything is read. How much of the text is written
+//! where a write failed. That a device really failed where a Set is answered so, if its object has
+//! no device, or one that takes no plans.
 #![tactic(auto)]
 
 mod agent;

@@ -1,11 +1,11 @@
 //! The words of `agentd`: what a command line asks for, or how it is answered.
 //!
 //! # Entry points
-//! [`read_words`] gives what words ask for, [`Asked`]; where it is to serve, for how long, [`Lasting`];
-//! and where a served agent is to do a command, which, an [`Order`]. Words that are no command it
-//! answers, with help, the version or what is wrong with them, and says how: [`Answered`].
-//! [`asks_to_serve`] says whether it is asked to serve an agent. [`VERSION`] is the version that they
-//! are answered with.
+//! [`read_words`] gives what words ask for, an [`Asked`]: with it, where an agent is to be served,
+//! for how long, a [`Lasting`], and where a served agent is to do a command, which, an [`Order`].
+//! Words that are no command it answers with help, with the version or with what is wrong with
+//! them, and says which: [`Answered`]. [`asks_to_serve`] says whether words ask to serve an agent.
+//! [`VERSION`] is the version in these answers.
 //!
 //! # Definitions
 //! `specs/Options.antt`: the words, as clap reads them; `specs/Built.antt`: what is built of them;

@@ -12,8 +12,8 @@
 //! its space; `specs/Fault.antt`: why octets begin with no tag, length and content.
 //!
 //! # Laws
-//! In [`laws`]: the shortest encoding is one, none is shorter, one that is no longer is it, and no
-//! octets encode two values.
+//! In [`laws`]: the shortest encoding is one; none is shorter, and one that is no longer is the
+//! same. No octets encode two values.
 //!
 //! # Not claimed
 //! Tags of more than one octet and indefinite lengths: SNMP has none, and they are refused.

@@ -22,13 +22,13 @@
 //! and `specs/ForwardingInside.antt`: how the ports of a frame are found.
 //!
 //! # Laws
-//! In [`laws`]: where a frame goes in the standard's words, by a static row or without one, which
-//! ports forward after any list of events, and when there is no root port; static settings are a
-//! finite map.
+//! In [`laws`]: where a frame goes in the standard's words, by a static row or without one; which
+//! ports forward after any list of events; when there is no root port. Static settings are a finite
+//! map.
 //!
 //! # Not claimed
-//! That no port forwards while it is disabled between `put_setting` and `settle`; nor after it
-//! where its link goes down in between, until it starts anew.
+//! That no port forwards while it is disabled between `put_setting` and `settle`; nor after
+//! `settle`, where its link goes down in between, until it starts anew.
 #![tactic(auto)]
 
 mod bridge;

@@ -2,23 +2,20 @@
 //! make.
 //!
 //! # Entry points
-//! `Policy::caller` says whom a community stands for. `Policy::new` takes written communities or
-//! names the first fault. `Policy::put_mask` and `Policy::put_type` change a family row where it
-//! stands. `Policy::try_copy` copies a policy, and `Policy::rows` gives its rows as they are
-//! written; `PolicyRows::same` compares two of these. A [`Caller`] is whom a name
-//! stands for, by its [`CommunityRow`]; a [`WrittenCommunity`] is a row as it is written, whose
-//! name has at most [`MAX_COMMUNITY_NAME`] octets. A [`PolicyFault`] is want of memory, or the
-//! [`PolicyTable`] and the row at fault.
+//! `Policy::caller` says whom a community stands for: a [`Caller`], by its [`CommunityRow`].
+//! `Policy::new` takes written communities or names the first fault. `Policy::put_mask` and
+//! `Policy::put_type` change a family row in place. `Policy::try_copy` copies a policy.
+//! `Policy::rows` gives its rows as they are written, and `PolicyRows::same` compares two of these.
+//! A [`WrittenCommunity`] is a row as it is written; its name has at most [`MAX_COMMUNITY_NAME`]
+//! octets. A [`PolicyFault`] is want of memory, or the [`PolicyTable`] and the row at fault.
 //!
 //! # Definitions
 //! `specs/Communities.antt`: rules of the rows and the caller; `specs/Orders.antt`: which row comes
-//! first;
-//! `specs/Faults.antt`: the faults of a policy.
+//! first; `specs/Faults.antt`: the faults of a policy.
 //!
 //! # Laws
 //! In [`laws`]: a community row decides wherever one has the name; the limit of a name is 255. On
-//! the type, since it holds of kept communities alone, by its invariant:
-//! `Policy::communities_are_right`, they break no rule.
+//! the type, by its invariant: kept communities break no rule (`Policy::communities_are_right`).
 //!
 //! # Not claimed
 //! How long it takes to find a caller: each row is read.

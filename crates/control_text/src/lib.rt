@@ -2,9 +2,9 @@
 //! a script.
 //!
 //! # Entry points
-//! [`read_command`] gives the [`Command`] of octets, a link, a policy or the counts, or the
-//! [`Refusal`] of them. [`say_refusal`], [`say_bpdus`] and [`say_counts`] write answers. A policy's
-//! text has at most [`MAX_POLICY`] octets, a command at most [`MAX_COMMAND`].
+//! [`read_command`] reads octets: it gives the [`Command`], a link, a policy or the counts, or the
+//! [`Refusal`]. [`say_refusal`], [`say_bpdus`] and [`say_counts`] write answers. A policy's text
+//! has at most [`MAX_POLICY`] octets, a command at most [`MAX_COMMAND`].
 //!
 //! # Definitions
 //! `specs/Commands.antt`: what octets ask for; `specs/Answers.antt`: the text of an answer.

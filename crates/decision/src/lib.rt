@@ -2,14 +2,13 @@
 //! section 5.2.1; RFC 3415, section 3.2).
 //!
 //! # Entry points
-//! [`decide`] gives a [`Decision`] with the keys of the deciding or missing row. It takes no
-//! memory. A [`Cause`] is why a request is dropped, a [`Refusal`] why one is answered that it may
-//! not, an [`AccessKey`] the key of an access row.
+//! [`decide`] gives a [`Decision`], with the keys of the deciding or missing row. It takes no
+//! memory. A [`Cause`] says why a request is dropped, a [`Refusal`] why it is answered
+//! authorizationError. An [`AccessKey`] is the key of an access row.
 //!
 //! # Definitions
 //! `specs/Deciding.antt`: community, context, whether there are variable bindings, and then the
-//! verdict of `vacm_core`;
-//! `specs/Keys.antt`: the key of an access row.
+//! verdict of `vacm_core`; `specs/Keys.antt`: the key of an access row.
 //!
 //! # Laws
 //! In [`laws`]: the longest name of a community in a policy is the longest community of a request

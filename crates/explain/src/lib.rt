@@ -1,8 +1,8 @@
 //! What a policy decides on a request, and by which rows, as text for an operator.
 //!
 //! # Entry points
-//! [`explained`] gives the text of the decision on a request; [`question_of`] makes the request of a
-//! PDU type, a community and words that are names, or gives the [`QuestionFault`] of them.
+//! [`explained`] gives the text of the decision on a request. [`question_of`] makes the request of
+//! a PDU type, a community and words that are names, or gives their [`QuestionFault`].
 //!
 //! # Definitions
 //! `specs/Explaining.antt`: the text, to the octet, by the decision of `decision` and the answers of

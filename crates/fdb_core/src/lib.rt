@@ -24,14 +24,15 @@
 //! `specs/StaticsInside.antt`: how it is kept; `specs/PortSets.antt`: sets of ports, and octets.
 //!
 //! # Laws
-//! In [`laws`]: the bounds of the aging time and of sets of ports; sets of ports are read as they were
-//! written; static rows are a finite map, and stay in order, and the next made row is the lowest. On `known` and `next_after`: the table rises, each
-//! address is six octets, and the table is young and within its limit.
+//! In [`laws`]: the bounds of the aging time and of sets of ports. Sets of ports are read as they
+//! were written. Static rows are a finite map, and stay in order, and the next made row is the
+//! lowest. On `known` and `next_after`: the table rises, each address is six octets, and the table
+//! is young and within its limit.
 //!
 //! # Not claimed
-//! That a growth succeeds. How long a call takes: an address is kept with the tick at which it was
-//! learned, and beside them a lower bound of these ticks; a second touches no address unless one
-//! may be old enough to go by that bound, which is then made anew.
+//! That a growth succeeds. How long a call takes: each address is kept with the tick at which it
+//! was learned, and the table with a lower bound of these ticks. A second touches no address,
+//! unless that bound says that one may be old enough to go; the bound is then made anew.
 #![tactic(auto)]
 
 mod fdb;

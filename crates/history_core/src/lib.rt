@@ -1,18 +1,20 @@
 //! The history of an agent: each event is one step of a world, and one entry under a number.
 //!
 //! # Entry points
-//! [`Kept`]: a world, the objects that show it, and what is kept of its history, by `new`, or by
-//! `resume` from a number on; `apply` has one event happen and enters it, as does
-//! `apply_duplicated`, whose caller made the [`Duplicate`] before: what stands for the event a second
-//! time. `compare` says whether receipts agree with what is kept, and `entries`, `base`, `world` and
-//! the two numbers show it. [`Event`]: what happens; [`Applied`]: what became of it. [`Entry`]: what
-//! is kept of one event. [`KeptEvent`]: the event as its entry keeps it, a request with variable
-//! bindings as its shortest encoding, if that has at most `MAX_REQUEST` octets. [`Receipt`]: what is
-//! reported to its caller, with `try_copy`, and `same`, which takes no memory. [`compare`] says
-//! whether receipts agree with any entries, or names the first that does not. A [`Tally`] says how
-//! many agree and how many are older, a [`Mismatch`] which does not. [`Egress`] has the ports by
-//! which a frame goes out; [`ReceiptEvent`] is what a receipt reports of its event. At most
-//! [`MAX_ENTRIES`] entries are kept.
+//! [`Kept`] is a world, the objects that show it, and what is kept of its history. `new` begins
+//! one, and `resume` begins one at a number. `apply` makes one event happen and enters it.
+//! `apply_duplicated` does the same; its caller made the [`Duplicate`] before, which stands for the
+//! event a second time. `compare` says whether receipts agree with what is kept. `entries`, `base`,
+//! `world` and the two numbers show it.
+//!
+//! [`Event`] is what happens, [`Applied`] what became of it. [`Entry`] is what is kept of one
+//! event. [`KeptEvent`] is the event as its entry keeps it: a request with variable bindings as its
+//! shortest encoding, if that has at most `MAX_REQUEST` octets. [`Receipt`] is what its caller
+//! gets, with `try_copy`, and `same`, which takes no memory; [`ReceiptEvent`] is what it says of
+//! the event, and [`Egress`] has the ports by which a frame goes out. [`compare`] says whether
+//! receipts agree with any entries, or names the first that does not: a [`Tally`] has how many
+//! agree and how many are older, a [`Mismatch`] which does not. At most [`MAX_ENTRIES`] entries are
+//! kept.
 //!
 //! # Definitions
 //! `specs/Steps.antt`: what an event makes of a world and its objects, and what comes out;
@@ -24,17 +26,18 @@
 //!
 //! # Laws
 //! On [`Kept::legal`]: each entry is that of the step at its place, and replaying the entries from
-//! the base gives the world as it is. [`laws::one_history`]: one base and the same events that met
-//! the same make the same entries.
+//! the base gives the world as it is. [`laws::one_history`]: one base, and the same events with the
+//! same notes, make the same entries.
 //!
 //! The base moves only where [`MAX_ENTRIES`] are kept, to the world before the event. A request
 //! that is entered is reported as dropped exactly where its policy drops it. Where memory was
-//! wanting any other request is answered by genErr, or by tooBig where that is too long; where no
+//! wanting, any other request is answered by genErr, or by tooBig where that is too long. Where no
 //! number is left there is no reply.
 //!
 //! # Not claimed
-//! That memory was refused where want of it is reported or noted, or that there is some; of objects whose devices
-//! take no plans, which calls of a Set failed, and so which variable is reported as failed.
+//! That memory was refused where want of it is reported or noted, or that there is some. Of objects
+//! whose devices take no plans: which calls of a Set failed, and so which variable is reported as
+//! failed.
 #![tactic(auto)]
 
 mod applied;

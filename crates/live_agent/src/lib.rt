@@ -2,14 +2,16 @@
 //! frames, and a ticker.
 //!
 //! # Entry points
-//! [`worker_run`], [`port_run`], [`port_lap`] and [`ticker_run`] are each one thread's loop, lent
-//! the history, its share and its line, and handed a [`Recorder`], which takes an [`Item`] for each
-//! event and each refused datagram; what they have in common is a [`Plan`]. Each gives how it ended, an
-//! [`End`], and its recorder; a vector of items is one. A worker's wire has a [`Gate`] beside it
-//! ([`GatedWire`]), which is visited ahead of each request, and behind each that made an entry with
-//! that, an [`AnsweredRequest`], and its audit; the ticker's has its pace ([`PacedWire`]); [`Gated`]
-//! and [`Paced`] make one of two. [`OpenGate`] holds nobody. A [`Ran`] is how a line ended and its
-//! [`Trace`], a list of items, with a [`Refusal`] for a refused datagram.
+//! [`worker_run`], [`port_run`], [`port_lap`] and [`ticker_run`] are each the loop of one thread. A
+//! loop is lent the history, its share and its line. It hands a [`Recorder`] an [`Item`] for each
+//! event and each refused datagram. A [`Plan`] has what the lines have in common. Each loop gives
+//! how it ended, an [`End`], and its recorder; a vector of items is one.
+//!
+//! A worker's wire has a [`Gate`] beside it ([`GatedWire`]). The worker visits it ahead of each
+//! request, and behind each that made an entry: with that, an [`AnsweredRequest`], and its audit.
+//! The ticker's wire has its pace beside it ([`PacedWire`]). [`Gated`] and [`Paced`] make one of
+//! two. [`OpenGate`] holds nobody. A [`Ran`] is how a line ended and its [`Trace`], a list of
+//! items, with a [`Refusal`] for a refused datagram.
 //!
 //! # Definitions
 //! `specs/Turns.antt`, `specs/Runs.antt`: the turns of a line, and its loop; `specs/Lines.antt`:
@@ -19,16 +21,16 @@
 //! items that are kept in a vector.
 //!
 //! # Laws
-//! On each loop, over its own line alone: each datagram has one item, in order; what was entered is
-//! the event of its datagram, at its place in the history; what was sent is its reply, its frame
+//! On each loop, over its own line alone: each datagram has one item, in order. What was entered is
+//! the event of its datagram, at its place in the history. What was sent is its reply, its frame
 //! and the ports' BPDUs, and nothing else. A worker visits its gate ahead of each request, and
-//! behind each that made an entry, by its own number, with the entry's number and audit and the peer and
-//! request-id of the datagram; what a second gives is sent before the pace
-//! is asked again. A line ends for want of memory only where its recorder has none for one item
-//! more, or a port's link found none.
+//! behind each that made an entry, by its own number, with the entry's number and audit and the
+//! peer and request-id of the datagram. What a second gives is sent before the pace is asked again.
+//! A line ends for want of memory only where its recorder has none for one item more, or a port's
+//! link found none.
 //!
 //! # Not claimed
-//! That a wait ends, and which thread comes first; what a wire that does not tell its acts did.
+//! That a wait ends, and which thread comes first. What a wire did that reports no acts.
 #![tactic(auto)]
 
 mod gate;

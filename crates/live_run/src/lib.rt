@@ -12,9 +12,9 @@
 //! threads may share.
 //!
 //! # Laws
-//! On [`serve_run`]: each line ran as its own clause says, over the wire that was handed in; the
+//! On [`serve_run`]: each line ran as its own clause says, over the wire that was handed in. The
 //! history that comes back is legal, and goes on from the one that was handed in by as many entries
-//! as the traces have receipts; each of these stands in it or is older than its base, no two have
+//! as the traces have receipts. Each receipt stands in it or is older than its base; no two have
 //! one number, and those of one trace rise.
 //!
 //! # Not claimed

@@ -1,12 +1,12 @@
-//! A manager of SNMP version 2c: asks an agent over a wire, again until it answers or its tries are
-//! used up, and walks through a subtree of its names (RFC 3416, section 4.2).
+//! A manager of SNMP version 2c: it asks an agent over a wire, again until the agent answers or the
+//! tries are used up, and walks through a subtree of names (RFC 3416, section 4.2).
 //!
 //! # Entry points
 //! [`run_command`] does a [`Command`], which has an agent, a number of tries and an [`Errand`], and
-//! gives the exit status: 0 or [`FAILED`]. Where it is 0 nothing is written on standard error. [`ask`]
-//! gives the bindings that answer a request, or a [`ManagerFault`]; [`walk`] those of a subtree of
-//! names, fewer than [`MAX_NAMES`]: 99,999 at most. [`report`] writes the line of a [`Failure`].
-//! [`RECEIVE_ROOM`] is how many octets are lent to a receive.
+//! gives the exit status: 0 or [`FAILED`]. Where it is 0 nothing is written on standard error.
+//! [`ask`] gives the bindings that answer a request, or a [`ManagerFault`]. [`walk`] gives those of
+//! a subtree of names, fewer than [`MAX_NAMES`]: 99,999 at most. [`report`] writes the line of a
+//! [`Failure`]. [`RECEIVE_ROOM`] is how many octets are lent to a receive.
 //!
 //! # Definitions
 //! `specs/Replies.antt`: what a datagram says to a request; `specs/Asks.antt`: the tries of an ask,

@@ -11,7 +11,7 @@
 //! command the matches of words say; `specs/Runs.antt`: what follows from words.
 //!
 //! # Laws
-//! In [`laws`]: the tries that no word says, and the exit status.
+//! In [`laws`]: the number of tries where no word gives it, and the exit status.
 //!
 //! # Not claimed
 //! The texts of help, of the version and of errors; that a growth or a write succeeds; that memory

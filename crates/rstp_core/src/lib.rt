@@ -1,6 +1,6 @@
 //! The Rapid Spanning Tree Protocol of a bridge (IEEE 802.1D-2004 clause 17, in the profile of
-//! docs/PROFILE.md): what each event does to all its ports, what they send, and whose learned
-//! addresses go. Nothing here takes memory.
+//! docs/PROFILE.md): what each event does to all its ports, what they send, and which ports lose
+//! their learned addresses. Nothing here takes memory.
 //!
 //! # Entry points
 //! [`Rstp`] with `on_bpdu`, `tick`, `link` and `settle`, each with its [`Outcome`]; `role`,
@@ -18,9 +18,9 @@
 //! each tree.
 //!
 //! # Laws
-//! In [`laws`]: roles of the whole tree, one root port, which ports forward or learn, whose rows
-//! go, what a port is that started anew, topology changes as one change of each port, over every
-//! list of events. In [`legal`]: the same of every legal tree.
+//! In [`laws`], over every list of events: the roles are those of the whole tree; there is one root
+//! port; which ports forward or learn, and which lose their rows; what a port is that started anew;
+//! topology changes as one change of each port. In [`legal`]: the same of every legal tree.
 //!
 //! # Not claimed
 //! Convergence of several bridges.

@@ -13,8 +13,8 @@
 //!
 //! # Laws
 //! In [`laws`]: get after put; a put of the old value restores; puts of two keys commute; settings
-//! that agree on every key are equal; the numbers that stand for values, and the bounds of the ageing
-//! time, are what they are.
+//! that agree on every key are equal. The numbers that stand for values, and the bounds of the
+//! ageing time, are what they are.
 //!
 //! # Not claimed
 //! That the three timers fit together: that is tested where a Set assigns them.

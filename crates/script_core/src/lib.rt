@@ -1,10 +1,10 @@
 //! Runs a script: cuts its input into lines, hands each to a session, and writes what the session
-//! says.
+//! answers.
 //!
 //! # Entry points
-//! [`run_script`] over any [`Session`], reader and writer; the words, numbers and hexadecimal of a
-//! line in [`words`]. A [`LineFault`] is why a line is given up, a [`RunFault`] why a run stops
-//! before the end; programs give [`MAX_READS`] as the most reads of a run.
+//! [`run_script`] runs over any [`Session`], reader and writer. [`words`] has the words, numbers
+//! and hexadecimal of a line. A [`LineFault`] says why a line is given up, a [`RunFault`] why a run
+//! stops before the end. Programs give [`MAX_READS`] as the most reads of a run.
 //!
 //! # Definitions
 //! `specs/Lines.antt`: the lines of a text; `specs/Runs.antt`: what a session may say to lines, in
