@@ -19,7 +19,7 @@ pub data Command : Type 0 where
   policy : Command
   -- `audit on`, `audit off`: whether each request's audit is written
   audit : (on : Bool) → Command
-  -- `counts`: tell what was dropped
+  -- `counts`: report what was dropped
   counts : Command
   -- `driver N..`: the next calls of the objects' devices fail by this plan
   driver : (plan : ℕ) → Command

@@ -8,7 +8,7 @@ use Rattle.agent_script.specs.Script.{IsSaid, IsSaidBefore, IsGivenUp, IsOutAtLi
 use Rattle.agent_script.specs.State.{Agent}
 use Rattle.agent_script.specs.declared.session.Run.{Run}
 
--- A reader that may tell which octets it has left, and a writer that may tell which it took.
+-- A reader that may report which octets it has left, and a writer that may report which it took.
 module _ {I O : Type 0} (remaining : I → Option (List ℕ)) (contents : O → Option (List ℕ)) where
   -- A script was run over this agent, and went so.
   pub record IsScriptRun (agent : Agent) (reader reader' : I) (writer writer' : O) (went : Result Run RunFault) : Type 0 where

@@ -36,7 +36,7 @@ pub struct Agent<O: MibObject> {
     policy_lines: Option<Vec<u8>>,
 }
 
-// By hand, so that who lets one go knows nothing of its parts.
+// By hand: who drops one then knows nothing of its parts.
 impl<O: MibObject> Drop for Agent<O> {
     fn drop(self) {
         let Agent {

@@ -33,7 +33,7 @@ pub enum Command {
     Policy,
     /// `audit on` or `audit off`: whether each request's audit is written.
     Audit(bool),
-    /// `counts`: tell what was dropped.
+    /// `counts`: report what was dropped.
     Counts,
     /// `driver N..`: the next calls of the objects' devices fail by this plan, whose bit k - 1 says
     /// that the k-th from now does. Each number is 1 to [`PLANNED_CALLS`].

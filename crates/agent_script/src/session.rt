@@ -30,7 +30,7 @@ struct AgentSession<O: MibObject> {
     is_whole: bool,
 }
 
-// By hand, so that who lets one go knows nothing of its parts.
+// By hand: who drops one then knows nothing of its parts.
 impl<O: MibObject> Drop for AgentSession<O> {
     fn drop(self) {
         let AgentSession {

@@ -61,7 +61,7 @@ pub struct Bridge {
     counters: ArrayVec<PortCounters, MAX_PORTS>,
 }
 
-// By hand, so that who lets one go knows nothing of its parts.
+// By hand: who drops one then knows nothing of its parts.
 impl Drop for Bridge {
     fn drop(self) {
         let Bridge {

@@ -22,7 +22,7 @@ pub struct FlatBridge {
     counters: ArrayVec<PortCounters, MAX_PORTS>,
 }
 
-// By hand, so that who lets one go knows nothing of its parts.
+// By hand: who drops one then knows nothing of its parts.
 impl Drop for FlatBridge {
     fn drop(self) {
         let FlatBridge {

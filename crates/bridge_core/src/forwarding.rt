@@ -145,7 +145,7 @@ fn send_to_one(
     }
 }
 
-// Sends a frame by the open ports to which the way leads. It goes over all ports.
+// Sends a frame by the open ports to which the way leads. It tests all ports.
 fn send_to_each(
     way: &Way<'_>,
     from: u16,
@@ -168,8 +168,8 @@ fn send_to_each(
     }
 }
 
-/// Sends a frame by the forwarding ports to which the way leads, but for the port by which it came:
-/// counts it there, and answers their numbers, rising. All ports are gone over only where the way may
+/// Sends a frame by the forwarding ports to which the way leads, but for the port by which it came;
+/// counts it there, and answers their numbers, rising. It tests all ports only where the way may
 /// lead to more than one. Each such way is named at its call, so that no port asks again which it is.
 #[tactic(auto, using(crate::proofs::Single::ports_nowhere, crate::proofs::Single::sent_nowhere))]
 pub fn send_out(

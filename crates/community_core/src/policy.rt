@@ -19,7 +19,7 @@ pub struct Policy {
     vacm: Vacm,
 }
 
-// By hand, so that who lets one go knows nothing of its parts.
+// By hand: who drops one then knows nothing of its parts.
 impl Drop for Policy {
     fn drop(self) {
         let Policy {

@@ -18,7 +18,7 @@ pub struct Fdb {
     limit: usize,
 }
 
-// By hand, so that who lets one go knows nothing of its parts.
+// By hand: who drops one then knows nothing of its parts.
 impl Drop for Fdb {
     fn drop(self) {
         let Fdb {

@@ -17,7 +17,7 @@ pub struct StaticTable {
     places: usize,
 }
 
-// By hand, so that who lets one go knows nothing of its parts.
+// By hand: who drops one then knows nothing of its parts.
 impl Drop for StaticTable {
     fn drop(self) {
         let StaticTable {

@@ -144,7 +144,7 @@ refuses octets e h = record {
   exactly = λ d k. ap Err (same_fault octets e d h k);
 }
 
--- an address that `!=` does not tell from the group address
+-- an address that `!=` does not separate from the group address
 pub group_from : (d : Mac) → false ≡ not (bytes_eq d.0 BRIDGE_GROUP.0) → d ≡ BRIDGE_GROUP
 group_from d e = same_mac d BRIDGE_GROUP ((bytes_eq-Decides d.0 BRIDGE_GROUP.0).0 (told (bytes_eq d.0 BRIDGE_GROUP.0) e))
   where

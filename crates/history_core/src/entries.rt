@@ -1,4 +1,4 @@
-//! The entries that are kept, and those of before the base moved, which are let go one by one.
+//! The entries that are kept, and those of before the base moved, which are dropped one by one.
 ghost use Rattle.std.specs.Prelude.{◌≡◌, ◌<◌, ◌++◌, ◌∷◌, [], length, IfOk};
 
 use crate::entry::Entry;
@@ -9,13 +9,13 @@ use std::mem::swap;
 
 /// Entries, with memory for [`MAX_ENTRIES`]. Once they are cleared they lie aside, and each new one
 /// drops one of them: so no event has to drop all of them, under a lock. No clause says when one
-/// is let go.
+/// is dropped.
 pub struct Entries {
     kept: Vec<Entry>,
     past: Vec<Entry>,
 }
 
-// By hand, so that who lets one go knows nothing of its parts.
+// By hand: who drops one then knows nothing of its parts.
 impl Drop for Entries {
     fn drop(self) {
         let Entries {
@@ -62,7 +62,7 @@ impl Entries {
         self.kept.as_slice()
     }
 
-    /// No entries any more. Those that there were are let go later, and what lay aside at once.
+    /// No entries any more. Those that there were are dropped later, and what lay aside at once.
     pub fn clear(&mut self)
         ensures { self.new ≡ [] }
     {

@@ -125,7 +125,7 @@ impl ReceiptEvent {
         })
     }
 
-    /// Whether two tell the same. Takes no memory.
+    /// Whether two say the same. Takes no memory.
     pub fn same(&self, other: &ReceiptEvent) -> bool
         ensures { IsTrue result ↔ (self.now ≡ other.now) }
     {

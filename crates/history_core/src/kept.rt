@@ -31,7 +31,7 @@ pub struct Kept<O: MibObject> {
     registry: Registry<O>,
 }
 
-// By hand, so that who lets one go knows nothing of its parts.
+// By hand: who drops one then knows nothing of its parts.
 impl<O: MibObject> Drop for Kept<O> {
     fn drop(self) {
         let Kept {

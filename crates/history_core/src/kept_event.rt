@@ -26,7 +26,7 @@ enum Form {
     Encoded(Octets),
 }
 
-// By hand, so that who lets one go knows nothing of its parts.
+// By hand: who drops one then knows nothing of its parts.
 impl Drop for KeptEvent {
     fn drop(self) {
         let KeptEvent { form: _form } = self;

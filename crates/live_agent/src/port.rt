@@ -1,4 +1,4 @@
-//! A port: it takes frames, has them happen, and sends them on by the other ports.
+//! A port: it receives frames, makes each an event, and forwards it by the other ports.
 ghost use Rattle.std.specs.Prelude.{◌≡◌, ◌+◌, ◌<◌, ◌++◌, ◌∷◌, []};
 ghost use Rattle.frame_core.specs.Frames.{IsFrame};
 ghost use Rattle.history_core.specs.declared.event.Event.TheVariants as event;

@@ -49,7 +49,7 @@ pub struct Trace {
     items: Vec<Item>,
 }
 
-// By hand, so that who lets one go knows nothing of its parts.
+// By hand: who drops one then knows nothing of its parts.
 impl Drop for Trace {
     fn drop(self) {
         let Trace { items: _items } = self;

@@ -1,4 +1,4 @@
-//! A worker: it receives requests, has them happen, and replies.
+//! A worker: it receives requests, makes each an event, and replies.
 ghost use Rattle.std.specs.Prelude.{◌≡◌, ◌+◌, ◌<◌, ◌++◌, ◌∷◌, []};
 ghost use Rattle.std.specs.Option.{option_map};
 ghost use Rattle.message_core.specs.Encodable.{AreEncodable};

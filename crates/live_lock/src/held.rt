@@ -45,7 +45,7 @@ pub struct Held<O: MibObject, L: Run> {
     base: Latest<Base<L>>,
 }
 
-// By hand, so that who lets one go knows nothing of its parts.
+// By hand: who drops one then knows nothing of its parts.
 impl<O: MibObject, L: Run> Drop for Held<O, L> {
     fn drop(self) {
         let Held {

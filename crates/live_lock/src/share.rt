@@ -29,7 +29,7 @@ impl<L: Run> Model for Share<L> {
     } };
 }
 
-// By hand, so that who lets one go knows nothing of its parts.
+// By hand: who drops one then knows nothing of its parts.
 impl<L: Run> Drop for Share<L> {
     fn drop(self) {
         let Share {

@@ -1,7 +1,7 @@
-//! What a run goes over, and what its lines leave.
+//! The wires of a run, and what its lines leave.
 use live_agent::Ran;
 
-/// What a run goes over.
+/// The wires of a run.
 #[derive(Drop)]
 pub struct Lines<A, W, T> {
     /// The wire of each worker, counted from 0, with its gate.

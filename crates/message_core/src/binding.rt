@@ -50,7 +50,7 @@ pub struct Bindings {
     items: Vec<Binding>,
 }
 
-// By hand, so that who lets one go knows nothing of its parts.
+// By hand: who drops one then knows nothing of its parts.
 impl Drop for Bindings {
     fn drop(self) {
         let Bindings { items: _items } = self;

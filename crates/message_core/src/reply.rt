@@ -17,7 +17,7 @@ pub struct Reply {
     pub bindings: Bindings,
 }
 
-// By hand, so that who lets one go knows nothing of its parts.
+// By hand: who drops one then knows nothing of its parts.
 impl Drop for Reply {
     fn drop(self) {
         let Reply {

@@ -21,8 +21,8 @@ const VERSION: i32 = 1;
 /// The octets of a binding's shortest encoding, where they are at most `most`; else there is no
 /// answer.
 ///
-/// `most` is at most `MAX_REPLY`. Takes no memory. A name that cannot be encoded is the caller's to
-/// keep out.
+/// `most` is at most `MAX_REPLY`. Takes no memory. The caller ensures that a name can be
+/// encoded.
 pub fn encoded_len(binding: &Binding, most: usize) -> Option<usize>
     requires encodable { IsEncodableBinding binding.now }
     requires most { most ≤ MAX_REPLY }

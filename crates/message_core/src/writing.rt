@@ -49,7 +49,7 @@ fn put_oid(out: &mut Out<'_>, name: &Oid) -> Result<(), BerFault>
 
 /// Writes the shortest encoding of a value in front of what is written.
 ///
-/// `NoRoom` where it does not fit. A name that cannot be encoded is the caller's to keep out.
+/// `NoRoom` where it does not fit. The caller ensures that a name can be encoded.
 pub fn put_value(out: &mut Out<'_>, value: &Value) -> Result<(), BerFault>
     requires { IsEncodableValue value.now }
     ensures same_reference { out.new.room.ghost_name ≡ out.old.room.ghost_name }
@@ -75,7 +75,7 @@ pub fn put_value(out: &mut Out<'_>, value: &Value) -> Result<(), BerFault>
 /// Writes the shortest encoding of a variable binding (RFC 3416, section 3: VarBind) in front of
 /// what is written.
 ///
-/// `NoRoom` where it does not fit. A name that cannot be encoded is the caller's to keep out.
+/// `NoRoom` where it does not fit. The caller ensures that a name can be encoded.
 #[tactic(auto, unfolding(ber_core::specs::Encoding::canon_tlv, crate::specs::Canon::canon_binding))]
 pub fn put_binding(out: &mut Out<'_>, binding: &Binding) -> Result<(), BerFault>
     requires { IsEncodableBinding binding.now }
@@ -232,7 +232,7 @@ pub fn encode_reply(reply: &Reply, buffer: &mut [u8; MAX_REPLY]) -> Result<usize
 /// as `encode_reply` does.
 ///
 /// The request-id and the community are the request's (RFC 3416, section 4.2). Takes no memory and
-/// copies nothing. The caller owes that each binding has an encoding (`Binding::is_encodable`): its
+/// copies nothing. The caller ensures that each binding has an encoding (`Binding::is_encodable`): its
 /// name, and an OBJECT IDENTIFIER value, begin as X.690, 8.19.4 asks. `decode` gives only requests
 /// whose bindings have one.
 pub fn encode_answer(

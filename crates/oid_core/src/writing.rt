@@ -79,7 +79,7 @@ fn put_numbers(out: &mut Out<'_>, name: &[u32]) -> Result<(), BerFault>
 
 /// Writes the shortest content of an OBJECT IDENTIFIER in front of what is written (X.690, 8.19).
 ///
-/// The caller owes that the name has an encoding: two sub-identifiers or more, of which the first
+/// The caller ensures that the name has an encoding: two sub-identifiers or more, of which the first
 /// is at most 2, and the second at most 39 where the first is below 2 (X.690, 8.19.4). `NoRoom`
 /// where it does not fit, and then what is written is as it was; of the octets of the slice in
 /// front of it nothing is known then. A call that succeeds leaves those in front of what it wrote as

@@ -44,7 +44,7 @@ pub struct Rstp {
     settled: Settled,
 }
 
-// By hand, so that who lets one go knows nothing of its parts.
+// By hand: who drops one then knows nothing of its parts.
 impl Drop for Rstp {
     fn drop(self) {
         let Rstp {

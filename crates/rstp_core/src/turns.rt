@@ -5,7 +5,7 @@ ghost use Rattle.rstp_rules.specs.Turns.{with_change_spread_but, turn_at, turns}
 
 use rstp_rules::row::{Row, Timing};
 
-// The other ports tell the change too (17.21.18).
+// The other ports signal the change too (17.21.18).
 fn spread_others(timing: &Timing, port: u16, rows: &mut [Row])
     requires { IsSmall timing.now }
     ensures { rows.new ≡ map (with_change_spread_but timing.now port) rows.old }

@@ -105,7 +105,7 @@ has_begun r = is_forwarding r.port.state && not (is_forwarding r.was.state)
 abbrev pub change_time : Timing → Row → ℕ
 change_time t r = if sends_rapid t r then t.hello + 1 else t.max_age + t.forward_delay
 
--- 17.21.7. A port starts to tell a topology change, unless it does already.
+-- 17.21.7. A port starts to signal a topology change, unless it does already.
 abbrev pub with_change_started : Timing → Row → Row
 with_change_started t r = if r.port.change_while == 0
     then record r { port = record r.port { change_while = change_time t r; pending = true } }

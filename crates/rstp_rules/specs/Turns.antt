@@ -32,12 +32,12 @@ abbrev pub with_change_spread_but : Timing → ℕ → Row → Row
 with_change_spread_but t port r = if r.line.number == port then r else with_change_spread t r
 
 -- A port that became forwarding: its transitions rise by one, and where it is not at the edge it
--- starts to tell.
+-- starts to signal a change.
 abbrev pub after_begin : Timing → Row → Row
 after_begin t r = if r.port.edge then with_transition_counted r else with_change_started t (with_transition_counted r)
 
--- The turn of row k: where it became forwarding and is not at the edge, the other ports tell it
--- too.
+-- The turn of row k: where it became forwarding and is not at the edge, the other ports signal the
+-- change too.
 abbrev pub turn_at : Timing → List Row → ℕ → List Row
 turn_at t rows k = let r = slice_index_or rows k no_row in
     if has_begun r

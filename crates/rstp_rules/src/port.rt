@@ -80,7 +80,7 @@ pub struct Port {
     pub agreed: bool,
     /// Whether the port signals its agreement (agree).
     pub agree: bool,
-    /// Whether the port owes a topology change acknowledgment (tcAck).
+    /// Whether the port has a topology change acknowledgment to send (tcAck).
     pub acknowledge: bool,
     /// Whether the port has something to send (newInfo).
     pub pending: bool,

@@ -161,7 +161,7 @@ impl Row {
         }
     }
 
-    // The port starts to tell a topology change, unless it does already (17.21.7).
+    // The port starts to signal a topology change, unless it does already (17.21.7).
     fn start_change(&mut self, timing: &Timing)
         requires { IsSmall timing.now }
         ensures { self.new ≡ with_change_started timing.now self.old }

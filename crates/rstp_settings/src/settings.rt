@@ -18,7 +18,7 @@ pub struct Settings {
     ports: ArrayVec<PortValues, MAX_PORTS>,
 }
 
-// By hand, so that who lets one go knows nothing of its parts.
+// By hand: who drops one then knows nothing of its parts.
 impl Drop for Settings {
     fn drop(self) {
         let Settings {

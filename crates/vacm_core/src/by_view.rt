@@ -16,7 +16,7 @@ use crate::deciding::agrees_by_bits;
 use crate::name::Name;
 use crate::tables::FamilyRow;
 
-// The most rows that are gone over whole; of more rows, those of the view are found by halves.
+// The most rows that are scanned whole; of more rows, those of the view are found by halves.
 const SHORT_INDEX: usize = 64;
 
 // Whether the index of a row is less than that of each row of a view with so many numbers in its

@@ -89,7 +89,7 @@ impl Model for Families {
         × IsIndex index_key f.rows.items f.table_index };
 }
 
-// By hand, so that who lets go of the rows knows nothing of the tree.
+// By hand: who drops the rows then knows nothing of the tree.
 impl Drop for Families {
     fn drop(self) {
         let Families {

@@ -8,7 +8,7 @@ pub struct Rows<T> {
     items: Vec<T>,
 }
 
-// By hand, so that who lets one go knows nothing of its parts.
+// By hand: who drops one then knows nothing of its parts.
 impl<T: Drop> Drop for Rows<T> {
     fn drop(self) {
         let Rows { items: _items } = self;

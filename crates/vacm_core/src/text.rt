@@ -10,7 +10,7 @@ pub struct Text {
     text: String,
 }
 
-// By hand, so that who lets one go knows nothing of its parts.
+// By hand: who drops one then knows nothing of its parts.
 impl Drop for Text {
     fn drop(self) {
         let Text { text: _text } = self;
@@ -76,7 +76,7 @@ pub struct Octets {
     octets: Vec<u8>,
 }
 
-// By hand, so that who lets one go knows nothing of its parts.
+// By hand: who drops one then knows nothing of its parts.
 impl Drop for Octets {
     fn drop(self) {
         let Octets { octets: _octets } = self;

@@ -32,7 +32,7 @@ pub struct Vacm {
     contexts: Rows<Name>,
 }
 
-// By hand, so that who lets one go knows nothing of its parts.
+// By hand: who drops one then knows nothing of its parts.
 impl Drop for Vacm {
     fn drop(self) {
         let Vacm {
@@ -217,8 +217,8 @@ impl Vacm {
 
     /// Whether a name is in a view, and by which family row; and the shortest front of the name under
     /// which this answer holds for every name (RFC 3415, vacmViewTreeFamilyTable). There is no front
-    /// where a name that begins with this one has another answer. It takes no memory, and goes over
-    /// the rows once beside what [`Vacm::in_view`] goes over.
+    /// where a name that begins with this one has another answer. It takes no memory, and reads the
+    /// rows once beside what [`Vacm::in_view`] reads.
     pub fn in_view_under(&self, view: &Name, name: &Oid) -> FrontAnswer
         ensures answer { result.answer ≡ family_answer self.now.families view.now name.now }
         ensures row { NamesFamilyOf self.now.families result.answer }
@@ -287,7 +287,7 @@ impl Vacm {
     /// Whether a view is seen to hide every name that begins so: no included row of it may match
     /// one of these names, or an excluded row that matches them all beats each that may (RFC
     /// 3415, vacmViewTreeFamilyTable). It may say no where all are hidden all the same, as by
-    /// several rows. It takes no memory, and goes over the rows twice.
+    /// several rows. It takes no memory, and reads the rows twice.
     pub fn hides_all(&self, view: &Name, prefix: &[u32]) -> bool
         ensures answer { result ≡ hides_all self.now.families view.now prefix.now }
         ensures hidden { IsTrue result → (name : List ℕ) → IsTrue (is_prefix prefix.now name)
