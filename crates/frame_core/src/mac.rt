@@ -54,7 +54,7 @@ impl Mac {
         self.0[0] & 1 == 1
     }
 
-    /// Whether two addresses are one.
+    /// Whether two addresses are equal.
     pub fn is_same(self, other: Mac) -> bool
         ensures { result ≡ same_mac self other }
     {

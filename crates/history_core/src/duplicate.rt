@@ -83,7 +83,7 @@ pub(crate) fn encode(octets: &[u8], request: &Request) -> bool
     }
 }
 
-// Whether two strings of octets are one.
+// Whether two strings of octets are equal.
 fn same_octets(one: &[u8], other: &[u8]) -> bool
     ensures { IsTrue result ↔ (one.now ≡ other.now) }
 {

@@ -37,7 +37,7 @@ impl Receipt {
         })
     }
 
-    /// Whether two receipts are one: number, event, egress and reply. Takes no memory.
+    /// Whether two receipts are equal: number, event, egress and reply. Takes no memory.
     pub fn same(&self, other: &Receipt) -> bool
         ensures { IsTrue result ↔ (self.now ≡ other.now) }
     {

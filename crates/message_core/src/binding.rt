@@ -37,7 +37,7 @@ impl Binding {
         self.name.is_encodable() && self.value.is_encodable()
     }
 
-    /// Whether two bindings are one. Takes no memory.
+    /// Whether two bindings are equal. Takes no memory.
     pub fn same(&self, other: &Binding) -> bool
         ensures { IsTrue result ↔ (self.now ≡ other.now) }
     {
@@ -123,7 +123,7 @@ impl Bindings {
         Ok(Bindings { items })
     }
 
-    /// Whether two lists are one, in their order too. Takes no memory.
+    /// Whether two lists are equal, in their order too. Takes no memory.
     pub fn same(&self, other: &Bindings) -> bool
         ensures { IsTrue result ↔ (self.now ≡ other.now) }
     {

@@ -73,7 +73,7 @@ impl Value {
         }
     }
 
-    /// Whether two values are one, their types too. Takes no memory.
+    /// Whether two values are equal, their types too. Takes no memory.
     pub fn same(&self, other: &Value) -> bool
         ensures { IsTrue result ↔ (self.now ≡ other.now) }
     {

@@ -208,8 +208,8 @@ fn encode(message: &Message<'_>, room: &mut [u8], buffer: &mut [u8]) -> Result<u
 /// [`encode_answer`], which borrows the request.
 ///
 /// What stands behind it stays. `TooBig` exactly where it is longer than `MAX_REPLY` octets; the
-/// buffer is then as before. Takes no memory. A name that cannot be encoded is the caller's to keep
-/// out (`Binding::is_encodable`).
+/// buffer is then as before. Takes no memory. The caller ensures that each name can be encoded
+/// (`Binding::is_encodable`).
 pub fn encode_reply(reply: &Reply, buffer: &mut [u8; MAX_REPLY]) -> Result<usize, TooBig>
     requires { AreEncodable reply.now.bindings }
     ensures ok { IfOk result (λ n. buffer.new ≡ canon_reply reply.now ++ drop n buffer.old) }
@@ -268,8 +268,8 @@ pub fn encode_answer(
 /// is, at most `MAX_REQUEST` octets.
 ///
 /// What stands behind it stays. `TooBig` exactly where it is longer than `MAX_REQUEST` octets; the
-/// buffer is then as before. Takes no memory. A name that cannot be encoded is the caller's to keep
-/// out (`Binding::is_encodable`).
+/// buffer is then as before. Takes no memory. The caller ensures that each name can be encoded
+/// (`Binding::is_encodable`).
 pub fn encode_request(request: &Request, buffer: &mut [u8; MAX_REQUEST]) -> Result<usize, TooBig>
     requires { AreEncodable request.now.bindings }
     ensures ok { IfOk result (λ n. buffer.new ≡ canon_request request.now ++ drop n buffer.old) }

@@ -19,7 +19,7 @@ pub fn precedes(a: &[u32], b: &[u32]) -> bool
     a.cmp(&b).is_lt()
 }
 
-/// Whether two lists are one.
+/// Whether two lists are equal.
 pub fn same_name(a: &[u32], b: &[u32]) -> bool
     ensures value { IsTrue result ↔ (a.now ≡ b.now) }
     ensures test { result ≡ name_eq a.now b.now }

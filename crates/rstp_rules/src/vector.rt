@@ -19,7 +19,7 @@ pub(crate) fn is_better(vector: &PriorityVector, other: &PriorityVector) -> bool
     vector.cmp(other).is_lt()
 }
 
-/// Whether two vectors are one (17.5).
+/// Whether two vectors are equal (17.5).
 pub(crate) fn is_same_vector(vector: &PriorityVector, other: &PriorityVector) -> bool
     ensures { result ≡ same_vector vector.now other.now }
 {

@@ -83,7 +83,7 @@ impl Name {
         self.as_str().len() == 0
     }
 
-    /// Whether two names are one.
+    /// Whether two names are equal.
     pub fn is(&self, other: &Name) -> bool
         ensures { result ≡ bytes_eq self.now other.now }
     {
