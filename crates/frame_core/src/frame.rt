@@ -27,7 +27,7 @@ pub struct FrameIn {
 }
 
 impl FrameIn {
-    /// Whether two  are equal. Takes no memory.
+    /// Whether two are equal. Takes no memory.
     pub fn same(&self, other: &FrameIn) -> bool
         ensures { IsTrue result ↔ (self.now ≡ other.now) }
     {
