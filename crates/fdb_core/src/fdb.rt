@@ -181,6 +181,3 @@ fn known_address(address: Mac)
 {
     known_octets(&address.0);
 }
-
-#[cfg(test)]
-mod tests;

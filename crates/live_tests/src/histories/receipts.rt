@@ -1,9 +1,5 @@
-//! Receipts, their copies and their comparison with what is kept.
-ghost use Rattle.history_core.specs.Steps.{IsEncodable};
-
-use history_core::{
-    Egress, Entry, Event, KeptEvent, Mismatch, Receipt, ReceiptEvent, Tally, compare,
-};
+//! Copies of receipts, and what an entry keeps of a request.
+use history_core::{Egress, Event, KeptEvent, Receipt, ReceiptEvent};
 use message_core::{Octets, decode};
 use std::alloc::Global;
 use std::test::Fail;
@@ -18,46 +14,6 @@ const GET: &[u8] = &[
 // A reply that is not held inline.
 const REPLY: &[u8] = &[7; 30];
 
-fn entry(alloc: Global, event: Event) -> Result<Entry, Fail>
-    requires { IsEncodable event }
-{
-    Ok(Entry {
-        event: KeptEvent::of(alloc, event)?,
-        no_room: false,
-        failed: None,
-        unnamed: None,
-        egress: Egress::none(),
-        reply: None,
-        audit: None,
-    })
-}
-
-fn receipt(number: u64, event: ReceiptEvent) -> Receipt {
-    Receipt {
-        number,
-        event,
-        egress: Egress::none(),
-        reply: None,
-    }
-}
-
-fn tick(number: u64) -> Receipt {
-    receipt(number, ReceiptEvent::Tick)
-}
-
-fn link(number: u64) -> Receipt {
-    receipt(number, ReceiptEvent::Link { port: 1, up: true })
-}
-
-// A second, a link that goes up, a second.
-fn entries(alloc: Global) -> Result<Vec<Entry>, Fail> {
-    let mut entries = Vec::new(alloc);
-    entries.push(entry(alloc, Event::Tick)?)?;
-    entries.push(entry(alloc, Event::Link { port: 1, up: true })?)?;
-    entries.push(entry(alloc, Event::Tick)?)?;
-    Ok(entries)
-}
-
 // A receipt of a request that was replied to.
 fn replied(alloc: Global, number: u64) -> Result<Receipt, Fail> {
     let request = decode(alloc, GET).ok().ok_or("a request")?;
@@ -67,38 +23,6 @@ fn replied(alloc: Global, number: u64) -> Result<Receipt, Fail> {
         egress: Egress::none(),
         reply: Some(Octets::from_slice(alloc, REPLY)?),
     })
-}
-
-#[test]
-fn compares_receipts_with_entries(rt: HostRuntime) -> Result<(), Fail> {
-    let entries = entries(rt.alloc())?;
-    let older = [tick(3), tick(4), tick(5), link(6), tick(7)];
-    let twice = [tick(0), link(1), link(1)];
-    let another = [tick(0), tick(1)];
-    let beyond = [tick(2), tick(3)];
-    for (what, base, receipts, tally) in [
-        (
-            "what stands and what is older",
-            5,
-            older.as_slice(),
-            Ok(Tally { stood: 3, older: 2 }),
-        ),
-        ("a number twice", 0, twice.as_slice(), Err(Mismatch(1))),
-        ("another event", 0, another.as_slice(), Err(Mismatch(1))),
-        (
-            "one that is not kept",
-            0,
-            beyond.as_slice(),
-            Err(Mismatch(3)),
-        ),
-    ] {
-        assert_eq!(rt;
-            compare(base, entries.as_slice(), receipts),
-            tally,
-            "{what}"
-        );
-    }
-    Ok(())
 }
 
 #[test]
