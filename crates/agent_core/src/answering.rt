@@ -42,7 +42,7 @@ use vacm_core::Name;
 /// those of before are settled once, and the buffer holds what each port sends. A request of
 /// another kind changes nothing else in the world, and nothing in the objects.
 /// Objects that the view is seen to hide whole (`Vacm::hides_all`) are passed over: their instances
-/// are neither looked for nor read. No clause says so: the reply is that over all instances.
+/// are neither searched nor read. No clause says so: the reply is that over all instances.
 /// How often a GetBulk asks for a successor is a clause of `get_bulk`, and of none here.
 ///
 /// The caller hands in a request whose names and OBJECT IDENTIFIER values have an encoding, as

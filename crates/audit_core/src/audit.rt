@@ -32,7 +32,7 @@ pub struct Audit {
 }
 
 impl Audit {
-    /// A copy, whose settings that were left at their new values lie in a room that was reserved for
+    /// A copy, whose settings that were left at their new values lie in memory that was reserved for
     /// them, if there are some. Takes memory only for denied variable bindings.
     pub fn try_copy_in(&self, alloc: Global, room: UnrestoredRoom) -> Result<Audit, AllocError>
         requires { self.now.unrestored ≢ [] → room ≡ true }

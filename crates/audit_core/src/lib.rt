@@ -2,19 +2,19 @@
 //!
 //! # Entry points
 //! [`Audit`] is a plain record: the PDU type, status and index as sent, the decision with the keys
-//! of its rows, the denied variable bindings, and the settings that a Set could not put back.
+//! of its rows, the denied variable bindings, and the settings that a Set could not restore.
 //! [`audit_line`] and [`write_audit`] write its line. `Audit::try_copy_in` is a copy, which takes
 //! memory only for denied variable bindings. The denied bindings are [`DeniedBindings`], seen as a
 //! list of [`Denied`], each with the [`FamilyKey`] of the family that excludes its name, where one
 //! does; they lie in memory of their own, where the key of each family is kept once, and a binding
-//! takes six octets beside. The settings that a Set could not put back are [`Unrestored`]: an
+//! takes six octets beside. The settings that a Set could not restore are [`Unrestored`]: an
 //! [`UnrestoredRoom`], which is reserved before the Set, is filled with them.
 //!
 //! # Definitions
 //! `specs/Text.antt`: the line, to the octet; `specs/Keys.antt`: the key of a family row. Inside the
 //! crate, `specs/Marks.antt`: what a denied binding is by its number and the place of its key, and
-//! which has none; `specs/Denials.antt`, `specs/Unrestored.antt`: how denied bindings, settings and room for those
-//! lie in memory.
+//! which has none; `specs/Denials.antt`, `specs/Unrestored.antt`: how denied bindings, settings and what
+//! is reserved for those lie in memory.
 //!
 //! # Laws
 //! None.

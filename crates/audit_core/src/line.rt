@@ -12,7 +12,7 @@ use std::io;
 ///
 /// # Errors
 ///
-/// That of the writer. Then a part of the line may be written, and nothing is said of what the
+/// That of the writer. Then a part of the line may be written, and no clause speaks of what the
 /// writer holds: what is written through [`io::Write`] by parts says nothing of itself where it
 /// fails. [`write_audit`] adds all or nothing.
 pub fn audit_line<W: io::Write>(audit: &Audit, writer: &mut W) -> io::Result<()>

@@ -1,4 +1,4 @@
-//! The settings that a Set could not put back, room for them, and how they are written.
+//! The settings that a Set could not restore, memory for them, and how they are written.
 ghost use Rattle.std.specs.Prelude.{◌≡◌, ◌≢◌, [], true, false, Some, IfOk};
 ghost use Rattle.std.specs.List.{flat_map};
 ghost use Rattle.audit_core.specs.Text.{bridge_key_text, port_key_text, key_text, unrestored_text};
@@ -51,7 +51,7 @@ impl Unrestored {
         }
     }
 
-    /// A copy, in a room that was reserved for it if there are settings. Takes no memory.
+    /// A copy, in memory that was reserved for it if there are settings. Takes no memory.
     pub fn copy_in(&self, room: UnrestoredRoom) -> Unrestored
         requires { self.now ≢ [] → room ≡ true }
         ensures { result ≡ self.now }
@@ -63,8 +63,8 @@ impl Unrestored {
     }
 }
 
-/// Room for the settings that a Set may leave at their new values, or none; seen as whether there is
-/// some. It is reserved where want of memory can still be told, and filled where nothing may fail any
+/// Memory for the settings that a Set may leave at their new values, or none; seen as whether there is
+/// some. It is reserved where want of memory can still be reported, and filled where nothing may fail any
 /// more.
 pub struct UnrestoredRoom {
     keys: Option<Box<SettingKeys>>,
@@ -87,14 +87,14 @@ impl Model for UnrestoredRoom {
 }
 
 impl UnrestoredRoom {
-    /// No room, as for a request that writes nothing. Takes no memory.
+    /// No memory, as for a request that writes nothing. Takes no memory.
     pub fn none() -> UnrestoredRoom
         ensures { result ≡ false }
     {
         UnrestoredRoom { keys: None }
     }
 
-    /// Room for as many settings as a list of keys has.
+    /// Memory for as many settings as a list of keys has.
     pub fn reserved(alloc: Global) -> Result<UnrestoredRoom, AllocError>
         ensures { IfOk result (λ room. room ≡ true) }
     {
@@ -102,7 +102,7 @@ impl UnrestoredRoom {
         Ok(UnrestoredRoom { keys: Some(keys) })
     }
 
-    /// These settings; where there are none, the room is let go. Takes no memory, so it cannot fail.
+    /// These settings; where there are none, the memory is freed. Takes no memory, so it cannot fail.
     pub fn filled(self, keys: SettingKeys) -> Unrestored
         requires { keys ≢ [] → self ≡ true }
         ensures { result ≡ keys }

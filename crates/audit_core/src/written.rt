@@ -41,7 +41,7 @@ impl fmt::Display for NamedView<'_> {
     }
 }
 
-/// By which row a request is let in, and to which view.
+/// By which row a request is authorized, and for which view.
 #[derive(Drop)]
 pub struct WrittenLeave<'a> {
     /// The key of the access row.
