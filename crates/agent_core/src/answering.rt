@@ -49,8 +49,8 @@ use vacm_core::Name;
 /// `decode` gives it, and for a Set memory for the settings that a failing device may keep from being
 /// undone.
 ///
-/// Where there is no memory for a name above `INLINE_NUMBERS`, 24, numbers that a GetNext or a GetBulk
-/// makes, the reply is genErr with the number of the binding for which it is made, or tooBig where that
+/// Only where there is no memory for a name above `INLINE_NUMBERS`, 24, numbers that a GetNext or a GetBulk
+/// makes, the reply may be genErr with the number of the binding for which it is made, or tooBig where that
 /// is too long (RFC 3416, 4.2.2 and 4.2.3).
 ///
 /// # Errors

@@ -161,7 +161,7 @@ pub enum Static {
     Status,
 }
 
-/// The columns of vacmViewTreeFamilyTable that may be read (RFC 3415).
+/// The columns of vacmViewTreeFamilyTable that are shown (RFC 3415).
 #[derive(Clone, Copy, Debug, PartialEq, Eq)]
 pub enum Family {
     /// vacmViewTreeFamilyMask

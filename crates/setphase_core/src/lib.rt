@@ -23,7 +23,7 @@
 //! [`Column`] is what an object shows: [`Base`], [`BasePort`], [`Stp`], [`StpPort`], [`Rapid`],
 //! [`ExtPort`], [`Tp`], [`TpFdb`], [`TpPort`], [`Static`], [`Family`], by an [`Index`]. [`Target`] is the setting
 //! that an object writes by INTEGERs, [`IntegerTarget`] with those that it takes; the ports of a static
-//! row are written by octets. [`Assignment`] is what a variable writes, [`Slot`] what a test reserves,
+//! row and a mask are written by octets. [`Assignment`] is what a variable writes, [`Slot`] what a test reserves,
 //! [`Reservation`] what stands at a place; [`TestedVariable`], [`Standing`] and [`Staged`] are
 //! those of `Staging`. What is wrong is a [`SetFault`], [`VariableFault`], [`DeviceFault`] or
 //! [`RegistryFault`]. Bounds: [`MAX_INDEX`], [`MAX_SLOTS`], [`MAX_VARIABLES`], [`MAX_COST`],
@@ -66,8 +66,8 @@
 //! # Laws
 //! In [`laws`]: the settings of a world are a finite map; of the names of a registry's objects none
 //! begins another; the names of all instances rise, whatever the objects are, where the learned
-//! rows of the bridge are by rising address, its static rows by rising index, and no two families
-//! of the policy have one key, as it is in every `Bridge` and `Policy`; a walk that passes over
+//! rows of the bridge are by rising address, its static rows by rising index, no two families
+//! of the policy have one key, and each key is short enough for a name, as it is in every `Bridge` and `Policy`; a walk that passes over
 //! only objects none of whose names is shown misses nothing that is shown, and passes over no
 //! more of them after a name than there are; where there are objects, the object of a name is not
 //! known without a comparison; the 57 objects make a registry; they show 75 instances of a bridge

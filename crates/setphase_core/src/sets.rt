@@ -494,8 +494,8 @@ fn run_staged<O: MibObject>(
     }
 }
 
-/// Sets all variables in a view, or none but those that could not be undone. Changed settings are
-/// not in force yet: `Bridge::settle` comes behind. No object holds a reservation afterwards, and
+/// Sets all variables in a view, or none but those that could not be undone. Changed settings of the
+/// bridge are not in force yet: `Bridge::settle` follows. Masks and types of families are in force at once. No object holds a reservation afterwards, and
 /// the bridge is sure of memory for as many static rows as before.
 ///
 /// # Errors
