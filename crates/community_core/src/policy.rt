@@ -1,5 +1,7 @@
 //! A policy: the communities, and the tables of access control.
 ghost use Rattle.std.specs.Prelude.{◌≡◌, ◌≢◌, ◌<◌, ◌≤◌, length, map, slice_get, option_map, Some, IfOk, IfErr, IfSome, OnOk};
+ghost use Rattle.std.specs.Option.{ForSome};
+ghost use Rattle.vacm_core.specs.FamilyIndex.{next_family};
 ghost use Rattle.vacm_core.specs.Rules.{AreRight, BeginsRight};
 ghost use Rattle.community_core.specs.Faults.{IsCommunityFault};
 ghost use Rattle.community_core.specs.Communities.{community_row, community_rules};
@@ -131,6 +133,15 @@ impl Policy {
             communities: copied_rows(alloc, self.communities.as_slice())?,
             vacm: self.vacm.rows(alloc)?,
         })
+    }
+
+    /// The number of the family row of the least index that is greater than these numbers, if there is
+    /// one (RFC 3415, vacmViewTreeFamilyTable), as [`Vacm::next_family`] gives it. It takes no memory.
+    pub fn next_family(&self, numbers: &[u32]) -> Option<usize>
+        ensures row { result ≡ next_family self.now.vacm.families numbers.now }
+        ensures within { ForSome result (λ n. n < length self.now.vacm.families) }
+    {
+        self.vacm.next_family(numbers)
     }
 
     /// Puts the mask of the family row of this number, and gives the one that it had, as
