@@ -1,19 +1,20 @@
 //! All commits of a Set, and the undoing of all.
-ghost use Rattle.std.specs.Prelude.{◌≡◌, ℕ, ◌+◌, ◌<◌, ◌∷◌, length, map, take, IfSome, IfNone};
+ghost use Rattle.std.specs.Prelude.{◌≡◌, ℕ, ◌+◌, ◌<◌, ◌≤◌, ◌∷◌, length, map, take, IfSome, IfNone};
 ghost use Rattle.setphase_core.specs.declared.world.World.{World as AnyWorld};
 ghost use Rattle.setphase_core.specs.Objects.{object_after_release};
 ghost use Rattle.setphase_core.specs.Settings.{bridge_keys, IsLine};
 ghost use Rattle.setphase_core.specs.Together.{assign};
 ghost use Rattle.setphase_core.specs.Staging.{assignments_of, IsUnderWay, AreCommitted, HasFailed, HasRoomFor, MayUndo, AreCalled, commits_at, undos_at, entries_of};
 
+use crate::limits::MAX_VARIABLES;
 use crate::object::MibObject;
 use crate::staging::Staging;
 use crate::world::World;
 use setting_keys::{MAX_KEYS, SettingKey, SettingKeys};
 
 /// Commits all that is staged, and answers the place of the first commit that failed.
-pub(crate) fn commit_all<O: MibObject>(
-    staging: &mut Staging<'_, O>,
+pub(crate) fn commit_all<O: MibObject, const PLACES: usize>(
+    staging: &mut Staging<'_, O, PLACES>,
     world: &mut World,
 ) -> Option<usize>
     requires none { staging.old.committed ≡ 0 }
@@ -59,7 +60,11 @@ fn put_line(keys: &mut SettingKeys, key: SettingKey)
 
 /// Undoes all commits, and answers the settings whose undoing failed, in the order of their
 /// variables.
-pub(crate) fn undo_all<O: MibObject>(staging: &mut Staging<'_, O>, world: &mut World) -> SettingKeys
+pub(crate) fn undo_all<O: MibObject, const PLACES: usize>(
+    staging: &mut Staging<'_, O, PLACES>,
+    world: &mut World,
+) -> SettingKeys
+    requires most { PLACES ≤ MAX_VARIABLES }
     requires under_way { IsUnderWay world.old staging.old.registry.now staging.old.staged.items
         staging.old.tested staging.old.committed }
     requires may { (before : AnyWorld) × MayUndo before world.old staging.old.registry.now

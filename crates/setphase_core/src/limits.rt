@@ -10,6 +10,10 @@ pub const MAX_SLOTS: usize = 64;
 /// The most variables of one Set.
 pub const MAX_VARIABLES: usize = 64;
 
+/// The places for what is staged of a Set of at most so many variables. Most Sets have one variable or
+/// a few, and each place takes time where a Set begins, used or not.
+pub(crate) const FEW_VARIABLES: usize = 8;
+
 /// The greatest cost of a path that is shown: the greatest INTEGER (RFC 2578, 7.1.1).
 pub const MAX_COST: u32 = 2_147_483_647;
 

@@ -1,6 +1,6 @@
 //! A Set: all variables are tested, then all are committed, and where a device fails the earlier
 //! ones are undone (RFC 3416, 4.2.5).
-ghost use Rattle.std.specs.Prelude.{◌≡◌, ◌↔◌, ◌+◌, ◌<◌, ◌≤◌, ◌^◌, List, [], ◌∷◌, if◌then◌else◌, not, length, map, slice_get, Some, None, IfOk, IfErr, OnErr, IfNone, IfSome, IsSome};
+ghost use Rattle.std.specs.Prelude.{◌≡◌, ◌↔◌, ◌+◌, ◌<◌, ◌≤◌, ◌^◌, List, [], ◌∷◌, if◌then◌else◌, not, length, map, min, slice_get, Some, None, IfOk, IfErr, OnErr, IfNone, IfSome, IsSome};
 ghost use Rattle.vacm_core.specs.Families.{NamesFamilyOf};
 ghost use Rattle.setphase_core.specs.Objects.{object_after_release};
 ghost use Rattle.setphase_core.specs.Registry.{rows_of, held_count};
@@ -13,6 +13,7 @@ ghost use Rattle.setphase_core.specs.Staging.{assignments_of, static_count, IsDi
 ghost use Rattle.setphase_core.specs.Tested.{first_in, first_lacking, is_contradicting, inconsistency, AreStaged, ArePassed, AreReady};
 
 use crate::committing::{commit_all, undo_all};
+use crate::limits::{FEW_VARIABLES, MAX_VARIABLES};
 use crate::object::{MibObject, SetFault};
 use crate::registry::Registry;
 use crate::staging::{Staged, Staging, Standing, TestedVariable, VariableFault, value_among};
@@ -147,12 +148,13 @@ fn refusal_for(number: usize, fault: VariableFault) -> Refusal
 }
 
 // Tests all variables by themselves.
-fn stage_all<O: MibObject>(
-    staging: &mut Staging<'_, O>,
+fn stage_all<O: MibObject, const PLACES: usize>(
+    staging: &mut Staging<'_, O, PLACES>,
     world: &World,
     view: &Name,
     bindings: &[Binding],
 ) -> Result<Joint, Refusal>
+    requires places { min (length bindings.now) MAX_VARIABLES ≤ PLACES }
     requires fresh { staging.old.registry.now ≡ map object_after_release staging.old.registry.now }
     requires staged { staging.old.staged.items ≡ [] }
     requires tested { staging.old.tested ≡ 0 }
@@ -292,12 +294,13 @@ fn inconsistency(world: &World, staged: &[Staged], joint: Joint) -> Option<Refus
 }
 
 // Tests a Set: why it is refused, or nothing.
-fn refused<O: MibObject>(
-    staging: &mut Staging<'_, O>,
+fn refused<O: MibObject, const PLACES: usize>(
+    staging: &mut Staging<'_, O, PLACES>,
     world: &World,
     view: &Name,
     bindings: &[Binding],
 ) -> Option<Refusal>
+    requires places { min (length bindings.now) MAX_VARIABLES ≤ PLACES }
     requires fresh { staging.old.registry.now ≡ map object_after_release staging.old.registry.now }
     requires staged { staging.old.staged.items ≡ [] }
     requires tested { staging.old.tested ≡ 0 }
@@ -353,11 +356,12 @@ fn count_static(staged: &[Staged]) -> usize
 
 // Commits all that is staged; where a commit fails, undoes those before it. Whether a setting gets
 // another value from what is staged is said ahead.
-fn commit_staged<O: MibObject>(
-    staging: &mut Staging<'_, O>,
+fn commit_staged<O: MibObject, const PLACES: usize>(
+    staging: &mut Staging<'_, O, PLACES>,
     world: &mut World,
     changed: bool,
 ) -> SetOutcome
+    requires most { PLACES ≤ MAX_VARIABLES }
     requires none { staging.old.committed ≡ 0 }
     requires under_way { IsUnderWay world.old staging.old.registry.now staging.old.staged.items
         staging.old.tested staging.old.committed }
@@ -401,10 +405,11 @@ fn commit_staged<O: MibObject>(
 
 // Commits all that is staged, which goes together, once there is memory for the static rows that it
 // may bring in.
-fn commit_reserved<O: MibObject>(
-    staging: &mut Staging<'_, O>,
+fn commit_reserved<O: MibObject, const PLACES: usize>(
+    staging: &mut Staging<'_, O, PLACES>,
     world: &mut World,
 ) -> Result<SetOutcome, AllocError>
+    requires most { PLACES ≤ MAX_VARIABLES }
     requires none { staging.old.committed ≡ 0 }
     requires under_way { IsUnderWay world.old staging.old.registry.now staging.old.staged.items
         staging.old.tested staging.old.committed }
@@ -447,12 +452,14 @@ fn commit_reserved<O: MibObject>(
 }
 
 // Makes the Set that a staging is for.
-fn run_staged<O: MibObject>(
-    staging: &mut Staging<'_, O>,
+fn run_staged<O: MibObject, const PLACES: usize>(
+    staging: &mut Staging<'_, O, PLACES>,
     world: &mut World,
     view: &Name,
     bindings: &[Binding],
 ) -> Result<SetOutcome, AllocError>
+    requires most { PLACES ≤ MAX_VARIABLES }
+    requires places { min (length bindings.now) MAX_VARIABLES ≤ PLACES }
     requires fresh { staging.old.registry.now ≡ map object_after_release staging.old.registry.now }
     requires staged { staging.old.staged.items ≡ [] }
     requires tested { staging.old.tested ≡ 0 }
@@ -494,8 +501,59 @@ fn run_staged<O: MibObject>(
     }
 }
 
+// The same as `run_set`, with a place for each of the variables that it may stage.
+fn run_with<O: MibObject, const PLACES: usize>(
+    registry: &mut Registry<O>,
+    world: &mut World,
+    bindings: &[Binding],
+    view: &Name,
+) -> Result<SetOutcome, AllocError>
+    requires most { PLACES ≤ MAX_VARIABLES }
+    requires places { min (length bindings.now) MAX_VARIABLES ≤ PLACES }
+    ensures refusal { IfOk result (λ outcome. refusal_in outcome
+        ≡ refusal_of (rows_of registry.old) world.old view.now bindings.now) }
+    ensures notes { IfOk result (λ outcome. AreNotes
+        (writings (rows_of registry.old) world.old bindings.now) (notes_in outcome)) }
+    ensures undos { IfOk result NamesASetting }
+    ensures changed { IfOk result (λ outcome. IfSome (changed_in outcome)
+        (λ changed. changed ≡ not (same_settings_of world.old world.new))) }
+    ensures world { IfOk result (λ outcome. world.new ≡ world_after_set (refusal_in outcome)
+        (writings (rows_of registry.old) world.old bindings.now) world.old (notes_in outcome)) }
+    ensures objects { IfOk result (λ outcome. registry.new
+        ≡ map (object_after_set (calls_of (refusal_in outcome)
+        (writings (rows_of registry.old) world.old bindings.now) (notes_in outcome)))
+        registry.old) }
+    ensures by_plan { IfOk result (λ outcome. FollowPlans (calls_of (refusal_in outcome)
+        (writings (rows_of registry.old) world.old bindings.now) (notes_in outcome))
+        registry.old) }
+    ensures refused_index { IfOk result (λ outcome. IfSome (refusal_in outcome)
+        (λ r. (1 ≤ r.index) × (r.index ≤ length bindings.now))) }
+    ensures failed_index { IfOk result (λ outcome. IfSome (notes_in outcome).commit
+        (λ i. (1 ≤ i) × (i ≤ length bindings.now))) }
+    ensures family { IfOk result (λ outcome. IfSome (refusal_in outcome) (λ r. IfSome r.family
+        (λ answer. NamesFamilyOf world.old.policy.vacm.families answer))) }
+    ensures no_access { IfOk result (λ outcome. IfSome (refusal_in outcome)
+        (λ r. (r.status ≡ ErrorStatus.NoAccess) ↔ IsSome r.family)) }
+    ensures settings { world.new ≡ with_settings_of world.new world.old }
+    ensures rows { rows_of registry.new ≡ rows_of registry.old }
+    ensures held { held_count registry.new ≡ 0 }
+    ensures accepted { OnErr result
+        (refusal_of (rows_of registry.old) world.old view.now bindings.now ≡ None) }
+    ensures writes_static { OnErr result (0 < static_count (assignments
+        (writings (rows_of registry.old) world.old bindings.now))) }
+    ensures lacks { OnErr result (world.old.bridge.statics.places
+        < length world.old.bridge.statics.rows + static_count (assignments (committed_of
+        (writings (rows_of registry.old) world.old bindings.now)))) }
+    ensures unchanged { OnErr result (world.new ≡ world.old) }
+    ensures uncalled { OnErr result (registry.new ≡ map object_after_release registry.old) }
+{
+    let mut staging: Staging<'_, O, PLACES> = Staging::with_places(registry);
+    run_staged(&mut staging, world, view, bindings)
+}
+
 /// Sets all variables in a view, or none but those that could not be undone. Changed settings of the
-/// bridge are not in force yet: `Bridge::settle` follows. Masks and types of families are in force at once. No object holds a reservation afterwards, and
+/// bridge are not in force yet: `Bridge::settle` follows. Masks and types of families are in force at
+/// once. No object holds a reservation afterwards, and
 /// the bridge is sure of memory for as many static rows as before.
 ///
 /// # Errors
@@ -548,6 +606,9 @@ pub fn run_set<O: MibObject>(
     ensures unchanged { OnErr result (world.new ≡ world.old) }
     ensures uncalled { OnErr result (registry.new ≡ map object_after_release registry.old) }
 {
-    let mut staging = Staging::new(registry);
-    run_staged(&mut staging, world, view, bindings)
+    if bindings.len() <= FEW_VARIABLES {
+        run_with::<O, FEW_VARIABLES>(registry, world, bindings, view)
+    } else {
+        run_with::<O, MAX_VARIABLES>(registry, world, bindings, view)
+    }
 }

@@ -64,9 +64,12 @@ pub struct Staged {
 /// What its calls need of it beside what they name is one condition, `IsUnderWay`, of a Set and of
 /// the world that it is made in: it holds of a new one in every world, each call keeps it, and who
 /// calls hands it on. A commit or an undo that brings in a static row needs a place for that too.
-pub struct Staging<'a, O: MibObject> {
+///
+/// What is staged stands in a list of `PLACES` places, each of which takes time where a Set begins,
+/// used or not: `new` gives a place to each variable that a Set may have.
+pub struct Staging<'a, O: MibObject, const PLACES: usize> {
     pub(crate) registry: &'a mut Registry<O>,
-    pub(crate) staged: ArrayVec<Staged, MAX_VARIABLES>,
+    pub(crate) staged: ArrayVec<Staged, PLACES>,
     pub(crate) tested: usize,
     pub(crate) committed: usize,
 }
@@ -97,9 +100,24 @@ fn standing_of(staged: &[Staged], slot: &Slot) -> Standing
     }
 }
 
-impl<'a, O: MibObject> Staging<'a, O> {
+impl<'a, O: MibObject> Staging<'a, O, MAX_VARIABLES> {
     /// A Set of which nothing is tested yet. It takes no memory.
-    pub fn new(registry: &'a mut Registry<O>) -> Staging<'a, O>
+    pub fn new(registry: &'a mut Registry<O>) -> Staging<'a, O, MAX_VARIABLES>
+        ensures same_reference { result.registry.ghost_name ≡ registry.entry.ghost_name }
+        ensures registry { result.registry.now ≡ map object_after_release registry.old }
+        ensures staged { result.staged.items ≡ [] }
+        ensures tested { result.tested ≡ 0 }
+        ensures committed { result.committed ≡ 0 }
+        ensures under_way { (w : AnyWorld) → IsUnderWay w result.registry.now result.staged.items
+            result.tested result.committed }
+    {
+        Staging::with_places(registry)
+    }
+}
+
+impl<'a, O: MibObject, const PLACES: usize> Staging<'a, O, PLACES> {
+    /// The same, with so many places for what is staged.
+    pub(crate) fn with_places(registry: &'a mut Registry<O>) -> Staging<'a, O, PLACES>
         ensures same_reference { result.registry.ghost_name ≡ registry.entry.ghost_name }
         ensures registry { result.registry.now ≡ map object_after_release registry.old }
         ensures staged { result.staged.items ≡ [] }
@@ -117,7 +135,8 @@ impl<'a, O: MibObject> Staging<'a, O> {
         }
     }
 
-    /// Tests a variable in a view, behind those that passed before. It takes no memory.
+    /// Tests a variable in a view, behind those that passed before. It takes no memory. A Set of
+    /// `MAX_VARIABLES` places always has one for it.
     ///
     /// # Errors
     /// The first fault of the variable. Nothing is staged then, and nothing reserved; but where it
@@ -129,7 +148,8 @@ impl<'a, O: MibObject> Staging<'a, O> {
         view: &Name,
         binding: &Binding,
     ) -> Result<TestedVariable, VariableFault>
-        requires { IsUnderWay world.now self.old.registry.now self.old.staged.items
+        requires places { self.old.tested < MAX_VARIABLES → self.old.tested < PLACES }
+        requires under_way { IsUnderWay world.now self.old.registry.now self.old.staged.items
             self.old.tested self.old.committed }
         ensures under_way { IsUnderWay world.now self.new.registry.now self.new.staged.items
             self.new.tested self.new.committed }
@@ -168,7 +188,8 @@ impl<'a, O: MibObject> Staging<'a, O> {
     // Keeps the slot of a variable, where the Set has room for it, and stages it where it is the
     // first of its setting.
     fn keep(&mut self, object: usize, slot: Slot) -> Result<TestedVariable, VariableFault>
-        requires { length self.old.staged.items ≤ self.old.tested }
+        requires few { length self.old.staged.items ≤ self.old.tested }
+        requires places { self.old.tested < MAX_VARIABLES → self.old.tested < PLACES }
         ensures same_reference { self.new.registry.ghost_name ≡ self.old.registry.ghost_name }
         ensures registry { self.new.registry.now ≡ self.old.registry.now }
         ensures committed { self.new.committed ≡ self.old.committed }
@@ -292,7 +313,7 @@ impl<'a, O: MibObject> Staging<'a, O> {
     }
 }
 
-impl<O: MibObject> Drop for Staging<'_, O> {
+impl<O: MibObject, const PLACES: usize> Drop for Staging<'_, O, PLACES> {
     fn drop(self)
         ensures { self.exit.0.now ≡ map object_after_release self.entry.registry.now }
     {

@@ -24,15 +24,24 @@ loop-i-preserved g c =
           (called_after_commit c.loop-i.world c.loop-i.staging.registry.now _ _ _ (entry_at c.loop-i.staging.staged.items c.loop-i.staging.committed) c.in-Ok.ensures.kept c.in-Ok.ensures.passes i.called);
     }
 
-pub commit_next-requires-clause-room : goal.commit_next-requires-clause-room
-commit_next-requires-clause-room g c =
-    let i = c.loop-i.invariant in
-    subst (λ (z : Staged). HasRoom c.loop-i.world z.slot.key z.slot.value) (sym (entry_is c.args.staging.now.staged.items c.loop-i.staging.staged.items c.loop-i.i c.loop-i.staging.committed i.staged i.counted))
-    (room_commit c.args.world.now c.loop-i.world c.args.staging.now.staged.items c.loop-i.i c.requires.room i.world (omega arith))
-
 pub returns-in_default-clause-called : goal.returns-in_default-clause-called
 returns-in_default-clause-called g c =
     let i = c.loop-i.invariant in
     subst (λ (z : Staged). AreCalled (map (commit_at false) (take c.loop-i.i c.args.staging.now.staged.items) ++ commit_at true z ∷ []) (map object_after_release c.args.staging.now.registry.now) (map object_after_release c.commit_next.new.self.registry.now))
     (entry_is c.args.staging.now.staged.items c.loop-i.staging.staged.items c.loop-i.i c.loop-i.staging.committed i.staged i.counted)
     (called_after_call true c.loop-i.staging.registry.now _ _ _ (entry_at c.loop-i.staging.staged.items c.loop-i.staging.committed) c.in_default.ensures.failed c.in_default.ensures.fails i.called)
+
+pub commit_next-requires : goal.commit_next-requires
+commit_next-requires g c =
+    let i = c.loop-i.invariant in
+    let fits = c.well_formed in (
+      omega arith,
+      (
+        omega (arith, ap (length {A = Staged}) i.staged, i.counted),
+        (
+          i.under_way,
+          subst (λ (z : Staged). HasRoom c.loop-i.world z.slot.key z.slot.value) (sym (entry_is c.args.staging.now.staged.items c.loop-i.staging.staged.items c.loop-i.i c.loop-i.staging.committed i.staged i.counted))
+              (room_commit c.args.world.now c.loop-i.world c.args.staging.now.staged.items c.loop-i.i c.requires.room i.world (omega arith)),
+        ),
+      ),
+    )

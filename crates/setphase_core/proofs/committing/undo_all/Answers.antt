@@ -16,13 +16,6 @@ loop-staging-init g c = record {
   undoes = subst (λ keys. Undoes c.args.world.now c.args.staging.now.registry.now c.args.staging.now.staged.items c.args.staging.now.committed c.args.world.now c.args.staging.now.registry.now c.args.staging.now.committed keys) (sym (ap bridge_keys c.new-stuck.ensures)) (undo_start c.args.world.now c.args.staging.now.registry.now c.args.staging.now.staged.items c.args.staging.now.committed);
 }
 
-pub undo_last-requires-clause-room : goal.undo_last-requires-clause-room
-undo_last-requires-clause-room g c =
-    let i = c.loop-staging.invariant in
-    let may = c.requires.may.1 in
-    undo_room c.args.world.now c.loop-staging.world c.loop-staging.world c.args.staging.now.registry.now c.loop-staging.staging.registry.now c.loop-staging.staging.registry.now c.args.staging.now.staged.items c.loop-staging.staging.staged.items c.args.staging.now.committed c.loop-staging.staging.committed (c.loop-staging.staging.committed - 1) (bridge_keys c.loop-staging.stuck) i.staged c.requires.under_way.distinct c.requires.under_way.counted (omega (arith, i.counted)) (omega arith) i.undoes
-    c.requires.may.0 may.stands may.world may.room
-
 pub loop-staging-preserved : goal.loop-staging-preserved
 loop-staging-preserved g c =
     let i = c.loop-staging.invariant in
@@ -53,3 +46,19 @@ loop-staging-preserved-in_default g c =
       counted = omega (arith, c.undo_last.ensures.committed, i.counted, c.put_line.ensures.count);
       undoes = subst (λ ks. Undoes c.args.world.now c.args.staging.now.registry.now c.args.staging.now.staged.items c.args.staging.now.committed c.undo_last.new.world c.undo_last.new.self.registry.now c.undo_last.new.self.committed ks) (sym c.put_line.ensures.keys) after;
     }
+
+pub undo_last-requires : goal.undo_last-requires
+undo_last-requires g c =
+    let i = c.loop-staging.invariant in
+    let may = c.requires.may.1 in
+    let fits = c.well_formed in (
+      omega arith,
+      (
+        c.loop-staging-test.true,
+        (
+          i.under_way,
+          undo_room c.args.world.now c.loop-staging.world c.loop-staging.world c.args.staging.now.registry.now c.loop-staging.staging.registry.now c.loop-staging.staging.registry.now c.args.staging.now.staged.items c.loop-staging.staging.staged.items c.args.staging.now.committed c.loop-staging.staging.committed (c.loop-staging.staging.committed - 1) (bridge_keys c.loop-staging.stuck) i.staged c.requires.under_way.distinct c.requires.under_way.counted (omega (arith, i.counted)) (omega arith) i.undoes
+              c.requires.may.0 may.stands may.world may.room,
+        ),
+      ),
+    )

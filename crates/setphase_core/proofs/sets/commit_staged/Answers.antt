@@ -1,4 +1,4 @@
-use Rattle.std.proofs.Common.{◌≡◌, ◌∙◌, ℕ, ◌<◌, ap, sym, refl, subst, not, List, [], ◌∷◌, map, length, take, slice_index_or, Some}
+use Rattle.std.proofs.Common.{◌≡◌, ◌∙◌, ℕ, ◌<◌, ap, sym, refl, subst, arith, not, List, [], ◌∷◌, map, length, take, slice_index_or, Some}
 use Rattle.std.proofs.lemmas.List.{get_or_default}
 use Rattle.setphase_core.specs.declared.staging.Staged.{Staged}
 use Rattle.setphase_core.specs.declared.world.World.{World}
@@ -20,15 +20,6 @@ number_read : (es fs : List Staged) (i : ℕ) (x : Staged) → fs ≡ es → i <
     (slice_index_or fs i x).number ≡ (entry_at fs i).number
 number_read es fs i x same h =
     ap (λ (e : Staged). e.number) (get_or_default fs i x no_entry (subst (λ (xs : List Staged). i < length xs) (sym same) h))
-
-pub commit_all-requires-clause-room : goal.commit_all-requires-clause-room
-commit_all-requires-clause-room g c =
-    c.requires.room
-
-pub undo_all-keys-requires-clause-may : goal.undo_all-keys-requires-clause-may
-undo_all-keys-requires-clause-may g c =
-    may_undo c.args.world.now c.commit_all.new.world c.commit_all.new.staging.registry.now c.args.staging.now.staged.items c.commit_all.new.staging.staged.items c.in-Some.failed c.commit_all.new.staging.committed c.in-Some.ensures.failed c.commit_all.ensures.staged c.in-Some.ensures.committed
-    c.requires.room
 
 pub returns-then-is_empty-clause-notes : goal.returns-then-is_empty-clause-notes
 returns-then-is_empty-clause-notes g c = λ ws staged.
@@ -176,3 +167,22 @@ pub returns-in_default-clause-places : goal.returns-in_default-clause-places
 returns-in_default-clause-places g c =
     ap (λ (x : World). x.bridge.statics.places) c.in_default.ensures.done
     ∙ places-assign (assignments_of c.args.staging.now.staged.items) c.args.world.now
+
+pub commit_all-requires : goal.commit_all-requires
+commit_all-requires g c =
+    let fits = c.well_formed in
+    (omega arith, (c.requires.none, (c.requires.under_way, c.requires.room)))
+
+pub undo_all-keys-requires : goal.undo_all-keys-requires
+undo_all-keys-requires g c =
+    let fits = c.well_formed in (
+      omega arith,
+      (
+        c.requires.most,
+        (
+          c.commit_all.ensures.under_way,
+          may_undo c.args.world.now c.commit_all.new.world c.commit_all.new.staging.registry.now c.args.staging.now.staged.items c.commit_all.new.staging.staged.items c.in-Some.failed c.commit_all.new.staging.committed c.in-Some.ensures.failed c.commit_all.ensures.staged c.in-Some.ensures.committed
+              c.requires.room,
+        ),
+      ),
+    )

@@ -34,4 +34,4 @@ returns-in-Ok-clause-under_way g c =
     let passed : IfOk c.keep.result (λ v. IsPassed c.args.self.now.registry.now c.keep.new.self.registry.now c.args.world.now c.args.view.now c.args.self.now.tested c.args.binding.now c.args.self.now.staged.items c.keep.new.self.staged.items v) = search rules in
     subst (IsUnderWay c.args.world.now c.keep.new.self.registry.now c.keep.new.self.staged.items c.keep.new.self.tested) (sym c.keep.ensures.committed)
     (test_answered c.keep.result w c.args.view.now c.args.binding.now os c.keep.new.self.registry.now es c.keep.new.self.staged.items t c.keep.new.self.tested c.args.self.now.committed c.in-Some.place c.in-Ok.slot
-    (record { even = omega (arith, c.ports-ports.ensures.count, c.ports-ports.ensures.set); statics = c.known_statics.ensures }) within is passed c.keep.ensures.tested c.keep.ensures.same_staged c.keep.ensures.same_tested c.requires)
+    (record { even = omega (arith, c.ports-ports.ensures.count, c.ports-ports.ensures.set); statics = c.known_statics.ensures }) within is passed c.keep.ensures.tested c.keep.ensures.same_staged c.keep.ensures.same_tested c.requires.under_way)
