@@ -563,6 +563,8 @@ fn run_with<O: MibObject, const PLACES: usize>(
 /// writes such a setting, and the bridge was not sure of that memory before. Nothing is changed
 /// then, and no device was called. It is the only memory that a Set takes, and is taken before the
 /// first commit.
+// A call of its own in the program: what answers a Get keeps none of its locals.
+#[inline(never)]
 pub fn run_set<O: MibObject>(
     registry: &mut Registry<O>,
     world: &mut World,
