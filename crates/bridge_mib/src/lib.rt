@@ -6,7 +6,7 @@
 //! descriptor, and is a `MibObject`: it shows its row, whatever was asked of it before. All but
 //! `PortEnable` are [`Described`] by a [`Descriptor`], which says what the object is called, what
 //! it shows and how it is written. `PortEnable` is made of a [`LineDriver`] in place of a
-//! descriptor, and tells it what the line of a port is to be before it writes the setting, whatever
+//! descriptor, and calls it with what the line of a port is to be before it writes the setting, whatever
 //! the line is already; [`Steady`] never fails and takes no plans, and [`Planned`] fails by plan.
 //!
 //! # Definitions

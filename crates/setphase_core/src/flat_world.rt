@@ -69,7 +69,7 @@ impl FlatWorld {
 
     /// Whether the two worlds are equal in all that they keep: the bridge with its settings, its
     /// spanning tree, its learned and static rows and its counters, the policy row by row, and what
-    /// was dropped; for how many static rows there is sure to be memory is not looked at. It takes no
+    /// was dropped; it passes over for how many static rows there is sure to be memory. It takes no
     /// memory.
     pub fn same(&self, other: &FlatWorld) -> bool
         ensures { IsTrue result ↔ (without_promises self.now ≡ without_promises other.now) }

@@ -7,7 +7,7 @@ use crate::object::MibObject;
 use crate::registry::Registry;
 
 impl<O: MibObject> Registry<O> {
-    /// How many slots all objects have reserved; a count above `usize::MAX` is told as that.
+    /// How many slots all objects have reserved; a count above `usize::MAX` is given as that.
     pub fn held(&self) -> usize
         ensures { result ≡ min (held_count self.now) (2 ^ 64 - 1) }
     {

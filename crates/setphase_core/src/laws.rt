@@ -54,7 +54,7 @@ pub fn same_where_equal()
     ensures { (k l : SettingKey) → IsTrue (same_setting k l) ↔ (k ≡ l) }
 {}
 
-/// The old value put back restores the world.
+/// Putting the old value again restores the world.
 pub fn put_back_restores()
     ensures { (w : World) (k : SettingKey) (v : SettingValue) → HasSetting w k
         → put (put w k v) k (setting w k) ≡ w }

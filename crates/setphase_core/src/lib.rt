@@ -14,7 +14,7 @@
 //! `known` hands on that no object's name begins another's and that what they show can be served;
 //! `held`, `release` and `arm` of all objects. [`are_named`]: whether any index may stand
 //! behind the names of objects, as a registry asks of objects of which nothing else is known.
-//! [`run_set`]: a Set over a registry and a world, all its variables or none, told as a
+//! [`run_set`]: a Set over a registry and a world, all its variables or none, whose result is a
 //! [`SetOutcome`], with its [`Refusal`]; [`Staging`]: its steps.
 //! [`is_scalar`], [`scalar_after`], [`port_at`], [`port_after`]: the indexes of scalars and ports;
 //! [`family_at`], [`family_after`]: the rows of vacmViewTreeFamilyTable by index;
@@ -78,7 +78,7 @@
 //! That changed settings are in force: `Bridge::settle` comes behind them. That an object without a
 //! device, or with one that takes no plans, never fails, and which of its calls fail. In which order
 //! the devices are called, but where it shows in which calls of one plan failed: of two objects, and
-//! of calls of which the plan says the same, no clause tells. That a step of `owner_steps` is a
+//! of calls of which the plan says the same, no clause says. That a step of `owner_steps` is a
 //! comparison: the clauses say how many there are at least and at most. How long `place_near` takes
 //! by the number `near`. That the objects of a program are the 57.
 #![tactic(auto)]

@@ -71,7 +71,7 @@ pub enum SetFault {
     /// The value does not fit the others now.
     #[error("inconsistent value")]
     InconsistentValue,
-    /// There is no room for it.
+    /// There is no place for it.
     #[error("resource unavailable")]
     ResourceUnavailable,
 }

@@ -41,7 +41,7 @@ fn look<O: MibObject, L: Ledger>(
 }
 
 /// The place of the object whose name begins a name, or, where none does, the one behind those with
-/// lesser names. Each turn of the search is one look.
+/// lesser names. Each turn of the search compares one name.
 pub fn place_of<O: MibObject, L: Ledger>(
     objects: &[O],
     name: &[u32],
@@ -102,7 +102,7 @@ fn is_owner<O: MibObject>(objects: &[O], name: &[u32], place: usize) -> bool
     begins(prefix, name)
 }
 
-/// The same, with a look at two places ahead of the search: `near`, and the one behind it. `near`
+/// The same, with a comparison at two places ahead of the search: `near`, and the one behind it. `near`
 /// may be any number; a walk hands in the place that it found last.
 pub fn place_near<O: MibObject>(objects: &[O], name: &[u32], near: usize) -> Result<usize, usize>
     requires { first_fault (rows_of (map O.state objects.now)) ≡ None }

@@ -23,7 +23,7 @@ use vacm_core::{FamilyAnswer, Name};
 pub enum VariableFault {
     /// Its name is not in the view: by this family row, or by none.
     NoAccess(FamilyAnswer),
-    /// Its object refuses it, or no object has it, or the Set has no room for it.
+    /// Its object refuses it, or no object has it, or the Set has no place for it.
     Refused(SetFault),
 }
 
@@ -140,7 +140,7 @@ impl<'a, O: MibObject, const PLACES: usize> Staging<'a, O, PLACES> {
     ///
     /// # Errors
     /// The first fault of the variable. Nothing is staged then, and nothing reserved; but where it
-    /// is the want of room in the Set, the slot that the object reserved stays until this is
+    /// is the want of a place in the Set, the slot that the object reserved stays until this is
     /// dropped.
     pub fn stage(
         &mut self,

@@ -3,9 +3,9 @@
 //! view families (RFC 3415, vacmViewTreeFamilyTable).
 //!
 //! # Entry points
-//! [`SettingKey`], [`SettingValue`]: plain data. Of what stands above, `setphase_core` alone tells
-//! their kinds apart. [`SettingKeys`]: a list of keys of a bridge's settings, which are those that a
-//! Set may fail to put back; each stands there as a [`ListedKey`]. A list has [`MAX_KEYS`] keys at
+//! [`SettingKey`], [`SettingValue`]: plain data. Of the crates above, `setphase_core` alone
+//! distinguishes their kinds. [`SettingKeys`]: a list of keys of a bridge's settings, which are those that a
+//! Set may fail to restore; each stands there as a [`ListedKey`]. A list has [`MAX_KEYS`] keys at
 //! most.
 //!
 //! # Definitions
@@ -15,7 +15,7 @@
 //! None.
 //!
 //! # Not claimed
-//! What a key's range is: that is said where the settings are kept.
+//! What a key's range is: `setphase_core` defines that.
 #![tactic(auto)]
 
 ghost use Rattle.std.specs.Prelude.{◌≡◌, ◌<◌, ◌↔◌, [], ◌∷◌, length, IsTrue};
@@ -186,7 +186,7 @@ impl SettingKeys {
         }
     }
 
-    /// Puts a key in front, where there is room for it.
+    /// Puts a key in front, where there is a place for it.
     pub fn put_first(&mut self, key: Key)
         requires { length self.old < MAX_KEYS }
         ensures { self.new ≡ key ∷ self.old }
