@@ -1,4 +1,4 @@
-.PHONY: run serve lab test bench growths scripts udp-session hostile wrong-bodies
+.PHONY: run serve lab test bench growths scripts udp-session hostile endurance wrong-bodies
 
 # Answers some worked lines. It compiles and runs, and proves nothing.
 run:
@@ -51,6 +51,11 @@ udp-session:
 hostile:
 	cd crates/agentd && rt run < stdin > /dev/null
 	tools/hostile
+
+# Builds agentd, proved, and serves it for an hour under a mixed load, while it watches the resident memory.
+endurance:
+	cd crates/agentd && rt run < stdin > /dev/null
+	tools/endurance
 
 # Builds agentd, proved, and tries it as root, in network namespaces, between hosts, beside a Linux bridge and beside Open vSwitch.
 lab:
