@@ -21,14 +21,14 @@ use setphase_core::{MibObject, Registry, World};
 use std::alloc::Global;
 use std::io::{self, ErrorKind};
 use std::net::Net;
-use std::sync::Wait;
+use std::sync::{Arc, Wait};
 use std::thread::Threads;
 use std::time::Clock;
 use udp_agent::{
     LastingControl, LastingTicker, LastingWorker, ServeFault, Setup, Teller, UdpTicker, UdpWorker,
     setup_of,
 };
-use wire_core::{LastingWire, Pace, SecondPace, UdpWire, Wire};
+use wire_core::{LastingWire, Pace, SecondPace, Startup, UdpWire, Wire};
 
 /// What a configuration opens to be served.
 #[derive(Drop)]
@@ -119,7 +119,7 @@ pub fn serve_opened<'r, M: MibObject + Send, R: Threads + Wait + Net + Clock + S
 /// are done, and a second after its socket failed or there was no memory, until no number is left for
 /// an entry. It is logged what is served, and how the lines go on. Each worker has such a gate, by
 /// which its requests are audited or not. Where a control socket is handed in, an operator's commands are
-/// taken at it.
+/// taken at it. All lines are tasks of this start.
 ///
 /// # Errors
 /// As of [`udp_agent::serve_forever`]; also that there was no memory for the history.
@@ -131,6 +131,7 @@ pub fn serve_opened_forever<'r, M: MibObject + Send, R: Threads + Wait + Net + C
     opened: Opened,
     audits: &Auditing<'r>,
     control: Option<ControlSocket<&'r R>>,
+    startup: &Arc<Startup, Global>,
 ) -> io::Result<Vec<End>>
     ensures { IsServedForever
         ⟦<LastingWorker<'r, &'r R> as GatedWire>⟧.did
@@ -143,5 +144,14 @@ pub fn serve_opened_forever<'r, M: MibObject + Send, R: Threads + Wait + Net + C
         (fresh registry opened.world 0) result }
 {
     let kept = begin(alloc, registry, opened.world)?;
-    udp_agent::serve_forever(rt, alloc, version, &opened.setup, kept, audits, control)
+    udp_agent::serve_forever(
+        rt,
+        alloc,
+        version,
+        &opened.setup,
+        kept,
+        audits,
+        control,
+        startup,
+    )
 }

@@ -16,7 +16,8 @@
 //! # Not claimed
 //! That the words are those of the command line, that the objects that `main` makes are the 57 of
 //! `object_list`, which driver stands under dot1dStpPortEnable, that what is left to be served is
-//! served, at which path a control socket is made, the status then, and what is logged. What a file of the system holds and a terminal
+//! served, at which path a control socket is made, that the task which writes audits reports its begin, the
+//! status then, and what is logged. What a file of the system holds and a terminal
 //! shows.
 #![tactic(auto)]
 
@@ -32,14 +33,16 @@ use log::Log;
 use object_list::{COLUMNS, ColumnDescriptor, ENABLE, PlainObject};
 use setphase_core::{MibObject, Registry};
 use std::alloc::Global;
+use std::fmt::Display;
 use std::net::Net;
 use std::process::ExitCode;
 use std::rt::Files;
-use std::sync::Wait;
+use std::sync::{Arc, Wait};
 use std::thread::{Threads, join};
 use std::time::Clock;
 use std::{env, io};
 use udp_agent::{any_failed, tell_fault, tell_not_begun, tell_report};
+use wire_core::{Startup, TaskStart};
 
 fn main(rt: HostRuntime) -> ExitCode {
     let (mut reader, mut writer, mut errors) = (rt.reader(), io::writer(&rt), rt.stderr());
@@ -158,38 +161,52 @@ where
     O: io::Write + Send,
     R: Threads + Wait + Net + Files + Clock + Log + Sync,
 {
-    let control = match bind_path(rt, path) {
+    let startup = match Arc::new(alloc, Startup::new()) {
+        Ok(startup) => startup,
+        Err(why) => return not_begun(rt, &io::Error::from(why)),
+    };
+    let control = match bind_path(rt, path, &startup) {
         Ok(control) => control,
-        Err(why) => {
-            tell_not_begun(rt, &why);
-            return Err(Failure::Run);
-        }
+        Err(why) => return not_begun(rt, &why),
     };
     if audit {
-        serve_audited(rt, alloc, registry, opened, control, writer)
+        serve_audited(rt, alloc, registry, opened, control, &startup, writer)
     } else {
-        serve_forever(rt, alloc, registry, opened, &Auditing::Off, control)
+        let audits = Auditing::Off;
+        serve_forever(rt, alloc, registry, opened, &audits, control, &startup)
     }
 }
 
-// The control socket at a path, if there is one.
+// Nothing was served: logs why.
+fn not_begun<R: Log, E: Display>(rt: &R, why: &E) -> Result<(), Failure<'static>> {
+    tell_not_begun(rt, why);
+    Err(Failure::Run)
+}
+
+// The control socket at a path, if there is one, whose task is one of this start.
 fn bind_path<'r, R: Net + Files>(
     rt: &'r R,
     path: Option<&str>,
+    startup: &Arc<Startup, Global>,
 ) -> Result<Option<ControlSocket<&'r R>>, ControlFault> {
     match path {
-        Some(path) => Ok(Some(bind_control(rt, rt, path)?)),
+        Some(path) => {
+            let start = TaskStart::new(startup)?;
+            Ok(Some(bind_control(rt, rt, path, start)?))
+        }
         None => Ok(None),
     }
 }
 
-// The same as `serve_forever`, where the audit of each request is written, by a thread of its own.
+// The same as `serve_forever`, where the audit of each request is written, by a thread of its own, which
+// reports that it has begun.
 fn serve_audited<'r, M, O, R>(
     rt: &'r R,
     alloc: Global,
     registry: Registry<M>,
     opened: Opened,
     control: Option<ControlSocket<&'r R>>,
+    startup: &Arc<Startup, Global>,
     writer: &mut O,
 ) -> Result<(), Failure<'static>>
 where
@@ -199,24 +216,25 @@ where
 {
     let (offered, lines) = match audit_queue(alloc) {
         Ok(ends) => ends,
-        Err(why) => {
-            tell_not_begun(rt, &io::Error::from(why));
-            return Err(Failure::Run);
-        }
+        Err(why) => return not_begun(rt, &io::Error::from(why)),
     };
     let backlog = AuditBacklog::new();
     let audits = Auditing::On(QueuedAudits::new(alloc, offered, &backlog));
-    // Where no thread can be made, the agent is served here, and what waits is written behind that.
+    // Where no thread can be made, the agent is served here until its start has failed, and what waits is
+    // written behind that.
     let ((), served) = join(
         rt,
-        || write_audits(rt, alloc, &lines, writer, &backlog),
-        move || serve_forever(rt, alloc, registry, opened, &audits, control),
+        || {
+            startup.report();
+            write_audits(rt, alloc, &lines, writer, &backlog)
+        },
+        move || serve_forever(rt, alloc, registry, opened, &audits, control, startup),
     );
     served
 }
 
-// Serves without an end, and logs how the lines go on, or why nothing was served. It has failed where
-// nothing was, or where all lines have ended and one of them failed.
+// Serves without an end, and logs how the lines go on, or why nothing was served, also where a task of this
+// start had not begun in time. It has failed then, or where all lines have ended and one of them failed.
 fn serve_forever<'r, M: MibObject + Send, R: Threads + Wait + Net + Clock + Log + Sync>(
     rt: &'r R,
     alloc: Global,
@@ -224,14 +242,14 @@ fn serve_forever<'r, M: MibObject + Send, R: Threads + Wait + Net + Clock + Log 
     opened: Opened,
     audits: &Auditing<'r>,
     control: Option<ControlSocket<&'r R>>,
+    startup: &Arc<Startup, Global>,
 ) -> Result<(), Failure<'static>> {
-    match serve_opened_forever(rt, alloc, VERSION, registry, opened, audits, control) {
+    match serve_opened_forever(
+        rt, alloc, VERSION, registry, opened, audits, control, startup,
+    ) {
         Ok(ends) if any_failed(ends.as_slice()) => Err(Failure::Run),
         Ok(_) => Ok(()),
-        Err(why) => {
-            tell_not_begun(rt, &why);
-            Err(Failure::Run)
-        }
+        Err(why) => not_begun(rt, &why),
     }
 }
 

@@ -1,4 +1,5 @@
 //! Sends a command to a control socket, and takes the answer.
+use crate::connecting::connect;
 use crate::reading::{COMMAND_WAIT_MILLIS, time_left};
 use std::alloc::Global;
 use std::io::{self, ErrorKind, Read, Write};
@@ -14,18 +15,18 @@ const PART: usize = 4096;
 
 /// Sends a command to the agent whose control socket has this path, and gives what it answers within
 /// two seconds; nothing is an answer too, as to a link by which no port sends, where the whole command
-/// was sent.
+/// was sent. Where as many others wait there as the system lets wait, it connects within two seconds.
 ///
 /// # Errors
-/// That of the system, `TimedOut` where the answer did not end in the time, or that there was no memory
-/// for it.
+/// That of the system, `TimedOut` where it could not connect, or the answer did not end, in the time, or
+/// that there was no memory for the answer.
 pub fn ask_agent<R: Net + Clock>(
     rt: &R,
     alloc: Global,
     path: &str,
     command: &[u8],
 ) -> io::Result<Vec<u8>> {
-    let stream = UnixStream::connect(rt, path)?;
+    let stream = connect(rt, path)?;
     stream.set_write_timeout(Some(Duration::from_millis(COMMAND_WAIT_MILLIS)))?;
     // An agent that has read enough of a command answers and ends the connection.
     let taken = (&mut &stream).write_all(command);

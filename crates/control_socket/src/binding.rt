@@ -8,9 +8,10 @@ use std::fs::{self, Permissions};
 use std::io::ErrorKind;
 use std::net::Net;
 use std::os::unix::fs::{FileTypeExt, MetadataExt, PermissionsExt};
-use std::os::unix::net::{UnixListener, UnixStream};
+use std::os::unix::net::UnixListener;
 use std::path::Path;
 use std::rt::Files;
+use wire_core::TaskStart;
 
 // The mode of the socket: its owner alone may connect to it.
 const SOCKET_MODE: u32 = 0o600;
@@ -20,7 +21,7 @@ const OWN_PROCESS: &str = "/proc/self";
 
 /// Makes the control socket at a path, for its owner alone. Its directory has to be that of the user by
 /// whom the agent runs, and closed to all others: else nothing is removed or made. A socket at which
-/// nobody answers any more is removed first.
+/// nobody answers any more is removed first. Its task has such a part in the agent's start.
 ///
 /// # Errors
 /// Why there is none.
@@ -28,6 +29,7 @@ pub fn bind_control<R: Files + Net, C: Drop>(
     rt: &R,
     clock: C,
     path: &str,
+    start: TaskStart,
 ) -> Result<ControlSocket<C>, ControlFault> {
     if let Some(fault) = owner_fault(owner_of_directory(rt, path)?, own_user(rt)?) {
         return Err(fault);
@@ -35,7 +37,7 @@ pub fn bind_control<R: Files + Net, C: Drop>(
     clear_place(rt, path)?;
     let listener = UnixListener::bind(rt, path)?;
     fs::set_permissions(rt, path, Permissions::from_mode(SOCKET_MODE))?;
-    ControlSocket::new(listener, clock)
+    ControlSocket::new(listener, clock, start)
 }
 
 // The user by whom the agent runs: the owner of what the system says of this process.
@@ -92,7 +94,8 @@ fn clear_place<R: Files + Net>(rt: &R, path: &str) -> Result<(), ControlFault> {
     if !found.file_type().is_socket() {
         return Err(ControlFault::OtherFile);
     }
-    match UnixStream::connect(rt, path) {
+    // (where as many wait as the system lets, the agent that is there answers later)
+    match mio::net::UnixStream::connect(rt, path) {
         Err(error) if error.kind() == ErrorKind::ConnectionRefused => {
             fs::remove_file(rt, path)?;
             Ok(())

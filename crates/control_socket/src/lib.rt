@@ -3,7 +3,8 @@
 //! # Entry points
 //! [`bind_control`] makes a [`ControlSocket`] at a path, or gives the [`ControlFault`] for which there
 //! is none. The socket is a `Wire`: a receive gives the command of one connection, and the send behind
-//! it answers over that connection, and ends it. [`ask_agent`] is the other end: it sends a command to
+//! it answers over that connection, and ends it. It takes none until all tasks of the agent's start have
+//! begun. [`ask_agent`] is the other end: it sends a command to
 //! such a socket, and gives what is answered; [`link_command`], [`policy_command`] and [`COUNTS`] are the
 //! commands, and [`is_refusal`] says whether an answer refuses one.
 //!
@@ -16,13 +17,15 @@
 //! failure. On a send: none fails.
 //!
 //! # Not claimed
-//! What comes over a connection, and what of an answer arrives; how long a wait is; what a path names,
+//! What comes over a connection, and what of an answer arrives; how long a wait is; that no connection is
+//! taken before all tasks have begun, and that the socket is closed only where one had not; what a path names,
 //! and that a socket is made only in a directory of which nothing is wrong.
 #![tactic(auto)]
 
 mod asking;
 mod binding;
 mod command;
+mod connecting;
 mod fault;
 mod reading;
 mod socket;

@@ -1,6 +1,7 @@
 //! The wire over the control socket.
-ghost use Rattle.std.specs.Prelude.{◌≡◌, length};
-ghost use Rattle.wire_core.specs.Acts.{IsWithin};
+ghost use Rattle.std.specs.Prelude.{◌≡◌, length, IfOk, IfErr, OnOk, OnErr};
+ghost use Rattle.wire_core.specs.Acts.{IsWithin, one_more};
+ghost use Rattle.wire_core.specs.declared.wire.WireFault.TheVariants.{Receive};
 
 use crate::fault::ControlFault;
 use crate::reading::{COMMAND_WAIT_MILLIS, read_command};
@@ -9,7 +10,7 @@ use std::net::{IpAddr, Ipv4Addr, SocketAddr};
 use std::os::unix::net::{UnixListener, UnixStream};
 use std::thread;
 use std::time::{Clock, Duration};
-use wire_core::{Received, Wire, WireFault};
+use wire_core::{Received, TaskStart, Wire, WireFault};
 
 /// How long a receive waits for an operator, in milliseconds: 1,000.
 pub const OPERATOR_WAIT_MILLIS: u64 = 1000;
@@ -21,26 +22,35 @@ const PAUSE_MILLIS: u64 = 20;
 /// gives nothing then. Of a connection it reads one command, for `COMMAND_WAIT_MILLIS` at most: one that
 /// is not whole in that time, or of which nothing comes, is passed over, and its connection ended.
 ///
+/// Its first receive reports that its task has begun. Until all tasks of the agent's start have begun it
+/// takes no connection, and where the start has failed, before a receive or behind it, it is closed.
+///
 /// A send answers the command that was received last, over its connection, and ends it. None fails: an
 /// operator who is gone, or does not read, loses the answer. All peers are one: the operator.
 #[derive(Drop)]
 pub struct ControlSocket<C> {
     listener: UnixListener,
     clock: C,
+    start: TaskStart,
     operator: Option<UnixStream>,
     failures: u64,
 }
 
 impl<C: Drop> ControlSocket<C> {
-    /// A wire over this socket, with a clock by which it waits.
+    /// A wire over this socket, with a clock by which it waits, and its task's part in the start.
     ///
     /// # Errors
     /// That of the system.
-    pub(crate) fn new(listener: UnixListener, clock: C) -> Result<ControlSocket<C>, ControlFault> {
+    pub(crate) fn new(
+        listener: UnixListener,
+        clock: C,
+        start: TaskStart,
+    ) -> Result<ControlSocket<C>, ControlFault> {
         listener.set_nonblocking(true)?;
         Ok(ControlSocket {
             listener,
             clock,
+            start,
             operator: None,
             failures: 0,
         })
@@ -51,15 +61,41 @@ impl<C: Clock + Drop> ControlSocket<C> {
     // Waits for a connection.
     fn accept(&self) -> io::Result<Option<UnixStream>> {
         for _ in 0..OPERATOR_WAIT_MILLIS / PAUSE_MILLIS {
-            match self.listener.accept() {
-                Ok((stream, _)) => return Ok(Some(stream)),
-                Err(error) if gave_nobody(error.kind()) => {
-                    thread::sleep(&self.clock, Duration::from_millis(PAUSE_MILLIS));
-                }
-                Err(error) => return Err(error),
+            match self.accept_once() {
+                Ok(None) => thread::sleep(&self.clock, Duration::from_millis(PAUSE_MILLIS)),
+                accepted => return accepted,
             }
         }
         Ok(None)
+    }
+
+    // A connection that waits, if there is one and all tasks have begun.
+    fn accept_once(&self) -> io::Result<Option<UnixStream>> {
+        if !self.start.is_complete() {
+            return Ok(None);
+        }
+        match self.listener.accept() {
+            Ok((stream, _)) => Ok(Some(stream)),
+            Err(error) if gave_nobody(error.kind()) => Ok(None),
+            Err(error) => Err(error),
+        }
+    }
+
+    // The next operator's command, if one comes in the time.
+    fn receive_command(&mut self, into: &mut [u8]) -> Result<Received, WireFault>
+        ensures within { IfOk result (IsWithin (length into.new)) }
+        ensures fault { IfErr result (λ fault. fault ≡ Receive) }
+        ensures kept { OnOk result (self.new.failures ≡ self.old.failures) }
+        ensures failed { OnErr result (self.new.failures ≡ one_more self.old.failures) }
+    {
+        match self.accept() {
+            Ok(Some(stream)) => Ok(self.take_command(stream, into)),
+            Ok(None) => Ok(Received::Nothing),
+            Err(_) => {
+                self.failures = self.failures.saturating_add(1);
+                Err(WireFault::Receive)
+            }
+        }
     }
 
     // Reads the command of a connection, which is kept for its answer.
@@ -91,14 +127,14 @@ impl<C: Clock + Drop> Wire for ControlSocket<C> {
 
     fn receive(&mut self, into: &mut [u8]) -> Result<Received, WireFault> {
         self.operator = None;
-        match self.accept() {
-            Ok(Some(stream)) => Ok(self.take_command(stream, into)),
-            Ok(None) => Ok(Received::Nothing),
-            Err(_) => {
-                self.failures = self.failures.saturating_add(1);
-                Err(WireFault::Receive)
-            }
+        if self.start.is_to_end(&self.clock) {
+            return Ok(Received::Closed);
         }
+        let received = self.receive_command(into)?;
+        if self.start.is_to_end(&self.clock) {
+            return Ok(Received::Closed);
+        }
+        Ok(received)
     }
 
     fn send(&mut self, _peer: SocketAddr, octets: &[u8]) -> Result<(), WireFault> {

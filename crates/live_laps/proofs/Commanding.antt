@@ -1,4 +1,4 @@
--- An interval of the control line, whose items nobody kept.
+-- An interval of the control line, whose items were reported, and kept by nobody.
 use Rattle.std.proofs.Common.{ℕ, List, refl}
 use Rattle.live_agent.specs.Lines.{Setting}
 use Rattle.live_agent.specs.declared.trace.End.{End}

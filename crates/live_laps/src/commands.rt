@@ -14,11 +14,13 @@ use setphase_core::MibObject;
 use std::alloc::AllocError;
 use std::sync::Wait;
 
-// Keeps no item of a command.
+// Reports each item of a command to a line's watch, and keeps none.
 #[derive(Drop)]
-struct NoItems;
+struct WatchItems<'w, V> {
+    watch: &'w V,
+}
 
-impl ControlRecorder for NoItems {
+impl<V: Watch> ControlRecorder for WatchItems<'_, V> {
     ghost went = { λ _ _ _. Unit };
 
     ghost has_room = { λ _. Unit };
@@ -31,7 +33,9 @@ impl ControlRecorder for NoItems {
         Ok(())
     }
 
-    fn record(&mut self, _item: ControlItem) {}
+    fn record(&mut self, item: ControlItem) {
+        self.watch.commanded(&item);
+    }
 }
 
 // What a line's watch counts of drops, for an operator.
@@ -65,7 +69,7 @@ fn counts_of(drops: Drops) -> DropCounts {
 }
 
 /// An interval of the control line of so many ports, and how it ended. An operator who asks for the
-/// counts is answered what the watch gives then.
+/// counts is answered what the watch gives then. What became of each command is reported to the watch.
 pub(crate) fn command_lap<O: MibObject, L: Run, C: ControlWire, V: Watch, R: Wait>(
     rt: &R,
     plan: &Plan,
@@ -82,8 +86,7 @@ pub(crate) fn command_lap<O: MibObject, L: Run, C: ControlWire, V: Watch, R: Wai
 {
     let mut room = [0u8; COMMAND_ROOM];
     let tally = WatchTally { watch };
-    let (end, NoItems) = control_run(
-        rt, plan, ports, &tally, live, share, wire, &mut room, NoItems,
-    );
+    let items = WatchItems { watch };
+    let (end, _items) = control_run(rt, plan, ports, &tally, live, share, wire, &mut room, items);
     end
 }

@@ -6,8 +6,8 @@
 //! is one, of a control wire, runs each
 //! in a thread of its own until it is ended, and gives back the lines, the history, and how each
 //! ended. Each line has a [`Watch`] ([`Watched`]), to which each interval of a worker and of the
-//! ticker, each fault and the line's end is reported, and a pace, by which it waits behind a fault
-//! before it begins anew. An [`IntervalSum`] takes the items of an interval. A [`LineName`] is what a
+//! ticker, each command of an operator, each fault and the line's end is reported, and a pace, by which it
+//! waits behind a fault before it begins anew. An [`IntervalSum`] takes the items of an interval. A [`LineName`] is what a
 //! line is called, a [`Worked`] what workers did in intervals, with its [`Drops`] by cause, a [`Book`]
 //! what all did so far.
 //!
@@ -26,7 +26,8 @@
 //!
 //! # Not claimed
 //! That a line ends; how long a pace waits; that two threads run at the same time; what a [`Book`]
-//! holds, nor what an operator is answered of it; that an interval is reported before the next one begins.
+//! holds, nor what an operator is answered of it; that an interval is reported before the next one begins;
+//! that a command of an operator is reported.
 #![tactic(auto)]
 
 mod book;

@@ -28,7 +28,8 @@ fn room_for(alloc: Global, lines: usize) -> Result<Vec<End>, AllocError>
 /// memory, the line waits as its own pace does, and begins the next, or ends where that pace says
 /// `false`. Each interval of a worker and of the ticker, each fault and the line's end is reported to
 /// the line's watch. Where the system makes no thread more, a line begins once those that it was to
-/// run beside have ended, which is never while they go on.
+/// run beside have ended, which is never while they go on; so wires may be closed, and paces end, where
+/// one line does not begin (`wire_core::Startup`).
 ///
 /// Gives back the history, the lines, and how each ended.
 ///

@@ -4,6 +4,7 @@ ghost use Rattle.std.specs.Prelude.{◌≡◌};
 use crate::book::{Drops, Worked};
 use crate::line::LineName;
 use live_agent::End;
+use live_control::ControlItem;
 use live_lock::Counts;
 use std::sync::Wait;
 
@@ -23,6 +24,10 @@ pub trait Watch: Drop {
 
     /// The datagrams that each cause dropped so far, for an operator who asks for them.
     fn dropped<R: Wait>(&self, rt: &R) -> Drops;
+
+    /// Behind each command of an operator, once it was answered: what became of it. No clause says what
+    /// is done with that.
+    fn commanded(&self, item: &ControlItem);
 
     /// At the end of each interval of a worker: its counts.
     fn worked<R: Wait>(&mut self, rt: &R, worked: Worked)

@@ -1,5 +1,5 @@
 -- The lines of a setup, and what they have in common.
-use Rattle.std.specs.Prelude.{◌≡◌, Bool, map, Some, vec_len, length, All}
+use Rattle.std.specs.Prelude.{◌≡◌, ℕ, ◌+◌, Bool, true, false, map, Some, vec_len, length, All}
 use Rattle.live_agent.specs.declared.gate.Gated.{Gated}
 use Rattle.live_agent.specs.declared.plan.Plan.{Plan}
 use Rattle.live_audit.specs.Audited.{is_audited}
@@ -27,3 +27,14 @@ is_audited_worker worker = is_audited worker.gate
 abbrev pub AreAudited : {A W T : Type 0} → (A → Bool) → Bool → Lines A W T → Type 0
 AreAudited is_worker_audited asked lines =
     All (λ worker. is_worker_audited worker ≡ asked) lines.workers.items
+
+-- one, where there is such a task
+abbrev pub one_where : Bool → ℕ
+one_where true = 1
+one_where false = 0
+
+-- The tasks of an agent without an end: its workers, its ports, its clock, and where there is one, the
+-- task that writes audits, and the line of the control socket.
+abbrev pub tasks_of : ℕ → ℕ → Bool → Bool → ℕ
+tasks_of workers ports audited controlled =
+    workers + ports + 1 + one_where audited + one_where controlled

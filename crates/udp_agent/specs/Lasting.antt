@@ -68,7 +68,7 @@ module _ {A W T C V P : Type 0} (worker_did : A → List Deed → A → Type 0) 
     pub served : HaveServed watch pace plan start run control ends
 
   -- What comes of a setup that is served without an end: nothing is said of where its sockets could
-  -- not be bound, or where there was no memory to begin with.
+  -- not be bound, where there was no memory to begin with, or where a task had not begun in time.
   abbrev pub IsServedForever : (A → Bool) → Setup → Bool → Bool → History
       → Result (Vec End Global) Error → Type 0
   IsServedForever is_worker_audited setup asked controlled start (Ok ends) =

@@ -1,7 +1,7 @@
 //! Serves an agent without an end.
-ghost use Rattle.std.specs.Prelude.{◌≡◌, ◌<◌, ◌^◌, ◌-◌, true, false, vec_len, IfOk, is_some};
+ghost use Rattle.std.specs.Prelude.{◌≡◌, ◌<◌, ◌^◌, ◌-◌, true, false, vec_len, IfOk, OnOk, OnErr, is_some};
 ghost use Rattle.live_audit.specs.Audited.{is_audited};
-ghost use Rattle.udp_agent.specs.Binding.{is_audited_worker};
+ghost use Rattle.udp_agent.specs.Binding.{is_audited_worker, tasks_of};
 ghost use Rattle.udp_agent.specs.Lasting.{is_failure, is_any_failure, IsServingForever, IsServedForever};
 
 use crate::binding::plan_of;
@@ -19,16 +19,22 @@ use live_run::Lines;
 use log::Log;
 use setphase_core::MibObject;
 use std::alloc::{AllocError, Global};
-use std::io;
+use std::io::{self, ErrorKind};
 use std::net::Net;
 use std::sync::{Arc, Wait};
 use std::thread::Threads;
 use std::time::Clock;
-use wire_core::{LastingWire, Pace, SecondPace, SendingSockets, WholeSecondPace, Wire};
+use wire_core::{
+    LastingWire, Pace, SecondPace, SendingSockets, StartingPace, Startup, TaskStart, Wire,
+};
 
 /// The wire of the ticker of an agent without an end, at a pace of a tick at each whole second since
-/// its start by a clock.
-pub type LastingTicker<C> = Paced<LastingWire<C>, WholeSecondPace<C>>;
+/// its start by a clock, which ends where a task had not begun in time.
+pub type LastingTicker<C> = Paced<LastingWire<C>, StartingPace<C>>;
+
+// What is reported where a task had not begun in time.
+const TASK_NOT_BEGUN: &str =
+    "a task did not begin within 5 seconds: the system may make no thread more";
 
 // Whether a line that ended so failed: by its wire, or for want of memory.
 fn is_failure(end: End) -> bool
@@ -83,17 +89,46 @@ pub fn serve_lines_forever<
     answer
 }
 
+// How many tasks these lines are, with the task that writes audits and the line of the control socket,
+// where there are such.
+fn tasks_of<A, W, T>(lines: &Lines<A, W, T>, is_audited: bool, is_controlled: bool) -> u64
+    requires few { (vec_len lines.now.workers < 2 ^ 16 - 1) × (vec_len lines.now.ports < 2 ^ 16 - 1) }
+    ensures { result
+        ≡ tasks_of (vec_len lines.now.workers) (vec_len lines.now.ports) is_audited is_controlled }
+{
+    let (workers, ports) = (lines.workers.len() as u64, lines.ports.len() as u64);
+    workers + ports + 1 + u64::from(is_audited) + u64::from(is_controlled)
+}
+
+// Nothing, unless the start has failed.
+fn refuse_failed(has_failed: bool) -> io::Result<()>
+    ensures ok { OnOk result (has_failed ≡ false) }
+    ensures err { OnErr result (has_failed ≡ true) }
+{
+    if has_failed {
+        Err(io::Error::new(ErrorKind::TimedOut, TASK_NOT_BEGUN))
+    } else {
+        Ok(())
+    }
+}
+
 /// Serves an agent of this version over UDP without an end: binds the sockets of a setup, logs what it
 /// serves, and runs its lines over a history as [`serve_lines_forever`] does. No send of theirs fails:
 /// a datagram that the system refuses is lost. A line waits for a second behind a fault of its socket
 /// or want of memory, and begins anew. At the end of each interval of the ticker it logs what all did so
 /// far, and what was lost; where a fault ended an interval, and where a line ends, why. Each worker has
 /// such a gate, by which its requests are audited or not. Where a control socket is handed in, an
-/// operator's commands are taken at it; what the ports send of them goes as their frames do.
+/// operator's commands are taken at it, and it is logged what became of each; what the ports send of them
+/// goes as their frames do.
+///
+/// All lines are tasks of this start, and with them the task that writes audits, which reports of itself.
+/// Where one had not begun within `STARTUP_WAIT_MILLIS`, as where the system makes no thread more, all
+/// lines end.
 ///
 /// # Errors
 /// That of the system where a socket could not be bound, or that there was no memory for what the
-/// lines share, before any line ran; no clause says that.
+/// lines share, before any line ran; `TimedOut`, once all lines have ended, where a task had not begun in
+/// time; no clause says that.
 pub fn serve_forever<'r, O: MibObject + Send, R: Threads + Wait + Net + Clock + Log + Sync>(
     rt: &'r R,
     alloc: Global,
@@ -102,6 +137,7 @@ pub fn serve_forever<'r, O: MibObject + Send, R: Threads + Wait + Net + Clock + 
     kept: Kept<O>,
     audits: &Auditing<'r>,
     control: Option<ControlSocket<&'r R>>,
+    startup: &Arc<Startup, Global>,
 ) -> io::Result<Vec<End>>
     ensures { IsServedForever
         ⟦<LastingWorker<'r, &'r R> as GatedWire>⟧.did
@@ -117,10 +153,11 @@ pub fn serve_forever<'r, O: MibObject + Send, R: Threads + Wait + Net + Clock + 
         alloc,
         SendingSockets::bind(rt, alloc, plan.peers.as_slice())?,
     )?;
-    let pace = WholeSecondPace::new(rt)?;
-    let lines = bind_lasting(rt, rt, pace, alloc, setup, &sending, audits)?;
+    let pace = StartingPace::new(rt, TaskStart::new(startup)?)?;
+    let lines = bind_lasting(rt, rt, pace, alloc, setup, &sending, startup, audits)?;
     let control = control_wire(lines.ports.as_slice(), control)?;
-    log_ready(rt, version, setup, audits.backlog().is_some());
+    let is_audited = audits.backlog().is_some();
+    log_ready(rt, version, setup, is_audited);
     let book = Book::new();
     let watch = Teller {
         rt,
@@ -128,7 +165,9 @@ pub fn serve_forever<'r, O: MibObject + Send, R: Threads + Wait + Net + Clock + 
         losses: sending.losses(),
         audits: audits.backlog(),
     };
+    startup.expect(rt, tasks_of(&lines, is_audited, control.is_some()));
     // Of want of memory `?` makes an error of the system.
     let ends = serve_lines_forever(rt, &plan, watch, SecondPace::new(rt), kept, lines, control)?;
+    refuse_failed(startup.has_failed(rt))?;
     Ok(ends)
 }

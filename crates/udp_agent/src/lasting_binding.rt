@@ -16,7 +16,7 @@ use std::io::{self, ErrorKind};
 use std::net::Net;
 use std::sync::Arc;
 use std::time::Clock;
-use wire_core::{LastingWire, Pace, SendingSockets};
+use wire_core::{LastingWire, Pace, SendingSockets, Startup};
 
 /// The wire of a worker of an agent without an end, whose gate holds nobody, and may be asked for
 /// audits.
@@ -33,6 +33,19 @@ pub type LastingLines<'b, C, P> = Lines<
     Paced<LastingWire<C>, P>,
 >;
 
+// The wire of a thread that answers requests, over this socket, audited or not.
+fn worker_over<'b, C: Clock + Copy + Drop>(
+    socket: &LastingWire<C>,
+    audits: &Auditing<'b>,
+) -> io::Result<LastingWorker<'b, C>>
+    ensures { IfOk result (λ worker. is_audited_worker worker ≡ is_audited audits.now) }
+{
+    Ok(Gated {
+        wire: socket.share()?,
+        gate: audits.another()?,
+    })
+}
+
 // The wires of the threads that answer requests, which share one socket, audited or not.
 fn bind_workers<'b, R: Net, C: Clock + Copy + Drop>(
     rt: &R,
@@ -40,19 +53,17 @@ fn bind_workers<'b, R: Net, C: Clock + Copy + Drop>(
     alloc: Global,
     serve: &Serve,
     sending: &Arc<SendingSockets, Global>,
+    startup: &Arc<Startup, Global>,
     audits: &Auditing<'b>,
 ) -> io::Result<Vec<LastingWorker<'b, C>>>
     ensures workers { IfOk result (λ workers. vec_len workers ≡ serve.now.workers) }
     ensures audited { IfOk result (λ workers.
         All (λ worker. is_audited_worker worker ≡ is_audited audits.now) workers.items) }
 {
-    let socket = LastingWire::bind(rt, alloc, serve.snmp, sending, clock)?;
+    let socket = LastingWire::bind(rt, alloc, serve.snmp, sending, startup, clock)?;
     let mut workers = Vec::new(alloc);
     for _ in 0..serve.workers {
-        workers.push(Gated {
-            wire: socket.share()?,
-            gate: audits.another()?,
-        })?;
+        workers.push(worker_over(&socket, audits)?)?;
     }
     Ok(workers)
 }
@@ -64,13 +75,14 @@ fn bind_ports<R: Net, C: Clock + Copy + Drop>(
     alloc: Global,
     ports: &[Port],
     sending: &Arc<SendingSockets, Global>,
+    startup: &Arc<Startup, Global>,
 ) -> io::Result<Vec<LastingWire<C>>>
     ensures { IfOk result (λ wires. vec_len wires ≡ length ports.now) }
 {
     let mut wires = Vec::new(alloc);
     for port in ports {
         let listen = address_of(port.listen)?;
-        wires.push(LastingWire::bind(rt, alloc, listen, sending, clock)?)?;
+        wires.push(LastingWire::bind(rt, alloc, listen, sending, startup, clock)?)?;
     }
     Ok(wires)
 }
@@ -105,8 +117,9 @@ pub(crate) fn control_wire<C: Clock + Copy + Drop>(
 
 /// The lines of a setup that is served without an end: over sockets as those of `bind_lines`, but no
 /// send fails, and frames go by these sending sockets. The ticker ticks at this pace; receives that
-/// fail wait by this clock. Each worker has such a gate, and is audited where this one is. Clauses
-/// say that, and how many lines there are; which sockets they share is tested.
+/// fail wait by this clock. Each worker and each port is a task of this start. Each worker has such a
+/// gate, and is audited where this one is. Clauses say that, and how many lines there are; which sockets
+/// they share is tested.
 ///
 /// # Errors
 /// As of `bind_lines`.
@@ -117,6 +130,7 @@ pub fn bind_lasting<'b, R: Net, C: Clock + Copy + Drop, P: Pace>(
     alloc: Global,
     setup: &Setup,
     sending: &Arc<SendingSockets, Global>,
+    startup: &Arc<Startup, Global>,
     audits: &Auditing<'b>,
 ) -> io::Result<LastingLines<'b, C, P>>
     ensures lines { IfOk result (AreLines setup.now) }
@@ -124,8 +138,8 @@ pub fn bind_lasting<'b, R: Net, C: Clock + Copy + Drop, P: Pace>(
     ensures few { IfOk result (λ lines.
         (vec_len lines.workers < 2 ^ 16 - 1) × (vec_len lines.ports < 2 ^ 16 - 1)) }
 {
-    let workers = bind_workers(rt, clock, alloc, &setup.serve, sending, audits)?;
-    let ports = bind_ports(rt, clock, alloc, setup.ports.as_slice(), sending)?;
+    let workers = bind_workers(rt, clock, alloc, &setup.serve, sending, startup, audits)?;
+    let ports = bind_ports(rt, clock, alloc, setup.ports.as_slice(), sending, startup)?;
     let ticker = Paced {
         wire: share_first(ports.as_slice())?,
         pace,

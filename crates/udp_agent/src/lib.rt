@@ -9,13 +9,15 @@
 //! same without an end ([`serve_lines_forever`]), over lines of its own ([`bind_lasting`]) at which no
 //! send fails and whose workers may be audited (`live_audit`), and takes an operator's commands at a
 //! control socket, if it is handed one ([`LastingControl`]), logs what it serves ([`log_ready`]), and
-//! logs as it goes on; [`log_losses`] logs what could not be sent, [`any_failed`] says whether a line failed, [`tell_not_begun`] logs why nothing
+//! logs as it goes on, also what became of each command. Each of its tasks reports that it has begun
+//! (`wire_core::Startup`); where one does not in time, all end. [`log_losses`] logs what could not be sent, [`any_failed`] says whether a line failed, [`tell_not_begun`] logs why nothing
 //! was served.
 //!
 //! # Definitions
 //! `specs/Setups.antt`: what a setup holds; `specs/Binding.antt`: its lines, and what they have in
 //! common: a plan has the setup's rounds, address and peers, and the lines are a worker for each
-//! thread that is to answer and one for each port, and whether all workers are audited;
+//! thread that is to answer and one for each port, whether all workers are audited, and how many tasks
+//! there are;
 //! `specs/Serving.antt`: what comes of serving
 //! them; `specs/Lasting.antt`: the same without an end.
 //!
@@ -28,10 +30,12 @@
 //!
 //! # Not claimed
 //! To which addresses sockets are bound, and by which one a datagram goes; what UDP delivers; that a
-//! run ends; the text that is logged; that what could not be sent is.
+//! run ends; the text that is logged; that what could not be sent is, and each command; that all tasks
+//! begin, and that a start in which one does not fails.
 #![tactic(auto)]
 
 mod binding;
+mod commands;
 mod lasting;
 mod lasting_binding;
 mod losses;

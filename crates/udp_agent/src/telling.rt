@@ -1,8 +1,10 @@
 //! Logs what a run did, why it has no report, and how lines go on.
+use crate::commands::log_command;
 use crate::losses::log_losses;
 use crate::serving::ServeFault;
 use live_agent::End;
 use live_audit::AuditBacklog;
+use live_control::ControlItem;
 use live_laps::{Book, Drops, LineName, Watch, Worked};
 use live_lock::Counts;
 use live_run::{Report, RunFault};
@@ -44,9 +46,10 @@ pub fn tell_not_begun<R: Log, E: Display>(rt: &R, why: &E) {
 /// Logs how lines go on, by this log: at the end of each interval of the ticker what all did so far, by
 /// the book of all lines, in a line of level Info as that of [`tell_report`], and the drops by cause in
 /// another, with the requests of unknown communities and contexts that the world counts, and how many
-/// lines of audits were lost, if any were, in a line of level Warn; where a fault ended an
-/// interval, which line's and why, and how many there were so far, in a line of level Warn; where a
-/// line ends, which and why, in a line of level Error.
+/// lines of audits were lost, if any were, in a line of level Warn; behind each command of an operator but
+/// one for the counts, what became of it; where a fault ended an interval, which line's and why, and how
+/// many there were so far, in a line of level Warn; where a line ends, which and why, in a line of level
+/// Error.
 #[derive(Drop)]
 pub struct Teller<'r, R> {
     /// By which it logs.
@@ -105,6 +108,10 @@ impl<R: Log> Watch for Teller<'_, R> {
 
     fn dropped<S: Wait>(&self, rt: &S) -> Drops {
         self.book.read(rt).by_cause
+    }
+
+    fn commanded(&self, item: &ControlItem) {
+        log_command(self.rt, item);
     }
 
     fn worked<S: Wait>(&mut self, rt: &S, worked: Worked) {

@@ -8,3 +8,4 @@ pub mod PacingLaws
 pub mod Losses
 pub mod Lasting
 pub mod LastingLaws
+pub mod Startup

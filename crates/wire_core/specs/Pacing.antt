@@ -12,3 +12,10 @@ abbrev pub GoesOnForEver : List Bool → Type 0
 GoesOnForEver [] = Unit
 GoesOnForEver (true ∷ answers) = GoesOnForEver answers
 GoesOnForEver (false ∷ answers) = ⊥
+
+-- A pace that goes on until it has ended, by whether it has: true each time before, and false from then on.
+abbrev pub GoesOnUntilEnded : Bool → List Bool → Bool → Type 0
+GoesOnUntilEnded ended [] ended' = ended' ≡ ended
+GoesOnUntilEnded false (true ∷ answers) ended' = GoesOnUntilEnded false answers ended'
+GoesOnUntilEnded true (true ∷ answers) ended' = ⊥
+GoesOnUntilEnded ended (false ∷ answers) ended' = GoesOnUntilEnded true answers ended'

@@ -1,9 +1,12 @@
 //! A wire over a UDP socket, for an agent that is served without an end.
-ghost use Rattle.std.specs.Prelude.{◌≡◌, true, false};
+ghost use Rattle.std.specs.Prelude.{◌≡◌, true, false, length, IfOk, IfErr, OnOk, OnErr};
 ghost use Rattle.std.specs.IoError.{raw_os_error};
+ghost use Rattle.wire_core.specs.Acts.{IsWithin, one_more};
+ghost use Rattle.wire_core.specs.declared.wire.WireFault.TheVariants.{Receive};
 ghost use Rattle.wire_core.specs.Losses.{IsGone};
 
 use crate::sockets::SendingSockets;
+use crate::startup::{Startup, TaskStart};
 use crate::udp::{RECEIVE_WAIT_MILLIS, gave_nothing};
 use crate::wire::{Received, Wire, WireFault, count_failure};
 use std::alloc::Global;
@@ -34,17 +37,21 @@ const EOPNOTSUPP: i32 = 95;
 /// No send fails. What goes to the peer of a port goes by that peer's own socket, anything else by
 /// this one, at which a send waits as short as the system lets it. A datagram that the system refuses
 /// is lost, and counted by its cause among the [`SendingSockets`]' losses.
+///
+/// Its first receive reports to the agent's [`Startup`] that its task has begun. Where the start has
+/// failed, before a receive or behind it, the wire is closed, and what it received is passed over.
 #[derive(Drop)]
 pub struct LastingWire<C> {
     socket: Arc<UdpSocket, Global>,
     sending: Arc<SendingSockets, Global>,
     clock: C,
+    start: TaskStart,
     failures: u64,
 }
 
 impl<C: Clock + Copy> LastingWire<C> {
-    /// Binds a socket to an address, beside these sending sockets, with a clock by which a receive
-    /// that failed waits. Takes memory for what its wires share.
+    /// Binds a socket to an address, beside these sending sockets, as one of the tasks of this start, with
+    /// a clock by which a receive that failed waits. Takes memory for what its wires share.
     ///
     /// # Errors
     /// That of the system, or of a refused growth.
@@ -53,6 +60,7 @@ impl<C: Clock + Copy> LastingWire<C> {
         alloc: Global,
         address: SocketAddr,
         sending: &Arc<SendingSockets, Global>,
+        startup: &Arc<Startup, Global>,
         clock: C,
     ) -> io::Result<LastingWire<C>> {
         let socket = UdpSocket::bind(rt, address)?;
@@ -62,12 +70,13 @@ impl<C: Clock + Copy> LastingWire<C> {
             socket: Arc::new(alloc, socket)?,
             sending: Arc::try_clone(sending)?,
             clock,
+            start: TaskStart::new(startup)?,
             failures: 0,
         })
     }
 
-    /// Another wire over the same socket, with a count of failures of its own. A datagram that
-    /// comes is given to one of them.
+    /// Another wire over the same socket, of another task, with a count of failures of its own. A
+    /// datagram that comes is given to one of them.
     ///
     /// # Errors
     /// That there are as many wires over the socket as can be counted.
@@ -76,6 +85,7 @@ impl<C: Clock + Copy> LastingWire<C> {
             socket: Arc::try_clone(&self.socket)?,
             sending: Arc::try_clone(&self.sending)?,
             clock: self.clock,
+            start: self.start.another()?,
             failures: 0,
         })
     }
@@ -86,6 +96,28 @@ impl<C: Clock + Copy> LastingWire<C> {
     /// That of the system.
     pub fn local_addr(&self) -> io::Result<SocketAddr> {
         self.socket.local_addr()
+    }
+}
+
+impl<C: Clock + Drop> LastingWire<C> {
+    // What comes to the socket while it waits.
+    fn receive_from(&mut self, into: &mut [u8]) -> Result<Received, WireFault>
+        ensures within { IfOk result (IsWithin (length into.new)) }
+        ensures fault { IfErr result (λ fault. fault ≡ Receive) }
+        ensures kept { OnOk result (self.new.failures ≡ self.old.failures) }
+        ensures failed { OnErr result (self.new.failures ≡ one_more self.old.failures) }
+    {
+        match self.socket.recv_from(into) {
+            Ok((len, peer)) => Ok(Received::Datagram(len, peer)),
+            Err(error) if is_gone(&error) => {
+                Err(count_failure(&mut self.failures, WireFault::Receive))
+            }
+            Err(error) if gave_nothing(error.kind()) => Ok(Received::Nothing),
+            Err(_) => {
+                thread::sleep(&self.clock, Duration::from_millis(FAULT_WAIT_MILLIS));
+                Ok(Received::Nothing)
+            }
+        }
     }
 }
 
@@ -102,17 +134,14 @@ impl<C: Clock + Drop> Wire for LastingWire<C> {
     ghost goes_on = { λ _ _ _ xs ys before after. goes_on xs ys before after };
 
     fn receive(&mut self, into: &mut [u8]) -> Result<Received, WireFault> {
-        match self.socket.recv_from(into) {
-            Ok((len, peer)) => Ok(Received::Datagram(len, peer)),
-            Err(error) if is_gone(&error) => {
-                Err(count_failure(&mut self.failures, WireFault::Receive))
-            }
-            Err(error) if gave_nothing(error.kind()) => Ok(Received::Nothing),
-            Err(_) => {
-                thread::sleep(&self.clock, Duration::from_millis(FAULT_WAIT_MILLIS));
-                Ok(Received::Nothing)
-            }
+        if self.start.is_to_end(&self.clock) {
+            return Ok(Received::Closed);
         }
+        let received = self.receive_from(into)?;
+        if self.start.is_to_end(&self.clock) {
+            return Ok(Received::Closed);
+        }
+        Ok(received)
     }
 
     fn send(&mut self, peer: SocketAddr, octets: &[u8]) -> Result<(), WireFault> {

@@ -8,7 +8,10 @@
 //! which all such wires share, and a datagram that the system refuses is counted among its
 //! [`Losses`], by its [`Cause`] ([`cause_of`] an error). [`Pace`] says how long ticks go on:
 //! [`CountPace`] so many times, [`SecondPace`] each second behind what the tick before took,
-//! [`WholeSecondPace`] at each whole second since its start. A [`Packet`] is a datagram and its peer,
+//! [`WholeSecondPace`] at each whole second since its start, [`StartingPace`] the same for a task of an
+//! agent's start. A [`Startup`] says whether all tasks of an agent have begun, within
+//! [`STARTUP_WAIT_MILLIS`] milliseconds; each has a part in it, a [`TaskStart`], by which a lasting wire is
+//! closed, and such a pace ends, where the start has failed. A [`Packet`] is a datagram and its peer,
 //! [`Received`] what a receive gave, [`Given`] what a wire in memory is to give; what goes wrong is a
 //! [`WireFault`]. A receive over UDP is set to wait [`RECEIVE_WAIT_MILLIS`] milliseconds, and at a
 //! lasting wire [`FAULT_WAIT_MILLIS`] behind an error of a socket that is there. Errors above
@@ -19,6 +22,7 @@
 //! what a wire in memory gives and keeps; `specs/Failing.antt`: which acts a failing wire hands on;
 //! `specs/Lasting.antt`: acts of which no send failed; `specs/Losses.antt`: why a datagram was lost,
 //! and which errors say that a socket is gone; `specs/Pacing.antt`: what a pace answers;
+//! `specs/Startup.antt`: how long tasks have to begin;
 //! `specs/FailingLaws.antt`, `specs/LastingLaws.antt`, `specs/MemoryLaws.antt`,
 //! `specs/PacingLaws.antt`: that acts of each behind one another are one list.
 //!
@@ -28,7 +32,9 @@
 //! # Not claimed
 //! What UDP delivers, and how long a wait is: a wire over UDP tells its count of failures alone, and
 //! a lasting one also that no send failed. By which socket a datagram goes; that a datagram that was
-//! lost is counted, and what a count of [`Losses`] is; the system's words for a cause.
+//! lost is counted, and what a count of [`Losses`] is; the system's words for a cause. What a [`Startup`]
+//! decides, that a lasting wire reports to it and is closed by it alone, and where a [`StartingPace`] ends:
+//! that hangs on atomic numbers, of which no clause speaks.
 #![tactic(auto)]
 
 mod failing;
@@ -37,6 +43,7 @@ mod losses;
 mod memory;
 mod pace;
 mod sockets;
+mod startup;
 mod udp;
 mod wire;
 
@@ -44,7 +51,8 @@ pub use failing::FailingWire;
 pub use lasting::{FAULT_WAIT_MILLIS, LastingWire};
 pub use losses::{Cause, Losses, MAX_ERROR_NUMBER, cause_of};
 pub use memory::{Given, MemoryWire};
-pub use pace::{CountPace, Pace, SecondPace, WholeSecondPace};
+pub use pace::{CountPace, Pace, SecondPace, StartingPace, WholeSecondPace};
 pub use sockets::SendingSockets;
+pub use startup::{STARTUP_WAIT_MILLIS, Startup, TaskStart};
 pub use udp::{RECEIVE_WAIT_MILLIS, UdpWire};
 pub use wire::{Packet, Received, Wire, WireFault};

@@ -2,6 +2,7 @@
 ghost use Rattle.std.specs.Prelude.{◌≡◌, ◌*◌, ◌-◌};
 ghost use Rattle.std.specs.Duration.{as_nanos};
 
+use crate::startup::TaskStart;
 use std::marker::Model;
 use std::time::{Clock, Duration, Instant};
 use std::{io, thread};
@@ -161,5 +162,52 @@ impl<C: Clock + Drop> Pace for WholeSecondPace<C> {
         self.ticks = self.ticks.saturating_add(1);
         thread::sleep(&self.clock, self.wait_for(self.ticks));
         true
+    }
+}
+
+/// A pace of whole seconds, as [`WholeSecondPace`], of one of the tasks of an agent's start: its first
+/// answer reports that the task has begun. Where the start has failed, before the wait for a tick or
+/// behind it, the ticks end, once and for all; that they end only there, no clause says.
+#[derive(Drop)]
+pub struct StartingPace<C> {
+    pace: WholeSecondPace<C>,
+    clock: C,
+    start: TaskStart,
+    has_ended: bool,
+}
+
+impl<C: Clock + Copy + Drop> StartingPace<C> {
+    /// One that starts now by this clock, which may be a reference to the runtime.
+    ///
+    /// # Errors
+    /// That of the clock.
+    pub fn new(clock: C, start: TaskStart) -> io::Result<StartingPace<C>> {
+        Ok(StartingPace {
+            pace: WholeSecondPace::new(clock)?,
+            clock,
+            start,
+            has_ended: false,
+        })
+    }
+}
+
+impl<C: Clock + Copy + Drop> Pace for StartingPace<C> {
+    ghost use Rattle.wire_core.specs.Pacing.{GoesOnUntilEnded};
+    ghost use Rattle.wire_core.specs.PacingLaws.{ending_starts, ending_goes_on};
+
+    ghost went = { λ a answers b. GoesOnUntilEnded a.has_ended answers b.has_ended };
+
+    ghost starts = { λ a. ending_starts a.has_ended };
+
+    ghost goes_on = { λ a b c xs ys. ending_goes_on a.has_ended b.has_ended c.has_ended xs ys };
+
+    fn next(&mut self) -> bool {
+        if self.has_ended || self.start.is_to_end(&self.clock) {
+            self.has_ended = true;
+            return false;
+        }
+        let more = self.pace.next();
+        self.has_ended = !more || self.start.is_to_end(&self.clock);
+        !self.has_ended
     }
 }

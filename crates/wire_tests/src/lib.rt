@@ -1,8 +1,8 @@
 //! Tests of wires and paces by their traits: in memory, over UDP on this machine, without an end, and
-//! failing at a call.
+//! failing at a call; and of those whose tasks are of one start, with the control socket.
 //!
 //! # Entry points
-//! None: the tests call what `wire_core` offers.
+//! None: the tests call what `wire_core` and `control_socket` offer.
 //!
 //! # Definitions
 //! None.
@@ -15,6 +15,10 @@
 #![tactic(auto)]
 
 #[cfg(test)]
+mod clock;
+#[cfg(test)]
 mod paces;
+#[cfg(test)]
+mod startups;
 #[cfg(test)]
 mod wires;

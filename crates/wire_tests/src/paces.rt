@@ -1,60 +1,15 @@
 //! How long a pace of whole seconds waits, by a clock that a test sets.
-use std::cell::Cell;
-use std::io;
+use crate::clock::SetClock;
 use std::test::*;
-use std::time::{Clock, Duration};
 use wire_core::{Pace, WholeSecondPace};
-
-// A clock that stands still but for its sleeps, and where the test sets it on. It cannot be read
-// where it has no time.
-#[derive(Drop)]
-struct SetClock {
-    now: Cell<Option<Duration>>,
-    slept: Cell<Duration>,
-}
-
-impl SetClock {
-    // One that reads so many milliseconds.
-    fn at(millis: u64) -> SetClock {
-        SetClock {
-            now: Cell::new(Some(Duration::from_millis(millis))),
-            slept: Cell::new(Duration::ZERO),
-        }
-    }
-
-    // From now on it reads so many milliseconds.
-    fn set(&self, millis: u64) {
-        self.now.set(Some(Duration::from_millis(millis)));
-    }
-}
-
-impl Clock for SetClock {
-    fn monotonic(&self) -> io::Result<Duration> {
-        match self.now.get() {
-            Some(now) => Ok(now),
-            None => Err(io::Error::from(io::ErrorKind::Unsupported)),
-        }
-    }
-
-    fn since_1970(&self) -> io::Result<Duration> {
-        self.monotonic()
-    }
-
-    fn sleep(&self, duration: Duration) {
-        self.slept.set(duration);
-        if let Some(now) = self.now.get() {
-            self.now.set(Some(now.saturating_add(duration)));
-        }
-    }
-}
 
 // How many milliseconds a pace slept for its next tick by this clock.
 fn slept<P: Pace>(pace: &mut P, clock: &SetClock) -> Result<u128, &'static str> {
-    clock.slept.set(Duration::ZERO);
+    clock.forget_sleep();
     if !pace.next() {
         return Err("the pace ended");
     }
-    Ok(clock.slept.get().as_millis())
+    Ok(clock.slept_millis())
 }
 
 // What lies between two ticks moves none of those behind it.
@@ -93,7 +48,7 @@ fn seconds_that_passed_have_their_ticks(rt: HostRuntime) -> Result<(), Fail> {
 fn clock_may_fail(rt: HostRuntime) -> Result<(), Fail> {
     let clock = SetClock::at(0);
     let mut pace = WholeSecondPace::new(&clock)?;
-    clock.now.set(None);
+    clock.stop();
     let is_refused = WholeSecondPace::new(&clock).is_err();
     assert_eq!(rt; (is_refused, slept(&mut pace, &clock)?), (true, 1000));
     Ok(())

@@ -5,16 +5,16 @@ use std::sync::Arc;
 use std::test::*;
 use wire_core::{
     Cause, CountPace, FailingWire, Given, LastingWire, MemoryWire, Pace, Received, SecondPace,
-    SendingSockets, UdpWire, Wire, WireFault,
+    SendingSockets, Startup, UdpWire, Wire, WireFault,
 };
 
-fn loopback(port: u16) -> SocketAddr {
+/// An address of this machine.
+pub fn loopback(port: u16) -> SocketAddr {
     SocketAddr::new(IpAddr::V4(Ipv4Addr::LOCALHOST), port)
 }
 
-// What a receive of up to four octets gave: the peer's port, how many octets, and the first of
-// them.
-fn receipt<W: Wire>(wire: &mut W) -> Result<Option<(u16, usize, u8)>, &'static str> {
+/// What a receive of up to four octets gave: the peer's port, how many octets, and the first of them.
+pub fn receipt<W: Wire>(wire: &mut W) -> Result<Option<(u16, usize, u8)>, &'static str> {
     let mut octets = [0u8; 4];
     match wire.receive(&mut octets) {
         Ok(Received::Datagram(len, peer)) => Ok(Some((peer.port(), len, octets[0]))),
@@ -134,7 +134,8 @@ fn lasting_wire_loses_what_is_refused(rt: HostRuntime) -> Result<(), Fail> {
     let mut peer = UdpWire::bind(&rt, alloc, loopback(0))?;
     let at = peer.local_addr()?;
     let sending = Arc::new(alloc, SendingSockets::bind(&rt, alloc, &[at])?)?;
-    let mut wire = LastingWire::bind(&rt, alloc, loopback(0), &sending, &rt)?;
+    let startup = Arc::new(alloc, Startup::new())?;
+    let mut wire = LastingWire::bind(&rt, alloc, loopback(0), &sending, &startup, &rt)?;
     let own = wire.local_addr()?;
     let refused = (wire.send(loopback(0), &[1]), wire.send(loopback(0), &[1]));
     let sent = (wire.send(own, &[2]), wire.send(at, &[3, 4]));

@@ -1,5 +1,6 @@
 //! A watch that keeps what is reported to it.
 use live_agent::End;
+use live_control::ControlItem;
 use live_laps::{Book, Drops, LineName, Watch, Worked};
 use live_lock::Counts;
 use std::sync::{Mutex, Wait};
@@ -159,6 +160,8 @@ impl<R: Wait + Clock> Watch for HoldWatch<'_, R> {
     fn dropped<S: Wait>(&self, rt: &S) -> Drops {
         self.kept.book.read(rt).by_cause
     }
+
+    fn commanded(&self, _item: &ControlItem) {}
 
     fn worked<S: Wait>(&mut self, rt: &S, worked: Worked) {
         self.kept.book.add(rt, worked);

@@ -1,0 +1,62 @@
+//! A clock that a test sets.
+use std::cell::Cell;
+use std::io;
+use std::time::{Clock, Duration};
+
+/// A clock that stands still but for its sleeps, and where the test sets it on. It cannot be read
+/// where it has no time.
+#[derive(Drop)]
+pub struct SetClock {
+    now: Cell<Option<Duration>>,
+    slept: Cell<Duration>,
+}
+
+impl SetClock {
+    /// One that reads so many milliseconds.
+    pub fn at(millis: u64) -> SetClock {
+        SetClock {
+            now: Cell::new(Some(Duration::from_millis(millis))),
+            slept: Cell::new(Duration::ZERO),
+        }
+    }
+
+    /// From now on it reads so many milliseconds.
+    pub fn set(&self, millis: u64) {
+        self.now.set(Some(Duration::from_millis(millis)));
+    }
+
+    /// From now on it cannot be read.
+    pub fn stop(&self) {
+        self.now.set(None);
+    }
+
+    /// As if it had not slept yet.
+    pub fn forget_sleep(&self) {
+        self.slept.set(Duration::ZERO);
+    }
+
+    /// How many milliseconds its last sleep was.
+    pub fn slept_millis(&self) -> u128 {
+        self.slept.get().as_millis()
+    }
+}
+
+impl Clock for SetClock {
+    fn monotonic(&self) -> io::Result<Duration> {
+        match self.now.get() {
+            Some(now) => Ok(now),
+            None => Err(io::Error::from(io::ErrorKind::Unsupported)),
+        }
+    }
+
+    fn since_1970(&self) -> io::Result<Duration> {
+        self.monotonic()
+    }
+
+    fn sleep(&self, duration: Duration) {
+        self.slept.set(duration);
+        if let Some(now) = self.now.get() {
+            self.now.set(Some(now.saturating_add(duration)));
+        }
+    }
+}

@@ -1,0 +1,184 @@
+//! Tasks of one start: what a wire, a pace and the control socket do where all begin, and where one does
+//! not, by a clock that a test sets.
+use crate::clock::SetClock;
+use crate::wires::{loopback, receipt};
+use control_socket::{ControlSocket, bind_control};
+use std::alloc::Global;
+use std::fs::{self, Permissions};
+use std::io::Write;
+use std::net::Net;
+use std::os::unix::fs::PermissionsExt;
+use std::os::unix::net::UnixStream;
+use std::sync::Arc;
+use std::test::*;
+use std::time::Clock;
+use wire_core::{
+    LastingWire, Pace, Received, SendingSockets, StartingPace, Startup, TaskStart, Wire,
+};
+
+// A start of tasks of which it is not known yet how many there are.
+fn start(alloc: Global) -> Result<Arc<Startup, Global>, Fail> {
+    Ok(Arc::new(alloc, Startup::new())?)
+}
+
+// A wire of a task of this start, to which a datagram of one octet was sent this often.
+fn sent_to<'c, R: Net>(
+    rt: &R,
+    alloc: Global,
+    startup: &Arc<Startup, Global>,
+    clock: &'c SetClock,
+    times: u8,
+) -> Result<LastingWire<&'c SetClock>, Fail> {
+    let sending = Arc::new(alloc, SendingSockets::bind(rt, alloc, &[])?)?;
+    let mut wire = LastingWire::bind(rt, alloc, loopback(0), &sending, startup, clock)?;
+    let own = wire.local_addr()?;
+    for octet in 0..times {
+        if wire.send(own, &[octet]).is_err() {
+            return Err(Fail::from("a send failed"));
+        }
+    }
+    Ok(wire)
+}
+
+// The octet that a wire gave, or why there is none.
+fn octet<W: Wire>(wire: &mut W) -> Result<Option<u8>, &'static str> {
+    Ok(receipt(wire)?.map(|(_, _, octet)| octet))
+}
+
+// Of two tasks one never begins in time: from five seconds on the other's wire is closed, though datagrams
+// wait, and stays closed where the task begins late.
+#[test]
+fn wire_is_closed_where_a_task_does_not_begin(rt: HostRuntime) -> Result<(), Fail> {
+    let (alloc, clock) = (rt.alloc(), SetClock::at(1000));
+    let startup = start(alloc)?;
+    let mut wire = sent_to(&rt, alloc, &startup, &clock, 4)?;
+    startup.expect(&clock, 2);
+    let first = octet(&mut wire);
+    clock.set(5999);
+    let second = octet(&mut wire);
+    clock.set(6000);
+    let third = octet(&mut wire);
+    startup.report();
+    let last = (octet(&mut wire), startup.is_complete());
+    assert_eq!(rt; (first, second), (Ok(Some(0)), Ok(Some(1))));
+    assert_eq!(rt; (third, last), (Err("closed"), (Err("closed"), false)));
+    Ok(())
+}
+
+// Two tasks begin by their first receives, each of which reports once: both go on for ever.
+#[test]
+fn wires_go_on_where_all_begin(rt: HostRuntime) -> Result<(), Fail> {
+    let (alloc, clock) = (rt.alloc(), SetClock::at(1000));
+    let startup = start(alloc)?;
+    let mut one = sent_to(&rt, alloc, &startup, &clock, 3)?;
+    let mut other = sent_to(&rt, alloc, &startup, &clock, 2)?;
+    startup.expect(&clock, 2);
+    let first = (octet(&mut one), octet(&mut one), startup.is_complete());
+    let second = (octet(&mut other), startup.is_complete());
+    clock.set(60_000);
+    let later = (
+        octet(&mut one),
+        octet(&mut other),
+        startup.has_failed(&clock),
+    );
+    assert_eq!(rt;
+        (first, second),
+        ((Ok(Some(0)), Ok(Some(1)), false), (Ok(Some(0)), true))
+    );
+    assert_eq!(rt; later, (Ok(Some(2)), Ok(Some(1)), false));
+    Ok(())
+}
+
+// Without a time that can be read, and before it is known how many tasks there are, nothing fails.
+#[test]
+fn start_without_a_clock_does_not_fail(rt: HostRuntime) -> Result<(), Fail> {
+    let (alloc, clock) = (rt.alloc(), SetClock::at(1000));
+    let startup = start(alloc)?;
+    let unknown = (startup.has_failed(&clock), startup.is_complete());
+    startup.expect(&clock, 1);
+    clock.stop();
+    let unread = startup.has_failed(&clock);
+    clock.set(6000);
+    assert_eq!(rt;
+        (unknown, unread, startup.has_failed(&clock)),
+        ((false, false), false, true)
+    );
+    Ok(())
+}
+
+// What this pace answers six times, and how often its task begins.
+fn six(clock: &SetClock, startup: &Arc<Startup, Global>) -> Result<[bool; 6], Fail> {
+    let mut pace = StartingPace::new(clock, TaskStart::new(startup)?)?;
+    Ok([
+        pace.next(),
+        pace.next(),
+        pace.next(),
+        pace.next(),
+        pace.next(),
+        pace.next(),
+    ])
+}
+
+// A pace of seconds goes on where its task is the only one, and ends with the fifth where another does not
+// begin.
+#[test]
+fn pace_ends_where_a_task_does_not_begin(rt: HostRuntime) -> Result<(), Fail> {
+    let (alloc, clock) = (rt.alloc(), SetClock::at(0));
+    let (alone, beside) = (start(alloc)?, start(alloc)?);
+    alone.expect(&clock, 1);
+    let goes_on = six(&clock, &alone)?;
+    beside.expect(&clock, 2);
+    let ends = six(&clock, &beside)?;
+    assert_eq!(rt; goes_on, [true, true, true, true, true, true]);
+    assert_eq!(rt; ends, [true, true, true, true, false, false]);
+    Ok(())
+}
+
+// A command.
+const COMMAND: &[u8] = b"counts\n";
+
+// What a receive of the control socket gave: how many octets, nothing or its end.
+fn taken<'c>(socket: &mut ControlSocket<&'c SetClock>) -> Result<Option<usize>, &'static str> {
+    let mut octets = [0u8; 16];
+    match socket.receive(&mut octets) {
+        Ok(Received::Datagram(len, _)) => Ok(Some(len)),
+        Ok(Received::Nothing) => Ok(None),
+        Ok(Received::Closed) => Err("closed"),
+        Err(_) => Err("fault"),
+    }
+}
+
+// A directory for a socket, which no other run of the test has.
+fn own_directory(rt: &HostRuntime) -> Result<String, Fail> {
+    let now = rt.since_1970()?.as_nanos();
+    let directory = format!(in rt.alloc(); "/tmp/control-{now}")?;
+    fs::create_dir(rt, directory.as_str())?;
+    fs::set_permissions(rt, directory.as_str(), Permissions::from_mode(0o700))?;
+    Ok(directory)
+}
+
+// An operator's command waits until all tasks have begun.
+#[test]
+fn command_waits_for_all_tasks(rt: HostRuntime) -> Result<(), Fail> {
+    let (alloc, clock) = (rt.alloc(), SetClock::at(0));
+    let startup = start(alloc)?;
+    let directory = own_directory(&rt)?;
+    let path = format!(in alloc; "{directory}/socket")?;
+    let mut socket = match bind_control(&rt, &clock, path.as_str(), TaskStart::new(&startup)?) {
+        Ok(socket) => socket,
+        Err(_) => return Err(Fail::from("no control socket")),
+    };
+    startup.expect(&clock, 2);
+    let operator = UnixStream::connect(&rt, path.as_str())?;
+    (&mut &operator).write_all(COMMAND)?;
+    let early = (taken(&mut socket), taken(&mut socket));
+    startup.report();
+    let late = taken(&mut socket);
+    fs::remove_file(&rt, path.as_str())?;
+    fs::remove_dir(&rt, directory.as_str())?;
+    assert_eq!(rt;
+        (early, late),
+        ((Ok(None), Ok(None)), Ok(Some(COMMAND.len())))
+    );
+    Ok(())
+}
