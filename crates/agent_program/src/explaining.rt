@@ -75,7 +75,7 @@ fn explain_by<'a, F: ReadFile, O: Write>(
 }
 
 /// Says what the policy of a file's configuration decides on the request that words ask about. The
-/// words are looked at before the file is read.
+/// words are read before the file is.
 ///
 /// # Errors
 /// `NoName` with the first word that is no object identifier; `CannotRead` where the file cannot be

@@ -19,7 +19,7 @@
 //! `specs/Files.antt`: what a read of a file gave; `specs/Agents.antt`: the world that a
 //! configuration opens; `specs/Runs.antt`: what a run by octets promises; `specs/Services.antt`: what
 //! they give to be served; `specs/Endings.antt`: statuses, and the line of each failure;
-//! `specs/Telling.antt`: what a check reports; `specs/Explanations.antt`: what is said of the decision on
+//! `specs/Telling.antt`: what a check reports; `specs/Explanations.antt`: what is written of the decision on
 //! a request; `specs/Commands.antt`: what is done to have a served agent do a command;
 //! `specs/Programs.antt`: what the program does for what is asked. What words ask for
 //! stands in `agent_words`.

@@ -19,7 +19,7 @@
 //! # Laws
 //! On [`serve_laps`]: each line went on interval by interval, each of which is as the run of its kind
 //! is in `live_agent`, until one ended it or 2^64 - 1 were done; behind a fault of its wire, or want of
-//! memory, it went on where its pace said `true`; a port's link was entered once; each interval was
+//! memory, it went on where its pace answered `true`; a port's link was entered once; each interval was
 //! reported once to its watch, in order, each fault once with its count, and its end once; only a
 //! port's link, or a command, ends an interval for want of memory; the history that comes back is legal, and goes on
 //! from the one that was handed in by as many entries as the lines made.

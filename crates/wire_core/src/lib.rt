@@ -3,7 +3,7 @@
 //!
 //! # Entry points
 //! [`Wire`] gives datagrams and sends some: [`MemoryWire`] gives what it was handed, [`UdpWire`]
-//! what comes to a bound socket, [`FailingWire`] fails at one call and else hands on. [`LastingWire`]
+//! what a bound socket receives, [`FailingWire`] fails at one call and else hands on. [`LastingWire`]
 //! is one over a bound socket at which no send fails: the peers of ports have [`SendingSockets`],
 //! which all such wires share, and a datagram that the system refuses is counted among its
 //! [`Losses`], by its [`Cause`] ([`cause_of`] an error). [`Pace`] says how long ticks go on:
@@ -30,7 +30,7 @@
 //! Of each wire and pace, on its trait: no acts lead nowhere, and acts behind acts are one list.
 //!
 //! # Not claimed
-//! What UDP delivers, and how long a wait is: a wire over UDP tells its count of failures alone, and
+//! What UDP delivers, and how long a wait is: a wire over UDP gives its count of failures alone, and
 //! a lasting one also that no send failed. By which socket a datagram goes; that a datagram that was
 //! lost is counted, and what a count of [`Losses`] is; the system's words for a cause. What a [`Startup`]
 //! decides, that a lasting wire reports to it and is closed by it alone, and where a [`StartingPace`] ends:

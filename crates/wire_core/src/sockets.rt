@@ -10,7 +10,7 @@ use std::net::{Ipv4Addr, Ipv6Addr, Net, SocketAddr, UdpSocket};
 /// A sending socket for each peer of a port, which all wires of an agent share, and the counts of
 /// what could not be sent. No send by one of these sockets waits: what the system has no buffer for
 /// is lost, so that a peer that does not answer holds up no other. Each is bound to a free port of an
-/// unspecified address, of the peer's family. What comes to it is not read.
+/// unspecified address, of the peer's family. What is sent to it is not read.
 #[derive(Drop)]
 pub struct SendingSockets {
     by_peer: BTreeMap<SocketAddr, UdpSocket>,
