@@ -225,7 +225,7 @@ where
     let ((), served) = join(
         rt,
         || {
-            startup.report();
+            startup.report(rt);
             write_audits(rt, alloc, &lines, writer, &backlog)
         },
         move || serve_forever(rt, alloc, registry, opened, &audits, control, startup),

@@ -25,7 +25,7 @@ pub trait Watch: Drop {
     /// The datagrams that each cause dropped so far, for an operator who asks for them.
     fn dropped<R: Wait>(&self, rt: &R) -> Drops;
 
-    /// Behind each command of an operator, once it was answered: what became of it. No clause says what
+    /// Behind each command of an operator and its answer, if there was memory for one: what became of it. No clause says what
     /// is done with that.
     fn commanded(&self, item: &ControlItem);
 

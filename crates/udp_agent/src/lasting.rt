@@ -123,7 +123,7 @@ fn refuse_failed(has_failed: bool) -> io::Result<()>
 ///
 /// All lines are tasks of this start, and with them the task that writes audits, which reports of itself.
 /// Where one had not begun within `STARTUP_WAIT_MILLIS`, as where the system makes no thread more, all
-/// lines end.
+/// lines end; a port whose first link finds no memory ends once it does.
 ///
 /// # Errors
 /// That of the system where a socket could not be bound, or that there was no memory for what the

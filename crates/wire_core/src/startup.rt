@@ -98,15 +98,19 @@ impl Startup {
         self.note(self.begun.load(Ordering::SeqCst));
     }
 
-    /// One task more has begun.
-    pub fn report(&self) {
+    /// One task more has begun, unless the start has failed by now.
+    pub fn report<C: Clock>(&self, clock: &C) {
+        if self.has_failed(clock) {
+            return;
+        }
         let before = self.begun.fetch_add(1, Ordering::SeqCst);
         self.note(before.saturating_add(1));
     }
 
     // So many tasks have begun.
     fn note(&self, begun: u64) {
-        if begun == self.expected.load(Ordering::SeqCst) {
+        let expected = self.expected.load(Ordering::SeqCst);
+        if expected != 0 && begun >= expected {
             self.decide(Phase::Complete);
         }
     }
@@ -184,7 +188,7 @@ impl TaskStart {
     pub fn is_to_end<C: Clock>(&mut self, clock: &C) -> bool {
         if !self.has_begun {
             self.has_begun = true;
-            self.startup.report();
+            self.startup.report(clock);
         }
         self.startup.has_failed(clock)
     }

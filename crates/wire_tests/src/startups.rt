@@ -58,10 +58,24 @@ fn wire_is_closed_where_a_task_does_not_begin(rt: HostRuntime) -> Result<(), Fai
     let second = octet(&mut wire);
     clock.set(6000);
     let third = octet(&mut wire);
-    startup.report();
+    startup.report(&clock);
     let last = (octet(&mut wire), startup.is_complete());
     assert_eq!(rt; (first, second), (Ok(Some(0)), Ok(Some(1))));
     assert_eq!(rt; (third, last), (Err("closed"), (Err("closed"), false)));
+    Ok(())
+}
+
+// A task that begins once the time is over does not complete the start, though it is the last.
+#[test]
+fn wire_that_is_late_is_closed(rt: HostRuntime) -> Result<(), Fail> {
+    let (alloc, clock) = (rt.alloc(), SetClock::at(1000));
+    let startup = start(alloc)?;
+    let mut wire = sent_to(&rt, alloc, &startup, &clock, 1)?;
+    startup.expect(&clock, 2);
+    startup.report(&clock);
+    clock.set(6000);
+    let late = (octet(&mut wire), startup.is_complete());
+    assert_eq!(rt; late, (Err("closed"), false));
     Ok(())
 }
 
@@ -106,7 +120,7 @@ fn start_without_a_clock_does_not_fail(rt: HostRuntime) -> Result<(), Fail> {
     Ok(())
 }
 
-// What this pace answers six times, and how often its task begins.
+// What a pace of this start answers six times.
 fn six(clock: &SetClock, startup: &Arc<Startup, Global>) -> Result<[bool; 6], Fail> {
     let mut pace = StartingPace::new(clock, TaskStart::new(startup)?)?;
     Ok([
@@ -172,7 +186,7 @@ fn command_waits_for_all_tasks(rt: HostRuntime) -> Result<(), Fail> {
     let operator = UnixStream::connect(&rt, path.as_str())?;
     (&mut &operator).write_all(COMMAND)?;
     let early = (taken(&mut socket), taken(&mut socket));
-    startup.report();
+    startup.report(&clock);
     let late = taken(&mut socket);
     fs::remove_file(&rt, path.as_str())?;
     fs::remove_dir(&rt, directory.as_str())?;
