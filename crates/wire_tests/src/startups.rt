@@ -171,6 +171,37 @@ fn own_directory(rt: &HostRuntime) -> Result<String, Fail> {
     Ok(directory)
 }
 
+// The control socket at a path, of a task of this start.
+fn control_at<'c>(
+    rt: &HostRuntime,
+    clock: &'c SetClock,
+    path: &str,
+    startup: &Arc<Startup, Global>,
+) -> Result<ControlSocket<&'c SetClock>, Fail> {
+    match bind_control(rt, clock, path, TaskStart::new(startup)?) {
+        Ok(socket) => Ok(socket),
+        Err(_) => Err(Fail::from("no control socket")),
+    }
+}
+
+// Of two tasks one never begins: a receive of the control socket within whose wait the time ends is closed.
+#[test]
+fn control_socket_is_closed_where_a_task_does_not_begin(rt: HostRuntime) -> Result<(), Fail> {
+    let (alloc, clock) = (rt.alloc(), SetClock::at(0));
+    let startup = start(alloc)?;
+    let directory = own_directory(&rt)?;
+    let path = format!(in alloc; "{directory}/socket")?;
+    let mut socket = control_at(&rt, &clock, path.as_str(), &startup)?;
+    startup.expect(&clock, 2);
+    clock.set(3500);
+    let early = taken(&mut socket);
+    let late = taken(&mut socket);
+    fs::remove_file(&rt, path.as_str())?;
+    fs::remove_dir(&rt, directory.as_str())?;
+    assert_eq!(rt; (early, late), (Ok(None), Err("closed")));
+    Ok(())
+}
+
 // An operator's command waits until all tasks have begun.
 #[test]
 fn command_waits_for_all_tasks(rt: HostRuntime) -> Result<(), Fail> {
@@ -178,10 +209,7 @@ fn command_waits_for_all_tasks(rt: HostRuntime) -> Result<(), Fail> {
     let startup = start(alloc)?;
     let directory = own_directory(&rt)?;
     let path = format!(in alloc; "{directory}/socket")?;
-    let mut socket = match bind_control(&rt, &clock, path.as_str(), TaskStart::new(&startup)?) {
-        Ok(socket) => socket,
-        Err(_) => return Err(Fail::from("no control socket")),
-    };
+    let mut socket = control_at(&rt, &clock, path.as_str(), &startup)?;
     startup.expect(&clock, 2);
     let operator = UnixStream::connect(&rt, path.as_str())?;
     (&mut &operator).write_all(COMMAND)?;
