@@ -3,12 +3,13 @@ use std::cell::Cell;
 use std::io;
 use std::time::{Clock, Duration};
 
-/// A clock that stands still but for its sleeps, and where the test sets it on. It cannot be read
-/// where it has no time.
+/// A clock that stands still but for its sleeps, where the test sets it on, and where each reading moves
+/// it. It cannot be read where it has no time.
 #[derive(Drop)]
 pub struct SetClock {
     now: Cell<Option<Duration>>,
     slept: Cell<Duration>,
+    step: Cell<Duration>,
 }
 
 impl SetClock {
@@ -17,6 +18,7 @@ impl SetClock {
         SetClock {
             now: Cell::new(Some(Duration::from_millis(millis))),
             slept: Cell::new(Duration::ZERO),
+            step: Cell::new(Duration::ZERO),
         }
     }
 
@@ -28,6 +30,11 @@ impl SetClock {
     /// From now on it cannot be read.
     pub fn stop(&self) {
         self.now.set(None);
+    }
+
+    /// From now on each reading moves it by so many milliseconds.
+    pub fn step_by(&self, millis: u64) {
+        self.step.set(Duration::from_millis(millis));
     }
 
     /// As if it had not slept yet.
@@ -44,7 +51,10 @@ impl SetClock {
 impl Clock for SetClock {
     fn monotonic(&self) -> io::Result<Duration> {
         match self.now.get() {
-            Some(now) => Ok(now),
+            Some(now) => {
+                self.now.set(Some(now.saturating_add(self.step.get())));
+                Ok(now)
+            }
             None => Err(io::Error::from(io::ErrorKind::Unsupported)),
         }
     }

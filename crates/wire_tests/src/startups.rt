@@ -65,6 +65,21 @@ fn wire_is_closed_where_a_task_does_not_begin(rt: HostRuntime) -> Result<(), Fai
     Ok(())
 }
 
+// A wire is closed behind a receive in which the time ends, and what it received is passed over.
+#[test]
+fn wire_is_closed_behind_a_receive(rt: HostRuntime) -> Result<(), Fail> {
+    let (alloc, clock) = (rt.alloc(), SetClock::at(0));
+    let startup = start(alloc)?;
+    let mut wire = sent_to(&rt, alloc, &startup, &clock, 2)?;
+    startup.expect(&clock, 2);
+    let first = octet(&mut wire);
+    clock.set(4900);
+    clock.step_by(200);
+    let second = octet(&mut wire);
+    assert_eq!(rt; (first, second), (Ok(Some(0)), Err("closed")));
+    Ok(())
+}
+
 // A task that begins once the time is over does not complete the start, though it is the last.
 #[test]
 fn wire_that_is_late_is_closed(rt: HostRuntime) -> Result<(), Fail> {
@@ -113,9 +128,14 @@ fn start_without_a_clock_does_not_fail(rt: HostRuntime) -> Result<(), Fail> {
     clock.stop();
     let unread = startup.has_failed(&clock);
     clock.set(6000);
+    let failed = startup.has_failed(&clock);
+    let endless = start(alloc)?;
+    clock.stop();
+    endless.expect(&clock, 1);
+    clock.set(60_000);
     assert_eq!(rt;
-        (unknown, unread, startup.has_failed(&clock)),
-        ((false, false), false, true)
+        (unknown, unread, failed, endless.has_failed(&clock)),
+        ((false, false), false, true, false)
     );
     Ok(())
 }
