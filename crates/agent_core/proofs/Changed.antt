@@ -8,7 +8,7 @@ use Rattle.setphase_core.specs.Settings.{families_of, same_settings, same_settin
 use Rattle.setphase_core.specs.declared.sets.SetOutcome.{SetOutcome}
 use Rattle.setphase_core.specs.declared.sets.SetOutcome.TheVariants.{Done, Refused, CommitFailed, UndoFailed}
 use Rattle.setphase_core.specs.Outcomes.{refusal_in, notes_in, changed_in, world_after_set}
-use Rattle.setphase_core.specs.Variables.{Written}
+use Rattle.setphase_core.specs.Variables.{NamedAssignment}
 use Rattle.setphase_core.proofs.FamilyPuts.{marks}
 use Rattle.setphase_core.proofs.Kept.{stuck_keeps_rows, stuck_keeps_policy}
 use Rattle.setphase_core.proofs.Same.{same_settings-Decides, others-Decides, same_of-Decides}
@@ -30,15 +30,15 @@ by_settings true false e = absurd cc
 by_settings false b e = refl
 
 -- what a Set that ended so changed
-pub changed_is : (outcome : SetOutcome) (ws : List Written) (before after : World) (b : Bool)
+pub changed_is : (outcome : SetOutcome) (ws : List NamedAssignment) (before after : World) (b : Bool)
     → after ≡ world_after_set (refusal_in outcome) ws before (notes_in outcome)
     → IfSome (changed_in outcome) (λ changed. changed ≡ not (same_settings_of before after))
     → b ≡ unwrap_or (changed_in outcome) (not (same_settings before.bridge.settings after.bridge.settings))
     → b ≡ not (same_settings_of before after)
-changed_is (Done changed) ws before after b world told e = e ∙ told
-changed_is (Refused refusal) ws before after b world told e = e ∙ told
-changed_is (CommitFailed i) ws before after b world told e = e ∙ told
-changed_is (UndoFailed i keys) ws before after b world told e =
+changed_is (Done changed) ws before after b world reported e = e ∙ reported
+changed_is (Refused refusal) ws before after b world reported e = e ∙ reported
+changed_is (CommitFailed i) ws before after b world reported e = e ∙ reported
+changed_is (UndoFailed i keys) ws before after b world reported e =
     let rows = sym (ap (λ (x : World). x.bridge.statics.rows) world ∙ stuck_keeps_rows ws i keys before) in
     let families = sym (ap (λ (x : World). marks (families_of x)) world ∙ ap (λ (p : PolicyTables). marks p.vacm.families) (stuck_keeps_policy ws i keys before)) in
     e ∙ by_settings (same_settings before.bridge.settings after.bridge.settings) _ ((others-Decides before after).1 (rows, families))

@@ -8,19 +8,19 @@ use Rattle.audit_core.specs.declared.denied.Denied.{Denied}
 use Rattle.agent_core.specs.Denying.{denial, denials}
 
 -- the next binding
-pub denials_next : (families : List FamilyRow) (view : List ℕ) (told next all : List Denied) (n : ℕ) (bs : List Binding) (b : Binding) → n < length bs → get_or bs n b ≡ b →
-    told ++ denials families view (n + 1) (drop n bs) ≡ all → next ≡ told ++ denial families (n + 1) (family_answer families view b.name) →
+pub denials_next : (families : List FamilyRow) (view : List ℕ) (reported next all : List Denied) (n : ℕ) (bs : List Binding) (b : Binding) → n < length bs → get_or bs n b ≡ b →
+    reported ++ denials families view (n + 1) (drop n bs) ≡ all → next ≡ reported ++ denial families (n + 1) (family_answer families view b.name) →
     next ++ denials families view (n + 1 + 1) (drop (n + 1) bs) ≡ all
-denials_next families view told next all n bs b within is before more =
+denials_next families view reported next all n bs b within is before more =
     let here : List Denied = denial families (n + 1) (family_answer families view b.name) in
     let rest : List Denied = denials families view (n + 1 + 1) (drop (n + 1) bs) in
     ap (λ (l : List Denied). l ++ rest) more
-    ∙ append_assoc told here rest
-    ∙ sym (ap (λ (l : List Binding). told ++ denials families view (n + 1) l) (drop_more bs n b within ∙ ap (λ (x : Binding). x ∷ drop (n + 1) bs) is))
+    ∙ append_assoc reported here rest
+    ∙ sym (ap (λ (l : List Binding). reported ++ denials families view (n + 1) l) (drop_more bs n b within ∙ ap (λ (x : Binding). x ∷ drop (n + 1) bs) is))
     ∙ before
 
 -- none is left
-pub denials_end : (families : List FamilyRow) (view : List ℕ) (told all : List Denied) (n : ℕ) (bs : List Binding) → length bs ≤ n →
-    told ++ denials families view (n + 1) (drop n bs) ≡ all → told ≡ all
-denials_end families view told all n bs past is =
-    sym (append-nil told) ∙ sym (ap (λ (l : List Binding). told ++ denials families view (n + 1) l) (drop_all n bs past)) ∙ is
+pub denials_end : (families : List FamilyRow) (view : List ℕ) (reported all : List Denied) (n : ℕ) (bs : List Binding) → length bs ≤ n →
+    reported ++ denials families view (n + 1) (drop n bs) ≡ all → reported ≡ all
+denials_end families view reported all n bs past is =
+    sym (append-nil reported) ∙ sym (ap (λ (l : List Binding). reported ++ denials families view (n + 1) l) (drop_all n bs past)) ∙ is

@@ -13,7 +13,7 @@ use Rattle.message_core.proofs.Rising.{first_least}
 use Rattle.agent_core.specs.Reading.{visible, end_under, or_end, next_answer}
 use Rattle.std.specs.Prelude.{Result, Ok, Err, OnErr}
 use Rattle.std.specs.declared.alloc.AllocError.{AllocError}
-use Rattle.agent_core.specs.Looking.{IsPassed, LacksName, of_instance, of_end}
+use Rattle.agent_core.specs.Lookups.{IsPassed, LacksName, of_instance, of_end}
 
 Contains-at_front : (x : Binding) (xs : List Binding) (row : Binding) → x ≡ row → Contains (x ∷ xs) row
 Contains-at_front x xs row same = (0, omega arith, same)

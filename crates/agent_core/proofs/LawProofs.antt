@@ -89,20 +89,20 @@ total_some (b ∷ bs) =
 
 pub few_law : (request : Request) (all : List Binding) → length request.community ≤ MAX_COMMUNITY → least_binding * length (fitting_front request all) ≤ MAX_REPLY
 few_law request all community =
-    let sent : List Binding = fitting_front request all in
-    let fits : reply_size request sent ≤ MAX_REPLY = (longest_law request all community).fits in
-    omega (arith, fits, reply_some (answer_to request NoError (pos 0) sent), total_some sent)
+    let fitting : List Binding = fitting_front request all in
+    let fits : reply_size request fitting ≤ MAX_REPLY = (longest_law request all community).fits in
+    omega (arith, fits, reply_some (answer_to request NoError (pos 0) fitting), total_some fitting)
 
--- a successor for each binding that is sent, and one more, and so many looks for each
+-- a successor for each binding that is sent, and one more, and so many searches for each
 -- for bindings that fit, and one more, there is memory
-pub reserved : (bs : List Binding) (used room capacity : ℕ) → used ≡ total bs → used ≤ room → room / least_binding < capacity → length bs < capacity
-reserved bs used room capacity is within some =
+pub reserved : (bs : List Binding) (used space capacity : ℕ) → used ≡ total bs → used ≤ space → space / least_binding < capacity → length bs < capacity
+reserved bs used space capacity is within some =
     let six : 6 * length bs ≤ total bs = total_some bs in
     omega (arith, six, is, within, some)
 
-pub work_within : (start now room u : ℕ) (bs : List Binding) → total bs ≤ room → room ≤ MAX_REPLY → now ≤ start + (length bs + 1) * u → now ≤ start + most_successors * u
-work_within start now room u bs within most work =
+pub work_within : (start now space u : ℕ) (bs : List Binding) → total bs ≤ space → space ≤ MAX_REPLY → now ≤ start + (length bs + 1) * u → now ≤ start + most_successors * u
+work_within start now space u bs within most work =
     let six : 6 * length bs ≤ total bs = total_some bs in
     let few : length bs + 1 ≤ most_successors = omega (arith, six, within, most) in
-    let looks : (length bs + 1) * u ≤ most_successors * u = mul-le-mul_right u few in
-    omega (arith, looks, work)
+    let lookups : (length bs + 1) * u ≤ most_successors * u = mul-le-mul_right u few in
+    omega (arith, lookups, work)

@@ -5,7 +5,7 @@ pub mod SetSteps
 pub mod Apart
 pub mod Rest
 pub mod Lacks
-pub mod Looks
+pub mod LookupLemmas
 pub mod Below
 pub mod Sizes
 pub mod Encodings

@@ -16,14 +16,14 @@ use Rattle.setting_keys.specs.declared.SettingKey.{SettingKey}
 use Rattle.setting_keys.specs.declared.SettingKey.TheVariants.{Bridge, Made, Allowed as Ports_of, FamilyMask, FamilyType}
 use Rattle.setting_keys.specs.declared.SettingValue.{SettingValue}
 use Rattle.setting_keys.specs.declared.SettingValue.TheVariants.{Number, Ports, Mask}
-use Rattle.setphase_core.specs.declared.sets.Refusal.{Refusal}
+use Rattle.setphase_core.specs.declared.sets.SetRefusal.{SetRefusal}
 use Rattle.setphase_core.specs.declared.world.World.{World}
 use Rattle.setphase_core.specs.Objects.{ObjectState}
 use Rattle.setphase_core.specs.Outcomes.{SetNotes, world_by as left_by, world_after_set}
 use Rattle.setphase_core.specs.Registry.{rows_of}
 use Rattle.setphase_core.specs.Settings.{families_of, mask_at, type_at, put, included_by, bridge_keys, same_settings_of, with_marks_of}
 use Rattle.setphase_core.specs.Together.{assign, assignments, refusal_of}
-use Rattle.setphase_core.specs.Variables.{Written, writings}
+use Rattle.setphase_core.specs.Variables.{NamedAssignment, writings}
 use Rattle.setphase_core.proofs.FamilyPuts.{marks_itself, mask_elsewhere, mask_kept, type_elsewhere, type_kept}
 use Rattle.setphase_core.proofs.Kept.{set_keeps, stuck_keeps_policy}
 use Rattle.agent_core.specs.Answers.{RequestNotes, world_by, world_after, with_count_of, step_of, step_by, allowed_step}
@@ -55,7 +55,7 @@ settled_rows w after h =
     settled_policy w after ∙ h
     ∙ ap (λ (p : PolicyTables). with_families w.policy (with_marks_of p.vacm.families (families_of w))) (sym (settled_policy w after))
 
-set_rows : (refusal : Option Refusal) (ws : List Written) (w : World) (notes : SetNotes) → KeepsRows w (world_after_set refusal ws w notes)
+set_rows : (refusal : Option SetRefusal) (ws : List NamedAssignment) (w : World) (notes : SetNotes) → KeepsRows w (world_after_set refusal ws w notes)
 set_rows refusal ws w notes =
     ap (λ (x : World). x.policy) (set_keeps refusal ws w (world_after_set refusal ws w notes) notes refl)
 
@@ -125,7 +125,7 @@ reads_law objects world request notes other = by_policy objects world request no
 -- ---- a mask or a type that no variable writes stays
 
 -- The setting is written by none of these.
-abbrev pub WritesNot : SettingKey → List Written → Type 0
+abbrev pub WritesNot : SettingKey → List NamedAssignment → Type 0
 WritesNot k ws = All (λ x. x.assignment.key ≢ k) ws
 
 mask_after_put : (n : ℕ) (w : World) (k : SettingKey) (v : SettingValue) → k ≢ FamilyMask n → mask_at (families_of (put w k v)) n ≡ mask_at (families_of w) n
@@ -164,26 +164,26 @@ type_after_put n w (FamilyType k) (Number t) other =
 type_after_put n w (FamilyType k) (Ports s) other = refl
 type_after_put n w (FamilyType k) (Mask m) other = refl
 
-mask_after : (n : ℕ) (ws : List Written) (w : World) → WritesNot (FamilyMask n) ws → mask_at (families_of (assign (assignments ws) w)) n ≡ mask_at (families_of w) n
+mask_after : (n : ℕ) (ws : List NamedAssignment) (w : World) → WritesNot (FamilyMask n) ws → mask_at (families_of (assign (assignments ws) w)) n ≡ mask_at (families_of w) n
 mask_after n [] w h = refl
 mask_after n (x ∷ ws) w h =
-    mask_after n ws (put w x.assignment.key x.assignment.value) (All-tail (λ (y : Written). y.assignment.key ≢ FamilyMask n) x ws h)
-    ∙ mask_after_put n w x.assignment.key x.assignment.value (All-head (λ (y : Written). y.assignment.key ≢ FamilyMask n) x ws h)
+    mask_after n ws (put w x.assignment.key x.assignment.value) (All-tail (λ (y : NamedAssignment). y.assignment.key ≢ FamilyMask n) x ws h)
+    ∙ mask_after_put n w x.assignment.key x.assignment.value (All-head (λ (y : NamedAssignment). y.assignment.key ≢ FamilyMask n) x ws h)
 
-type_after : (n : ℕ) (ws : List Written) (w : World) → WritesNot (FamilyType n) ws → type_at (families_of (assign (assignments ws) w)) n ≡ type_at (families_of w) n
+type_after : (n : ℕ) (ws : List NamedAssignment) (w : World) → WritesNot (FamilyType n) ws → type_at (families_of (assign (assignments ws) w)) n ≡ type_at (families_of w) n
 type_after n [] w h = refl
 type_after n (x ∷ ws) w h =
-    type_after n ws (put w x.assignment.key x.assignment.value) (All-tail (λ (y : Written). y.assignment.key ≢ FamilyType n) x ws h)
-    ∙ type_after_put n w x.assignment.key x.assignment.value (All-head (λ (y : Written). y.assignment.key ≢ FamilyType n) x ws h)
+    type_after n ws (put w x.assignment.key x.assignment.value) (All-tail (λ (y : NamedAssignment). y.assignment.key ≢ FamilyType n) x ws h)
+    ∙ type_after_put n w x.assignment.key x.assignment.value (All-head (λ (y : NamedAssignment). y.assignment.key ≢ FamilyType n) x ws h)
 
 -- What is read of the policy's families, where the variables that are written leave it.
-module _ {A : Type 0} (read : List FamilyRow → A) (ws : List Written) (w : World)
+module _ {A : Type 0} (read : List FamilyRow → A) (ws : List NamedAssignment) (w : World)
     (assigned : read (families_of (assign (assignments ws) w)) ≡ read (families_of w)) where
   left_after : (commit : Option ℕ) (keys : List Key) → read (families_of (left_by ws w commit (bridge_keys keys))) ≡ read (families_of w)
   left_after None keys = assigned
   left_after (Some i) keys = ap (λ (p : PolicyTables). read p.vacm.families) (stuck_keeps_policy ws i keys w)
 
-  left_by_set : (refusal : Option Refusal) (notes : SetNotes) → read (families_of (world_after_set refusal ws w notes)) ≡ read (families_of w)
+  left_by_set : (refusal : Option SetRefusal) (notes : SetNotes) → read (families_of (world_after_set refusal ws w notes)) ≡ read (families_of w)
   left_by_set (Some refusal) notes = refl
   left_by_set None notes = left_after notes.commit notes.undos
 

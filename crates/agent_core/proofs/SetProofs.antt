@@ -1,4 +1,4 @@
--- What a Set that is answered can tell.
+-- What a Set that is answered can report.
 use Rattle.std.proofs.Common.{◌≡◌, ◌∙◌, ℕ, ◌≤◌, Bool, true, false, List, [], ◌∷◌, length, map, Option, Some, None, IfSome, ap, refl, sym, subst, arith}
 use Rattle.std.proofs.lemmas.Bool.{ltb-false}
 use Rattle.message_core.specs.declared.request.Kind.{Kind}
@@ -11,13 +11,13 @@ use Rattle.decision.specs.declared.choice.Decision.{Decision}
 use Rattle.decision.specs.declared.choice.Decision.TheVariants.{Drop, Empty, Refused, Allowed}
 use Rattle.vacm_core.specs.Families.{NamesFamilyOf}
 use Rattle.vacm_core.specs.declared.tables.FamilyRow.{FamilyRow}
-use Rattle.setphase_core.specs.declared.sets.Refusal.{Refusal}
+use Rattle.setphase_core.specs.declared.sets.SetRefusal.{SetRefusal}
 use Rattle.setphase_core.specs.declared.sets.SetOutcome.{SetOutcome}
 use Rattle.setphase_core.specs.declared.sets.SetOutcome.TheVariants as ended
 use Rattle.setphase_core.specs.declared.world.World.{World}
 use Rattle.setphase_core.specs.Objects.{ObjectRow, ObjectState, object_after_release}
 use Rattle.setphase_core.specs.Settings.{bridge_keys}
-use Rattle.setphase_core.specs.Variables.{Written}
+use Rattle.setphase_core.specs.Variables.{NamedAssignment}
 use Rattle.setphase_core.specs.Outcomes.{SetNotes, CanFail, refusal_in, notes_in, world_after_set}
 use Rattle.setphase_core.specs.Calls.{calls_of, object_after_set}
 use Rattle.agent_core.specs.Sets.{greatest_index, longest_response, is_too_long, no_notes, IsDenied, MayFail, MayFailWhere}
@@ -30,7 +30,7 @@ few_variables : (request : Request) → is_too_long request ≡ false → length
 few_variables request fits =
     omega (arith, ltb-false _ _ fits, reply_some (longest_response request), total_some request.bindings)
 
-pub index_within : (request : Request) (refusal : Option Refusal) → is_too_long request ≡ false
+pub index_within : (request : Request) (refusal : Option SetRefusal) → is_too_long request ≡ false
     → IfSome refusal (λ r. (1 ≤ r.index) × (r.index ≤ length request.bindings))
     → IfSome refusal (λ r. r.index ≤ greatest_index)
 index_within request None fits h = tt
@@ -44,7 +44,7 @@ number_within request (Some n) fits h = omega (arith, h.1, few_variables request
 
 -- ---- a Set that is denied
 
-pub denied_world : (outcome : SetOutcome) (ws : List Written) (w : World) → IsDenied (refusal_in outcome)
+pub denied_world : (outcome : SetOutcome) (ws : List NamedAssignment) (w : World) → IsDenied (refusal_in outcome)
     → world_after_set (refusal_in outcome) ws w (notes_in outcome) ≡ w
 denied_world (ended.Done changed) ws w h = absurd h
 denied_world (ended.Refused refusal) ws w h = refl
@@ -55,7 +55,7 @@ released_each : (objects : List ObjectState) → map (object_after_set []) objec
 released_each [] = refl
 released_each (o ∷ os) = ap (λ (xs : List ObjectState). object_after_release o ∷ xs) (released_each os)
 
-pub denied_objects : (outcome : SetOutcome) (ws : List Written) (objects : List ObjectState) → IsDenied (refusal_in outcome)
+pub denied_objects : (outcome : SetOutcome) (ws : List NamedAssignment) (objects : List ObjectState) → IsDenied (refusal_in outcome)
     → map (object_after_set (calls_of (refusal_in outcome) ws (notes_in outcome))) objects ≡ map object_after_release objects
 denied_objects (ended.Done changed) ws objects h = absurd h
 denied_objects (ended.Refused refusal) ws objects h = released_each objects
@@ -65,20 +65,20 @@ denied_objects (ended.UndoFailed i keys) ws objects h = absurd h
 -- ---- a Set that is refused
 
 -- A refusal leaves the world, so also the families.
-pub families_kept : (outcome : SetOutcome) (ws : List Written) (w after : World) → after ≡ world_after_set (refusal_in outcome) ws w (notes_in outcome)
+pub families_kept : (outcome : SetOutcome) (ws : List NamedAssignment) (w after : World) → after ≡ world_after_set (refusal_in outcome) ws w (notes_in outcome)
     → IfSome (refusal_in outcome) (λ r. after.policy.vacm.families ≡ w.policy.vacm.families)
 families_kept (ended.Refused refusal) ws w after e = ap (λ (x : World). x.policy.vacm.families) e
 families_kept (ended.Done changed) ws w after e = tt
 families_kept (ended.CommitFailed i) ws w after e = tt
 families_kept (ended.UndoFailed i keys) ws w after e = tt
 
-pub names_kept : (refusal : Option Refusal) (families kept : List FamilyRow) → IfSome refusal (λ r. kept ≡ families)
+pub names_kept : (refusal : Option SetRefusal) (families kept : List FamilyRow) → IfSome refusal (λ r. kept ≡ families)
     → IfSome refusal (λ r. IfSome r.family (λ answer. NamesFamilyOf families answer))
     → IfSome refusal (λ r. IfSome r.family (λ answer. NamesFamilyOf kept answer))
 names_kept None families kept e h = tt
 names_kept (Some r) families kept e h = subst (λ (rows : List FamilyRow). IfSome r.family (λ answer. NamesFamilyOf rows answer)) (sym e) h
 
-pub families_are : (refusal : Option Refusal) (families after kept : List FamilyRow) → families ≡ after → IfSome refusal (λ r. after ≡ kept) → IfSome refusal (λ r. families ≡ kept)
+pub families_are : (refusal : Option SetRefusal) (families after kept : List FamilyRow) → families ≡ after → IfSome refusal (λ r. after ≡ kept) → IfSome refusal (λ r. families ≡ kept)
 families_are None families after kept same h = tt
 families_are (Some r) families after kept same h = same ∙ h
 
@@ -91,12 +91,12 @@ none_listed : (keys : List Key) → bridge_keys keys ≡ [] → keys ≡ []
 none_listed [] e = refl
 none_listed (key ∷ keys) e = absurd (cc)
 
-none_unrefused : (ws : List Written) (refusal : Option Refusal) (notes : SetNotes) → MayFail refusal ws notes → notes.commit ≡ None → notes ≡ no_notes
+none_unrefused : (ws : List NamedAssignment) (refusal : Option SetRefusal) (notes : SetNotes) → MayFail refusal ws notes → notes.commit ≡ None → notes ≡ no_notes
 none_unrefused ws (Some refusal) notes h e = h
 none_unrefused ws None notes h e =
     same_notes notes e (none_listed notes.undos (subst (λ (commit : Option ℕ). CanFail ws commit (bridge_keys notes.undos)) e h))
 
-none_tested : (too_long : Bool) (refusal : Option Refusal) (ws : List Written) (notes : SetNotes) → MayFailWhere too_long refusal ws notes → notes.commit ≡ None → notes ≡ no_notes
+none_tested : (too_long : Bool) (refusal : Option SetRefusal) (ws : List NamedAssignment) (notes : SetNotes) → MayFailWhere too_long refusal ws notes → notes.commit ≡ None → notes ≡ no_notes
 none_tested true refusal ws notes h e = h
 none_tested false refusal ws notes h e = none_unrefused ws refusal notes h e
 
@@ -118,11 +118,11 @@ unfolding MayHave
 none_failed rows w request notes h e = none_by rows w request notes (decision_on w.policy request) h e
 
 -- the notes of the run of a Set are those that it may have
-pub may_fail : (outcome : SetOutcome) (request : Request) (refusal : Option Refusal) (ws : List Written) → is_too_long request ≡ false → refusal_in outcome ≡ refusal
+pub may_fail : (outcome : SetOutcome) (request : Request) (refusal : Option SetRefusal) (ws : List NamedAssignment) → is_too_long request ≡ false → refusal_in outcome ≡ refusal
     → CanFail ws (notes_in outcome).commit (bridge_keys (notes_in outcome).undos) → MayFailWhere (is_too_long request) refusal ws (notes_in outcome)
 may_fail outcome request refusal ws fits e h = subst (λ (b : Bool). MayFailWhere b refusal ws (notes_in outcome)) (sym fits) (by outcome refusal e h)
   where
-    by : (o : SetOutcome) (r : Option Refusal) → refusal_in o ≡ r → CanFail ws (notes_in o).commit (bridge_keys (notes_in o).undos) → MayFail r ws (notes_in o)
+    by : (o : SetOutcome) (r : Option SetRefusal) → refusal_in o ≡ r → CanFail ws (notes_in o).commit (bridge_keys (notes_in o).undos) → MayFail r ws (notes_in o)
     by (ended.Done changed) None e h = h
     by (ended.Done changed) (Some refusal) e h = cc e
     by (ended.Refused refusal) None e h = cc e

@@ -52,7 +52,7 @@ shown_of rows world = record {
   policy = world.policy;
 }
 
--- what a request comes to
+-- what a request amounts to
 pub data Outcome : Type 0 where
   -- a request is dropped for this cause, and audited
   dropped : (cause : Cause) (audit : Audit) → Outcome
@@ -156,7 +156,7 @@ TakesInView rows world view request GetNext = Unit {0}
 TakesInView rows world view request GetBulk = Unit {0}
 TakesInView rows world view request Set = TakesInSet rows world view request
 
--- Answering a request may take memory: it is let in to a view, and takes some there.
+-- Answering a request may take memory: it is authorized for a view, and takes some then.
 pub record TakesMemory (rows : List ObjectRow) (world : World) (request : Request) : Type 0 where
   pub row : AccessKey
   pub view : List ℕ
@@ -210,7 +210,7 @@ reading_step objects world request unnamed = record {
   bpdus = [];
 }
 
--- A Set that is let in by this row to a view.
+-- A Set that is authorized by this row for a view.
 abbrev pub writing_step : Request → AccessKey → List ℕ → SetStep → Step
 writing_step request row view set = record {
   outcome = replied set.reply
@@ -276,7 +276,7 @@ MayHave rows world request notes =
     MayFailBy rows world request notes (decision_on world.policy request)
 
 -- The calls of devices that a request makes, where they failed so: those of a Set alone, and of one
--- that is let in to a view.
+-- that is authorized for a view.
 abbrev pub calls_in_view : List ObjectRow → World → List ℕ → Request → SetNotes → Kind → List Call
 calls_in_view rows world view request notes Get = []
 calls_in_view rows world view request notes GetNext = []
@@ -294,79 +294,79 @@ unfoldable pub request_calls : List ObjectRow → World → Request → SetNotes
 request_calls rows world request notes =
     calls_by rows world request notes (decision_on world.policy request)
 
--- these octets are a reply in its minimal encoding, and this is told of it
-pub record IsSent (reply : Reply) (sent : SentReply) (sent_octets : List ℕ) : Type 0 where
+-- these octets are a reply in its minimal encoding, and this is reported of it
+pub record IsSent (reply : Reply) (fitting : SentReply) (sent_octets : List ℕ) : Type 0 where
   pub octets : sent_octets ≡ canon_reply reply
-  pub len : sent.length ≡ length (canon_reply reply)
-  pub status : sent.status ≡ reply.status
-  pub index : sent.index ≡ reply.index
+  pub len : fitting.length ≡ length (canon_reply reply)
+  pub status : fitting.status ≡ reply.status
+  pub index : fitting.index ≡ reply.index
 
 -- A reply stands in the buffer in its minimal encoding, or the request is dropped and the buffer is
--- empty; and the audit is told.
+-- empty; and the audit is reported.
 abbrev pub IsAnswered : Outcome → Answered → Buffered → Type 0
-IsAnswered (replied reply audit) (answered.Reply len told failed) buffer =
-    (buffer.reply ≡ canon_reply reply) × (len ≡ length (canon_reply reply)) × (told ≡ audit)
-IsAnswered (replied reply audit) (answered.Unnamed len told i) buffer =
-    (buffer.reply ≡ canon_reply reply) × (len ≡ length (canon_reply reply)) × (told ≡ audit)
-IsAnswered (replied reply audit) (answered.NoReply told) buffer = ⊥
-IsAnswered (dropped cause audit) (answered.Reply len told failed) buffer = ⊥
-IsAnswered (dropped cause audit) (answered.Unnamed len told i) buffer = ⊥
-IsAnswered (dropped cause audit) (answered.NoReply told) buffer =
-    (buffer.reply ≡ []) × (told ≡ audit)
+IsAnswered (replied reply audit) (answered.Reply len reported failed) buffer =
+    (buffer.reply ≡ canon_reply reply) × (len ≡ length (canon_reply reply)) × (reported ≡ audit)
+IsAnswered (replied reply audit) (answered.Unnamed len reported i) buffer =
+    (buffer.reply ≡ canon_reply reply) × (len ≡ length (canon_reply reply)) × (reported ≡ audit)
+IsAnswered (replied reply audit) (answered.NoReply reported) buffer = ⊥
+IsAnswered (dropped cause audit) (answered.Reply len reported failed) buffer = ⊥
+IsAnswered (dropped cause audit) (answered.Unnamed len reported i) buffer = ⊥
+IsAnswered (dropped cause audit) (answered.NoReply reported) buffer =
+    (buffer.reply ≡ []) × (reported ≡ audit)
 
--- A reply stands in the buffer, and is told with this decision and these denied bindings; no device
+-- A reply stands in the buffer, and is reported with this decision and these denied bindings; no device
 -- failed.
 abbrev pub IsReply : Reply → Request → Decision → List Denied → Answered → List ℕ → Type 0
-IsReply reply request decision denied (answered.Reply len told failed) octets =
+IsReply reply request decision denied (answered.Reply len reported failed) octets =
     (octets ≡ canon_reply reply) × (len ≡ length (canon_reply reply))
-    × (told ≡ reply_audit request decision denied [] reply) × (failed ≡ None)
-IsReply reply request decision denied (answered.Unnamed len told i) octets = ⊥
-IsReply reply request decision denied (answered.NoReply told) octets = ⊥
+    × (reported ≡ reply_audit request decision denied [] reply) × (failed ≡ None)
+IsReply reply request decision denied (answered.Unnamed len reported i) octets = ⊥
+IsReply reply request decision denied (answered.NoReply reported) octets = ⊥
 
 -- What is known of a reply to a request that reads: it is this one; or it is genErr with the number of
 -- a binding, within the limit, since there was no memory for a name that is made for it.
 abbrev pub IsSentBy : Reply → Request → (ℕ → Type 0) → Option ℕ → SentReply → List ℕ → Type 0
-IsSentBy reply request lacks None sent octets = IsSent reply sent octets
-IsSentBy reply request lacks (Some i) sent octets =
-    IsSent (name_failure_reply request i) sent octets × lacks i
+IsSentBy reply request lacks None fitting octets = IsSent reply fitting octets
+IsSentBy reply request lacks (Some i) fitting octets =
+    IsSent (name_failure_reply request i) fitting octets × lacks i
 
 abbrev pub IsSentRead : Reply → Request → (ℕ → Type 0) → ReadReply → List ℕ → Type 0
 IsSentRead reply request lacks read octets =
-    IsSentBy reply request lacks read.unnamed read.sent octets
+    IsSentBy reply request lacks read.unnamed read.fitting octets
 
 -- The same of what is answered, with this decision and these denied bindings.
 abbrev pub IsRead : Reply → Request → Decision → List Denied → (ℕ → Type 0) → Answered → List ℕ →
     Type 0
-IsRead reply request decision denied lacks (answered.Reply len told failed) octets =
-    IsReply reply request decision denied (answered.Reply len told failed) octets
-IsRead reply request decision denied lacks (answered.Unnamed len told i) octets =
+IsRead reply request decision denied lacks (answered.Reply len reported failed) octets =
+    IsReply reply request decision denied (answered.Reply len reported failed) octets
+IsRead reply request decision denied lacks (answered.Unnamed len reported i) octets =
     (octets ≡ canon_reply (name_failure_reply request i))
     × (len ≡ length (canon_reply (name_failure_reply request i)))
-    × (told ≡ reply_audit request decision [] [] (name_failure_reply request i)) × lacks i
-IsRead reply request decision denied lacks (answered.NoReply told) octets = ⊥
+    × (reported ≡ reply_audit request decision [] [] (name_failure_reply request i)) × lacks i
+IsRead reply request decision denied lacks (answered.NoReply reported) octets = ⊥
 
--- Which calls of devices are told to have failed: a commit, and the undoing of the settings that
+-- Which calls of devices are reported to have failed: a commit, and the undoing of the settings that
 -- the audit has.
-abbrev pub notes_told : Answered → SetNotes
-notes_told (answered.Reply len audit failed) =
+abbrev pub notes_reported : Answered → SetNotes
+notes_reported (answered.Reply len audit failed) =
     record { commit = failed; undos = audit.unrestored }
-notes_told (answered.Unnamed len audit i) = no_notes
-notes_told (answered.NoReply audit) = no_notes
+notes_reported (answered.Unnamed len audit i) = no_notes
+notes_reported (answered.NoReply audit) = no_notes
 
 -- the binding for which a name was made that found no memory, as it is reported
-abbrev pub unnamed_told : Answered → Option ℕ
-unnamed_told (answered.Reply len audit failed) = None
-unnamed_told (answered.Unnamed len audit i) = Some i
-unnamed_told (answered.NoReply audit) = None
+abbrev pub unnamed_reported : Answered → Option ℕ
+unnamed_reported (answered.Reply len audit failed) = None
+unnamed_reported (answered.Unnamed len audit i) = Some i
+unnamed_reported (answered.NoReply audit) = None
 
 -- what a request met, as it is reported
 abbrev pub met_by : Answered → RequestNotes
-met_by told = record { devices = notes_told told; unnamed = unnamed_told told }
+met_by reported = record { devices = notes_reported reported; unnamed = unnamed_reported reported }
 
--- The step is done: the outcome is told, and all is as it makes it.
-pub record IsDone (step : Step) (told : Answered) (buffer : Buffered) (later : World)
+-- The step is done: the outcome is reported, and all is as it makes it.
+pub record IsDone (step : Step) (reported : Answered) (buffer : Buffered) (later : World)
     (objects : List ObjectState) : Type 0 where
-  pub answer : IsAnswered step.outcome told buffer
+  pub answer : IsAnswered step.outcome reported buffer
   pub world : later ≡ step.world
   pub objects_after : objects ≡ step.objects
   pub bpdus : buffer.bpdus ≡ step.bpdus
@@ -379,7 +379,7 @@ without_answer GetNext objects = objects
 without_answer GetBulk objects = objects
 without_answer Set objects = map object_after_release objects
 
--- There was no memory for the step: nothing that is shown has changed and nothing is told, and the
+-- There was no memory for the step: nothing that is shown has changed and nothing is reported, and the
 -- request is one whose answer may take some.
 pub record IsShort (objects : List ObjectState) (before : World) (request : Request)
     (buffer : Buffered) (later : World) (objects_later : List ObjectState) : Type 0 where
@@ -390,21 +390,21 @@ pub record IsShort (objects : List ObjectState) (before : World) (request : Requ
   pub takes : TakesMemory (rows_of objects) before request
   pub community : length request.community ≤ MAX_COMMUNITY
 
--- The step that is told, with calls of devices that may have failed so, each exactly where the plan
--- of its object said so, if that has one.
-pub record IsTold (objects : List ObjectState) (before : World) (request : Request)
-    (told : Answered) (buffer : Buffered) (later : World) (objects_later : List ObjectState) :
+-- The step that is reported, with calls of devices that may have failed so, each exactly where the plan
+-- of its object stated so, if that has one.
+pub record IsReported (objects : List ObjectState) (before : World) (request : Request)
+    (reported : Answered) (buffer : Buffered) (later : World) (objects_later : List ObjectState) :
     Type 0 where
-  pub may : MayHave (rows_of objects) before request (met_by told)
-  pub by_plan : FollowPlans (request_calls (rows_of objects) before request (notes_told told))
+  pub may : MayHave (rows_of objects) before request (met_by reported)
+  pub by_plan : FollowPlans (request_calls (rows_of objects) before request (notes_reported reported))
       objects
-  pub done : IsDone (step_of objects before request (met_by told)) told buffer later
+  pub done : IsDone (step_of objects before request (met_by reported)) reported buffer later
       objects_later
 
 -- A step over objects and a world, as far as there is memory for it.
 abbrev pub IsStep : List ObjectState → World → Request → Result Answered AllocError → Buffered →
     World → List ObjectState → Type 0
-IsStep objects before request (Ok told) buffer later objects_later =
-    IsTold objects before request told buffer later objects_later
+IsStep objects before request (Ok reported) buffer later objects_later =
+    IsReported objects before request reported buffer later objects_later
 IsStep objects before request (Err e) buffer later objects_later =
     IsShort objects before request buffer later objects_later

@@ -15,7 +15,7 @@ use Rattle.audit_core.specs.declared.denied.Denied.{Denied}
 abbrev pub no_family_row : FamilyRow
 no_family_row = record { view = []; subtree = []; mask = []; included = false }
 
--- what is told of binding i, by the answer on its name: nothing where it is in the view, else the
+-- what is reported of binding i, by the answer on its name: nothing where it is in the view, else the
 -- family that excludes it, if one does
 abbrev pub denial : List FamilyRow → ℕ → FamilyAnswer → List Denied
 denial families i (Included n) = []
@@ -23,7 +23,7 @@ denial families i (Excluded n) =
     record { index = i; family = Some (family_key (slice_index_or families n no_family_row)) } ∷ []
 denial families i NoRow = record { index = i; family = None } ∷ []
 
--- what is told of bindings, the first of which has number i
+-- what is reported of bindings, the first of which has number i
 abbrev pub denials : List FamilyRow → List ℕ → ℕ → List Binding → List Denied
 denials families view i [] = []
 denials families view i (b ∷ bs) =
@@ -34,8 +34,8 @@ abbrev pub denied_variable : List FamilyRow → ℕ → Option FamilyAnswer → 
 denied_variable families i None = []
 denied_variable families i (Some answer) = denial families i answer
 
--- A Get tells each binding that is not in the view. GetNext and GetBulk pass over what they may not
--- see. What is told of a Set is said in Sets.
+-- A Get reports each binding that is not in the view. GetNext and GetBulk pass over what they may not
+-- see. What is reported of a Set is stated in Sets.
 abbrev pub denied_in : List FamilyRow → List ℕ → Request → Kind → List Denied
 denied_in families view request Get = denials families view 1 request.bindings
 denied_in families view request GetNext = []

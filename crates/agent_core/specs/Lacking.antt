@@ -7,7 +7,7 @@ use Rattle.message_core.specs.declared.request.Kind.TheVariants.{Get, GetNext, G
 use Rattle.message_core.specs.declared.request.Request.{Request}
 use Rattle.message_core.specs.Instances.{names_of}
 use Rattle.agent_core.specs.Reading.{visible, next_answer}
-use Rattle.agent_core.specs.Looking.{LacksName}
+use Rattle.agent_core.specs.Lookups.{LacksName}
 use Rattle.agent_core.specs.Bulk.{asked_list, count_of}
 use Rattle.agent_core.specs.Fitting.{reply_size}
 use Rattle.agent_core.specs.declared.shortage.Shortage.{Shortage}
@@ -42,13 +42,13 @@ bulk_names names once found = names ++ drop once (names_of found)
 -- A list was sent as far as `found`, which stands behind `old`: its next member answers a name under
 -- which a long name is made.
 pub record IsLacking (shows : List ℕ → Bool) (rows : List Binding)
-    (names : List Binding → List (List ℕ)) (old all sent : List Binding) : Type 0 where
+    (names : List Binding → List (List ℕ)) (old all fitting : List Binding) : Type 0 where
   pub found : List Binding
-  pub sent_is : sent ≡ old ++ found
+  pub sent_is : fitting ≡ old ++ found
   pub name : List ℕ
   pub asked : slice_get (names found) (length found) ≡ Some name
   pub rest : List Binding
-  pub list : sent ++ next_answer (visible shows rows) name ∷ rest ≡ all
+  pub list : fitting ++ next_answer (visible shows rows) name ∷ rest ≡ all
   pub lacks : LacksName shows rows name
 
 -- how many bindings of a request are asked once

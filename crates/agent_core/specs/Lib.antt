@@ -1,5 +1,5 @@
 pub mod Reading
-pub mod Looking
+pub mod Lookups
 pub mod Denying
 pub mod Buffered
 pub mod Bulk

@@ -49,7 +49,7 @@ bulk_reply shows rows request =
     answer_to request NoError (pos 0)
     (fitting_front request (asked_list (visible shows rows) request))
 
--- The reply to a request that has bindings and reads, by its kind. What answers a Set is said in
+-- The reply to a request that has bindings and reads, by its kind. What answers a Set is stated in
 -- Sets; here it stands for nothing.
 abbrev pub kind_reply : List (List ℕ) → (List ℕ → Bool) → List Binding → Request → Kind → Reply
 kind_reply objects shows rows request Get = get_reply objects shows rows request

@@ -1,25 +1,25 @@
--- Bindings that are to be sent, and the octets that there is room for.
+-- Bindings that are to be sent, and the octets that there is space for.
 use Rattle.std.specs.Prelude.{◌≡◌, ℕ, suc, min, max, ◌+◌, ◌-◌, ◌<◌, ◌≤◌, List, [], ◌∷◌, ◌++◌, length, drop, get_or}
 use Rattle.message_core.specs.Encodable.{AreEncodable}
 use Rattle.message_core.specs.declared.binding.Binding.{Binding}
 use Rattle.message_core.specs.declared.limits.TheConstants.{MAX_REPLY}
 use Rattle.agent_core.specs.declared.source.Stand.{Stand}
-use Rattle.agent_core.specs.declared.sent.TheConstants.{MAX_STANDS}
+use Rattle.agent_core.specs.declared.fitting.TheConstants.{MAX_STANDS}
 use Rattle.agent_core.specs.Fitting.{total}
 
 pub record Sending : Type 0 where
   -- the octets that the bindings may have
-  pub room : ℕ
+  pub space : ℕ
   pub bindings : List Binding
   -- where walks stand at the names of the last of them, and for how many that is kept
   pub stands : List Stand
   pub most_stands : ℕ
 
--- bindings of so many octets, which fit into the room
+-- bindings of so many octets, which fit into the space
 pub record IsSending (sending : Sending) (used : ℕ) : Type 0 where
   pub used_is : used ≡ total sending.bindings
-  pub within : used ≤ sending.room
-  pub most : sending.room ≤ MAX_REPLY
+  pub within : used ≤ sending.space
+  pub most : sending.space ≤ MAX_REPLY
   pub encodable : AreEncodable sending.bindings
   pub kept_some : 1 ≤ sending.most_stands
   pub kept_most : sending.most_stands ≤ MAX_STANDS

@@ -1,4 +1,4 @@
--- What answers a Set that is let in to a view, and what it leaves (RFC 3416, 4.2.5).
+-- What answers a Set that is authorized for a view, and what it leaves (RFC 3416, 4.2.5).
 use Rattle.std.specs.Prelude.{◌≡◌, ℕ, ◌+◌, ◌<◌, pos, Bool, true, false, not, nat_lt, if◌then◌else◌, List, [], ◌∷◌, length, map, Option, Some, None, IsSome}
 use Rattle.message_core.specs.Canon.{canon_reply, answer_to}
 use Rattle.message_core.specs.declared.limits.TheConstants.{MAX_REPLY}
@@ -11,20 +11,20 @@ use Rattle.audit_core.specs.declared.denied.Denied.{Denied}
 use Rattle.frame_core.specs.declared.bpdu.Bpdu.{Bpdu}
 use Rattle.bridge_core.specs.Events.{settling_of, after_settling}
 use Rattle.rstp_settings.specs.declared.key.Key.{Key}
-use Rattle.setphase_core.specs.declared.sets.Refusal.{Refusal}
+use Rattle.setphase_core.specs.declared.sets.SetRefusal.{SetRefusal}
 use Rattle.setphase_core.specs.declared.sets.SetOutcome.{SetOutcome}
 use Rattle.setphase_core.specs.declared.world.World.{World}
 use Rattle.setphase_core.specs.Objects.{ObjectRow, ObjectState}
 use Rattle.setphase_core.specs.Registry.{rows_of}
 use Rattle.setphase_core.specs.Settings.{same_settings_of}
-use Rattle.setphase_core.specs.Variables.{Written, writings}
+use Rattle.setphase_core.specs.Variables.{NamedAssignment, writings}
 use Rattle.setphase_core.specs.Together.{assignments, refusal_of}
 use Rattle.setphase_core.specs.Staging.{static_count}
 use Rattle.setphase_core.specs.Outcomes.{SetNotes, committed_of, AreNotes, refusal_in, notes_in, world_after_set}
 use Rattle.setphase_core.specs.Calls.{Call, calls_of, object_after_set}
 use Rattle.agent_core.specs.Denying.{denied_variable}
 use Rattle.agent_core.specs.Replies.{reply_within_limit}
-use Rattle.agent_core.specs.declared.sets.SetTold.{SetTold}
+use Rattle.agent_core.specs.declared.sets.SetReported.{SetReported}
 
 -- The greatest error-index: four octets (RFC 3416, section 3).
 abbrev pub greatest_index : ℕ
@@ -46,13 +46,13 @@ too_long_reply request = answer_to request TooBig (pos 0) []
 abbrev pub no_notes : SetNotes
 no_notes = record { commit = None; undos = [] }
 
--- What is told of a Set: status, index, and the variable to which the view gives no access.
+-- What is reported of a Set: status, index, and the variable to which the view gives no access.
 pub record SetAnswer : Type 0 where
   pub status : ErrorStatus
   pub index : ℕ
   pub denied : List Denied
 
-abbrev pub answer_of_refusal : List FamilyRow → Refusal → SetAnswer
+abbrev pub answer_of_refusal : List FamilyRow → SetRefusal → SetAnswer
 answer_of_refusal families refusal = record {
   status = refusal.status;
   index = refusal.index;
@@ -68,7 +68,7 @@ abbrev pub answer_of_notes : Option ℕ → List Key → SetAnswer
 answer_of_notes None undos = record { status = NoError; index = 0; denied = [] }
 answer_of_notes (Some i) undos = answer_of_failure i undos
 
-abbrev pub set_answer : List FamilyRow → Option Refusal → SetNotes → SetAnswer
+abbrev pub set_answer : List FamilyRow → Option SetRefusal → SetNotes → SetAnswer
 set_answer families (Some refusal) notes = answer_of_refusal families refusal
 set_answer families None notes = answer_of_notes notes.commit notes.undos
 
@@ -77,17 +77,17 @@ abbrev pub set_reply : Request → SetAnswer → Reply
 set_reply request answer =
     reply_within_limit (answer_to request answer.status (pos answer.index) request.bindings)
 
--- What is told of a Set that ended so.
-pub record IsToldOf (families : List FamilyRow) (outcome : SetOutcome) (told : SetTold) :
+-- What is reported of a Set that ended so.
+pub record IsReportedOf (families : List FamilyRow) (outcome : SetOutcome) (reported : SetReported) :
     Type 0 where
-  pub status : told.status
+  pub status : reported.status
       ≡ (set_answer families (refusal_in outcome) (notes_in outcome)).status
-  pub index : told.index
+  pub index : reported.index
       ≡ pos (set_answer families (refusal_in outcome) (notes_in outcome)).index
-  pub denied : told.denied
+  pub denied : reported.denied
       ≡ (set_answer families (refusal_in outcome) (notes_in outcome)).denied
-  pub failed_commit : told.failed ≡ (notes_in outcome).commit
-  pub unrestored : told.unrestored ≡ (notes_in outcome).undos
+  pub failed_commit : reported.failed ≡ (notes_in outcome).commit
+  pub unrestored : reported.unrestored ≡ (notes_in outcome).undos
 
 -- ---- what it leaves
 
@@ -109,7 +109,7 @@ settling_bpdus before after = settled_bpdus (not (same_settings_of before after)
 
 -- ---- in all
 
--- What a Set comes to.
+-- What a Set amounts to.
 pub record SetStep : Type 0 where
   pub reply : Reply
   pub denied : List Denied
@@ -170,11 +170,11 @@ set_calls rows world view request notes =
 -- ---- what it may meet
 
 -- Which calls of devices may fail: none where the Set is refused.
-abbrev pub MayFail : Option Refusal → List Written → SetNotes → Type 0
+abbrev pub MayFail : Option SetRefusal → List NamedAssignment → SetNotes → Type 0
 MayFail (Some refusal) ws notes = notes ≡ no_notes
 MayFail None ws notes = AreNotes ws notes
 
-abbrev pub MayFailWhere : Bool → Option Refusal → List Written → SetNotes → Type 0
+abbrev pub MayFailWhere : Bool → Option SetRefusal → List NamedAssignment → SetNotes → Type 0
 MayFailWhere true refusal ws notes = notes ≡ no_notes
 MayFailWhere false refusal ws notes = MayFail refusal ws notes
 
@@ -185,19 +185,19 @@ MayFailInSet rows world view request notes =
     (writings rows world request.bindings) notes
 
 -- A refusal since the view gives no access to a variable.
-abbrev pub IsDenied : Option Refusal → Type 0
+abbrev pub IsDenied : Option SetRefusal → Type 0
 IsDenied (Some refusal) = IsSome refusal.family
 IsDenied None = ⊥
 
 -- A Set whose answer may take memory: its audit names a variable to which the view gives no access;
 -- or it is not refused, it writes a setting of a static row, and the bridge was not sure of memory for
 -- a row of each such setting.
-pub record TakesPlaces (world : World) (ws : List Written) : Type 0 where
+pub record TakesPlaces (world : World) (ws : List NamedAssignment) : Type 0 where
   pub some : 0 < static_count (assignments ws)
   pub lacks : world.bridge.statics.places
       < length world.bridge.statics.rows + static_count (assignments (committed_of ws))
 
-abbrev pub TakesInSetBy : Option Refusal → World → List Written → Type 0
+abbrev pub TakesInSetBy : Option SetRefusal → World → List NamedAssignment → Type 0
 TakesInSetBy (Some refusal) world ws = IsSome refusal.family
 TakesInSetBy None world ws = TakesPlaces world ws
 

@@ -24,7 +24,7 @@ use crate::sets::answer_set;
 use crate::shortage::Shortage;
 use crate::source::Source;
 use crate::whole::Whole;
-use audit_core::{Audit, DeniedBindings, Unrestored, UnrestoredRoom};
+use audit_core::{Audit, DeniedBindings, Unrestored, UnrestoredSpace};
 use decision::{AccessKey, Cause, Decision, decide};
 use message_core::{Bindings, ErrorStatus, Kind, Request};
 use setphase_core::{MibObject, Registry, World};
@@ -64,10 +64,10 @@ pub fn answer<O: MibObject>(
     world: &mut World,
     request: &Request,
     buffer: &mut Buffer,
-    room: UnrestoredRoom,
+    space: UnrestoredSpace,
 ) -> Result<Answered, AllocError>
     requires encodable { AreEncodable request.now.bindings }
-    requires room { request.now.kind ≡ Kind.Set → room ≡ true }
+    requires space { request.now.kind ≡ Kind.Set → space ≡ true }
     ensures { IsStep registry.old world.old request.now result buffer.new world.new registry.new }
 {
     buffer.clear();
@@ -78,17 +78,17 @@ pub fn answer<O: MibObject>(
         }
         Decision::Empty => {
             let none = DeniedBindings::new(alloc);
-            let sent = buffer.put(request, ErrorStatus::NoError, 0, &[]);
-            Ok(reply_with(request, Decision::Empty, none, sent))
+            let fitting = buffer.put(request, ErrorStatus::NoError, 0, &[]);
+            Ok(reply_with(request, Decision::Empty, none, fitting))
         }
         Decision::Refused(why) => {
             let none = DeniedBindings::new(alloc);
             let asked = request.bindings.as_slice();
-            let sent = buffer.put(request, ErrorStatus::AuthorizationError, 0, asked);
-            Ok(reply_with(request, Decision::Refused(why), none, sent))
+            let fitting = buffer.put(request, ErrorStatus::AuthorizationError, 0, asked);
+            Ok(reply_with(request, Decision::Refused(why), none, fitting))
         }
         Decision::Allowed { row, view } => match request.kind {
-            Kind::Set => answer_set(alloc, registry, world, request, row, view, buffer, room),
+            Kind::Set => answer_set(alloc, registry, world, request, row, view, buffer, space),
             Kind::Get | Kind::GetNext | Kind::GetBulk => {
                 answer_read(alloc, registry, world, request, row, view, buffer)
             }
@@ -109,14 +109,14 @@ fn answer_read<O: MibObject>(
     requires community { length request.now.community ≤ MAX_COMMUNITY }
     requires encodable { AreEncodable request.now.bindings }
     requires reads { request.now.kind ≢ Kind.Set }
-    ensures reply { IfOk result (λ told. IsRead (kind_reply (prefixes_of (rows_of registry.now))
+    ensures reply { IfOk result (λ reported. IsRead (kind_reply (prefixes_of (rows_of registry.now))
         (in_view world.now.policy.vacm.families view)
         (instances (rows_of registry.now) world.now) request.now request.now.kind)
         request.now (Decision.Allowed row view)
         (denied_in world.now.policy.vacm.families view request.now request.now.kind)
         (LacksNameOf (in_view world.now.policy.vacm.families view)
         (instances (rows_of registry.now) world.now) request.now request.now.kind)
-        told buffer.new.reply) }
+        reported buffer.new.reply) }
     ensures bpdus { buffer.new.bpdus ≡ buffer.old.bpdus }
     ensures err { OnErr result (buffer.new ≡ buffer.old) }
 {
@@ -124,8 +124,8 @@ fn answer_read<O: MibObject>(
     let read = send_read(alloc, registry, world, &view, request, &denied, buffer)?;
     let decision = Decision::Allowed { row, view };
     Ok(match read.unnamed {
-        None => reply_with(request, decision, denied, read.sent),
-        Some(number) => unnamed_with(alloc, request, decision, number, read.sent),
+        None => reply_with(request, decision, denied, read.fitting),
+        Some(number) => unnamed_with(alloc, request, decision, number, read.fitting),
     })
 }
 
@@ -163,12 +163,12 @@ fn audit_with(
     request: &Request,
     decision: Decision,
     denied: DeniedBindings,
-    sent: SentReply,
+    fitting: SentReply,
 ) -> Audit
     ensures { result ≡ record {
       kind = request.now.kind;
-      status = sent.status;
-      index = sent.index;
+      status = fitting.status;
+      index = fitting.index;
       decision = decision;
       denied = denied;
       unrestored = [];
@@ -176,8 +176,8 @@ fn audit_with(
 {
     Audit {
         kind: request.kind,
-        status: sent.status,
-        index: sent.index,
+        status: fitting.status,
+        index: fitting.index,
         decision,
         denied,
         unrestored: Unrestored::none(),
@@ -189,20 +189,20 @@ fn reply_with(
     request: &Request,
     decision: Decision,
     denied: DeniedBindings,
-    sent: SentReply,
+    fitting: SentReply,
 ) -> Answered
-    ensures { result ≡ Answered.Reply sent.length (record {
+    ensures { result ≡ Answered.Reply fitting.length (record {
       kind = request.now.kind;
-      status = sent.status;
-      index = sent.index;
+      status = fitting.status;
+      index = fitting.index;
       decision = decision;
       denied = denied;
       unrestored = [];
     }) None }
 {
     Answered::Reply(
-        sent.length,
-        audit_with(request, decision, denied, sent),
+        fitting.length,
+        audit_with(request, decision, denied, fitting),
         None,
     )
 }
@@ -214,12 +214,12 @@ fn unnamed_with(
     request: &Request,
     decision: Decision,
     number: usize,
-    sent: SentReply,
+    fitting: SentReply,
 ) -> Answered
-    ensures { result ≡ Answered.Unnamed sent.length (record {
+    ensures { result ≡ Answered.Unnamed fitting.length (record {
       kind = request.now.kind;
-      status = sent.status;
-      index = sent.index;
+      status = fitting.status;
+      index = fitting.index;
       decision = decision;
       denied = [];
       unrestored = [];
@@ -227,8 +227,8 @@ fn unnamed_with(
 {
     let none = DeniedBindings::new(alloc);
     Answered::Unnamed(
-        sent.length,
-        audit_with(request, decision, none, sent),
+        fitting.length,
+        audit_with(request, decision, none, fitting),
         number,
     )
 }
@@ -252,7 +252,7 @@ pub fn short_reply(request: &Request, buffer: &mut Buffer) -> usize
 
 // Puts the reply to a request that is allowed in a view, and of which these bindings are denied, into
 // the buffer. A Get of which none is denied is answered as where every name is seen: so no name is
-// looked up in the view again.
+// searched in the view again.
 fn send_read<O: MibObject>(
     alloc: Global,
     registry: &Registry<O>,
@@ -267,7 +267,7 @@ fn send_read<O: MibObject>(
     requires reads { request.now.kind ≢ Kind.Set }
     requires denied { denied.now ≡
         denied_in world.now.policy.vacm.families view.now request.now request.now.kind }
-    ensures sent { IfOk result (λ read. IsSentRead (kind_reply (prefixes_of (rows_of registry.now))
+    ensures fitting { IfOk result (λ read. IsSentRead (kind_reply (prefixes_of (rows_of registry.now))
         (in_view world.now.policy.vacm.families view.now)
         (instances (rows_of registry.now) world.now) request.now request.now.kind) request.now
         (LacksNameOf (in_view world.now.policy.vacm.families view.now)
@@ -295,7 +295,7 @@ fn send_allowed<O: MibObject>(
     requires community { length request.now.community ≤ MAX_COMMUNITY }
     requires encodable { AreEncodable request.now.bindings }
     requires reads { request.now.kind ≢ Kind.Set }
-    ensures sent { IfOk result (λ read. IsSentRead (kind_reply (prefixes_of (rows_of registry.now))
+    ensures fitting { IfOk result (λ read. IsSentRead (kind_reply (prefixes_of (rows_of registry.now))
         (in_view world.now.policy.vacm.families view.now)
         (instances (rows_of registry.now) world.now) request.now request.now.kind) request.now
         (LacksNameOf (in_view world.now.policy.vacm.families view.now)
@@ -323,7 +323,7 @@ fn send_served<O: MibObject, L: Ledger>(
     requires parts { blank.parts ≡ L.parts }
     requires some { 0 < blank.parts }
     requires reads { request.now.kind ≢ Kind.Set }
-    ensures sent { IfOk result (λ read. IsSentRead (kind_reply (prefixes_of (rows_of registry.now))
+    ensures fitting { IfOk result (λ read. IsSentRead (kind_reply (prefixes_of (rows_of registry.now))
         (in_view world.now.policy.vacm.families view.now)
         (instances (rows_of registry.now) world.now) request.now request.now.kind) request.now
         (LacksNameOf (in_view world.now.policy.vacm.families view.now)
@@ -359,7 +359,7 @@ fn send_undenied<O: MibObject, L: Ledger>(
     requires parts { blank.parts ≡ L.parts }
     requires some { 0 < blank.parts }
     requires reads { request.now.kind ≢ Kind.Set }
-    ensures sent { IfOk result (λ read. IsSentRead (kind_reply (prefixes_of (rows_of registry.now))
+    ensures fitting { IfOk result (λ read. IsSentRead (kind_reply (prefixes_of (rows_of registry.now))
         (λ name. true) (instances (rows_of registry.now) world.now) request.now request.now.kind)
         request.now (LacksNameOf (λ name. true) (instances (rows_of registry.now) world.now)
         request.now request.now.kind) read buffer.new.reply) }
@@ -410,8 +410,8 @@ fn send_unnamed(
     requires community { length request.now.community ≤ MAX_COMMUNITY }
     requires encodable { AreEncodable request.now.bindings }
     ensures unnamed { IfOk result (λ read. read.unnamed ≡ Some number) }
-    ensures sent { IfOk result (λ read.
-        IsSent (name_failure_reply request.now number) read.sent buffer.new.reply) }
+    ensures fitting { IfOk result (λ read.
+        IsSent (name_failure_reply request.now number) read.fitting buffer.new.reply) }
     ensures bpdus { buffer.new.bpdus ≡ buffer.old.bpdus }
     ensures err { OnErr result (buffer.new ≡ buffer.old) }
     ensures most { OnErr result (greatest_index < number) }
@@ -421,7 +421,7 @@ fn send_unnamed(
     };
     let asked = request.bindings.as_slice();
     Ok(ReadReply {
-        sent: buffer.put(request, ErrorStatus::GenErr, index, asked),
+        fitting: buffer.put(request, ErrorStatus::GenErr, index, asked),
         unnamed: Some(number),
     })
 }
@@ -437,7 +437,7 @@ fn send_kind<S: Source<L>, L: Ledger>(
     requires community { length request.now.community ≤ MAX_COMMUNITY }
     requires encodable { AreEncodable request.now.bindings }
     requires reads { request.now.kind ≢ Kind.Set }
-    ensures sent { IfOk result (λ read.
+    ensures fitting { IfOk result (λ read.
         IsSentRead (kind_reply (S.objects source.now) (S.shows source.now)
         (S.instances source.now) request.now request.now.kind) request.now
         (LacksNameOf (S.shows source.now) (S.instances source.now) request.now request.now.kind)
@@ -447,7 +447,7 @@ fn send_kind<S: Source<L>, L: Ledger>(
 {
     match read_kind(alloc, source, request, steps) {
         Ok(answers) => Ok(ReadReply {
-            sent: buffer.put(request, ErrorStatus::NoError, 0, answers.as_slice()),
+            fitting: buffer.put(request, ErrorStatus::NoError, 0, answers.as_slice()),
             unnamed: None,
         }),
         Err(Shortage::Name(number)) => send_unnamed(request, number, buffer),

@@ -6,18 +6,18 @@ ghost use Rattle.message_core.specs.Encodable.{AreEncodable, IsEncodableBinding}
 ghost use Rattle.message_core.specs.declared.limits.TheConstants.{MAX_COMMUNITY};
 ghost use Rattle.message_core.specs.Instances.{names_of};
 ghost use Rattle.agent_core.specs.Reading.{visible, next_answer, next_answers};
-ghost use Rattle.agent_core.specs.Looking.{most_looks, LacksName};
+ghost use Rattle.agent_core.specs.Lookups.{most_lookups, LacksName};
 ghost use Rattle.agent_core.specs.Lacking.{IsLacking, LacksBulkName, IfName, bulk_names, binding_number};
 ghost use Rattle.agent_core.specs.Bulk.{all_end, repetitions, further, bulk_list, count_of, asked_list};
 ghost use Rattle.agent_core.specs.Sending.{kept, AreStands};
 ghost use Rattle.agent_core.specs.Fitting.{fitting_front, fit_into, most_successors, IsFilled};
 ghost use Rattle.message_core.specs.declared.binding.Binding.{Binding};
 
+use crate::fitting::FittingBindings;
 use crate::nexts::{copy_of, find_next};
-use crate::sent::Sent;
 use crate::shortage::Shortage;
 use crate::source::{Stand, Successors};
-use message_core::{Binding, Bindings, Request, Value, bindings_room};
+use message_core::{Binding, Bindings, Request, Value, bindings_space};
 use oid_core::Oid;
 use setphase_core::Spot;
 use std::alloc::{AllocError, Global};
@@ -26,11 +26,11 @@ use steps::Steps;
 
 // Where a walk stands at a name, found beside the stand of the last binding that was sent, if that is
 // kept.
-fn stand_at<S: Successors<L>, L: Ledger>(source: &S, sent: &Sent, name: &Oid) -> Stand
-    requires { AreStands (S.stands source.now) sent.now.stands (names_of sent.now.bindings) }
+fn stand_at<S: Successors<L>, L: Ledger>(source: &S, fitting: &FittingBindings, name: &Oid) -> Stand
+    requires { AreStands (S.stands source.now) fitting.now.stands (names_of fitting.now.bindings) }
     ensures { S.stands source.now result name.now }
 {
-    match sent.stand(1) {
+    match fitting.stand(1) {
         Some(other) => source.start_beside(name, other),
         None => source.start(name),
     }
@@ -39,20 +39,20 @@ fn stand_at<S: Successors<L>, L: Ledger>(source: &S, sent: &Sent, name: &Oid) ->
 // Where the walk stands at the name of the binding so many places back: as it was kept, if it was.
 fn stand_back<S: Successors<L>, L: Ledger>(
     source: &S,
-    sent: &Sent,
+    fitting: &FittingBindings,
     back: usize,
     name: &Oid,
 ) -> Stand
-    requires stands { AreStands (S.stands source.now) sent.now.stands
-        (names_of sent.now.bindings) }
+    requires stands { AreStands (S.stands source.now) fitting.now.stands
+        (names_of fitting.now.bindings) }
     requires some { 1 ≤ back }
-    requires name { name.now ≡ get_or (names_of sent.now.bindings)
-        (length sent.now.bindings - back) [] }
+    requires name { name.now ≡ get_or (names_of fitting.now.bindings)
+        (length fitting.now.bindings - back) [] }
     ensures stands { S.stands source.now result name.now }
-    ensures kept { back ≤ length sent.now.stands →
-        result ≡ get_or sent.now.stands (length sent.now.stands - back) result }
+    ensures kept { back ≤ length fitting.now.stands →
+        result ≡ get_or fitting.now.stands (length fitting.now.stands - back) result }
 {
-    match sent.stand(back) {
+    match fitting.stand(back) {
         Some(stand) => *stand,
         None => source.start(name),
     }
@@ -66,23 +66,23 @@ fn offer_instance<S: Successors<L>, L: Ledger>(
     source: &S,
     spot: &Spot,
     stand: Stand,
-    sent: &mut Sent,
+    fitting: &mut FittingBindings,
 ) -> Result<bool, AllocError>
     requires there { S.is_there source.now spot.now }
     requires encodable { IsEncodableBinding (S.at source.now spot.now) }
     ensures taken { IfOk result (λ taken. IsTrue taken →
-        sent.new.bindings ≡ sent.old.bindings ++ S.at source.now spot.now ∷ []) }
+        fitting.new.bindings ≡ fitting.old.bindings ++ S.at source.now spot.now ∷ []) }
     ensures stand { IfOk result (λ taken. IsTrue taken →
-        sent.new.stands ≡ kept sent.old.most_stands sent.old.stands stand) }
-    ensures full { IfOk result (λ taken. taken ≡ false → sent.new ≡ sent.old) }
-    ensures fits { IfOk result (λ taken. taken ≡ fit_into sent.old.room
-        (sent.old.bindings ++ S.at source.now spot.now ∷ [])) }
-    ensures room { sent.new.room ≡ sent.old.room }
-    ensures err { OnErr result (sent.new ≡ sent.old) }
+        fitting.new.stands ≡ kept fitting.old.most_stands fitting.old.stands stand) }
+    ensures full { IfOk result (λ taken. taken ≡ false → fitting.new ≡ fitting.old) }
+    ensures fits { IfOk result (λ taken. taken ≡ fit_into fitting.old.space
+        (fitting.old.bindings ++ S.at source.now spot.now ∷ [])) }
+    ensures space { fitting.new.space ≡ fitting.old.space }
+    ensures err { OnErr result (fitting.new ≡ fitting.old) }
     ensures long { OnErr result (INLINE_NUMBERS < length (S.at source.now spot.now).name) }
 {
     let name = source.name(alloc, spot)?;
-    Ok(sent.offer(name, source.value(alloc, spot), stand))
+    Ok(fitting.offer(name, source.value(alloc, spot), stand))
 }
 
 // Sends what GetNext answers under a name where it fits, and says whether it did.
@@ -90,32 +90,32 @@ fn send_next<S: Successors<L>, L: Ledger>(
     alloc: Global,
     source: &S,
     name: &Oid,
-    sent: &mut Sent,
+    fitting: &mut FittingBindings,
     spot: &mut Spot,
     steps: &mut Steps<L>,
 ) -> Result<bool, AllocError>
-    requires stands { AreStands (S.stands source.now) sent.old.stands (names_of sent.old.bindings) }
+    requires stands { AreStands (S.stands source.now) fitting.old.stands (names_of fitting.old.bindings) }
     requires root { HasRoot name.now }
     ensures taken { IfOk result (λ taken. IsTrue taken →
-        sent.new.bindings ≡ sent.old.bindings ++ next_answer (visible (S.shows source.now)
+        fitting.new.bindings ≡ fitting.old.bindings ++ next_answer (visible (S.shows source.now)
         (S.instances source.now)) name.now ∷ []) }
-    ensures full { IfOk result (λ taken. taken ≡ false → sent.new.bindings ≡ sent.old.bindings) }
+    ensures full { IfOk result (λ taken. taken ≡ false → fitting.new.bindings ≡ fitting.old.bindings) }
     ensures fits { IfOk result (λ taken.
-        taken ≡ fit_into sent.old.room (sent.old.bindings ++ next_answer
+        taken ≡ fit_into fitting.old.space (fitting.old.bindings ++ next_answer
         (visible (S.shows source.now) (S.instances source.now)) name.now ∷ [])) }
-    ensures stands { AreStands (S.stands source.now) sent.new.stands (names_of sent.new.bindings) }
-    ensures room { sent.new.room ≡ sent.old.room }
-    ensures err { OnErr result (sent.new.bindings ≡ sent.old.bindings) }
+    ensures stands { AreStands (S.stands source.now) fitting.new.stands (names_of fitting.new.bindings) }
+    ensures space { fitting.new.space ≡ fitting.old.space }
+    ensures err { OnErr result (fitting.new.bindings ≡ fitting.old.bindings) }
     ensures lacks { OnErr result
         (LacksName (S.shows source.now) (S.instances source.now) name.now) }
-    ensures work { steps.new ≤ steps.old + most_looks (S.shows source.now) (S.instances source.now) }
+    ensures work { steps.new ≤ steps.old + most_lookups (S.shows source.now) (S.instances source.now) }
 {
-    let mut stand = stand_at(source, sent, name);
+    let mut stand = stand_at(source, fitting, name);
     if find_next(alloc, source, name, true, &mut stand, spot, steps)? {
-        return offer_instance(alloc, source, spot, stand, sent);
+        return offer_instance(alloc, source, spot, stand, fitting);
     }
     let name = copy_of(alloc, name)?;
-    Ok(sent.offer(name, Value::EndOfMibView, stand))
+    Ok(fitting.offer(name, Value::EndOfMibView, stand))
 }
 
 // Sends one repetition, GetNext of the name of each of these bindings, as far as it fits, and
@@ -124,34 +124,34 @@ fn repeat_once<S: Successors<L>, L: Ledger>(
     alloc: Global,
     source: &S,
     asked: &[Binding],
-    sent: &mut Sent,
+    fitting: &mut FittingBindings,
     spot: &mut Spot,
     steps: &mut Steps<L>,
 ) -> Result<bool, AllocError>
-    requires stands { AreStands (S.stands source.now) sent.old.stands (names_of sent.old.bindings) }
+    requires stands { AreStands (S.stands source.now) fitting.old.stands (names_of fitting.old.bindings) }
     requires encodable { AreEncodable asked.now }
     ensures whole { IfOk result (λ whole. IsTrue whole →
-        sent.new.bindings ≡ sent.old.bindings ++ next_answers
+        fitting.new.bindings ≡ fitting.old.bindings ++ next_answers
         (visible (S.shows source.now) (S.instances source.now)) (names_of asked.now)) }
     ensures cut { IfOk result (λ whole. whole ≡ false → (more : List Binding) →
-        IsFilled sent.new.room (sent.old.bindings ++ (next_answers
+        IsFilled fitting.new.space (fitting.old.bindings ++ (next_answers
         (visible (S.shows source.now) (S.instances source.now)) (names_of asked.now) ++ more))
-        sent.new.bindings) }
-    ensures stands { AreStands (S.stands source.now) sent.new.stands (names_of sent.new.bindings) }
-    ensures room { sent.new.room ≡ sent.old.room }
-    ensures work { let most = most_looks (S.shows source.now) (S.instances source.now) in
-        steps.new + length sent.old.bindings * most
-        ≤ steps.old + (length sent.new.bindings + 1) * most }
-    ensures whole_work { let most = most_looks (S.shows source.now) (S.instances source.now) in
+        fitting.new.bindings) }
+    ensures stands { AreStands (S.stands source.now) fitting.new.stands (names_of fitting.new.bindings) }
+    ensures space { fitting.new.space ≡ fitting.old.space }
+    ensures work { let most = most_lookups (S.shows source.now) (S.instances source.now) in
+        steps.new + length fitting.old.bindings * most
+        ≤ steps.old + (length fitting.new.bindings + 1) * most }
+    ensures whole_work { let most = most_lookups (S.shows source.now) (S.instances source.now) in
         IfOk result (λ whole. IsTrue whole →
-        steps.new + length sent.old.bindings * most ≤ steps.old + length sent.new.bindings * most) }
+        steps.new + length fitting.old.bindings * most ≤ steps.old + length fitting.new.bindings * most) }
     ensures lacks { OnErr result (IsLacking (S.shows source.now) (S.instances source.now)
-        (λ found. names_of asked.now) sent.old.bindings (sent.old.bindings ++ next_answers
+        (λ found. names_of asked.now) fitting.old.bindings (fitting.old.bindings ++ next_answers
         (visible (S.shows source.now) (S.instances source.now)) (names_of asked.now))
-        sent.new.bindings) }
+        fitting.new.bindings) }
 {
     for binding in asked {
-        if !send_next(alloc, source, &binding.name, sent, spot, steps)? {
+        if !send_next(alloc, source, &binding.name, fitting, spot, steps)? {
             return Ok(false);
         }
     }
@@ -164,38 +164,38 @@ fn send_successor<S: Successors<L>, L: Ledger>(
     alloc: Global,
     source: &S,
     back: usize,
-    sent: &mut Sent,
+    fitting: &mut FittingBindings,
     spot: &mut Spot,
     steps: &mut Steps<L>,
 ) -> Result<bool, AllocError>
-    requires stands { AreStands (S.stands source.now) sent.old.stands (names_of sent.old.bindings) }
+    requires stands { AreStands (S.stands source.now) fitting.old.stands (names_of fitting.old.bindings) }
     requires some { 1 ≤ back }
-    requires there { back ≤ length sent.old.bindings }
-    ensures taken { let name = get_or (names_of sent.old.bindings)
-        (length sent.old.bindings - back) [] in
+    requires there { back ≤ length fitting.old.bindings }
+    ensures taken { let name = get_or (names_of fitting.old.bindings)
+        (length fitting.old.bindings - back) [] in
         IfOk result (λ taken. IsTrue taken →
-        sent.new.bindings ≡ sent.old.bindings ++ next_answer (visible (S.shows source.now)
+        fitting.new.bindings ≡ fitting.old.bindings ++ next_answer (visible (S.shows source.now)
         (S.instances source.now)) name ∷ []) }
-    ensures full { IfOk result (λ taken. taken ≡ false → sent.new.bindings ≡ sent.old.bindings) }
-    ensures fits { let name = get_or (names_of sent.old.bindings)
-        (length sent.old.bindings - back) [] in
+    ensures full { IfOk result (λ taken. taken ≡ false → fitting.new.bindings ≡ fitting.old.bindings) }
+    ensures fits { let name = get_or (names_of fitting.old.bindings)
+        (length fitting.old.bindings - back) [] in
         IfOk result (λ taken.
-        taken ≡ fit_into sent.old.room (sent.old.bindings ++ next_answer
+        taken ≡ fit_into fitting.old.space (fitting.old.bindings ++ next_answer
         (visible (S.shows source.now) (S.instances source.now)) name ∷ [])) }
-    ensures stands { AreStands (S.stands source.now) sent.new.stands (names_of sent.new.bindings) }
-    ensures room { sent.new.room ≡ sent.old.room }
-    ensures err { OnErr result (sent.new.bindings ≡ sent.old.bindings) }
+    ensures stands { AreStands (S.stands source.now) fitting.new.stands (names_of fitting.new.bindings) }
+    ensures space { fitting.new.space ≡ fitting.old.space }
+    ensures err { OnErr result (fitting.new.bindings ≡ fitting.old.bindings) }
     ensures lacks { OnErr result (LacksName (S.shows source.now) (S.instances source.now)
-        (get_or (names_of sent.old.bindings) (length sent.old.bindings - back) [])) }
-    ensures work { steps.new ≤ steps.old + most_looks (S.shows source.now) (S.instances source.now) }
+        (get_or (names_of fitting.old.bindings) (length fitting.old.bindings - back) [])) }
+    ensures work { steps.new ≤ steps.old + most_lookups (S.shows source.now) (S.instances source.now) }
 {
-    let before = &sent.last(back)[0];
-    let mut stand = stand_back(source, sent, back, &before.name);
+    let before = &fitting.last(back)[0];
+    let mut stand = stand_back(source, fitting, back, &before.name);
     if find_next(alloc, source, &before.name, true, &mut stand, spot, steps)? {
-        return offer_instance(alloc, source, spot, stand, sent);
+        return offer_instance(alloc, source, spot, stand, fitting);
     }
     let name = copy_of(alloc, &before.name)?;
-    Ok(sent.offer(name, Value::EndOfMibView, stand))
+    Ok(fitting.offer(name, Value::EndOfMibView, stand))
 }
 
 // Sends one repetition more, GetNext of the names of the one that was sent last, which has so many
@@ -204,37 +204,37 @@ fn repeat_last<S: Successors<L>, L: Ledger>(
     alloc: Global,
     source: &S,
     columns: usize,
-    sent: &mut Sent,
+    fitting: &mut FittingBindings,
     spot: &mut Spot,
     steps: &mut Steps<L>,
 ) -> Result<bool, AllocError>
-    requires stands { AreStands (S.stands source.now) sent.old.stands (names_of sent.old.bindings) }
-    requires columns { columns ≤ length sent.old.bindings }
-    ensures whole { let last = drop (length sent.old.bindings - columns) sent.old.bindings in
+    requires stands { AreStands (S.stands source.now) fitting.old.stands (names_of fitting.old.bindings) }
+    requires columns { columns ≤ length fitting.old.bindings }
+    ensures whole { let last = drop (length fitting.old.bindings - columns) fitting.old.bindings in
         IfOk result (λ whole. IsTrue whole →
-        sent.new.bindings ≡ sent.old.bindings ++ next_answers
+        fitting.new.bindings ≡ fitting.old.bindings ++ next_answers
         (visible (S.shows source.now) (S.instances source.now)) (names_of last)) }
-    ensures cut { let last = drop (length sent.old.bindings - columns) sent.old.bindings in
+    ensures cut { let last = drop (length fitting.old.bindings - columns) fitting.old.bindings in
         IfOk result (λ whole. whole ≡ false → (more : List Binding) →
-        IsFilled sent.new.room (sent.old.bindings ++ (next_answers
+        IsFilled fitting.new.space (fitting.old.bindings ++ (next_answers
         (visible (S.shows source.now) (S.instances source.now)) (names_of last) ++ more))
-        sent.new.bindings) }
-    ensures stands { AreStands (S.stands source.now) sent.new.stands (names_of sent.new.bindings) }
-    ensures room { sent.new.room ≡ sent.old.room }
-    ensures work { let most = most_looks (S.shows source.now) (S.instances source.now) in
-        steps.new + length sent.old.bindings * most
-        ≤ steps.old + (length sent.new.bindings + 1) * most }
-    ensures whole_work { let most = most_looks (S.shows source.now) (S.instances source.now) in
+        fitting.new.bindings) }
+    ensures stands { AreStands (S.stands source.now) fitting.new.stands (names_of fitting.new.bindings) }
+    ensures space { fitting.new.space ≡ fitting.old.space }
+    ensures work { let most = most_lookups (S.shows source.now) (S.instances source.now) in
+        steps.new + length fitting.old.bindings * most
+        ≤ steps.old + (length fitting.new.bindings + 1) * most }
+    ensures whole_work { let most = most_lookups (S.shows source.now) (S.instances source.now) in
         IfOk result (λ whole. IsTrue whole →
-        steps.new + length sent.old.bindings * most ≤ steps.old + length sent.new.bindings * most) }
-    ensures lacks { let last = drop (length sent.old.bindings - columns) sent.old.bindings in
+        steps.new + length fitting.old.bindings * most ≤ steps.old + length fitting.new.bindings * most) }
+    ensures lacks { let last = drop (length fitting.old.bindings - columns) fitting.old.bindings in
         OnErr result (IsLacking (S.shows source.now) (S.instances source.now)
-        (λ found. names_of last) sent.old.bindings (sent.old.bindings ++ next_answers
+        (λ found. names_of last) fitting.old.bindings (fitting.old.bindings ++ next_answers
         (visible (S.shows source.now) (S.instances source.now)) (names_of last))
-        sent.new.bindings) }
+        fitting.new.bindings) }
 {
     for column in 0..columns {
-        if !send_successor(alloc, source, columns, sent, spot, steps)? {
+        if !send_successor(alloc, source, columns, fitting, spot, steps)? {
             return Ok(false);
         }
     }
@@ -253,36 +253,36 @@ fn has_ended(row: &[Binding]) -> bool
 //
 // Each but the last sends a binding for each name and so takes octets: there are no more repetitions
 // than bindings that fit, and one, whatever `most` is.
-fn go_on<S: Successors<L>, L: Ledger>(
+fn repeat_further<S: Successors<L>, L: Ledger>(
     alloc: Global,
     source: &S,
     columns: usize,
     most: u32,
-    sent: &mut Sent,
+    fitting: &mut FittingBindings,
     spot: &mut Spot,
     steps: &mut Steps<L>,
 ) -> Result<(), AllocError>
-    requires stands { AreStands (S.stands source.now) sent.old.stands (names_of sent.old.bindings) }
-    requires columns { columns ≤ length sent.old.bindings }
-    ensures filled { let last = drop (length sent.old.bindings - columns) sent.old.bindings in
-        OnOk result (IsFilled sent.old.room (sent.old.bindings ++ further
-        (visible (S.shows source.now) (S.instances source.now)) most last) sent.new.bindings) }
-    ensures stands { AreStands (S.stands source.now) sent.new.stands (names_of sent.new.bindings) }
-    ensures room { sent.new.room ≡ sent.old.room }
-    ensures work { let most = most_looks (S.shows source.now) (S.instances source.now) in
-        steps.new + length sent.old.bindings * most
-        ≤ steps.old + (length sent.new.bindings + 1) * most }
-    ensures lacks { let last = drop (length sent.old.bindings - columns) sent.old.bindings in
+    requires stands { AreStands (S.stands source.now) fitting.old.stands (names_of fitting.old.bindings) }
+    requires columns { columns ≤ length fitting.old.bindings }
+    ensures filled { let last = drop (length fitting.old.bindings - columns) fitting.old.bindings in
+        OnOk result (IsFilled fitting.old.space (fitting.old.bindings ++ further
+        (visible (S.shows source.now) (S.instances source.now)) most last) fitting.new.bindings) }
+    ensures stands { AreStands (S.stands source.now) fitting.new.stands (names_of fitting.new.bindings) }
+    ensures space { fitting.new.space ≡ fitting.old.space }
+    ensures work { let most = most_lookups (S.shows source.now) (S.instances source.now) in
+        steps.new + length fitting.old.bindings * most
+        ≤ steps.old + (length fitting.new.bindings + 1) * most }
+    ensures lacks { let last = drop (length fitting.old.bindings - columns) fitting.old.bindings in
         OnErr result (IsLacking (S.shows source.now) (S.instances source.now)
-        (bulk_names (names_of last) 0) sent.old.bindings (sent.old.bindings ++ further
+        (bulk_names (names_of last) 0) fitting.old.bindings (fitting.old.bindings ++ further
         (visible (S.shows source.now) (S.instances source.now)) most last)
-        sent.new.bindings) }
+        fitting.new.bindings) }
 {
     for i in 0..most {
-        if has_ended(sent.last(columns)) {
+        if has_ended(fitting.last(columns)) {
             return Ok(());
         }
-        if !repeat_last(alloc, source, columns, sent, spot, steps)? {
+        if !repeat_last(alloc, source, columns, fitting, spot, steps)? {
             return Ok(());
         }
     }
@@ -295,32 +295,32 @@ fn repeat<S: Successors<L>, L: Ledger>(
     source: &S,
     asked: &[Binding],
     most: u32,
-    sent: &mut Sent,
+    fitting: &mut FittingBindings,
     spot: &mut Spot,
     steps: &mut Steps<L>,
 ) -> Result<(), AllocError>
-    requires stands { AreStands (S.stands source.now) sent.old.stands (names_of sent.old.bindings) }
+    requires stands { AreStands (S.stands source.now) fitting.old.stands (names_of fitting.old.bindings) }
     requires encodable { AreEncodable asked.now }
-    ensures filled { OnOk result (IsFilled sent.old.room (sent.old.bindings ++ repetitions
+    ensures filled { OnOk result (IsFilled fitting.old.space (fitting.old.bindings ++ repetitions
         (visible (S.shows source.now)
-        (S.instances source.now)) most (names_of asked.now)) sent.new.bindings) }
-    ensures stands { AreStands (S.stands source.now) sent.new.stands (names_of sent.new.bindings) }
-    ensures room { sent.new.room ≡ sent.old.room }
-    ensures work { let most = most_looks (S.shows source.now) (S.instances source.now) in
-        steps.new + length sent.old.bindings * most
-        ≤ steps.old + (length sent.new.bindings + 1) * most }
+        (S.instances source.now)) most (names_of asked.now)) fitting.new.bindings) }
+    ensures stands { AreStands (S.stands source.now) fitting.new.stands (names_of fitting.new.bindings) }
+    ensures space { fitting.new.space ≡ fitting.old.space }
+    ensures work { let most = most_lookups (S.shows source.now) (S.instances source.now) in
+        steps.new + length fitting.old.bindings * most
+        ≤ steps.old + (length fitting.new.bindings + 1) * most }
     ensures lacks { OnErr result (IsLacking (S.shows source.now) (S.instances source.now)
-        (bulk_names (names_of asked.now) 0) sent.old.bindings (sent.old.bindings ++ repetitions
+        (bulk_names (names_of asked.now) 0) fitting.old.bindings (fitting.old.bindings ++ repetitions
         (visible (S.shows source.now) (S.instances source.now)) most (names_of asked.now))
-        sent.new.bindings) }
+        fitting.new.bindings) }
 {
     if most == 0 {
         return Ok(());
     }
-    if !repeat_once(alloc, source, asked, sent, spot, steps)? {
+    if !repeat_once(alloc, source, asked, fitting, spot, steps)? {
         return Ok(());
     }
-    go_on(alloc, source, asked.len(), most - 1, sent, spot, steps)
+    repeat_further(alloc, source, asked.len(), most - 1, fitting, spot, steps)
 }
 
 // Sends the first `once` names once, and the others up to `most` times, as far as they fit.
@@ -330,31 +330,31 @@ fn send_list<S: Successors<L>, L: Ledger>(
     once: usize,
     most: u32,
     asked: &[Binding],
-    sent: &mut Sent,
+    fitting: &mut FittingBindings,
     spot: &mut Spot,
     steps: &mut Steps<L>,
 ) -> Result<(), AllocError>
-    requires stands { AreStands (S.stands source.now) sent.old.stands (names_of sent.old.bindings) }
+    requires stands { AreStands (S.stands source.now) fitting.old.stands (names_of fitting.old.bindings) }
     requires once { once ≤ length asked.now }
     requires encodable { AreEncodable asked.now }
-    ensures filled { OnOk result (IsFilled sent.old.room (sent.old.bindings ++ bulk_list
+    ensures filled { OnOk result (IsFilled fitting.old.space (fitting.old.bindings ++ bulk_list
         (visible (S.shows source.now) (S.instances source.now)) once most
-        (names_of asked.now)) sent.new.bindings) }
-    ensures stands { AreStands (S.stands source.now) sent.new.stands (names_of sent.new.bindings) }
-    ensures room { sent.new.room ≡ sent.old.room }
-    ensures work { let most = most_looks (S.shows source.now) (S.instances source.now) in
-        steps.new + length sent.old.bindings * most
-        ≤ steps.old + (length sent.new.bindings + 1) * most }
+        (names_of asked.now)) fitting.new.bindings) }
+    ensures stands { AreStands (S.stands source.now) fitting.new.stands (names_of fitting.new.bindings) }
+    ensures space { fitting.new.space ≡ fitting.old.space }
+    ensures work { let most = most_lookups (S.shows source.now) (S.instances source.now) in
+        steps.new + length fitting.old.bindings * most
+        ≤ steps.old + (length fitting.new.bindings + 1) * most }
     ensures lacks { OnErr result (IsLacking (S.shows source.now) (S.instances source.now)
-        (bulk_names (names_of asked.now) once) sent.old.bindings (sent.old.bindings ++ bulk_list
+        (bulk_names (names_of asked.now) once) fitting.old.bindings (fitting.old.bindings ++ bulk_list
         (visible (S.shows source.now) (S.instances source.now)) once most (names_of asked.now))
-        sent.new.bindings) }
+        fitting.new.bindings) }
 {
     let (first, columns) = asked.split_at(once);
-    if !repeat_once(alloc, source, first, sent, spot, steps)? {
+    if !repeat_once(alloc, source, first, fitting, spot, steps)? {
         return Ok(());
     }
-    repeat(alloc, source, columns, most, sent, spot, steps)
+    repeat(alloc, source, columns, most, fitting, spot, steps)
 }
 
 // A number of a request as a count, 0 where it is negative.
@@ -397,9 +397,9 @@ fn binding_number(once: usize, columns: usize, before: usize) -> usize
 /// What GetBulk answers (RFC 3416, 4.2.3): the longest front of the list that it asks for whose
 /// reply has at most `MAX_REPLY`, 1,472, octets.
 ///
-/// Each lookup at the source is a step. There are at most `most_looks` for each binding that is sent,
+/// Each lookup at the source is a step. There are at most `most_lookups` for each binding that is sent,
 /// and for one more, whatever max-repetitions says; so at most `most_successors`, 246, times as
-/// many, also where memory fails. `most_looks` is one more than the instances that the view hides.
+/// many, also where memory fails. `most_lookups` is one more than the instances that the view hides.
 ///
 /// # Errors
 /// `Shortage::Name` with the number of the binding of which a member of the list is asked that is to be
@@ -413,13 +413,13 @@ pub fn get_bulk<S: Successors<L>, L: Ledger>(
 ) -> Result<Bindings, Shortage>
     requires community { length request.now.community ≤ MAX_COMMUNITY }
     requires encodable { AreEncodable request.now.bindings }
-    ensures answer { IfOk result (λ sent.
-        sent ≡ fitting_front request.now (asked_list (visible (S.shows source.now)
+    ensures answer { IfOk result (λ fitting.
+        fitting ≡ fitting_front request.now (asked_list (visible (S.shows source.now)
         (S.instances source.now)) request.now)) }
-    ensures encodable { IfOk result (λ sent. AreEncodable sent) }
-    ensures work { let most = most_looks (S.shows source.now) (S.instances source.now) in
-        IfOk result (λ sent. steps.new ≤ steps.old + (length sent + 1) * most) }
-    ensures most_work { steps.new ≤ steps.old + most_successors * most_looks (S.shows source.now)
+    ensures encodable { IfOk result (λ fitting. AreEncodable fitting) }
+    ensures work { let most = most_lookups (S.shows source.now) (S.instances source.now) in
+        IfOk result (λ fitting. steps.new ≤ steps.old + (length fitting + 1) * most) }
+    ensures most_work { steps.new ≤ steps.old + most_successors * most_lookups (S.shows source.now)
         (S.instances source.now) }
     ensures lacks { IfErr result (IfName
         (LacksBulkName (S.shows source.now) (S.instances source.now) request.now)) }
@@ -429,12 +429,19 @@ pub fn get_bulk<S: Successors<L>, L: Ledger>(
     let once = non_repeaters(request);
     let most = max_repetitions(request);
     let columns = asked.len() - once;
-    let mut sent = Sent::new(alloc, bindings_room(request), columns)?;
+    let mut fitting = FittingBindings::new(alloc, bindings_space(request), columns)?;
     let mut spot = Spot::new();
     let filled = send_list(
-        alloc, source, once, most, asked, &mut sent, &mut spot, steps,
+        alloc,
+        source,
+        once,
+        most,
+        asked,
+        &mut fitting,
+        &mut spot,
+        steps,
     );
-    let bindings = sent.into_bindings();
+    let bindings = fitting.into_bindings();
     if filled.is_err() {
         let before = bindings.as_slice().len();
         return Err(Shortage::Name(binding_number(once, columns, before)));

@@ -6,7 +6,7 @@ ghost use Rattle.oid_core.specs.Name.{HasRoot};
 ghost use Rattle.message_core.specs.Encodable.{AreEncodable, IsEncodableBinding};
 ghost use Rattle.message_core.specs.Instances.{value_of};
 ghost use Rattle.agent_core.specs.Reading.{visible, get_answer, get_answers, is_known, object_of, or_missing};
-ghost use Rattle.agent_core.specs.Looking.{most_looks};
+ghost use Rattle.agent_core.specs.Lookups.{most_lookups};
 
 use crate::reading::next_shown;
 use crate::source::Source;
@@ -42,7 +42,7 @@ fn shows_below<S: Source<L>, L: Ledger>(
     ensures answer { IfOk result (λ b.
         b ≡ list_any (λ row. is_prefix object.now row.name)
         (visible (S.shows source.now) (S.instances source.now))) }
-    ensures work { steps.new ≤ steps.old + most_looks (S.shows source.now) (S.instances source.now) }
+    ensures work { steps.new ≤ steps.old + most_lookups (S.shows source.now) (S.instances source.now) }
 {
     source.known();
     if let Some(_itself) = shown_value(alloc, source, object)? {
@@ -68,7 +68,7 @@ fn knows_object<S: Source<L>, L: Ledger>(
     ensures answer { IfOk result (λ b.
         b ≡ is_known shown (visible (S.shows source.now) (S.instances source.now))
         (object_of (S.objects source.now) name.now)) }
-    ensures work { steps.new ≤ steps.old + most_looks (S.shows source.now) (S.instances source.now) }
+    ensures work { steps.new ≤ steps.old + most_lookups (S.shows source.now) (S.instances source.now) }
 {
     let Some(object) = source.object(alloc, name)? else {
         return Ok(false);
@@ -103,7 +103,7 @@ pub fn get<S: Source<L>, L: Ledger>(
     ensures answer { IfOk result (λ b.
         b ≡ get_answer (S.objects source.now) (S.shows source.now name.now)
         (visible (S.shows source.now) (S.instances source.now)) name.now) }
-    ensures work { steps.new ≤ steps.old + most_looks (S.shows source.now) (S.instances source.now) }
+    ensures work { steps.new ≤ steps.old + most_lookups (S.shows source.now) (S.instances source.now) }
 {
     let Ok(asked) = name.try_copy(alloc) else {
         return Err(AllocError);
@@ -129,7 +129,7 @@ pub fn get_all<S: Source<L>, L: Ledger>(
     ensures answers { IfOk result (λ answers.
         answers ≡ get_answers (S.objects source.now) (S.shows source.now) (S.instances source.now)
         asked.now) }
-    ensures work { steps.new ≤ steps.old + length asked.now * most_looks (S.shows source.now)
+    ensures work { steps.new ≤ steps.old + length asked.now * most_lookups (S.shows source.now)
         (S.instances source.now) }
 {
     let mut answers = Bindings::new(alloc);

@@ -20,7 +20,7 @@ ghost use Rattle.oid_core.specs.Order.{is_prefix};
 ghost use Rattle.message_core.specs.Instances.{IsRising, after};
 ghost use Rattle.message_core.specs.declared.limits.TheConstants.{MAX_COMMUNITY, MAX_REPLY};
 ghost use Rattle.agent_core.specs.Reading.{visible, object_of, end_under};
-ghost use Rattle.agent_core.specs.Looking.{most_looks};
+ghost use Rattle.agent_core.specs.Lookups.{most_lookups};
 ghost use Rattle.agent_core.specs.Bulk.{repetitions, IsRepeated};
 ghost use Rattle.agent_core.specs.Fitting.{fitting_front, least_binding, IsLongestFitting};
 ghost use Rattle.agent_core.specs.Replies.{get_reply, next_reply, bulk_reply, walk, last_name};
@@ -88,10 +88,10 @@ pub fn repetitions_are_successors()
 {}
 
 /// Where a view hides nothing, one lookup finds a successor.
-pub fn one_look_where_all_is_seen()
+pub fn one_lookup_where_all_is_seen()
     ensures { (shows : List ℕ → Bool) (rows : List Binding) →
         All (λ row. IsTrue (shows row.name)) rows →
-        most_looks shows rows ≡ 1 }
+        most_lookups shows rows ≡ 1 }
 {}
 
 /// Few bindings fit: each has `least_binding`, 6, octets or more.

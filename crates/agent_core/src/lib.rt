@@ -24,7 +24,7 @@
 //! # Definitions
 //! `specs/Answers.antt`: what objects show of a world, and the step; `specs/Replies.antt`: replies
 //! by kind, and the size rule; `specs/Sets.antt`: what a Set becomes; `specs/Reading.antt`: what
-//! is visible, Get and GetNext; `specs/Looking.antt`: the lookups that a successor takes, and for
+//! is visible, Get and GetNext; `specs/Lookups.antt`: the lookups that a successor takes, and for
 //! which names it takes memory; `specs/Lacking.antt`: for which binding that is;
 //! `specs/Bulk.antt`, `specs/Fitting.antt`: GetBulk; `specs/Denying.antt`: denied bindings;
 //! `specs/Buffered.antt`: what a buffer holds; `specs/Sending.antt`: bindings that are to be sent,
@@ -49,11 +49,11 @@ mod answering;
 mod buffer;
 mod bulk;
 mod denying;
+mod fitting;
 mod getting;
 pub mod laws;
 mod nexts;
 mod reading;
-mod sent;
 mod sent_reply;
 mod served;
 mod sets;

@@ -6,7 +6,7 @@ ghost use Rattle.message_core.specs.Encodable.{IsEncodableBinding};
 ghost use Rattle.message_core.specs.Instances.{names_of};
 ghost use Rattle.agent_core.specs.Reading.{visible, next_answer, next_answers};
 ghost use Rattle.agent_core.specs.Making.{binding_of};
-ghost use Rattle.agent_core.specs.Looking.{most_looks, LacksName};
+ghost use Rattle.agent_core.specs.Lookups.{most_lookups, LacksName};
 ghost use Rattle.agent_core.specs.Lacking.{LacksNextName, IfName};
 
 use crate::reading::next_shown;
@@ -44,7 +44,7 @@ pub fn find_next<S: Successors<L>, L: Ledger>(
         IsEncodableBinding (binding_of (S.at source.now) name.now spot.new found)) }
     ensures stands { IfOk result (λ found. S.stands source.now stand.new
         (binding_of (S.at source.now) name.now spot.new found).name) }
-    ensures work { steps.new ≤ steps.old + most_looks (S.shows source.now) (S.instances source.now) }
+    ensures work { steps.new ≤ steps.old + most_lookups (S.shows source.now) (S.instances source.now) }
     ensures lacks { OnErr result
         (LacksName (S.shows source.now) (S.instances source.now) name.now) }
 {
@@ -107,7 +107,7 @@ pub fn get_next<S: Successors<L>, L: Ledger>(
     ensures answer { IfOk result (λ b.
         b ≡ next_answer (visible (S.shows source.now) (S.instances source.now)) name.now) }
     ensures encodable { IfOk result (λ b. HasRoot name.now → IsEncodableBinding b) }
-    ensures work { steps.new ≤ steps.old + most_looks (S.shows source.now) (S.instances source.now) }
+    ensures work { steps.new ≤ steps.old + most_lookups (S.shows source.now) (S.instances source.now) }
     ensures lacks { OnErr result
         (LacksName (S.shows source.now) (S.instances source.now) name.now) }
 {
@@ -132,7 +132,7 @@ pub fn get_next_all<S: Successors<L>, L: Ledger>(
     ensures answers { IfOk result (λ answers.
         answers ≡ next_answers (visible (S.shows source.now) (S.instances source.now))
         (names_of asked.now)) }
-    ensures work { steps.new ≤ steps.old + length asked.now * most_looks (S.shows source.now)
+    ensures work { steps.new ≤ steps.old + length asked.now * most_lookups (S.shows source.now)
         (S.instances source.now) }
     ensures lacks { IfErr result (IfName
         (LacksNextName (S.shows source.now) (S.instances source.now) (names_of asked.now))) }

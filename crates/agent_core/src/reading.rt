@@ -3,7 +3,7 @@ ghost use Rattle.std.specs.Prelude.{◌≡◌, ◌≤◌, ◌<◌, ◌+◌, if�
 ghost use Rattle.oid_core.specs.declared.limits.TheConstants.{INLINE_NUMBERS};
 ghost use Rattle.message_core.specs.Instances.{next_of};
 ghost use Rattle.agent_core.specs.Reading.{visible};
-ghost use Rattle.agent_core.specs.Looking.{most_looks, LacksName};
+ghost use Rattle.agent_core.specs.Lookups.{most_lookups, LacksName};
 
 use crate::source::{Stand, Successors};
 use oid_core::Oid;
@@ -74,7 +74,7 @@ pub fn next_shown<S: Successors<L>, L: Ledger>(
     ensures there { IfOk result (λ found. IsTrue found → S.is_there source.now spot.new) }
     ensures stands { IfOk result (λ found. IsTrue found →
         S.stands source.now stand.new (S.at source.now spot.new).name) }
-    ensures work { steps.new ≤ steps.old + most_looks (S.shows source.now) (S.instances source.now) }
+    ensures work { steps.new ≤ steps.old + most_lookups (S.shows source.now) (S.instances source.now) }
     ensures lacks { OnErr result
         (LacksName (S.shows source.now) (S.instances source.now) name.now) }
 {

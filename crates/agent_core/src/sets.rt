@@ -8,25 +8,25 @@ ghost use Rattle.setphase_core.specs.Registry.{rows_of};
 ghost use Rattle.setphase_core.specs.Outcomes.{refusal_in, notes_in, changed_in, NamesASetting};
 ghost use Rattle.setphase_core.specs.Settings.{same_settings};
 ghost use Rattle.setphase_core.specs.Calls.{FollowPlans};
-ghost use Rattle.agent_core.specs.Sets.{greatest_index, set_step, set_calls, settled, settled_bpdus, IsDenied, TakesInSet, IsToldOf, MayFailInSet};
-ghost use Rattle.agent_core.specs.Answers.{IsDone, notes_told, unnamed_told, writing_step};
+ghost use Rattle.agent_core.specs.Sets.{greatest_index, set_step, set_calls, settled, settled_bpdus, IsDenied, TakesInSet, IsReportedOf, MayFailInSet};
+ghost use Rattle.agent_core.specs.Answers.{IsDone, notes_reported, unnamed_reported, writing_step};
 
 use crate::answered::Answered;
 use crate::buffer::Buffer;
 use crate::denying::denied_variable;
 use crate::sent_reply::SentReply;
-use audit_core::{Audit, DeniedBindings, UnrestoredRoom};
+use audit_core::{Audit, DeniedBindings, UnrestoredSpace};
 use decision::{AccessKey, Decision};
 use message_core::{ErrorStatus, Request};
 use rstp_settings::settings::Settings;
-use setphase_core::{MibObject, Refusal, Registry, SetOutcome, World, run_set};
+use setphase_core::{MibObject, Registry, SetOutcome, SetRefusal, World, run_set};
 use setting_keys::SettingKeys;
 use std::alloc::{AllocError, Global};
 use vacm_core::{Name, Vacm};
 
 // What is reported of a Set, and which commit failed.
 #[derive(Drop)]
-struct SetTold {
+struct SetReported {
     status: ErrorStatus,
     index: i32,
     denied: DeniedBindings,
@@ -41,7 +41,7 @@ fn plain_answer(
     index: i32,
     failed: Option<usize>,
     unrestored: SettingKeys,
-) -> SetTold
+) -> SetReported
     ensures { result ≡ record {
       status = status;
       index = index;
@@ -50,7 +50,7 @@ fn plain_answer(
       unrestored = unrestored;
     } }
 {
-    SetTold {
+    SetReported {
         status,
         index,
         denied: DeniedBindings::new(alloc),
@@ -60,15 +60,19 @@ fn plain_answer(
 }
 
 // What is reported of a Set that is refused.
-fn refusal_answer(alloc: Global, vacm: &Vacm, refusal: Refusal) -> Result<SetTold, AllocError>
+fn refusal_answer(
+    alloc: Global,
+    vacm: &Vacm,
+    refusal: SetRefusal,
+) -> Result<SetReported, AllocError>
     requires index { refusal.index ≤ greatest_index }
     requires family { IfSome refusal.family (λ answer. NamesFamilyOf vacm.now.families answer) }
-    ensures told { IfOk result (λ answer.
-        IsToldOf vacm.now.families (SetOutcome.Refused refusal) answer) }
+    ensures reported { IfOk result (λ answer.
+        IsReportedOf vacm.now.families (SetOutcome.Refused refusal) answer) }
     ensures takes { OnErr result (IsDenied (Some refusal)) }
 {
     let denied = denied_variable(alloc, vacm, refusal.index, refusal.family)?;
-    Ok(SetTold {
+    Ok(SetReported {
         status: refusal.status,
         index: refusal.index as i32,
         denied,
@@ -78,13 +82,13 @@ fn refusal_answer(alloc: Global, vacm: &Vacm, refusal: Refusal) -> Result<SetTol
 }
 
 // What is reported of a Set that ended so. Only memory can fail, and only where a variable is denied.
-fn set_answer(alloc: Global, vacm: &Vacm, outcome: SetOutcome) -> Result<SetTold, AllocError>
+fn set_answer(alloc: Global, vacm: &Vacm, outcome: SetOutcome) -> Result<SetReported, AllocError>
     requires refused { IfSome (refusal_in outcome) (λ refusal. refusal.index ≤ greatest_index) }
     requires failed { IfSome (notes_in outcome).commit (λ number. number ≤ greatest_index) }
     requires family { IfSome (refusal_in outcome) (λ refusal.
         IfSome refusal.family (λ answer. NamesFamilyOf vacm.now.families answer)) }
     requires undos { NamesASetting outcome }
-    ensures told { IfOk result (λ answer. IsToldOf vacm.now.families outcome answer) }
+    ensures reported { IfOk result (λ answer. IsReportedOf vacm.now.families outcome answer) }
     ensures takes { OnErr result (IsDenied (refusal_in outcome)) }
 {
     let none = SettingKeys::new();
@@ -142,25 +146,25 @@ fn settle(changed: bool, world: &mut World, buffer: &mut Buffer)
 }
 
 // What a Set is answered whose reply stands in the buffer.
-fn told(
+fn reported(
     request: &Request,
     row: AccessKey,
     view: Name,
-    answer: SetTold,
-    sent: SentReply,
-    room: UnrestoredRoom,
+    answer: SetReported,
+    fitting: SentReply,
+    space: UnrestoredSpace,
 ) -> Answered
-    requires { room ≡ true }
-    ensures { result ≡ Answered.Reply sent.length (record {
+    requires { space ≡ true }
+    ensures { result ≡ Answered.Reply fitting.length (record {
       kind = request.now.kind;
-      status = sent.status;
-      index = sent.index;
+      status = fitting.status;
+      index = fitting.index;
       decision = Decision.Allowed row view;
       denied = answer.denied;
       unrestored = answer.unrestored;
     }) answer.failed }
 {
-    let SetTold {
+    let SetReported {
         status: _,
         index: _,
         denied,
@@ -168,14 +172,14 @@ fn told(
         unrestored,
     } = answer;
     Answered::Reply(
-        sent.length,
+        fitting.length,
         Audit {
             kind: request.kind,
-            status: sent.status,
-            index: sent.index,
+            status: fitting.status,
+            index: fitting.index,
             decision: Decision::Allowed { row, view },
             denied,
-            unrestored: room.filled(unrestored),
+            unrestored: space.filled(unrestored),
         },
         failed,
     )
@@ -195,20 +199,20 @@ pub(crate) fn answer_set<O: MibObject>(
     row: AccessKey,
     view: Name,
     buffer: &mut Buffer,
-    room: UnrestoredRoom,
+    space: UnrestoredSpace,
 ) -> Result<Answered, AllocError>
-    requires room { room ≡ true }
+    requires space { space ≡ true }
     requires community { length request.now.community ≤ MAX_COMMUNITY }
     requires encodable { AreEncodable request.now.bindings }
     requires silent { buffer.old.bpdus ≡ [] }
-    ensures may { IfOk result (λ told. MayFailInSet (rows_of registry.old) world.old view
-        request.now (notes_told told)) }
-    ensures by_plan { IfOk result (λ told. FollowPlans (set_calls (rows_of registry.old) world.old
-        view request.now (notes_told told)) registry.old) }
-    ensures done { IfOk result (λ told. IsDone (writing_step request.now row view
-        (set_step registry.old world.old view request.now (notes_told told)))
-        told buffer.new world.new registry.new) }
-    ensures named { IfOk result (λ told. unnamed_told told ≡ None) }
+    ensures may { IfOk result (λ reported. MayFailInSet (rows_of registry.old) world.old view
+        request.now (notes_reported reported)) }
+    ensures by_plan { IfOk result (λ reported. FollowPlans (set_calls (rows_of registry.old) world.old
+        view request.now (notes_reported reported)) registry.old) }
+    ensures done { IfOk result (λ reported. IsDone (writing_step request.now row view
+        (set_step registry.old world.old view request.now (notes_reported reported)))
+        reported buffer.new world.new registry.new) }
+    ensures named { IfOk result (λ reported. unnamed_reported reported ≡ None) }
     ensures takes { OnErr result (TakesInSet (rows_of registry.old) world.old view request.now) }
     ensures empty { OnErr result (buffer.new.reply ≡ []) }
     ensures unsent { OnErr result (buffer.new.bpdus ≡ []) }
@@ -216,9 +220,15 @@ pub(crate) fn answer_set<O: MibObject>(
     ensures kept { OnErr result (registry.new ≡ map object_after_release registry.old) }
 {
     if buffer.is_too_long(request) {
-        let sent = buffer.put_too_long(request);
-        let none = plain_answer(alloc, sent.status, sent.index, None, SettingKeys::new());
-        return Ok(told(request, row, view, none, sent, room));
+        let fitting = buffer.put_too_long(request);
+        let none = plain_answer(
+            alloc,
+            fitting.status,
+            fitting.index,
+            None,
+            SettingKeys::new(),
+        );
+        return Ok(reported(request, row, view, none, fitting, space));
     }
     let bindings = request.bindings.as_slice();
     let before = world.bridge.copied_settings();
@@ -226,6 +236,6 @@ pub(crate) fn answer_set<O: MibObject>(
     let changed = changed(&outcome, &before, world);
     let answer = set_answer(alloc, world.policy.vacm(), outcome)?;
     settle(changed, world, buffer);
-    let sent = buffer.put(request, answer.status, answer.index, bindings);
-    Ok(told(request, row, view, answer, sent, room))
+    let fitting = buffer.put(request, answer.status, answer.index, bindings);
+    Ok(reported(request, row, view, answer, fitting, space))
 }

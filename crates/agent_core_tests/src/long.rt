@@ -10,7 +10,7 @@ use crate::messages::{
 use crate::ports::long_registry;
 use crate::worlds::open_world;
 use agent_core::{Answered, Buffer, answer};
-use audit_core::UnrestoredRoom;
+use audit_core::UnrestoredSpace;
 use message_core::{ErrorStatus, Request, decode};
 use std::alloc::{AllocError, Global};
 use std::test::Fail;
@@ -52,7 +52,7 @@ fn outcome_of(alloc: Global, request: &str, reply: &str) -> Result<Outcome, Fail
     let mut registry = long_registry(alloc)?;
     let request = request_of(alloc, request)?;
     let reply = octets_of(alloc, reply)?;
-    let unrestored = UnrestoredRoom::reserved(alloc)?;
+    let unrestored = UnrestoredSpace::reserved(alloc)?;
     let mut buffer = Buffer::new();
     let answered = answer(
         alloc,

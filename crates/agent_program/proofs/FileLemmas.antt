@@ -9,7 +9,7 @@ use Rattle.agent_program.specs.Files.{IsNotRead, IsReadOf, read_view}
 use Rattle.message_core.specs.declared.request.Request.{Request}
 use Rattle.agent_program.specs.Commands.{SendsRead, SendsFile}
 use Rattle.agent_program.specs.Explanations.{ExplainsRead, ExplainsFile}
-use Rattle.agent_program.specs.Telling.{IsFileChecked, IsCheckOf}
+use Rattle.agent_program.specs.Reporting.{IsFileChecked, IsCheckOf}
 use Rattle.agent_program.specs.Services.{Service, OpensRead, OpensFile}
 use Rattle.agent_program.specs.Programs.{RunsRead, RunsFile}
 

@@ -1,4 +1,4 @@
 pub mod FileLemmas
 pub mod FrontLemmas
 pub mod OpeningLemmas
-pub mod TellingLemmas
+pub mod ReportingLemmas

@@ -14,7 +14,7 @@ use Rattle.configuration.proofs.BoundLemmas.{within_bounds}
 use Rattle.agent_program.specs.Agents.{configs_of}
 
 pub in_bounds : (octets : List ℕ) (c : Configuration) → IsConfigurationIn octets c → IsWithinBounds c
-in_bounds octets c said = within_bounds said.2.0 c said.2.2
+in_bounds octets c stated = within_bounds stated.2.0 c stated.2.2
 
 -- nothing is wrong with the address and the ports of a configuration
 pub no_fault : (c : Configuration) → IsWithinBounds c → fault_of c.address (configs_of c.ports.items) ≡ None

@@ -32,7 +32,7 @@ world_of c = first_world (opening_bridge c.address (configs_of c.ports.items)) c
 -- the octets say a configuration, and it opens this world
 pub record IsWorldOf (octets : List ℕ) (world : World) : Type 0 where
   pub configuration : Configuration
-  pub said : IsConfigurationIn octets configuration
+  pub stated : IsConfigurationIn octets configuration
   pub opened : world ≡ world_of configuration
 
 -- Objects make a registry: behind the name of each any index may stand, and no pair of neighbours is

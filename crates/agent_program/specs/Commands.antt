@@ -7,7 +7,7 @@ use Rattle.agent_program.specs.declared.files.NotRead.TheVariants.{Memory as Fil
 use Rattle.agent_program.specs.declared.failure.Failure.{Failure}
 use Rattle.agent_program.specs.declared.failure.Failure.TheVariants.{CannotRead, Unanswered, NotDone, Run as RunFailed}
 use Rattle.agent_program.specs.Files.{IsReadOf}
-use Rattle.agent_program.specs.Telling.{IsTold}
+use Rattle.agent_program.specs.Reporting.{IsReported}
 
 -- why there is no command by a file: there was no memory for its octets, or it cannot be read
 abbrev pub policy_failure : NotRead → Failure
@@ -26,13 +26,13 @@ heard may_be_empty None = None
 heard may_be_empty (Some []) = if may_be_empty then Some [] else None
 heard may_be_empty (Some (octet ∷ octets)) = Some (octet ∷ octets)
 
--- A writer that may tell which octets it took.
+-- A writer that may report which octets it took.
 module _ {O : Type 0} (contents : O → Option (List ℕ)) where
   -- an answer was printed, whole or until the output failed, and the program ended so
   pub record IsPrinted (answer : List ℕ) (writer writer' : O) (ended : Result (Unit {0}) Failure)
       : Type 0 where
     pub printed : Result (Unit {0}) Failure
-    pub told : IsTold contents answer writer writer' printed
+    pub reported : IsReported contents answer writer writer' printed
     pub is : ended ≡ answered_end answer printed
 
   -- how the program ends by what is answered, if anything is: without an answer nothing is written

@@ -14,7 +14,7 @@ use Rattle.agent_words.specs.declared.program.Answered.{Answered}
 use Rattle.agent_words.specs.declared.program.Answered.TheVariants.{Shown, NotShown, Refused as WordsRefused, Memory as WordsMemory}
 use Rattle.explain.specs.declared.questions.QuestionFault.{QuestionFault}
 use Rattle.explain.specs.declared.questions.QuestionFault.TheVariants.{Memory as NoQuestionMemory, Name}
-use Rattle.agent_program.specs.declared.telling.NotTaken.{NotTaken}
+use Rattle.agent_program.specs.declared.reporting.NotTaken.{NotTaken}
 use Rattle.agent_program.specs.declared.failure.Failure.{Failure}
 use Rattle.agent_program.specs.declared.failure.Failure.TheVariants.{NotText, NoName, CannotRead, Refused, Input, Output, Unanswered, NotDone, Run as RunFailed}
 
@@ -63,10 +63,10 @@ abbrev pub failure_line : Failure → List ℕ
 failure_line failure =
     codes "agentd: " ++ (failure_words failure ++ (failure_name failure ++ codes "\n"))
 
--- what is said on standard error
-abbrev pub said_of : {A : Type 0} → Result A Failure → List ℕ
-said_of (Ok done) = []
-said_of (Err failure) = failure_line failure
+-- what is stated on standard error
+abbrev pub stated_of : {A : Type 0} → Result A Failure → List ℕ
+stated_of (Ok done) = []
+stated_of (Err failure) = failure_line failure
 
 -- the exit status of words that are no command, as they were answered: 2 for words that are wrong
 abbrev pub answered_status : Answered → ℕ
@@ -75,7 +75,7 @@ answered_status WordsRefused = 2
 answered_status NotShown = 1
 answered_status WordsMemory = 1
 
--- what is said on standard error behind that answer
+-- what is stated on standard error behind that answer
 abbrev pub answered_line : Answered → List ℕ
 answered_line Shown = []
 answered_line WordsRefused = []
@@ -87,7 +87,7 @@ abbrev pub words_failure : ErrorKind → Failure
 words_failure OutOfMemory = RunFailed
 words_failure kind = NotText
 
--- a run that did not come to its end, as a failure of the program
+-- a run that did not reach its end, as a failure of the program
 abbrev pub run_failure : RunFault → Failure
 run_failure InputFailed = Input
 run_failure OutputFailed = Output
@@ -95,7 +95,7 @@ run_failure NoMemory = RunFailed
 run_failure Given = RunFailed
 
 -- a file that was not read, as a failure of the program: without memory for its octets nothing is
--- said of them
+-- stated of them
 abbrev pub read_failure : NotRead → Failure
 read_failure FileMemory = Refused
 read_failure (Unreadable file) = CannotRead file

@@ -18,7 +18,7 @@ use Rattle.agent_program.specs.declared.failure.Failure.TheVariants.{NoName, Run
 use Rattle.agent_program.specs.Endings.{failure_of, read_failure}
 use Rattle.agent_program.specs.Files.{IsReadOf}
 use Rattle.agent_program.specs.Runs.{IsNotOpened}
-use Rattle.agent_program.specs.Telling.{IsTold}
+use Rattle.agent_program.specs.Reporting.{IsReported}
 
 -- the PDU type of what a request does (RFC 3416, section 4.2)
 abbrev pub kind_by : Operation → Kind
@@ -41,17 +41,17 @@ abbrev pub IsNotExplained : List ℕ → Failure → Type 0
 IsNotExplained octets failure =
     (failure ≡ RunFailed) ⊎ ((why : NotRun) × (failure ≡ failure_of why) × IsNotOpened octets why)
 
--- A writer that may tell which octets it took.
+-- A writer that may report which octets it took.
 module _ {O : Type 0} (contents : O → Option (List ℕ)) where
   -- the octets are a configuration, and what its policy decides on the request was written, whole or
   -- until the output failed
   pub record IsExplained (octets : List ℕ) (request : Request) (writer writer' : O)
       (ended : Result (Unit {0}) Failure) : Type 0 where
     pub configuration : Configuration
-    pub said : IsConfigurationIn octets configuration
-    pub told : IsTold contents (explanation configuration.policy request) writer writer' ended
+    pub stated : IsConfigurationIn octets configuration
+    pub reported : IsReported contents (explanation configuration.policy request) writer writer' ended
 
-  -- What an explanation by octets comes to; where there is none, nothing was written.
+  -- What an explanation by octets amounts to; where there is none, nothing was written.
   abbrev pub ExplainsOctets : Request → List ℕ → O → O → Result (Unit {0}) Failure → Type 0
   ExplainsOctets request octets writer writer' (Ok done) =
       IsExplained octets request writer writer' (Ok done)
@@ -91,7 +91,7 @@ module _ {O : Type 0} (Gives : List ℕ → Result (List ℕ) NotRead → Type 0
     pub why : IsQuestionFailure inquiry.names failure
     pub unwritten : writer' ≡ writer
 
-  -- What an explanation by the words and a file comes to.
+  -- What an explanation by the words and a file amounts to.
   abbrev pub IsExplanation : Inquiry → List ℕ → O → O → Result (Unit {0}) Failure → Type 0
   IsExplanation inquiry file writer writer' ended =
       ExplainsAsked inquiry file writer writer' ended ⊎ IsNoQuestion inquiry writer writer' ended

@@ -2,7 +2,7 @@ pub mod Files
 pub mod Agents
 pub mod Runs
 pub mod Endings
-pub mod Telling
+pub mod Reporting
 pub mod Explanations
 pub mod Commands
 pub mod Services

@@ -13,10 +13,10 @@ use Rattle.agent_words.specs.declared.asked.Lasting.{Lasting}
 use Rattle.agent_words.specs.Asking.{Inquiry, question_view}
 use Rattle.agent_words.specs.Orders.{Command, order_view}
 use Rattle.agent_program.specs.Files.{IsReadOf}
-use Rattle.agent_program.specs.Endings.{status_of, said_of, ended_by, read_failure, IsLineTaken}
+use Rattle.agent_program.specs.Endings.{status_of, stated_of, ended_by, read_failure, IsLineTaken}
 use Rattle.agent_program.specs.Runs.{IsUntouched, IsRunBy}
 use Rattle.agent_program.specs.Services.{Service, OpensFile}
-use Rattle.agent_program.specs.Telling.{IsCheckOf}
+use Rattle.agent_program.specs.Reporting.{IsCheckOf}
 use Rattle.agent_program.specs.Commands.{SendsCommand}
 use Rattle.agent_program.specs.Explanations.{IsExplanation}
 
@@ -70,13 +70,13 @@ module _ {I O : Type 0} (Gives : List ℕ → Result (List ℕ) NotRead → Type
     pub is : IsReadOf Gives file read
     pub ran : RunsRead remaining contents objects read reader reader' writer writer' ended
 
-  -- the program told whether a file is a configuration, and read nothing else
+  -- the program reported whether a file is a configuration, and read nothing else
   pub record ChecksFile (file : List ℕ) (reader reader' : I) (writer writer' : O)
       (ended : Result (Unit {0}) Failure) : Type 0 where
     pub unread : reader' ≡ reader
     pub checked : IsCheckOf Gives contents file writer writer' ended
 
-  -- the program said what a file's policy decides on the request that was asked about, and read
+  -- the program stated what a file's policy decides on the request that was asked about, and read
   -- nothing else
   pub record Explains (inquiry : Inquiry) (file : List ℕ) (reader reader' : I) (writer writer' : O)
       (ended : Result (Unit {0}) Failure) : Type 0 where
@@ -123,5 +123,5 @@ module _ {I O : Type 0} (Gives : List ℕ → Result (List ℕ) NotRead → Type
     pub done : Result (Option Service) Failure
     pub did : Does asked reader reader' writer writer' done
     pub status : finished.status ≡ status_of done
-    pub said : IsLineTaken finished.line errors errors' (said_of done)
+    pub stated : IsLineTaken finished.line errors errors' (stated_of done)
     pub left_is : left ≡ left_of done

@@ -19,7 +19,7 @@ IsNotOpened octets Memory = HasContent octets
 IsNotOpened octets NoRegistry = ⊥
 IsNotOpened octets (Stopped fault) = ⊥
 
--- A reader that may tell which octets it has left, and a writer that may tell which it took.
+-- A reader that may report which octets it has left, and a writer that may report which it took.
 module _ {I O : Type 0} (remaining : I → Option (List ℕ)) (contents : O → Option (List ℕ)) where
   -- Nothing was read and nothing written.
   pub record IsUntouched (reader reader' : I) (writer writer' : O) : Type 0 where

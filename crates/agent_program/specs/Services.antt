@@ -18,7 +18,7 @@ use Rattle.agent_program.specs.Endings.{failure_of, read_failure}
 -- The octets say a configuration; this is the world that it opens, and the setup that it says.
 pub record IsOpened (octets : List ℕ) (opened : Opened) : Type 0 where
   pub configuration : Configuration
-  pub said : IsConfigurationIn octets configuration
+  pub stated : IsConfigurationIn octets configuration
   pub world_is : opened.world ≡ world_of configuration
   pub setup_is : IsSetup configuration.address configuration.ports.items configuration.serve
       opened.setup
@@ -27,7 +27,7 @@ pub record IsOpened (octets : List ℕ) (opened : Opened) : Type 0 where
 -- not where its frames come in and go out.
 pub record HasNoSetup (octets : List ℕ) : Type 0 where
   pub configuration : Configuration
-  pub said : IsConfigurationIn octets configuration
+  pub stated : IsConfigurationIn octets configuration
   pub none : HasSetup configuration.ports.items configuration.serve → ⊥
 
 -- Nothing was opened for this reason.

@@ -1,16 +1,16 @@
 //! Reports whether octets are a configuration, and whether it can be served.
 ghost use Rattle.std.specs.Prelude.{◌≡◌, IfOk, string_bytes};
-ghost use Rattle.agent_program.specs.Telling.{ok_text, fault_text, IsFaultTold, IsChecked, IsFileChecked};
+ghost use Rattle.agent_program.specs.Reporting.{ok_text, fault_text, IsFaultReported, IsChecked, IsFileChecked};
 ghost use Rattle.agent_program.specs.Files.{read_view};
 
-use crate::failure::{Failure, tell};
+use crate::failure::{Failure, write_out};
 use crate::files::NotRead;
 use configuration::{ConfigurationFault, configuration_in, sentence};
 use std::alloc::{AllocError, Global};
 use std::io::Write;
 use udp_agent::{Unserved, why_unserved};
 
-// What is said of a configuration: by each a script can run.
+// What is stated of a configuration: by each a script can run.
 const SERVED_TEXT: &[u8] = b"configuration ok for script and serve\n";
 
 const NO_SERVE_TEXT: &[u8] = b"configuration ok for script, not for serve: no [serve]\n";
@@ -18,7 +18,7 @@ const NO_SERVE_TEXT: &[u8] = b"configuration ok for script, not for serve: no [s
 const NO_SOCKETS_TEXT: &[u8] =
     b"configuration ok for script, not for serve: a port without listen or peer\n";
 
-// What is said of a configuration that cannot be served for this reason, or can be.
+// What is stated of a configuration that cannot be served for this reason, or can be.
 fn ok_text(why: Option<Unserved>) -> &'static [u8]
     ensures { result.now ≡ ok_text why }
 {
@@ -29,7 +29,7 @@ fn ok_text(why: Option<Unserved>) -> &'static [u8]
     }
 }
 
-// What is said of a fault, as a line.
+// What is stated of a fault, as a line.
 fn fault_text(alloc: Global, fault: ConfigurationFault) -> Result<String, AllocError>
     ensures { IfOk result (λ text. string_bytes text ≡ fault_text fault) }
 {
@@ -38,12 +38,16 @@ fn fault_text(alloc: Global, fault: ConfigurationFault) -> Result<String, AllocE
     Ok(text)
 }
 
-// Tells a fault, and gives the failure that comes of it.
-fn tell_fault<'a, O: Write>(alloc: Global, fault: ConfigurationFault, writer: &mut O) -> Failure<'a>
-    ensures { IsFaultTold O.contents fault writer.old writer.new result }
+// Reports a fault, and gives the failure that comes of it.
+fn report_fault<'a, O: Write>(
+    alloc: Global,
+    fault: ConfigurationFault,
+    writer: &mut O,
+) -> Failure<'a>
+    ensures { IsFaultReported O.contents fault writer.old writer.new result }
 {
     match fault_text(alloc, fault) {
-        Ok(text) => match tell(text.as_bytes(), writer) {
+        Ok(text) => match write_out(text.as_bytes(), writer) {
             Ok(()) => Failure::Refused,
             Err(failure) => failure,
         },
@@ -68,9 +72,9 @@ pub fn check_octets<'a, O: Write>(
     match configuration_in(alloc, octets) {
         Ok(configuration) => {
             let why = why_unserved(configuration.ports.as_slice(), &configuration.serve);
-            tell(ok_text(why), writer)
+            write_out(ok_text(why), writer)
         }
-        Err(fault) => Err(tell_fault(alloc, fault, writer)),
+        Err(fault) => Err(report_fault(alloc, fault, writer)),
     }
 }
 
@@ -88,7 +92,7 @@ pub fn check_read<'a, O: Write>(
 {
     match read {
         Ok(octets) => check_octets(alloc, &octets, writer),
-        Err(NotRead::Memory) => Err(tell_fault(alloc, ConfigurationFault::Memory, writer)),
+        Err(NotRead::Memory) => Err(report_fault(alloc, ConfigurationFault::Memory, writer)),
         Err(NotRead::Unreadable(file)) => Err(Failure::CannotRead(file)),
     }
 }

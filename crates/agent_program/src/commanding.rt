@@ -5,7 +5,7 @@ ghost use Rattle.agent_words.specs.Orders.{order_view};
 ghost use Rattle.agent_program.specs.Files.{read_view};
 ghost use Rattle.agent_program.specs.Commands.{policy_failure, heard, IsPrinted, EndsBy, Sends, SendsRead, SendsFile, SendsCommand};
 
-use crate::failure::{Failure, tell};
+use crate::failure::{Failure, write_out};
 use crate::files::{NotRead, ReadFile, SystemFiles};
 use agent_words::Order;
 use control_socket::{COUNTS, ask_agent, is_refusal, link_command, policy_command};
@@ -39,7 +39,7 @@ impl<R: Net + Clock> AskAgent for SystemFiles<'_, R> {
 fn print_answer<'a, O: Write>(answer: &[u8], writer: &mut O) -> Result<(), Failure<'a>>
     ensures { IsPrinted O.contents answer.now writer.old writer.new result }
 {
-    match tell(answer, writer) {
+    match write_out(answer, writer) {
         Ok(()) if is_refusal(answer) => Err(Failure::NotDone),
         Ok(()) => Ok(()),
         Err(failure) => Err(failure),

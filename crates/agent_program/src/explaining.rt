@@ -4,7 +4,7 @@ ghost use Rattle.agent_words.specs.Asking.{question_view};
 ghost use Rattle.agent_program.specs.Files.{read_view};
 ghost use Rattle.agent_program.specs.Explanations.{kind_by, ExplainsOctets, ExplainsRead, ExplainsFile, IsExplanation};
 
-use crate::failure::{Failure, failure_of, question_failure, read_failure, tell};
+use crate::failure::{Failure, failure_of, question_failure, read_failure, write_out};
 use crate::files::{NotRead, ReadFile};
 use crate::opening::read_configuration;
 use agent_words::{Operation, Question};
@@ -38,7 +38,7 @@ fn explain_octets<'a, O: Write>(
         Err(why) => return Err(failure_of(why)),
     };
     match explained(alloc, &configuration.policy, request) {
-        Ok(text) => tell(&text, writer),
+        Ok(text) => write_out(&text, writer),
         Err(_) => Err(Failure::Run),
     }
 }

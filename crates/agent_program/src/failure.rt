@@ -2,12 +2,12 @@
 ghost use Rattle.std.specs.Prelude.{◌≡◌, ◌++◌, OnOk};
 ghost use Rattle.std.specs.Io.KnownBytes.{Appends};
 ghost use Rattle.std.specs.IoError.{error_kind};
-ghost use Rattle.agent_program.specs.Telling.{IsTold};
+ghost use Rattle.agent_program.specs.Reporting.{IsReported};
 ghost use Rattle.agent_program.specs.Endings.{failure_status, failure_words, failure_name, failure_line, failure_of, words_failure, run_failure, read_failure, question_failure, answered_status, answered_line, TakesFront, IsLineTaken};
 
 use crate::files::NotRead;
 use crate::opening::NotRun;
-use crate::telling::{NotTaken, write_front};
+use crate::reporting::{NotTaken, write_front};
 use agent_words::Answered;
 use explain::QuestionFault;
 use script_core::RunFault;
@@ -57,7 +57,7 @@ impl From<io::Error> for Failure<'_> {
     }
 }
 
-// A run that did not come to its end, as a failure of the program.
+// A run that did not reach its end, as a failure of the program.
 fn run_failure<'a>(fault: RunFault) -> Failure<'a>
     ensures { result ≡ run_failure fault }
 {
@@ -211,8 +211,8 @@ pub fn end_answered<E: Write>(answered: Answered, errors: &mut E) -> Ended
 ///
 /// # Errors
 /// `Output` where a write fails, behind a front of the text, or where the flush does.
-pub fn tell<'a, O: Write>(text: &[u8], writer: &mut O) -> Result<(), Failure<'a>>
-    ensures { IsTold O.contents text.now writer.old writer.new result }
+pub fn write_out<'a, O: Write>(text: &[u8], writer: &mut O) -> Result<(), Failure<'a>>
+    ensures { IsReported O.contents text.now writer.old writer.new result }
 {
     match write_front(writer, text) {
         Ok(()) => match writer.flush() {

@@ -19,7 +19,7 @@
 //! `specs/Files.antt`: what a read of a file gave; `specs/Agents.antt`: the world that a
 //! configuration opens; `specs/Runs.antt`: what a run by octets promises; `specs/Services.antt`: what
 //! they give to be served; `specs/Endings.antt`: statuses, and the line of each failure;
-//! `specs/Telling.antt`: what a check reports; `specs/Explanations.antt`: what is written of the decision on
+//! `specs/Reporting.antt`: what a check reports; `specs/Explanations.antt`: what is written of the decision on
 //! a request; `specs/Commands.antt`: what is done to have a served agent do a command;
 //! `specs/Programs.antt`: what the program does for what is asked. What words ask for
 //! stands in `agent_words`.
@@ -40,10 +40,10 @@ mod explaining;
 mod failure;
 mod files;
 mod opening;
+mod reporting;
 mod run;
 mod running;
 mod serving;
-mod telling;
 
 pub use checking::{check_octets, check_read};
 pub use collecting::collect_words;
@@ -51,7 +51,7 @@ pub use commanding::AskAgent;
 pub use failure::{Ended, Failure, end_answered, report};
 pub use files::{NotRead, ReadFile, SystemFiles};
 pub use opening::NotRun;
+pub use reporting::NotTaken;
 pub use run::run_asked;
 pub use running::run_octets;
 pub use serving::{Opened, open_service, serve_opened, serve_opened_forever};
-pub use telling::NotTaken;

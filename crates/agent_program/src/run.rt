@@ -2,7 +2,7 @@
 ghost use Rattle.std.specs.Prelude.{◌≡◌, map};
 ghost use Rattle.agent_program.specs.Endings.{ended_by};
 ghost use Rattle.agent_program.specs.Files.{read_view};
-ghost use Rattle.agent_program.specs.Telling.{IsCheckOf};
+ghost use Rattle.agent_program.specs.Reporting.{IsCheckOf};
 ghost use Rattle.agent_program.specs.Services.{OpensRead, OpensFile};
 ghost use Rattle.agent_program.specs.Programs.{RunsBy, RunsRead, RunsFile, Does, IsProgramRun, nothing_left};
 
@@ -191,7 +191,7 @@ where
     run_read(alloc, objects, files.read_file(file), reader, writer)
 }
 
-// Tells whether a file is a configuration.
+// Reports whether a file is a configuration.
 #[tactic(auto, using(crate::proofs::FileLemmas::file_check))]
 fn check_file<'a, F, O>(
     alloc: Global,

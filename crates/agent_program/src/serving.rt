@@ -25,8 +25,8 @@ use std::sync::{Arc, Wait};
 use std::thread::Threads;
 use std::time::Clock;
 use udp_agent::{
-    LastingControl, LastingTicker, LastingWorker, ServeFault, Setup, Teller, UdpTicker, UdpWorker,
-    setup_of,
+    LastingControl, LastingTicker, LastingWorker, Reporter, ServeFault, Setup, UdpTicker,
+    UdpWorker, setup_of,
 };
 use wire_core::{LastingWire, Pace, SecondPace, Startup, UdpWire, Wire};
 
@@ -139,7 +139,7 @@ pub fn serve_opened_forever<'r, M: MibObject + Send, R: Threads + Wait + Net + C
         ⟦<LastingWire<&'r R> as Wire>⟧.went ⟦<LastingWire<&'r R> as Wire>⟧.failures
         ⟦<LastingTicker<&'r R> as PacedWire>⟧.did ⟦<LastingTicker<&'r R> as Wire>⟧.failures
         ⟦<LastingControl<&'r R> as ControlWire>⟧.did
-        ⟦<Teller<'r, R> as Watch>⟧.went ⟦<SecondPace<&'r R> as Pace>⟧.went
+        ⟦<Reporter<'r, R> as Watch>⟧.went ⟦<SecondPace<&'r R> as Pace>⟧.went
         is_audited_worker opened.setup (is_audited audits.now) (is_some control.entry)
         (fresh registry opened.world 0) result }
 {

@@ -17,7 +17,7 @@ use Rattle.history_core.specs.declared.event.Event.{Event}
 use Rattle.history_core.specs.declared.limits.TheConstants.{MAX_ENTRIES}
 use Rattle.history_core.specs.declared.receipt.Receipt.{Receipt}
 use Rattle.agent_script.specs.Events.{Met, had_memory, entered, short, is_full, each_met, AreMet, after_event, after_events}
-use Rattle.agent_script.specs.Outputs.{receipt_text, bpdu_lines, drop_text, dropped_name, told_audit, short_text, step_text, event_text, events_text}
+use Rattle.agent_script.specs.Outputs.{receipt_text, bpdu_lines, drop_text, dropped_name, reported_audit, short_text, step_text, event_text, events_text}
 use Rattle.agent_script.specs.Sessions.{SaysOfEvents}
 use Rattle.agent_script.specs.State.{Agent}
 
@@ -36,8 +36,8 @@ with_history a h = record a { history = h }
 -- ---- one event
 
 -- whether the last entry's event found all memory
-abbrev pub HadRoom : List Entry → Bool → Type 0
-HadRoom entries room = (before : List Entry) (last : Entry) → entries ≡ before ++ last ∷ [] → room ≡ had_memory last.no_room last.unnamed
+abbrev pub HadSpace : List Entry → Bool → Type 0
+HadSpace entries space = (before : List Entry) (last : Entry) → entries ≡ before ++ last ∷ [] → space ≡ had_memory last.no_room last.unnamed
 
 module _ (a : Agent) (e : Event) (receipt : Receipt) (audit : Option Audit) (later : History) (b : Buffered) (p : IsEntered a.history e receipt audit later b) where
   abbrev step : Step
@@ -46,10 +46,10 @@ module _ (a : Agent) (e : Event) (receipt : Receipt) (audit : Option Audit) (lat
   abbrev bridge_lines : List (Option Bpdu) → List ℕ
   bridge_lines bpdus = bpdu_lines (address_of a.history.world.bridge) 1 bpdus
 
-  entered_by : (cause : Option Cause) (said : List ℕ) (room : Bool) → cause_of a.history.world e ≡ cause
-      → said ≡ step_text a.is_auditing (address_of a.history.world.bridge) cause e step
-      → HadRoom later.entries room → SaysOfEvents e 1 a said (with_history a later) room
-  entered_by cause said room c text had = record {
+  entered_by : (cause : Option Cause) (stated : List ℕ) (space : Bool) → cause_of a.history.world e ≡ cause
+      → stated ≡ step_text a.is_auditing (address_of a.history.world.bridge) cause e step
+      → HadSpace later.entries space → SaysOfEvents e 1 a stated (with_history a later) space
+  entered_by cause stated space c text had = record {
     mets = entered p.notes ∷ [];
     count = refl;
     may = ((p.may, p.by_plan), tt);
@@ -61,55 +61,55 @@ module _ (a : Agent) (e : Event) (receipt : Receipt) (audit : Option Audit) (lat
         ∙ sym (and_true (had_memory p.notes.no_room p.notes.unnamed));
   }
 
-  done_says : (said : List ℕ) (room : Bool) → cause_of a.history.world e ≡ None
-      → said ≡ receipt_text a.is_auditing receipt audit ++ bridge_lines b.bpdus
-      → HadRoom later.entries room → SaysOfEvents e 1 a said (with_history a later) room
-  done_says said room c text had =
-      entered_by None said room c (text
+  done_says : (stated : List ℕ) (space : Bool) → cause_of a.history.world e ≡ None
+      → stated ≡ receipt_text a.is_auditing receipt audit ++ bridge_lines b.bpdus
+      → HadSpace later.entries space → SaysOfEvents e 1 a stated (with_history a later) space
+  done_says stated space c text had =
+      entered_by None stated space c (text
       ∙ ap (λ (r : Receipt). receipt_text a.is_auditing r audit ++ bridge_lines b.bpdus) p.receipt_is
       ∙ ap (λ (x : Option Audit). receipt_text a.is_auditing (next_receipt a.history e p.notes) x ++ bridge_lines b.bpdus) p.audit_is
       ∙ ap (λ (bs : List (Option Bpdu)). receipt_text a.is_auditing (next_receipt a.history e p.notes) step.audit ++ bridge_lines bs) p.bpdus_are) had
 
-  dropped_says : (cause : Cause) (said : List ℕ) (room : Bool) → cause_of a.history.world e ≡ Some cause
-      → said ≡ drop_text (dropped_name cause) ++ told_audit a.is_auditing audit
-      → HadRoom later.entries room → SaysOfEvents e 1 a said (with_history a later) room
-  dropped_says cause said room c text had =
-      entered_by (Some cause) said room c
-      (text ∙ ap (λ (x : Option Audit). drop_text (dropped_name cause) ++ told_audit a.is_auditing x) p.audit_is) had
+  dropped_says : (cause : Cause) (stated : List ℕ) (space : Bool) → cause_of a.history.world e ≡ Some cause
+      → stated ≡ drop_text (dropped_name cause) ++ reported_audit a.is_auditing audit
+      → HadSpace later.entries space → SaysOfEvents e 1 a stated (with_history a later) space
+  dropped_says cause stated space c text had =
+      entered_by (Some cause) stated space c
+      (text ∙ ap (λ (x : Option Audit). drop_text (dropped_name cause) ++ reported_audit a.is_auditing x) p.audit_is) had
 
   -- what was added, by the steps of a body
-  pub done_adds : (old told new : List ℕ) (w : World) (sender : Mac) (bpdus : List (Option Bpdu)) (entries : List Entry) (room : Bool)
+  pub done_adds : (old reported new : List ℕ) (w : World) (sender : Mac) (bpdus : List (Option Bpdu)) (entries : List Entry) (space : Bool)
       → cause_of a.history.world e ≡ None → w ≡ a.history.world → sender ≡ address_of w.bridge
-      → told ≡ old ++ receipt_text a.is_auditing receipt audit → bpdus ≡ b.bpdus → new ≡ told ++ bpdu_lines sender 1 bpdus
-      → entries ≡ later.entries → HadRoom entries room
-      → Adds old new (λ said. SaysOfEvents e 1 a said (with_history a later) room)
-  done_adds old told new w sender bpdus entries room c world address first sent second kept had =
-      let said : List ℕ = receipt_text a.is_auditing receipt audit in
+      → reported ≡ old ++ receipt_text a.is_auditing receipt audit → bpdus ≡ b.bpdus → new ≡ reported ++ bpdu_lines sender 1 bpdus
+      → entries ≡ later.entries → HadSpace entries space
+      → Adds old new (λ stated. SaysOfEvents e 1 a stated (with_history a later) space)
+  done_adds old reported new w sender bpdus entries space c world address first sent second kept had =
+      let stated : List ℕ = receipt_text a.is_auditing receipt audit in
       let address_is : sender ≡ address_of a.history.world.bridge = address ∙ ap (λ (x : World). address_of x.bridge) world in
       record {
-        said = said ++ bridge_lines b.bpdus;
+        stated = stated ++ bridge_lines b.bpdus;
         added = second ∙ ap (λ (l : List ℕ). l ++ bpdu_lines sender 1 bpdus) first
-            ∙ append_assoc old said (bpdu_lines sender 1 bpdus)
-            ∙ ap (λ (m : Mac). old ++ (said ++ bpdu_lines m 1 bpdus)) address_is
-            ∙ ap (λ (bs : List (Option Bpdu)). old ++ (said ++ bridge_lines bs)) sent;
-        holds = done_says (said ++ bridge_lines b.bpdus) room c refl (λ before last is. had before last (kept ∙ is));
+            ∙ append_assoc old stated (bpdu_lines sender 1 bpdus)
+            ∙ ap (λ (m : Mac). old ++ (stated ++ bpdu_lines m 1 bpdus)) address_is
+            ∙ ap (λ (bs : List (Option Bpdu)). old ++ (stated ++ bridge_lines bs)) sent;
+        holds = done_says (stated ++ bridge_lines b.bpdus) space c refl (λ before last is. had before last (kept ∙ is));
       }
 
-  pub dropped_adds : (old new : List ℕ) (cause : Cause) (entries : List Entry) (room : Bool)
-      → cause_of a.history.world e ≡ Some cause → new ≡ old ++ (drop_text (dropped_name cause) ++ told_audit a.is_auditing audit)
-      → entries ≡ later.entries → HadRoom entries room
-      → Adds old new (λ said. SaysOfEvents e 1 a said (with_history a later) room)
-  dropped_adds old new cause entries room c added kept had = record {
-    said = drop_text (dropped_name cause) ++ told_audit a.is_auditing audit;
+  pub dropped_adds : (old new : List ℕ) (cause : Cause) (entries : List Entry) (space : Bool)
+      → cause_of a.history.world e ≡ Some cause → new ≡ old ++ (drop_text (dropped_name cause) ++ reported_audit a.is_auditing audit)
+      → entries ≡ later.entries → HadSpace entries space
+      → Adds old new (λ stated. SaysOfEvents e 1 a stated (with_history a later) space)
+  dropped_adds old new cause entries space c added kept had = record {
+    stated = drop_text (dropped_name cause) ++ reported_audit a.is_auditing audit;
     added = added;
-    holds = dropped_says cause (drop_text (dropped_name cause) ++ told_audit a.is_auditing audit) room c refl
+    holds = dropped_says cause (drop_text (dropped_name cause) ++ reported_audit a.is_auditing audit) space c refl
         (λ before last is. had before last (kept ∙ is));
   }
 
-short_says : (a : Agent) (e : Event) (reply said : List ℕ) (later : History) → (length a.history.entries ≡ MAX_ENTRIES) ⊎ MayTakeMemory e
-    → later ≡ a.history → reply ≡ failure_octets a.history.world e → said ≡ short_text reply
-    → SaysOfEvents e 1 a said (with_history a later) false
-short_says a e reply said later may same octets text = record {
+short_says : (a : Agent) (e : Event) (reply stated : List ℕ) (later : History) → (length a.history.entries ≡ MAX_ENTRIES) ⊎ MayTakeMemory e
+    → later ≡ a.history → reply ≡ failure_octets a.history.world e → stated ≡ short_text reply
+    → SaysOfEvents e 1 a stated (with_history a later) false
+short_says a e reply stated later may same octets text = record {
   mets = short ∷ [];
   count = refl;
   may = (may, tt);
@@ -120,9 +120,9 @@ short_says a e reply said later may same octets text = record {
 
 pub short_adds : (a : Agent) (e : Event) (octets reply old new : List ℕ) (later : History) → (length a.history.entries ≡ MAX_ENTRIES) ⊎ MayTakeMemory e
     → later ≡ a.history → reply ≡ failure_octets a.history.world e → octets ≡ reply → new ≡ old ++ short_text octets
-    → Adds old new (λ said. SaysOfEvents e 1 a said (with_history a later) false)
+    → Adds old new (λ stated. SaysOfEvents e 1 a stated (with_history a later) false)
 short_adds a e octets reply old new later may same failure is added = record {
-  said = short_text octets;
+  stated = short_text octets;
   added = added;
   holds = short_says a e octets (short_text octets) later may same (is ∙ failure) refl;
 }
@@ -151,11 +151,11 @@ all_append : (ms ns : List Met) → list_all is_full (ms ++ ns) ≡ (list_all is
 all_append [] ns = refl
 all_append (m ∷ ms) ns = ap (λ (b : Bool). is_full m && b) (all_append ms ns) ∙ sym (and_assoc (is_full m) (list_all is_full ms) (list_all is_full ns))
 
-joined : (e : Event) (n k : ℕ) (a c : Agent) (said more : List ℕ) (whole full : Bool) (ms : List Met) → length ms ≡ n
-    → AreMet a.history (each_met e ms) → said ≡ events_text a.is_auditing a.history (each_met e ms) → whole ≡ list_all is_full ms
+joined : (e : Event) (n k : ℕ) (a c : Agent) (stated more : List ℕ) (whole full : Bool) (ms : List Met) → length ms ≡ n
+    → AreMet a.history (each_met e ms) → stated ≡ events_text a.is_auditing a.history (each_met e ms) → whole ≡ list_all is_full ms
     → SaysOfEvents e k (with_history a (after_events a.history (each_met e ms))) more c full
-    → SaysOfEvents e (n + k) a (said ++ more) c (whole && full)
-joined e n k a c said more whole full ms count may text is q =
+    → SaysOfEvents e (n + k) a (stated ++ more) c (whole && full)
+joined e n k a c stated more whole full ms count may text is q =
     let h : History = after_events a.history (each_met e ms) in
     record {
       mets = ms ++ q.mets;
@@ -171,10 +171,10 @@ joined e n k a c said more whole full ms count may text is q =
     }
 
 -- an event that happened so many times, and then so many times more
-pub says_more : (e : Event) (n k : ℕ) (a b c : Agent) (said more : List ℕ) (whole full : Bool) → SaysOfEvents e n a said b whole
-    → SaysOfEvents e k b more c full → SaysOfEvents e (n + k) a (said ++ more) c (whole && full)
-says_more e n k a b c said more whole full p q =
-    joined e n k a c said more whole full p.mets p.count p.may p.text p.whole_is
+pub says_more : (e : Event) (n k : ℕ) (a b c : Agent) (stated more : List ℕ) (whole full : Bool) → SaysOfEvents e n a stated b whole
+    → SaysOfEvents e k b more c full → SaysOfEvents e (n + k) a (stated ++ more) c (whole && full)
+says_more e n k a b c stated more whole full p q =
+    joined e n k a c stated more whole full p.mets p.count p.may p.text p.whole_is
     (subst (λ (x : Agent). SaysOfEvents e k x more c full) p.after q)
 
 pub says_nothing : (e : Event) (a : Agent) → SaysOfEvents e 0 a [] a true
@@ -197,7 +197,7 @@ next_events h e [] = omega arith
 next_events h e (m ∷ ms) = omega (arith, next_event h e m, next_events (after_event h e m) e ms)
 
 -- no number is left behind so many of more events
-pub is_out : (e : Event) (n all : ℕ) (a b : Agent) (said : List ℕ) (whole : Bool) → SaysOfEvents e n a said b whole → n < all
+pub is_out : (e : Event) (n all : ℕ) (a b : Agent) (stated : List ℕ) (whole : Bool) → SaysOfEvents e n a stated b whole → n < all
     → next_of b.history ≡ last_number → last_number < next_of a.history + all
-is_out e n all a b said whole p lt full =
+is_out e n all a b stated whole p lt full =
     omega (arith, lt, full, p.count, next_events a.history e p.mets, ap (λ (x : Agent). next_of x.history) p.after)

@@ -20,16 +20,16 @@ use Rattle.history_core.specs.History.{History, next_of, last_number}
 use Rattle.history_core.specs.declared.event.Event.{Event}
 use Rattle.agent_script.specs.Commands.{Command, request, frame, tick, link, policy, audit, counts, driver, HasOctets}
 use Rattle.history_core.specs.declared.event.Event.TheVariants as event
-use Rattle.agent_script.specs.Actions.{Action, happen, drop, refuse_frame, keep, accept, refuse, switch, tell, arm, bad_line, happenings_of, reading_action, datagram_action, frame_action, ending, end_action, policy_action, action_in, action_of, action_text, after_action, cause_name, dropped_more, fault_name}
+use Rattle.agent_script.specs.Actions.{Action, happen, drop, refuse_frame, keep, accept, refuse, switch, show_counts, arm, bad_line, happenings_of, reading_action, datagram_action, frame_action, ending, end_action, policy_action, action_in, action_of, action_text, after_action, cause_name, dropped_more, fault_name}
 use Rattle.agent_script.specs.Notes.{Note, nothing, unread, happens, is_unread, lacks_memory, IsOut, event_count, MayLackMemory, MayGiveUpCommand, MayGiveUpPolicyLine, Case, MayHappen, MayMeetReading, MayMeetDatagram, MayMeetFrame, MayMeetTables, MayMeetEnd, MayMeetPolicyLine, MayMeetIn, MayMeet, MayGiveUpIn, MayGiveUp}
 use Rattle.agent_script.specs.Outputs.{drop_text}
 use Rattle.agent_script.specs.Sessions.{Says, SaysOfLine, SaysOfEvents}
 use Rattle.agent_script.specs.State.{Agent}
 
 -- events
-pub of_events : (e : Event) (n : ℕ) (a : Agent) (said : List ℕ) (now : Agent) (whole : Bool) → SaysOfEvents e n a said now whole
-    → Says (MayHappen a.history e n) (λ note. happen (happenings_of e note)) a said now whole
-of_events e n a said now whole p = record {
+pub of_events : (e : Event) (n : ℕ) (a : Agent) (stated : List ℕ) (now : Agent) (whole : Bool) → SaysOfEvents e n a stated now whole
+    → Says (MayHappen a.history e n) (λ note. happen (happenings_of e note)) a stated now whole
+of_events e n a stated now whole p = record {
   note = happens p.mets;
   met = record { mets = p.mets; note_is = refl; count = p.count; may = p.may };
   text = p.text;
@@ -45,10 +45,10 @@ read_may a d r note = Case (is_unread note) (IsCause d Memory) (MayMeetReading a
 abbrev read_action : Result Request DropCause → Note → Action
 read_action r note = if is_unread note then drop Memory else reading_action r note
 
-pub datagram_says : (d : List ℕ) (r : Request) (a : Agent) (said : List ℕ) (now : Agent) (whole : Bool) → request_at d ≡ Ok r
-    → SaysOfEvents (event.Request r) 1 a said now whole → Says (MayMeetDatagram a.history d) (datagram_action d) a said now whole
-datagram_says d r a said now whole e p =
-    subst (λ (x : Result Request DropCause). Says (read_may a d x) (read_action x) a said now whole) (sym e) (record {
+pub datagram_says : (d : List ℕ) (r : Request) (a : Agent) (stated : List ℕ) (now : Agent) (whole : Bool) → request_at d ≡ Ok r
+    → SaysOfEvents (event.Request r) 1 a stated now whole → Says (MayMeetDatagram a.history d) (datagram_action d) a stated now whole
+datagram_says d r a stated now whole e p =
+    subst (λ (x : Result Request DropCause). Says (read_may a d x) (read_action x) a stated now whole) (sym e) (record {
       note = happens p.mets;
       met = record { mets = p.mets; note_is = refl; count = p.count; may = p.may };
       text = p.text;
@@ -81,12 +81,12 @@ drop_says d a Memory is gives = record { note = unread; met = is; text = refl; a
 
 -- ---- a frame
 
-pub frame_says : (port : ℕ) (octets : List ℕ) (f : FrameIn) (a : Agent) (said : List ℕ) (now : Agent) (whole : Bool) → Ok f ≡ frame_at octets
-    → SaysOfEvents (event.Frame port f) 1 a said now whole
-    → Says (MayMeetFrame a.history port (frame_at octets)) (frame_action port (frame_at octets)) a said now whole
-frame_says port octets f a said now whole e p =
-    subst (λ (x : Result FrameIn FrameFault). Says (MayMeetFrame a.history port x) (frame_action port x) a said now whole) e
-    (of_events (event.Frame port f) 1 a said now whole p)
+pub frame_says : (port : ℕ) (octets : List ℕ) (f : FrameIn) (a : Agent) (stated : List ℕ) (now : Agent) (whole : Bool) → Ok f ≡ frame_at octets
+    → SaysOfEvents (event.Frame port f) 1 a stated now whole
+    → Says (MayMeetFrame a.history port (frame_at octets)) (frame_action port (frame_at octets)) a stated now whole
+frame_says port octets f a stated now whole e p =
+    subst (λ (x : Result FrameIn FrameFault). Says (MayMeetFrame a.history port x) (frame_action port x) a stated now whole) e
+    (of_events (event.Frame port f) 1 a stated now whole p)
 
 pub bad_frame_says : (port : ℕ) (octets : List ℕ) (fault : FrameFault) (a : Agent) → Err fault ≡ frame_at octets
     → Says (MayMeetFrame a.history port (frame_at octets)) (frame_action port (frame_at octets)) a
@@ -105,11 +105,11 @@ abbrev read_end : Option PolicyTables → Note → Action
 read_end o note = if is_unread note then refuse else ending o note
 
 -- a policy comes into force; none is open
-pub accepted_says : (lines : List ℕ) (tables : PolicyTables) (a : Agent) (said : List ℕ) (now : Agent) (whole : Bool) → a.policy_lines ≡ None
-    → Some tables ≡ policy_in lines → SaysOfEvents (event.Policy tables) 1 a said now whole
-    → Says (MayMeetEnd a.history lines) (end_action lines) a said now whole
-accepted_says lines tables a said now whole closed e p =
-    subst (λ (x : Option PolicyTables). Says (end_may a lines x) (read_end x) a said now whole) e (record {
+pub accepted_says : (lines : List ℕ) (tables : PolicyTables) (a : Agent) (stated : List ℕ) (now : Agent) (whole : Bool) → a.policy_lines ≡ None
+    → Some tables ≡ policy_in lines → SaysOfEvents (event.Policy tables) 1 a stated now whole
+    → Says (MayMeetEnd a.history lines) (end_action lines) a stated now whole
+accepted_says lines tables a stated now whole closed e p =
+    subst (λ (x : Option PolicyTables). Says (end_may a lines x) (read_end x) a stated now whole) e (record {
       note = happens p.mets;
       met = record { mets = p.mets; note_is = refl; count = p.count; may = p.may };
       text = p.text;
@@ -140,12 +140,12 @@ unread_says lines a closed has = record {
 }
 
 -- its end, and another line of it
-pub end_says : (lines line : List ℕ) (a : Agent) (said : List ℕ) (now : Agent) (whole : Bool) → bytes_eq line (codes "end") ≡ true
-    → Says (MayMeetEnd a.history lines) (end_action lines) a said now whole
-    → Says (MayMeetPolicyLine a.history lines line) (policy_action lines line) a said now whole
-end_says lines line a said now whole e p =
+pub end_says : (lines line : List ℕ) (a : Agent) (stated : List ℕ) (now : Agent) (whole : Bool) → bytes_eq line (codes "end") ≡ true
+    → Says (MayMeetEnd a.history lines) (end_action lines) a stated now whole
+    → Says (MayMeetPolicyLine a.history lines line) (policy_action lines line) a stated now whole
+end_says lines line a stated now whole e p =
     subst (λ (x : Bool). Says (λ note. Case x (MayMeetEnd a.history lines note) (note ≡ nothing))
-    (λ note. if x then end_action lines note else keep (lines ++ line ++ codes "\n")) a said now whole) (sym e) p
+    (λ note. if x then end_action lines note else keep (lines ++ line ++ codes "\n")) a stated now whole) (sym e) p
 
 pub kept_says : (lines line : List ℕ) (a now : Agent) → bytes_eq line (codes "end") ≡ false
     → now ≡ record a { policy_lines = Some (lines ++ line ++ codes "\n") }
@@ -169,7 +169,7 @@ text_open a (keep lines) = refl
 text_open a (accept happenings) = refl
 text_open a refuse = refl
 text_open a (switch on) = refl
-text_open a tell = refl
+text_open a show_counts = refl
 text_open a (arm plan) = refl
 
 after_ending : (a : Agent) (o : Option PolicyTables) (note : Note) → after_action (closed a) (ending o note) ≡ after_action a (ending o note)
@@ -188,10 +188,10 @@ after_open : (a : Agent) (lines line : List ℕ) (note : Note) (ends : Bool)
 after_open a lines line note true = after_end_by a lines note (is_unread note)
 after_open a lines line note false = refl
 
-pub open_says : (lines line : List ℕ) (a : Agent) (said : List ℕ) (now : Agent) (whole : Bool)
-    → Says (MayMeetPolicyLine a.history lines line) (policy_action lines line) (closed a) said now whole
-    → Says (MayMeetPolicyLine a.history lines line) (policy_action lines line) a said now whole
-open_says lines line a said now whole p = record {
+pub open_says : (lines line : List ℕ) (a : Agent) (stated : List ℕ) (now : Agent) (whole : Bool)
+    → Says (MayMeetPolicyLine a.history lines line) (policy_action lines line) (closed a) stated now whole
+    → Says (MayMeetPolicyLine a.history lines line) (policy_action lines line) a stated now whole
+open_says lines line a stated now whole p = record {
   note = p.note;
   met = p.met;
   text = p.text ∙ text_open a (policy_action lines line p.note);
@@ -203,9 +203,9 @@ open_says lines line a said now whole p = record {
 
 -- what is written weakens
 pub under : {A B : List ℕ → Bool → Type 0} (result : Result Bool LineFault) (old new : List ℕ)
-    → ((said : List ℕ) (whole : Bool) → A said whole → B said whole)
-    → IfOk result (λ whole. Adds old new (λ said. A said whole)) → IfOk result (λ whole. Adds old new (λ said. B said whole))
-under (Ok whole) old new f p = record { said = p.said; added = p.added; holds = f p.said whole p.holds }
+    → ((stated : List ℕ) (whole : Bool) → A stated whole → B stated whole)
+    → IfOk result (λ whole. Adds old new (λ stated. A stated whole)) → IfOk result (λ whole. Adds old new (λ stated. B stated whole))
+under (Ok whole) old new f p = record { stated = p.stated; added = p.added; holds = f p.stated whole p.holds }
 under (Err fault) old new f p = tt
 
 -- a command is given up, where it may lack memory
@@ -242,13 +242,13 @@ octets_lack (Some (driver plan)) h = absurd h
 -- ---- a line of an open policy
 
 -- a line, where these lines of a policy are open
-pub line_of_policy : (a b : Agent) (lines line said : List ℕ) (now : Agent) (whole : Bool) → a.policy_lines ≡ Some lines → b ≡ closed a
-    → Says (MayMeetPolicyLine b.history lines line) (policy_action lines line) b said now whole → SaysOfLine a line said now whole
+pub line_of_policy : (a b : Agent) (lines line stated : List ℕ) (now : Agent) (whole : Bool) → a.policy_lines ≡ Some lines → b ≡ closed a
+    → Says (MayMeetPolicyLine b.history lines line) (policy_action lines line) b stated now whole → SaysOfLine a line stated now whole
 unfolding MayMeet action_of
-line_of_policy a b lines line said now whole is closes p =
-    subst (λ (o : Option (List ℕ)). Says (λ note. MayMeetIn a o line note) (λ note. action_in a o line note) a said now whole) (sym is)
-    (open_says lines line a said now whole
-    (subst (λ (x : Agent). Says (MayMeetPolicyLine x.history lines line) (policy_action lines line) x said now whole) closes p))
+line_of_policy a b lines line stated now whole is closes p =
+    subst (λ (o : Option (List ℕ)). Says (λ note. MayMeetIn a o line note) (λ note. action_in a o line note) a stated now whole) (sym is)
+    (open_says lines line a stated now whole
+    (subst (λ (x : Agent). Says (MayMeetPolicyLine x.history lines line) (policy_action lines line) x stated now whole) closes p))
 
 pub policy_line_gives_up : (result : Result Bool LineFault) (a b : Agent) (lines line : List ℕ) → a.policy_lines ≡ Some lines → b ≡ closed a
     → IfErr result (MayGiveUpPolicyLine b.history) → IfErr result (MayGiveUp a line)

@@ -7,10 +7,10 @@ use Rattle.script_core.specs.Lines.{lines_of, first_line}
 use Rattle.script_core.specs.Runs.{Reads, Writes, IsFrontOf, Says, SaysAll, SaysFirst, SaysSome, StopsBetween, MayGiveUpLine, MayGiveUpEnd, GivesUpEnd, GivesUp}
 use Rattle.agent_script.specs.Notes.{is_whole, MayGiveUp}
 use Rattle.agent_script.specs.State.{Agent}
-use Rattle.agent_script.specs.Script.{Noted, lines_in, lines_text, after_lines, line_text, end_text, end_text_in, AreMet, are_whole, AreAnswered, IsSaid, IsSaidFirst, IsSaidSome, IsSaidBefore, IsEndGivenUp, IsGivenUp, IsOutAtLine}
+use Rattle.agent_script.specs.Script.{Noted, lines_in, lines_text, after_lines, line_text, end_text, end_text_in, AreMet, are_whole, AreAnswered, IsStated, IsStatedFirst, IsStatedSome, IsStatedBefore, IsEndGivenUp, IsGivenUp, IsOutAtLine}
 use Rattle.agent_script.specs.Sessions.{Session, SaysToLine, SaysAtEnd, GivesUpLine, GivesUpEnd as EndIsGivenUp}
-use Rattle.agent_script.specs.declared.session.Run.{Run}
-use Rattle.agent_script.specs.declared.session.Run.TheVariants.{Whole, Short}
+use Rattle.agent_script.specs.declared.session.ScriptEnd.{ScriptEnd}
+use Rattle.agent_script.specs.declared.session.ScriptEnd.TheVariants.{Whole, Short}
 
 and_true : (a : Bool) → a ≡ (a && true)
 and_true true = refl
@@ -58,13 +58,13 @@ answered_of : (s t : Session) (lines : List (List ℕ)) (text : List ℕ) → Sa
 answered_of s t lines text p = let n = notes_of s t lines text p in record { noted = n.noted; each = n.each; met = n.met; text_is = n.text_is }
 
 -- where something is written at the end, a policy is open
-open_where_said : (lines : Option (List ℕ)) (said : List ℕ) → said ≡ end_text_in lines → 0 < length said → IsSome lines
-open_where_said None said e some = absurd (omega (arith, ap length e))
-open_where_said (Some lines) said e some = refl
+open_where_stated : (lines : Option (List ℕ)) (stated : List ℕ) → stated ≡ end_text_in lines → 0 < length stated → IsSome lines
+open_where_stated None stated e some = absurd (omega (arith, ap length e))
+open_where_stated (Some lines) stated e some = refl
 
 open_at_end : (s : Session) (fault : LineFault) → MayGiveUpEnd SaysAtEnd EndIsGivenUp s fault → IsSome s.agent.policy_lines
 open_at_end s fault (inl may) = may.is_open
-open_at_end s fault (inr may) = open_where_said s.agent.policy_lines may.1.said may.1.are_said.text may.1.some
+open_at_end s fault (inr may) = open_where_stated s.agent.policy_lines may.1.stated may.1.are_stated.text may.1.some
 
 end_given_up_of : (s : Session) (fault : LineFault) (input rest text : List ℕ)
     → GivesUpEnd SaysToLine SaysAtEnd EndIsGivenUp s fault input rest text → IsEndGivenUp s.agent input rest text
@@ -91,34 +91,34 @@ module _ (agent : Agent) (s : Session) (opened : s.agent ≡ agent) where
   answered_from : (t : Session) (lines : List (List ℕ)) (text : List ℕ) → Says SaysToLine s lines text t → AreAnswered agent lines text
   answered_from t lines text p = subst (λ (a : Agent). AreAnswered a lines text) opened (answered_of s t lines text p)
 
-  pub said_of : (t : Session) (lines : List (List ℕ)) (text : List ℕ) (run : Run) → s.is_whole ≡ true → run ≡ (if t.is_whole then Whole else Short)
-      → SaysAll SaysToLine SaysAtEnd s lines text t → IsSaid agent lines text run
-  said_of t lines text run whole told p =
-      let n = notes_of s p.between lines p.said p.says in
-      subst (λ (a : Agent). IsSaid a lines text run) opened (record {
+  pub stated_of : (t : Session) (lines : List (List ℕ)) (text : List ℕ) (run : ScriptEnd) → s.is_whole ≡ true → run ≡ (if t.is_whole then Whole else Short)
+      → SaysAll SaysToLine SaysAtEnd s lines text t → IsStated agent lines text run
+  stated_of t lines text run whole reported p =
+      let n = notes_of s p.between lines p.stated p.says in
+      subst (λ (a : Agent). IsStated a lines text run) opened (record {
         noted = n.noted;
         each = n.each;
         met = n.met;
         text_is = p.split ∙ ap (λ x. x ++ p.last) n.text_is
             ∙ ap (λ x. lines_text s.agent n.noted ++ x) (p.ends.text ∙ ap (λ (a : Agent). end_text a) n.after);
-        run_is = told ∙ ap (λ b. if b then Whole else Short) (p.ends.whole ∙ n.whole ∙ ap (λ b. b && are_whole n.noted) whole);
+        run_is = reported ∙ ap (λ b. if b then Whole else Short) (p.ends.whole ∙ n.whole ∙ ap (λ b. b && are_whole n.noted) whole);
       })
 
-  said_first_of : (lines : List (List ℕ)) (text : List ℕ) → SaysFirst SaysToLine s lines text → IsSaidFirst agent lines text
-  said_first_of lines text p =
+  stated_first_of : (lines : List (List ℕ)) (text : List ℕ) → SaysFirst SaysToLine s lines text → IsStatedFirst agent lines text
+  stated_first_of lines text p =
       record { first = p.first; left = p.left; split = p.split; answered = answered_from p.between p.first text p.says }
 
-  said_some_of : (lines : List (List ℕ)) (text : List ℕ) → s.is_whole ≡ true → SaysSome SaysToLine SaysAtEnd s lines text → IsSaidSome agent lines text
-  said_some_of lines text whole (inl p) = inl (said_first_of lines text p)
-  said_some_of lines text whole (inr p) = inr (_, said_of p.0 lines text _ whole refl p.1)
+  stated_some_of : (lines : List (List ℕ)) (text : List ℕ) → s.is_whole ≡ true → SaysSome SaysToLine SaysAtEnd s lines text → IsStatedSome agent lines text
+  stated_some_of lines text whole (inl p) = inl (stated_first_of lines text p)
+  stated_some_of lines text whole (inr p) = inr (_, stated_of p.0 lines text _ whole refl p.1)
 
-  pub said_front_of : (lines : List (List ℕ)) (text : List ℕ) → s.is_whole ≡ true → IsFrontOf (λ all. SaysSome SaysToLine SaysAtEnd s lines all) text
-      → IsFrontOf (λ all. IsSaidSome agent lines all) text
-  said_front_of lines text whole p =
-      record { whole = p.whole; rest = p.rest; some = p.some; split = p.split; holds = said_some_of lines p.whole whole p.holds }
+  pub stated_front_of : (lines : List (List ℕ)) (text : List ℕ) → s.is_whole ≡ true → IsFrontOf (λ all. SaysSome SaysToLine SaysAtEnd s lines all) text
+      → IsFrontOf (λ all. IsStatedSome agent lines all) text
+  stated_front_of lines text whole p =
+      record { whole = p.whole; rest = p.rest; some = p.some; split = p.split; holds = stated_some_of lines p.whole whole p.holds }
 
-  pub said_before_of : (t : Session) (input rest text : List ℕ) → StopsBetween SaysToLine s t input rest text → IsSaidBefore agent input rest text
-  said_before_of t input rest text p = record {
+  pub stated_before_of : (t : Session) (input rest text : List ℕ) → StopsBetween SaysToLine s t input rest text → IsStatedBefore agent input rest text
+  stated_before_of t input rest text p = record {
     ended = p.feeds.ended;
     part = p.part;
     no_end = (p.feeds.no_end, p.no_end);
@@ -165,4 +165,4 @@ pub not_begun : (agent : Agent) (left took : Option (List ℕ))
     → Reads left left (λ input rest. Writes took took (λ text. IsGivenUp agent input rest text))
 not_begun agent left took =
     unread left (λ input rest. Writes took took (λ text. IsGivenUp agent input rest text))
-    (λ input. record { text = []; took = Appends-nil took; holds = inl (record { unread = refl; unsaid = refl }) })
+    (λ input. record { text = []; took = Appends-nil took; holds = inl (record { unread = refl; unstated = refl }) })

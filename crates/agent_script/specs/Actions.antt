@@ -42,7 +42,7 @@ pub data Action : Type 0 where
   -- each request's audit is written from here on, or not
   switch : (on : Bool) → Action
   -- what was dropped is written
-  tell : Action
+  show_counts : Action
   -- the objects' devices are to fail by this plan
   arm : (plan : ℕ) → Action
 
@@ -75,7 +75,7 @@ command_action (Some (tick seconds)) note = happen (happenings_of event.Tick not
 command_action (Some (link port up)) note = happen (happenings_of (event.Link port up) note)
 command_action (Some policy) note = keep []
 command_action (Some (audit on)) note = switch on
-command_action (Some counts) note = tell
+command_action (Some counts) note = show_counts
 command_action (Some (driver plan)) note = arm plan
 
 abbrev pub ending : Option PolicyTables → Note → Action
@@ -143,7 +143,7 @@ action_text agent (accept happenings) =
     events_text agent.is_auditing agent.history happenings
 action_text agent refuse = codes "policy refused\n"
 action_text agent (switch on) = []
-action_text agent tell = counts_text agent.drops agent.history.world
+action_text agent show_counts = counts_text agent.drops agent.history.world
 action_text agent (arm plan) = []
 
 -- ---- what it changes
@@ -167,6 +167,6 @@ after_action agent (accept happenings) =
     record agent { history = after_events agent.history happenings; policy_lines = None }
 after_action agent refuse = record agent { policy_lines = None }
 after_action agent (switch on) = record agent { is_auditing = on }
-after_action agent tell = agent
+after_action agent show_counts = agent
 after_action agent (arm plan) =
     record agent { history = history_after_arm plan agent.history }

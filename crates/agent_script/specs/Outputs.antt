@@ -14,9 +14,9 @@ use Rattle.history_core.specs.History.{History, next_step}
 use Rattle.history_core.specs.Steps.{Step, cause_of, failure_octets}
 use Rattle.history_core.specs.declared.event.Event.{Event}
 use Rattle.history_core.specs.declared.event.ReceiptEvent.{ReceiptEvent}
-use Rattle.history_core.specs.declared.event.ReceiptEvent.TheVariants as told
+use Rattle.history_core.specs.declared.event.ReceiptEvent.TheVariants as reported
 use Rattle.history_core.specs.declared.receipt.Receipt.{Receipt}
-use Rattle.history_core.specs.Receipts.{told_of}
+use Rattle.history_core.specs.Receipts.{reported_of}
 use Rattle.agent_script.specs.Events.{Met, entered, short, Happening, after_event}
 
 -- `drop` and the name of a cause
@@ -38,9 +38,9 @@ reply_text (Some octets) = reply_line octets
 reply_text None = []
 
 -- an audit, if there is one, where audits are on
-abbrev pub told_audit : Bool → Option Audit → List ℕ
-told_audit on (Some audit) = if on then codes "audit " ++ audit_text audit ++ codes "\n" else []
-told_audit on None = []
+abbrev pub reported_audit : Bool → Option Audit → List ℕ
+reported_audit on (Some audit) = if on then codes "audit " ++ audit_text audit ++ codes "\n" else []
+reported_audit on None = []
 
 -- a comma and a port
 abbrev pub another_port : ℕ → List ℕ
@@ -69,11 +69,11 @@ forward_line egress = codes "forward " ++ egress_text egress ++ codes "\n"
 -- What is written for an event that was entered, ahead of what the ports send: where a frame goes,
 -- that a policy is in force, or the reply and the audit of a request.
 abbrev pub answer_text : Bool → ReceiptEvent → List ℕ → Option (List ℕ) → Option Audit → List ℕ
-answer_text on (told.Frame port frame) egress reply audit = forward_line egress
-answer_text on told.Tick egress reply audit = []
-answer_text on (told.Link port up) egress reply audit = []
-answer_text on told.Policy egress reply audit = codes "policy ok\n"
-answer_text on (told.Request request) egress reply audit = reply_text reply ++ told_audit on audit
+answer_text on (reported.Frame port frame) egress reply audit = forward_line egress
+answer_text on reported.Tick egress reply audit = []
+answer_text on (reported.Link port up) egress reply audit = []
+answer_text on reported.Policy egress reply audit = codes "policy ok\n"
+answer_text on (reported.Request request) egress reply audit = reply_text reply ++ reported_audit on audit
 
 -- the same, of a receipt and an audit
 abbrev pub receipt_text : Bool → Receipt → Option Audit → List ℕ
@@ -83,9 +83,9 @@ receipt_text on receipt audit =
 -- What is written for an event that was entered, and dropped for this cause, if for any.
 abbrev pub step_text : Bool → Mac → Option Cause → Event → Step → List ℕ
 step_text on address (Some cause) e step =
-    drop_text (dropped_name cause) ++ told_audit on step.audit
+    drop_text (dropped_name cause) ++ reported_audit on step.audit
 step_text on address None e step =
-    answer_text on (told_of e) step.egress step.reply step.audit
+    answer_text on (reported_of e) step.egress step.reply step.audit
     ++ bpdu_lines address 1 step.bpdus
 
 -- what is written for an event for which there was no memory: the reply to a request, or that there was

@@ -6,8 +6,8 @@ use Rattle.script_core.specs.declared.fault.LineFault.TheVariants.{Stopped}
 use Rattle.agent_script.specs.Actions.{action_of, action_text, after_action}
 use Rattle.agent_script.specs.Notes.{Note, MayMeet, MayGiveUp, is_whole}
 use Rattle.agent_script.specs.State.{Agent}
-use Rattle.agent_script.specs.declared.session.Run.{Run}
-use Rattle.agent_script.specs.declared.session.Run.TheVariants.{Whole, Short}
+use Rattle.agent_script.specs.declared.session.ScriptEnd.{ScriptEnd}
+use Rattle.agent_script.specs.declared.session.ScriptEnd.TheVariants.{Whole, Short}
 
 -- what is written for a line that met this, and the agent after it
 abbrev pub line_text : Agent → List ℕ → Note → List ℕ
@@ -57,7 +57,7 @@ abbrev pub are_whole : List Noted → Bool
 are_whole ns = list_all (λ n. is_whole n.note) ns
 
 -- how a run is reported: whole exactly where no line met want of memory
-abbrev pub run_of : List Noted → Run
+abbrev pub run_of : List Noted → ScriptEnd
 run_of ns = if are_whole ns then Whole else Short
 
 -- the lines alone
@@ -66,7 +66,7 @@ lines_in ns = map (λ n. n.line) ns
 
 -- There are notes of these lines, each one that its line may meet, such that this text is the
 -- script's, and the run is reported by them.
-pub record IsSaid (agent : Agent) (lines : List (List ℕ)) (text : List ℕ) (run : Run) : Type 0 where
+pub record IsStated (agent : Agent) (lines : List (List ℕ)) (text : List ℕ) (run : ScriptEnd) : Type 0 where
   pub noted : List Noted
   pub each : lines_in noted ≡ lines
   pub met : AreMet agent noted
@@ -82,20 +82,20 @@ pub record AreAnswered (agent : Agent) (lines : List (List ℕ)) (text : List �
   pub text_is : text ≡ lines_text agent noted
 
 -- the first of these lines are answered, and no others
-pub record IsSaidFirst (agent : Agent) (lines : List (List ℕ)) (text : List ℕ) : Type 0 where
+pub record IsStatedFirst (agent : Agent) (lines : List (List ℕ)) (text : List ℕ) : Type 0 where
   pub first : List (List ℕ)
   pub left : List (List ℕ)
   pub split : lines ≡ first ++ left
   pub answered : AreAnswered agent first text
 
 -- the first of these lines are answered, or all of them and the end of the script
-abbrev pub IsSaidSome : Agent → List (List ℕ) → List ℕ → Type 0
-IsSaidSome agent lines text =
-    IsSaidFirst agent lines text ⊎ ((run : Run) × IsSaid agent lines text run)
+abbrev pub IsStatedSome : Agent → List (List ℕ) → List ℕ → Type 0
+IsStatedSome agent lines text =
+    IsStatedFirst agent lines text ⊎ ((run : ScriptEnd) × IsStated agent lines text run)
 
 -- Of an input, `rest` was not read, and behind the lines that had ended no more than a part of one
 -- was: those lines are answered.
-pub record IsSaidBefore (agent : Agent) (input rest text : List ℕ) : Type 0 where
+pub record IsStatedBefore (agent : Agent) (input rest text : List ℕ) : Type 0 where
   pub ended : List (List ℕ)
   pub part : List ℕ
   pub no_end : All HasNoEnd ended × HasNoEnd part
@@ -123,7 +123,7 @@ pub record IsEndGivenUp (agent : Agent) (input rest text : List ℕ) : Type 0 wh
 -- The script is given up before anything is read: there is no memory for what is kept of a history.
 pub record IsNotBegun (input rest text : List ℕ) : Type 0 where
   pub unread : rest ≡ input
-  pub unsaid : text ≡ []
+  pub unstated : text ≡ []
 
 abbrev pub IsGivenUp : Agent → List ℕ → List ℕ → List ℕ → Type 0
 IsGivenUp agent input rest text =

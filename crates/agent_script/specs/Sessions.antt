@@ -13,11 +13,11 @@ use Rattle.agent_script.specs.State.{Agent}
 
 -- An agent answers: there is a note of this kind, and what is written, the agent after it and whether
 -- nothing was given up for want of memory are those of that note.
-pub record Says (may : Note → Type 0) (action : Note → Action) (before : Agent) (said : List ℕ)
+pub record Says (may : Note → Type 0) (action : Note → Action) (before : Agent) (stated : List ℕ)
     (now : Agent) (whole : Bool) : Type 0 where
   pub note : Note
   pub met : may note
-  pub text : said ≡ action_text before (action note)
+  pub text : stated ≡ action_text before (action note)
   pub after : now ≡ after_action before (action note)
   pub whole_is : whole ≡ is_whole note
 
@@ -26,12 +26,12 @@ abbrev pub SaysOfLine : Agent → List ℕ → List ℕ → Agent → Bool → T
 SaysOfLine before line = Says (MayMeet before line) (action_of before line) before
 
 -- an event happens so many times, one after another
-pub record SaysOfEvents (event : Event) (times : ℕ) (before : Agent) (said : List ℕ) (now : Agent)
+pub record SaysOfEvents (event : Event) (times : ℕ) (before : Agent) (stated : List ℕ) (now : Agent)
     (whole : Bool) : Type 0 where
   pub mets : List Met
   pub count : length mets ≡ times
   pub may : AreMet before.history (each_met event mets)
-  pub text : said ≡ events_text before.is_auditing before.history (each_met event mets)
+  pub text : stated ≡ events_text before.is_auditing before.history (each_met event mets)
   pub after : now ≡ record before { history = after_events before.history (each_met event mets) }
   pub whole_is : whole ≡ list_all is_full mets
 
@@ -41,14 +41,14 @@ pub record Session : Type 0 where
   pub is_whole : Bool
 
 -- To a line.
-pub record SaysToLine (before : Session) (line said : List ℕ) (now : Session) : Type 0 where
+pub record SaysToLine (before : Session) (line stated : List ℕ) (now : Session) : Type 0 where
   pub whole : Bool
-  pub says : SaysOfLine before.agent line said now.agent whole
+  pub says : SaysOfLine before.agent line stated now.agent whole
   pub is_whole : now.is_whole ≡ (before.is_whole && whole)
 
 -- at the end
-pub record SaysAtEnd (before : Session) (said : List ℕ) (now : Session) : Type 0 where
-  pub text : said ≡ end_text before.agent
+pub record SaysAtEnd (before : Session) (stated : List ℕ) (now : Session) : Type 0 where
+  pub text : stated ≡ end_text before.agent
   pub agent : now.agent ≡ after_end before.agent
   pub whole : now.is_whole ≡ before.is_whole
 

@@ -81,8 +81,8 @@ impl<O: MibObject> Agent<O> {
     /// for an entry.
     #[tactic(auto, unfolding(crate::specs::Actions::action_of, crate::specs::Notes::MayMeet, crate::specs::Notes::MayGiveUp))]
     pub fn line(&mut self, alloc: Global, line: &[u8], out: &mut Vec<u8>) -> Result<bool, LineFault>
-        ensures said { IfOk result (λ whole. Adds out.old.items out.new.items (λ said.
-            SaysOfLine self.old line.now said self.new whole)) }
+        ensures stated { IfOk result (λ whole. Adds out.old.items out.new.items (λ stated.
+            SaysOfLine self.old line.now stated self.new whole)) }
         ensures given_up { IfErr result (MayGiveUp self.old line.now) }
     {
         match self.policy_lines.take() {
@@ -100,7 +100,7 @@ impl<O: MibObject> Agent<O> {
     /// Answers the end of the script: a policy that has not ended is refused. Where none is open
     /// nothing is written, and that takes no memory.
     pub fn end(&mut self, out: &mut Vec<u8>) -> Result<(), AllocError>
-        ensures said { OnOk result (out.new.items ≡ out.old.items ++ end_text self.old) }
+        ensures stated { OnOk result (out.new.items ≡ out.old.items ++ end_text self.old) }
         ensures after { OnOk result (self.new ≡ after_end self.old) }
         ensures given_up { OnErr result (IsSome self.old.policy_lines) }
     {
@@ -113,8 +113,8 @@ impl<O: MibObject> Agent<O> {
     // One event happens, and its outcome is written.
     fn event(&mut self, alloc: Global, event: Event, out: &mut Vec<u8>) -> Result<bool, LineFault>
         requires { IsEncodable event }
-        ensures said { IfOk result (λ whole. Adds out.old.items out.new.items (λ said.
-            SaysOfEvents event 1 self.old said self.new whole)) }
+        ensures stated { IfOk result (λ whole. Adds out.old.items out.new.items (λ stated.
+            SaysOfEvents event 1 self.old stated self.new whole)) }
         ensures stopped { IfErr result (λ fault. fault ≡ LineFault.Stopped →
             next_of self.old.history ≡ last_number) }
     {
@@ -123,11 +123,11 @@ impl<O: MibObject> Agent<O> {
             Applied::Done(receipt, audit) => {
                 say_receipt(alloc, self.is_auditing, &receipt, &audit, out)?;
                 say_bpdus(address, self.buffer.bpdus(), out)?;
-                Ok(has_room(self.kept.entries()))
+                Ok(has_space(self.kept.entries()))
             }
             Applied::Dropped(_, cause, audit) => {
                 say_dropped(alloc, self.is_auditing, &cause, &audit, out)?;
-                Ok(has_room(self.kept.entries()))
+                Ok(has_space(self.kept.entries()))
             }
             Applied::Short(_) => {
                 say_short(self.buffer.reply(), out)?;
@@ -139,8 +139,8 @@ impl<O: MibObject> Agent<O> {
 
     // So many seconds pass, one after another.
     fn ticks(&mut self, alloc: Global, seconds: u32, out: &mut Vec<u8>) -> Result<bool, LineFault>
-        ensures said { IfOk result (λ whole. Adds out.old.items out.new.items (λ said.
-            SaysOfEvents Event.Tick seconds self.old said self.new whole)) }
+        ensures stated { IfOk result (λ whole. Adds out.old.items out.new.items (λ stated.
+            SaysOfEvents Event.Tick seconds self.old stated self.new whole)) }
         ensures stopped { IfErr result (λ fault. fault ≡ LineFault.Stopped →
             IsOut self.old.history seconds) }
     {
@@ -162,9 +162,9 @@ impl<O: MibObject> Agent<O> {
         out: &mut Vec<u8>,
     ) -> Result<bool, LineFault>
         requires outside { self.old.policy_lines ≡ None }
-        ensures said { IfOk result (λ whole. Adds out.old.items out.new.items (λ said.
+        ensures stated { IfOk result (λ whole. Adds out.old.items out.new.items (λ stated.
             Says (MayMeetCommand self.old.history (option_map command_view command))
-            (command_action (option_map command_view command)) self.old said self.new whole)) }
+            (command_action (option_map command_view command)) self.old stated self.new whole)) }
         ensures given_up { IfErr result
             (MayGiveUpCommand self.old.history (option_map command_view command)) }
     {
@@ -203,9 +203,9 @@ impl<O: MibObject> Agent<O> {
         datagram: &[u8],
         out: &mut Vec<u8>,
     ) -> Result<bool, LineFault>
-        ensures said { IfOk result (λ whole. Adds out.old.items out.new.items (λ said.
+        ensures stated { IfOk result (λ whole. Adds out.old.items out.new.items (λ stated.
             Says (MayMeetDatagram self.old.history datagram.now) (datagram_action datagram.now)
-            self.old said self.new whole)) }
+            self.old stated self.new whole)) }
         ensures stopped { IfErr result (λ fault. fault ≡ LineFault.Stopped →
             IsOut self.old.history 1) }
     {
@@ -227,9 +227,9 @@ impl<O: MibObject> Agent<O> {
         octets: &[u8],
         out: &mut Vec<u8>,
     ) -> Result<bool, LineFault>
-        ensures said { IfOk result (λ whole. Adds out.old.items out.new.items (λ said.
+        ensures stated { IfOk result (λ whole. Adds out.old.items out.new.items (λ stated.
             Says (MayMeetFrame self.old.history port (frame_at octets.now))
-            (frame_action port (frame_at octets.now)) self.old said self.new whole)) }
+            (frame_action port (frame_at octets.now)) self.old stated self.new whole)) }
         ensures stopped { IfErr result (λ fault. fault ≡ LineFault.Stopped →
             IsOut self.old.history 1) }
     {
@@ -251,9 +251,9 @@ impl<O: MibObject> Agent<O> {
         out: &mut Vec<u8>,
     ) -> Result<bool, LineFault>
         requires { self.old.policy_lines ≡ None }
-        ensures said { IfOk result (λ whole. Adds out.old.items out.new.items (λ said.
+        ensures stated { IfOk result (λ whole. Adds out.old.items out.new.items (λ stated.
             Says (MayMeetPolicyLine self.old.history lines.items line.now)
-            (policy_action lines.items line.now) self.old said self.new whole)) }
+            (policy_action lines.items line.now) self.old stated self.new whole)) }
         ensures given_up { IfErr result (MayGiveUpPolicyLine self.old.history) }
     {
         if line == b"end".as_slice() {
@@ -273,9 +273,9 @@ impl<O: MibObject> Agent<O> {
         out: &mut Vec<u8>,
     ) -> Result<bool, LineFault>
         requires { self.old.policy_lines ≡ None }
-        ensures said { IfOk result (λ whole. Adds out.old.items out.new.items (λ said.
+        ensures stated { IfOk result (λ whole. Adds out.old.items out.new.items (λ stated.
             Says (MayMeetEnd self.old.history lines.now) (end_action lines.now)
-            self.old said self.new whole)) }
+            self.old stated self.new whole)) }
         ensures given_up { IfErr result (MayGiveUpPolicyLine self.old.history) }
     {
         match policy_in(alloc, lines) {
@@ -303,7 +303,7 @@ fn keep_line(lines: &mut Vec<u8>, line: &[u8]) -> Result<(), AllocError>
 
 // Whether the event that was entered last found memory for the learned row of a frame's source, and
 // for each name that was made.
-fn has_room(entries: &[Entry]) -> bool
+fn has_space(entries: &[Entry]) -> bool
     ensures { (before : List Entry) (last : Entry) → entries.now ≡ before ++ last ∷ [] →
         result ≡ had_memory last.no_room last.unnamed }
 {

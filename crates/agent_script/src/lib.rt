@@ -2,7 +2,7 @@
 //!
 //! # Entry points
 //! [`run_script`] reads a script to its end over what managed objects show of a world, [`run_kept`]
-//! over a history that has begun. Each says by a [`Run`] whether each line was answered in full.
+//! over a history that has begun. Each says by a [`ScriptEnd`] whether each line was answered in full.
 //! One line lets at most [`MAX_SECONDS`] seconds pass.
 //!
 //! # Definitions
@@ -37,4 +37,4 @@ mod saying;
 mod session;
 
 pub use commands::MAX_SECONDS;
-pub use session::{Run, run_kept, run_script};
+pub use session::{ScriptEnd, run_kept, run_script};

@@ -1,7 +1,7 @@
 //! What is written for events, for a datagram that gives none, and for `counts`.
 ghost use Rattle.std.specs.Prelude.{◌≡◌, ◌++◌, Some, codes, OnOk};
 ghost use Rattle.std.specs.List.{flat_map};
-ghost use Rattle.agent_script.specs.Outputs.{drop_text, dropped_name, told_audit, reply_line, reply_text, short_text, receipt_text};
+ghost use Rattle.agent_script.specs.Outputs.{drop_text, dropped_name, reported_audit, reply_line, reply_text, short_text, receipt_text};
 ghost use Rattle.agent_script.specs.Actions.{cause_name, space_and_number, counts_text};
 
 use crate::bridging::say_forward;
@@ -56,10 +56,10 @@ pub fn say_dropped(
     out: &mut Vec<u8>,
 ) -> Result<(), AllocError>
     ensures { OnOk result (out.new.items ≡ out.old.items
-        ++ (drop_text (dropped_name cause.now) ++ told_audit on (Some audit.now))) }
+        ++ (drop_text (dropped_name cause.now) ++ reported_audit on (Some audit.now))) }
 {
     say_drop(dropped_name(cause), out)?;
-    say_told(alloc, on, audit, out)
+    say_reported(alloc, on, audit, out)
 }
 
 // Appends `reply` and the octets of a reply.
@@ -93,8 +93,8 @@ fn say_reply_of(reply: &Option<Octets>, out: &mut Vec<u8>) -> Result<(), AllocEr
 }
 
 // Appends an audit, where audits are on.
-fn say_told(alloc: Global, on: bool, audit: &Audit, out: &mut Vec<u8>) -> Result<(), AllocError>
-    ensures { OnOk result (out.new.items ≡ out.old.items ++ told_audit on (Some audit.now)) }
+fn say_reported(alloc: Global, on: bool, audit: &Audit, out: &mut Vec<u8>) -> Result<(), AllocError>
+    ensures { OnOk result (out.new.items ≡ out.old.items ++ reported_audit on (Some audit.now)) }
 {
     if !on {
         return Ok(());
@@ -110,10 +110,10 @@ fn say_audit(
     audit: &Option<Audit>,
     out: &mut Vec<u8>,
 ) -> Result<(), AllocError>
-    ensures { OnOk result (out.new.items ≡ out.old.items ++ told_audit on audit.now) }
+    ensures { OnOk result (out.new.items ≡ out.old.items ++ reported_audit on audit.now) }
 {
     match audit {
-        Some(audit) => say_told(alloc, on, audit, out),
+        Some(audit) => say_reported(alloc, on, audit, out),
         None => Ok(()),
     }
 }

@@ -14,7 +14,7 @@ use std::marker::Model;
 
 /// How a run over a whole script went.
 #[derive(Clone, Copy, Debug, PartialEq, Eq)]
-pub enum Run {
+pub enum ScriptEnd {
     /// Each line was answered in full.
     Whole,
     /// Some line met want of memory, and was answered so: by `drop Memory`, by `policy refused`, by
@@ -80,7 +80,7 @@ pub fn run_script<O: MibObject, R: Read, W: Write>(
     world: World,
     reader: &mut R,
     writer: &mut W,
-) -> Result<Run, RunFault>
+) -> Result<ScriptEnd, RunFault>
     ensures { IsScriptRun R.remaining W.contents (opening_agent registry world)
         reader.old reader.new writer.old writer.new result }
 {
@@ -107,7 +107,7 @@ pub fn run_kept<O: MibObject, R: Read, W: Write>(
     kept: Kept<O>,
     reader: &mut R,
     writer: &mut W,
-) -> Result<Run, RunFault>
+) -> Result<ScriptEnd, RunFault>
     ensures { IsScriptRun R.remaining W.contents (agent_over kept)
         reader.old reader.new writer.old writer.new result }
 {
@@ -124,13 +124,13 @@ pub fn run_kept<O: MibObject, R: Read, W: Write>(
 
 impl<O: MibObject> AgentSession<O> {
     // How the run went.
-    fn run(&self) -> Run
-        ensures { result ≡ (if self.now.is_whole then Run.Whole else Run.Short) }
+    fn run(&self) -> ScriptEnd
+        ensures { result ≡ (if self.now.is_whole then ScriptEnd.Whole else ScriptEnd.Short) }
     {
         if self.is_whole {
-            Run::Whole
+            ScriptEnd::Whole
         } else {
-            Run::Short
+            ScriptEnd::Short
         }
     }
 }

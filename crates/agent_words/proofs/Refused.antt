@@ -24,20 +24,20 @@ asks a words m is matches =
     let h = subst (λ (x : App). HasMatchesOf x words m) is matches simple in
     subst (λ (o : Option (Text × List Row)). asking_in (subcommand_rows_of m) ≡ asking_in o) h.1 refl
 
-pub command_said : (a : App) (words : List Text) (m : ArgMatches) (asked : Option Asked) (is_asked : Asked) → a ≡ agent_app → (is_simple_and_free a ≡ true → fault_of a words ≡ []) → HasMatchesOf a words m → option_map asked_view asked ≡ asking_in (subcommand_rows_of m) → asked ≡ Some is_asked → IsAsked words is_asked
-command_said a words m asked is_asked is kinds matches said some = record {
+pub command_stated : (a : App) (words : List Text) (m : ArgMatches) (asked : Option Asked) (is_asked : Asked) → a ≡ agent_app → (is_simple_and_free a ≡ true → fault_of a words ≡ []) → HasMatchesOf a words m → option_map asked_view asked ≡ asking_in (subcommand_rows_of m) → asked ≡ Some is_asked → IsAsked words is_asked
+command_stated a words m asked is_asked is kinds matches stated some = record {
   faultless = faultless a words is kinds;
-  asks = sym (asks a words m is matches) ∙ sym said ∙ rw some refl;
+  asks = sym (asks a words m is matches) ∙ sym stated ∙ rw some refl;
 }
 
 -- the matches say nothing
-pub none_said : (a : App) (words : List Text) (m : ArgMatches) (asked : Option Asked) (e : Error) → a ≡ agent_app → (is_simple_and_free a ≡ true → fault_of a words ≡ []) → HasMatchesOf a words m → option_map asked_view asked ≡ asking_in (subcommand_rows_of m) → asked ≡ None → (kind_of e ≡ kind.OutOfMemory) ⊎ (kind_of e ≡ kind.ValueValidation) → IsRefusal words e
-none_said a words m asked e is kinds matches said none (inl wants) = inl wants
-none_said a words m asked e is kinds matches said none (inr invalid) = inr (inr (
+pub none_stated : (a : App) (words : List Text) (m : ArgMatches) (asked : Option Asked) (e : Error) → a ≡ agent_app → (is_simple_and_free a ≡ true → fault_of a words ≡ []) → HasMatchesOf a words m → option_map asked_view asked ≡ asking_in (subcommand_rows_of m) → asked ≡ None → (kind_of e ≡ kind.OutOfMemory) ⊎ (kind_of e ≡ kind.ValueValidation) → IsRefusal words e
+none_stated a words m asked e is kinds matches stated none (inl wants) = inl wants
+none_stated a words m asked e is kinds matches stated none (inr invalid) = inr (inr (
   invalid,
   record {
     faultless = faultless a words is kinds;
-    none = sym (asks a words m is matches) ∙ sym said ∙ rw none refl;
+    none = sym (asks a words m is matches) ∙ sym stated ∙ rw none refl;
   },
 ))
 

@@ -104,20 +104,20 @@ abbrev pub file_asking_by : Text → List Row → Option Asking
 file_asking_by name rows = option_and_then (asking_with name rows) (first_of (codes "FILE") rows)
 
 -- a command for the agent whose control socket has this path
-abbrev pub telling_with : Option Text → Option Command → Option Asking
-telling_with (Some path) (Some command) = Some (tell path command)
-telling_with (Some path) None = None
-telling_with None command = None
+abbrev pub tell_with : Option Text → Option Command → Option Asking
+tell_with (Some path) (Some command) = Some (tell path command)
+tell_with (Some path) None = None
+tell_with None command = None
 
 -- the command for a served agent, by the rows of matches
-abbrev pub telling_by : List Row → Option Asking
-telling_by rows = telling_with (first_of (codes "PATH") rows)
+abbrev pub tell_by : List Row → Option Asking
+tell_by rows = tell_with (first_of (codes "PATH") rows)
     (option_and_then order_of (all_of (codes "COMMAND") rows))
 
 -- what a subcommand asks for, by the rows of its matches
 abbrev pub asking_by : Text → List Row → Option Asking
 asking_by name rows =
-    if bytes_eq name (codes "tell") then telling_by rows else file_asking_by name rows
+    if bytes_eq name (codes "tell") then tell_by rows else file_asking_by name rows
 
 -- what matches ask for: without a subcommand the script by the built-in configuration
 abbrev pub asking_in : Option (Text × List Row) → Option Asking

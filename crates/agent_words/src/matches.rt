@@ -1,7 +1,7 @@
 //! What the matches of a command line ask for.
 ghost use Rattle.std.specs.Prelude.{◌≡◌, codes, map, option_and_then, option_map, IfOk, IsOkAnd};
 ghost use Rattle.clap.specs.Words.{all_of, first_of, one_of, subcommand_rows_of};
-ghost use Rattle.agent_words.specs.Asking.{rows_in, is_set, serve, lasting_in, lasting_view, operation_of, inquiry_by, file_asking_by, telling_by, asking_by, asking_in, asked_view, question_view, explain};
+ghost use Rattle.agent_words.specs.Asking.{rows_in, is_set, serve, lasting_in, lasting_view, operation_of, inquiry_by, file_asking_by, tell_by, asking_by, asking_in, asked_view, question_view, explain};
 ghost use Rattle.agent_words.specs.Orders.{order_view, order_of, order_alone, order_of_file, order_of_port};
 
 use crate::asked::{Asked, Lasting, Operation, Order, Question};
@@ -32,7 +32,7 @@ fn asked_by<'a>(
         option_map asked_view asked ≡ asking_by name.now (rows_in entered.now)) }
 {
     match name {
-        "tell" => Ok(told_in(entered)),
+        "tell" => Ok(tell_in(entered)),
         _ => asked_of_file(alloc, name, entered),
     }
 }
@@ -70,8 +70,8 @@ fn served<'a>(file: &'a str, lasting: Option<Lasting<'a>>) -> Option<Asked<'a>>
 }
 
 // The command for a served agent, if the words say one.
-fn told_in<'a>(entered: &ArgMatches<'a>) -> Option<Asked<'a>>
-    ensures { option_map asked_view result ≡ telling_by (rows_in entered.now) }
+fn tell_in<'a>(entered: &ArgMatches<'a>) -> Option<Asked<'a>>
+    ensures { option_map asked_view result ≡ tell_by (rows_in entered.now) }
 {
     let Some(path) = word_in(entered, "PATH") else {
         return None;

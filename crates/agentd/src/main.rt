@@ -41,7 +41,7 @@ use std::sync::{Arc, Wait};
 use std::thread::{Threads, join};
 use std::time::Clock;
 use std::{env, io};
-use udp_agent::{any_failed, tell_fault, tell_not_begun, tell_report};
+use udp_agent::{any_failed, log_not_begun, log_report, report_fault};
 use wire_core::{Startup, TaskStart};
 
 fn main(rt: HostRuntime) -> ExitCode {
@@ -87,7 +87,7 @@ fn main(rt: HostRuntime) -> ExitCode {
     )
 }
 
-// Tells of a failure, and gives its exit status.
+// Reports a failure, and gives its exit status.
 fn failed<E: io::Write>(failure: &Failure<'_>, errors: &mut E) -> ExitCode {
     ExitCode::from(report(failure, errors).status)
 }
@@ -136,11 +136,11 @@ fn serve_rounds<M: MibObject + Send, R: Threads + Wait + Net + Clock + Log + Syn
 ) -> Result<(), Failure<'static>> {
     match serve_opened(rt, alloc, registry, opened) {
         Ok(done) => {
-            tell_report(rt, &done);
+            log_report(rt, &done);
             Ok(())
         }
         Err(fault) => {
-            tell_fault(rt, &fault);
+            report_fault(rt, &fault);
             Err(Failure::Run)
         }
     }
@@ -179,7 +179,7 @@ where
 
 // Nothing was served: logs why.
 fn not_begun<R: Log, E: Display>(rt: &R, why: &E) -> Result<(), Failure<'static>> {
-    tell_not_begun(rt, why);
+    log_not_begun(rt, why);
     Err(Failure::Run)
 }
 

@@ -1,7 +1,7 @@
 -- The text of an audit: the PDU type of the request, then 'drop' and why it is dropped (RFC 3418,
 -- snmpInBadCommunityNames; RFC 3413, snmpUnknownContexts), or the reply's status and index (RFC
 -- 3416, section 3), the decision (RFC 3415, section 3.2) with the key of its row, the denied
--- bindings, and the settings that a Set could not put back (RFC 3416, 4.2.5).
+-- bindings, and the settings that a Set could not restore (RFC 3416, 4.2.5).
 use Rattle.std.specs.Prelude.{ℕ, codes, decimal, List, [], ◌∷◌, ◌++◌, Option, Some, None}
 use Rattle.std.specs.Fmt.{signed_decimal}
 use Rattle.std.specs.List.{flat_map}
@@ -97,7 +97,7 @@ refusal_text (NoAccessEntry asked) = codes "noAccessEntry " ++ access_text asked
 refusal_text (NoSuchView row view) =
     codes "noSuchView " ++ access_text row ++ codes " " ++ named_view_text view
 
--- by which row a request is let in, and to which view
+-- by which row a request is authorized, and to which view
 unfoldable pub leave_text : AccessKey → List ℕ → List ℕ
 leave_text row view = codes "ok " ++ access_text row ++ codes " view " ++ view
 
@@ -109,11 +109,11 @@ reply_text audit decision =
     ++ decision ++ flat_map denied_text audit.denied ++ flat_map unrestored_text audit.unrestored
 
 -- what stands behind the PDU type
-abbrev pub said_text : Audit → Decision → List ℕ
-said_text audit (Drop cause) = codes "drop " ++ cause_text cause
-said_text audit Empty = reply_text audit (codes "empty")
-said_text audit (Refused why) = reply_text audit (refusal_text why)
-said_text audit (Allowed row view) = reply_text audit (leave_text row view)
+abbrev pub stated_text : Audit → Decision → List ℕ
+stated_text audit (Drop cause) = codes "drop " ++ cause_text cause
+stated_text audit Empty = reply_text audit (codes "empty")
+stated_text audit (Refused why) = reply_text audit (refusal_text why)
+stated_text audit (Allowed row view) = reply_text audit (leave_text row view)
 
 abbrev pub audit_text : Audit → List ℕ
-audit_text audit = kind_text audit.kind ++ codes " " ++ said_text audit audit.decision
+audit_text audit = kind_text audit.kind ++ codes " " ++ stated_text audit audit.decision

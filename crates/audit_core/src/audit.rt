@@ -3,7 +3,7 @@ ghost use Rattle.std.specs.Prelude.{◌≡◌, ◌≢◌, [], true, Some, IfOk, 
 ghost use Rattle.audit_core.specs.Text.{audit_text, kind_text};
 
 use crate::denied::DeniedBindings;
-use crate::unrestored::{Unrestored, UnrestoredRoom, WrittenUnrestored};
+use crate::unrestored::{Unrestored, UnrestoredSpace, WrittenUnrestored};
 use crate::written::{WrittenCause, WrittenLeave, WrittenRefusal};
 use decision::Decision;
 use message_core::{ErrorStatus, Kind};
@@ -34,8 +34,8 @@ pub struct Audit {
 impl Audit {
     /// A copy, whose settings that were left at their new values lie in memory that was reserved for
     /// them, if there are some. Takes memory only for denied variable bindings.
-    pub fn try_copy_in(&self, alloc: Global, room: UnrestoredRoom) -> Result<Audit, AllocError>
-        requires { self.now.unrestored ≢ [] → room ≡ true }
+    pub fn try_copy_in(&self, alloc: Global, space: UnrestoredSpace) -> Result<Audit, AllocError>
+        requires { self.now.unrestored ≢ [] → space ≡ true }
         ensures value { IfOk result (λ copy. copy ≡ self.now) }
         ensures denied { OnErr result (self.now.denied ≢ []) }
     {
@@ -46,7 +46,7 @@ impl Audit {
             index: self.index,
             decision: self.decision.copy(),
             denied,
-            unrestored: self.unrestored.copy_in(room),
+            unrestored: self.unrestored.copy_in(space),
         })
     }
 }

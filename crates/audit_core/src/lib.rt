@@ -8,7 +8,7 @@
 //! list of [`Denied`], each with the [`FamilyKey`] of the family that excludes its name, where one
 //! does; they lie in memory of their own, where the key of each family is kept once, and a binding
 //! takes six octets beside. The settings that a Set could not restore are [`Unrestored`]: an
-//! [`UnrestoredRoom`], which is reserved before the Set, is filled with them.
+//! [`UnrestoredSpace`], which is reserved before the Set, is filled with them.
 //!
 //! # Definitions
 //! `specs/Text.antt`: the line, to the octet; `specs/Keys.antt`: the key of a family row. Inside the
@@ -37,4 +37,4 @@ pub use audit::Audit;
 pub use denied::{Denied, DeniedBindings};
 pub use keys::FamilyKey;
 pub use line::{audit_line, write_audit};
-pub use unrestored::{Unrestored, UnrestoredRoom};
+pub use unrestored::{Unrestored, UnrestoredSpace};

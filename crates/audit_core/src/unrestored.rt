@@ -52,12 +52,12 @@ impl Unrestored {
     }
 
     /// A copy, in memory that was reserved for it if there are settings. Takes no memory.
-    pub fn copy_in(&self, room: UnrestoredRoom) -> Unrestored
-        requires { self.now ≢ [] → room ≡ true }
+    pub fn copy_in(&self, space: UnrestoredSpace) -> Unrestored
+        requires { self.now ≢ [] → space ≡ true }
         ensures { result ≡ self.now }
     {
         match &self.keys {
-            Some(keys) => room.filled(keys.copy()),
+            Some(keys) => space.filled(keys.copy()),
             None => Unrestored::none(),
         }
     }
@@ -66,40 +66,40 @@ impl Unrestored {
 /// Memory for the settings that a Set may leave at their new values, or none; seen as whether there is
 /// some. It is reserved where want of memory can still be reported, and filled where nothing may fail any
 /// more.
-pub struct UnrestoredRoom {
+pub struct UnrestoredSpace {
     keys: Option<Box<SettingKeys>>,
 }
 
 // By hand, so that who lets one go knows nothing of its parts.
-impl Drop for UnrestoredRoom {
+impl Drop for UnrestoredSpace {
     fn drop(self) {
-        let UnrestoredRoom { keys: _keys } = self;
+        let UnrestoredSpace { keys: _keys } = self;
     }
 }
 
-impl Model for UnrestoredRoom {
+impl Model for UnrestoredSpace {
     ghost use Rattle.std.specs.Prelude.{Bool};
-    ghost use Rattle.audit_core.specs.Unrestored.{is_room};
+    ghost use Rattle.audit_core.specs.Unrestored.{is_space};
 
     ghost Value = { Bool };
 
-    ghost view = { λ room. is_room room.keys };
+    ghost view = { λ space. is_space space.keys };
 }
 
-impl UnrestoredRoom {
+impl UnrestoredSpace {
     /// No memory, as for a request that writes nothing. Takes no memory.
-    pub fn none() -> UnrestoredRoom
+    pub fn none() -> UnrestoredSpace
         ensures { result ≡ false }
     {
-        UnrestoredRoom { keys: None }
+        UnrestoredSpace { keys: None }
     }
 
     /// Memory for as many settings as a list of keys has.
-    pub fn reserved(alloc: Global) -> Result<UnrestoredRoom, AllocError>
-        ensures { IfOk result (λ room. room ≡ true) }
+    pub fn reserved(alloc: Global) -> Result<UnrestoredSpace, AllocError>
+        ensures { IfOk result (λ space. space ≡ true) }
     {
         let keys = Box::new(alloc, SettingKeys::new())?;
-        Ok(UnrestoredRoom { keys: Some(keys) })
+        Ok(UnrestoredSpace { keys: Some(keys) })
     }
 
     /// These settings; where there are none, the memory is freed. Takes no memory, so it cannot fail.
@@ -110,11 +110,11 @@ impl UnrestoredRoom {
         if keys.is_empty() {
             return Unrestored::none();
         }
-        let UnrestoredRoom { keys: room } = self;
-        match room {
-            Some(mut room) => {
-                *room = keys;
-                Unrestored { keys: Some(room) }
+        let UnrestoredSpace { keys: space } = self;
+        match space {
+            Some(mut space) => {
+                *space = keys;
+                Unrestored { keys: Some(space) }
             }
             None => unreachable!(),
         }

@@ -11,7 +11,7 @@ const ADDRESSES: [u32; 2] = [10, 1_024];
 /// How many seconds pass in which no address is old enough to go.
 const SECONDS: u32 = 1_000;
 
-// The addresses in an order that looks random: a step that meets each of 1,024 once.
+// The addresses in a scattered order: a step that meets each of 1,024 once.
 fn address_at(turn: u32) -> Mac {
     let number = (turn % 1_024 * 389) % 1_024;
     let [_, _, high, low] = number.to_be_bytes();

@@ -66,8 +66,8 @@ too_long_at octets b =
 abbrev failed : BerFault → Result triple BerFault
 failed f = Err f
 
-said : (octets : List ℕ) (f : BerFault) → tlv_at octets ≡ failed f → Says octets (failed f)
-said octets f e = subst (Says octets) e (tlv_says octets)
+stated : (octets : List ℕ) (f : BerFault) → tlv_at octets ≡ failed f → Says octets (failed f)
+stated octets f e = subst (Says octets) e (tlv_says octets)
 
 tlv_fault : (octets : List ℕ) (f : BerFault) → tlv_at octets ≡ failed f → IsTlvFault octets f
 tlv_fault octets Short e = record {
@@ -75,10 +75,10 @@ tlv_fault octets Short e = record {
   accepted = λ b. (let k = too_long_at octets b in cc);
   none = λ tag content rest b. (let k = tlv_only octets tag content rest b in cc);
 }
-tlv_fault octets Indefinite e = said octets Indefinite e
-tlv_fault octets LengthTooLong e = said octets LengthTooLong e
-tlv_fault octets BadContent e = said octets BadContent e
-tlv_fault octets NoRoom e = said octets NoRoom e
+tlv_fault octets Indefinite e = stated octets Indefinite e
+tlv_fault octets LengthTooLong e = stated octets LengthTooLong e
+tlv_fault octets BadContent e = stated octets BadContent e
+tlv_fault octets NoRoom e = stated octets NoRoom e
 
 pub fault_by : {X : Type 0} (view : X → ℕ × List ℕ × List ℕ) (octets : List ℕ) (r : Result X BerFault) → Gives None view r (tlv_at octets) → IfErr r (λ f. IsTlvFault octets f)
 fault_by view octets (Ok x) g = tt

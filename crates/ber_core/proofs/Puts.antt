@@ -27,6 +27,6 @@ truncated before after back more w b =
 pub front_then : (a b c : Out) (r : Result (Unit {0}) BerFault) (x : List ℕ) → Prepends b c r x → KeepsFront a b → OnOk r (KeepsFront b c) → OnOk r (KeepsFront a c)
 front_then a b c (Ok u) x p k h =
     let within = c.within in
-    let less : c.start ≤ b.start = omega (arith, within, p.1, ap length p.0, length-append x (written_octets b), length-drop c.start c.room.now, length-drop b.start b.room.now) in
-    h ∙ sym (take-take c.start b.start b.room.now less) ∙ ap (λ (t : List ℕ). take c.start t) k ∙ take-take c.start b.start a.room.now less
+    let less : c.start ≤ b.start = omega (arith, within, p.1, ap length p.0, length-append x (written_octets b), length-drop c.start c.space.now, length-drop b.start b.space.now) in
+    h ∙ sym (take-take c.start b.start b.space.now less) ∙ ap (λ (t : List ℕ). take c.start t) k ∙ take-take c.start b.start a.space.now less
 front_then a b c (Err f) x p k h = tt

@@ -6,11 +6,11 @@ use Rattle.ber_core.specs.declared.out.Out.{Out}
 
 -- what was written so far
 abbrev pub written_octets : Out → List ℕ
-written_octets out = drop out.start out.room.now
+written_octets out = drop out.start out.space.now
 
 -- how many octets there is space for in all
 abbrev pub capacity : Out → ℕ
-capacity out = length out.room.now
+capacity out = length out.space.now
 
 -- Writing these octets: they stand in front of the others, or there is no space for them.
 abbrev pub Prepends : Out → Out → Result (Unit {0}) BerFault → List ℕ → Type 0
@@ -20,4 +20,4 @@ Prepends old new (Err fault) octets = (fault ≡ NoRoom) × (capacity old < leng
 
 -- The octets of the slice in front of those written are as they were.
 abbrev pub KeepsFront : Out → Out → Type 0
-KeepsFront old new = take new.start new.room.now ≡ take new.start old.room.now
+KeepsFront old new = take new.start new.space.now ≡ take new.start old.space.now

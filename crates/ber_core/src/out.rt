@@ -14,10 +14,10 @@ use crate::shortest::shortest_of;
 /// were.
 #[derive(Drop)]
 pub struct Out<'a> {
-    pub room: &'a mut [u8],
+    pub space: &'a mut [u8],
     pub start: usize,
-    pub ghost within: { start ≤ length room.now },
-    pub ghost small: { length room.now < 2 ^ 32 },
+    pub ghost within: { start ≤ length space.now },
+    pub ghost small: { length space.now < 2 ^ 32 },
 }
 
 impl<'a> Out<'a> {
@@ -25,14 +25,14 @@ impl<'a> Out<'a> {
     ghost use Rattle.ber_core.specs.Encoding.{canon_length, canon_tlv, canon_integer, canon_unsigned};
 
     /// A writer that has written nothing.
-    pub fn new(room: &'a mut [u8]) -> Out<'a>
-        requires { length room.old < 2 ^ 32 }
-        ensures same_reference { result.room.ghost_name ≡ room.entry.ghost_name }
-        ensures room { result.room.now ≡ room.old }
+    pub fn new(space: &'a mut [u8]) -> Out<'a>
+        requires { length space.old < 2 ^ 32 }
+        ensures same_reference { result.space.ghost_name ≡ space.entry.ghost_name }
+        ensures space { result.space.now ≡ space.old }
         ensures empty { written_octets result ≡ [] }
     {
-        let start = room.len();
-        Out { room, start }
+        let start = space.len();
+        Out { space, start }
     }
 
     /// How many octets are written.
@@ -40,14 +40,14 @@ impl<'a> Out<'a> {
         ensures value { result ≡ length (written_octets self.now) }
         ensures small { result < 2 ^ 32 }
     {
-        self.room.len() - self.start
+        self.space.len() - self.start
     }
 
     /// Writes octets in front of those written.
     ///
     /// `NoRoom` where they do not fit.
     pub fn put_octets(&mut self, octets: &[u8]) -> Result<(), BerFault>
-        ensures same_reference { self.new.room.ghost_name ≡ self.old.room.ghost_name }
+        ensures same_reference { self.new.space.ghost_name ≡ self.old.space.ghost_name }
         ensures puts { Prepends self.old self.new result octets.now }
         ensures front { OnOk result (KeepsFront self.old self.new) }
         ensures err { OnErr result (self.new ≡ self.old) }
@@ -56,7 +56,7 @@ impl<'a> Out<'a> {
             return Err(BerFault::NoRoom);
         }
         let start = self.start - octets.len();
-        self.room[start..self.start].copy_from_slice(octets);
+        self.space[start..self.start].copy_from_slice(octets);
         self.start = start;
         Ok(())
     }
@@ -67,7 +67,7 @@ impl<'a> Out<'a> {
     #[tactic(auto, using(crate::proofs::Lengths::canon_1, crate::proofs::Lengths::canon_2, crate::proofs::Lengths::canon_3, crate::proofs::Lengths::canon_4))]
     pub fn put_tlv_head(&mut self, tag: Tag, len: usize) -> Result<(), BerFault>
         requires { len < 2 ^ 32 }
-        ensures same_reference { self.new.room.ghost_name ≡ self.old.room.ghost_name }
+        ensures same_reference { self.new.space.ghost_name ≡ self.old.space.ghost_name }
         ensures puts { Prepends self.old self.new result (tag.0 ∷ canon_length len) }
         ensures front { OnOk result (KeepsFront self.old self.new) }
         ensures err { OnErr result (self.new ≡ self.old) }
@@ -89,13 +89,13 @@ impl<'a> Out<'a> {
     /// Takes back what was written last, so that `len` octets stay. No octet of the slice changes.
     pub fn truncate(&mut self, len: usize)
         requires { len ≤ length (written_octets self.old) }
-        ensures same_reference { self.new.room.ghost_name ≡ self.old.room.ghost_name }
+        ensures same_reference { self.new.space.ghost_name ≡ self.old.space.ghost_name }
         ensures rest { written_octets self.new ≡ drop (length (written_octets self.old) - len)
             (written_octets self.old) }
-        ensures room { capacity self.new ≡ capacity self.old }
-        ensures kept { self.new.room.now ≡ self.old.room.now }
+        ensures space { capacity self.new ≡ capacity self.old }
+        ensures kept { self.new.space.now ≡ self.old.space.now }
     {
-        self.start = self.room.len() - len;
+        self.start = self.space.len() - len;
     }
 
     /// Writes a value whose content is at hand, with the shortest length.
@@ -103,7 +103,7 @@ impl<'a> Out<'a> {
     /// `NoRoom` where it does not fit.
     #[tactic(auto, unfolding(crate::specs::Encoding::canon_tlv))]
     pub fn put_tlv(&mut self, tag: Tag, content: &[u8]) -> Result<(), BerFault>
-        ensures same_reference { self.new.room.ghost_name ≡ self.old.room.ghost_name }
+        ensures same_reference { self.new.space.ghost_name ≡ self.old.space.ghost_name }
         ensures puts { Prepends self.old self.new result (canon_tlv tag.0 content.now) }
         ensures front { OnOk result (KeepsFront self.old self.new) }
         ensures err { OnErr result (self.new ≡ self.old) }
@@ -121,7 +121,7 @@ impl<'a> Out<'a> {
     /// `NoRoom` where it does not fit.
     #[tactic(auto, unfolding(crate::specs::Encoding::canon_integer))]
     pub fn put_i32(&mut self, tag: Tag, value: i32) -> Result<(), BerFault>
-        ensures same_reference { self.new.room.ghost_name ≡ self.old.room.ghost_name }
+        ensures same_reference { self.new.space.ghost_name ≡ self.old.space.ghost_name }
         ensures puts { Prepends self.old self.new result (canon_tlv tag.0 (canon_integer value)) }
         ensures front { OnOk result (KeepsFront self.old self.new) }
         ensures err { OnErr result (self.new ≡ self.old) }
@@ -135,7 +135,7 @@ impl<'a> Out<'a> {
     /// `NoRoom` where it does not fit.
     #[tactic(auto, using(crate::proofs::Contents::unsigned_of_four))]
     pub fn put_u32(&mut self, tag: Tag, value: u32) -> Result<(), BerFault>
-        ensures same_reference { self.new.room.ghost_name ≡ self.old.room.ghost_name }
+        ensures same_reference { self.new.space.ghost_name ≡ self.old.space.ghost_name }
         ensures puts { Prepends self.old self.new result (canon_tlv tag.0 (canon_unsigned value)) }
         ensures front { OnOk result (KeepsFront self.old self.new) }
         ensures err { OnErr result (self.new ≡ self.old) }
@@ -150,7 +150,7 @@ impl<'a> Out<'a> {
     /// `NoRoom` where it does not fit.
     #[tactic(auto, unfolding(crate::specs::Encoding::canon_unsigned))]
     pub fn put_u64(&mut self, tag: Tag, value: u64) -> Result<(), BerFault>
-        ensures same_reference { self.new.room.ghost_name ≡ self.old.room.ghost_name }
+        ensures same_reference { self.new.space.ghost_name ≡ self.old.space.ghost_name }
         ensures puts { Prepends self.old self.new result (canon_tlv tag.0 (canon_unsigned value)) }
         ensures front { OnOk result (KeepsFront self.old self.new) }
         ensures err { OnErr result (self.new ≡ self.old) }

@@ -6,7 +6,7 @@ use Rattle.std.proofs.lemmas.List.{length-set}
 use Rattle.rstp_settings.proofs.Puts.{refill_same}
 use Rattle.frame_core.specs.declared.mac.Mac.{Mac}
 use Rattle.frame_core.specs.declared.frame.FrameIn.{FrameIn}
-use Rattle.fdb_core.specs.declared.row.Row.{Row}
+use Rattle.fdb_core.specs.declared.row.LearnedRow.{LearnedRow}
 use Rattle.fdb_core.specs.Rows.{other_rows}
 use Rattle.fdb_core.specs.declared.learnt.Learnt.{Learnt}
 use Rattle.fdb_core.specs.Statics.{Statics}
@@ -24,7 +24,7 @@ use Rattle.bridge_core.specs.Forwarding.{learnt_with, rows_after, is_refused, go
 use Rattle.bridge_core.specs.Events.{after_tree_step, after_reception, after_learning, after_forwarding, reception_result, Framed, Gives, frame_result, no_bpdus}
 
 -- a bridge of these parts
-abbrev pub state : Table → Tree → List Row → Statics → ℕ → List PortCounters → BridgeState
+abbrev pub state : Table → Tree → List LearnedRow → Statics → ℕ → List PortCounters → BridgeState
 state s t rows f n cs = record { settings = s; tree = t; learned = rows; statics = f; counters = record { entry_discards = n; ports = cs } }
 
 -- what a slice of all counters leaves
@@ -43,15 +43,15 @@ received_at cs ds i x e g =
 pub step_bpdus : (e : Step) (t u : Tree) (out : Outcome) → IsStep e t u out → out.bpdus.items ≡ e.bpdus
 step_bpdus e t u out h = sym (ap (λ (x : Step). x.bpdus) h.gives)
 
-pub after_step : (s z : Table) (t u : Tree) (rows left : List Row) (st : Statics) (n : ℕ) (cs ds : List PortCounters) (out : Outcome) (e : Step) → IsStep e t u out → z ≡ s → left ≡ other_rows out.flushed.items rows → ds ≡ sent_where (has_bpdu out.bpdus.items) cs → state z u left st n ds ≡ after_tree_step e (state s t rows st n cs)
+pub after_step : (s z : Table) (t u : Tree) (rows left : List LearnedRow) (st : Statics) (n : ℕ) (cs ds : List PortCounters) (out : Outcome) (e : Step) → IsStep e t u out → z ≡ s → left ≡ other_rows out.flushed.items rows → ds ≡ sent_where (has_bpdu out.bpdus.items) cs → state z u left st n ds ≡ after_tree_step e (state s t rows st n cs)
 unfolding after_tree_step
 after_step s z t u rows left st n cs ds out e h j f g = rw (h.gives, j, f, g)
 
-pub after_receive : (s : Table) (t : Tree) (rows : List Row) (st : Statics) (n : ℕ) (cs ds : List PortCounters) (p : ℕ) → ds ≡ set cs (p - 1) (with_frame_in (get_or cs (p - 1) no_counters)) → state s t rows st n ds ≡ after_reception p (state s t rows st n cs)
+pub after_receive : (s : Table) (t : Tree) (rows : List LearnedRow) (st : Statics) (n : ℕ) (cs ds : List PortCounters) (p : ℕ) → ds ≡ set cs (p - 1) (with_frame_in (get_or cs (p - 1) no_counters)) → state s t rows st n ds ≡ after_reception p (state s t rows st n cs)
 unfolding after_reception
 after_receive s t rows st n cs ds p e = rw e
 
-pub after_learn : (s : Table) (t : Tree) (rows left : List Row) (st : Statics) (n m : ℕ) (cs : List PortCounters) (p : ℕ) (f : FrameIn) (l : Option Learnt) (no_room : Bool) (limit : ℕ) (at : State) → limit ≡ MAX_LEARNED_ROWS → at ≡ (port_at t p).state → no_room ≡ is_refused l → l ≡ learnt_with rows limit at p f (is_refused l) → left ≡ rows_after l rows f.source p → m ≡ discards_after l n → state s t left st m cs ≡ after_learning p f no_room (state s t rows st n cs)
+pub after_learn : (s : Table) (t : Tree) (rows left : List LearnedRow) (st : Statics) (n m : ℕ) (cs : List PortCounters) (p : ℕ) (f : FrameIn) (l : Option Learnt) (no_room : Bool) (limit : ℕ) (at : State) → limit ≡ MAX_LEARNED_ROWS → at ≡ (port_at t p).state → no_room ≡ is_refused l → l ≡ learnt_with rows limit at p f (is_refused l) → left ≡ rows_after l rows f.source p → m ≡ discards_after l n → state s t left st m cs ≡ after_learning p f no_room (state s t rows st n cs)
 unfolding after_learning
 after_learn s t rows left st n m cs p f l no_room limit at e g h q r d =
     let same : l ≡ learnt_with rows MAX_LEARNED_ROWS (port_at t p).state p f no_room =
@@ -60,7 +60,7 @@ after_learn s t rows left st n m cs p f l no_room limit at e g h q r d =
     let discards_same : m ≡ discards_after (learnt_with rows MAX_LEARNED_ROWS (port_at t p).state p f no_room) n = d ∙ ap (λ (x : Option Learnt). discards_after x n) same in
     λ i. state s t (rows_same i) st (discards_same i) cs
 
-pub after_forward : (s : Table) (t : Tree) (rows : List Row) (st : Statics) (n : ℕ) (cs sent ds : List PortCounters) (p : ℕ) (d : Mac) (test : ℕ → Bool) (egress : List ℕ) (lost : Bool) → test ≡ goes_out (state s t rows st n cs) p d → egress ≡ ports_where test (length t.ports) → lost ≡ (length egress == 0) → sent ≡ sent_where test cs → ds ≡ set sent (p - 1) (with_discard lost (get_or sent (p - 1) no_counters)) → state s t rows st n ds ≡ after_forwarding p d (state s t rows st n cs)
+pub after_forward : (s : Table) (t : Tree) (rows : List LearnedRow) (st : Statics) (n : ℕ) (cs sent ds : List PortCounters) (p : ℕ) (d : Mac) (test : ℕ → Bool) (egress : List ℕ) (lost : Bool) → test ≡ goes_out (state s t rows st n cs) p d → egress ≡ ports_where test (length t.ports) → lost ≡ (length egress == 0) → sent ≡ sent_where test cs → ds ≡ set sent (p - 1) (with_discard lost (get_or sent (p - 1) no_counters)) → state s t rows st n ds ≡ after_forwarding p d (state s t rows st n cs)
 unfolding after_forwarding egress_of
 after_forward s t rows st n cs sent ds p d test egress lost e g l h r =
     let leaves : egress ≡ ports_where (goes_out (state s t rows st n cs) p d) (length t.ports) = g ∙ ap (λ (w : ℕ → Bool). ports_where w (length t.ports)) e in

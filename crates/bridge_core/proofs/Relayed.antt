@@ -11,7 +11,7 @@ use Rattle.frame_core.specs.declared.mac.Mac.{Mac}
 use Rattle.frame_core.specs.declared.bpdu.Bpdu.{Bpdu}
 use Rattle.frame_core.specs.declared.frame.FrameIn.{FrameIn}
 use Rattle.frame_core.specs.Octets.{is_group, same_mac}
-use Rattle.fdb_core.specs.declared.row.Row.{Row}
+use Rattle.fdb_core.specs.declared.row.LearnedRow.{LearnedRow}
 use Rattle.fdb_core.specs.declared.static_row.StaticRow.{StaticRow}
 use Rattle.fdb_core.specs.PortSets.{has_port}
 use Rattle.fdb_core.specs.Rows.{port_of as learned_port}
@@ -42,7 +42,7 @@ unfolding data_result after_reception
 sends_none b p f no_room h = ap (λ (g : Framed). g.bpdus) (framed_passed b p f no_room h)
 
 -- whether a frame to d by port p goes out by port q, where these rows are learned
-abbrev pub leaves_by : BridgeState → ℕ → Mac → List Row → ℕ → Bool
+abbrev pub leaves_by : BridgeState → ℕ → Mac → List LearnedRow → ℕ → Bool
 leaves_by b p d rows q =
     forwards b p && forwards b q && not (q == p) && not (is_reserved d) && not (same_mac d (address_of b))
     && may_go (listed b.statics.rows p d) rows d q
@@ -70,7 +70,7 @@ differs_from d a true e h =
     let of : List ℕ → Mac = λ octets. record { 0 = octets } in
     absurd (h (ap of ((bytes_eq-Decides d.0 a.0).0 e)))
 
-pub leaves_relayed : (b : BridgeState) (p : ℕ) (f : FrameIn) (rows : List Row) → IsRelayed b p f
+pub leaves_relayed : (b : BridgeState) (p : ℕ) (f : FrameIn) (rows : List LearnedRow) → IsRelayed b p f
     → leaves_by b p f.destination rows ≡ (λ (q : ℕ). forwards b q && not (q == p) && may_go (listed b.statics.rows p f.destination) rows f.destination q)
 leaves_relayed b p f rows h = λ i q.
     relayed (forwards b p) (forwards b q) (not (q == p)) (is_reserved f.destination) (same_mac f.destination (address_of b)) (may_go (listed b.statics.rows p f.destination) rows f.destination q) h.forwards h.unreserved (differs_from f.destination (address_of b) (same_mac f.destination (address_of b)) refl h.foreign) i
@@ -138,7 +138,7 @@ both_true true b e = (refl, e)
 both_true false b e = cc
 
 -- a frame for which no row is listed goes by its destination
-unlisted : (b : BridgeState) (p : ℕ) (f : FrameIn) (rows : List Row) (q : ℕ) → IsUnlisted b p f → may_go (listed b.statics.rows p f.destination) rows f.destination q ≡ (is_group f.destination || may_be_behind (learned_port rows f.destination) q)
+unlisted : (b : BridgeState) (p : ℕ) (f : FrameIn) (rows : List LearnedRow) (q : ℕ) → IsUnlisted b p f → may_go (listed b.statics.rows p f.destination) rows f.destination q ≡ (is_group f.destination || may_be_behind (learned_port rows f.destination) q)
 unlisted b p f rows q h = ap (λ (o : Option StaticRow). may_go o rows f.destination q) h
 
 -- a frame for all
@@ -212,7 +212,7 @@ lists b p f no_room row h one q =
     )
 
 -- a frame that may not go out
-stays : (b : BridgeState) (p : ℕ) (f : FrameIn) (no_room : Bool) → IsReceived b p f → ((rows : List Row) (q : ℕ) → leaves_by b p f.destination rows q ≡ true → ⊥) → (frame_result b p f no_room).egress ≡ []
+stays : (b : BridgeState) (p : ℕ) (f : FrameIn) (no_room : Bool) → IsReceived b p f → ((rows : List LearnedRow) (q : ℕ) → leaves_by b p f.destination rows q ≡ true → ⊥) → (frame_result b p f no_room).egress ≡ []
 stays b p f no_room h none =
     let rows = (frame_result b p f no_room).bridge.learned in
     egress_is b p f no_room h ∙ nowhere (leaves_by b p f.destination rows) (port_count b) (λ q first last. to_false (leaves_by b p f.destination rows q) (none rows q))
@@ -223,7 +223,7 @@ record Needs (b : BridgeState) (p : ℕ) (d : Mac) : Type 0 where
   unreserved : not (is_reserved d) ≡ true
   foreign : not (same_mac d (address_of b)) ≡ true
 
-needs : (b : BridgeState) (p : ℕ) (d : Mac) (rows : List Row) (q : ℕ) → leaves_by b p d rows q ≡ true → Needs b p d
+needs : (b : BridgeState) (p : ℕ) (d : Mac) (rows : List LearnedRow) (q : ℕ) → leaves_by b p d rows q ≡ true → Needs b p d
 needs b p d rows q e =
     let way = both_true (forwards b p && forwards b q && not (q == p) && not (is_reserved d) && not (same_mac d (address_of b))) _ e in
     let away = both_true (forwards b p && forwards b q && not (q == p) && not (is_reserved d)) (not (same_mac d (address_of b))) way.0 in

@@ -5,7 +5,7 @@ use Rattle.std.specs.Cmp.{booleans_Decides}
 use Rattle.std.specs.Cmp.Lexicographic.{pointwise}
 use Rattle.std.proofs.lemmas.Bool.Decides.{Decides-and, Decides-like}
 use Rattle.std.proofs.lemmas.Slice.Eq.{slice_eq-Decides}
-use Rattle.fdb_core.specs.declared.row.Row.{Row}
+use Rattle.fdb_core.specs.declared.row.LearnedRow.{LearnedRow}
 use Rattle.fdb_core.specs.contracts.row.RowPartialEq.TheImpl as same_row
 use Rattle.fdb_core.specs.declared.static_row.StaticRow.{StaticRow}
 use Rattle.fdb_core.specs.declared.port_set.PortSet.{PortSet}
@@ -16,7 +16,7 @@ use Rattle.fdb_core.specs.contracts.static_row.StaticRowPartialEq.TheImpl as sam
 use Rattle.bridge_core.specs.declared.counters.PortCounters.{PortCounters}
 use Rattle.bridge_core.specs.contracts.counters.PortCountersPartialEq.TheImpl as same_counters
 
-pub row-Decides : (r s : Row) → Decides (same_row.eq-value.it r s) (r ≡ s)
+pub row-Decides : (r s : LearnedRow) → Decides (same_row.eq-value.it r s) (r ≡ s)
 row-Decides r s = search rules
 
 pub counters-Decides : (p q : PortCounters) → Decides (same_counters.eq-value.it p q) (p ≡ q)

@@ -6,7 +6,7 @@ use Rattle.std.proofs.lemmas.List.{length-set, get_or-set_same, get_or-set_other
 use Rattle.std.proofs.lemmas.Bool.Decides.{Decides-eqb, Decides-ltb}
 use Rattle.frame_core.specs.declared.mac.Mac.{Mac}
 use Rattle.frame_core.specs.declared.frame.FrameIn.{FrameIn}
-use Rattle.fdb_core.specs.declared.row.Row.{Row}
+use Rattle.fdb_core.specs.declared.row.LearnedRow.{LearnedRow}
 use Rattle.fdb_core.specs.declared.learnt.Learnt.{Learnt}
 use Rattle.fdb_core.specs.declared.learnt.Learnt.TheVariants.{New, Moved, Same, Full, Memory}
 use Rattle.fdb_core.specs.Rows.{row_of, port_of as learned_port}
@@ -138,7 +138,7 @@ kept_new : (v : Bool) → v ≡ true → IsKept (if v then New else Full)
 kept_new true e = record { full = λ f. cc; memory = λ f. cc }
 kept_new false e = cc
 
-kept_from : (o : Option ℕ) (rows : List Row) (limit p : ℕ) → (o ≢ None) ⊎ (length rows < limit) → IsKept (answer_from o rows limit p)
+kept_from : (o : Option ℕ) (rows : List LearnedRow) (limit p : ℕ) → (o ≢ None) ⊎ (length rows < limit) → IsKept (answer_from o rows limit p)
 kept_from (Some k) rows limit p h = kept_on (k == p)
 kept_from None rows limit p (inl h) = absurd (h refl)
 kept_from None rows limit p (inr h) = kept_new (nat_lt (length rows) limit) ((Decides-ltb (length rows) limit).1 h)
@@ -149,22 +149,22 @@ source_row b p f h e place =
     let l = answer b.learned MAX_LEARNED_ROWS f.source p in
     let kept = kept_from (learned_port b.learned f.source) b.learned MAX_LEARNED_ROWS p place in
     let known : learnt_of b p f false ≡ Some l = ap (λ (v : Bool). if v then Some l else None) e in
-    ap (λ (rows : List Row). row_of rows f.source) (learned_are b p f false h ∙ ap (λ (o : Option Learnt). rows_after o b.learned f.source p) known)
+    ap (λ (rows : List LearnedRow). row_of rows f.source) (learned_are b p f false h ∙ ap (λ (o : Option Learnt). rows_after o b.learned f.source p) known)
     ∙ learned_here l b.learned f.source p kept.full kept.memory
 
 pub source_found : (b : BridgeState) (p : ℕ) (f : FrameIn) → IsReceived b p f → learns (port_of b p).state f ≡ true → HasPlace b.learned f.source
     → learned_port (frame_result b p f false).bridge.learned f.source ≡ Some p
-source_found b p f h e place = ap (option_map (λ (r : Row). r.port)) (source_row b p f h e place)
+source_found b p f h e place = ap (option_map (λ (r : LearnedRow). r.port)) (source_row b p f h e place)
 
 -- other addresses, and sources that are not learned
-others_after : (o : Option Learnt) (rows : List Row) (a other : Mac) (p : ℕ) → other ≢ a → row_of (rows_after o rows a p) other ≡ row_of rows other
+others_after : (o : Option Learnt) (rows : List LearnedRow) (a other : Mac) (p : ℕ) → other ≢ a → row_of (rows_after o rows a p) other ≡ row_of rows other
 others_after None rows a other p h = refl
 others_after (Some l) rows a other p h = learned_others l rows a p other h
 
 pub others_stay : (b : BridgeState) (p : ℕ) (f : FrameIn) (no_room : Bool) (other : Mac) → IsReceived b p f → other ≢ f.source
     → row_of (frame_result b p f no_room).bridge.learned other ≡ row_of b.learned other
 others_stay b p f no_room other h differs =
-    ap (λ (rows : List Row). row_of rows other) (learned_are b p f no_room h) ∙ others_after (learnt_of b p f no_room) b.learned f.source other p differs
+    ap (λ (rows : List LearnedRow). row_of rows other) (learned_are b p f no_room h) ∙ others_after (learnt_of b p f no_room) b.learned f.source other p differs
 
 pub unlearned : (b : BridgeState) (p : ℕ) (f : FrameIn) (no_room : Bool) → IsReceived b p f → learns (port_of b p).state f ≡ false
     → (frame_result b p f no_room).bridge.learned ≡ b.learned

@@ -2,7 +2,7 @@
 -- rows, and its counters.
 use Rattle.std.specs.Prelude.{ℕ, ◌-◌, Bool, List, length, slice_index_or}
 use Rattle.frame_core.specs.declared.mac.Mac.{Mac}
-use Rattle.fdb_core.specs.declared.row.Row.{Row}
+use Rattle.fdb_core.specs.declared.row.LearnedRow.{LearnedRow}
 use Rattle.fdb_core.specs.Statics.{Statics, no_statics}
 use Rattle.rstp_settings.specs.Table.{Table, IsPortOf}
 use Rattle.rstp_settings.specs.declared.config.PortConfig.{PortConfig}
@@ -21,7 +21,7 @@ pub record Counters : Type 0 where
 pub record BridgeState : Type 0 where
   pub settings : Table
   pub tree : Tree
-  pub learned : List Row
+  pub learned : List LearnedRow
   pub statics : Statics
   pub counters : Counters
 

@@ -19,4 +19,4 @@ pub record IsBridge (settings : Table) (tree : Tree) (fdb : Fdb) (statics : List
   pub least : 1 ≤ length tree.ports
   pub most : length tree.ports ≤ MAX_PORTS
   pub limit : fdb.limit ≡ MAX_LEARNED_ROWS
-  pub telling : AreStaticRows (length settings.ports) statics
+  pub reporting : AreStaticRows (length settings.ports) statics

@@ -7,7 +7,7 @@ use Rattle.frame_core.specs.declared.mac.Mac.{Mac}
 use Rattle.frame_core.specs.declared.mac.TheConstants.{BRIDGE_GROUP}
 use Rattle.frame_core.specs.declared.frame.FrameIn.{FrameIn}
 use Rattle.frame_core.specs.Octets.{is_group, same_mac}
-use Rattle.fdb_core.specs.declared.row.Row.{Row}
+use Rattle.fdb_core.specs.declared.row.LearnedRow.{LearnedRow}
 use Rattle.fdb_core.specs.declared.static_row.StaticRow.{StaticRow}
 use Rattle.fdb_core.specs.declared.learnt.Learnt.{Learnt}
 use Rattle.fdb_core.specs.declared.learnt.Learnt.TheVariants.{New, Moved, Same, Full, Memory}
@@ -36,14 +36,14 @@ learns state f =
 
 -- What learning the source gives, where its growth was refused or not; nothing where it is not to
 -- be learned.
-abbrev pub learnt_with : List Row → ℕ → State → ℕ → FrameIn → Bool → Option Learnt
+abbrev pub learnt_with : List LearnedRow → ℕ → State → ℕ → FrameIn → Bool → Option Learnt
 learnt_with rows limit state port f no_room = if learns state f then Some (if no_room then Memory else answer rows limit f.source port) else None
 
 abbrev pub learnt_of : BridgeState → ℕ → FrameIn → Bool → Option Learnt
 learnt_of b port f no_room =
     learnt_with b.learned MAX_LEARNED_ROWS (port_of b port).state port f no_room
 
-abbrev pub rows_after : Option Learnt → List Row → Mac → ℕ → List Row
+abbrev pub rows_after : Option Learnt → List LearnedRow → Mac → ℕ → List LearnedRow
 rows_after None rows a port = rows
 rows_after (Some l) rows a port = learned_rows l rows a port
 
@@ -58,7 +58,7 @@ is_refused (Some Full) = false
 
 -- The growth for a learned row is asked for where the source is to be learned and is new, and there
 -- is a place for it.
-pub record NeedsMemory (rows : List Row) (limit : ℕ) (state : State) (f : FrameIn) : Type 0 where
+pub record NeedsMemory (rows : List LearnedRow) (limit : ℕ) (state : State) (f : FrameIn) : Type 0 where
   pub learns : learns state f ≡ true
   pub is_new : learned_port rows f.source ≡ None
   pub has_place : length rows < limit
@@ -81,7 +81,7 @@ may_be_behind (Some r) out = r == out
 -- Whether a frame to this destination may go out by the port `out`: where a static row is listed for
 -- it, by the ports of that row (7.9.1); else where the destination is a group, or is learned there or
 -- nowhere.
-abbrev pub may_go : Option StaticRow → List Row → Mac → ℕ → Bool
+abbrev pub may_go : Option StaticRow → List LearnedRow → Mac → ℕ → Bool
 may_go (Some row) learned d out = has_port row.ports out
 may_go None learned d out = is_group d || may_be_behind (learned_port learned d) out
 

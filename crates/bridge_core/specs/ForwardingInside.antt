@@ -2,7 +2,7 @@
 use Rattle.std.specs.Prelude.{ℕ, Bool, true, false, ◌&&◌, not, ◌==◌, List}
 use Rattle.frame_core.specs.declared.mac.Mac.{Mac}
 use Rattle.frame_core.specs.Octets.{same_mac}
-use Rattle.fdb_core.specs.declared.row.Row.{Row}
+use Rattle.fdb_core.specs.declared.row.LearnedRow.{LearnedRow}
 use Rattle.fdb_core.specs.declared.static_row.StaticRow.{StaticRow}
 use Rattle.fdb_core.specs.PortSets.{has_port}
 use Rattle.rstp_rules.specs.declared.port.State.{State}
@@ -15,7 +15,7 @@ use Rattle.bridge_core.specs.Forwarding.{is_reserved, may_go}
 
 -- Whether a frame to this destination may go by the port `out`, if that is another forwarding port,
 -- where it came by this port, of this state.
-abbrev pub is_way : List Row → List StaticRow → Mac → State → ℕ → Mac → ℕ → Bool
+abbrev pub is_way : List LearnedRow → List StaticRow → Mac → State → ℕ → Mac → ℕ → Bool
 is_way rows statics own state port d out =
     is_forwarding state && not (is_reserved d) && not (same_mac d own) && may_go (listed statics port d) rows d out
 

@@ -3,7 +3,7 @@ use Rattle.std.specs.Prelude.{◌≡◌, ◌≢◌, ◌⊎◌, ℕ, ◌<◌, Boo
 use Rattle.frame_core.specs.declared.mac.Mac.{Mac}
 use Rattle.frame_core.specs.declared.frame.FrameIn.{FrameIn}
 use Rattle.frame_core.specs.Octets.{is_group}
-use Rattle.fdb_core.specs.declared.row.Row.{Row}
+use Rattle.fdb_core.specs.declared.row.LearnedRow.{LearnedRow}
 use Rattle.fdb_core.specs.declared.static_row.StaticRow.{StaticRow}
 use Rattle.fdb_core.specs.Rows.{port_of as learned_port}
 use Rattle.bridge_core.specs.declared.bridge.TheConstants.{MAX_LEARNED_ROWS}
@@ -49,5 +49,5 @@ abbrev pub IsUnlisted : BridgeState → ℕ → FrameIn → Type 0
 IsUnlisted b port f = listed b.statics.rows port f.destination ≡ None
 
 -- There is a row of the address, or a place for one.
-abbrev pub HasPlace : List Row → Mac → Type 0
+abbrev pub HasPlace : List LearnedRow → Mac → Type 0
 HasPlace rows a = (learned_port rows a ≢ None) ⊎ (length rows < MAX_LEARNED_ROWS)

@@ -205,7 +205,7 @@ impl Bridge {
             vector: held.vector,
             forward_transitions: held.forward_transitions,
             cost: config.cost_in_use(self.settings.get(Key::Port(port, PortKey::Cost))),
-            edge: held.edge,
+            oper_edge: held.oper_edge,
             point_to_point: config.is_point_to_point(
                 self.settings.get(Key::Port(port, PortKey::PointToPoint)),
             ),

@@ -46,7 +46,7 @@ pub struct PortFacts {
     /// The path cost in use.
     pub cost: u32,
     /// Whether the port is at the edge of the network.
-    pub edge: bool,
+    pub oper_edge: bool,
     /// Whether the port's link is point to point.
     pub point_to_point: bool,
     /// Frames in while the port was on, modulo 2^32.

@@ -4,7 +4,7 @@ ghost use Rattle.bridge_core.specs.Bridge.{without_places, without_statics};
 
 use crate::counters::PortCounters;
 use arrayvec::ArrayVec;
-use fdb_core::{Row, StaticRow};
+use fdb_core::{LearnedRow, StaticRow};
 use rstp_core::{MAX_PORTS, Rstp, Settings};
 use std::marker::Model;
 
@@ -15,7 +15,7 @@ use std::marker::Model;
 pub struct FlatBridge {
     settings: Settings,
     tree: Rstp,
-    learned: Vec<Row>,
+    learned: Vec<LearnedRow>,
     statics: Vec<StaticRow>,
     places: usize,
     entry_discards: u32,
@@ -56,7 +56,7 @@ impl FlatBridge {
     pub(crate) fn of(
         settings: Settings,
         tree: Rstp,
-        learned: Vec<Row>,
+        learned: Vec<LearnedRow>,
         statics: Vec<StaticRow>,
         places: usize,
         entry_discards: u32,

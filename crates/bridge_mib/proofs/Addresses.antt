@@ -44,8 +44,8 @@ abbrev IsUpTo : ℕ → List ℕ → List ℕ → Type 0
 IsUpTo count index octets = (other : List ℕ) → length other ≡ count → AreOctets other → name_lt index other ≡ is_above other octets
 
 -- the same of lists that are equal to these
-pub as_said : (whole n : ℕ) (index said octets written : List ℕ) → whole ≡ n → said ≡ index → written ≡ octets → IsUpTo n index octets → IsUpTo whole said written
-as_said whole n index said octets written len e f h other same is =
+pub as_stated : (whole n : ℕ) (index stated octets written : List ℕ) → whole ≡ n → stated ≡ index → written ≡ octets → IsUpTo n index octets → IsUpTo whole stated written
+as_stated whole n index stated octets written len e f h other same is =
     ap (λ l. name_lt l other) e ∙ h other (same ∙ len) is ∙ ap (is_above other) (sym f)
 
 -- no octets are above the greatest
@@ -99,8 +99,8 @@ rest_up_to b n index octets e h other len is = h other len is ∙ ap (λ (c : Bo
 pub rest_behind : (b : Bool) (n : ℕ) (index octets : List ℕ) → b ≡ false → ((other : List ℕ) → length other ≡ n → AreOctets other → name_lt index other ≡ cond b (is_above other octets) true) → AllBehind n index
 rest_behind b n index octets e h other len is = h other len is ∙ ap (λ (c : Bool). cond c (is_above other octets) true) e
 
-pub behind_as_said : (whole n : ℕ) (index said : List ℕ) → whole ≡ n → said ≡ index → AllBehind n index → AllBehind whole said
-behind_as_said whole n index said len e h other same is = ap (λ l. name_lt l other) e ∙ h other (same ∙ len) is
+pub behind_as_stated : (whole n : ℕ) (index stated : List ℕ) → whole ≡ n → stated ≡ index → AllBehind n index → AllBehind whole stated
+behind_as_stated whole n index stated len e h other same is = ap (λ l. name_lt l other) e ∙ h other (same ∙ len) is
 
 pub empty_is : (xs : List ℕ) → length xs ≡ 0 → xs ≡ []
 empty_is [] e = refl
@@ -153,7 +153,7 @@ up_to_before n x index some rest (y ∷ ys) len is = by_test (nat_lt x y) refl
 abbrev NoneIs : ℕ → List ℕ → Type 0
 NoneIs count index = (other : List ℕ) → length other ≡ count → AreOctets other → name_eq other index ≡ false
 
-pub none_is_empty : (whole n : ℕ) (said : List ℕ) → whole ≡ suc n → length said ≡ 0 → NoneIs whole said
+pub none_is_empty : (whole n : ℕ) (stated : List ℕ) → whole ≡ suc n → length stated ≡ 0 → NoneIs whole stated
 none_is_empty whole n [] e f [] len is = absurd (omega (arith, e, len))
 none_is_empty whole n [] e f (y ∷ ys) len is = refl
 none_is_empty whole n (x ∷ xs) e f other len is = absurd (omega (arith, f))
@@ -164,12 +164,12 @@ no_octet n x index (y ∷ ys) more is =
     let no : nat_eq y x ≡ false = differ y x (omega (arith, more, is.0)) in
     rw no refl
 
-pub none_is_greater : (whole n x : ℕ) (index said : List ℕ) → said ≡ x ∷ index → 255 < x → NoneIs whole said
-none_is_greater whole n x index said e more other len is = ap (name_eq other) e ∙ no_octet n x index other more is
+pub none_is_greater : (whole n x : ℕ) (index stated : List ℕ) → stated ≡ x ∷ index → 255 < x → NoneIs whole stated
+none_is_greater whole n x index stated e more other len is = ap (name_eq other) e ∙ no_octet n x index other more is
 
-pub none_is_more : (whole n x : ℕ) (index said : List ℕ) → whole ≡ suc n → said ≡ x ∷ index → NoneIs n index → NoneIs whole said
-none_is_more whole n x index said e f rest [] len is = absurd (omega (arith, e, len))
-none_is_more whole n x index said e f rest (y ∷ ys) len is = ap (name_eq (y ∷ ys)) f ∙ pick (nat_eq y x)
+pub none_is_more : (whole n x : ℕ) (index stated : List ℕ) → whole ≡ suc n → stated ≡ x ∷ index → NoneIs n index → NoneIs whole stated
+none_is_more whole n x index stated e f rest [] len is = absurd (omega (arith, e, len))
+none_is_more whole n x index stated e f rest (y ∷ ys) len is = ap (name_eq (y ∷ ys)) f ∙ pick (nat_eq y x)
   where
     pick : (b : Bool) → cond b (name_eq ys index) false ≡ false
     pick true = rest ys (omega (arith, e, len)) is.1

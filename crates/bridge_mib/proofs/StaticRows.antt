@@ -310,8 +310,8 @@ pub between_empty : (count : ℕ) (low : List ℕ) → NoneBetween count low []
 between_empty count low other len is lt = refl
 
 -- the same of lists and numbers that are equal
-pub between_said : (whole count : ℕ) (low front at said : List ℕ) → whole ≡ count → front ≡ low → said ≡ at → NoneBetween count low at → NoneBetween whole front said
-between_said whole count low front at said e g h none other len is lt =
+pub between_stated : (whole count : ℕ) (low front at stated : List ℕ) → whole ≡ count → front ≡ low → stated ≡ at → NoneBetween count low at → NoneBetween whole front stated
+between_stated whole count low front at stated e g h none other len is lt =
     ap (name_lt other) h ∙ none other (len ∙ e) is (ap (λ (xs : List ℕ). name_lt xs other) (sym g) ∙ lt)
 
 pub empty_is : (xs : List ℕ) (b : Bool) → b ≡ (length xs == 0) → b ≡ true → xs ≡ []

@@ -1,7 +1,7 @@
 //! Managed objects without a device: each shows what its descriptor says.
 ghost use Rattle.std.specs.Prelude.{◌≡◌, ◌≤◌, length, true, false, if◌then◌else◌, Some, None, IfSome};
 ghost use Rattle.std.specs.Option.{option_copied};
-ghost use Rattle.bridge_mib.specs.Written.{idle};
+ghost use Rattle.bridge_mib.specs.WritableObject.{idle};
 
 use message_core::Value;
 use setphase_core::{
@@ -54,9 +54,9 @@ pub struct Described<D: Descriptor> {
 }
 
 impl<D: Descriptor> Model for Described<D> {
-    ghost use Rattle.bridge_mib.specs.Written.{Written};
+    ghost use Rattle.bridge_mib.specs.WritableObject.{WritableObject};
 
-    ghost Value = { Written D };
+    ghost Value = { WritableObject D };
 
     ghost view = { λ o. record { which = o.which; reserved = o.slots } };
 }

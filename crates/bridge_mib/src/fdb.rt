@@ -7,7 +7,7 @@ ghost use Rattle.std.specs.Cmp.Lexicographic.{slice_cmp};
 ghost use Rattle.frame_core.specs.declared.mac.Mac.{Mac as Address};
 ghost use Rattle.frame_core.specs.Octets.{mac_cmp};
 ghost use Rattle.fdb_core.specs.Rows.{IsAddress};
-ghost use Rattle.fdb_core.specs.declared.row.Row.{Row as LearnedRow};
+ghost use Rattle.fdb_core.specs.declared.row.LearnedRow.{LearnedRow};
 ghost use Rattle.oid_core.specs.Order.{name_lt, name_eq};
 ghost use Rattle.message_core.specs.declared.value.Value.{Value as AnyValue};
 ghost use Rattle.setphase_core.specs.Values.{by_address, value_at, index_after};
@@ -15,7 +15,7 @@ ghost use Rattle.setphase_core.specs.Columns.{tp_fdb_value};
 
 use crate::described::{Described, Descriptor};
 use crate::values::{integer, string};
-use fdb_core::{Fdb, Row};
+use fdb_core::{Fdb, LearnedRow};
 use frame_core::Mac;
 use message_core::Value;
 use setphase_core::{Index, TpFdb, World, Writable};
@@ -109,7 +109,7 @@ fn address_up_to(index: &[u32]) -> Option<Mac>
 }
 
 // The learned row of the first address behind an index, or of the first of all.
-fn row_after(fdb: &Fdb, after: Option<&[u32]>) -> Option<Row>
+fn row_after(fdb: &Fdb, after: Option<&[u32]>) -> Option<LearnedRow>
     ensures { (f : LearnedRow → AnyValue) → option_map (λ row. row.address.0) result
         ≡ index_after (by_address fdb.now.rows f) (option_copied after.entry) }
 {

@@ -12,7 +12,7 @@
 //! # Definitions
 //! What each object shows stands in `setphase_core`: `specs/Columns.antt`, the objects' names in
 //! `specs/Names.antt`, and how a Set writes each in `specs/Writing.antt`. Here
-//! `specs/Written.antt`: an object that may be written as plain data; `specs/Line.antt`: the same
+//! `specs/WritableObject.antt`: an object that may be written as plain data; `specs/Line.antt`: the same
 //! over a driver, and a driver that fails by plan. [`values`] has the values of all modules, which
 //! `rstp_mib` and `vacm_mib` use too, and [`written`] the rows of settings of bridge and ports.
 //!

@@ -17,15 +17,15 @@ pub trait LineDriver: Drop {
     // `set_enabled` from now fails.
     ghost plan_left: { Self → Option ℕ };
 
-    // Told that the line of a port is to be on, or off, it may answer so and become that.
-    ghost told: { Self → ℕ → Bool → Result Unit Fault → Self → Type 0 };
+    // Called with that the line of a port is to be on, or off, it may answer so and become that.
+    ghost reported: { Self → ℕ → Bool → Result Unit Fault → Self → Type 0 };
 
     /// Switches the line of a port on or off, whatever it is already. It takes no memory.
     ///
     /// # Errors
     /// The line stays as it was. Where it takes plans, it fails exactly where its plan says so.
     fn set_enabled(&mut self, port: u16, enabled: bool) -> Result<(), DeviceFault>
-        ensures told { told self.old port enabled result self.new }
+        ensures reported { reported self.old port enabled result self.new }
         ensures done { OnOk result (failures self.new ≡ failures self.old) }
         ensures failed { OnErr result (failures self.new ≡ failures self.old + 1) }
         ensures spent { plan_left self.new ≡ plan_after_call (plan_left self.old) }
@@ -50,7 +50,7 @@ impl LineDriver for Steady {
 
     ghost plan_left = { λ _. None };
 
-    ghost told = { λ _ _ _ answer _. answer ≡ Ok tt };
+    ghost reported = { λ _ _ _ answer _. answer ≡ Ok tt };
 
     fn set_enabled(&mut self, _port: u16, _enabled: bool) -> Result<(), DeviceFault> {
         Ok(())
@@ -95,7 +95,7 @@ impl LineDriver for Planned {
     ghost plan_left = { λ p. Some p.calls };
 
     // It switches no line.
-    ghost told = { λ _ _ _ _ _. Unit };
+    ghost reported = { λ _ _ _ _ _. Unit };
 
     fn set_enabled(&mut self, _port: u16, _enabled: bool) -> Result<(), DeviceFault> {
         let fails = self.plan % 2 == 1 && self.failures < u64::MAX;

@@ -1,7 +1,7 @@
 //! dot1dStpPortEnable over a device that switches lines (RFC 4188).
 ghost use Rattle.std.specs.Prelude.{◌≡◌, ◌+◌, ℕ, true, false, [], slice_get, Some, OnOk, OnErr};
 ghost use Rattle.setting_keys.specs.declared.SettingValue.{SettingValue as AnySetting};
-ghost use Rattle.setphase_core.specs.Objects.{IsReserved, IsCommitted, HasRoom, HasRoomBack, IsByPlan, after_call, object_after_arm, object_after_commit, object_after_failure, committed_reservation};
+ghost use Rattle.setphase_core.specs.Objects.{IsReserved, IsCommitted, HasSpace, HasSpaceBack, IsByPlan, after_call, object_after_arm, object_after_commit, object_after_failure, committed_reservation};
 ghost use Rattle.setphase_core.specs.Plans.{plan_after_call, FollowsPlan};
 ghost use Rattle.setphase_core.specs.Settings.{setting, put, IsSettingInRange, IsLine};
 ghost use Rattle.bridge_mib.specs.Line.{state_of, port_enable, is_enabled};
@@ -47,15 +47,15 @@ impl<L: LineDriver> PortEnable<L> {
     }
 }
 
-// Tells a driver what the line of the port whose setting this is is to be.
-fn tell<L: LineDriver>(
+// Gives a driver what the line of the port whose setting this is is to be.
+fn call_driver<L: LineDriver>(
     driver: &mut L,
     key: SettingKey,
     value: &SettingValue,
 ) -> Result<(), DeviceFault>
     requires { IsLine key }
-    ensures told { (port : ℕ) → key ≡ port_enable port
-        → L.told driver.old port (is_enabled value.now) result driver.new }
+    ensures reported { (port : ℕ) → key ≡ port_enable port
+        → L.reported driver.old port (is_enabled value.now) result driver.new }
     ensures done { OnOk result (L.failures driver.new ≡ L.failures driver.old) }
     ensures failed { OnErr result (L.failures driver.new ≡ L.failures driver.old + 1) }
     ensures spent { L.plan_left driver.new ≡ plan_after_call (L.plan_left driver.old) }
@@ -106,7 +106,7 @@ impl<L: LineDriver> MibObject for PortEnable<L> {
     fn commit(&mut self, world: &mut World, slot: Slot) -> Result<(), DeviceFault>
         requires reserved { IsReserved world.old
             (state_of L.failures L.plan_left self.old) slot }
-        requires room { HasRoom world.old slot.key slot.value }
+        requires space { HasSpace world.old slot.key slot.value }
         ensures put { OnOk result (world.new ≡ put world.old slot.key slot.value) }
         ensures kept { OnOk result (state_of L.failures L.plan_left self.new
             ≡ object_after_commit (state_of L.failures L.plan_left self.old) slot
@@ -120,11 +120,11 @@ impl<L: LineDriver> MibObject for PortEnable<L> {
             (IsByPlan (state_of L.failures L.plan_left self.old) false) }
         ensures fails { OnErr result (IsByPlan (state_of L.failures L.plan_left self.old) true) }
         ensures line { OnErr result (IsLine slot.key) }
-        // The driver is told, whatever the line is already.
-        ensures told { (port : ℕ) → slot.key ≡ port_enable port
-            → L.told self.old.driver port (is_enabled slot.value) result self.new.driver }
+        // The driver is called, whatever the line is already.
+        ensures reported { (port : ℕ) → slot.key ≡ port_enable port
+            → L.reported self.old.driver port (is_enabled slot.value) result self.new.driver }
     {
-        tell(&mut self.driver, slot.key, &slot.value)?;
+        call_driver(&mut self.driver, slot.key, &slot.value)?;
         self.slots.commit(world, slot);
         Ok(())
     }
@@ -132,7 +132,7 @@ impl<L: LineDriver> MibObject for PortEnable<L> {
     fn undo(&mut self, world: &mut World, slot: Slot) -> Result<(), DeviceFault>
         requires committed { (before : AnySetting)
             × IsCommitted world.old (state_of L.failures L.plan_left self.old) slot before }
-        requires room { HasRoomBack world.old
+        requires space { HasSpaceBack world.old
             (state_of L.failures L.plan_left self.old) slot }
         ensures put { OnOk result ((before : AnySetting)
             → slice_get self.old.reserved slot.place ≡ Some (committed_reservation slot before)
@@ -146,15 +146,15 @@ impl<L: LineDriver> MibObject for PortEnable<L> {
             (IsByPlan (state_of L.failures L.plan_left self.old) false) }
         ensures fails { OnErr result (IsByPlan (state_of L.failures L.plan_left self.old) true) }
         ensures line { OnErr result (IsLine slot.key) }
-        // The driver is told, whatever the line is already.
-        ensures told { (before : AnySetting) (port : ℕ)
+        // The driver is called, whatever the line is already.
+        ensures reported { (before : AnySetting) (port : ℕ)
             → slice_get self.old.reserved slot.place ≡ Some (committed_reservation slot before)
             → slot.key ≡ port_enable port
-            → L.told self.old.driver port (is_enabled before) result self.new.driver }
+            → L.reported self.old.driver port (is_enabled before) result self.new.driver }
     {
         let key = slot.key;
         let before = self.slots.before(slot);
-        tell(&mut self.driver, key, &before)?;
+        call_driver(&mut self.driver, key, &before)?;
         world.put_setting(key, before);
         Ok(())
     }

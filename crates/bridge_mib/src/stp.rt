@@ -8,7 +8,7 @@ use crate::values::{
     bridge_identifier, bridge_setting, cost, integer, path_cost, port_identifier, port_setting,
     port_state, ticks, timeout,
 };
-use crate::written::{column_of, scalar_of};
+use crate::written::{writable_column, writable_scalar};
 use bridge_core::Bridge;
 use message_core::Value;
 use rstp_core::{BridgeKey, PortKey};
@@ -83,10 +83,10 @@ impl Descriptor for Stp {
 
     fn writable(self) -> Option<Writable> {
         match self {
-            Stp::Priority => scalar_of(BridgeKey::Priority, 0, 61_440, 4_096),
-            Stp::BridgeMaxAge => scalar_of(BridgeKey::MaxAge, 600, 4_000, 100),
-            Stp::BridgeHelloTime => scalar_of(BridgeKey::Hello, 100, 1_000, 100),
-            Stp::BridgeForwardDelay => scalar_of(BridgeKey::ForwardDelay, 400, 3_000, 100),
+            Stp::Priority => writable_scalar(BridgeKey::Priority, 0, 61_440, 4_096),
+            Stp::BridgeMaxAge => writable_scalar(BridgeKey::MaxAge, 600, 4_000, 100),
+            Stp::BridgeHelloTime => writable_scalar(BridgeKey::Hello, 100, 1_000, 100),
+            Stp::BridgeForwardDelay => writable_scalar(BridgeKey::ForwardDelay, 400, 3_000, 100),
             _ => None,
         }
     }
@@ -149,10 +149,10 @@ impl Descriptor for StpPort {
 
     fn writable(self) -> Option<Writable> {
         match self {
-            StpPort::Priority => column_of(PortKey::Priority, 0, 240, 16),
-            StpPort::Enable => column_of(PortKey::Enable, 1, 2, 1),
-            StpPort::PathCost => column_of(PortKey::Cost, 1, MAX_PATH_COST, 1),
-            StpPort::PathCost32 => column_of(PortKey::Cost, 1, 200_000_000, 1),
+            StpPort::Priority => writable_column(PortKey::Priority, 0, 240, 16),
+            StpPort::Enable => writable_column(PortKey::Enable, 1, 2, 1),
+            StpPort::PathCost => writable_column(PortKey::Cost, 1, MAX_PATH_COST, 1),
+            StpPort::PathCost32 => writable_column(PortKey::Cost, 1, 200_000_000, 1),
             _ => None,
         }
     }

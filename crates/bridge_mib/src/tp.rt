@@ -5,7 +5,7 @@ ghost use Rattle.setphase_core.specs.Columns.{tp_value, tp_port_value};
 
 use crate::described::{Described, Descriptor};
 use crate::values::{bridge_setting, integer};
-use crate::written::scalar_of;
+use crate::written::writable_scalar;
 use bridge_core::Bridge;
 use message_core::Value;
 use rstp_core::BridgeKey;
@@ -56,7 +56,7 @@ impl Descriptor for Tp {
     fn writable(self) -> Option<Writable> {
         match self {
             Tp::LearnedEntryDiscards => None,
-            Tp::AgingTime => scalar_of(BridgeKey::Aging, MIN_AGING, MAX_AGING, 1),
+            Tp::AgingTime => writable_scalar(BridgeKey::Aging, MIN_AGING, MAX_AGING, 1),
         }
     }
 }

@@ -6,7 +6,7 @@ ghost use Rattle.community_core.specs.Orders.{index_total, index_ties};
 
 use std::alloc::{AllocError, Global};
 use std::cmp::Ordering;
-use vacm_core::{Contest, CopiedAs, MAX_NAME, Name, Same, Text, Written, deciding_row};
+use vacm_core::{Contest, CopiedAs, MAX_NAME, Name, Same, Text, WrittenRow, deciding_row};
 
 /// The longest name that a community of a policy may have, in octets: 255.
 pub const MAX_COMMUNITY_NAME: usize = 255;
@@ -46,7 +46,7 @@ pub struct Caller {
     pub context: Name,
 }
 
-impl Written for WrittenCommunity {
+impl WrittenRow for WrittenCommunity {
     type Row = CommunityRow;
 
     ghost lengths = { community_lengths };

@@ -10,7 +10,7 @@ use Rattle.community_core.specs.declared.fault.PolicyFault.{PolicyFault}
 use Rattle.community_core.specs.Communities.{PolicyTables}
 use Rattle.policy_text.specs.Policies.{Arrays, array_keys, arrays_of, IsPolicy, IsUnread, IsWrongPolicy}
 use Rattle.policy_text.specs.Reading.{AreRows}
-use Rattle.policy_text.proofs.SaidLemmas.{policy_told, refused_told}
+use Rattle.policy_text.proofs.StatedLemmas.{policy_reported, refused_reported}
 use Rattle.configuration.specs.declared.configuration.Configuration.{Configuration}
 use Rattle.configuration.specs.declared.configuration.Port.{Port}
 use Rattle.configuration.specs.declared.fault.ConfigurationFault.{ConfigurationFault}
@@ -41,14 +41,14 @@ same_some : {A : Type 0} (o : Option A) (x y : A) → o ≡ Some x → o ≡ Som
 same_some o x y p q = cc
 
 -- each value that was read says a row
-said_at : (ds : List Data) (ports : List Port) (n : ℕ) (value : Data) → AreRows port_says ds ports → slice_get ds n ≡ Some value → (port : Port) × port_says value (Some port)
-said_at [] [] n value h e = absurd cc
-said_at [] (p ∷ ports) n value h e = absurd h
-said_at (d ∷ ds) [] n value h e = absurd h
-said_at (d ∷ ds) (p ∷ ports) zero value h e =
+stated_at : (ds : List Data) (ports : List Port) (n : ℕ) (value : Data) → AreRows port_says ds ports → slice_get ds n ≡ Some value → (port : Port) × port_says value (Some port)
+stated_at [] [] n value h e = absurd cc
+stated_at [] (p ∷ ports) n value h e = absurd h
+stated_at (d ∷ ds) [] n value h e = absurd h
+stated_at (d ∷ ds) (p ∷ ports) zero value h e =
     let same : d ≡ value = cc in
     (p, subst (λ (v : Data). port_says v (Some p)) same h.0)
-said_at (d ∷ ds) (p ∷ ports) (suc n) value h e = said_at ds ports n value h.1 e
+stated_at (d ∷ ds) (p ∷ ports) (suc n) value h e = stated_at ds ports n value h.1 e
 
 -- the keys of a port's configuration are there
 config_there : (ms : Members) (c : PortConfig) → port_config_of ms ≡ Some c
@@ -79,8 +79,8 @@ no_wrong_row (Some ms) port key is h = no_wrong_key ms port key is h
 no_bad_port : (ms : Members) (ports : List Port) (n : ℕ) (key : PortKey) → ArePorts ms ports → IsBadPort ms n key → ⊥
 no_bad_port ms ports n key are bad =
     let same : are.rows ≡ bad.rows = same_some _ are.rows bad.rows are.are bad.are in
-    let said = said_at bad.rows ports n bad.first.value (subst (λ (ds : List Data). AreRows port_says ds ports) same are.say) bad.first.here in
-    no_wrong_row _ said.0 key said.1 bad.first.wrong
+    let stated = stated_at bad.rows ports n bad.first.value (subst (λ (ds : List Data). AreRows port_says ds ports) same are.say) bad.first.here in
+    no_wrong_row _ stated.0 key stated.1 bad.first.wrong
 
 -- a table that says how to serve has none either
 no_wrong_serve : (ms : Members) (serve : Serve) (key : ServeKey) → IsServe ms serve → IsServeFault ms key → ⊥
@@ -129,7 +129,7 @@ no_wrong_array ms a key e =
     no_wrong_of ms key _ _ _ _ _ contexts.1 communities.1 groups.1 access.1 families.1 there.0
 
 no_policy_fault : (ms : Members) (policy : PolicyTables) (e : PolicyFault) → IsPolicy ms policy → IsUnread ms e ⊎ IsWrongPolicy ms e → ⊥
-no_policy_fault ms policy e is fault = some_is_some _ policy (policy_told ms policy is) (refused_told ms e fault)
+no_policy_fault ms policy e is fault = some_is_some _ policy (policy_reported ms policy is) (refused_reported ms e fault)
 
 pub no_fault : (ms : Members) (c : Configuration) (e : ConfigurationFault) → IsConfiguration ms c → IsFault ms e → ⊥
 no_fault ms c Memory is h = h
@@ -139,5 +139,5 @@ no_fault ms c BadAddress is h = some_is_some _ c.address is.address h
 no_fault ms c BadPorts is h = some_is_some _ is.ports.rows is.ports.are h.1
 no_fault ms c (BadPort n key) is h = no_bad_port ms c.ports.items n key is.ports h.1
 no_fault ms c (BadServe key) is h = no_wrong_value _ c.serve key is.serve h.2
-no_fault ms c (BadKeys key) is h = no_wrong_array (policy_members ms) is.policy.said.arrays key is.policy.said.are h.3
+no_fault ms c (BadKeys key) is h = no_wrong_array (policy_members ms) is.policy.stated.arrays key is.policy.stated.are h.3
 no_fault ms c (Policy e) is h = no_policy_fault _ c.policy e is.policy h.3.1

@@ -7,8 +7,8 @@ use Rattle.community_core.specs.Communities.{PolicyTables}
 use Rattle.control_text.specs.declared.command.TheConstants.{MAX_POLICY}
 use Rattle.control_text.specs.declared.command.Command.{Command}
 use Rattle.control_text.specs.declared.command.Command.TheVariants.{Link, Policy, Counts}
-use Rattle.control_text.specs.declared.command.Refusal.{Refusal}
-use Rattle.control_text.specs.declared.command.Refusal.TheVariants.{BadLine, NoPolicy, Memory}
+use Rattle.control_text.specs.declared.command.CommandFault.{CommandFault}
+use Rattle.control_text.specs.declared.command.CommandFault.TheVariants.{BadLine, NoPolicy, Memory}
 
 pub data Asked : Type 0 where
   -- none: it is no command
@@ -127,7 +127,7 @@ IsReadAs cut_policy command = ⊥
 
 -- Why octets are refused: they are no command; or their policy is cut off, is too long or says none;
 -- or there was no memory for a policy, which only one whose text is not blank takes.
-abbrev pub IsRefusedAs : Asked → Refusal → Type 0
+abbrev pub IsRefusedAs : Asked → CommandFault → Type 0
 IsRefusedAs bad_line refusal = refusal ≡ BadLine
 IsRefusedAs (link port up) refusal = ⊥
 IsRefusedAs counts refusal = ⊥
@@ -137,6 +137,6 @@ IsRefusedAs (policy text) Memory = HasContent text
 IsRefusedAs cut_policy refusal = refusal ≡ NoPolicy
 
 -- octets were read so, or refused so
-abbrev pub IsRead : Asked → Result Command Refusal → Type 0
+abbrev pub IsRead : Asked → Result Command CommandFault → Type 0
 IsRead asked (Ok command) = IsReadAs asked command
 IsRead asked (Err refusal) = IsRefusedAs asked refusal

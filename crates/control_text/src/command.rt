@@ -26,7 +26,7 @@ pub enum Command {
 
 /// Why octets are no command that is done.
 #[derive(Clone, Copy, Debug, PartialEq, Eq)]
-pub enum Refusal {
+pub enum CommandFault {
     /// They are no command.
     BadLine,
     /// Their policy has no `end` or too many octets, or its text says none.
@@ -42,12 +42,12 @@ pub enum Refusal {
 /// `BadLine` for octets that are no command; `NoPolicy` for a policy without its `end`, with more than
 /// [`MAX_POLICY`] octets, or whose text says none; `Memory` where there is none for a policy.
 #[tactic(auto, unfolding(crate::specs::Commands::asked_by))]
-pub fn read_command(alloc: Global, ports: u16, octets: &[u8]) -> Result<Command, Refusal>
+pub fn read_command(alloc: Global, ports: u16, octets: &[u8]) -> Result<Command, CommandFault>
     ensures { IsRead (asked_by ports octets.now) result }
 {
     let command = without_end(octets);
     if command == b"policy".as_slice() {
-        return Err(Refusal::NoPolicy);
+        return Err(CommandFault::NoPolicy);
     }
     if command.starts_with(b"policy\n") {
         return read_policy(alloc, &command[7..]);
@@ -55,7 +55,7 @@ pub fn read_command(alloc: Global, ports: u16, octets: &[u8]) -> Result<Command,
     if is_one_line(command) {
         return read_line(ports, command);
     }
-    Err(Refusal::BadLine)
+    Err(CommandFault::BadLine)
 }
 
 // The octets, but a line feed that ends them.
@@ -78,7 +78,7 @@ fn is_one_line(octets: &[u8]) -> bool
 
 // What one line asks for.
 #[tactic(auto, unfolding(crate::specs::Commands::asked_by_line))]
-fn read_line(ports: u16, line: &[u8]) -> Result<Command, Refusal>
+fn read_line(ports: u16, line: &[u8]) -> Result<Command, CommandFault>
     ensures { IsRead (asked_by_line ports line.now) result }
 {
     match split_word(line) {
@@ -88,25 +88,25 @@ fn read_line(ports: u16, line: &[u8]) -> Result<Command, Refusal>
 }
 
 // What a word alone asks for.
-fn read_alone(line: &[u8]) -> Result<Command, Refusal>
+fn read_alone(line: &[u8]) -> Result<Command, CommandFault>
     ensures { IsRead (line_alone line.now) result }
 {
     if line == b"counts".as_slice() {
         return Ok(Command::Counts);
     }
-    Err(Refusal::BadLine)
+    Err(CommandFault::BadLine)
 }
 
 // What a word asks for, with what follows the space behind it.
-fn read_with(ports: u16, word: &[u8], rest: &[u8]) -> Result<Command, Refusal>
+fn read_with(ports: u16, word: &[u8], rest: &[u8]) -> Result<Command, CommandFault>
     ensures { IsRead (line_with ports (word.now, rest.now)) result }
 {
     if word != b"link".as_slice() {
-        return Err(Refusal::BadLine);
+        return Err(CommandFault::BadLine);
     }
     match read_link(ports, rest) {
         Some((port, up)) => Ok(Command::Link(port, up)),
-        None => Err(Refusal::BadLine),
+        None => Err(CommandFault::BadLine),
     }
 }
 

@@ -3,7 +3,7 @@
 //!
 //! # Entry points
 //! [`read_command`] reads octets: it gives the [`Command`], a link, a policy or the counts, or the
-//! [`Refusal`]. [`say_refusal`], [`say_bpdus`] and [`say_counts`] write answers. A policy's text
+//! [`CommandFault`]. [`say_refusal`], [`say_bpdus`] and [`say_counts`] write answers. A policy's text
 //! has at most [`MAX_POLICY`] octets, a command at most [`MAX_COMMAND`].
 //!
 //! # Definitions
@@ -20,5 +20,5 @@ mod command;
 mod policy_part;
 mod saying;
 
-pub use command::{Command, MAX_COMMAND, MAX_POLICY, Refusal, read_command};
+pub use command::{Command, CommandFault, MAX_COMMAND, MAX_POLICY, read_command};
 pub use saying::{say_bpdus, say_counts, say_refusal};

@@ -2,18 +2,18 @@
 ghost use Rattle.std.specs.Prelude.{◌≡◌, ◌≤◌, length, option_map};
 ghost use Rattle.control_text.specs.Commands.{policy, asked_behind_policy, before_end, IsRead};
 
-use crate::command::{Command, MAX_POLICY, Refusal};
+use crate::command::{Command, CommandFault, MAX_POLICY};
 use policy_text::policy_in;
 use std::alloc::Global;
 
 /// The policy of the octets behind a first line `policy`.
 #[tactic(auto, unfolding(crate::specs::Commands::asked_behind_policy))]
-pub(crate) fn read_policy(alloc: Global, octets: &[u8]) -> Result<Command, Refusal>
+pub(crate) fn read_policy(alloc: Global, octets: &[u8]) -> Result<Command, CommandFault>
     ensures { IsRead (asked_behind_policy octets.now) result }
 {
     match before_end(octets) {
         Some(text) if text.len() <= MAX_POLICY => read_text(alloc, text),
-        Some(_) | None => Err(Refusal::NoPolicy),
+        Some(_) | None => Err(CommandFault::NoPolicy),
     }
 }
 
@@ -31,12 +31,12 @@ fn before_end(octets: &[u8]) -> Option<&[u8]>
 }
 
 // The policy of a text.
-fn read_text(alloc: Global, text: &[u8]) -> Result<Command, Refusal>
+fn read_text(alloc: Global, text: &[u8]) -> Result<Command, CommandFault>
     ensures { IsRead (policy text.now) result }
 {
     match policy_in(alloc, text) {
         Ok(Some(policy)) => Ok(Command::Policy(policy)),
-        Ok(None) => Err(Refusal::NoPolicy),
-        Err(_) => Err(Refusal::Memory),
+        Ok(None) => Err(CommandFault::NoPolicy),
+        Err(_) => Err(CommandFault::Memory),
     }
 }

@@ -3,19 +3,19 @@ ghost use Rattle.std.specs.Prelude.{◌≡◌, ◌++◌, codes, OnOk, Some};
 ghost use Rattle.std.specs.List.{flat_map};
 ghost use Rattle.control_text.specs.Answers.{bpdu_line, bpdu_lines, space_and_number, counts_line, refusal_line};
 
-use crate::command::Refusal;
+use crate::command::CommandFault;
 use frame_core::{Bpdu, Mac, SENT_FRAME_LEN, write_bpdu};
 use script_core::words::write_hex;
 use std::alloc::AllocError;
 use std::io::Write;
 
 /// The answer to octets that are refused, a line with its line feed.
-pub fn say_refusal(refusal: Refusal) -> &'static [u8]
+pub fn say_refusal(refusal: CommandFault) -> &'static [u8]
     ensures { result.now ≡ refusal_line refusal }
 {
     match refusal {
-        Refusal::BadLine => b"badline\n",
-        Refusal::NoPolicy | Refusal::Memory => b"policy refused\n",
+        CommandFault::BadLine => b"badline\n",
+        CommandFault::NoPolicy | CommandFault::Memory => b"policy refused\n",
     }
 }
 

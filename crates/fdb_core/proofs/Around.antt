@@ -16,7 +16,7 @@ use Rattle.std.proofs.lemmas.List.{length-map}
 use Rattle.std.proofs.lemmas.Cmp.{nat_list_cmp_total}
 use Rattle.frame_core.specs.declared.mac.Mac.{Mac}
 use Rattle.frame_core.specs.Octets.{mac_cmp}
-use Rattle.fdb_core.specs.declared.row.Row.{Row}
+use Rattle.fdb_core.specs.declared.row.LearnedRow.{LearnedRow}
 use Rattle.fdb_core.specs.declared.seen.Seen.{Seen}
 use Rattle.fdb_core.specs.Rows.{rows_below, rows_above, row_of, port_of, next_after}
 use Rattle.fdb_core.specs.Learning.{with_row, new_row, answer_on, answer_from, answer}
@@ -25,7 +25,7 @@ use Rattle.fdb_core.specs.Seen.{row_at, rows_at, first_row}
 use Rattle.fdb_core.proofs.Order.{above_from_below, below_from_above, below_trans, same_address}
 
 -- a test of the rows is a test of the addresses
-pub rows_filter : (p : Row → Bool) (tick : ℕ) (es : List (Mac × Seen)) → filter p (rows_at tick es) ≡ rows_at tick (filter (λ e. p (row_at tick e)) es)
+pub rows_filter : (p : LearnedRow → Bool) (tick : ℕ) (es : List (Mac × Seen)) → filter p (rows_at tick es) ≡ rows_at tick (filter (λ e. p (row_at tick e)) es)
 rows_filter p tick [] = refl
 rows_filter p tick (e ∷ es) =
     let more = rows_filter p tick es in
@@ -121,7 +121,7 @@ first_above tick a es =
     ap (first_row tick) above ∙ sym (ap (λ l. slice_get l 0) (rows_filter (λ r. is_gt (mac_cmp r.address a)) tick es) ∙ row_of_first tick (filter (λ e. is_gt (mac_cmp e.0 a)) es))
 
 -- rows of higher addresses only
-pub record AllAbove (a : Mac) (rows : List Row) : Type 0 where
+pub record AllAbove (a : Mac) (rows : List LearnedRow) : Type 0 where
   pub below : rows_below rows a ≡ []
   pub above : rows_above rows a ≡ rows
 
@@ -172,5 +172,5 @@ module _ (tick : ℕ) (a : Mac) (s : Seen) where
 pub put_now : (tick : ℕ) (a : Mac) (port : ℕ) (es : List (Mac × Seen)) → IsStrictlySortedBy mac_cmp (keys_of es) → rows_at tick (insert_entry mac_cmp es a (record { port = port; tick = tick })) ≡ with_row (rows_at tick es) (new_row a port)
 put_now tick a port es up =
     let none : tick - tick ≡ 0 = omega arith in
-    let row : ℕ → Row = λ age. record { address = a; port = port; age = age } in
+    let row : ℕ → LearnedRow = λ age. record { address = a; port = port; age = age } in
     put tick a (record { port = port; tick = tick }) es up ∙ ap (with_row (rows_at tick es)) (ap row none)

@@ -6,7 +6,7 @@ use Rattle.std.specs.declared.cmp.Ordering.{Ordering}
 use Rattle.std.specs.declared.cmp.Ordering.TheVariants.{Less, Equal, Greater}
 use Rattle.std.proofs.lemmas.Cmp.{nat_list_cmp_total, tied_itself}
 use Rattle.frame_core.specs.declared.mac.Mac.{Mac}
-use Rattle.fdb_core.specs.declared.row.Row.{Row}
+use Rattle.fdb_core.specs.declared.row.LearnedRow.{LearnedRow}
 use Rattle.fdb_core.specs.declared.learnt.Learnt.{Learnt}
 use Rattle.fdb_core.specs.declared.learnt.Learnt.TheVariants.{New, Moved, Same, Full, Memory}
 use Rattle.fdb_core.specs.Rows.{rows_below, rows_above, row_of}
@@ -23,48 +23,48 @@ is_equal Less h = cc
 is_equal Equal h = refl
 is_equal Greater h = cc
 
-abbrev first_of : Option Row → Option Row → Option Row
+abbrev first_of : Option LearnedRow → Option LearnedRow → Option LearnedRow
 first_of None o = o
 first_of (Some r) o = Some r
 
-module _ (p : Row → Bool) where
-  found_joined : (xs ys : List Row) → find p (xs ++ ys) ≡ first_of (find p xs) (find p ys)
+module _ (p : LearnedRow → Bool) where
+  found_joined : (xs ys : List LearnedRow) → find p (xs ++ ys) ≡ first_of (find p xs) (find p ys)
   found_joined [] ys = refl
   found_joined (x ∷ xs) ys =
       let more = found_joined xs ys in
       elim (p x) as (λ b. cond b (Some x) (find p (xs ++ ys)) ≡ first_of (cond b (Some x) (find p xs)) (find p ys)) [ true ↦ refl | false ↦ more ]
 
-  kept_step : (x : Row) (xs ys : List Row) (d : Bool) → (p x ≡ true → d ≡ true) → find p ys ≡ find p xs → find p (cond d (x ∷ ys) ys) ≡ cond (p x) (Some x) (find p xs)
+  kept_step : (x : LearnedRow) (xs ys : List LearnedRow) (d : Bool) → (p x ≡ true → d ≡ true) → find p ys ≡ find p xs → find p (cond d (x ∷ ys) ys) ≡ cond (p x) (Some x) (find p xs)
   kept_step x xs ys true h e = ap (λ o. cond (p x) (Some x) o) e
   kept_step x xs ys false h e =
       let no : p x ≡ false = not_true (p x) (λ t. let bad = h t in cc) in
       rw no e
 
-  dropped_step : (x : Row) (ys : List Row) (d : Bool) → (p x ≡ true → d ≡ false) → find p ys ≡ None → find p (cond d (x ∷ ys) ys) ≡ None
+  dropped_step : (x : LearnedRow) (ys : List LearnedRow) (d : Bool) → (p x ≡ true → d ≡ false) → find p ys ≡ None → find p (cond d (x ∷ ys) ys) ≡ None
   dropped_step x ys false h e = e
   dropped_step x ys true h e =
       let no : p x ≡ false = not_true (p x) (λ t. let bad = h t in cc) in
       rw no e
 
-  module _ (q : Row → Bool) where
+  module _ (q : LearnedRow → Bool) where
     -- a filter that keeps what is sought, and one that drops it
-    found_kept : ((x : Row) → p x ≡ true → q x ≡ true) → (xs : List Row) → find p (filter q xs) ≡ find p xs
+    found_kept : ((x : LearnedRow) → p x ≡ true → q x ≡ true) → (xs : List LearnedRow) → find p (filter q xs) ≡ find p xs
     found_kept keeps [] = refl
     found_kept keeps (x ∷ xs) = kept_step x xs (filter q xs) (q x) (keeps x) (found_kept keeps xs)
 
-    found_dropped : ((x : Row) → p x ≡ true → q x ≡ false) → (xs : List Row) → find p (filter q xs) ≡ None
+    found_dropped : ((x : LearnedRow) → p x ≡ true → q x ≡ false) → (xs : List LearnedRow) → find p (filter q xs) ≡ None
     found_dropped drops [] = refl
     found_dropped drops (x ∷ xs) = dropped_step x (filter q xs) (q x) (drops x) (found_dropped drops xs)
 
 -- how a row of an address compares with another address
-compares : (x : Row) (a b : Mac) → is_eq (mac_cmp x.address b) ≡ true → mac_cmp x.address a ≡ mac_cmp b a
+compares : (x : LearnedRow) (a b : Mac) → is_eq (mac_cmp x.address b) ≡ true → mac_cmp x.address a ≡ mac_cmp b a
 compares x a b e = ap (λ (m : Mac). mac_cmp m a) (same_address x.address b (is_equal _ e))
 
-first_none : (o : Option Row) → first_of o None ≡ o
+first_none : (o : Option LearnedRow) → first_of o None ≡ o
 first_none None = refl
 first_none (Some r) = refl
 
-module _ (rows : List Row) (r : Row) (b : Mac) where
+module _ (rows : List LearnedRow) (r : LearnedRow) (b : Mac) where
   parts : row_of (with_row rows r) b ≡ first_of (row_of (rows_below rows r.address) b) (row_of (r ∷ rows_above rows r.address) b)
   parts = found_joined (λ x. is_eq (mac_cmp x.address b)) (rows_below rows r.address) (r ∷ rows_above rows r.address)
 
@@ -90,11 +90,11 @@ module _ (rows : List Row) (r : Row) (b : Mac) where
   by_order Greater e other = above_it e
 
 -- each other address has the row that it had
-others_keep : (rows : List Row) (r : Row) (b : Mac) → b ≢ r.address → row_of (with_row rows r) b ≡ row_of rows b
+others_keep : (rows : List LearnedRow) (r : LearnedRow) (b : Mac) → b ≢ r.address → row_of (with_row rows r) b ≡ row_of rows b
 others_keep rows r b other = by_order rows r b (mac_cmp b r.address) refl other
 
 -- and this one has its own
-its_own : (rows : List Row) (r : Row) → row_of (with_row rows r) r.address ≡ Some r
+its_own : (rows : List LearnedRow) (r : LearnedRow) → row_of (with_row rows r) r.address ≡ Some r
 its_own rows r =
     let a = r.address in
     let equal : mac_cmp a a ≡ Equal = tied_itself nat_list_cmp_total a.0 in
@@ -102,14 +102,14 @@ its_own rows r =
     let back : row_of (r ∷ rows_above rows a) a ≡ Some r = rw equal refl in
     parts rows r a ∙ ap (λ o. first_of o (row_of (r ∷ rows_above rows a) a)) dropped ∙ back
 
-pub learned_others : (l : Learnt) (rows : List Row) (a : Mac) (port : ℕ) (b : Mac) → b ≢ a → row_of (learned_rows l rows a port) b ≡ row_of rows b
+pub learned_others : (l : Learnt) (rows : List LearnedRow) (a : Mac) (port : ℕ) (b : Mac) → b ≢ a → row_of (learned_rows l rows a port) b ≡ row_of rows b
 learned_others New rows a port b other = others_keep rows (new_row a port) b other
 learned_others Moved rows a port b other = others_keep rows (new_row a port) b other
 learned_others Same rows a port b other = others_keep rows (new_row a port) b other
 learned_others Full rows a port b other = refl
 learned_others Memory rows a port b other = refl
 
-pub learned_here : (l : Learnt) (rows : List Row) (a : Mac) (port : ℕ) → l ≢ Full → l ≢ Memory → row_of (learned_rows l rows a port) a ≡ Some (new_row a port)
+pub learned_here : (l : Learnt) (rows : List LearnedRow) (a : Mac) (port : ℕ) → l ≢ Full → l ≢ Memory → row_of (learned_rows l rows a port) a ≡ Some (new_row a port)
 learned_here New rows a port full memory = its_own rows (new_row a port)
 learned_here Moved rows a port full memory = its_own rows (new_row a port)
 learned_here Same rows a port full memory = its_own rows (new_row a port)

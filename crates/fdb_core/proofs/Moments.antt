@@ -10,14 +10,14 @@ use Rattle.std.specs.declared.cmp.Ordering.TheVariants.{Less, Equal, Greater}
 use Rattle.std.proofs.lemmas.Bool.{ltb-true, lt-ltb}
 use Rattle.frame_core.specs.declared.mac.Mac.{Mac}
 use Rattle.frame_core.specs.Octets.{mac_cmp}
-use Rattle.fdb_core.specs.declared.row.Row.{Row}
+use Rattle.fdb_core.specs.declared.row.LearnedRow.{LearnedRow}
 use Rattle.fdb_core.specs.declared.seen.Seen.{Seen}
 use Rattle.fdb_core.specs.Rows.{older_row, young_rows, other_rows}
 use Rattle.fdb_core.specs.Seen.{rows_at, young_entries, other_entries, lowered_entries, oldest_tick, AreSeenWithin, IsReady}
 use Rattle.fdb_core.proofs.Around.{rows_filter}
 
 -- a row of this age
-abbrev aged : Mac × Seen → ℕ → Row
+abbrev aged : Mac × Seen → ℕ → LearnedRow
 aged e age = record { address = e.0; port = e.1.port; age = age }
 
 -- a second later each is a second older

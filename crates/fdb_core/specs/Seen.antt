@@ -3,21 +3,21 @@ use Rattle.std.specs.Prelude.{ℕ, ◌+◌, ◌-◌, ◌<◌, ◌≤◌, not, �
 use Rattle.std.specs.List.{AllByRecursion, list_any}
 use Rattle.std.specs.Option.{option_map}
 use Rattle.frame_core.specs.declared.mac.Mac.{Mac}
-use Rattle.fdb_core.specs.declared.row.Row.{Row}
+use Rattle.fdb_core.specs.declared.row.LearnedRow.{LearnedRow}
 use Rattle.fdb_core.specs.declared.row.TheConstants.{MAX_AGING_TIME}
 use Rattle.fdb_core.specs.Table.{Table, IsTable}
 use Rattle.fdb_core.specs.declared.seen.Seen.{Seen}
 use Rattle.fdb_core.specs.declared.seen.TheConstants.{LAST_TICK}
 
 -- an address as the row that it is at a tick: its age is the ticks since it was learned
-abbrev pub row_at : ℕ → Mac × Seen → Row
+abbrev pub row_at : ℕ → Mac × Seen → LearnedRow
 row_at tick e = record { address = e.0; port = e.1.port; age = tick - e.1.tick }
 
-abbrev pub rows_at : ℕ → List (Mac × Seen) → List Row
+abbrev pub rows_at : ℕ → List (Mac × Seen) → List LearnedRow
 rows_at tick entries = map (row_at tick) entries
 
 -- the row of the first address
-abbrev pub first_row : ℕ → List (Mac × Seen) → Option Row
+abbrev pub first_row : ℕ → List (Mac × Seen) → Option LearnedRow
 first_row tick entries = option_map (row_at tick) (slice_get entries 0)
 
 -- those whose age at a tick is below the limit

@@ -4,7 +4,7 @@ ghost use Rattle.std.specs.List.{AllByRecursion};
 ghost use Rattle.fdb_core.specs.Rows.{IsAddress};
 
 use crate::learnt::Learnt;
-use crate::row::{MAX_AGING_TIME, MIN_AGING_TIME, Row};
+use crate::row::{LearnedRow, MAX_AGING_TIME, MIN_AGING_TIME};
 use crate::seen::LAST_TICK;
 use crate::sightings::Sightings;
 use frame_core::Mac;
@@ -85,7 +85,7 @@ impl Fdb {
     /// # Errors
     ///
     /// `AllocError` where there is no memory for the vector.
-    pub fn try_rows(&self, alloc: Global) -> Result<Vec<Row>, AllocError>
+    pub fn try_rows(&self, alloc: Global) -> Result<Vec<LearnedRow>, AllocError>
         ensures { IfOk result (λ rows. rows.items ≡ self.now.rows) }
     {
         self.sightings.try_rows(alloc)
@@ -149,7 +149,7 @@ impl Fdb {
     /// The row of the lowest address above this one, or of the lowest address of all: for the
     /// objects that show the learned addresses (RFC 4188 dot1dTpFdbTable). So the rows are walked
     /// from none on, each time from the address of the row before.
-    pub fn next_after(&self, after: Option<Mac>) -> Option<Row>
+    pub fn next_after(&self, after: Option<Mac>) -> Option<LearnedRow>
         ensures row { result ≡ next_after self.now.rows after }
         // What holds of every table, as `known` hands it on.
         ensures table { IsTable self.now }

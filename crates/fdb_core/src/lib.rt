@@ -6,7 +6,7 @@
 //! [`Fdb`] is seen as its rows by rising address and the most it may have: `learn`, `age`,
 //! `flush_ports`, and without change `find`, `next_after`, `known`, `try_copy` and `try_rows`. Only
 //! `learn` takes memory, for a new address that has a place, and the two copies, for their rows.
-//! [`Row`] is one row, [`Learnt`] what `learn` answers, and [`MIN_AGING_TIME`] to
+//! [`LearnedRow`] is one row, [`Learnt`] what `learn` answers, and [`MIN_AGING_TIME`] to
 //! [`MAX_AGING_TIME`] the aging time in seconds.
 //!
 //! [`StaticTable`] is seen as its rows by rising index and for how many rows it is sure to have
@@ -49,6 +49,6 @@ mod static_table;
 pub use fdb::Fdb;
 pub use learnt::Learnt;
 pub use port_set::{MAX_SET_PORTS, PortSet, SET_OCTETS, has_other_port};
-pub use row::{MAX_AGING_TIME, MIN_AGING_TIME, Row};
+pub use row::{LearnedRow, MAX_AGING_TIME, MIN_AGING_TIME};
 pub use static_row::{StaticIndex, StaticRow};
 pub use static_table::StaticTable;

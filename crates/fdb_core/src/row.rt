@@ -11,7 +11,7 @@ pub const MAX_AGING_TIME: u32 = 1_000_000;
 
 /// A learned address (IEEE 802.1D-2004, 7.9.2).
 #[derive(Clone, Copy, Debug, PartialEq, Eq)]
-pub struct Row {
+pub struct LearnedRow {
     /// The address.
     pub address: Mac,
     /// The number of the port on which a frame from the address came last.

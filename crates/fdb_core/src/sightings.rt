@@ -11,7 +11,7 @@ ghost use Rattle.fdb_core.specs.Seen.{rows_at, first_row, young_entries, other_e
 ghost use Rattle.fdb_core.specs.declared.learnt.Learnt.TheVariants.{New, Memory};
 
 use crate::learnt::Learnt;
-use crate::row::{MAX_AGING_TIME, Row};
+use crate::row::{LearnedRow, MAX_AGING_TIME};
 use crate::seen::{LAST_TICK, Seen};
 use frame_core::Mac;
 use std::alloc::{AllocError, Global};
@@ -97,13 +97,13 @@ impl Sightings {
     }
 
     /// The rows by rising address. Only the vector takes memory.
-    pub fn try_rows(&self, alloc: Global) -> Result<Vec<Row>, AllocError>
+    pub fn try_rows(&self, alloc: Global) -> Result<Vec<LearnedRow>, AllocError>
         ensures { IfOk result (λ rows.
             rows.items ≡ rows_at self.now.tick self.now.seen.entries) }
     {
         self.seen
             .iter()
-            .map(|(address, seen)| Row {
+            .map(|(address, seen)| LearnedRow {
                 address: *address,
                 port: seen.port,
                 age: seen.age(self.tick),
@@ -120,12 +120,12 @@ impl Sightings {
     }
 
     // The row of the lowest address within the bound.
-    fn first_from(&self, lowest: Bound<Mac>) -> Option<Row>
+    fn first_from(&self, lowest: Bound<Mac>) -> Option<LearnedRow>
         ensures { result ≡ first_row self.now.tick
             (entries_between mac_cmp lowest Unbounded self.now.seen.entries) }
     {
         let (address, seen) = self.seen.range((lowest, Bound::Unbounded)).next()?;
-        Some(Row {
+        Some(LearnedRow {
             address: *address,
             port: seen.port,
             age: seen.age(self.tick),
@@ -133,7 +133,7 @@ impl Sightings {
     }
 
     /// The row of the lowest address above this one, or of the lowest address of all.
-    pub fn row_after(&self, after: Option<Mac>) -> Option<Row>
+    pub fn row_after(&self, after: Option<Mac>) -> Option<LearnedRow>
         ensures { result ≡ next_after (rows_at self.now.tick self.now.seen.entries) after }
     {
         match after {

@@ -84,7 +84,7 @@ pub fn rows_at(rows: &[StaticRow], address: Mac) -> &[StaticRow]
 /// one, or the vector has capacity for one more.
 pub fn put_in(rows: &mut Vec<StaticRow>, row: StaticRow)
     requires rising { IsRising rows.old.items }
-    requires room { row_of rows.old.items row.index ≡ None
+    requires space { row_of rows.old.items row.index ≡ None
         → length rows.old.items < vec_capacity rows.old }
     ensures rows { rows.new.items ≡ put_row rows.old.items row }
     ensures capacity { vec_capacity rows.new ≡ vec_capacity rows.old }

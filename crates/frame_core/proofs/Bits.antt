@@ -18,9 +18,9 @@ shifted true n = omega arith
 shifted false n = omega arith
 
 -- the bit that a flag was written to gives the flag
-told : (b : Bool) (n : ℕ) → n ≡ weight b 0 → b ≡ (n == 1)
-told true n e = sym (ap (λ k. k == 1) e)
-told false n e = sym (ap (λ k. k == 1) e)
+reported : (b : Bool) (n : ℕ) → n ≡ weight b 0 → b ≡ (n == 1)
+reported true n e = sym (ap (λ k. k == 1) e)
+reported false n e = sym (ap (λ k. k == 1) e)
 
 role_small : (r : PortRole) → role_number r < 4
 role_small roles.Unknown = omega arith
@@ -37,9 +37,9 @@ config_flags_laid c =
     let p = shifted c.proposal 1 in
     let k = shifted c.acknowledge 7 in
     record {
-      topology_change = told c.topology_change _ (omega arith);
-      proposal = told c.proposal _ (omega arith);
-      acknowledge = told c.acknowledge _ (omega arith);
+      topology_change = reported c.topology_change _ (omega arith);
+      proposal = reported c.proposal _ (omega arith);
+      acknowledge = reported c.acknowledge _ (omega arith);
     }
 
 pub rapid_flags_laid : (r : RapidFields) → AreRapidFlags (rapid_flags r) r
@@ -56,10 +56,10 @@ rapid_flags_laid r =
     let f' = shifted r.forwarding 5 in
     let a' = shifted r.agreement 6 in
     record {
-      topology_change = told r.topology_change _ (omega arith);
-      proposal = told r.proposal _ (omega arith);
+      topology_change = reported r.topology_change _ (omega arith);
+      proposal = reported r.proposal _ (omega arith);
       role = omega arith;
-      learning = told r.learning _ (omega arith);
-      forwarding = told r.forwarding _ (omega arith);
-      agreement = told r.agreement _ (omega arith);
+      learning = reported r.learning _ (omega arith);
+      forwarding = reported r.forwarding _ (omega arith);
+      agreement = reported r.agreement _ (omega arith);
     }

@@ -94,31 +94,31 @@ rapid_read octets = record {
 Decides-le : (a b : ℕ) → Decides (leb a b) (a ≤ b)
 Decides-le a b = (leb-true a b, le-leb a b)
 
-kind_told : (octets : List ℕ) (least kind : ℕ) → Decides (has_kind octets least kind) (HasKind octets least kind)
-kind_told octets least kind =
+kind_reported : (octets : List ℕ) (least kind : ℕ) → Decides (has_kind octets least kind) (HasKind octets least kind)
+kind_reported octets least kind =
     Decides-like (has_kind octets least kind) (λ h. record { long = h.0; protocol = h.1.0; kind_is = h.1.1 }) (λ h. (h.long, (h.protocol, h.kind_is))) (
     Decides-and (leb least (length octets)) (eqb (number_at octets 0 2) 0 && eqb (slice_index octets 3) kind) (Decides-le least (length octets)) (
     Decides-and (eqb (number_at octets 0 2) 0) (eqb (slice_index octets 3) kind) (Decides-eqb _ _) (Decides-eqb _ _)))
 
-rapid_told : (octets : List ℕ) → Decides (is_rapid octets) (HasKind octets 36 2 × (2 ≤ slice_index octets 2))
-rapid_told octets =
-    Decides-and (has_kind octets 36 2) (leb 2 (slice_index octets 2)) (kind_told octets 36 2) (Decides-le 2 (slice_index octets 2))
+rapid_reported : (octets : List ℕ) → Decides (is_rapid octets) (HasKind octets 36 2 × (2 ≤ slice_index octets 2))
+rapid_reported octets =
+    Decides-and (has_kind octets 36 2) (leb 2 (slice_index octets 2)) (kind_reported octets 36 2) (Decides-le 2 (slice_index octets 2))
 
 -- what a reader of a BPDU answers
 EncodesBpdu : List ℕ → Option Bpdu → Type 0
 EncodesBpdu octets r = MatchOption r ((b : Bpdu) → ¬ IsBpdu octets b) (λ b. IsBpdu octets b)
 
 no_bpdu : (octets : List ℕ) → is_config octets ≡ false → is_notice octets ≡ false → is_rapid octets ≡ false → (b : Bpdu) → ¬ IsBpdu octets b
-no_bpdu octets config notice rapid (Config c) h = not_from_Decides (is_config octets) (kind_told octets 35 0) config h.0
-no_bpdu octets config notice rapid TopologyChange h = not_from_Decides (is_notice octets) (kind_told octets 4 128) notice h
-no_bpdu octets config notice rapid (Rapid r) h = not_from_Decides (is_rapid octets) (rapid_told octets) rapid (h.0, h.1)
+no_bpdu octets config notice rapid (Config c) h = not_from_Decides (is_config octets) (kind_reported octets 35 0) config h.0
+no_bpdu octets config notice rapid TopologyChange h = not_from_Decides (is_notice octets) (kind_reported octets 4 128) notice h
+no_bpdu octets config notice rapid (Rapid r) h = not_from_Decides (is_rapid octets) (rapid_reported octets) rapid (h.0, h.1)
 
 bpdu_read : (octets : List ℕ) → EncodesBpdu octets (bpdu_in octets)
 unfolding bpdu_in EncodesBpdu
 bpdu_read octets =
-    cond_both (is_config octets) (Some (Config (config_in octets))) _ (EncodesBpdu octets) (λ e. ((kind_told octets 35 0).0 e, config_read octets)) (λ config.
-    cond_both (is_notice octets) (Some TopologyChange) _ (EncodesBpdu octets) (λ e. (kind_told octets 4 128).0 e) (λ notice.
-    cond_both (is_rapid octets) (Some (Rapid (rapid_in octets))) None (EncodesBpdu octets) (λ e. let h = (rapid_told octets).0 e in (h.0, h.1, rapid_read octets)) (λ rapid.
+    cond_both (is_config octets) (Some (Config (config_in octets))) _ (EncodesBpdu octets) (λ e. ((kind_reported octets 35 0).0 e, config_read octets)) (λ config.
+    cond_both (is_notice octets) (Some TopologyChange) _ (EncodesBpdu octets) (λ e. (kind_reported octets 4 128).0 e) (λ notice.
+    cond_both (is_rapid octets) (Some (Rapid (rapid_in octets))) None (EncodesBpdu octets) (λ e. let h = (rapid_reported octets).0 e in (h.0, h.1, rapid_read octets)) (λ rapid.
     no_bpdu octets config notice rapid)))
 
 -- ---- frames
@@ -129,8 +129,8 @@ record HasLlc (frame : List ℕ) : Type 0 where
   within : 14 + number_at frame 12 2 ≤ length frame
   header : take 3 (content_of frame) ≡ 0x42 ∷ 0x42 ∷ 0x03 ∷ []
 
-llc_told : (frame : List ℕ) → Decides (has_llc frame) (HasLlc frame)
-llc_told frame =
+llc_reported : (frame : List ℕ) → Decides (has_llc frame) (HasLlc frame)
+llc_reported frame =
     let n = number_at frame 12 2 in
     let header = bytes_eq (take 3 (content_of frame)) (0x42 ∷ 0x42 ∷ 0x03 ∷ []) in
     Decides-like (has_llc frame) (λ h. record { most = h.0; within = h.1.0; header = h.1.1 }) (λ h. (h.most, (h.within, h.header))) (
@@ -143,7 +143,7 @@ CarriesWhat frame r = MatchOption r ((b : Bpdu) → ¬ CarriesBpdu frame b) (λ 
 
 no_llc : (frame : List ℕ) → has_llc frame ≡ false → (b : Bpdu) → ¬ CarriesBpdu frame b
 no_llc frame e b h =
-    not_from_Decides (has_llc frame) (llc_told frame) e (record { most = h.most; within = h.within; header = ap (take 3) h.content })
+    not_from_Decides (has_llc frame) (llc_reported frame) e (record { most = h.most; within = h.within; header = ap (take 3) h.content })
 
 content_read : (frame : List ℕ) (r : Option Bpdu) → HasLlc frame → EncodesBpdu (drop 3 (content_of frame)) r → CarriesWhat frame r
 unfolding EncodesBpdu CarriesWhat
@@ -161,7 +161,7 @@ content_read frame (Some b) llc here = record {
 carried_read : (frame : List ℕ) → CarriesWhat frame (carried_in frame)
 unfolding carried_in CarriesWhat
 carried_read frame =
-    cond_both (has_llc frame) (bpdu_in (drop 3 (content_of frame))) None (CarriesWhat frame) (λ e. content_read frame _ ((llc_told frame).0 e) (bpdu_read _)) (λ e. no_llc frame e)
+    cond_both (has_llc frame) (bpdu_in (drop 3 (content_of frame))) None (CarriesWhat frame) (λ e. content_read frame _ ((llc_reported frame).0 e) (bpdu_read _)) (λ e. no_llc frame e)
 
 -- a frame to the bridges
 bridges_read : (octets : List ℕ) (r : Option Bpdu) → 14 ≤ length octets → length octets ≤ 1518 → take 6 octets ≡ BRIDGE_GROUP.0 → CarriesWhat octets r → Reads octets (to_bridges octets r)
@@ -191,14 +191,14 @@ frame_reads octets =
 
 -- ---- both ways
 
-pub frame_told : (octets : List ℕ) (f : FrameIn) → IsFrame octets f → frame_at octets ≡ Ok f
-frame_told octets f h = (frame_reads octets).only f h
+pub frame_reported : (octets : List ℕ) (f : FrameIn) → IsFrame octets f → frame_at octets ≡ Ok f
+frame_reported octets f h = (frame_reads octets).only f h
 
-pub told_frame : (octets : List ℕ) (f : FrameIn) → frame_at octets ≡ Ok f → IsFrame octets f
-told_frame octets f e = let reads : Reads octets (Ok f) = subst (λ r. Reads octets r) e (frame_reads octets) in reads.found
+pub reported_frame : (octets : List ℕ) (f : FrameIn) → frame_at octets ≡ Ok f → IsFrame octets f
+reported_frame octets f e = let reads : Reads octets (Ok f) = subst (λ r. Reads octets r) e (frame_reads octets) in reads.found
 
-pub fault_told : (octets : List ℕ) (e : FrameFault) → IsFault octets e → frame_at octets ≡ Err e
-fault_told octets e h = (frame_reads octets).exactly e h
+pub fault_reported : (octets : List ℕ) (e : FrameFault) → IsFault octets e → frame_at octets ≡ Err e
+fault_reported octets e h = (frame_reads octets).exactly e h
 
-pub told_fault : (octets : List ℕ) (e : FrameFault) → frame_at octets ≡ Err e → IsFault octets e
-told_fault octets e h = let reads : Reads octets (Err e) = subst (λ r. Reads octets r) h (frame_reads octets) in reads.fault
+pub reported_fault : (octets : List ℕ) (e : FrameFault) → frame_at octets ≡ Err e → IsFault octets e
+reported_fault octets e h = let reads : Reads octets (Err e) = subst (λ r. Reads octets r) h (frame_reads octets) in reads.fault

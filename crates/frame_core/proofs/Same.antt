@@ -146,19 +146,19 @@ refuses octets e h = record {
 
 -- an address that `!=` does not separate from the group address
 pub group_from : (d : Mac) → false ≡ not (bytes_eq d.0 BRIDGE_GROUP.0) → d ≡ BRIDGE_GROUP
-group_from d e = same_mac d BRIDGE_GROUP ((bytes_eq-Decides d.0 BRIDGE_GROUP.0).0 (told (bytes_eq d.0 BRIDGE_GROUP.0) e))
+group_from d e = same_mac d BRIDGE_GROUP ((bytes_eq-Decides d.0 BRIDGE_GROUP.0).0 (reported (bytes_eq d.0 BRIDGE_GROUP.0) e))
   where
-    told : (b : Bool) → false ≡ not b → b ≡ true
-    told true h = refl
-    told false h = cc
+    reported : (b : Bool) → false ≡ not b → b ≡ true
+    reported true h = refl
+    reported false h = cc
 
 -- an address that `!=` separates from the group address
 pub other_from : (d : Mac) → true ≡ not (bytes_eq d.0 BRIDGE_GROUP.0) → d ≢ BRIDGE_GROUP
-other_from d e = λ group. told (bytes_eq d.0 BRIDGE_GROUP.0) e ((bytes_eq-Decides d.0 BRIDGE_GROUP.0).1 (ap (λ (m : Mac). m.0) group))
+other_from d e = λ group. reported (bytes_eq d.0 BRIDGE_GROUP.0) e ((bytes_eq-Decides d.0 BRIDGE_GROUP.0).1 (ap (λ (m : Mac). m.0) group))
   where
-    told : (b : Bool) → true ≡ not b → b ≡ true → ⊥
-    told true h k = cc
-    told false h k = cc
+    reported : (b : Bool) → true ≡ not b → b ≡ true → ⊥
+    reported true h k = cc
+    reported false h k = cc
 
 -- a frame to another address
 pub to_other : (octets : List ℕ) (d s : Mac) → 14 ≤ length octets → length octets ≤ 1518 → d.0 ≡ take 6 octets → s.0 ≡ take 6 (drop 6 octets) → d ≢ BRIDGE_GROUP → IsFrame octets (record { destination = d; source = s; bpdu = None })

@@ -8,7 +8,7 @@ use Rattle.bridge_core.specs.Events.{frame_result, link_of, after_link}
 use Rattle.setphase_core.specs.declared.world.World.{World}
 use Rattle.setphase_core.specs.Objects.{ObjectState}
 use Rattle.agent_core.specs.Buffered.{Buffered}
-use Rattle.history_core.specs.Receipts.{told_of}
+use Rattle.history_core.specs.Receipts.{reported_of}
 use Rattle.history_core.specs.Steps.{Notes, request_notes, step_of, has_port, silent_step, framed_step, bridge_step, cause_in, cause_of}
 use Rattle.history_core.specs.History.{History, undos_in, next_of, IsHistory, next_step, after, next_receipt, IsEntered, Applies, last_number}
 use Rattle.history_core.specs.Happening.{notes_in, Happens}
@@ -17,7 +17,7 @@ use Rattle.history_core.specs.declared.entry.Entry.{Entry}
 use Rattle.history_core.specs.declared.event.Event.{Event}
 use Rattle.history_core.specs.declared.event.Event.TheVariants as event
 use Rattle.history_core.specs.declared.event.ReceiptEvent.{ReceiptEvent}
-use Rattle.history_core.specs.declared.happening.Happened.{Happened}
+use Rattle.history_core.specs.declared.happening.EventOutcome.{EventOutcome}
 use Rattle.history_core.specs.declared.limits.TheConstants.{MAX_ENTRIES}
 use Rattle.history_core.specs.declared.receipt.Receipt.{Receipt}
 use Rattle.history_core.proofs.Stepping.{audit_decided}
@@ -25,12 +25,12 @@ use Rattle.history_core.proofs.Histories.{MayBe, entered, entered-ok}
 
 -- ---- the entry
 
-may_be : (h : History) (e : Event) (x : Happened) (objects : List ObjectState) (world : World) (b : Buffered)
+may_be : (h : History) (e : Event) (x : EventOutcome) (objects : List ObjectState) (world : World) (b : Buffered)
     → Happens h.objects h.world e x objects world b → MayBe h e (notes_in x)
 may_be h e x objects world b is = record { may = is.may; undos = ap undos_in (sym is.audit) }
 
 -- The fields that `apply` leaves are the history after the event, and it is legal.
-pub left-ok : (h : History) (e : Event) (x : Happened) (next : ℕ) (new : Option World) (entry : Entry) (entries : List Entry) (base : World) (base_number : ℕ) (world : World) (objects : List ObjectState) (b : Buffered)
+pub left-ok : (h : History) (e : Event) (x : EventOutcome) (next : ℕ) (new : Option World) (entry : Entry) (entries : List Entry) (base : World) (base_number : ℕ) (world : World) (objects : List ObjectState) (b : Buffered)
     → IsHistory h → next ≡ next_of h → next_of h < last_number
     → new ≡ (if length h.entries == MAX_ENTRIES then Some h.world else None)
     → Happens h.objects h.world e x objects world b → entry ≡ entry_of e x
@@ -58,39 +58,39 @@ same_some : (a b : Audit) → Some a ≡ Some b → a ≡ b
 same_some a b e = cc
 
 -- an audit that is reported has the decision on the request
-cause_told : (os : List ObjectState) (w : World) (e : Event) (n : Notes) (a : Audit) → Some a ≡ (step_of os w e n).audit
+cause_reported : (os : List ObjectState) (w : World) (e : Event) (n : Notes) (a : Audit) → Some a ≡ (step_of os w e n).audit
     → cause_of w e ≡ cause_in a.decision
 unfolding step_of
-cause_told os w (event.Frame port f) n a e = cc (e ∙ no_frame_audit os w port f n.no_room (has_port w.bridge port))
-cause_told os w event.Tick n a e = cc
-cause_told os w (event.Link port up) n a e = cc (e ∙ no_link_audit os w port up (has_port w.bridge port))
-cause_told os w (event.Policy tables) n a e = cc
-cause_told os w (event.Request r) n a e =
+cause_reported os w (event.Frame port f) n a e = cc (e ∙ no_frame_audit os w port f n.no_room (has_port w.bridge port))
+cause_reported os w event.Tick n a e = cc
+cause_reported os w (event.Link port up) n a e = cc (e ∙ no_link_audit os w port up (has_port w.bridge port))
+cause_reported os w (event.Policy tables) n a e = cc
+cause_reported os w (event.Request r) n a e =
     sym (ap (λ (x : Audit). cause_in x.decision) (same_some a _ e) ∙ ap cause_in (audit_decided os w r (request_notes n)))
 
-no_cause_told : (os : List ObjectState) (w : World) (e : Event) (n : Notes) → None ≡ (step_of os w e n).audit → cause_of w e ≡ None
+no_cause_reported : (os : List ObjectState) (w : World) (e : Event) (n : Notes) → None ≡ (step_of os w e n).audit → cause_of w e ≡ None
 unfolding step_of
-no_cause_told os w (event.Frame port f) n e = refl
-no_cause_told os w event.Tick n e = refl
-no_cause_told os w (event.Link port up) n e = refl
-no_cause_told os w (event.Policy tables) n e = refl
-no_cause_told os w (event.Request r) n e = cc
+no_cause_reported os w (event.Frame port f) n e = refl
+no_cause_reported os w event.Tick n e = refl
+no_cause_reported os w (event.Link port up) n e = refl
+no_cause_reported os w (event.Policy tables) n e = refl
+no_cause_reported os w (event.Request r) n e = cc
 
 -- ---- what is answered
 
-entered_is : (h : History) (e : Event) (x : Happened) (world : World) (objects : List ObjectState) (b : Buffered) (receipt : Receipt) (audit : Option Audit) (later : History)
-    → Happens h.objects h.world e x objects world b → receipt ≡ next_receipt h e (notes_in x) → audit ≡ x.told_audit → later ≡ after h e (notes_in x)
+entered_is : (h : History) (e : Event) (x : EventOutcome) (world : World) (objects : List ObjectState) (b : Buffered) (receipt : Receipt) (audit : Option Audit) (later : History)
+    → Happens h.objects h.world e x objects world b → receipt ≡ next_receipt h e (notes_in x) → audit ≡ x.reported_audit → later ≡ after h e (notes_in x)
     → IsEntered h e receipt audit later b
 entered_is h e x world objects b receipt audit later happens same_receipt same_audit same_later =
-    let told = same_audit ∙ happens.same_audit in
+    let reported = same_audit ∙ happens.same_audit in
     record {
       notes = notes_in x;
       may = happens.may;
       by_plan = happens.by_plan;
-      same_undos = ap undos_in (told ∙ sym happens.audit);
+      same_undos = ap undos_in (reported ∙ sym happens.audit);
       after_is = same_later;
       receipt_is = same_receipt;
-      audit_is = told;
+      audit_is = reported;
       reply_is = happens.sent;
       bpdus_are = happens.bpdus;
     }
@@ -104,17 +104,17 @@ applies_because h e receipt audit later b (Some cause) fits same is = (fits, sam
 applies_by : (h : History) (e : Event) (n : Notes) (receipt : Receipt) (audit : Option Audit) (later : History) (b : Buffered)
     → next_of h < last_number → audit ≡ (next_step h e n).audit → IsEntered h e receipt audit later b
     → Applies h e (applied_by receipt audit) later b
-applies_by h e n receipt None later b fits same is = (fits, no_cause_told h.objects h.world e n same, is)
+applies_by h e n receipt None later b fits same is = (fits, no_cause_reported h.objects h.world e n same, is)
 applies_by h e n receipt (Some audit) later b fits same is =
-    applies_because h e receipt audit later b (cause_in audit.decision) fits (cause_told h.objects h.world e n audit same) is
+    applies_because h e receipt audit later b (cause_in audit.decision) fits (cause_reported h.objects h.world e n audit same) is
 
-pub applies-ok : (h : History) (e : Event) (x : Happened) (world : World) (objects : List ObjectState) (b : Buffered) (number : ℕ) (told : ReceiptEvent) (receipt : Receipt) (audit : Option Audit) (later : History)
+pub applies-ok : (h : History) (e : Event) (x : EventOutcome) (world : World) (objects : List ObjectState) (b : Buffered) (number : ℕ) (reported : ReceiptEvent) (receipt : Receipt) (audit : Option Audit) (later : History)
     → next_of h < last_number → Happens h.objects h.world e x objects world b
-    → number ≡ next_of h → told ≡ told_of e → receipt ≡ receipt_of number told x
-    → audit ≡ x.told_audit → later ≡ after h e (notes_in x)
+    → number ≡ next_of h → reported ≡ reported_of e → receipt ≡ receipt_of number reported x
+    → audit ≡ x.reported_audit → later ≡ after h e (notes_in x)
     → Applies h e (applied_by receipt audit) later b
-applies-ok h e x world objects b number told receipt audit later fits happens same_number same_told made same_audit same_later =
+applies-ok h e x world objects b number reported receipt audit later fits happens same_number same_reported made same_audit same_later =
     let receipt_is : receipt ≡ next_receipt h e (notes_in x) =
-    made ∙ (λ i. record { number = same_number i; event = same_told i; egress = happens.egress i; reply = happens.same_reply i }) in
+    made ∙ (λ i. record { number = same_number i; event = same_reported i; egress = happens.egress i; reply = happens.same_reply i }) in
     applies_by h e (notes_in x) receipt audit later b fits (same_audit ∙ happens.same_audit)
     (entered_is h e x world objects b receipt audit later happens receipt_is same_audit same_later)

@@ -63,7 +63,7 @@ same_replay h e n entries w rest is =
 with_entry-ok : (h : History) (e : Event) (n : Notes) → MayBe h e n → IsLegal (rows_of h.objects) h.base h.entries
     → h.world ≡ replay (rows_of h.objects) h.base h.entries → AreAtRest h.objects → length h.entries < MAX_ENTRIES
     → (k : ℕ) × (h.base_number ≡ h.first + MAX_ENTRIES * k) → next_of h < last_number → IsHistory (with_entry h e n)
-with_entry-ok h e n m legal world_is rest room blocks fits =
+with_entry-ok h e n m legal world_is rest space blocks fits =
     let len = length-append h.entries (next_entry h e n ∷ []) in
     let entry = subst (λ (w : World). IsEntry (rows_of h.objects) w (next_entry h e n)) world_is (entry_is h e n m) in
     record {
@@ -133,17 +133,17 @@ entered-is_by h e n false (Some new) entry entries base base_number is moves en 
 entered-is_by h e n false None entry entries base base_number is moves en =
     λ i. entered h e n ((moves.0 ∙ ap (λ (x : Entry). h.entries ++ x ∷ []) en) i) (moves.1 i) (moves.2 i) (next_step h e n).world (next_step h e n).objects
 
-room_by : (h : History) (b : Bool) → (length h.entries == MAX_ENTRIES) ≡ b → (new : Option World) → IsHistory h
+space_by : (h : History) (b : Bool) → (length h.entries == MAX_ENTRIES) ≡ b → (new : Option World) → IsHistory h
     → new ≡ (if b then Some h.world else None) → new ≡ None → length h.entries < MAX_ENTRIES
-room_by h true test new ok is none = cc
-room_by h false test new ok is none =
+space_by h true test new ok is none = cc
+space_by h false test new ok is none =
     let other : length h.entries ≢ MAX_ENTRIES = grind (arith, nat_tests) in
     let most = ok.at_most in omega (arith, most, other)
 
 -- where the base does not move there is space for one more
-pub room-is : (h : History) (new : Option World) → IsHistory h
+pub space-is : (h : History) (new : Option World) → IsHistory h
     → new ≡ (if length h.entries == MAX_ENTRIES then Some h.world else None) → new ≡ None → length h.entries < MAX_ENTRIES
-room-is h new ok is none = room_by h (length h.entries == MAX_ENTRIES) refl new ok is none
+space-is h new ok is none = space_by h (length h.entries == MAX_ENTRIES) refl new ok is none
 
 -- what `enter` leaves is the history after the event, and it is legal
 pub entered-ok : (h : History) (e : Event) (n : Notes) (next : ℕ) (new : Option World) (entry : Entry) (entries : List Entry) (base : World) (base_number : ℕ) (world : World) (objects : List ObjectState)

@@ -18,28 +18,28 @@ use Rattle.setphase_core.specs.Outcomes.{SetNotes}
 use Rattle.agent_core.specs.Buffered.{Buffered}
 use Rattle.agent_core.specs.Sets.{no_notes}
 use Rattle.agent_core.specs.Answers as answers
-use Rattle.agent_core.specs.Answers.{Outcome, dropped, replied, audit_in, RequestNotes, nothing_met, met_by, unnamed_told, MayLackName, unnamed_outcome, unnamed_outcome_by, Shown, shown_of, outcome_of, outcome_by, reading_step, allowed_step, step_by, IsAnswered, IsTold, IsShort, MayFailInView, MayFailBy, MayHave, without_answer, notes_told}
+use Rattle.agent_core.specs.Answers.{Outcome, dropped, replied, audit_in, RequestNotes, nothing_met, met_by, unnamed_reported, MayLackName, unnamed_outcome, unnamed_outcome_by, Shown, shown_of, outcome_of, outcome_by, reading_step, allowed_step, step_by, IsAnswered, IsReported, IsShort, MayFailInView, MayFailBy, MayHave, without_answer, notes_reported}
 use Rattle.agent_core.specs.declared.answered.Answered.{Answered}
 use Rattle.agent_core.specs.declared.answered.Answered.TheVariants as answered
 use Rattle.history_core.specs.Steps.{Notes, step_of, octets_in, AreAtRest}
-use Rattle.history_core.specs.Happening.{audit_told, happened_by, HappensBy, Happens, notes_in}
+use Rattle.history_core.specs.Happening.{audit_reported, happened_by, HappensBy, Happens, notes_in}
 use Rattle.history_core.specs.declared.event.Event.TheVariants as event
-use Rattle.history_core.specs.declared.happening.Happened.{Happened}
+use Rattle.history_core.specs.declared.happening.EventOutcome.{EventOutcome}
 use Rattle.history_core.proofs.Stepping.{denied_stays, replied_stays, released-at_rest}
 
 -- What came of a request whose outcome this is.
-record ComesOf (o : Outcome) (h : Happened) (b : Buffered) : Type 0 where
+record ComesOf (o : Outcome) (h : EventOutcome) (b : Buffered) : Type 0 where
   egress : h.egress ≡ []
   reply : h.reply ≡ octets_in o
-  same_reply : h.told_reply ≡ octets_in o
+  same_reply : h.reported_reply ≡ octets_in o
   sent : b.reply ≡ unwrap_or (octets_in o) []
   audit : h.audit ≡ Some (audit_in o)
-  same_audit : h.told_audit ≡ Some (audit_in o)
+  same_audit : h.reported_audit ≡ Some (audit_in o)
 
 some_audit : (a b : Audit) → a ≡ b → Some a ≡ Some b
 some_audit a b e = ap (λ (x : Audit). Some x) e
 
-comes_of : (o : Outcome) (told : Answered) (b : Buffered) → IsAnswered o told b → ComesOf o (happened_by told b.reply) b
+comes_of : (o : Outcome) (reported : Answered) (b : Buffered) → IsAnswered o reported b → ComesOf o (happened_by reported b.reply) b
 comes_of (dropped cause own) (answered.Reply len audit failed) b h = absurd h
 comes_of (dropped cause own) (answered.Unnamed len audit i) b h = absurd h
 comes_of (dropped cause own) (answered.NoReply audit) b h =
@@ -55,7 +55,7 @@ comes_of (replied reply own) (answered.Unnamed len audit i) b h =
     record { egress = refl; reply = octets; same_reply = octets; sent = h.0; audit = same; same_audit = same }
 comes_of (replied reply own) (answered.NoReply audit) b h = absurd h
 
-audit_is : (o : Outcome) (told : Answered) (b : Buffered) → IsAnswered o told b → audit_told told ≡ audit_in o
+audit_is : (o : Outcome) (reported : Answered) (b : Buffered) → IsAnswered o reported b → audit_reported reported ≡ audit_in o
 audit_is (dropped cause own) (answered.Reply len audit failed) b h = absurd h
 audit_is (dropped cause own) (answered.Unnamed len audit i) b h = absurd h
 audit_is (dropped cause own) (answered.NoReply audit) b h = h.1
@@ -151,12 +151,12 @@ pub unnamed_is_read : (os : List ObjectState) (w : World) (r : Request) (audit :
 unfolding answers.step_of MayHave
 unnamed_is_read os w r audit len i b may h = unnamed_by os w r (decision_on w.policy r) audit len i b refl may h
 
-told_undoes_none : (os : List ObjectState) (w : World) (r : Request) (told : Answered) (b : Buffered)
-    → notes_told told ≡ no_notes → MayHave (rows_of os) w r (met_by told) → IsAnswered (answers.step_of os w r (met_by told)).outcome told b
-    → (audit_told told).unrestored ≡ []
-told_undoes_none os w r (answered.Reply len audit failed) b none may h = ap (λ (n : SetNotes). n.undos) none
-told_undoes_none os w r (answered.Unnamed len audit i) b none may h = unnamed_is_read os w r audit len i b may h
-told_undoes_none os w r (answered.NoReply audit) b none may h = undo_none os w r nothing_met audit b h
+reported_undoes_none : (os : List ObjectState) (w : World) (r : Request) (reported : Answered) (b : Buffered)
+    → notes_reported reported ≡ no_notes → MayHave (rows_of os) w r (met_by reported) → IsAnswered (answers.step_of os w r (met_by reported)).outcome reported b
+    → (audit_reported reported).unrestored ≡ []
+reported_undoes_none os w r (answered.Reply len audit failed) b none may h = ap (λ (n : SetNotes). n.undos) none
+reported_undoes_none os w r (answered.Unnamed len audit i) b none may h = unnamed_is_read os w r audit len i b may h
+reported_undoes_none os w r (answered.NoReply audit) b none may h = undo_none os w r nothing_met audit b h
 
 abbrev IsSet : Kind → Type 0
 IsSet Get = ⊥
@@ -164,29 +164,29 @@ IsSet GetNext = ⊥
 IsSet GetBulk = ⊥
 IsSet Set = Unit {0}
 
-room_by : (kind : Kind) (room : Bool) → (kind ≡ Set → room ≡ true) → ((kind ≢ Set) → ⊥) → room ≡ true
-room_by Get room given other = absurd (other (λ e. subst IsSet (sym e) tt))
-room_by GetNext room given other = absurd (other (λ e. subst IsSet (sym e) tt))
-room_by GetBulk room given other = absurd (other (λ e. subst IsSet (sym e) tt))
-room_by Set room given other = given refl
+space_by : (kind : Kind) (space : Bool) → (kind ≡ Set → space ≡ true) → ((kind ≢ Set) → ⊥) → space ≡ true
+space_by Get space given other = absurd (other (λ e. subst IsSet (sym e) tt))
+space_by GetNext space given other = absurd (other (λ e. subst IsSet (sym e) tt))
+space_by GetBulk space given other = absurd (other (λ e. subst IsSet (sym e) tt))
+space_by Set space given other = given refl
 
 -- Where a setting could not be restored there is space for it.
-pub undone_has_room : (os : List ObjectState) (w : World) (r : Request) (told : Answered) (b : Buffered) (later : World) (os_later : List ObjectState) (room : Bool)
-    → IsTold os w r told b later os_later → (r.kind ≡ Set → room ≡ true) → (audit_told told).unrestored ≢ [] → room ≡ true
-undone_has_room os w r told b later os_later room h given some =
-    room_by r.kind room given (λ reads. some (told_undoes_none os w r told b (meets_none (rows_of os) w r (met_by told) reads h.may) h.may h.done.answer))
+pub undone_has_space : (os : List ObjectState) (w : World) (r : Request) (reported : Answered) (b : Buffered) (later : World) (os_later : List ObjectState) (space : Bool)
+    → IsReported os w r reported b later os_later → (r.kind ≡ Set → space ≡ true) → (audit_reported reported).unrestored ≢ [] → space ≡ true
+undone_has_space os w r reported b later os_later space h given some =
+    space_by r.kind space given (λ reads. some (reported_undoes_none os w r reported b (meets_none (rows_of os) w r (met_by reported) reads h.may) h.may h.done.answer))
 
 -- ---- the outcome of an answered request
 
 abbrev pub notes_by : Answered → Notes
-notes_by told = record { no_room = false; devices = notes_told told; unnamed = unnamed_told told }
+notes_by reported = record { no_room = false; devices = notes_reported reported; unnamed = unnamed_reported reported }
 
-told_happens_by : (os : List ObjectState) (w : World) (r : Request) (told : Answered) (b : Buffered) (later : World) (os_later : List ObjectState)
-    → IsTold os w r told b later os_later
-    → HappensBy os w (event.Request r) (notes_by told) (happened_by told b.reply) os_later later b
+reported_happens_by : (os : List ObjectState) (w : World) (r : Request) (reported : Answered) (b : Buffered) (later : World) (os_later : List ObjectState)
+    → IsReported os w r reported b later os_later
+    → HappensBy os w (event.Request r) (notes_by reported) (happened_by reported b.reply) os_later later b
 unfolding step_of
-told_happens_by os w r told b later os_later h =
-    let t = comes_of _ told b h.done.answer in
+reported_happens_by os w r reported b later os_later h =
+    let t = comes_of _ reported b h.done.answer in
     record {
       may = (refl, h.may);
       by_plan = h.by_plan;
@@ -202,9 +202,9 @@ told_happens_by os w r told b later os_later h =
     }
 
 -- what is noted of it is what was reported
-same_notes : (os : List ObjectState) (w : World) (r : Request) (told : Answered) (b : Buffered)
-    → MayHave (rows_of os) w r (met_by told) → IsAnswered (answers.step_of os w r (met_by told)).outcome told b
-    → notes_by told ≡ notes_in (happened_by told b.reply)
+same_notes : (os : List ObjectState) (w : World) (r : Request) (reported : Answered) (b : Buffered)
+    → MayHave (rows_of os) w r (met_by reported) → IsAnswered (answers.step_of os w r (met_by reported)).outcome reported b
+    → notes_by reported ≡ notes_in (happened_by reported b.reply)
 same_notes os w r (answered.Reply len audit failed) b may h = refl
 same_notes os w r (answered.Unnamed len audit number) b may h =
     let none = unnamed_is_read os w r audit len number b may h in
@@ -214,35 +214,35 @@ same_notes os w r (answered.NoReply audit) b may h =
     λ i. record { no_room = false; devices = record { commit = None; undos = sym none i }; unnamed = None }
 
 -- An answered request is its step.
-pub told_happens : (os : List ObjectState) (w : World) (r : Request) (told : Answered) (b : Buffered) (later : World) (os_later : List ObjectState)
-    → IsTold os w r told b later os_later → Happens os w (event.Request r) (happened_by told b.reply) os_later later b
-told_happens os w r told b later os_later h =
-    subst (λ (n : Notes). HappensBy os w (event.Request r) n (happened_by told b.reply) os_later later b)
-    (same_notes os w r told b h.may h.done.answer) (told_happens_by os w r told b later os_later h)
+pub reported_happens : (os : List ObjectState) (w : World) (r : Request) (reported : Answered) (b : Buffered) (later : World) (os_later : List ObjectState)
+    → IsReported os w r reported b later os_later → Happens os w (event.Request r) (happened_by reported b.reply) os_later later b
+reported_happens os w r reported b later os_later h =
+    subst (λ (n : Notes). HappensBy os w (event.Request r) n (happened_by reported b.reply) os_later later b)
+    (same_notes os w r reported b h.may h.done.answer) (reported_happens_by os w r reported b later os_later h)
 
 -- ---- where there was no memory nothing has changed
 
 -- Where an audit names a denied variable nothing has changed.
-pub told_stays : (os : List ObjectState) (w : World) (r : Request) (told : Answered) (b : Buffered) (later : World) (os_later : List ObjectState)
-    → AreAtRest os → IsTold os w r told b later os_later → (audit_told told).denied ≢ [] → (later ≡ w) × (os_later ≡ os)
-told_stays os w r told b later os_later rest h some =
-    let same = audit_is _ told b h.done.answer in
+pub reported_stays : (os : List ObjectState) (w : World) (r : Request) (reported : Answered) (b : Buffered) (later : World) (os_later : List ObjectState)
+    → AreAtRest os → IsReported os w r reported b later os_later → (audit_reported reported).denied ≢ [] → (later ≡ w) × (os_later ≡ os)
+reported_stays os w r reported b later os_later rest h some =
+    let same = audit_is _ reported b h.done.answer in
     let stays = denied_stays os w r _ rest h.may (λ none. some (ap (λ (a : Audit). a.denied) same ∙ none)) in
     (h.done.world ∙ stays.world, h.done.objects_after ∙ stays.objects)
 
 -- Where a request that is no Set has a reply nothing has changed.
-pub read_stays : (os : List ObjectState) (w : World) (r : Request) (told : Answered) (b : Buffered) (later : World) (os_later : List ObjectState)
-    → IsTold os w r told b later os_later → r.kind ≢ Set → b.reply ≢ [] → (later ≡ w) × (os_later ≡ os)
-read_stays os w r told b later os_later h reads some =
-    let sent = (comes_of _ told b h.done.answer).sent in
+pub read_stays : (os : List ObjectState) (w : World) (r : Request) (reported : Answered) (b : Buffered) (later : World) (os_later : List ObjectState)
+    → IsReported os w r reported b later os_later → r.kind ≢ Set → b.reply ≢ [] → (later ≡ w) × (os_later ≡ os)
+read_stays os w r reported b later os_later h reads some =
+    let sent = (comes_of _ reported b h.done.answer).sent in
     let stays = replied_stays os w r _ reads (λ none. some (sent ∙ none)) in
     (h.done.world ∙ stays.world, h.done.objects_after ∙ stays.objects)
 
 -- The same where its reply has more octets than some number.
-pub long_read_stays : (os : List ObjectState) (w : World) (r : Request) (told : Answered) (b : Buffered) (later : World) (os_later : List ObjectState) (reply : List ℕ) (n : ℕ)
-    → IsTold os w r told b later os_later → r.kind ≢ Set → reply ≡ b.reply → n < length reply → (later ≡ w) × (os_later ≡ os)
-long_read_stays os w r told b later os_later reply n h reads same long =
-    read_stays os w r told b later os_later h reads (λ none.
+pub long_read_stays : (os : List ObjectState) (w : World) (r : Request) (reported : Answered) (b : Buffered) (later : World) (os_later : List ObjectState) (reply : List ℕ) (n : ℕ)
+    → IsReported os w r reported b later os_later → r.kind ≢ Set → reply ≡ b.reply → n < length reply → (later ≡ w) × (os_later ≡ os)
+long_read_stays os w r reported b later os_later reply n h reads same long =
+    read_stays os w r reported b later os_later h reads (λ none.
     let empty : length reply ≡ 0 = ap length (same ∙ none) in
     absurd (omega arith))
 
@@ -258,16 +258,16 @@ short_stays os w r b later os_later rest h = (h.unchanged, h.kept ∙ without_an
 
 -- ---- the same of what may have found no memory
 
-pub came_happens : (os : List ObjectState) (w : World) (r : Request) (told : Answered) (reply : List ℕ) (b : Buffered) (later : World) (os_later : List ObjectState) (h : Happened) (result : Result (Unit {0}) AllocError)
-    → IsTold os w r told b later os_later → reply ≡ b.reply → OnOk result (h ≡ happened_by told reply)
+pub came_happens : (os : List ObjectState) (w : World) (r : Request) (reported : Answered) (reply : List ℕ) (b : Buffered) (later : World) (os_later : List ObjectState) (h : EventOutcome) (result : Result (Unit {0}) AllocError)
+    → IsReported os w r reported b later os_later → reply ≡ b.reply → OnOk result (h ≡ happened_by reported reply)
     → OnOk result (Happens os w (event.Request r) h os_later later b)
-came_happens os w r told reply b later os_later h (Ok u) is same came =
-    subst (λ (x : Happened). Happens os w (event.Request r) x os_later later b)
-    (sym (came ∙ ap (λ (octets : List ℕ). happened_by told octets) same)) (told_happens os w r told b later os_later is)
-came_happens os w r told reply b later os_later h (Err e) is same came = tt
+came_happens os w r reported reply b later os_later h (Ok u) is same came =
+    subst (λ (x : EventOutcome). Happens os w (event.Request r) x os_later later b)
+    (sym (came ∙ ap (λ (octets : List ℕ). happened_by reported octets) same)) (reported_happens os w r reported b later os_later is)
+came_happens os w r reported reply b later os_later h (Err e) is same came = tt
 
-pub came_stays : (os : List ObjectState) (w : World) (r : Request) (told : Answered) (b : Buffered) (later : World) (os_later : List ObjectState) (result : Result (Unit {0}) AllocError)
-    → AreAtRest os → IsTold os w r told b later os_later → OnErr result ((audit_told told).denied ≢ [])
+pub came_stays : (os : List ObjectState) (w : World) (r : Request) (reported : Answered) (b : Buffered) (later : World) (os_later : List ObjectState) (result : Result (Unit {0}) AllocError)
+    → AreAtRest os → IsReported os w r reported b later os_later → OnErr result ((audit_reported reported).denied ≢ [])
     → OnErr result (later ≡ w) × OnErr result (os_later ≡ os)
-came_stays os w r told b later os_later (Ok u) rest is came = (tt, tt)
-came_stays os w r told b later os_later (Err e) rest is came = told_stays os w r told b later os_later rest is came
+came_stays os w r reported b later os_later (Ok u) rest is came = (tt, tt)
+came_stays os w r reported b later os_later (Err e) rest is came = reported_stays os w r reported b later os_later rest is came

@@ -10,7 +10,7 @@ use Rattle.decision.specs.declared.choice.Decision.{Decision}
 use Rattle.decision.specs.declared.choice.Decision.TheVariants.{Drop, Empty, Refused, Allowed}
 use Rattle.frame_core.specs.declared.frame.FrameIn.{FrameIn}
 use Rattle.rstp_settings.specs.declared.key.Key.{Key}
-use Rattle.setphase_core.specs.declared.sets.Refusal.{Refusal}
+use Rattle.setphase_core.specs.declared.sets.SetRefusal.{SetRefusal}
 use Rattle.setphase_core.specs.declared.world.World.{World}
 use Rattle.setphase_core.specs.Objects.{ObjectRow, ObjectState, object_after_release}
 use Rattle.setphase_core.specs.Registry.{rows_of}
@@ -305,7 +305,7 @@ notes_deny_none : (commit : Option ℕ) (undos : List Key) → (answer_of_notes 
 notes_deny_none None undos = refl
 notes_deny_none (Some i) undos = failure_denies_none i undos
 
-tested_stays_by : (os : List ObjectState) (w : World) (view : List ℕ) (r : Request) (n : SetNotes) (refusal : Option Refusal)
+tested_stays_by : (os : List ObjectState) (w : World) (view : List ℕ) (r : Request) (n : SetNotes) (refusal : Option SetRefusal)
     → AreAtRest os → MayFail refusal (writings (rows_of os) w r.bindings) n
     → ((set_answer w.policy.vacm.families refusal n).denied ≢ [])
     → (settled_world w (world_after_set refusal (writings (rows_of os) w r.bindings) w n) ≡ w)

@@ -7,7 +7,7 @@ use Rattle.message_core.specs.declared.cause.DropCause.{DropCause}
 use Rattle.message_core.specs.declared.limits.TheConstants.{MAX_REQUEST}
 use Rattle.message_core.specs.declared.request.Kind.TheVariants.{Get}
 use Rattle.message_core.specs.declared.request.Request.{Request}
-use Rattle.history_core.specs.Receipts.{told_of}
+use Rattle.history_core.specs.Receipts.{reported_of}
 use Rattle.history_core.specs.declared.duplicate.Duplicate.{Duplicate}
 use Rattle.history_core.specs.declared.duplicate.Duplicate.TheVariants.{Encoded, Copied}
 use Rattle.history_core.specs.declared.event.Event.{Event}
@@ -54,7 +54,7 @@ IsEncodedEvent octets (event.Request r) = IsEncodingOf octets r
 -- other event what a receipt reports of it.
 abbrev pub IsDuplicateOf : Event → Duplicate → Type 0
 IsDuplicateOf e (Encoded octets) = IsEncodedEvent octets e
-IsDuplicateOf e (Copied told) = (¬ IsKeptEncoded e) × (told ≡ told_of e)
+IsDuplicateOf e (Copied reported) = (¬ IsKeptEncoded e) × (reported ≡ reported_of e)
 
 -- the request of an event that is one
 abbrev pub request_of : Event → Option Request

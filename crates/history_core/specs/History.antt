@@ -7,7 +7,7 @@ use Rattle.setphase_core.specs.Calls.{FollowPlans}
 use Rattle.setphase_core.specs.Registry.{rows_of}
 use Rattle.setphase_core.specs.declared.world.World.{World}
 use Rattle.agent_core.specs.Buffered.{Buffered}
-use Rattle.history_core.specs.Receipts.{told_of}
+use Rattle.history_core.specs.Receipts.{reported_of}
 use Rattle.history_core.specs.Steps.{Notes, Step, step_of, event_calls, MayNote, AreAtRest, cause_of, MayTakeMemory, failure_octets}
 use Rattle.history_core.specs.declared.applied.Applied.{Applied}
 use Rattle.history_core.specs.declared.applied.Applied.TheVariants.{Done, Dropped, Short, HistoryFull}
@@ -152,7 +152,7 @@ after h e notes = with_entry (history_before_entry h) e notes
 abbrev pub next_receipt : History → Event → Notes → Receipt
 next_receipt h e notes = record {
   number = next_of h;
-  event = told_of e;
+  event = reported_of e;
   egress = (next_step h e notes).egress;
   reply = (next_step h e notes).reply;
 }

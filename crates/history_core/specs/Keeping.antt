@@ -11,7 +11,7 @@ use Rattle.history_core.specs.declared.applied.Applied.TheVariants.{Done, Droppe
 use Rattle.history_core.specs.declared.entry.Entry.{Entry}
 use Rattle.history_core.specs.declared.event.Event.{Event}
 use Rattle.history_core.specs.declared.event.ReceiptEvent.{ReceiptEvent}
-use Rattle.history_core.specs.declared.happening.Happened.{Happened}
+use Rattle.history_core.specs.declared.happening.EventOutcome.{EventOutcome}
 use Rattle.history_core.specs.declared.limits.TheConstants.{MAX_ENTRIES}
 use Rattle.history_core.specs.declared.receipt.Receipt.{Receipt}
 
@@ -25,7 +25,7 @@ abbrev pub due_base : History → Option World
 due_base h = if length h.entries == MAX_ENTRIES then Some h.world else None
 
 -- the entry of an event of this outcome, and its receipt under a number
-abbrev pub entry_of : Event → Happened → Entry
+abbrev pub entry_of : Event → EventOutcome → Entry
 entry_of e x = record {
   event = e;
   no_room = x.no_room;
@@ -36,12 +36,12 @@ entry_of e x = record {
   audit = x.audit;
 }
 
-abbrev pub receipt_of : ℕ → ReceiptEvent → Happened → Receipt
-receipt_of number told x = record {
+abbrev pub receipt_of : ℕ → ReceiptEvent → EventOutcome → Receipt
+receipt_of number reported x = record {
   number = number;
-  event = told;
+  event = reported;
   egress = x.egress;
-  reply = x.told_reply;
+  reply = x.reported_reply;
 }
 
 -- Where there is a new base, it takes the place of the old one and of all entries; then there is an

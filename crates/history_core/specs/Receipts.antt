@@ -5,24 +5,24 @@ use Rattle.history_core.specs.declared.entry.Entry.{Entry}
 use Rattle.history_core.specs.declared.event.Event.{Event}
 use Rattle.history_core.specs.declared.event.Event.TheVariants as event
 use Rattle.history_core.specs.declared.event.ReceiptEvent.{ReceiptEvent}
-use Rattle.history_core.specs.declared.event.ReceiptEvent.TheVariants as told
+use Rattle.history_core.specs.declared.event.ReceiptEvent.TheVariants as reported
 use Rattle.history_core.specs.declared.receipt.Receipt.{Receipt}
 
 -- all of an event, but of a policy that it was one
-abbrev pub told_of : Event → ReceiptEvent
-told_of (event.Frame port frame) = told.Frame port frame
-told_of event.Tick = told.Tick
-told_of (event.Link port up) = told.Link port up
-told_of (event.Policy tables) = told.Policy
-told_of (event.Request request) = told.Request request
+abbrev pub reported_of : Event → ReceiptEvent
+reported_of (event.Frame port frame) = reported.Frame port frame
+reported_of event.Tick = reported.Tick
+reported_of (event.Link port up) = reported.Link port up
+reported_of (event.Policy tables) = reported.Policy
+reported_of (event.Request request) = reported.Request request
 
 -- A copy takes memory: of a request with a long community or with variable bindings.
 abbrev pub TakesMemory : ReceiptEvent → Type 0
-TakesMemory (told.Frame port frame) = ⊥
-TakesMemory told.Tick = ⊥
-TakesMemory (told.Link port up) = ⊥
-TakesMemory told.Policy = ⊥
-TakesMemory (told.Request request) =
+TakesMemory (reported.Frame port frame) = ⊥
+TakesMemory reported.Tick = ⊥
+TakesMemory (reported.Link port up) = ⊥
+TakesMemory reported.Policy = ⊥
+TakesMemory (reported.Request request) =
     (INLINE_OCTETS < length request.community) ⊎ (request.bindings ≢ [])
 
 -- there is a reply, and a copy of it takes memory
@@ -31,7 +31,7 @@ IsLong reply = IfSome reply (λ octets. INLINE_OCTETS < length octets)
 
 -- a receipt is that of an entry, whatever the number: event, egress and reply are the entry's
 pub record IsReceiptOf (entry : Entry) (receipt : Receipt) : Type 0 where
-  pub event : told_of entry.event ≡ receipt.event
+  pub event : reported_of entry.event ≡ receipt.event
   pub egress : entry.egress ≡ receipt.egress
   pub reply : entry.reply ≡ receipt.reply
 

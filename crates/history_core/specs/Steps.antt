@@ -136,14 +136,14 @@ event_calls rows w (event.Request request) notes = request_calls rows w request 
 -- What may be noted of an event: no memory for a learned row only of a frame at a port that is there
 -- whose source is to have a row of its own, failed calls of devices only of a Set that makes them, and
 -- no memory for a name only of a GetNext or a GetBulk that makes a long one.
-pub record MayLackRoom (b : BridgeState) (port : ℕ) (frame : FrameIn) : Type 0 where
+pub record MayLackSpace (b : BridgeState) (port : ℕ) (frame : FrameIn) : Type 0 where
   pub port_is_there : IsTrue (has_port b port)
   pub lacks : MayLackMemory b port frame
 
 abbrev pub MayNote : List ObjectRow → World → Event → Notes → Type 0
 MayNote rows w (event.Frame port frame) notes =
     (notes.devices ≡ no_notes) × (notes.unnamed ≡ None)
-    × (notes.no_room ≡ true → MayLackRoom w.bridge port frame)
+    × (notes.no_room ≡ true → MayLackSpace w.bridge port frame)
 MayNote rows w event.Tick notes = notes ≡ nothing_noted
 MayNote rows w (event.Link port up) notes = notes ≡ nothing_noted
 MayNote rows w (event.Policy tables) notes = notes ≡ nothing_noted

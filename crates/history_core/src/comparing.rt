@@ -24,7 +24,7 @@ pub struct Mismatch(pub u64);
 fn is_receipt_of(entry: &Entry, receipt: &Receipt) -> bool
     ensures { IsTrue result ↔ IsReceiptOf entry.now receipt.now }
 {
-    entry.event.is_told_by(&receipt.event)
+    entry.event.is_reported_by(&receipt.event)
         && entry.egress.same(&receipt.egress)
         && same_reply(&entry.reply, &receipt.reply)
 }

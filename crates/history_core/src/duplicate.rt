@@ -3,7 +3,7 @@ ghost use Rattle.std.specs.Prelude.{◌≡◌, ◌≢◌, ◌↔◌, [], IsTrue,
 ghost use Rattle.message_core.specs.Encodable.{AreEncodable};
 ghost use Rattle.message_core.specs.declared.request.Request.{Request};
 ghost use Rattle.history_core.specs.Encoded.{IsShort, IsEncodingOf, IsDuplicateOf};
-ghost use Rattle.history_core.specs.Receipts.{told_of, TakesMemory};
+ghost use Rattle.history_core.specs.Receipts.{reported_of, TakesMemory};
 ghost use Rattle.history_core.specs.Steps.{IsEncodable};
 
 use crate::event::{Event, ReceiptEvent};
@@ -30,14 +30,14 @@ impl Duplicate {
     pub fn of(alloc: Global, event: &Event) -> Result<Duplicate, AllocError>
         requires { IsEncodable event.now }
         ensures value { IfOk result (λ duplicate. IsDuplicateOf event.now duplicate) }
-        ensures some { OnErr result (TakesMemory (told_of event.now)) }
+        ensures some { OnErr result (TakesMemory (reported_of event.now)) }
     {
         if let Event::Request(request) = event {
             if let Some(octets) = encoding(alloc, request)? {
                 return Ok(Duplicate::Encoded(octets));
             }
         }
-        Ok(Duplicate::Copied(event.told(alloc)?))
+        Ok(Duplicate::Copied(event.reported(alloc)?))
     }
 }
 

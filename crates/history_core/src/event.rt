@@ -1,7 +1,7 @@
 //! What happens to an agent.
 ghost use Rattle.std.specs.Prelude.{◌≡◌, ◌↔◌, IsTrue, IfOk, OnErr};
-ghost use Rattle.history_core.specs.Receipts.{told_of, TakesMemory};
-ghost use Rattle.history_core.specs.declared.event.ReceiptEvent.{ReceiptEvent as Told};
+ghost use Rattle.history_core.specs.Receipts.{reported_of, TakesMemory};
+ghost use Rattle.history_core.specs.declared.event.ReceiptEvent.{ReceiptEvent as Reported};
 
 use community_core::Policy;
 use frame_core::FrameIn;
@@ -61,9 +61,9 @@ pub enum ReceiptEvent {
 impl Event {
     /// What a receipt reports of this event. Takes memory only for a request with a community of more
     /// than `INLINE_OCTETS` octets or with variable bindings.
-    pub fn told(&self, alloc: Global) -> Result<ReceiptEvent, AllocError>
-        ensures value { IfOk result (λ told. told ≡ told_of self.now) }
-        ensures some { OnErr result (TakesMemory (told_of self.now)) }
+    pub fn reported(&self, alloc: Global) -> Result<ReceiptEvent, AllocError>
+        ensures value { IfOk result (λ reported. reported ≡ reported_of self.now) }
+        ensures some { OnErr result (TakesMemory (reported_of self.now)) }
     {
         Ok(match self {
             Event::Frame { port, frame } => ReceiptEvent::Frame {
@@ -81,10 +81,10 @@ impl Event {
     }
 
     /// Whether a receipt with this reports this event. Takes no memory.
-    pub fn is_told_by(&self, told: &ReceiptEvent) -> bool
-        ensures { IsTrue result ↔ (told_of self.now ≡ told.now) }
+    pub fn is_reported_by(&self, reported: &ReceiptEvent) -> bool
+        ensures { IsTrue result ↔ (reported_of self.now ≡ reported.now) }
     {
-        match (self, told) {
+        match (self, reported) {
             (
                 Event::Frame { port, frame },
                 ReceiptEvent::Frame {

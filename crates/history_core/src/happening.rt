@@ -5,22 +5,22 @@ ghost use Rattle.message_core.specs.Encodable.{AreEncodable};
 ghost use Rattle.message_core.specs.declared.limits.TheConstants.{INLINE_OCTETS};
 ghost use Rattle.setphase_core.specs.Objects.{ObjectState};
 ghost use Rattle.history_core.specs.Steps.{has_port, cause_in, IsEncodable, AreAtRest, MayTakeMemory, failure_octets};
-ghost use Rattle.history_core.specs.Happening.{quiet, audit_told, happened_by, Happens};
+ghost use Rattle.history_core.specs.Happening.{quiet, audit_reported, happened_by, Happens};
 
 use crate::egress::Egress;
 use crate::event::Event;
 use agent_core::{Answered, Buffer, answer, short_reply};
-use audit_core::{Audit, UnrestoredRoom};
+use audit_core::{Audit, UnrestoredSpace};
 use bridge_core::Bridge;
 use decision::{Cause, Decision, decide};
 use frame_core::FrameIn;
-use message_core::{Kind, MAX_REPLY, Octets, Request, Room};
+use message_core::{Kind, MAX_REPLY, Octets, Request, ReservedOctets};
 use setphase_core::{MibObject, Registry, World};
 use std::alloc::{AllocError, Global};
 
 /// What became of an event, beside what stands in the buffer.
 #[derive(Drop)]
-pub struct Happened {
+pub struct EventOutcome {
     /// Whether there was no memory for the learned row of a frame's source.
     pub no_room: bool,
     /// The number of the variable whose commit failed in a Set.
@@ -33,26 +33,26 @@ pub struct Happened {
     /// The octets of the reply to a request that is not dropped.
     pub reply: Option<Octets>,
     /// A copy of them.
-    pub told_reply: Option<Octets>,
+    pub reported_reply: Option<Octets>,
     /// The audit of a request.
     pub audit: Option<Audit>,
     /// A copy of it.
-    pub told_audit: Option<Audit>,
+    pub reported_audit: Option<Audit>,
 }
 
 /// What became of an event that is no frame and no request.
-pub fn quiet() -> Happened
+pub fn quiet() -> EventOutcome
     ensures { result ≡ quiet }
 {
-    Happened {
+    EventOutcome {
         no_room: false,
         failed: None,
         unnamed: None,
         egress: Egress::none(),
         reply: None,
-        told_reply: None,
+        reported_reply: None,
         audit: None,
-        told_audit: None,
+        reported_audit: None,
     }
 }
 
@@ -69,7 +69,7 @@ fn take_frame(
     port: u16,
     frame: &FrameIn,
     buffer: &mut Buffer,
-    happened: &mut Happened,
+    happened: &mut EventOutcome,
 )
     requires reply { buffer.old.reply ≡ [] }
     requires bpdus { buffer.old.bpdus ≡ [] }
@@ -111,50 +111,50 @@ fn turn_link(world: &mut World, port: u16, up: bool, buffer: &mut Buffer)
 // A reply and its copy. They take memory only for more than `INLINE_OCTETS`.
 fn copies(alloc: Global, reply: &[u8]) -> Result<(Octets, Octets), AllocError>
     ensures entered { IfOk result (λ replies. replies.0 ≡ reply.now) }
-    ensures told { IfOk result (λ replies. replies.1 ≡ reply.now) }
+    ensures reported { IfOk result (λ replies. replies.1 ≡ reply.now) }
     ensures inline { OnErr result (INLINE_OCTETS < length reply.now) }
 {
     let entered = Octets::from_slice(alloc, reply)?;
-    let told = entered.try_copy(alloc)?;
-    Ok((entered, told))
+    let reported = entered.try_copy(alloc)?;
+    Ok((entered, reported))
 }
 
 // Memory for a reply and its copy, reserved where want of memory can still be reported.
 #[derive(Drop)]
-struct Rooms {
-    entered: Room,
-    told: Room,
+struct ReservedReplies {
+    entered: ReservedOctets,
+    reported: ReservedOctets,
 }
 
 // What is reserved for a Set, and for no other request: memory for its reply and its copy, and for the
 // settings that could not be restored, in its audit and in the copy of that.
 #[derive(Drop)]
 struct Reserved {
-    replies: Option<Rooms>,
-    entered: UnrestoredRoom,
-    told: UnrestoredRoom,
+    replies: Option<ReservedReplies>,
+    entered: UnrestoredSpace,
+    reported: UnrestoredSpace,
 }
 
-impl Rooms {
+impl ReservedReplies {
     // Memory for any reply, twice.
-    fn reserved(alloc: Global) -> Result<Rooms, AllocError>
-        ensures entered { IfOk result (λ rooms. MAX_REPLY ≤ rooms.entered) }
-        ensures told { IfOk result (λ rooms. MAX_REPLY ≤ rooms.told) }
+    fn reserved(alloc: Global) -> Result<ReservedReplies, AllocError>
+        ensures entered { IfOk result (λ spaces. MAX_REPLY ≤ spaces.entered) }
+        ensures reported { IfOk result (λ spaces. MAX_REPLY ≤ spaces.reported) }
     {
-        let entered = Room::reserved(alloc, MAX_REPLY)?;
-        let told = Room::reserved(alloc, MAX_REPLY)?;
-        Ok(Rooms { entered, told })
+        let entered = ReservedOctets::reserved(alloc, MAX_REPLY)?;
+        let reported = ReservedOctets::reserved(alloc, MAX_REPLY)?;
+        Ok(ReservedReplies { entered, reported })
     }
 
     // A reply and its copy.
     fn filled(self, reply: &[u8]) -> (Octets, Octets)
         requires entered { length reply.now ≤ self.entered }
-        requires told { length reply.now ≤ self.told }
+        requires reported { length reply.now ≤ self.reported }
         ensures entered { result.0 ≡ reply.now }
-        ensures told { result.1 ≡ reply.now }
+        ensures reported { result.1 ≡ reply.now }
     {
-        let Rooms { entered, told } = self;
-        (entered.filled(reply), told.filled(reply))
+        let ReservedReplies { entered, reported } = self;
+        (entered.filled(reply), reported.filled(reply))
     }
 }
 
@@ -164,20 +164,20 @@ fn reserved_for(alloc: Global, kind: Kind) -> Result<Reserved, AllocError>
     ensures set { IfOk result (λ reserved. reserved.replies ≡ None → kind ≢ Kind.Set) }
     ensures entered { IfOk result (λ reserved.
         ForSome reserved.replies (λ r. MAX_REPLY ≤ r.entered)) }
-    ensures told { IfOk result (λ reserved. ForSome reserved.replies (λ r. MAX_REPLY ≤ r.told)) }
+    ensures reported { IfOk result (λ reserved. ForSome reserved.replies (λ r. MAX_REPLY ≤ r.reported)) }
     ensures entered_keys { IfOk result (λ reserved. kind ≡ Kind.Set → reserved.entered ≡ true) }
-    ensures told_keys { IfOk result (λ reserved. kind ≡ Kind.Set → reserved.told ≡ true) }
+    ensures reported_keys { IfOk result (λ reserved. kind ≡ Kind.Set → reserved.reported ≡ true) }
 {
     match kind {
         Kind::Set => Ok(Reserved {
-            replies: Some(Rooms::reserved(alloc)?),
-            entered: UnrestoredRoom::reserved(alloc)?,
-            told: UnrestoredRoom::reserved(alloc)?,
+            replies: Some(ReservedReplies::reserved(alloc)?),
+            entered: UnrestoredSpace::reserved(alloc)?,
+            reported: UnrestoredSpace::reserved(alloc)?,
         }),
         Kind::Get | Kind::GetNext | Kind::GetBulk => Ok(Reserved {
             replies: None,
-            entered: UnrestoredRoom::none(),
-            told: UnrestoredRoom::none(),
+            entered: UnrestoredSpace::none(),
+            reported: UnrestoredSpace::none(),
         }),
     }
 }
@@ -186,20 +186,20 @@ fn reserved_for(alloc: Global, kind: Kind) -> Result<Reserved, AllocError>
 // reserved, if anything was.
 fn replies_in(
     alloc: Global,
-    rooms: Option<Rooms>,
+    spaces: Option<ReservedReplies>,
     reply: &[u8],
 ) -> Result<(Octets, Octets), AllocError>
-    requires entered { ForSome rooms (λ r. length reply.now ≤ r.entered) }
-    requires told { ForSome rooms (λ r. length reply.now ≤ r.told) }
+    requires entered { ForSome spaces (λ r. length reply.now ≤ r.entered) }
+    requires reported { ForSome spaces (λ r. length reply.now ≤ r.reported) }
     ensures entered { IfOk result (λ replies. replies.0 ≡ reply.now) }
-    ensures told { IfOk result (λ replies. replies.1 ≡ reply.now) }
-    ensures none { OnErr result (rooms ≡ None) }
+    ensures reported { IfOk result (λ replies. replies.1 ≡ reply.now) }
+    ensures none { OnErr result (spaces ≡ None) }
     ensures inline { OnErr result (INLINE_OCTETS < length reply.now) }
 {
     match copies(alloc, reply) {
         Ok(own) => Ok(own),
-        Err(error) => match rooms {
-            Some(rooms) => Ok(rooms.filled(reply)),
+        Err(error) => match spaces {
+            Some(spaces) => Ok(spaces.filled(reply)),
             None => Err(error),
         },
     }
@@ -208,39 +208,39 @@ fn replies_in(
 // The outcome of an answered request, where these octets are its reply, if it has one, and the settings
 // that could not be restored are copied into this memory. The entry keeps the copy of the audit, whose
 // list of denied bindings takes no more memory than it needs.
-fn come_to(
+fn record_outcome(
     alloc: Global,
     answered: Answered,
     replies: (Octets, Octets),
-    room: UnrestoredRoom,
-    happened: &mut Happened,
+    space: UnrestoredSpace,
+    happened: &mut EventOutcome,
 ) -> Result<(), AllocError>
     requires replies { replies.0 ≡ replies.1 }
-    requires room { (audit_told answered).unrestored ≢ [] → room ≡ true }
+    requires space { (audit_reported answered).unrestored ≢ [] → space ≡ true }
     requires quiet { happened.old ≡ quiet }
     ensures happened { OnOk result (happened.new ≡ happened_by answered replies.0) }
-    ensures denied { OnErr result ((audit_told answered).denied ≢ []) }
+    ensures denied { OnErr result ((audit_reported answered).denied ≢ []) }
 {
     match answered {
         Answered::Reply(_, audit, failed) => {
-            let (reply, told_reply) = replies;
-            happened.audit = Some(audit.try_copy_in(alloc, room)?);
-            happened.told_audit = Some(audit);
+            let (reply, reported_reply) = replies;
+            happened.audit = Some(audit.try_copy_in(alloc, space)?);
+            happened.reported_audit = Some(audit);
             happened.failed = failed;
             happened.reply = Some(reply);
-            happened.told_reply = Some(told_reply);
+            happened.reported_reply = Some(reported_reply);
         }
         Answered::Unnamed(_, audit, number) => {
-            let (reply, told_reply) = replies;
-            happened.audit = Some(audit.try_copy_in(alloc, room)?);
-            happened.told_audit = Some(audit);
+            let (reply, reported_reply) = replies;
+            happened.audit = Some(audit.try_copy_in(alloc, space)?);
+            happened.reported_audit = Some(audit);
             happened.unnamed = Some(number);
             happened.reply = Some(reply);
-            happened.told_reply = Some(told_reply);
+            happened.reported_reply = Some(reported_reply);
         }
         Answered::NoReply(audit) => {
-            happened.audit = Some(audit.try_copy_in(alloc, room)?);
-            happened.told_audit = Some(audit);
+            happened.audit = Some(audit.try_copy_in(alloc, space)?);
+            happened.reported_audit = Some(audit);
         }
     }
     Ok(())
@@ -255,7 +255,7 @@ fn answer_request<O: MibObject>(
     world: &mut World,
     request: &Request,
     buffer: &mut Buffer,
-    happened: &mut Happened,
+    happened: &mut EventOutcome,
 ) -> Result<(), AllocError>
     requires encodable { AreEncodable request.now.bindings }
     requires at_rest { AreAtRest registry.old }
@@ -266,13 +266,13 @@ fn answer_request<O: MibObject>(
     ensures objects { OnErr result (registry.new ≡ registry.old) }
 {
     let Reserved {
-        replies: rooms,
+        replies: spaces,
         entered,
-        told,
+        reported,
     } = reserved_for(alloc, request.kind)?;
     let answered = answer(alloc, registry, world, request, buffer, entered)?;
-    let replies = replies_in(alloc, rooms, buffer.reply())?;
-    come_to(alloc, answered, replies, told, happened)
+    let replies = replies_in(alloc, spaces, buffer.reply())?;
+    record_outcome(alloc, answered, replies, reported, happened)
 }
 
 /// An event happens. What becomes of it is put into a place that is lent for it, and quiet, so that it
@@ -283,7 +283,7 @@ pub fn happen<O: MibObject>(
     world: &mut World,
     event: &Event,
     buffer: &mut Buffer,
-    happened: &mut Happened,
+    happened: &mut EventOutcome,
 ) -> Result<(), AllocError>
     requires encodable { IsEncodable event.now }
     requires at_rest { AreAtRest registry.old }

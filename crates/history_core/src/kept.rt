@@ -8,7 +8,7 @@ use crate::duplicate::Duplicate;
 use crate::entries::Entries;
 use crate::entry::Entry;
 use crate::event::{Event, ReceiptEvent};
-use crate::happening::{Happened, cause_in, happen, put_failure, quiet};
+use crate::happening::{EventOutcome, cause_in, happen, put_failure, quiet};
 use crate::kept_event::{KeptEvent, parted};
 use crate::limits::MAX_ENTRIES;
 use crate::receipt::Receipt;
@@ -78,7 +78,7 @@ struct Ready {
 
 impl<O: MibObject> Kept<O> {
     ghost use Rattle.history_core.specs.Steps.{IsEncodable};
-    ghost use Rattle.history_core.specs.Receipts.{told_of, TakesMemory};
+    ghost use Rattle.history_core.specs.Receipts.{reported_of, TakesMemory};
     ghost use Rattle.history_core.specs.Encoded.{IsDuplicateOf};
     ghost use Rattle.std.specs.Prelude.{MatchResult};
     ghost use Rattle.history_core.specs.Comparing.{IsTallied, BreaksFirst};
@@ -246,7 +246,7 @@ impl<O: MibObject> Kept<O> {
     ) -> Applied
         requires encodable { IsEncodable event }
         requires duplicate { IfOk duplicate (λ d. IsDuplicateOf event d) }
-        requires takes { OnErr duplicate (TakesMemory (told_of event)) }
+        requires takes { OnErr duplicate (TakesMemory (reported_of event)) }
         ensures { Applies self.old event result self.new buffer.new }
     {
         buffer.clear();
@@ -269,12 +269,12 @@ impl<O: MibObject> Kept<O> {
             return Applied::Short(event);
         };
         let Ready { duplicate, base } = ready;
-        let (kept_event, told) = parted(event, duplicate);
+        let (kept_event, reported) = parted(event, duplicate);
         let Made {
             entry,
             receipt,
             audit,
-        } = made_of(number, kept_event, told, happened);
+        } = made_of(number, kept_event, reported, happened);
         let Kept {
             entries,
             base: old_base,
@@ -303,26 +303,26 @@ struct Made {
 }
 
 // What is made of an event of this outcome, under this number.
-fn made_of(number: u64, event: KeptEvent, told: ReceiptEvent, happened: Happened) -> Made
+fn made_of(number: u64, event: KeptEvent, reported: ReceiptEvent, happened: EventOutcome) -> Made
     ensures entry { result.entry ≡ entry_of event happened }
-    ensures receipt { result.receipt ≡ receipt_of number told happened }
-    ensures audit { result.audit ≡ happened.told_audit }
+    ensures receipt { result.receipt ≡ receipt_of number reported happened }
+    ensures audit { result.audit ≡ happened.reported_audit }
 {
-    let Happened {
+    let EventOutcome {
         no_room,
         failed,
         unnamed,
         egress,
         reply,
-        told_reply,
+        reported_reply,
         audit,
-        told_audit,
+        reported_audit,
     } = happened;
     let receipt = Receipt {
         number,
-        event: told,
+        event: reported,
         egress: egress.copy(),
-        reply: told_reply,
+        reply: reported_reply,
     };
     let entry = Entry {
         event,
@@ -336,7 +336,7 @@ fn made_of(number: u64, event: KeptEvent, told: ReceiptEvent, happened: Happened
     Made {
         entry,
         receipt,
-        audit: told_audit,
+        audit: reported_audit,
     }
 }
 

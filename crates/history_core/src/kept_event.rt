@@ -1,7 +1,7 @@
 //! An event, as an entry keeps it.
 ghost use Rattle.std.specs.Prelude.{◌≡◌, ◌↔◌, IsTrue, IfOk, OnErr, MatchOption};
 ghost use Rattle.history_core.specs.Encoded.{IsKeptEncoded, IsEncodedEvent, IsDuplicateOf, request_of};
-ghost use Rattle.history_core.specs.Receipts.{told_of, TakesMemory};
+ghost use Rattle.history_core.specs.Receipts.{reported_of, TakesMemory};
 ghost use Rattle.history_core.specs.Steps.{IsEncodable};
 
 use crate::duplicate::{Duplicate, encode, encoding};
@@ -50,10 +50,10 @@ impl KeptEvent {
     pub fn of(alloc: Global, event: Event) -> Result<KeptEvent, AllocError>
         requires { IsEncodable event }
         ensures value { IfOk result (λ kept. kept ≡ event) }
-        ensures some { OnErr result (TakesMemory (told_of event)) }
+        ensures some { OnErr result (TakesMemory (reported_of event)) }
     {
         let duplicate = Duplicate::of(alloc, &event)?;
-        let (kept, _told) = parted(event, duplicate);
+        let (kept, _reported) = parted(event, duplicate);
         Ok(kept)
     }
 
@@ -72,7 +72,7 @@ impl KeptEvent {
     /// community of more than `INLINE_OCTETS` octets or with variable bindings.
     pub fn request(&self, alloc: Global) -> Result<Option<Request>, AllocError>
         ensures value { IfOk result (λ request. request ≡ request_of self.now) }
-        ensures some { OnErr result (TakesMemory (told_of self.now)) }
+        ensures some { OnErr result (TakesMemory (reported_of self.now)) }
     {
         match &self.form {
             Form::Whole(Event::Request(request)) => Ok(Some(request.try_copy(alloc)?)),
@@ -85,11 +85,11 @@ impl KeptEvent {
     }
 
     /// Whether a receipt with this reports this event. Takes no memory.
-    pub fn is_told_by(&self, told: &ReceiptEvent) -> bool
-        ensures { IsTrue result ↔ (told_of self.now ≡ told.now) }
+    pub fn is_reported_by(&self, reported: &ReceiptEvent) -> bool
+        ensures { IsTrue result ↔ (reported_of self.now ≡ reported.now) }
     {
-        match (&self.form, told) {
-            (Form::Whole(event), _) => event.is_told_by(told),
+        match (&self.form, reported) {
+            (Form::Whole(event), _) => event.is_reported_by(reported),
             (Form::Encoded(octets), ReceiptEvent::Request(request)) => {
                 encode(octets.as_slice(), request)
             }
@@ -102,12 +102,12 @@ impl KeptEvent {
 pub(crate) fn parted(event: Event, duplicate: Duplicate) -> (KeptEvent, ReceiptEvent)
     requires { IsDuplicateOf event duplicate }
     ensures kept { result.0 ≡ event }
-    ensures told { result.1 ≡ told_of event }
+    ensures reported { result.1 ≡ reported_of event }
 {
     match (event, duplicate) {
-        (event, Duplicate::Copied(told)) => {
+        (event, Duplicate::Copied(reported)) => {
             let form = Form::Whole(event);
-            (KeptEvent { form }, told)
+            (KeptEvent { form }, reported)
         }
         (Event::Request(request), Duplicate::Encoded(octets)) => {
             let form = Form::Encoded(octets);

@@ -6,12 +6,12 @@ use Rattle.live_agent.specs.declared.trace.End.{End}
 use Rattle.live_agent.specs.declared.trace.Item.{Item}
 use Rattle.live_agent.specs.Turns.{Turn, item_of}
 use Rattle.live_agent.specs.Runs.{HasRun, all_items, adds}
-use Rattle.live_agent.specs.Lines.{Setting, HasLinked, HasPortRun}
+use Rattle.live_agent.specs.Lines.{RunStart, HasLinked, HasPortRun}
 
 -- The link of a port went up, behind memory that was made for its item.
 pub linked_behind : {W K : Type 0} (went : W → List Act → W → Type 0) (kept : K → List Item → K → Type 0)
     → ((a b c : K) (xs ys : List Item) → kept a xs b → kept b ys c → kept a (xs ++ ys) c)
-    → (s : Setting) (port : ℕ) (a b : W) (k lent l : K) (amount later : ℕ) (ends : Option End)
+    → (s : RunStart) (port : ℕ) (a b : W) (k lent l : K) (amount later : ℕ) (ends : Option End)
     → kept k [] lent → HasLinked went kept s port a b lent l amount later ends → HasLinked went kept s port a b k l amount later ends
 linked_behind went kept keeps_on s port a b k lent l amount later ends same linked = record {
   happening = linked.happening;
@@ -44,7 +44,7 @@ run_traced went kept does is_turn rounds a b k l amount later how r = (
 -- The same of a port, whose link went up first.
 pub port_traced : {W K : Type 0} (went : W → List Act → W → Type 0) (kept : K → List Item → K → Type 0)
     → ((a b c : K) (xs ys : List Item) → kept a xs b → kept b ys c → kept a (xs ++ ys) c)
-    → (s : Setting) (port rounds : ℕ) (a b : W) (k l : K) (amount later : ℕ) (how : End)
+    → (s : RunStart) (port rounds : ℕ) (a b : W) (k l : K) (amount later : ℕ) (how : End)
     → HasPortRun went kept s port rounds a b k l amount later how
     → (trace : List Item) × kept k trace l × HasPortRun went adds s port rounds a b [] trace amount later how
 port_traced went kept keeps_on s port rounds a b k l amount later how (inl t) = ([], t.2, inl (t.0, t.1, refl, t.3))

@@ -10,7 +10,7 @@ pub taken_deeds : {W : Type 0} (went : W → List Act → W → Type 0) (did : W
     → (a b c d e : W) (worker : ℕ) (came : Act) (sent : List Act) (behind : List Deed)
     → went a (came ∷ []) b → did b (visited (before worker) ∷ []) c → went c sent d → did d behind e
     → did a (acted came ∷ visited (before worker) ∷ (all_acted sent ++ behind)) e
-taken_deeds went did acts_are on a b c d e worker came sent behind first told sends last =
+taken_deeds went did acts_are on a b c d e worker came sent behind first reported sends last =
     on a b e (acted came ∷ []) (visited (before worker) ∷ (all_acted sent ++ behind)) (acts_are a b (came ∷ []) first)
-    (on b c e (visited (before worker) ∷ []) (all_acted sent ++ behind) told
+    (on b c e (visited (before worker) ∷ []) (all_acted sent ++ behind) reported
     (on c d e (all_acted sent) behind (acts_are c d sent sends) last))

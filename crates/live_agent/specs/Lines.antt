@@ -19,7 +19,7 @@ use Rattle.history_core.specs.declared.applied.Applied.TheVariants.{Done, Droppe
 use Rattle.history_core.specs.declared.event.Event.{Event}
 use Rattle.history_core.specs.declared.event.Event.TheVariants as event
 use Rattle.history_core.specs.declared.receipt.Receipt.{Receipt}
-use Rattle.live_lock.specs.Sharing.{TakesPlace, IsToldOf, entry_count}
+use Rattle.live_lock.specs.Sharing.{TakesPlace, IsReportedOf, entry_count}
 use Rattle.live_agent.specs.declared.gate.AnsweredRequest.{AnsweredRequest}
 use Rattle.live_agent.specs.declared.plan.Plan.{Plan}
 use Rattle.live_sending.specs.Packets.{reply_packets, frame_packets, bpdu_packets}
@@ -30,56 +30,56 @@ use Rattle.live_agent.specs.Runs.{HasRun}
 use Rattle.live_agent.specs.declared.trace.End.{End}
 use Rattle.live_agent.specs.declared.trace.End.TheVariants as end
 use Rattle.live_agent.specs.declared.trace.Item.{Item}
-use Rattle.live_agent.specs.declared.trace.Refusal.{Refusal}
-use Rattle.live_agent.specs.declared.trace.Refusal.TheVariants as refusal
+use Rattle.live_agent.specs.declared.trace.InputFault.{InputFault}
+use Rattle.live_agent.specs.declared.trace.InputFault.TheVariants as refusal
 
 -- Where a run starts, and where what its ports send goes: the bridge's address, and the ports' peers.
-pub record Setting : Type 0 where
+pub record RunStart : Type 0 where
   pub start : History
   pub source : Mac
   pub peers : List SocketAddr
 
 -- the setting of the lines of a plan
-abbrev pub setting_of : History → Plan → Setting
-setting_of start plan =
+abbrev pub run_start_of : History → Plan → RunStart
+run_start_of start plan =
     record { start = start; source = plan.source; peers = plan.peers.items }
 
 -- An event took its place in the history, behind at least as many entries as its thread had made,
 -- and these packets were sent for it.
-pub record Happens (s : Setting) (e : Event) (packets : List Packet) (h : Happening) : Type 0 where
+pub record Happens (s : RunStart) (e : Event) (packets : List Packet) (h : Happening) : Type 0 where
   pub event_is : h.event ≡ e
   pub place : TakesPlace s.start h.made e h.applied h.buffer
-  pub told : IsToldOf e h.applied h.buffer
+  pub reported : IsReportedOf e h.applied h.buffer
   pub sent : IsSending packets h.fault h.acts
 
 -- what the ports send after an event
-abbrev pub ports_packets : Setting → Happening → List Packet
+abbrev pub ports_packets : RunStart → Happening → List Packet
 ports_packets s h = bpdu_packets s.source s.peers h.buffer.bpdus
 
 -- ---- workers
 
 -- A worker lends memory for one octet more than a request has at most.
-abbrev pub request_room : ℕ
-request_room = MAX_REQUEST + 1
+abbrev pub request_space : ℕ
+request_space = MAX_REQUEST + 1
 
 -- The request of a datagram happened: the reply went to the peer that asked, and then what the ports
 -- send to their peers.
-pub record IsAnswered (s : Setting) (a : Arrival) (h : Happening) : Type 0 where
+pub record IsAnswered (s : RunStart) (a : Arrival) (h : Happening) : Type 0 where
   pub request : Request
   pub reads : IsRequest a.octets request
   pub happens : Happens s (event.Request request)
       (reply_packets a.peer h.buffer.reply ++ ports_packets s h) h
 
-abbrev pub IsRefusedRequest : Arrival → Refusal → Type 0
+abbrev pub IsRefusedRequest : Arrival → InputFault → Type 0
 IsRefusedRequest a (refusal.Datagram cause) = IsCause a.octets cause
 IsRefusedRequest a (refusal.Frame fault) = ⊥
 
-abbrev pub IsWorkerTurn : Setting → Turn → Type 0
+abbrev pub IsWorkerTurn : RunStart → Turn → Type 0
 IsWorkerTurn s nothing_came = Unit
 IsWorkerTurn s ended = Unit
 IsWorkerTurn s (broke fault) = Unit
-IsWorkerTurn s (was_refused a cause) = (a.room ≡ request_room) × IsRefusedRequest a cause
-IsWorkerTurn s (was_taken a h) = (a.room ≡ request_room) × IsAnswered s a h
+IsWorkerTurn s (was_refused a cause) = (a.space ≡ request_space) × IsRefusedRequest a cause
+IsWorkerTurn s (was_taken a h) = (a.space ≡ request_space) × IsAnswered s a h
 IsWorkerTurn s (was_own h) = ⊥
 IsWorkerTurn s paused = ⊥
 
@@ -124,15 +124,15 @@ worker_deeds worker turn = all_acted (acts_of turn)
 -- Between two states of its wire, and of what records its items, a worker of this number has run so
 -- many rounds.
 abbrev pub HasWorked : {W K : Type 0} → (W → List Deed → W → Type 0) → (K → List Item → K → Type 0)
-    → Setting → ℕ → ℕ → W → W → K → K → ℕ → ℕ → End → Type 0
+    → RunStart → ℕ → ℕ → W → W → K → K → ℕ → ℕ → End → Type 0
 HasWorked did kept s rounds worker a b k l amount later_amount how =
     HasRun did kept (worker_deeds worker) (IsWorkerTurn s) rounds a b k l amount later_amount how
 
 -- ---- ports
 
 -- A port lends memory for one octet more than a frame has at most.
-abbrev pub frame_room : ℕ
-frame_room = MAX_FRAME_LEN + 1
+abbrev pub frame_space : ℕ
+frame_space = MAX_FRAME_LEN + 1
 
 -- the ports by which an event's frame goes out, by its receipt
 abbrev pub egress_of : Applied → List ℕ
@@ -143,22 +143,22 @@ egress_of (HistoryFull back) = []
 
 -- The frame of a datagram happened: its octets went to the peers of the ports that its receipt
 -- names, and then what the ports send to their peers.
-pub record IsForwarded (s : Setting) (port : ℕ) (a : Arrival) (h : Happening) : Type 0 where
+pub record IsForwarded (s : RunStart) (port : ℕ) (a : Arrival) (h : Happening) : Type 0 where
   pub frame : FrameIn
   pub reads : IsFrame a.octets frame
   pub happens : Happens s (event.Frame port frame)
       (frame_packets s.peers (egress_of h.applied) a.octets ++ ports_packets s h) h
 
-abbrev pub IsRefusedFrame : Arrival → Refusal → Type 0
+abbrev pub IsRefusedFrame : Arrival → InputFault → Type 0
 IsRefusedFrame a (refusal.Datagram cause) = ⊥
 IsRefusedFrame a (refusal.Frame fault) = IsFault a.octets fault
 
-abbrev pub IsPortTurn : Setting → ℕ → Turn → Type 0
+abbrev pub IsPortTurn : RunStart → ℕ → Turn → Type 0
 IsPortTurn s port nothing_came = Unit
 IsPortTurn s port ended = Unit
 IsPortTurn s port (broke fault) = Unit
-IsPortTurn s port (was_refused a cause) = (a.room ≡ frame_room) × IsRefusedFrame a cause
-IsPortTurn s port (was_taken a h) = (a.room ≡ frame_room) × IsForwarded s port a h
+IsPortTurn s port (was_refused a cause) = (a.space ≡ frame_space) × IsRefusedFrame a cause
+IsPortTurn s port (was_taken a h) = (a.space ≡ frame_space) × IsForwarded s port a h
 IsPortTurn s port (was_own h) = ⊥
 IsPortTurn s port paused = ⊥
 
@@ -175,7 +175,7 @@ end_after_link applied None = end_by_link applied
 
 -- The link of a port went up: the first item that is recorded of it.
 pub record HasLinked {W K : Type 0} (went : W → List Act → W → Type 0)
-    (kept : K → List Item → K → Type 0) (s : Setting) (port : ℕ) (a b : W) (k l : K)
+    (kept : K → List Item → K → Type 0) (s : RunStart) (port : ℕ) (a b : W) (k l : K)
     (amount later_amount : ℕ) (ends : Option End) : Type 0 where
   pub happening : Happening
   pub happens : Happens s (event.Link port true) (ports_packets s happening) happening
@@ -187,7 +187,7 @@ pub record HasLinked {W K : Type 0} (went : W → List Act → W → Type 0)
 
 -- The link went up, and then the rounds of the port ran.
 pub record HasLinkedAndRun {W K : Type 0} (went : W → List Act → W → Type 0)
-    (kept : K → List Item → K → Type 0) (s : Setting) (port rounds : ℕ) (a b : W) (k l : K)
+    (kept : K → List Item → K → Type 0) (s : RunStart) (port rounds : ℕ) (a b : W) (k l : K)
     (amount later_amount : ℕ) (how : End) : Type 0 where
   pub between : W
   pub first_kept : K
@@ -199,7 +199,7 @@ pub record HasLinkedAndRun {W K : Type 0} (went : W → List Act → W → Type 
 -- A whole line of a port: there was no memory for its first item; or its link ended it; or that went
 -- up, and the rounds ran.
 abbrev pub HasPortRun : {W K : Type 0} → (W → List Act → W → Type 0)
-    → (K → List Item → K → Type 0) → Setting → ℕ → ℕ → W → W → K → K → ℕ → ℕ → End → Type 0
+    → (K → List Item → K → Type 0) → RunStart → ℕ → ℕ → W → W → K → K → ℕ → ℕ → End → Type 0
 HasPortRun went kept s port rounds a b k l amount later_amount how =
     ((how ≡ end.Memory) × went a [] b × kept k [] l × (later_amount ≡ amount))
     ⊎ HasLinked went kept s port a b k l amount later_amount (Some how)
@@ -208,15 +208,15 @@ HasPortRun went kept s port rounds a b k l amount later_amount how =
 -- A whole line of a port that ended for want of memory has none for one item more, or its link found
 -- none.
 abbrev pub EndsPortShort : {W K : Type 0} → (K → Type 0) → (W → List Act → W → Type 0)
-    → (K → List Item → K → Type 0) → Setting → ℕ → W → W → K → K → ℕ → ℕ → End → Type 0
-EndsPortShort has_room went kept s port a b k l amount later_amount how =
-    how ≡ end.Memory → (has_room l → ⊥)
+    → (K → List Item → K → Type 0) → RunStart → ℕ → W → W → K → K → ℕ → ℕ → End → Type 0
+EndsPortShort has_space went kept s port a b k l amount later_amount how =
+    how ≡ end.Memory → (has_space l → ⊥)
     ⊎ HasLinked went kept s port a b k l amount later_amount (Some end.Memory)
 
 -- ---- the ticker
 
 -- A second passed, and what the ports send went to their peers.
-abbrev pub IsSecond : Setting → Turn → Type 0
+abbrev pub IsSecond : RunStart → Turn → Type 0
 IsSecond s nothing_came = ⊥
 IsSecond s ended = ⊥
 IsSecond s (broke fault) = ⊥
@@ -226,7 +226,7 @@ IsSecond s (was_own h) = Happens s event.Tick (ports_packets s h) h
 IsSecond s paused = ⊥
 
 -- A turn of the ticker: a second passed, or the pace ended.
-abbrev pub IsTickerTurn : Setting → Turn → Type 0
+abbrev pub IsTickerTurn : RunStart → Turn → Type 0
 IsTickerTurn s paused = Unit
 IsTickerTurn s turn = IsSecond s turn
 
@@ -241,6 +241,6 @@ ticker_deeds turn = all_acted (acts_of turn)
 -- second, ahead of what that second gave to send and behind what the seconds before it gave, and
 -- false where it ended.
 abbrev pub HasTicked : {W K : Type 0} → (W → List Deed → W → Type 0) → (K → List Item → K → Type 0)
-    → Setting → ℕ → W → W → K → K → ℕ → ℕ → End → Type 0
+    → RunStart → ℕ → W → W → K → K → ℕ → ℕ → End → Type 0
 HasTicked did kept s rounds a b k l amount later_amount how =
     HasRun did kept ticker_deeds (IsTickerTurn s) rounds a b k l amount later_amount how

@@ -80,7 +80,7 @@ pub record HasRun {W D K : Type 0} (went : W → List D → W → Type 0)
 
 -- A line that ended for want of memory has none for one item more.
 abbrev pub EndsShort : {K : Type 0} → (K → Type 0) → K → End → Type 0
-EndsShort has_room l how = how ≡ end.Memory → has_room l → ⊥
+EndsShort has_space l how = how ≡ end.Memory → has_space l → ⊥
 
 -- the count of a wire's failures after a line that ended so: a fault ends it, and nothing else fails
 abbrev pub failures_at : End → ℕ → ℕ

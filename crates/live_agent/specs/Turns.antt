@@ -11,11 +11,11 @@ use Rattle.live_agent.specs.declared.trace.End.{End}
 use Rattle.live_agent.specs.declared.trace.End.TheVariants as end
 use Rattle.live_agent.specs.declared.trace.Item.{Item}
 use Rattle.live_agent.specs.declared.trace.Item.TheVariants as item
-use Rattle.live_agent.specs.declared.trace.Refusal.{Refusal}
+use Rattle.live_agent.specs.declared.trace.InputFault.{InputFault}
 
 -- A datagram that came, and how much memory was lent for it.
 pub record Arrival : Type 0 where
-  pub room : ℕ
+  pub space : ℕ
   pub peer : SocketAddr
   pub octets : List ℕ
 
@@ -35,13 +35,13 @@ pub data Turn : Type 0 where
   nothing_came : Turn
   ended : Turn
   broke : WireFault → Turn
-  was_refused : Arrival → Refusal → Turn
+  was_refused : Arrival → InputFault → Turn
   was_taken : Arrival → Happening → Turn
   was_own : Happening → Turn
   paused : Turn
 
 abbrev pub arrival_act : Arrival → Act
-arrival_act a = got a.room a.peer a.octets
+arrival_act a = got a.space a.peer a.octets
 
 -- what a turn did on the wire
 abbrev pub acts_of : Turn → List Act

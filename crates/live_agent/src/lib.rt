@@ -2,7 +2,7 @@
 //! frames, and a ticker.
 //!
 //! # Entry points
-//! [`worker_run`], [`port_run`], [`port_lap`] and [`ticker_run`] are each the loop of one thread. A
+//! [`worker_run`], [`port_run`], [`port_interval`] and [`ticker_run`] are each the loop of one thread. A
 //! loop is lent the history, its share and its line. It hands a [`Recorder`] an [`Item`] for each
 //! event and each refused datagram. A [`Plan`] has what the lines have in common. Each loop gives
 //! how it ended, an [`End`], and its recorder; a vector of items is one.
@@ -11,7 +11,7 @@
 //! request, and behind each that made an entry: with that, an [`AnsweredRequest`], and its audit.
 //! The ticker's wire has its pace beside it ([`PacedWire`]). [`Gated`] and [`Paced`] make one of
 //! two. [`OpenGate`] holds nobody. A [`Ran`] is how a line ended and its [`Trace`], a list of
-//! items, with a [`Refusal`] for a refused datagram.
+//! items, with a [`InputFault`] for a refused datagram.
 //!
 //! # Definitions
 //! `specs/Turns.antt`, `specs/Runs.antt`: the turns of a line, and its loop; `specs/Lines.antt`:
@@ -47,8 +47,8 @@ mod worker;
 pub use gate::{AnsweredRequest, Gate, Gated, GatedWire, OpenGate};
 pub use paced::{Paced, PacedWire};
 pub use plan::Plan;
-pub use port::{port_lap, port_run};
+pub use port::{port_interval, port_run};
 pub use recorder::Recorder;
 pub use ticker::ticker_run;
-pub use trace::{End, Item, Ran, Refusal, Trace};
+pub use trace::{End, InputFault, Item, Ran, Trace};
 pub use worker::worker_run;

@@ -22,7 +22,7 @@ pub fn noted<K: Recorder>(
     applied: Applied,
     sent: Result<(), WireFault>,
 ) -> Option<End>
-    requires { K.has_room recorder.old }
+    requires { K.has_space recorder.old }
     ensures recorded { K.went recorder.old (item_of applied ∷ []) recorder.new }
     ensures ends { result ≡ end_after applied (fault_in sent) }
 {

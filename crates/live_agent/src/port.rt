@@ -3,7 +3,7 @@ ghost use Rattle.std.specs.Prelude.{◌≡◌, ◌+◌, ◌<◌, ◌++◌, ◌�
 ghost use Rattle.frame_core.specs.Frames.{IsFrame};
 ghost use Rattle.history_core.specs.declared.event.Event.TheVariants as event;
 ghost use Rattle.wire_core.specs.Acts.{got};
-ghost use Rattle.live_agent.specs.Lines.{setting_of, IsPortTurn, HasLinked, HasPortRun, EndsPortShort, end_after_link, frame_room};
+ghost use Rattle.live_agent.specs.Lines.{run_start_of, IsPortTurn, HasLinked, HasPortRun, EndsPortShort, end_after_link, frame_space};
 ghost use Rattle.live_agent.specs.Runs.{HasTurned, HasRun, EndsShort, failures_at, failures_by};
 ghost use Rattle.live_agent.specs.Turns.{acts_of};
 ghost use Rattle.live_sending.specs.Sending.{fault_in};
@@ -12,7 +12,7 @@ use crate::line_state::{LineState, item_of, noted};
 use crate::outgoing::{send_forwarded, send_ports};
 use crate::plan::Plan;
 use crate::recorder::Recorder;
-use crate::trace::{End, Item, Refusal};
+use crate::trace::{End, InputFault, Item};
 use agent_core::Buffer;
 use frame_core::{MAX_FRAME_LEN, read_frame};
 use history_core::Applied;
@@ -23,10 +23,10 @@ use std::sync::Wait;
 use wire_core::{Received, Wire, WireFault};
 
 // The octets of a frame's buffer: one more than it has at most, so that a longer one is seen.
-const FRAME_ROOM: usize = MAX_FRAME_LEN + 1;
+const FRAME_SPACE: usize = MAX_FRAME_LEN + 1;
 
 /// A port's line: first its link goes up, and where that finds no memory or no number, or its BPDUs
-/// cannot be sent, the line ends; then one interval, as [`port_lap`]. Without memory for the link's item
+/// cannot be sent, the line ends; then one interval, as [`port_interval`]. Without memory for the link's item
 /// it ends before that. Gives how the line ended, and what recorded it.
 pub fn port_run<O: MibObject, L: Run, W: Wire, K: Recorder, R: Wait>(
     rt: &R,
@@ -38,9 +38,9 @@ pub fn port_run<O: MibObject, L: Run, W: Wire, K: Recorder, R: Wait>(
     recorder: K,
 ) -> (End, K)
     requires { 0 < share.old.parts }
-    ensures run { HasPortRun W.went K.went (setting_of L.start plan.now) port plan.now.rounds
+    ensures run { HasPortRun W.went K.went (run_start_of L.start plan.now) port plan.now.rounds
         wire.old wire.new recorder result.1 share.old.amount share.new.amount result.0 }
-    ensures memory { EndsPortShort K.has_room W.went K.went (setting_of L.start plan.now) port
+    ensures memory { EndsPortShort K.has_space W.went K.went (run_start_of L.start plan.now) port
         wire.old wire.new recorder result.1 share.old.amount share.new.amount result.0 }
     ensures failures { W.failures wire.new ≡ failures_at result.0 (W.failures wire.old) }
     ensures parts { share.new.parts ≡ share.old.parts }
@@ -65,10 +65,10 @@ fn link_and_go_round<O: MibObject, L: Run, W: Wire, K: Recorder, R: Wait>(
     state: &mut LineState<K>,
 ) -> End
     requires { 0 < share.old.parts }
-    ensures run { HasPortRun W.went K.went (setting_of L.start plan.now) port plan.now.rounds
+    ensures run { HasPortRun W.went K.went (run_start_of L.start plan.now) port plan.now.rounds
         wire.old wire.new state.old.recorder state.new.recorder share.old.amount share.new.amount
         result }
-    ensures memory { EndsPortShort K.has_room W.went K.went (setting_of L.start plan.now) port
+    ensures memory { EndsPortShort K.has_space W.went K.went (run_start_of L.start plan.now) port
         wire.old wire.new state.old.recorder state.new.recorder share.old.amount share.new.amount
         result }
     ensures failures { W.failures wire.new ≡ failures_at result (W.failures wire.old) }
@@ -94,8 +94,8 @@ fn bring_up<O: MibObject, L: Run, W: Wire, K: Recorder, R: Wait>(
     state: &mut LineState<K>,
 ) -> Option<End>
     requires part { 0 < share.old.parts }
-    requires room { K.has_room state.old.recorder }
-    ensures linked { HasLinked W.went K.went (setting_of L.start plan.now) port wire.old wire.new
+    requires space { K.has_space state.old.recorder }
+    ensures linked { HasLinked W.went K.went (run_start_of L.start plan.now) port wire.old wire.new
         state.old.recorder state.new.recorder share.old.amount share.new.amount result }
     ensures failures { W.failures wire.new ≡ failures_by result (W.failures wire.old) }
     ensures parts { share.new.parts ≡ share.old.parts }
@@ -125,7 +125,7 @@ fn end_after_link(applied: &Applied, sent: Result<(), WireFault>) -> Option<End>
 /// an entry, or there is no memory for the next item. Each datagram that is a frame has it come in by
 /// the port; its octets go to the peers of the ports by which it goes out, and then what the ports
 /// send to their peers. Gives how the interval ended, and what recorded it.
-pub fn port_lap<O: MibObject, L: Run, W: Wire, K: Recorder, R: Wait>(
+pub fn port_interval<O: MibObject, L: Run, W: Wire, K: Recorder, R: Wait>(
     rt: &R,
     plan: &Plan,
     live: &Live<O, L>,
@@ -136,10 +136,10 @@ pub fn port_lap<O: MibObject, L: Run, W: Wire, K: Recorder, R: Wait>(
 ) -> (End, K)
     requires { 0 < share.old.parts }
     ensures run { HasRun W.went K.went acts_of
-        (IsPortTurn (setting_of L.start plan.now) port)
+        (IsPortTurn (run_start_of L.start plan.now) port)
         plan.now.rounds wire.old wire.new recorder result.1 share.old.amount share.new.amount
         result.0 }
-    ensures memory { EndsShort K.has_room result.1 result.0 }
+    ensures memory { EndsShort K.has_space result.1 result.0 }
     ensures failures { W.failures wire.new ≡ failures_at result.0 (W.failures wire.old) }
     ensures parts { share.new.parts ≡ share.old.parts }
 {
@@ -164,10 +164,10 @@ fn go_round<O: MibObject, L: Run, W: Wire, K: Recorder, R: Wait>(
 ) -> End
     requires { 0 < share.old.parts }
     ensures run { HasRun W.went K.went acts_of
-        (IsPortTurn (setting_of L.start plan.now) port)
+        (IsPortTurn (run_start_of L.start plan.now) port)
         plan.now.rounds wire.old wire.new state.old.recorder state.new.recorder
         share.old.amount share.new.amount result }
-    ensures memory { EndsShort K.has_room state.new.recorder result }
+    ensures memory { EndsShort K.has_space state.new.recorder result }
     ensures failures { W.failures wire.new ≡ failures_at result (W.failures wire.old) }
     ensures parts { share.new.parts ≡ share.old.parts }
 {
@@ -193,15 +193,15 @@ fn port_turn<O: MibObject, L: Run, W: Wire, K: Recorder, R: Wait>(
     state: &mut LineState<K>,
 ) -> Option<End>
     requires part { 0 < share.old.parts }
-    requires room { K.has_room state.old.recorder }
+    requires space { K.has_space state.old.recorder }
     ensures turn { HasTurned W.went K.went acts_of
-        (IsPortTurn (setting_of L.start plan.now) port)
+        (IsPortTurn (run_start_of L.start plan.now) port)
         wire.old wire.new state.old.recorder state.new.recorder
         share.old.amount share.new.amount result }
     ensures failures { W.failures wire.new ≡ failures_by result (W.failures wire.old) }
     ensures parts { share.new.parts ≡ share.old.parts }
 {
-    let mut octets = [0u8; FRAME_ROOM];
+    let mut octets = [0u8; FRAME_SPACE];
     match wire.receive(&mut octets) {
         Err(fault) => Some(End::Wire(fault)),
         Ok(Received::Nothing) => None,
@@ -235,9 +235,9 @@ fn take_frame<O: MibObject, L: Run, W: Wire, K: Recorder, R: Wait>(
     octets: &[u8],
 ) -> Option<End>
     requires part { 0 < share.old.parts }
-    requires room { K.has_room state.old.recorder }
-    ensures turn { (a : W) → W.went a (got frame_room peer octets.now ∷ []) wire.old →
-        HasTurned W.went K.went acts_of (IsPortTurn (setting_of L.start plan.now) port) a wire.new
+    requires space { K.has_space state.old.recorder }
+    ensures turn { (a : W) → W.went a (got frame_space peer octets.now ∷ []) wire.old →
+        HasTurned W.went K.went acts_of (IsPortTurn (run_start_of L.start plan.now) port) a wire.new
         state.old.recorder state.new.recorder share.old.amount share.new.amount result }
     ensures failures { W.failures wire.new ≡ failures_by result (W.failures wire.old) }
     ensures parts { share.new.parts ≡ share.old.parts }
@@ -245,7 +245,9 @@ fn take_frame<O: MibObject, L: Run, W: Wire, K: Recorder, R: Wait>(
     let frame = match read_frame(octets) {
         Ok(frame) => frame,
         Err(fault) => {
-            state.recorder.record(Item::Refused(Refusal::Frame(fault)));
+            state
+                .recorder
+                .record(Item::Refused(InputFault::Frame(fault)));
             return None;
         }
     };

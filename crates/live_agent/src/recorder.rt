@@ -15,7 +15,7 @@ pub trait Recorder: Drop {
     ghost went: { Self → List Item → Self → Type 0 };
 
     // It has memory for one item more.
-    ghost has_room: { Self → Type 0 };
+    ghost has_space: { Self → Type 0 };
 
     /// Makes sure that there is memory for one item more.
     ///
@@ -23,12 +23,12 @@ pub trait Recorder: Drop {
     /// That there is none.
     fn reserve(&mut self) -> Result<(), AllocError>
         ensures unchanged { went self.old [] self.new }
-        ensures room { OnOk result (has_room self.new) }
-        ensures short { OnErr result (has_room self.new → ⊥) };
+        ensures space { OnOk result (has_space self.new) }
+        ensures short { OnErr result (has_space self.new → ⊥) };
 
     /// Takes an item, for which there is memory.
     fn record(&mut self, item: Item)
-        requires { has_room self.old }
+        requires { has_space self.old }
         ensures { went self.old (item ∷ []) self.new };
 
     // Without an item it stays as it is.
@@ -46,7 +46,7 @@ impl Recorder for Vec<Item> {
 
     ghost went = { λ a items b. b.items ≡ a.items ++ items };
 
-    ghost has_room = { λ a. vec_len a < vec_capacity a };
+    ghost has_space = { λ a. vec_len a < vec_capacity a };
 
     ghost starts = { λ a. added_none a.items };
 

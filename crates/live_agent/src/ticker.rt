@@ -1,7 +1,7 @@
 //! The ticker: it lets seconds pass, by its pace.
 ghost use Rattle.std.specs.Prelude.{◌≡◌, ◌+◌, ◌<◌};
 ghost use Rattle.history_core.specs.declared.event.Event.TheVariants as event;
-ghost use Rattle.live_agent.specs.Lines.{setting_of, HasTicked, IsSecond};
+ghost use Rattle.live_agent.specs.Lines.{run_start_of, HasTicked, IsSecond};
 ghost use Rattle.live_agent.specs.Runs.{HasTurned, EndsShort, failures_at, failures_by};
 ghost use Rattle.live_agent.specs.Turns.{acts_of};
 
@@ -30,9 +30,9 @@ pub fn ticker_run<O: MibObject, L: Run, T: PacedWire, K: Recorder, R: Wait>(
     recorder: K,
 ) -> (End, K)
     requires { 0 < share.old.parts }
-    ensures run { HasTicked T.did K.went (setting_of L.start plan.now) plan.now.rounds wire.old
+    ensures run { HasTicked T.did K.went (run_start_of L.start plan.now) plan.now.rounds wire.old
         wire.new recorder result.1 share.old.amount share.new.amount result.0 }
-    ensures memory { EndsShort K.has_room result.1 result.0 }
+    ensures memory { EndsShort K.has_space result.1 result.0 }
     ensures failures { T.failures wire.new ≡ failures_at result.0 (T.failures wire.old) }
     ensures parts { share.new.parts ≡ share.old.parts }
 {
@@ -55,9 +55,9 @@ fn tick_rounds<O: MibObject, L: Run, T: PacedWire, K: Recorder, R: Wait>(
     state: &mut LineState<K>,
 ) -> End
     requires { 0 < share.old.parts }
-    ensures run { HasTicked T.did K.went (setting_of L.start plan.now) plan.now.rounds wire.old
+    ensures run { HasTicked T.did K.went (run_start_of L.start plan.now) plan.now.rounds wire.old
         wire.new state.old.recorder state.new.recorder share.old.amount share.new.amount result }
-    ensures memory { EndsShort K.has_room state.new.recorder result }
+    ensures memory { EndsShort K.has_space state.new.recorder result }
     ensures failures { T.failures wire.new ≡ failures_at result (T.failures wire.old) }
     ensures parts { share.new.parts ≡ share.old.parts }
 {
@@ -85,8 +85,8 @@ fn tick_once<O: MibObject, L: Run, W: Wire, K: Recorder, R: Wait>(
     state: &mut LineState<K>,
 ) -> Option<End>
     requires part { 0 < share.old.parts }
-    requires room { K.has_room state.old.recorder }
-    ensures turn { HasTurned W.went K.went acts_of (IsSecond (setting_of L.start plan.now)) wire.old
+    requires space { K.has_space state.old.recorder }
+    ensures turn { HasTurned W.went K.went acts_of (IsSecond (run_start_of L.start plan.now)) wire.old
         wire.new state.old.recorder state.new.recorder share.old.amount share.new.amount result }
     ensures failures { W.failures wire.new ≡ failures_by result (W.failures wire.old) }
     ensures parts { share.new.parts ≡ share.old.parts }

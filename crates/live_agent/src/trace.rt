@@ -9,7 +9,7 @@ use wire_core::WireFault;
 
 /// Why a datagram gave no event.
 #[derive(Clone, Copy, Debug, PartialEq, Eq)]
-pub enum Refusal {
+pub enum InputFault {
     /// It holds no request (RFC 3416, section 3), or there was no memory for it.
     Datagram(DropCause),
     /// It is no frame that a bridge takes.
@@ -20,7 +20,7 @@ pub enum Refusal {
 #[derive(Drop)]
 pub enum Item {
     /// The datagram gave no event.
-    Refused(Refusal),
+    Refused(InputFault),
     /// The event was entered in the history: its receipt.
     Entered(Receipt),
     /// There was no memory for the event.

@@ -5,7 +5,7 @@ ghost use Rattle.message_core.specs.Encodable.{AreEncodable};
 ghost use Rattle.message_core.specs.Message.{IsRequest};
 ghost use Rattle.history_core.specs.declared.event.Event.TheVariants as event;
 ghost use Rattle.wire_core.specs.Acts.{got};
-ghost use Rattle.live_agent.specs.Lines.{setting_of, IsWorkerTurn, Happens, HasWorked, request_room, audited_of, worker_deeds, visits_behind};
+ghost use Rattle.live_agent.specs.Lines.{run_start_of, IsWorkerTurn, Happens, HasWorked, request_space, audited_of, worker_deeds, visits_behind};
 ghost use Rattle.live_agent.specs.Runs.{HasTurned, EndsShort, failures_at, failures_by};
 ghost use Rattle.live_agent.specs.Turns.{entered_in};
 
@@ -14,7 +14,7 @@ use crate::line_state::{LineState, noted};
 use crate::outgoing::send_answer;
 use crate::plan::Plan;
 use crate::recorder::Recorder;
-use crate::trace::{End, Item, Refusal};
+use crate::trace::{End, InputFault, Item};
 use agent_core::Buffer;
 use audit_core::Audit;
 use history_core::{Applied, Receipt};
@@ -26,7 +26,7 @@ use std::sync::Wait;
 use wire_core::Received;
 
 // The octets of a request's buffer: one more than it has at most, so that a longer one is seen.
-const REQUEST_ROOM: usize = MAX_REQUEST + 1;
+const REQUEST_SPACE: usize = MAX_REQUEST + 1;
 
 /// One interval of a worker: so many receives, or until its wire is closed or fails, no number is left
 /// for an entry, or there is no memory for the next item. Each datagram that holds a request has it
@@ -43,9 +43,9 @@ pub fn worker_run<O: MibObject, L: Run, W: GatedWire, K: Recorder, R: Wait>(
     recorder: K,
 ) -> (End, K)
     requires { 0 < share.old.parts }
-    ensures run { HasWorked W.did K.went (setting_of L.start plan.now) plan.now.rounds worker
+    ensures run { HasWorked W.did K.went (run_start_of L.start plan.now) plan.now.rounds worker
         wire.old wire.new recorder result.1 share.old.amount share.new.amount result.0 }
-    ensures memory { EndsShort K.has_room result.1 result.0 }
+    ensures memory { EndsShort K.has_space result.1 result.0 }
     ensures failures { W.failures wire.new ≡ failures_at result.0 (W.failures wire.old) }
     ensures parts { share.new.parts ≡ share.old.parts }
 {
@@ -69,14 +69,14 @@ fn work_rounds<O: MibObject, L: Run, W: GatedWire, K: Recorder, R: Wait>(
     state: &mut LineState<K>,
 ) -> End
     requires { 0 < share.old.parts }
-    ensures run { HasWorked W.did K.went (setting_of L.start plan.now) plan.now.rounds worker
+    ensures run { HasWorked W.did K.went (run_start_of L.start plan.now) plan.now.rounds worker
         wire.old wire.new state.old.recorder state.new.recorder share.old.amount share.new.amount
         result }
-    ensures memory { EndsShort K.has_room state.new.recorder result }
+    ensures memory { EndsShort K.has_space state.new.recorder result }
     ensures failures { W.failures wire.new ≡ failures_at result (W.failures wire.old) }
     ensures parts { share.new.parts ≡ share.old.parts }
 {
-    let mut octets = [0u8; REQUEST_ROOM];
+    let mut octets = [0u8; REQUEST_SPACE];
     for _i in 0..plan.rounds {
         if state.recorder.reserve().is_err() {
             return End::Memory;
@@ -97,12 +97,12 @@ fn worker_turn<O: MibObject, L: Run, W: GatedWire, K: Recorder, R: Wait>(
     wire: &mut W,
     worker: usize,
     state: &mut LineState<K>,
-    octets: &mut [u8; REQUEST_ROOM],
+    octets: &mut [u8; REQUEST_SPACE],
 ) -> Option<End>
     requires part { 0 < share.old.parts }
-    requires room { K.has_room state.old.recorder }
+    requires space { K.has_space state.old.recorder }
     ensures turn { HasTurned W.did K.went (worker_deeds worker)
-        (IsWorkerTurn (setting_of L.start plan.now))
+        (IsWorkerTurn (run_start_of L.start plan.now))
         wire.old wire.new state.old.recorder state.new.recorder
         share.old.amount share.new.amount result }
     ensures failures { W.failures wire.new ≡ failures_by result (W.failures wire.old) }
@@ -141,10 +141,10 @@ fn take_datagram<O: MibObject, L: Run, W: GatedWire, K: Recorder, R: Wait>(
     octets: &[u8],
 ) -> Option<End>
     requires part { 0 < share.old.parts }
-    requires room { K.has_room state.old.recorder }
-    ensures turn { (a : W) → W.went a (got request_room peer octets.now ∷ []) wire.old →
+    requires space { K.has_space state.old.recorder }
+    ensures turn { (a : W) → W.went a (got request_space peer octets.now ∷ []) wire.old →
         HasTurned W.did K.went (worker_deeds worker)
-        (IsWorkerTurn (setting_of L.start plan.now))
+        (IsWorkerTurn (run_start_of L.start plan.now))
         a wire.new state.old.recorder state.new.recorder
         share.old.amount share.new.amount result }
     ensures failures { W.failures wire.new ≡ failures_by result (W.failures wire.old) }
@@ -155,7 +155,7 @@ fn take_datagram<O: MibObject, L: Run, W: GatedWire, K: Recorder, R: Wait>(
         Err(cause) => {
             state
                 .recorder
-                .record(Item::Refused(Refusal::Datagram(cause)));
+                .record(Item::Refused(InputFault::Datagram(cause)));
             return None;
         }
     };

@@ -18,7 +18,7 @@ struct Backlog {
 impl Backlog {
     // Whether there is space for so many octets; they wait from then on.
     fn enter(&mut self, octets: usize) -> bool
-        ensures room { result ≡ true → (self.new ≡ waiting_more self.old octets)
+        ensures space { result ≡ true → (self.new ≡ waiting_more self.old octets)
             × (self.old.waiting + octets ≤ MAX_WAITING_OCTETS) }
         ensures none { result ≡ false → (self.new ≡ self.old)
             × (MAX_WAITING_OCTETS < self.old.waiting + octets) }

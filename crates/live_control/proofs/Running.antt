@@ -11,7 +11,7 @@ use Rattle.live_agent.specs.declared.trace.End.TheVariants as end
 use Rattle.live_control.specs.declared.item.ControlItem.{ControlItem}
 use Rattle.live_control.specs.declared.item.ControlItem.TheVariants as item
 use Rattle.live_agent.specs.Turns.{end_by}
-use Rattle.live_control.specs.Turns.{Turn, nothing_came, ended, broke, was_refused, was_told, was_done, items_of, item_of, end_of, end_by_reply, end_after, entered_in}
+use Rattle.live_control.specs.Turns.{Turn, nothing_came, ended, broke, was_refused, was_reported, was_done, items_of, item_of, end_of, end_by_reply, end_after, entered_in}
 use Rattle.live_control.specs.Runs.{HasTurned, HasRun, IsBehind, AreBehind, all_of, all_items, GoesOn, EndsBy}
 
 pub all_of-snoc : {D : Type 0} (does : Turn → List D) (ts : List Turn) (t : Turn) → all_of does (ts ++ t ∷ []) ≡ all_of does ts ++ does t
@@ -26,7 +26,7 @@ pub entered_in-append : (xs ys : List ControlItem) → entered_in (xs ++ ys) ≡
 entered_in-append [] ys = omega arith
 entered_in-append (item.Entered r ∷ xs) ys = omega (arith, entered_in-append xs ys)
 entered_in-append (item.Refused c ∷ xs) ys = entered_in-append xs ys
-entered_in-append (item.Told ∷ xs) ys = entered_in-append xs ys
+entered_in-append (item.Reported ∷ xs) ys = entered_in-append xs ys
 entered_in-append (item.Short ∷ xs) ys = entered_in-append xs ys
 entered_in-append (item.Full ∷ xs) ys = entered_in-append xs ys
 
@@ -67,7 +67,7 @@ not_rounds nothing_came e = cc
 not_rounds ended e = cc
 not_rounds (broke f) e = cc
 not_rounds (was_refused a c r) e = not_rounds_reply r.how e
-not_rounds (was_told a made r) e = not_rounds_reply r.how e
+not_rounds (was_reported a made r) e = not_rounds_reply r.how e
 not_rounds (was_done a h r) e = not_rounds_after h.applied h.fault r.how e
 
 -- a turn that ends the line

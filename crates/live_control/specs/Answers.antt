@@ -8,7 +8,7 @@ use Rattle.history_core.specs.declared.event.Event.{Event}
 use Rattle.history_core.specs.declared.event.Event.TheVariants as event
 use Rattle.control_text.specs.Answers.{bpdu_lines}
 
--- what is said first of an event that was entered: that a policy is in force
+-- what is stated first of an event that was entered: that a policy is in force
 abbrev pub first_line : Event → List ℕ
 first_line (event.Policy tables) = codes "policy ok\n"
 first_line (event.Frame port frame) = []
@@ -16,7 +16,7 @@ first_line event.Tick = []
 first_line (event.Link port up) = []
 first_line (event.Request request) = []
 
--- what is said behind those octets, by what became of the event: what the ports of a bridge of this
+-- what is stated behind those octets, by what became of the event: what the ports of a bridge of this
 -- address send, or that it was not entered
 abbrev pub answer_by : Mac → List ℕ → Applied → List (Option Bpdu) → List ℕ
 answer_by source first (Done receipt audit) bpdus = first ++ bpdu_lines source 1 bpdus

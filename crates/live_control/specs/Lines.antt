@@ -15,23 +15,23 @@ use Rattle.live_lock.specs.declared.held.Counts.{Counts}
 use Rattle.live_lock.specs.Counting.{IsCounted}
 use Rattle.live_agent.specs.declared.trace.End.{End}
 use Rattle.live_agent.specs.Turns.{Arrival, Happening}
-use Rattle.live_agent.specs.Lines.{Setting, Happens, ports_packets}
+use Rattle.live_agent.specs.Lines.{RunStart, Happens, ports_packets}
 use Rattle.control_text.specs.Commands.{asked_by, counts, IsReadAs, IsRefusedAs}
 use Rattle.control_text.specs.Answers.{counts_line, refusal_line}
 use Rattle.control_text.specs.declared.command.Command.{Command}
 use Rattle.control_text.specs.declared.command.Command.TheVariants.{Link, Policy, Counts as CountsCommand}
-use Rattle.control_text.specs.declared.command.Refusal.{Refusal}
+use Rattle.control_text.specs.declared.command.CommandFault.{CommandFault}
 use Rattle.control_text.specs.declared.command.TheConstants.{MAX_COMMAND}
 use Rattle.live_control.specs.declared.item.ControlItem.{ControlItem}
 use Rattle.live_control.specs.declared.tally.DropCounts.{DropCounts}
 use Rattle.live_control.specs.Answers.{first_line, answer_by}
 use Rattle.live_control.specs.Deeds.{Deed, all_acted}
-use Rattle.live_control.specs.Turns.{Reply, Turn, nothing_came, ended, broke, was_refused, was_told, was_done, deeds_of, reply_deeds, end_after}
+use Rattle.live_control.specs.Turns.{Reply, Turn, nothing_came, ended, broke, was_refused, was_reported, was_done, deeds_of, reply_deeds, end_after}
 use Rattle.live_control.specs.Runs.{HasRun}
 
 -- The line lends a slice of one octet more than a command has at most.
-abbrev pub command_room : ℕ
-command_room = MAX_COMMAND + 1
+abbrev pub command_space : ℕ
+command_space = MAX_COMMAND + 1
 
 -- the event that a command has happen, if it has one
 abbrev pub event_of : Command → Option Event
@@ -40,10 +40,10 @@ event_of (Policy tables) = Some (event.Policy tables)
 event_of CountsCommand = None
 
 -- A refused command was answered why.
-pub record IsRefusal (ports : ℕ) (a : Arrival) (refusal : Refusal) (reply : Reply) : Type 0 where
+pub record IsRefusal (ports : ℕ) (a : Arrival) (refusal : CommandFault) (reply : Reply) : Type 0 where
   pub reads : IsRefusedAs (asked_by ports a.octets) refusal
   pub says : reply.text ≡ refusal_line refusal
-  pub said : IsSome reply.how
+  pub stated : IsSome reply.how
 
 -- the datagrams that each cause dropped, and the requests that an unknown community or context dropped
 abbrev pub counts_of : DropCounts → Counts → List ℕ
@@ -53,18 +53,18 @@ counts_of dropped world =
 
 -- The counts were answered: those of the datagrams, as the tally has them, and those of the requests, as
 -- the history's world counted them behind so many entries of the line's thread.
-pub record IsTold (Tells : DropCounts → Type 0) (start : History) (ports : ℕ) (a : Arrival) (made : ℕ)
+pub record IsReported (Reports : DropCounts → Type 0) (start : History) (ports : ℕ) (a : Arrival) (made : ℕ)
     (reply : Reply) : Type 0 where
   pub reads : asked_by ports a.octets ≡ counts
   pub dropped : DropCounts
-  pub tallied : Tells dropped
+  pub tallied : Reports dropped
   pub world : Counts
   pub counted : IsCounted start made world
   pub says : reply.text ≡ counts_line (counts_of dropped world)
 
 -- The event of a command happened: what the ports send went to their peers, and then what became of it
 -- was answered.
-pub record IsDone (s : Setting) (ports : ℕ) (a : Arrival) (h : Happening) (reply : Reply) : Type 0 where
+pub record IsDone (s : RunStart) (ports : ℕ) (a : Arrival) (h : Happening) (reply : Reply) : Type 0 where
   pub command : Command
   pub reads : IsReadAs (asked_by ports a.octets) command
   pub event : Event
@@ -85,22 +85,22 @@ pub record HasFinished {W : Type 0} (did : W → List Deed → W → Type 0) (so
   pub went : did a (all_acted acts ++ reply_deeds peer reply) b
   pub ends_so : ends ≡ end_after applied fault reply.how
 
--- A turn of the line, where there are so many ports and the tally tells this.
-abbrev pub IsControlTurn : (DropCounts → Type 0) → Setting → ℕ → Turn → Type 0
-IsControlTurn Tells s ports nothing_came = Unit
-IsControlTurn Tells s ports ended = Unit
-IsControlTurn Tells s ports (broke fault) = Unit
-IsControlTurn Tells s ports (was_refused a refusal reply) =
-    (a.room ≡ command_room) × IsRefusal ports a refusal reply
-IsControlTurn Tells s ports (was_told a made reply) =
-    (a.room ≡ command_room) × IsTold Tells s.start ports a made reply
-IsControlTurn Tells s ports (was_done a h reply) =
-    (a.room ≡ command_room) × IsDone s ports a h reply
+-- A turn of the line, where there are so many ports and the tally reports this.
+abbrev pub IsControlTurn : (DropCounts → Type 0) → RunStart → ℕ → Turn → Type 0
+IsControlTurn Reports s ports nothing_came = Unit
+IsControlTurn Reports s ports ended = Unit
+IsControlTurn Reports s ports (broke fault) = Unit
+IsControlTurn Reports s ports (was_refused a refusal reply) =
+    (a.space ≡ command_space) × IsRefusal ports a refusal reply
+IsControlTurn Reports s ports (was_reported a made reply) =
+    (a.space ≡ command_space) × IsReported Reports s.start ports a made reply
+IsControlTurn Reports s ports (was_done a h reply) =
+    (a.space ≡ command_space) × IsDone s ports a h reply
 
 -- Between two states of its wires, and of what records its items, the line has run so many rounds: one
 -- item for each command, in order, refused for its cause, or entered with exactly its event and
 -- answered.
 abbrev pub HasControlled : {W K : Type 0} → (W → List Deed → W → Type 0)
-    → (K → List ControlItem → K → Type 0) → (DropCounts → Type 0) → Setting → ℕ → ℕ → W → W → K → K → ℕ → ℕ → End → Type 0
-HasControlled did kept Tells s ports rounds a b k l amount later_amount how =
-    HasRun did kept deeds_of (IsControlTurn Tells s ports) rounds a b k l amount later_amount how
+    → (K → List ControlItem → K → Type 0) → (DropCounts → Type 0) → RunStart → ℕ → ℕ → W → W → K → K → ℕ → ℕ → End → Type 0
+HasControlled did kept Reports s ports rounds a b k l amount later_amount how =
+    HasRun did kept deeds_of (IsControlTurn Reports s ports) rounds a b k l amount later_amount how

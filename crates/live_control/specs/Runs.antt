@@ -3,12 +3,12 @@ use Rattle.std.specs.Prelude.{◌≡◌, ◌⊎◌, ℕ, ◌+◌, ◌<◌, ◌�
 use Rattle.live_agent.specs.declared.trace.End.{End}
 use Rattle.live_agent.specs.declared.trace.End.TheVariants as end
 use Rattle.live_control.specs.declared.item.ControlItem.{ControlItem}
-use Rattle.live_control.specs.Turns.{Turn, was_told, was_done, items_of, end_of, entered_in}
+use Rattle.live_control.specs.Turns.{Turn, was_reported, was_done, items_of, end_of, entered_in}
 
 -- The event of a turn, or its counts, if it has some, took its place after the line's thread had made at least so many
 -- entries.
 abbrev pub IsBehind : ℕ → Turn → Type 0
-IsBehind made (was_told a then reply) = made ≤ then
+IsBehind made (was_reported a then reply) = made ≤ then
 IsBehind made (was_done a h reply) = made ≤ h.made
 IsBehind made turn = Unit
 

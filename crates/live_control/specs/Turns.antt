@@ -9,7 +9,7 @@ use Rattle.history_core.specs.declared.applied.Applied.TheVariants.{Done, Droppe
 use Rattle.live_agent.specs.declared.trace.End.{End}
 use Rattle.live_agent.specs.declared.trace.End.TheVariants as end
 use Rattle.live_agent.specs.Turns.{Arrival, Happening, arrival_act, end_by}
-use Rattle.control_text.specs.declared.command.Refusal.{Refusal}
+use Rattle.control_text.specs.declared.command.CommandFault.{CommandFault}
 use Rattle.live_control.specs.declared.item.ControlItem.{ControlItem}
 use Rattle.live_control.specs.declared.item.ControlItem.TheVariants as item
 use Rattle.live_control.specs.Deeds.{Deed, controlled, all_acted}
@@ -26,8 +26,8 @@ pub data Turn : Type 0 where
   nothing_came : Turn
   ended : Turn
   broke : WireFault → Turn
-  was_refused : Arrival → Refusal → Reply → Turn
-  was_told : Arrival → ℕ → Reply → Turn
+  was_refused : Arrival → CommandFault → Reply → Turn
+  was_reported : Arrival → ℕ → Reply → Turn
   was_done : Arrival → Happening → Reply → Turn
 
 -- what a reply did on the control wire
@@ -44,7 +44,7 @@ deeds_of nothing_came = controlled quiet ∷ []
 deeds_of ended = controlled closed ∷ []
 deeds_of (broke fault) = controlled (failed fault) ∷ []
 deeds_of (was_refused a refusal reply) = controlled (arrival_act a) ∷ reply_deeds a.peer reply
-deeds_of (was_told a made reply) = controlled (arrival_act a) ∷ reply_deeds a.peer reply
+deeds_of (was_reported a made reply) = controlled (arrival_act a) ∷ reply_deeds a.peer reply
 deeds_of (was_done a h reply) = controlled (arrival_act a) ∷ (all_acted h.acts ++ reply_deeds a.peer reply)
 
 -- what is recorded of an event
@@ -60,7 +60,7 @@ items_of nothing_came = []
 items_of ended = []
 items_of (broke fault) = []
 items_of (was_refused a refusal reply) = item.Refused refusal ∷ []
-items_of (was_told a made reply) = item.Told ∷ []
+items_of (was_reported a made reply) = item.Reported ∷ []
 items_of (was_done a h reply) = item_of h.applied ∷ []
 
 -- how a reply ends the line, if it does: by want of memory for it, or where it could not be sent
@@ -83,7 +83,7 @@ end_of nothing_came = None
 end_of ended = Some end.Closed
 end_of (broke fault) = Some (end.Wire fault)
 end_of (was_refused a refusal reply) = end_by_reply reply.how
-end_of (was_told a made reply) = end_by_reply reply.how
+end_of (was_reported a made reply) = end_by_reply reply.how
 end_of (was_done a h reply) = end_after h.applied h.fault reply.how
 
 -- how many entries the events of items made
@@ -91,6 +91,6 @@ abbrev pub entered_in : List ControlItem → ℕ
 entered_in [] = 0
 entered_in (item.Entered receipt ∷ items) = 1 + entered_in items
 entered_in (item.Refused refusal ∷ items) = entered_in items
-entered_in (item.Told ∷ items) = entered_in items
+entered_in (item.Reported ∷ items) = entered_in items
 entered_in (item.Short ∷ items) = entered_in items
 entered_in (item.Full ∷ items) = entered_in items

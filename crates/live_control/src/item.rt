@@ -1,15 +1,15 @@
 //! What became of a command.
 
-use control_text::Refusal;
+use control_text::CommandFault;
 use history_core::Receipt;
 
 /// What became of a command of an operator.
 #[derive(Drop)]
 pub enum ControlItem {
     /// It is no command that is done.
-    Refused(Refusal),
+    Refused(CommandFault),
     /// The counts were asked for.
-    Told,
+    Reported,
     /// Its event was entered in the history: the receipt.
     Entered(Receipt),
     /// There was no memory for its event.

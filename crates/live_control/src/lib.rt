@@ -16,7 +16,7 @@
 //! # Laws
 //! On the loop: each command has one item, in order; it was refused for its cause, or exactly its event
 //! took its place in the history; what the ports send went to their peers, and the answer to the
-//! operator, and nothing else. No command is a frame or a request. [`room_is_as_asked`] is on the length
+//! operator, and nothing else. No command is a frame or a request. [`space_is_as_asked`] is on the length
 //! of a command's slice.
 //!
 //! # Not claimed
@@ -34,7 +34,7 @@ mod task;
 
 pub use control_wire::{ControlWire, Controlled};
 pub use item::ControlItem;
-pub use laws::room_is_as_asked;
+pub use laws::space_is_as_asked;
 pub use recorder::ControlRecorder;
 pub use tally::{DropCounts, DropTally};
-pub use task::{COMMAND_ROOM, control_run};
+pub use task::{COMMAND_SPACE, control_run};

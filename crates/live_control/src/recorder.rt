@@ -15,7 +15,7 @@ pub trait ControlRecorder: Drop {
     ghost went: { Self → List ControlItem → Self → Type 0 };
 
     // It has memory for one item more.
-    ghost has_room: { Self → Type 0 };
+    ghost has_space: { Self → Type 0 };
 
     /// Makes sure that there is memory for one item more.
     ///
@@ -23,11 +23,11 @@ pub trait ControlRecorder: Drop {
     /// That there is none.
     fn reserve(&mut self) -> Result<(), AllocError>
         ensures unchanged { went self.old [] self.new }
-        ensures room { OnOk result (has_room self.new) };
+        ensures space { OnOk result (has_space self.new) };
 
     /// Takes an item, for which there is memory.
     fn record(&mut self, item: ControlItem)
-        requires { has_room self.old }
+        requires { has_space self.old }
         ensures { went self.old (item ∷ []) self.new };
 
     // Without an item it stays as it is.
@@ -45,7 +45,7 @@ impl ControlRecorder for Vec<ControlItem> {
 
     ghost went = { λ a items b. b.items ≡ a.items ++ items };
 
-    ghost has_room = { λ a. vec_len a < vec_capacity a };
+    ghost has_space = { λ a. vec_len a < vec_capacity a };
 
     ghost starts = { λ a. added_none a.items };
 

@@ -22,9 +22,9 @@ pub trait DropTally {
     ghost use Rattle.live_control.specs.declared.tally.DropCounts.{DropCounts};
 
     // It may give this.
-    ghost tells: { Self → DropCounts → Type 0 };
+    ghost reports: { Self → DropCounts → Type 0 };
 
     /// The counts of the intervals that ended.
     fn dropped<R: Wait>(&self, rt: &R) -> DropCounts
-        ensures { tells self.now result };
+        ensures { reports self.now result };
 }

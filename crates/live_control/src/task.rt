@@ -1,10 +1,10 @@
 //! The line of the control socket.
 ghost use Rattle.std.specs.Prelude.{◌≡◌, ◌<◌, ◌∷◌, [], length, IfOk};
 ghost use Rattle.wire_core.specs.Acts.{got};
-ghost use Rattle.live_agent.specs.Lines.{setting_of};
+ghost use Rattle.live_agent.specs.Lines.{run_start_of};
 ghost use Rattle.live_control.specs.Deeds.{controlled};
 ghost use Rattle.control_text.specs.Answers.{counts_line};
-ghost use Rattle.live_control.specs.Lines.{IsControlTurn, HasControlled, HasFinished, command_room, counts_of};
+ghost use Rattle.live_control.specs.Lines.{IsControlTurn, HasControlled, HasFinished, command_space, counts_of};
 ghost use Rattle.live_control.specs.Runs.{HasTurned};
 ghost use Rattle.live_control.specs.Turns.{deeds_of, item_of};
 
@@ -26,7 +26,7 @@ use std::sync::Wait;
 use wire_core::Received;
 
 /// The octets of a command's slice: one more than it has at most, so that a longer one is seen.
-pub const COMMAND_ROOM: usize = MAX_COMMAND + 1;
+pub const COMMAND_SPACE: usize = MAX_COMMAND + 1;
 
 // What the line works with: a buffer for what one event gives to send, and what records its items.
 #[derive(Drop)]
@@ -49,12 +49,12 @@ pub fn control_run<O: MibObject, L: Run, W: ControlWire, K: ControlRecorder, D: 
     live: &Live<O, L>,
     share: &mut Share<L>,
     wire: &mut W,
-    room: &mut [u8],
+    space: &mut [u8],
     recorder: K,
 ) -> (End, K)
     requires part { 0 < share.old.parts }
-    requires room { length room.old ≡ command_room }
-    ensures run { HasControlled W.did K.went (D.tells tally.now) (setting_of L.start plan.now) ports
+    requires space { length space.old ≡ command_space }
+    ensures run { HasControlled W.did K.went (D.reports tally.now) (run_start_of L.start plan.now) ports
         plan.now.rounds wire.old wire.new recorder result.1 share.old.amount share.new.amount
         result.0 }
     ensures parts { share.new.parts ≡ share.old.parts }
@@ -63,7 +63,7 @@ pub fn control_run<O: MibObject, L: Run, W: ControlWire, K: ControlRecorder, D: 
         buffer: Buffer::new(),
         recorder,
     };
-    let end = go_round(rt, plan, ports, tally, live, share, wire, room, &mut state);
+    let end = go_round(rt, plan, ports, tally, live, share, wire, space, &mut state);
     let ControlState { recorder, .. } = state;
     (end, recorder)
 }
@@ -77,12 +77,12 @@ fn go_round<O: MibObject, L: Run, W: ControlWire, K: ControlRecorder, D: DropTal
     live: &Live<O, L>,
     share: &mut Share<L>,
     wire: &mut W,
-    room: &mut [u8],
+    space: &mut [u8],
     state: &mut ControlState<K>,
 ) -> End
     requires part { 0 < share.old.parts }
-    requires room { length room.old ≡ command_room }
-    ensures run { HasControlled W.did K.went (D.tells tally.now) (setting_of L.start plan.now) ports
+    requires space { length space.old ≡ command_space }
+    ensures run { HasControlled W.did K.went (D.reports tally.now) (run_start_of L.start plan.now) ports
         plan.now.rounds wire.old wire.new state.old.recorder state.new.recorder
         share.old.amount share.new.amount result }
     ensures parts { share.new.parts ≡ share.old.parts }
@@ -91,7 +91,7 @@ fn go_round<O: MibObject, L: Run, W: ControlWire, K: ControlRecorder, D: DropTal
         if state.recorder.reserve().is_err() {
             return End::Memory;
         }
-        if let Some(end) = control_turn(rt, plan, ports, tally, live, share, wire, room, state) {
+        if let Some(end) = control_turn(rt, plan, ports, tally, live, share, wire, space, state) {
             return end;
         }
     }
@@ -107,24 +107,24 @@ fn control_turn<O: MibObject, L: Run, W: ControlWire, K: ControlRecorder, D: Dro
     live: &Live<O, L>,
     share: &mut Share<L>,
     wire: &mut W,
-    room: &mut [u8],
+    space: &mut [u8],
     state: &mut ControlState<K>,
 ) -> Option<End>
     requires part { 0 < share.old.parts }
-    requires room { length room.old ≡ command_room }
-    requires memory { K.has_room state.old.recorder }
+    requires space { length space.old ≡ command_space }
+    requires memory { K.has_space state.old.recorder }
     ensures turn { HasTurned W.did K.went deeds_of
-        (IsControlTurn (D.tells tally.now) (setting_of L.start plan.now) ports)
+        (IsControlTurn (D.reports tally.now) (run_start_of L.start plan.now) ports)
         wire.old wire.new state.old.recorder state.new.recorder
         share.old.amount share.new.amount result }
     ensures parts { share.new.parts ≡ share.old.parts }
 {
-    match wire.take(room) {
+    match wire.take(space) {
         Err(fault) => Some(End::Wire(fault)),
         Ok(Received::Nothing) => None,
         Ok(Received::Closed) => Some(End::Closed),
         Ok(Received::Datagram(len, peer)) => {
-            let octets = &room[..len];
+            let octets = &space[..len];
             take_command(
                 rt, plan, ports, tally, live, share, wire, state, peer, octets,
             )
@@ -146,10 +146,10 @@ fn take_command<O: MibObject, L: Run, W: ControlWire, K: ControlRecorder, D: Dro
     octets: &[u8],
 ) -> Option<End>
     requires part { 0 < share.old.parts }
-    requires memory { K.has_room state.old.recorder }
-    ensures turn { (a : W) → W.did a (controlled (got command_room peer octets.now) ∷ []) wire.old →
+    requires memory { K.has_space state.old.recorder }
+    ensures turn { (a : W) → W.did a (controlled (got command_space peer octets.now) ∷ []) wire.old →
         HasTurned W.did K.went deeds_of
-        (IsControlTurn (D.tells tally.now) (setting_of L.start plan.now) ports) a wire.new
+        (IsControlTurn (D.reports tally.now) (run_start_of L.start plan.now) ports) a wire.new
         state.old.recorder state.new.recorder share.old.amount share.new.amount result }
     ensures parts { share.new.parts ≡ share.old.parts }
 {
@@ -163,7 +163,7 @@ fn take_command<O: MibObject, L: Run, W: ControlWire, K: ControlRecorder, D: Dro
             let world = live.counts(rt, share);
             let text = counts_text(plan.alloc, &tally.dropped(rt), &world);
             let answered = send_text(wire, peer, &text);
-            state.recorder.record(ControlItem::Told);
+            state.recorder.record(ControlItem::Reported);
             end_by_reply(answered)
         }
         Ok(Command::Link(port, up)) => {
@@ -204,7 +204,7 @@ fn finish<W: ControlWire, K: ControlRecorder>(
     first: &[u8],
     applied: Applied,
 ) -> Option<End>
-    requires { K.has_room state.old.recorder }
+    requires { K.has_space state.old.recorder }
     ensures finished { HasFinished W.did plan.now.source plan.now.peers.items peer first.now applied
         state.old.buffer.bpdus wire.old wire.new result }
     ensures recorded { K.went state.old.recorder (item_of applied ∷ []) state.new.recorder }

@@ -1,5 +1,5 @@
 mod Commanding
-pub mod Lapping
+pub mod IntervalLemmas
 mod Noting
 mod Summing
 mod Traced

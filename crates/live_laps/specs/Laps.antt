@@ -10,7 +10,7 @@ use Rattle.live_lock.specs.Sharing.{IsHeld}
 use Rattle.live_lock.specs.declared.held.Counts.{Counts}
 use Rattle.live_agent.specs.Deeds.{Deed}
 use Rattle.live_control.specs.Deeds.{Deed as ControlDeed}
-use Rattle.live_agent.specs.Lines.{Setting, setting_of, IsPortTurn, HasWorked, HasPortRun, HasTicked}
+use Rattle.live_agent.specs.Lines.{RunStart, run_start_of, IsPortTurn, HasWorked, HasPortRun, HasTicked}
 use Rattle.live_agent.specs.Runs.{HasRun, failures_at, adds}
 use Rattle.live_agent.specs.Turns.{acts_of}
 use Rattle.live_agent.specs.declared.plan.Plan.{Plan}
@@ -23,7 +23,7 @@ use Rattle.live_control.specs.Lines.{HasControlled}
 use Rattle.live_control.specs.Runs.{adds as control_adds}
 use Rattle.live_control.specs.declared.item.ControlItem.{ControlItem}
 use Rattle.live_laps.specs.Lines.{name_of}
-use Rattle.live_laps.specs.Notes.{Note, lap_worked, lap_ticked, line_failed, line_ended, worked_in}
+use Rattle.live_laps.specs.Notes.{Note, interval_worked, interval_ticked, line_failed, line_ended, worked_in}
 use Rattle.live_laps.specs.declared.line.Line.{Line}
 use Rattle.live_laps.specs.declared.line.Line.TheVariants.{Worker, Port, Ticker, Control}
 use Rattle.live_laps.specs.declared.line.Watched.{Watched}
@@ -38,7 +38,7 @@ is_first_entered (item.Full ∷ items) = false
 
 -- An interval of the control line of so many ports: one item for each command, whichever counts of
 -- datagrams it was handed.
-abbrev pub HasCommanded : {C : Type 0} → (C → List ControlDeed → C → Type 0) → Setting → ℕ → ℕ → C → C
+abbrev pub HasCommanded : {C : Type 0} → (C → List ControlDeed → C → Type 0) → RunStart → ℕ → ℕ → C → C
     → ℕ → ℕ → End → Type 0
 HasCommanded control_did s rounds ports a b m n end = (items : List ControlItem)
     × HasControlled control_did control_adds (λ counts. Unit) s ports rounds a b [] items m n end
@@ -53,17 +53,17 @@ AllGone gone _ _ _ m n = ⊥
 
 -- All of these went on over the history that was handed in, and this is what became of it: a legal
 -- one, which goes on from it by as many entries as they made.
-pub record HaveGone {N : Type 0} (gone : Setting → ℕ → N → ℕ → N → ℕ → End → Type 0) (plan : Plan)
+pub record HaveGone {N : Type 0} (gone : RunStart → ℕ → N → ℕ → N → ℕ → End → Type 0) (plan : Plan)
     (start later : History) (olds news : List N) (ends : List End) : Type 0 where
   pub entries : ℕ
-  pub lines : AllGone (gone (setting_of start plan) plan.rounds) olds news ends 0 entries
+  pub lines : AllGone (gone (run_start_of start plan) plan.rounds) olds news ends 0 entries
   pub held : IsHeld start later entries
   pub legal : IsHistory later
 
 module _ {A W T C : Type 0} (worker_did : A → List Deed → A → Type 0) (worker_failures : A → ℕ)
     (went : W → List Act → W → Type 0) (failures : W → ℕ)
     (ticker_did : T → List Deed → T → Type 0) (ticker_failures : T → ℕ)
-    (control_did : C → List ControlDeed → C → Type 0) (s : Setting) (rounds : ℕ) where
+    (control_did : C → List ControlDeed → C → Type 0) (s : RunStart) (rounds : ℕ) where
   -- An interval of a port, which begins with its link until that was entered.
   abbrev pub HasPassed : Bool → ℕ → W → W → ℕ → ℕ → List Item → End → Type 0
   HasPassed false port a b m n trace end = HasPortRun went adds s port rounds a b [] trace m n end
@@ -76,29 +76,29 @@ module _ {A W T C : Type 0} (worker_did : A → List Deed → A → Type 0) (wor
   -- trace, and it went up if that was entered (an interval may end for want of memory before it is). A
   -- wire counts a fault that ended it, but for that of the control line, whose commands are no items of
   -- the trace.
-  abbrev pub IsLap : Line A W T C → Line A W T C → ℕ → ℕ → List Item → End → Type 0
-  IsLap (Worker number a) (Worker number' b) m n trace end =
+  abbrev pub IsInterval : Line A W T C → Line A W T C → ℕ → ℕ → List Item → End → Type 0
+  IsInterval (Worker number a) (Worker number' b) m n trace end =
       (number' ≡ number) × HasWorked worker_did adds s rounds number a b [] trace m n end
       × (worker_failures b ≡ failures_at end (worker_failures a))
-  IsLap (Port number is_begun a) (Port number' is_begun' b) m n trace end =
+  IsInterval (Port number is_begun a) (Port number' is_begun' b) m n trace end =
       (number' ≡ number) × (is_begun' ≡ (is_begun || is_first_entered trace))
       × HasPassed is_begun number a b m n trace end
       × (failures b ≡ failures_at end (failures a))
-  IsLap (Ticker a) (Ticker b) m n trace end =
+  IsInterval (Ticker a) (Ticker b) m n trace end =
       HasTicked ticker_did adds s rounds a b [] trace m n end
       × (ticker_failures b ≡ failures_at end (ticker_failures a))
-  IsLap (Control ports a) (Control ports' b) m n trace end =
+  IsInterval (Control ports a) (Control ports' b) m n trace end =
       (ports' ≡ ports) × (trace ≡ []) × HasCommanded control_did s rounds ports a b m n end
-  IsLap _ _ m n trace end = ⊥
+  IsInterval _ _ m n trace end = ⊥
 
 -- What is reported to the watch of a line of an interval that left this trace, once its thread has
--- made so many entries: what a worker's interval came to, and for one of the ticker how far the
+-- made so many entries: what a worker's interval amounted to, and for one of the ticker how far the
 -- history was at some time, by no fewer entries than these.
 abbrev pub IsNoted : {A W T C : Type 0} → History → Line A W T C → ℕ → List Item → List Note → Type 0
-IsNoted start (Worker number wire) made trace notes = notes ≡ lap_worked (worked_in trace) ∷ []
+IsNoted start (Worker number wire) made trace notes = notes ≡ interval_worked (worked_in trace) ∷ []
 IsNoted start (Port number is_begun wire) made trace notes = notes ≡ []
 IsNoted start (Ticker wire) made trace notes =
-    (counts : Counts) × IsCounted start made counts × (notes ≡ lap_ticked counts ∷ [])
+    (counts : Counts) × IsCounted start made counts × (notes ≡ interval_ticked counts ∷ [])
 IsNoted start (Control ports wire) made trace notes = notes ≡ []
 
 -- A line with its watch, its pace and its count of faults, and how many entries its thread has made by
@@ -117,7 +117,7 @@ module _ {A W T C V P : Type 0} (watch_went : V → List Note → V → Type 0)
   pub record HasFailed (a b : Watched A W T C V P) (how : End) (answer : Bool) : Type 0 where
     pub line_is : b.line ≡ a.line
     pub faults_are : b.faults ≡ one_more a.faults
-    pub told : watch_went a.watch (line_failed (name_of a.line) how b.faults ∷ []) b.watch
+    pub reported : watch_went a.watch (line_failed (name_of a.line) how b.faults ∷ []) b.watch
     pub paced : pace_went a.pace (answer ∷ []) b.pace
 
   -- Whether a line goes on behind an interval that ended so: where its rounds are over, at once; where
@@ -144,24 +144,24 @@ module _ {A W T C V P : Type 0} (worker_did : A → List Deed → A → Type 0) 
     (ticker_did : T → List Deed → T → Type 0) (ticker_failures : T → ℕ)
     (control_did : C → List ControlDeed → C → Type 0)
     (watch_went : V → List Note → V → Type 0) (pace_went : P → List Bool → P → Type 0)
-    (s : Setting) (rounds : ℕ) where
+    (s : RunStart) (rounds : ℕ) where
   -- An interval from one place to another that ended so, and was reported once to the watch. The pace
   -- and the count of faults are the same. Only a port's link, and a command, ends one for want of memory.
-  pub record IsNotedLap (a b : Place A W T C V P) (how : End) : Type 0 where
+  pub record IsNotedInterval (a b : Place A W T C V P) (how : End) : Type 0 where
     pub trace : List Item
-    pub lap : IsLap worker_did worker_failures went failures ticker_did ticker_failures control_did s rounds
+    pub interval : IsInterval worker_did worker_failures went failures ticker_did ticker_failures control_did s rounds
         a.watched.line b.watched.line a.amount b.amount trace how
     pub memory : how ≡ Memory → IsShort a.watched.line trace
     pub notes : List Note
     pub noted : IsNoted s.start b.watched.line b.amount trace notes
-    pub told : watch_went a.watched.watch notes b.watched.watch
+    pub reported : watch_went a.watched.watch notes b.watched.watch
     pub pace_is : b.watched.pace ≡ a.watched.pace
     pub faults_are : b.watched.faults ≡ a.watched.faults
 
   -- An interval that ended so, and what is behind it: the next, or none.
   pub record HasPassedOn (a b : Place A W T C V P) (how : End) (answer : Bool) : Type 0 where
     pub between : Watched A W T C V P
-    pub interval : IsNotedLap a (place_of between b.amount) how
+    pub interval : IsNotedInterval a (place_of between b.amount) how
     pub behind : GoesOn watch_went pace_went between b.watched how answer
 
   -- Intervals lead from one place to another, each from the place to which the one before it led, and
@@ -171,7 +171,7 @@ module _ {A W T C V P : Type 0} (worker_did : A → List Deed → A → Type 0) 
   AreLaps (at ∷ before) a b = AreLaps before a at × (how : End) × HasPassedOn at b how true
 
   -- so many of them
-  pub record HasLapped (count : ℕ) (a b : Place A W T C V P) : Type 0 where
+  pub record HasPassedIntervals (count : ℕ) (a b : Place A W T C V P) : Type 0 where
     pub places : List (Place A W T C V P)
     pub count_is : length places ≡ count
     pub laps : AreLaps places a b
@@ -181,15 +181,15 @@ module _ {A W T C V P : Type 0} (worker_did : A → List Deed → A → Type 0) 
   pub record HasEnded (a b : Place A W T C V P) (end : End) : Type 0 where
     pub count : ℕ
     pub place : Place A W T C V P
-    pub lapped : HasLapped count a place
+    pub passed_intervals : HasPassedIntervals count a place
     pub closing : Watched A W T C V P
     pub last : HasPassedOn place (place_of closing b.amount) end false
-    pub told : watch_went closing.watch (line_ended (name_of closing.line) end ∷ []) b.watched.watch
+    pub reported : watch_went closing.watch (line_ended (name_of closing.line) end ∷ []) b.watched.watch
     pub rest_is : b.watched ≡ record closing { watch = b.watched.watch }
 
   -- A line went on interval by interval until one ended it, or there were as many as can be counted.
   abbrev pub HasGoneOn : Place A W T C V P → Place A W T C V P → End → Type 0
-  HasGoneOn a b end = HasEnded a b end ⊎ ((end ≡ Rounds) × HasLapped 18446744073709551615 a b)
+  HasGoneOn a b end = HasEnded a b end ⊎ ((end ≡ Rounds) × HasPassedIntervals 18446744073709551615 a b)
 
 module _ {A W T C V P : Type 0} (worker_did : A → List Deed → A → Type 0) (worker_failures : A → ℕ)
     (went : W → List Act → W → Type 0) (failures : W → ℕ)
@@ -197,7 +197,7 @@ module _ {A W T C V P : Type 0} (worker_did : A → List Deed → A → Type 0) 
     (control_did : C → List ControlDeed → C → Type 0)
     (watch_went : V → List Note → V → Type 0) (pace_went : P → List Bool → P → Type 0) where
   -- A line went on so between two counts of its thread's entries.
-  abbrev pub GoneOn : Setting → ℕ → Watched A W T C V P → ℕ → Watched A W T C V P → ℕ → End → Type 0
+  abbrev pub GoneOn : RunStart → ℕ → Watched A W T C V P → ℕ → Watched A W T C V P → ℕ → End → Type 0
   GoneOn s rounds a m b n end = HasGoneOn worker_did worker_failures went failures ticker_did
       ticker_failures control_did watch_went pace_went s rounds (place_of a m) (place_of b n) end
 

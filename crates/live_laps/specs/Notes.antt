@@ -8,18 +8,18 @@ use Rattle.live_agent.specs.Turns.{entered_in}
 use Rattle.live_agent.specs.declared.trace.End.{End}
 use Rattle.live_agent.specs.declared.trace.Item.{Item}
 use Rattle.live_agent.specs.declared.trace.Item.TheVariants.{Refused}
-use Rattle.live_agent.specs.declared.trace.Refusal.TheVariants.{Datagram}
+use Rattle.live_agent.specs.declared.trace.InputFault.TheVariants.{Datagram}
 use Rattle.live_run.specs.Reports.{refused_in, count_up_to_max}
 use Rattle.live_laps.specs.declared.book.Drops.{Drops}
 use Rattle.live_laps.specs.declared.book.Worked.{Worked}
 use Rattle.live_laps.specs.declared.line.LineName.{LineName}
 
--- An interval of a worker ended, which came to this; an interval of the ticker, at which the history
+-- An interval of a worker ended, which amounted to this; an interval of the ticker, at which the history
 -- was so far past its start; a fault ended an interval of this line, the last of so many; the line
 -- ended so.
 pub data Note : Type 0 where
-  lap_worked : Worked → Note
-  lap_ticked : Counts → Note
+  interval_worked : Worked → Note
+  interval_ticked : Counts → Note
   line_failed : LineName → End → ℕ → Note
   line_ended : LineName → End → Note
 
@@ -56,7 +56,7 @@ both_drops some more = record {
   memory = count_up_to_max (some.memory + more.memory);
 }
 
--- What a worker's interval came to, by its trace: the requests that were entered, and the datagrams
+-- What a worker's interval amounted to, by its trace: the requests that were entered, and the datagrams
 -- that gave none, in all and by cause.
 abbrev pub worked_in : List Item → Worked
 worked_in trace = record {

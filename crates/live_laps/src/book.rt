@@ -5,7 +5,7 @@ ghost use Rattle.live_run.specs.Reports.{refused_in, count_up_to_max};
 ghost use Rattle.live_laps.specs.Notes.{worked_in, dropped_by, drops_in, both_drops};
 ghost use Rattle.live_agent.specs.declared.trace.Item.{Item as AnyItem};
 
-use live_agent::{Item, Refusal};
+use live_agent::{InputFault, Item};
 use message_core::DropCause;
 use std::sync::{Mutex, Wait};
 
@@ -60,11 +60,11 @@ fn dropped(item: &Item, cause: DropCause) -> u64
     ensures { result ≡ dropped_by cause (item.now ∷ []) }
 {
     match (cause, item) {
-        (DropCause::TooLong, Item::Refused(Refusal::Datagram(DropCause::TooLong)))
-        | (DropCause::Malformed, Item::Refused(Refusal::Datagram(DropCause::Malformed)))
-        | (DropCause::BadVersion, Item::Refused(Refusal::Datagram(DropCause::BadVersion)))
-        | (DropCause::BadKind, Item::Refused(Refusal::Datagram(DropCause::BadKind)))
-        | (DropCause::Memory, Item::Refused(Refusal::Datagram(DropCause::Memory))) => 1,
+        (DropCause::TooLong, Item::Refused(InputFault::Datagram(DropCause::TooLong)))
+        | (DropCause::Malformed, Item::Refused(InputFault::Datagram(DropCause::Malformed)))
+        | (DropCause::BadVersion, Item::Refused(InputFault::Datagram(DropCause::BadVersion)))
+        | (DropCause::BadKind, Item::Refused(InputFault::Datagram(DropCause::BadKind)))
+        | (DropCause::Memory, Item::Refused(InputFault::Datagram(DropCause::Memory))) => 1,
         _ => 0,
     }
 }
@@ -133,35 +133,35 @@ impl Worked {
     }
 
     // With another interval. A count stops at `u64::MAX`.
-    fn add(&mut self, lap: Worked)
+    fn add(&mut self, interval: Worked)
         ensures requests { self.new.requests
-            ≡ count_up_to_max (self.old.requests + lap.requests) }
-        ensures drops { self.new.drops ≡ count_up_to_max (self.old.drops + lap.drops) }
-        ensures by_cause { self.new.by_cause ≡ both_drops self.old.by_cause lap.by_cause }
+            ≡ count_up_to_max (self.old.requests + interval.requests) }
+        ensures drops { self.new.drops ≡ count_up_to_max (self.old.drops + interval.drops) }
+        ensures by_cause { self.new.by_cause ≡ both_drops self.old.by_cause interval.by_cause }
     {
-        self.requests = self.requests.saturating_add(lap.requests);
-        self.drops = self.drops.saturating_add(lap.drops);
-        self.by_cause.add(lap.by_cause);
+        self.requests = self.requests.saturating_add(interval.requests);
+        self.drops = self.drops.saturating_add(interval.drops);
+        self.by_cause.add(interval.by_cause);
     }
 }
 
 /// What workers did in intervals so far, for the watches of all lines.
 #[derive(Drop)]
-pub struct Book {
+pub struct WorkTotals {
     worked: Mutex<Worked>,
 }
 
-impl Book {
+impl WorkTotals {
     /// Nothing yet.
-    pub fn new() -> Book {
-        Book {
+    pub fn new() -> WorkTotals {
+        WorkTotals {
             worked: Mutex::new(Worked::nothing()),
         }
     }
 
     /// Adds an interval of a worker.
-    pub fn add<R: Wait>(&self, rt: &R, lap: Worked) {
-        self.worked.lock(rt).add(lap);
+    pub fn add<R: Wait>(&self, rt: &R, interval: Worked) {
+        self.worked.lock(rt).add(interval);
     }
 
     /// What there is by now.

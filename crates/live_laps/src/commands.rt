@@ -1,13 +1,13 @@
 //! An interval of the control line.
 ghost use Rattle.std.specs.Prelude.{◌≡◌, ◌<◌};
-ghost use Rattle.live_agent.specs.Lines.{setting_of};
+ghost use Rattle.live_agent.specs.Lines.{run_start_of};
 ghost use Rattle.live_laps.specs.Laps.{HasCommanded};
 
 use crate::book::Drops;
 use crate::watch::Watch;
 use live_agent::{End, Plan};
 use live_control::{
-    COMMAND_ROOM, ControlItem, ControlRecorder, ControlWire, DropCounts, DropTally, control_run,
+    COMMAND_SPACE, ControlItem, ControlRecorder, ControlWire, DropCounts, DropTally, control_run,
 };
 use live_lock::{Live, Run, Share};
 use setphase_core::MibObject;
@@ -23,7 +23,7 @@ struct WatchItems<'w, V> {
 impl<V: Watch> ControlRecorder for WatchItems<'_, V> {
     ghost went = { λ _ _ _. Unit };
 
-    ghost has_room = { λ _. Unit };
+    ghost has_space = { λ _. Unit };
 
     ghost starts = { λ _. tt };
 
@@ -45,7 +45,7 @@ struct WatchTally<'w, V> {
 }
 
 impl<V: Watch> DropTally for WatchTally<'_, V> {
-    ghost tells = { λ _ _. Unit };
+    ghost reports = { λ _ _. Unit };
 
     fn dropped<R: Wait>(&self, rt: &R) -> DropCounts {
         counts_of(self.watch.dropped(rt))
@@ -70,7 +70,7 @@ fn counts_of(drops: Drops) -> DropCounts {
 
 /// An interval of the control line of so many ports, and how it ended. An operator who asks for the
 /// counts is answered what the watch gives then. What became of each command is reported to the watch.
-pub(crate) fn command_lap<O: MibObject, L: Run, C: ControlWire, V: Watch, R: Wait>(
+pub(crate) fn command_interval<O: MibObject, L: Run, C: ControlWire, V: Watch, R: Wait>(
     rt: &R,
     plan: &Plan,
     ports: u16,
@@ -80,13 +80,15 @@ pub(crate) fn command_lap<O: MibObject, L: Run, C: ControlWire, V: Watch, R: Wai
     wire: &mut C,
 ) -> End
     requires { 0 < share.old.parts }
-    ensures run { HasCommanded C.did (setting_of L.start plan.now) plan.now.rounds ports wire.old
+    ensures run { HasCommanded C.did (run_start_of L.start plan.now) plan.now.rounds ports wire.old
         wire.new share.old.amount share.new.amount result }
     ensures parts { share.new.parts ≡ share.old.parts }
 {
-    let mut room = [0u8; COMMAND_ROOM];
+    let mut space = [0u8; COMMAND_SPACE];
     let tally = WatchTally { watch };
     let items = WatchItems { watch };
-    let (end, _items) = control_run(rt, plan, ports, &tally, live, share, wire, &mut room, items);
+    let (end, _items) = control_run(
+        rt, plan, ports, &tally, live, share, wire, &mut space, items,
+    );
     end
 }

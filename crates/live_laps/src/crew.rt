@@ -3,11 +3,11 @@ ghost use Rattle.std.specs.Prelude.{◌≡◌, ◌<◌, ◌≤◌, ◌^◌, [], 
 ghost use Rattle.std.specs.Thread.{IsSync};
 ghost use Rattle.history_core.specs.History.{IsHistory};
 ghost use Rattle.live_lock.specs.Sharing.{IsHeld};
-ghost use Rattle.live_agent.specs.Lines.{setting_of};
+ghost use Rattle.live_agent.specs.Lines.{run_start_of};
 ghost use Rattle.live_run.specs.Shared.{MayShare};
 ghost use Rattle.live_laps.specs.Laps.{AllGone, HaveGone};
 
-use crate::going::Going;
+use crate::line_task::LineTask;
 use history_core::Kept;
 use live_agent::{End, Plan};
 use live_lock::{Live, Run, Share};
@@ -19,7 +19,12 @@ use std::thread::{Threads, join};
 
 // Each line in a thread beside the others. Gives back the share, the lines, and how each ended, in
 // their order.
-fn run_lines<O: MibObject + Send, L: Run + Send + Sync, N: Going + Send, R: Threads + Wait + Sync>(
+fn run_lines<
+    O: MibObject + Send,
+    L: Run + Send + Sync,
+    N: LineTask + Send,
+    R: Threads + Wait + Sync,
+>(
     rt: &R,
     plan: &Plan,
     live: &Live<O, L>,
@@ -30,12 +35,12 @@ fn run_lines<O: MibObject + Send, L: Run + Send + Sync, N: Going + Send, R: Thre
     requires shared { MayShare O.row L.row O.MibObject L.start L.base_rise L.name L.parts L.rise }
     requires parts { vec_len lines < share.parts }
     requires empty { ends.items ≡ [] }
-    requires room { vec_len lines ≤ vec_capacity ends }
-    ensures lines { AllGone (N.gone (setting_of L.start plan.now) plan.now.rounds) lines.items result.1.items result.2.items share.amount result.0.amount }
+    requires space { vec_len lines ≤ vec_capacity ends }
+    ensures lines { AllGone (N.gone (run_start_of L.start plan.now) plan.now.rounds) lines.items result.1.items result.2.items share.amount result.0.amount }
     ensures parts { result.0.parts ≡ share.parts }
     ensures lens { (vec_len result.1 ≡ vec_len lines) × (vec_len result.2 ≡ vec_len lines) }
-    ensures lines_room { vec_capacity result.1 ≡ vec_capacity lines }
-    ensures ends_room { vec_capacity result.2 ≡ vec_capacity ends }
+    ensures lines_space { vec_capacity result.1 ≡ vec_capacity lines }
+    ensures ends_space { vec_capacity result.2 ≡ vec_capacity ends }
 {
     let mut share = share;
     let mut lines = lines;
@@ -47,22 +52,22 @@ fn run_lines<O: MibObject + Send, L: Run + Send + Sync, N: Going + Send, R: Thre
         rt,
         move || -> (Share<L>, N, End)
             requires { 0 < mine.parts }
-            ensures gone { N.gone (setting_of L.start plan.entry.now) plan.entry.now.rounds line mine.amount
+            ensures gone { N.gone (run_start_of L.start plan.entry.now) plan.entry.now.rounds line mine.amount
                 result.1 result.0.amount result.2 }
             ensures parts { result.0.parts ≡ mine.parts }
-        { line.go_on(rt, plan, live, mine) },
+        { line.run_intervals(rt, plan, live, mine) },
         move || -> (Share<L>, Vec<N>, Vec<End>)
             requires { IsSync R.row × MayShare O.row L.row O.MibObject L.start L.base_rise L.name L.parts L.rise
                 × (vec_len lines < share.parts)
                 × (ends.items ≡ []) × (vec_len lines ≤ vec_capacity ends) }
-            ensures lines { AllGone (N.gone (setting_of L.start plan.entry.now) plan.entry.now.rounds)
+            ensures lines { AllGone (N.gone (run_start_of L.start plan.entry.now) plan.entry.now.rounds)
                 lines.items
                 result.1.items result.2.items share.amount result.0.amount }
             ensures parts { result.0.parts ≡ share.parts }
             ensures lens { (vec_len result.1 ≡ vec_len lines)
                 × (vec_len result.2 ≡ vec_len lines) }
-            ensures lines_room { vec_capacity result.1 ≡ vec_capacity lines }
-            ensures ends_room { vec_capacity result.2 ≡ vec_capacity ends }
+            ensures lines_space { vec_capacity result.1 ≡ vec_capacity lines }
+            ensures ends_space { vec_capacity result.2 ≡ vec_capacity ends }
         { run_lines(rt, plan, live, share, lines, ends) },
     );
     let (mine, line, end) = one;
@@ -74,7 +79,12 @@ fn run_lines<O: MibObject + Send, L: Run + Send + Sync, N: Going + Send, R: Thre
 }
 
 // A history under a lock, the lines over it, and the history again.
-fn run_over<O: MibObject + Send, L: Run + Send + Sync, N: Going + Send, R: Threads + Wait + Sync>(
+fn run_over<
+    O: MibObject + Send,
+    L: Run + Send + Sync,
+    N: LineTask + Send,
+    R: Threads + Wait + Sync,
+>(
     rt: &R,
     plan: &Plan,
     kept: Kept<O>,
@@ -91,7 +101,7 @@ fn run_over<O: MibObject + Send, L: Run + Send + Sync, N: Going + Send, R: Threa
     requires start { kept ≡ L.start }
     requires parts { vec_len lines < blank.parts }
     requires empty { ends.items ≡ [] }
-    requires room { vec_len lines ≤ vec_capacity ends }
+    requires space { vec_len lines ≤ vec_capacity ends }
     ensures { HaveGone N.gone plan.now L.start result.0 lines.items
         result.1.items result.2.items }
 {
@@ -103,7 +113,7 @@ fn run_over<O: MibObject + Send, L: Run + Send + Sync, N: Going + Send, R: Threa
 
 /// Runs all lines over a history at the same time, each in a thread of its own, interval by
 /// interval, until all have ended. The history comes back, and so do the lines.
-pub fn run_from<O: MibObject + Send, N: Going + Send, R: Threads + Wait + Sync>(
+pub fn run_from<O: MibObject + Send, N: LineTask + Send, R: Threads + Wait + Sync>(
     rt: &R,
     plan: &Plan,
     kept: Kept<O>,
@@ -112,7 +122,7 @@ pub fn run_from<O: MibObject + Send, N: Going + Send, R: Threads + Wait + Sync>(
 ) -> (Kept<O>, Vec<N>, Vec<End>)
     requires few { vec_len lines < 2 ^ 32 }
     requires empty { ends.items ≡ [] }
-    requires room { vec_len lines ≤ vec_capacity ends }
+    requires space { vec_len lines ≤ vec_capacity ends }
     ensures { HaveGone N.gone plan.now kept result.0 lines.items
         result.1.items result.2.items }
 {

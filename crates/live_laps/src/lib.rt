@@ -8,7 +8,7 @@
 //! ended. Each line has a [`Watch`] ([`Watched`]), to which each interval of a worker and of the
 //! ticker, each command of an operator, each fault and the line's end is reported, and a pace, by which it
 //! waits behind a fault before it begins anew. An [`IntervalSum`] takes the items of an interval. A [`LineName`] is what a
-//! line is called, a [`Worked`] what workers did in intervals, with its [`Drops`] by cause, a [`Book`]
+//! line is called, a [`Worked`] what workers did in intervals, with its [`Drops`] by cause, a [`WorkTotals`]
 //! what all did so far.
 //!
 //! # Definitions
@@ -25,7 +25,7 @@
 //! from the one that was handed in by as many entries as the lines made.
 //!
 //! # Not claimed
-//! That a line ends; how long a pace waits; that two threads run at the same time; what a [`Book`]
+//! That a line ends; how long a pace waits; that two threads run at the same time; what a [`WorkTotals`]
 //! holds, nor what an operator is answered of it; that an interval is reported before the next one begins;
 //! that a command of an operator is reported.
 #![tactic(auto)]
@@ -33,14 +33,14 @@
 mod book;
 mod commands;
 mod crew;
-mod going;
-mod lap;
+mod interval;
 mod line;
+mod line_task;
 mod serving;
 mod sum;
 mod watch;
 
-pub use book::{Book, Drops, Worked};
+pub use book::{Drops, WorkTotals, Worked};
 pub use line::{Line, LineName, Watched, lines_of};
 pub use serving::serve_laps;
 pub use sum::IntervalSum;

@@ -14,10 +14,10 @@ use std::sync::Wait;
 use std::thread::Threads;
 use wire_core::{Pace, Wire};
 
-// Room for how so many lines ended.
-fn room_for(alloc: Global, lines: usize) -> Result<Vec<End>, AllocError>
+// Space for how so many lines ended.
+fn space_for(alloc: Global, lines: usize) -> Result<Vec<End>, AllocError>
     ensures empty { IfOk result (λ ends. ends.items ≡ []) }
-    ensures room { IfOk result (λ ends. lines ≤ vec_capacity ends) }
+    ensures space { IfOk result (λ ends. lines ≤ vec_capacity ends) }
 {
     Vec::with_capacity(alloc, lines)
 }
@@ -58,7 +58,7 @@ pub fn serve_laps<
     ensures { ServesLaps A.did A.failures W.went W.failures T.did T.failures C.did V.went P.went plan.now kept result.0 lines.items result.1.items
         result.2 }
 {
-    match room_for(plan.alloc, lines.len()) {
+    match space_for(plan.alloc, lines.len()) {
         Ok(ends) => {
             let (kept, lines, ends) = run_from(rt, plan, kept, lines, ends);
             (kept, lines, Ok(ends))

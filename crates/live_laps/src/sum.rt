@@ -50,7 +50,7 @@ impl Recorder for IntervalSum {
 
     ghost went = { Sums };
 
-    ghost has_room = { λ _. Unit };
+    ghost has_space = { λ _. Unit };
 
     ghost starts = { sums_none };
 

@@ -13,7 +13,7 @@ use std::sync::Wait;
 /// What it was called with is a relation, as what a wire does is one.
 pub trait Watch: Drop {
     ghost use Rattle.std.specs.Prelude.{◌≡◌, List, [], ◌∷◌, ◌++◌};
-    ghost use Rattle.live_laps.specs.Notes.{Note, lap_worked, lap_ticked, line_failed, line_ended};
+    ghost use Rattle.live_laps.specs.Notes.{Note, interval_worked, interval_ticked, line_failed, line_ended};
 
     // These notes, in this order, lead from one state of it to another.
     ghost went: { Self → List Note → Self → Type 0 };
@@ -31,12 +31,12 @@ pub trait Watch: Drop {
 
     /// At the end of each interval of a worker: its counts.
     fn worked<R: Wait>(&mut self, rt: &R, worked: Worked)
-        ensures { went self.old (lap_worked worked ∷ []) self.new };
+        ensures { went self.old (interval_worked worked ∷ []) self.new };
 
     /// At the end of each interval of the ticker: how far the history was past its
     /// start at some time, and what its world counted then.
     fn ticked<R: Wait>(&mut self, rt: &R, counts: Counts)
-        ensures { went self.old (lap_ticked counts ∷ []) self.new };
+        ensures { went self.old (interval_ticked counts ∷ []) self.new };
 
     /// Where a fault of the line's wire, or want of memory, ended an interval, before the line waits:
     /// which line, why, and how many of its intervals have ended so with this one. The count stops at

@@ -3,9 +3,9 @@
 ghost use Rattle.std.specs.Prelude.{◌≡◌, ◌+◌, ◌<◌, ◌≤◌, IfOk, OnErr};
 ghost use Rattle.history_core.specs.Encoded.{IsDuplicateOf};
 ghost use Rattle.history_core.specs.History.{IsHistory};
-ghost use Rattle.history_core.specs.Receipts.{told_of, TakesMemory};
+ghost use Rattle.history_core.specs.Receipts.{reported_of, TakesMemory};
 ghost use Rattle.history_core.specs.Steps.{IsEncodable};
-ghost use Rattle.live_lock.specs.Sharing.{entry_count, IsHeld, TakesPlace, IsToldOf};
+ghost use Rattle.live_lock.specs.Sharing.{entry_count, IsHeld, TakesPlace, IsReportedOf};
 ghost use Rattle.live_lock.specs.Counting.{IsCounted};
 ghost use Rattle.live_lock.specs.Rising.{Rises};
 
@@ -121,9 +121,9 @@ impl<O: MibObject, L: Run> Held<O, L> {
         requires part { 0 < share.old.parts }
         requires encodable { IsEncodable event }
         requires duplicate { IfOk duplicate (λ d. IsDuplicateOf event d) }
-        requires takes { OnErr duplicate (TakesMemory (told_of event)) }
+        requires takes { OnErr duplicate (TakesMemory (reported_of event)) }
         ensures place { TakesPlace L.start share.old.amount event result buffer.new }
-        ensures told { IsToldOf event result buffer.new }
+        ensures reported { IsReportedOf event result buffer.new }
         ensures rises { Rises L.start share.old.known result share.new.known }
         ensures older { share.old.older ≤ share.new.older }
         ensures amount { share.new.amount ≡ share.old.amount + entry_count result }

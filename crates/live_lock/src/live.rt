@@ -6,7 +6,7 @@ ghost use Rattle.history_core.specs.Steps.{IsEncodable};
 ghost use Rattle.history_core.specs.declared.event.Event.TheVariants as event;
 ghost use Rattle.live_lock.specs.Counting.{IsCounted};
 ghost use Rattle.live_lock.specs.Rising.{Rises};
-ghost use Rattle.live_lock.specs.Sharing.{entry_count, IsHeld, TakesPlace, IsToldOf};
+ghost use Rattle.live_lock.specs.Sharing.{entry_count, IsHeld, TakesPlace, IsReportedOf};
 
 use crate::held::{Counts, Held};
 use crate::run::Run;
@@ -25,9 +25,9 @@ use std::thread::yield_now;
 
 // How often a thread tests whether the lock is free, before it sleeps until it is; and after how many
 // tests it lets others run between two of them.
-const MOST_LOOKS: u32 = 320;
+const MOST_ATTEMPTS: u32 = 320;
 
-const LOOKS_ALONE: u32 = 256;
+const ATTEMPTS_ALONE: u32 = 256;
 
 /// A history under one lock. Each call of an event holds the lock once: the event takes its place in
 /// the history, and by shared reference any number of threads may call. Whenever the lock is free
@@ -74,7 +74,7 @@ impl<O: MibObject, L: Run> Live<O, L> {
     ) -> Applied
         requires { 0 < share.old.parts }
         ensures place { TakesPlace L.start share.old.amount (event.Frame port frame) result buffer.new }
-        ensures told { IsToldOf (event.Frame port frame) result buffer.new }
+        ensures reported { IsReportedOf (event.Frame port frame) result buffer.new }
         ensures rises { Rises L.start share.old.known result share.new.known }
         ensures older { share.old.older ≤ share.new.older }
         ensures amount { share.new.amount ≡ share.old.amount + entry_count result }
@@ -93,7 +93,7 @@ impl<O: MibObject, L: Run> Live<O, L> {
     ) -> Applied
         requires { 0 < share.old.parts }
         ensures place { TakesPlace L.start share.old.amount event.Tick result buffer.new }
-        ensures told { IsToldOf event.Tick result buffer.new }
+        ensures reported { IsReportedOf event.Tick result buffer.new }
         ensures rises { Rises L.start share.old.known result share.new.known }
         ensures older { share.old.older ≤ share.new.older }
         ensures amount { share.new.amount ≡ share.old.amount + entry_count result }
@@ -114,7 +114,7 @@ impl<O: MibObject, L: Run> Live<O, L> {
     ) -> Applied
         requires { 0 < share.old.parts }
         ensures place { TakesPlace L.start share.old.amount (event.Link port up) result buffer.new }
-        ensures told { IsToldOf (event.Link port up) result buffer.new }
+        ensures reported { IsReportedOf (event.Link port up) result buffer.new }
         ensures rises { Rises L.start share.old.known result share.new.known }
         ensures older { share.old.older ≤ share.new.older }
         ensures amount { share.new.amount ≡ share.old.amount + entry_count result }
@@ -134,7 +134,7 @@ impl<O: MibObject, L: Run> Live<O, L> {
     ) -> Applied
         requires { 0 < share.old.parts }
         ensures place { TakesPlace L.start share.old.amount (event.Policy policy) result buffer.new }
-        ensures told { IsToldOf (event.Policy policy) result buffer.new }
+        ensures reported { IsReportedOf (event.Policy policy) result buffer.new }
         ensures rises { Rises L.start share.old.known result share.new.known }
         ensures older { share.old.older ≤ share.new.older }
         ensures amount { share.new.amount ≡ share.old.amount + entry_count result }
@@ -157,7 +157,7 @@ impl<O: MibObject, L: Run> Live<O, L> {
         requires part { 0 < share.old.parts }
         requires encodable { AreEncodable request.bindings }
         ensures place { TakesPlace L.start share.old.amount (event.Request request) result buffer.new }
-        ensures told { IsToldOf (event.Request request) result buffer.new }
+        ensures reported { IsReportedOf (event.Request request) result buffer.new }
         ensures rises { Rises L.start share.old.known result share.new.known }
         ensures older { share.old.older ≤ share.new.older }
         ensures amount { share.new.amount ≡ share.old.amount + entry_count result }
@@ -170,11 +170,11 @@ impl<O: MibObject, L: Run> Live<O, L> {
     // takes longer to be woken; so it tests for a while first, and then lets others run between two
     // tests, since one that has the lock may wait for a processor.
     fn locked<R: Wait>(&self, rt: &R) -> MutexGuard<'_, Held<O, L>> {
-        for look in 0..MOST_LOOKS {
+        for attempt in 0..MOST_ATTEMPTS {
             if let Some(guard) = self.held.try_lock() {
                 return guard;
             }
-            if look < LOOKS_ALONE {
+            if attempt < ATTEMPTS_ALONE {
                 spin_loop();
             } else {
                 yield_now();
@@ -196,7 +196,7 @@ impl<O: MibObject, L: Run> Live<O, L> {
         requires part { 0 < share.old.parts }
         requires encodable { IsEncodable event }
         ensures place { TakesPlace L.start share.old.amount event result buffer.new }
-        ensures told { IsToldOf event result buffer.new }
+        ensures reported { IsReportedOf event result buffer.new }
         ensures rises { Rises L.start share.old.known result share.new.known }
         ensures older { share.old.older ≤ share.new.older }
         ensures amount { share.new.amount ≡ share.old.amount + entry_count result }

@@ -8,7 +8,7 @@ use Rattle.std.specs.Prelude.{Option, Some, None, Vec}
 use Rattle.std.specs.declared.alloc.Global.{Global}
 use Rattle.live_agent.specs.Turns.{Turn, nothing_came, ended, broke, was_refused, was_taken, was_own, paused, acts_of, items_of, entered_in}
 use Rattle.live_agent.specs.Runs.{HasRun, IsBehind, AreBehind, all_items, adds}
-use Rattle.live_agent.specs.Lines.{Setting, HasLinked, HasLinkedAndRun, HasPortRun}
+use Rattle.live_agent.specs.Lines.{RunStart, HasLinked, HasLinkedAndRun, HasPortRun}
 use Rattle.live_agent.proofs.Recording.{run_traced, port_traced}
 use Rattle.live_agent.proofs.Running.{entered_one, entered_in-append}
 use Rattle.live_run.specs.Crews.{AllRan, entered_by}
@@ -49,12 +49,12 @@ rebased went does is_turn rounds a b items trace amount later n m how h same les
 
 -- ---- a port's
 
-linked_amount : {W : Type 0} (went : W → List Act → W → Type 0) (s : Setting) (port : ℕ) (a b : W) (trace : List Item) (amount later : ℕ) (ends : Option End)
+linked_amount : {W : Type 0} (went : W → List Act → W → Type 0) (s : RunStart) (port : ℕ) (a b : W) (trace : List Item) (amount later : ℕ) (ends : Option End)
     → HasLinked went adds s port a b [] trace amount later ends → later ≡ amount + entered_in trace
 linked_amount went s port a b trace amount later ends l =
     l.amount_is ∙ ap (λ (n : ℕ). amount + n) (sym (entered_one l.happening.applied)) ∙ ap (λ (l' : List Item). amount + entered_in l') (sym l.recorded)
 
-linked_rebased : {W : Type 0} (went : W → List Act → W → Type 0) (s : Setting) (port : ℕ) (a b : W) (trace : List Item) (amount later : ℕ) (ends : Option End)
+linked_rebased : {W : Type 0} (went : W → List Act → W → Type 0) (s : RunStart) (port : ℕ) (a b : W) (trace : List Item) (amount later : ℕ) (ends : Option End)
     → HasLinked went adds s port a b [] trace amount later ends → HasLinked went adds s port a b [] trace 0 (entered_in trace) ends
 linked_rebased went s port a b trace amount later ends l =
     let n = linked_amount went s port a b trace amount later ends l in
@@ -68,21 +68,21 @@ linked_rebased went s port a b trace amount later ends l =
       ends_so = l.ends_so;
     }
 
-both_amount : {W : Type 0} (went : W → List Act → W → Type 0) (s : Setting) (port rounds : ℕ) (a b : W) (trace : List Item) (amount later : ℕ) (how : End)
+both_amount : {W : Type 0} (went : W → List Act → W → Type 0) (s : RunStart) (port rounds : ℕ) (a b : W) (trace : List Item) (amount later : ℕ) (how : End)
     → HasLinkedAndRun went adds s port rounds a b [] trace amount later how → later ≡ amount + entered_in trace
 both_amount went s port rounds a b trace amount later how r =
     let first = linked_amount went s port a r.between r.first_kept amount r.first_amount None r.linked in
     let all = ap entered_in r.run.recorded ∙ entered_in-append r.first_kept (all_items r.run.turns) in
     omega (arith, first, all, r.run.amount_is)
 
-pub port_amount : {W : Type 0} (went : W → List Act → W → Type 0) (s : Setting) (port rounds : ℕ) (a b : W) (trace : List Item) (amount later : ℕ) (how : End)
+pub port_amount : {W : Type 0} (went : W → List Act → W → Type 0) (s : RunStart) (port rounds : ℕ) (a b : W) (trace : List Item) (amount later : ℕ) (how : End)
     → HasPortRun went adds s port rounds a b [] trace amount later how → later ≡ amount + entered_in trace
 port_amount went s port rounds a b trace amount later how (inl t) =
     let nothing : entered_in trace ≡ 0 = ap entered_in t.2 in omega (arith, t.3, nothing)
 port_amount went s port rounds a b trace amount later how (inr (inl l)) = linked_amount went s port a b trace amount later (Some how) l
 port_amount went s port rounds a b trace amount later how (inr (inr r)) = both_amount went s port rounds a b trace amount later how r
 
-port_rebased : {W : Type 0} (went : W → List Act → W → Type 0) (s : Setting) (port rounds : ℕ) (a b : W) (trace : List Item) (amount later : ℕ) (how : End)
+port_rebased : {W : Type 0} (went : W → List Act → W → Type 0) (s : RunStart) (port rounds : ℕ) (a b : W) (trace : List Item) (amount later : ℕ) (how : End)
     → HasPortRun went adds s port rounds a b [] trace amount later how → HasPortRun went adds s port rounds a b [] trace 0 (entered_in trace) how
 port_rebased went s port rounds a b trace amount later how (inl t) = inl (t.0, t.1, t.2, ap entered_in t.2)
 port_rebased went s port rounds a b trace amount later how (inr (inl l)) = inr (inl (linked_rebased went s port a b trace amount later (Some how) l))
@@ -113,7 +113,7 @@ module _ (kept : Vec Item Global → List Item → Vec Item Global → Type 0)
       rw (same_trace v w trace t.0 none left t.1, so) (rebased went does is_turn rounds a b [] t.0 amount later 0 (entered_in t.0) how t.2 (omega (arith, n)) (omega arith), n)
 
   pub port_ran : {W : Type 0} (went : W → List Act → W → Type 0) → ((a b c : Vec Item Global) (xs ys : List Item) → kept a xs b → kept b ys c → kept a (xs ++ ys) c)
-      → (s : Setting) (port rounds : ℕ) (a b : W) (v w : Vec Item Global) (trace : List Item) (amount later : ℕ) (how ending : End)
+      → (s : RunStart) (port rounds : ℕ) (a b : W) (v w : Vec Item Global) (trace : List Item) (amount later : ℕ) (how ending : End)
       → v.items ≡ [] → trace ≡ w.items → ending ≡ how → HasPortRun went kept s port rounds a b v w amount later how
       → HasPortRun went adds s port rounds a b [] trace 0 (entered_in trace) ending × (later ≡ amount + entered_in trace)
   port_ran went keeps_on s port rounds a b v w trace amount later how ending none left so h =

@@ -3,7 +3,7 @@ use Rattle.std.specs.Prelude.{◌≡◌, ℕ, ◌+◌, List, [], ◌∷◌}
 use Rattle.wire_core.specs.Acts.{Act}
 use Rattle.live_agent.specs.declared.trace.Ran.{Ran}
 use Rattle.live_agent.specs.Deeds.{Deed}
-use Rattle.live_agent.specs.Lines.{Setting, HasWorked, HasPortRun, HasTicked}
+use Rattle.live_agent.specs.Lines.{RunStart, HasWorked, HasPortRun, HasTicked}
 use Rattle.live_agent.specs.Runs.{failures_at, adds}
 use Rattle.live_agent.specs.Turns.{entered_in}
 use Rattle.live_run.specs.declared.lines.Lines.{Lines}
@@ -12,19 +12,19 @@ use Rattle.live_run.specs.declared.lines.Runs.{Runs}
 -- The worker of this number ran its rounds over its wire, and its wire counted its failure, if that
 -- ended it.
 pub record WorkerRan {W : Type 0} (did : W → List Deed → W → Type 0) (failures : W → ℕ)
-    (s : Setting) (rounds worker : ℕ) (a b : W) (ran : Ran) : Type 0 where
+    (s : RunStart) (rounds worker : ℕ) (a b : W) (ran : Ran) : Type 0 where
   pub run : HasWorked did adds s rounds worker a b [] ran.trace 0 (entered_in ran.trace) ran.end
   pub failed : failures b ≡ failures_at ran.end (failures a)
 
 -- The same of the port of this number, whose link went up first.
 pub record PortRan {W : Type 0} (went : W → List Act → W → Type 0) (failures : W → ℕ)
-    (s : Setting) (rounds port : ℕ) (a b : W) (ran : Ran) : Type 0 where
+    (s : RunStart) (rounds port : ℕ) (a b : W) (ran : Ran) : Type 0 where
   pub run : HasPortRun went adds s port rounds a b [] ran.trace 0 (entered_in ran.trace) ran.end
   pub failed : failures b ≡ failures_at ran.end (failures a)
 
 -- The same of the ticker, at its pace.
 pub record TickerRan {W : Type 0} (did : W → List Deed → W → Type 0) (failures : W → ℕ)
-    (s : Setting) (rounds : ℕ) (a b : W) (ran : Ran) : Type 0 where
+    (s : RunStart) (rounds : ℕ) (a b : W) (ran : Ran) : Type 0 where
   pub run : HasTicked did adds s rounds a b [] ran.trace 0 (entered_in ran.trace) ran.end
   pub failed : failures b ≡ failures_at ran.end (failures a)
 
@@ -37,7 +37,7 @@ AllRan HasRan n _ _ _ = ⊥
 -- All lines of a run, each over its own wire.
 pub record CrewRan {A W T : Type 0} (worker_did : A → List Deed → A → Type 0)
     (worker_failures : A → ℕ) (went : W → List Act → W → Type 0) (failures : W → ℕ)
-    (ticker_did : T → List Deed → T → Type 0) (ticker_failures : T → ℕ) (s : Setting) (rounds : ℕ)
+    (ticker_did : T → List Deed → T → Type 0) (ticker_failures : T → ℕ) (s : RunStart) (rounds : ℕ)
     (a b : Lines A W T) (runs : Runs) : Type 0 where
   pub workers : AllRan (WorkerRan worker_did worker_failures s rounds) 0 a.workers.items
       b.workers.items runs.workers.items

@@ -3,7 +3,7 @@ use Rattle.std.specs.Prelude.{◌≡◌, ◌⊎◌, ℕ, List, Result, Ok, Err}
 use Rattle.wire_core.specs.Acts.{Act}
 use Rattle.history_core.specs.History.{History, IsHistory}
 use Rattle.live_agent.specs.Deeds.{Deed}
-use Rattle.live_agent.specs.Lines.{setting_of}
+use Rattle.live_agent.specs.Lines.{run_start_of}
 use Rattle.live_agent.specs.declared.plan.Plan.{Plan}
 use Rattle.live_lock.specs.Sharing.{IsHeld}
 use Rattle.live_run.specs.Crews.{CrewRan, entered_of}
@@ -22,7 +22,7 @@ module _ {A W T : Type 0} (worker_did : A → List Deed → A → Type 0) (worke
   pub record HasServed (plan : Plan) (start later : History) (a b : Lines A W T) (runs : Runs)
       : Type 0 where
     pub crew : CrewRan worker_did worker_failures went failures ticker_did ticker_failures
-        (setting_of start plan) plan.rounds a b runs
+        (run_start_of start plan) plan.rounds a b runs
     pub held : IsHeld start later (entered_of runs)
     pub legal : IsHistory later
 

@@ -3,7 +3,7 @@ ghost use Rattle.std.specs.Prelude.{◌≡◌, ◌+◌, ◌<◌, ◌≤◌, ◌^
 ghost use Rattle.std.specs.Thread.{IsSend, IsSync};
 ghost use Rattle.history_core.specs.History.{IsHistory};
 ghost use Rattle.live_lock.specs.Sharing.{IsHeld};
-ghost use Rattle.live_agent.specs.Lines.{setting_of};
+ghost use Rattle.live_agent.specs.Lines.{run_start_of};
 ghost use Rattle.live_agent.specs.Turns.{entered_in};
 ghost use Rattle.live_run.specs.Shared.{MayShare};
 ghost use Rattle.live_run.specs.Crews.{WorkerRan, PortRan, TickerRan, AllRan, CrewRan, entered_by, entered_of};
@@ -29,7 +29,7 @@ fn work<O: MibObject, L: Run, A: GatedWire, R: Wait>(
     wire: A,
 ) -> (Share<L>, A, Ran)
     requires { 0 < share.parts }
-    ensures ran { WorkerRan A.did A.failures (setting_of L.start plan.now) plan.now.rounds worker
+    ensures ran { WorkerRan A.did A.failures (run_start_of L.start plan.now) plan.now.rounds worker
         wire result.1 result.2 }
     ensures amount { result.0.amount ≡ share.amount + entered_in result.2.trace }
     ensures parts { result.0.parts ≡ share.parts }
@@ -51,7 +51,7 @@ fn pass<O: MibObject, L: Run, W: Wire, R: Wait>(
     wire: W,
 ) -> (Share<L>, W, Ran)
     requires { 0 < share.parts }
-    ensures ran { PortRan W.went W.failures (setting_of L.start plan.now) plan.now.rounds port wire
+    ensures ran { PortRan W.went W.failures (run_start_of L.start plan.now) plan.now.rounds port wire
         result.1 result.2 }
     ensures amount { result.0.amount ≡ share.amount + entered_in result.2.trace }
     ensures parts { result.0.parts ≡ share.parts }
@@ -72,7 +72,7 @@ fn tick<O: MibObject, L: Run, T: PacedWire, R: Wait>(
     wire: T,
 ) -> (Share<L>, T, Ran)
     requires { 0 < share.parts }
-    ensures ran { TickerRan T.did T.failures (setting_of L.start plan.now) plan.now.rounds wire
+    ensures ran { TickerRan T.did T.failures (run_start_of L.start plan.now) plan.now.rounds wire
         result.1 result.2 }
     ensures amount { result.0.amount ≡ share.amount + entered_in result.2.trace }
     ensures parts { result.0.parts ≡ share.parts }
@@ -102,8 +102,8 @@ fn run_workers<
     requires shared { MayShare O.row L.row O.MibObject L.start L.base_rise L.name L.parts L.rise }
     requires parts { vec_len wires < share.parts }
     requires empty { runs.items ≡ [] }
-    requires room { vec_len wires ≤ vec_capacity runs }
-    ensures ran { AllRan (WorkerRan A.did A.failures (setting_of L.start plan.now)
+    requires space { vec_len wires ≤ vec_capacity runs }
+    ensures ran { AllRan (WorkerRan A.did A.failures (run_start_of L.start plan.now)
         plan.now.rounds) 0 wires.items result.1.items result.2.items }
     ensures amount { result.0.amount ≡ share.amount + entered_by result.2.items }
     ensures parts { result.0.parts ≡ share.parts }
@@ -122,7 +122,7 @@ fn run_workers<
         rt,
         move || -> (Share<L>, A, Ran)
             requires { 0 < mine.parts }
-            ensures ran { WorkerRan A.did A.failures (setting_of L.start plan.entry.now)
+            ensures ran { WorkerRan A.did A.failures (run_start_of L.start plan.entry.now)
                 plan.entry.now.rounds worker wire result.1 result.2 }
             ensures amount { result.0.amount ≡ mine.amount + entered_in result.2.trace }
             ensures parts { result.0.parts ≡ mine.parts }
@@ -132,7 +132,7 @@ fn run_workers<
                 × (vec_len wires < share.parts)
                 × (runs.items ≡ []) × (vec_len wires ≤ vec_capacity runs) }
             ensures ran { AllRan (WorkerRan A.did A.failures
-                (setting_of L.start plan.entry.now) plan.entry.now.rounds) 0 wires.items
+                (run_start_of L.start plan.entry.now) plan.entry.now.rounds) 0 wires.items
                 result.1.items result.2.items }
             ensures amount { result.0.amount ≡ share.amount + entered_by result.2.items }
             ensures parts { result.0.parts ≡ share.parts }
@@ -163,8 +163,8 @@ fn run_ports<O: MibObject + Send, L: Run + Send + Sync, W: Wire + Send, R: Threa
     requires parts { vec_len wires < share.parts }
     requires few { vec_len wires < 2 ^ 16 }
     requires empty { runs.items ≡ [] }
-    requires room { vec_len wires ≤ vec_capacity runs }
-    ensures ran { AllRan (PortRan W.went W.failures (setting_of L.start plan.now)
+    requires space { vec_len wires ≤ vec_capacity runs }
+    ensures ran { AllRan (PortRan W.went W.failures (run_start_of L.start plan.now)
         plan.now.rounds) 1 wires.items result.1.items result.2.items }
     ensures amount { result.0.amount ≡ share.amount + entered_by result.2.items }
     ensures parts { result.0.parts ≡ share.parts }
@@ -183,7 +183,7 @@ fn run_ports<O: MibObject + Send, L: Run + Send + Sync, W: Wire + Send, R: Threa
         rt,
         move || -> (Share<L>, W, Ran)
             requires { 0 < mine.parts }
-            ensures ran { PortRan W.went W.failures (setting_of L.start plan.entry.now)
+            ensures ran { PortRan W.went W.failures (run_start_of L.start plan.entry.now)
                 plan.entry.now.rounds port wire result.1 result.2 }
             ensures amount { result.0.amount ≡ mine.amount + entered_in result.2.trace }
             ensures parts { result.0.parts ≡ mine.parts }
@@ -194,7 +194,7 @@ fn run_ports<O: MibObject + Send, L: Run + Send + Sync, W: Wire + Send, R: Threa
                 × (vec_len wires < 2 ^ 16) × (runs.items ≡ [])
                 × (vec_len wires ≤ vec_capacity runs) }
             ensures ran { AllRan (PortRan W.went W.failures
-                (setting_of L.start plan.entry.now) plan.entry.now.rounds) 1 wires.items
+                (run_start_of L.start plan.entry.now) plan.entry.now.rounds) 1 wires.items
                 result.1.items result.2.items }
             ensures amount { result.0.amount ≡ share.amount + entered_by result.2.items }
             ensures parts { result.0.parts ≡ share.parts }
@@ -232,10 +232,10 @@ fn run_bridge<
     requires parts { vec_len ports + 1 < share.parts }
     requires few { vec_len ports < 2 ^ 16 }
     requires empty { runs.items ≡ [] }
-    requires room { vec_len ports ≤ vec_capacity runs }
-    ensures ports { AllRan (PortRan W.went W.failures (setting_of L.start plan.now)
+    requires space { vec_len ports ≤ vec_capacity runs }
+    ensures ports { AllRan (PortRan W.went W.failures (run_start_of L.start plan.now)
         plan.now.rounds) 1 ports.items result.1.items result.2.items }
-    ensures ticker { TickerRan T.did T.failures (setting_of L.start plan.now) plan.now.rounds
+    ensures ticker { TickerRan T.did T.failures (run_start_of L.start plan.now) plan.now.rounds
         ticker result.3 result.4 }
     ensures amount { result.0.amount
         ≡ share.amount + (entered_by result.2.items + entered_in result.4.trace) }
@@ -251,14 +251,14 @@ fn run_bridge<
                 × (vec_len ports < 2 ^ 16) × (runs.items ≡ [])
                 × (vec_len ports ≤ vec_capacity runs) }
             ensures ran { AllRan (PortRan W.went W.failures
-                (setting_of L.start plan.entry.now) plan.entry.now.rounds) 1 ports.items
+                (run_start_of L.start plan.entry.now) plan.entry.now.rounds) 1 ports.items
                 result.1.items result.2.items }
             ensures amount { result.0.amount ≡ theirs.amount + entered_by result.2.items }
             ensures parts { result.0.parts ≡ theirs.parts }
         { run_ports(rt, plan, live, theirs, ports, runs) },
         move || -> (Share<L>, T, Ran)
             requires { 0 < share.parts }
-            ensures ran { TickerRan T.did T.failures (setting_of L.start plan.entry.now)
+            ensures ran { TickerRan T.did T.failures (run_start_of L.start plan.entry.now)
                 plan.entry.now.rounds ticker result.1 result.2 }
             ensures amount { result.0.amount ≡ share.amount + entered_in result.2.trace }
             ensures parts { result.0.parts ≡ share.parts }
@@ -325,10 +325,10 @@ fn run_crew<
     requires parts { vec_len lines.workers + vec_len lines.ports + 2 < share.parts }
     requires few { (vec_len lines.workers < 2 ^ 16) × (vec_len lines.ports < 2 ^ 16) }
     requires empty { (worker_runs.items ≡ []) × (port_runs.items ≡ []) }
-    requires room { (vec_len lines.workers ≤ vec_capacity worker_runs)
+    requires space { (vec_len lines.workers ≤ vec_capacity worker_runs)
         × (vec_len lines.ports ≤ vec_capacity port_runs) }
     ensures crew { CrewRan A.did A.failures W.went W.failures T.did T.failures
-        (setting_of L.start plan.now) plan.now.rounds lines result.1 result.2 }
+        (run_start_of L.start plan.now) plan.now.rounds lines result.1 result.2 }
     ensures amount { result.0.amount ≡ share.amount + entered_of result.2 }
     ensures parts { result.0.parts ≡ share.parts }
 {
@@ -346,7 +346,7 @@ fn run_crew<
                 × (vec_len workers < theirs.parts) × (worker_runs.items ≡ [])
                 × (vec_len workers ≤ vec_capacity worker_runs) }
             ensures ran { AllRan (WorkerRan A.did A.failures
-                (setting_of L.start plan.entry.now) plan.entry.now.rounds) 0 workers.items
+                (run_start_of L.start plan.entry.now) plan.entry.now.rounds) 0 workers.items
                 result.1.items result.2.items }
             ensures amount { result.0.amount ≡ theirs.amount + entered_by result.2.items }
             ensures parts { result.0.parts ≡ theirs.parts }
@@ -357,10 +357,10 @@ fn run_crew<
                 × (vec_len ports < 2 ^ 16) × (port_runs.items ≡ [])
                 × (vec_len ports ≤ vec_capacity port_runs) }
             ensures ports { AllRan (PortRan W.went W.failures
-                (setting_of L.start plan.entry.now) plan.entry.now.rounds) 1 ports.items
+                (run_start_of L.start plan.entry.now) plan.entry.now.rounds) 1 ports.items
                 result.1.items result.2.items }
             ensures ticker { TickerRan T.did T.failures
-                (setting_of L.start plan.entry.now) plan.entry.now.rounds ticker result.3
+                (run_start_of L.start plan.entry.now) plan.entry.now.rounds ticker result.3
                 result.4 }
             ensures amount { result.0.amount
                 ≡ share.amount + (entered_by result.2.items + entered_in result.4.trace) }
@@ -397,10 +397,10 @@ fn run_over<
     requires parts { vec_len lines.workers + vec_len lines.ports + 2 < blank.parts }
     requires few { (vec_len lines.workers < 2 ^ 16) × (vec_len lines.ports < 2 ^ 16) }
     requires empty { (worker_runs.items ≡ []) × (port_runs.items ≡ []) }
-    requires room { (vec_len lines.workers ≤ vec_capacity worker_runs)
+    requires space { (vec_len lines.workers ≤ vec_capacity worker_runs)
         × (vec_len lines.ports ≤ vec_capacity port_runs) }
     ensures crew { CrewRan A.did A.failures W.went W.failures T.did T.failures
-        (setting_of L.start plan.now) plan.now.rounds lines result.1 result.2 }
+        (run_start_of L.start plan.now) plan.now.rounds lines result.1 result.2 }
     ensures held { IsHeld L.start result.0 (entered_of result.2) }
     ensures legal { IsHistory result.0 }
 {
@@ -428,10 +428,10 @@ pub fn run_from<
 ) -> (Kept<O>, Lines<A, W, T>, Runs)
     requires few { (vec_len lines.workers < 2 ^ 16) × (vec_len lines.ports < 2 ^ 16) }
     requires empty { (worker_runs.items ≡ []) × (port_runs.items ≡ []) }
-    requires room { (vec_len lines.workers ≤ vec_capacity worker_runs)
+    requires space { (vec_len lines.workers ≤ vec_capacity worker_runs)
         × (vec_len lines.ports ≤ vec_capacity port_runs) }
     ensures crew { CrewRan A.did A.failures W.went W.failures T.did T.failures
-        (setting_of kept plan.now) plan.now.rounds lines result.1 result.2 }
+        (run_start_of kept plan.now) plan.now.rounds lines result.1 result.2 }
     ensures held { IsHeld kept result.0 (entered_of result.2) }
     ensures legal { IsHistory result.0 }
 {

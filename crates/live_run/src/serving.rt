@@ -15,9 +15,9 @@ use std::thread::Threads;
 use wire_core::Wire;
 
 // Memory for the ends of so many lines.
-fn room_for(alloc: Global, lines: usize) -> Result<Vec<Ran>, AllocError>
+fn space_for(alloc: Global, lines: usize) -> Result<Vec<Ran>, AllocError>
     ensures empty { IfOk result (λ runs. runs.items ≡ []) }
-    ensures room { IfOk result (λ runs. lines ≤ vec_capacity runs) }
+    ensures space { IfOk result (λ runs. lines ≤ vec_capacity runs) }
 {
     Vec::with_capacity(alloc, lines)
 }
@@ -49,10 +49,10 @@ pub fn serve_run<
     ensures { Serves A.did A.failures W.went W.failures T.did T.failures plan.now kept
         result.1 lines result.0 result.2 }
 {
-    let Ok(worker_runs) = room_for(plan.alloc, lines.workers.len()) else {
+    let Ok(worker_runs) = space_for(plan.alloc, lines.workers.len()) else {
         return (lines, kept, Err(RunFault::Memory));
     };
-    let Ok(port_runs) = room_for(plan.alloc, lines.ports.len()) else {
+    let Ok(port_runs) = space_for(plan.alloc, lines.ports.len()) else {
         return (lines, kept, Err(RunFault::Memory));
     };
     let (kept, lines, runs) = run_from(rt, plan, kept, lines, worker_runs, port_runs);

@@ -9,7 +9,7 @@ use Rattle.wire_core.specs.declared.wire.WireFault.TheVariants.{Receive, Send}
 use Rattle.wire_core.specs.Acts.{Act, got, quiet, closed, sent, failed}
 use Rattle.manager_core.specs.declared.fault.ManagerFault.{ManagerFault}
 use Rattle.manager_core.specs.declared.fault.ManagerFault.TheVariants.{Timeout}
-use Rattle.manager_core.specs.declared.asking.TheConstants.{RECEIVE_ROOM}
+use Rattle.manager_core.specs.declared.asking.TheConstants.{RECEIVE_SPACE}
 use Rattle.manager_core.specs.Replies.{IsHeard}
 
 -- One try: the request could not be sent; or it was sent, and then nothing came, the wire was
@@ -28,7 +28,7 @@ try_acts peer request was_quiet = sent peer request ∷ quiet ∷ []
 try_acts peer request was_closed = sent peer request ∷ closed ∷ []
 try_acts peer request was_broken = sent peer request ∷ failed Receive ∷ []
 try_acts peer request (was_answered from octets) =
-    sent peer request ∷ got RECEIVE_ROOM from octets ∷ []
+    sent peer request ∷ got RECEIVE_SPACE from octets ∷ []
 
 -- What becomes of an ask by a try: it is used up, or the ask ends so. Only a datagram ends an ask,
 -- from whatever peer it came.

@@ -14,30 +14,30 @@ use Rattle.message_core.specs.Message.{GivesReply, IsReplyCause}
 -- What a reply says to a request: nothing where it is of another request-id; else it ends the ask,
 -- with BadReply where it is of another community, with its status and its index where its status is
 -- not noError, and else with its bindings.
-abbrev pub IsTold : Request → Reply → Option (Result (List Binding) ManagerFault) → Type 0
-IsTold r reply None = reply.id ≢ r.id
-IsTold r reply (Some (Ok found)) =
+abbrev pub IsReported : Request → Reply → Option (Result (List Binding) ManagerFault) → Type 0
+IsReported r reply None = reply.id ≢ r.id
+IsReported r reply (Some (Ok found)) =
     (reply.id ≡ r.id) × (reply.community ≡ r.community) × (reply.status ≡ NoError) × (found ≡ reply.bindings)
-IsTold r reply (Some (Err (Error status index))) =
+IsReported r reply (Some (Err (Error status index))) =
     (reply.id ≡ r.id) × (reply.community ≡ r.community) × (reply.status ≢ NoError) × (status ≡ reply.status) × (index ≡ reply.index)
-IsTold r reply (Some (Err BadReply)) = (reply.id ≡ r.id) × (reply.community ≢ r.community)
-IsTold r reply (Some (Err (Timeout tries))) = ⊥
-IsTold r reply (Some (Err NotIncreasing)) = ⊥
-IsTold r reply (Some (Err Memory)) = ⊥
+IsReported r reply (Some (Err BadReply)) = (reply.id ≡ r.id) × (reply.community ≢ r.community)
+IsReported r reply (Some (Err (Timeout tries))) = ⊥
+IsReported r reply (Some (Err NotIncreasing)) = ⊥
+IsReported r reply (Some (Err Memory)) = ⊥
 
 -- A datagram that gives a reply, which says so.
-abbrev pub TellsSo : Request → List ℕ → Option (Result (List Binding) ManagerFault) → Type 0
-TellsSo r octets said = (reply : Reply) × GivesReply octets reply × IsTold r reply said
+abbrev pub ReportsSo : Request → List ℕ → Option (Result (List Binding) ManagerFault) → Type 0
+ReportsSo r octets stated = (reply : Reply) × GivesReply octets reply × IsReported r reply stated
 
 -- What a datagram says to a request: what the reply says that it gives; BadReply where it gives
 -- none. Memory can be wanting only where reading takes some.
 abbrev pub IsHeard : Request → List ℕ → Option (Result (List Binding) ManagerFault) → Type 0
-IsHeard r octets None = TellsSo r octets None
-IsHeard r octets (Some (Ok found)) = TellsSo r octets (Some (Ok found))
+IsHeard r octets None = ReportsSo r octets None
+IsHeard r octets (Some (Ok found)) = ReportsSo r octets (Some (Ok found))
 IsHeard r octets (Some (Err BadReply)) =
-    ((reply : Reply) → ¬ GivesReply octets reply) ⊎ TellsSo r octets (Some (Err BadReply))
+    ((reply : Reply) → ¬ GivesReply octets reply) ⊎ ReportsSo r octets (Some (Err BadReply))
 IsHeard r octets (Some (Err Memory)) = IsReplyCause octets cause.Memory
-IsHeard r octets (Some (Err (Error status index))) = TellsSo r octets (Some (Err (Error status index)))
+IsHeard r octets (Some (Err (Error status index))) = ReportsSo r octets (Some (Err (Error status index)))
 IsHeard r octets (Some (Err (Timeout tries))) = ⊥
 IsHeard r octets (Some (Err NotIncreasing)) = ⊥
 

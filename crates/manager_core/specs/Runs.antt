@@ -10,8 +10,8 @@ use Rattle.message_core.specs.declared.binding.Binding.{Binding}
 use Rattle.wire_core.specs.Acts.{Act}
 use Rattle.manager_core.specs.declared.fault.ManagerFault.{ManagerFault}
 use Rattle.manager_core.specs.declared.fault.ManagerFault.TheVariants.{Memory}
-use Rattle.manager_core.specs.declared.run.Errand.{Errand}
-use Rattle.manager_core.specs.declared.run.Errand.TheVariants.{Ask, Walk}
+use Rattle.manager_core.specs.declared.run.ManagerOperation.{ManagerOperation}
+use Rattle.manager_core.specs.declared.run.ManagerOperation.TheVariants.{Ask, Walk}
 use Rattle.manager_core.specs.declared.run.Failure.{Failure}
 use Rattle.manager_core.specs.declared.run.Failure.TheVariants.{Fault, Output}
 use Rattle.manager_core.specs.declared.command.Command.{Command}
@@ -21,12 +21,12 @@ use Rattle.manager_core.specs.Lines.{lines_of, fault_text}
 
 -- The names can be encoded, and the request fits into a datagram; a walk's requests do where its
 -- community is short.
-abbrev pub IsAskable : Errand → Type 0
+abbrev pub IsAskable : ManagerOperation → Type 0
 IsAskable (Ask r) = AreEncodable r.bindings × (length (canon_request r) ≤ MAX_REQUEST)
 IsAskable (Walk community root) = (length community ≤ MAX_COMMUNITY) × HasRoot root
 
 -- Between two states of a wire an errand was done, and ended so.
-abbrev pub HasFound : {W : Type 0} → (W → List Act → W → Type 0) → SocketAddr → Errand → ℕ → W → Result (List Binding) ManagerFault → W → Type 0
+abbrev pub HasFound : {W : Type 0} → (W → List Act → W → Type 0) → SocketAddr → ManagerOperation → ℕ → W → Result (List Binding) ManagerFault → W → Type 0
 HasFound went peer (Ask r) tries a end b = HasAsked went peer r tries a end b
 HasFound went peer (Walk community root) tries a end b =
     HasWalked went peer community root tries a end b

@@ -14,7 +14,7 @@ use wire_core::{Received, Wire};
 
 /// How many octets a manager lends to a receive: one more than a datagram may have, so that one
 /// that is too long is seen to be so.
-pub const RECEIVE_ROOM: usize = MAX_REQUEST + 1;
+pub const RECEIVE_SPACE: usize = MAX_REQUEST + 1;
 
 /// The bindings that an agent answers to a request, which is sent at most so many times (RFC 3416,
 /// section 4.2).
@@ -60,9 +60,9 @@ pub(crate) fn ask_for<W: Wire>(
     ensures asked { HasAsked W.went peer request.now tries wire.old result wire.new }
     ensures encodable { IfOk result AreEncodable }
 {
-    let mut room = [0u8; MAX_REQUEST];
-    match encode_request(request, &mut room) {
-        Ok(len) => send_for(alloc, wire, peer, request, &room[..len], tries),
+    let mut space = [0u8; MAX_REQUEST];
+    match encode_request(request, &mut space) {
+        Ok(len) => send_for(alloc, wire, peer, request, &space[..len], tries),
         Err(_) => unreachable!(),
     }
 }
@@ -118,9 +118,9 @@ fn listen<W: Wire>(
         (t : Try) × Becomes request.now t result × W.went a (try_acts peer octets.now t) wire.new }
     ensures encodable { IfSome result (λ end. IfOk end AreEncodable) }
 {
-    let mut room = [0u8; RECEIVE_ROOM];
-    match wire.receive(&mut room) {
-        Ok(Received::Datagram(len, _)) => hear(alloc, request, &room[..len]),
+    let mut space = [0u8; RECEIVE_SPACE];
+    match wire.receive(&mut space) {
+        Ok(Received::Datagram(len, _)) => hear(alloc, request, &space[..len]),
         Ok(Received::Nothing) => None,
         Ok(Received::Closed) => None,
         Err(_) => None,

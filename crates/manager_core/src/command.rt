@@ -2,7 +2,7 @@
 ghost use Rattle.std.specs.Prelude.{◌≡◌, ◌≤◌};
 ghost use Rattle.manager_core.specs.Runs.{IsAskable, HasRun};
 
-use crate::run::{Errand, report, run_errand};
+use crate::run::{ManagerOperation, report, run_errand};
 use std::alloc::Global;
 use std::io::Write;
 use std::net::SocketAddr;
@@ -19,7 +19,7 @@ pub struct Command {
     /// How often each request is sent at most.
     pub tries: u32,
     /// What it is asked for.
-    pub errand: Errand,
+    pub errand: ManagerOperation,
 }
 
 /// Does a command, and gives the exit status: 0 where all that was found is written, and else

@@ -1,7 +1,7 @@
 //! What a manager makes of a datagram.
 ghost use Rattle.std.specs.Prelude.{◌≡◌, IfSome, IfOk};
 ghost use Rattle.message_core.specs.Encodable.{AreEncodable};
-ghost use Rattle.manager_core.specs.Replies.{IsTold, IsHeard, fault_of};
+ghost use Rattle.manager_core.specs.Replies.{IsReported, IsHeard, fault_of};
 
 use crate::fault::ManagerFault;
 use message_core::{Bindings, DropCause, ErrorStatus, Reply, Request, decode_reply};
@@ -19,7 +19,7 @@ pub fn hear(
     ensures encodable { IfSome result (λ end. IfOk end AreEncodable) }
 {
     match decode_reply(alloc, datagram) {
-        Ok(reply) => tell(alloc, request, reply),
+        Ok(reply) => read_outcome(alloc, request, reply),
         Err(cause) => Some(Err(fault_of(cause))),
     }
 }
@@ -35,13 +35,13 @@ fn fault_of(cause: DropCause) -> ManagerFault
 }
 
 // What a reply says to a request.
-fn tell(
+fn read_outcome(
     alloc: Global,
     request: &Request,
     mut reply: Reply,
 ) -> Option<Result<Bindings, ManagerFault>>
     requires { AreEncodable reply.bindings }
-    ensures told { IsTold request.now reply result }
+    ensures reported { IsReported request.now reply result }
     ensures encodable { IfSome result (λ end. IfOk end AreEncodable) }
 {
     if reply.id != request.id {

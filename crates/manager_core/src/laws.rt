@@ -1,7 +1,7 @@
 //! Laws of the limits. Each stands on a function that does nothing.
 ghost use Rattle.std.specs.Prelude.{◌≡◌};
 
-use crate::asking::RECEIVE_ROOM;
+use crate::asking::RECEIVE_SPACE;
 use crate::command::FAILED;
 use crate::walking::MAX_NAMES;
 
@@ -9,7 +9,7 @@ use crate::walking::MAX_NAMES;
 /// the longest datagram that is read.
 pub fn limits_are_fixed()
     ensures names { MAX_NAMES ≡ 100000 }
-    ensures received { RECEIVE_ROOM ≡ 2049 }
+    ensures received { RECEIVE_SPACE ≡ 2049 }
 {}
 
 /// The exit status of a run that has not written what was asked for.

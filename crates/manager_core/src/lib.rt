@@ -2,11 +2,11 @@
 //! tries are used up, and walks through a subtree of names (RFC 3416, section 4.2).
 //!
 //! # Entry points
-//! [`run_command`] does a [`Command`], which has an agent, a number of tries and an [`Errand`], and
+//! [`run_command`] does a [`Command`], which has an agent, a number of tries and an [`ManagerOperation`], and
 //! gives the exit status: 0 or [`FAILED`]. Where it is 0 nothing is written on standard error.
 //! [`ask`] gives the bindings that answer a request, or a [`ManagerFault`]. [`walk`] gives those of
 //! a subtree of names, fewer than [`MAX_NAMES`]: 99,999 at most. [`report`] writes the line of a
-//! [`Failure`]. [`RECEIVE_ROOM`] is how many octets are lent to a receive.
+//! [`Failure`]. [`RECEIVE_SPACE`] is how many octets are lent to a receive.
 //!
 //! # Definitions
 //! `specs/Replies.antt`: what a datagram says to a request; `specs/Asks.antt`: the tries of an ask,
@@ -32,8 +32,8 @@ mod run;
 mod walking;
 mod writing;
 
-pub use asking::{RECEIVE_ROOM, ask};
+pub use asking::{RECEIVE_SPACE, ask};
 pub use command::{Command, FAILED, run_command};
 pub use fault::ManagerFault;
-pub use run::{Errand, Failure, report};
+pub use run::{Failure, ManagerOperation, report};
 pub use walking::{MAX_NAMES, walk};

@@ -21,7 +21,7 @@ use wire_core::Wire;
 
 /// What a manager asks an agent for.
 #[derive(Drop)]
-pub enum Errand {
+pub enum ManagerOperation {
     /// What answers a request.
     Ask(Request),
     /// The names of a subtree: the community, and the root.
@@ -61,7 +61,7 @@ pub(crate) fn run_errand<W: Wire, O: Write>(
     alloc: Global,
     wire: &mut W,
     peer: SocketAddr,
-    errand: &Errand,
+    errand: &ManagerOperation,
     tries: u32,
     out: &mut O,
 ) -> Result<(), Failure>
@@ -81,15 +81,15 @@ fn find<W: Wire>(
     alloc: Global,
     wire: &mut W,
     peer: SocketAddr,
-    errand: &Errand,
+    errand: &ManagerOperation,
     tries: u32,
 ) -> Result<Bindings, ManagerFault>
     requires { IsAskable errand.now }
     ensures { HasFound W.went peer errand.now tries wire.old result wire.new }
 {
     match errand {
-        Errand::Ask(request) => ask_for(alloc, wire, peer, request, tries),
-        Errand::Walk(community, root) => {
+        ManagerOperation::Ask(request) => ask_for(alloc, wire, peer, request, tries),
+        ManagerOperation::Walk(community, root) => {
             walk_from(alloc, wire, peer, community.as_slice(), root, tries)
         }
     }

@@ -5,7 +5,7 @@ use Rattle.std.specs.Prelude.{codes}
 use Rattle.message_core.specs.declared.binding.Binding.{Binding}
 use Rattle.message_core.specs.declared.request.Kind.{Kind}
 use Rattle.message_core.specs.declared.request.Kind.TheVariants as kind
-use Rattle.manager_core.specs.declared.run.Errand.{Errand}
+use Rattle.manager_core.specs.declared.run.ManagerOperation.{ManagerOperation}
 use Rattle.manager_words.specs.declared.fault.WordsFault.{WordsFault}
 use Rattle.manager_words.specs.Bindings.{Reads, AreSomeTexts}
 use Rattle.manager_words.specs.Requests.{AreGiven, AreNames, AreSettings, AsksBy, IsAskOf, IsBulkNumber, IsBulkOf, first_request}
@@ -40,7 +40,7 @@ pub one_settings : (rows : List Row) (xs ys : List Binding) → AreSettings rows
 one_settings rows xs ys p q = one_given _ same_setting _ rows xs ys p q
 
 -- a request of some bindings
-pub asks_of : (k : Kind) (community : List ℕ) (first second : ℤ) (Are : List Binding → Type 0) → ((xs ys : List Binding) → Are xs → Are ys → xs ≡ ys) → (bindings : List Binding) (r : Result Errand WordsFault) → Are bindings → Reads (AsksBy (first_request k first second community bindings)) r → Reads (IsAskOf k community first second Are) r
+pub asks_of : (k : Kind) (community : List ℕ) (first second : ℤ) (Are : List Binding → Type 0) → ((xs ys : List Binding) → Are xs → Are ys → xs ≡ ys) → (bindings : List Binding) (r : Result ManagerOperation WordsFault) → Are bindings → Reads (AsksBy (first_request k first second community bindings)) r → Reads (IsAskOf k community first second Are) r
 asks_of k community first second Are one bindings (Ok e) given asks =
     record { bindings = bindings; given = given; asks = asks }
 asks_of k community first second Are one bindings (Err f) given none = λ other e asked.
@@ -52,7 +52,7 @@ one_number None y z a b = absurd a
 one_number (Some t) y z a b = a.value ∙ sym b.value
 
 -- a GetBulk
-pub bulk_asks : (community : List ℕ) (rows : List Row) (first second : ℤ) (r : Result Errand WordsFault) → IsBulkNumber (one_of (codes "N") rows) first → IsBulkNumber (one_of (codes "M") rows) second → Reads (IsAskOf kind.GetBulk community first second (AreNames rows)) r → Reads (IsBulkOf community rows) r
+pub bulk_asks : (community : List ℕ) (rows : List Row) (first second : ℤ) (r : Result ManagerOperation WordsFault) → IsBulkNumber (one_of (codes "N") rows) first → IsBulkNumber (one_of (codes "M") rows) second → Reads (IsAskOf kind.GetBulk community first second (AreNames rows)) r → Reads (IsBulkOf community rows) r
 bulk_asks community rows first second (Ok e) p q asks =
     record { first = first; is_first = p; second = second; is_second = q; asks = asks }
 bulk_asks community rows first second (Err f) p q none = λ other e is.

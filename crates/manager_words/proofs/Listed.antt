@@ -32,8 +32,8 @@ same_texts IsText one (w ∷ words) (a ∷ xs) (b ∷ ys) p q =
     cc
 
 -- where the words are those of some bindings, the word at an index is that of one
-pub said_at : (IsText : List ℕ → Binding → Type 0) → {S : Type 0} (bytes : S → List ℕ) (words : List S) (i : ℕ) (d : S) → i < length words → (bs : List Binding) → AreSomeTexts IsText (map bytes words) bs → (b : Binding) × IsText (bytes (get_or words i d)) b
-said_at IsText bytes words i d low bs texts =
+pub stated_at : (IsText : List ℕ → Binding → Type 0) → {S : Type 0} (bytes : S → List ℕ) (words : List S) (i : ℕ) (d : S) → i < length words → (bs : List Binding) → AreSomeTexts IsText (map bytes words) bs → (b : Binding) × IsText (bytes (get_or words i d)) b
+stated_at IsText bytes words i d low bs texts =
     let within : i < length (map bytes words) = rw (length-map words bytes) low in
     let t = text_at IsText (map bytes words) bs i within texts.1 in
     (t.0, subst (λ (w : List ℕ). IsText w t.0) (get_or-map bytes words i d [] low) t.1)

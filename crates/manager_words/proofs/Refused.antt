@@ -9,7 +9,7 @@ use Rattle.clap.specs.declared.parser.matches.ArgMatches.{ArgMatches}
 use Rattle.manager_core.specs.declared.command.Command.{Command}
 use Rattle.manager_core.specs.declared.command.TheConstants.{FAILED}
 use Rattle.manager_words.specs.Options.{manager_app}
-use Rattle.manager_words.specs.Requests.{IsCommand, IsSaid}
+use Rattle.manager_words.specs.Requests.{IsCommand, IsStated}
 use Rattle.manager_words.specs.Runs.{IsAnswered, IsRefusal, IsText}
 use Rattle.manager_words.specs.declared.fault.WordsFault.{WordsFault}
 use Rattle.manager_words.specs.declared.fault.WordsFault.TheVariants.{Memory}
@@ -24,30 +24,30 @@ same_matches : (a : App) (words : List Text) (m : ArgMatches) → a ≡ manager_
 same_matches a words m is matches = subst (λ (x : App). HasMatchesOf x words m) is matches
 
 -- the command that the matches of a parse say
-pub command_said : (a : App) (words : List Text) (m : ArgMatches) (c : Command) → a ≡ manager_app → (is_simple_and_free a ≡ true → fault_of a words ≡ []) → HasMatchesOf a words m → IsSaid (rows_of (found_of m)) (subcommand_rows_of m) c → IsCommand words c
-command_said a words m c is kinds matches said =
+pub command_stated : (a : App) (words : List Text) (m : ArgMatches) (c : Command) → a ≡ manager_app → (is_simple_and_free a ≡ true → fault_of a words ≡ []) → HasMatchesOf a words m → IsStated (rows_of (found_of m)) (subcommand_rows_of m) c → IsCommand words c
+command_stated a words m c is kinds matches stated =
     let h = same_matches a words m is matches simple in
     record {
       faultless = faultless a words is kinds;
-      said = subst (λ (t : List Row). IsSaid t (subcommand_of manager_app words) c) h.0 (subst (λ (o : Option (Text × List Row)). IsSaid (rows_of (found_of m)) o c) h.1 said);
+      stated = subst (λ (t : List Row). IsStated t (subcommand_of manager_app words) c) h.0 (subst (λ (o : Option (Text × List Row)). IsStated (rows_of (found_of m)) o c) h.1 stated);
     }
 
 -- and the same the other way
-said_by : (a : App) (words : List Text) (m : ArgMatches) (c : Command) → a ≡ manager_app → HasMatchesOf a words m → IsCommand words c → IsSaid (rows_of (found_of m)) (subcommand_rows_of m) c
-said_by a words m c is matches command =
+stated_by : (a : App) (words : List Text) (m : ArgMatches) (c : Command) → a ≡ manager_app → HasMatchesOf a words m → IsCommand words c → IsStated (rows_of (found_of m)) (subcommand_rows_of m) c
+stated_by a words m c is matches command =
     let h = same_matches a words m is matches simple in
-    subst (λ (t : List Row). IsSaid t (subcommand_rows_of m) c) (sym h.0) (subst (λ (o : Option (Text × List Row)). IsSaid (matches_of manager_app words) o c) (sym h.1) command.said)
+    subst (λ (t : List Row). IsStated t (subcommand_rows_of m) c) (sym h.0) (subst (λ (o : Option (Text × List Row)). IsStated (matches_of manager_app words) o c) (sym h.1) command.stated)
 
 -- the matches say no command
-pub none_said : (a : App) (words : List Text) (m : ArgMatches) (fault : WordsFault) (e : Error) → a ≡ manager_app → (is_simple_and_free a ≡ true → fault_of a words ≡ []) → HasMatchesOf a words m → (fault ≢ Memory → (c : Command) → ¬ IsSaid (rows_of (found_of m)) (subcommand_rows_of m) c) → (fault ≡ Memory → kind_of e ≡ kind.OutOfMemory) → (kind_of e ≡ kind.OutOfMemory) ⊎ (kind_of e ≡ kind.ValueValidation) → IsRefusal words e
-none_said a words m fault e is kinds matches none memory (inl wants) = inl wants
-none_said a words m fault e is kinds matches none memory (inr invalid) =
+pub none_stated : (a : App) (words : List Text) (m : ArgMatches) (fault : WordsFault) (e : Error) → a ≡ manager_app → (is_simple_and_free a ≡ true → fault_of a words ≡ []) → HasMatchesOf a words m → (fault ≢ Memory → (c : Command) → ¬ IsStated (rows_of (found_of m)) (subcommand_rows_of m) c) → (fault ≡ Memory → kind_of e ≡ kind.OutOfMemory) → (kind_of e ≡ kind.OutOfMemory) ⊎ (kind_of e ≡ kind.ValueValidation) → IsRefusal words e
+none_stated a words m fault e is kinds matches none memory (inl wants) = inl wants
+none_stated a words m fault e is kinds matches none memory (inr invalid) =
     let other : fault ≢ Memory = λ same. let wants = memory same in cc in
     inr (inr (
       invalid,
       record {
         faultless = faultless a words is kinds;
-        none = λ c command. none other c (said_by a words m c is matches command);
+        none = λ c command. none other c (stated_by a words m c is matches command);
       },
     ))
 

@@ -69,36 +69,36 @@ same_octets : (text a b : List ℕ) → IsOctetsText text a → IsOctetsText tex
 same_octets text a b p q = let both = sym p.spelled ∙ q.spelled in cc both
 
 -- What a text that is that of a value is: an INTEGER's, or that of octets.
-record IsIntegerSaid (text : List ℕ) (v : Value) : Type 0 where
+record IsIntegerStated (text : List ℕ) (v : Value) : Type 0 where
   number : ℤ
   rest : List ℕ
   value : v ≡ Integer number
   parts : text ≡ codes "i:" ++ rest
   says : IsIntegerText rest number
 
-record IsOctetsSaid (text : List ℕ) (v : Value) : Type 0 where
+record IsOctetsStated (text : List ℕ) (v : Value) : Type 0 where
   octets : List ℕ
   rest : List ℕ
   value : v ≡ OctetString octets
   parts : text ≡ codes "x:" ++ rest
   says : IsOctetsText rest octets
 
-value_said : (text : List ℕ) (v : Value) → IsValueText text v → IsIntegerSaid text v ⊎ IsOctetsSaid text v
-value_said text (Integer number) h =
+value_stated : (text : List ℕ) (v : Value) → IsValueText text v → IsIntegerStated text v ⊎ IsOctetsStated text v
+value_stated text (Integer number) h =
     inl (record { number = number; rest = h.0; value = refl; parts = h.1; says = h.2 })
-value_said text (OctetString octets) h =
+value_stated text (OctetString octets) h =
     inr (record { octets = octets; rest = h.0; value = refl; parts = h.1; says = h.2 })
-value_said text Null h = absurd h
-value_said text (ObjectIdentifier name) h = absurd h
-value_said text (IpAddress octets) h = absurd h
-value_said text (Counter32 n) h = absurd h
-value_said text (Gauge32 n) h = absurd h
-value_said text (TimeTicks n) h = absurd h
-value_said text (Opaque octets) h = absurd h
-value_said text (Counter64 n) h = absurd h
-value_said text NoSuchObject h = absurd h
-value_said text NoSuchInstance h = absurd h
-value_said text EndOfMibView h = absurd h
+value_stated text Null h = absurd h
+value_stated text (ObjectIdentifier name) h = absurd h
+value_stated text (IpAddress octets) h = absurd h
+value_stated text (Counter32 n) h = absurd h
+value_stated text (Gauge32 n) h = absurd h
+value_stated text (TimeTicks n) h = absurd h
+value_stated text (Opaque octets) h = absurd h
+value_stated text (Counter64 n) h = absurd h
+value_stated text NoSuchObject h = absurd h
+value_stated text NoSuchInstance h = absurd h
+value_stated text EndOfMibView h = absurd h
 
 apart : (text rest more : List ℕ) → text ≡ codes "i:" ++ rest → text ≡ codes "x:" ++ more → ⊥
 apart text rest more p q =
@@ -109,15 +109,15 @@ behind_two a b xs ys e = cc e
 
 same_value : (text : List ℕ) (a b : Value) → IsValueText text a → IsValueText text b → a ≡ b
 same_value text a b p q =
-    elim (value_said text a p) [
-      | inl i ↦ elim (value_said text b q) [
+    elim (value_stated text a p) [
+      | inl i ↦ elim (value_stated text b q) [
         | inl j ↦
             let rests = behind_two 105 58 i.rest j.rest (sym i.parts ∙ j.parts) in
             let other : IsIntegerText i.rest j.number = rw rests j.says in
             i.value ∙ ap Integer (one_integer i.rest i.number j.number i.says other) ∙ sym j.value
         | inr j ↦ absurd (apart text i.rest j.rest i.parts j.parts)
       ]
-      | inr i ↦ elim (value_said text b q) [
+      | inr i ↦ elim (value_stated text b q) [
         | inl j ↦ absurd (apart text j.rest i.rest j.parts i.parts)
         | inr j ↦
             let rests = behind_two 120 58 i.rest j.rest (sym i.parts ∙ j.parts) in
@@ -144,11 +144,11 @@ same_setting word a b p q =
 pub asked_encodable : (word : List ℕ) (b : Binding) → IsAskedText word b → IsEncodableBinding b
 asked_encodable word b p = record { name = p.name.root; value = rw p.value tt }
 
-said_encodable : (text : List ℕ) (v : Value) → IsValueText text v → IsEncodableValue v
-said_encodable text v p = elim (value_said text v p) [ inl i ↦ rw i.value tt | inr o ↦ rw o.value tt ]
+stated_encodable : (text : List ℕ) (v : Value) → IsValueText text v → IsEncodableValue v
+stated_encodable text v p = elim (value_stated text v p) [ inl i ↦ rw i.value tt | inr o ↦ rw o.value tt ]
 
 pub setting_encodable : (word : List ℕ) (b : Binding) → IsSettingText word b → IsEncodableBinding b
 setting_encodable word b p = record {
   name = p.name.root;
-  value = said_encodable (after_first is_equals word) b.value p.value;
+  value = stated_encodable (after_first is_equals word) b.value p.value;
 }

@@ -13,8 +13,8 @@ use Rattle.message_core.specs.declared.binding.Binding.{Binding}
 use Rattle.message_core.specs.declared.request.Kind.{Kind}
 use Rattle.message_core.specs.declared.request.Kind.TheVariants as kind
 use Rattle.message_core.specs.declared.request.Request.{Request}
-use Rattle.manager_core.specs.declared.run.Errand.{Errand}
-use Rattle.manager_core.specs.declared.run.Errand.TheVariants.{Ask, Walk as Walks}
+use Rattle.manager_core.specs.declared.run.ManagerOperation.{ManagerOperation}
+use Rattle.manager_core.specs.declared.run.ManagerOperation.TheVariants.{Ask, Walk as Walks}
 use Rattle.manager_core.specs.declared.command.Command.{Command}
 use Rattle.manager_words.specs.Bindings.{IsAskedText, IsNameText, IsSettingText, AreSomeTexts}
 use Rattle.manager_words.specs.Options.{manager_app}
@@ -78,7 +78,7 @@ first_request kind first second community bindings = record {
 }
 
 -- an ask by a request that fits into a datagram
-abbrev pub AsksBy : Request → Errand → Type 0
+abbrev pub AsksBy : Request → ManagerOperation → Type 0
 AsksBy r errand = (length (canon_request r) ≤ MAX_REQUEST) × (errand ≡ Ask r)
 
 -- the bindings of the words that are given under an id
@@ -94,13 +94,13 @@ abbrev pub AreSettings : List Row → List Binding → Type 0
 AreSettings = AreGiven IsSettingText (codes "SETTING")
 
 -- a request of the bindings that are given
-pub record IsAskOf (kind : Kind) (community : List ℕ) (first second : ℤ) (Are : List Binding → Type 0) (errand : Errand) : Type 0 where
+pub record IsAskOf (kind : Kind) (community : List ℕ) (first second : ℤ) (Are : List Binding → Type 0) (errand : ManagerOperation) : Type 0 where
   pub bindings : List Binding
   pub given : Are bindings
   pub asks : AsksBy (first_request kind first second community bindings) errand
 
 -- a GetBulk by two numbers and names
-pub record IsBulkOf (community : List ℕ) (rows : List Row) (errand : Errand) : Type 0 where
+pub record IsBulkOf (community : List ℕ) (rows : List Row) (errand : ManagerOperation) : Type 0 where
   pub first : ℤ
   pub is_first : IsBulkNumber (one_of (codes "N") rows) first
   pub second : ℤ
@@ -108,7 +108,7 @@ pub record IsBulkOf (community : List ℕ) (rows : List Row) (errand : Errand) :
   pub asks : IsAskOf kind.GetBulk community first second (AreNames rows) errand
 
 -- a walk by its root
-pub record IsWalkOf (community : List ℕ) (rows : List Row) (errand : Errand) : Type 0 where
+pub record IsWalkOf (community : List ℕ) (rows : List Row) (errand : ManagerOperation) : Type 0 where
   pub word : Text
   pub is_word : first_of (codes "NAME") rows ≡ Some word
   pub root : List ℕ
@@ -126,7 +126,7 @@ word_of name =
     else None
 
 -- what it asks for, of a community and with the words behind
-abbrev pub IsErrandBy : Option Word → List ℕ → List Row → Errand → Type 0
+abbrev pub IsErrandBy : Option Word → List ℕ → List Row → ManagerOperation → Type 0
 IsErrandBy None community rows errand = ⊥
 IsErrandBy (Some Get) community rows errand =
     IsAskOf kind.Get community (pos 0) (pos 0) (AreNames rows) errand
@@ -145,7 +145,7 @@ pub record IsCommunityOf (rows : List Row) (community : List ℕ) : Type 0 where
   pub short : length community ≤ MAX_COMMUNITY
 
 -- the errand of a request's name and of the words behind it
-pub record IsErrandOf (name : Text) (rows : List Row) (errand : Errand) : Type 0 where
+pub record IsErrandOf (name : Text) (rows : List Row) (errand : ManagerOperation) : Type 0 where
   pub community : List ℕ
   pub is_community : IsCommunityOf rows community
   pub by : IsErrandBy (word_of name) community rows errand
@@ -163,12 +163,12 @@ pub record IsRequest (top : List Row) (name : Text) (rows : List Row) (c : Comma
   pub errand : IsErrandOf name rows c.errand
 
 -- Matches that say this command.
-abbrev pub IsSaid : List Row → Option (Text × List Row) → Command → Type 0
-IsSaid top None c = ⊥
-IsSaid top (Some request) c = IsRequest top request.0 request.1 c
+abbrev pub IsStated : List Row → Option (Text × List Row) → Command → Type 0
+IsStated top None c = ⊥
+IsStated top (Some request) c = IsRequest top request.0 request.1 c
 
 -- These words, the program's name first, ask for this command: they have no fault, and it is what
 -- their matches say.
 pub record IsCommand (words : List Text) (c : Command) : Type 0 where
   pub faultless : fault_of manager_app words ≡ []
-  pub said : IsSaid (matches_of manager_app words) (subcommand_of manager_app words) c
+  pub stated : IsStated (matches_of manager_app words) (subcommand_of manager_app words) c

@@ -63,12 +63,12 @@ fn setting_of<'a>(alloc: Global, word: &'a str) -> Result<Binding, WordsFault<'a
     ensures { Reads (IsSettingText word.entry.now) result }
 {
     let Some((name, value)) = word.split_once('=') else {
-        return Err(WordsFault::Setting(word));
+        return Err(WordsFault::Assignment(word));
     };
     let name = name_of(alloc, name)?;
     match value_of(alloc, value.as_bytes())? {
         Some(value) => Ok(Binding { name, value }),
-        None => Err(WordsFault::Setting(word)),
+        None => Err(WordsFault::Assignment(word)),
     }
 }
 

@@ -24,7 +24,7 @@ pub(crate) enum WordsFault<'a> {
     /// This word is no name, or one that has no encoding.
     Name(&'a str),
     /// This word is no setting.
-    Setting(&'a str),
+    Assignment(&'a str),
     /// The request has more than `MAX_REQUEST` octets.
     Request,
 }
@@ -60,7 +60,7 @@ impl<'a> fmt::Display for WordsFault<'a> {
                 f,
                 "invalid value '{word}' for '<NAME>': not an object identifier of 2 to 128 numbers"
             ),
-            WordsFault::Setting(word) => write!(
+            WordsFault::Assignment(word) => write!(
                 f,
                 "invalid value '{word}' for '<SETTING>': not NAME=i:NUMBER or NAME=x:HEX"
             ),

@@ -5,12 +5,12 @@ ghost use Rattle.message_core.specs.Encodable.{AreEncodable};
 ghost use Rattle.message_core.specs.declared.request.Kind.TheVariants as kind;
 ghost use Rattle.manager_core.specs.Runs.{IsAskable};
 ghost use Rattle.manager_words.specs.Bindings.{Reads};
-ghost use Rattle.manager_words.specs.Requests.{rows_in, word_of, IsBulkNumber, IsGivenTries, AreTries, first_request, AsksBy, AreNames, AreSettings, IsAskOf, IsBulkOf, IsWalkOf, IsErrandBy, IsCommunityOf, IsErrandOf, IsAgentOf, IsSaid};
+ghost use Rattle.manager_words.specs.Requests.{rows_in, word_of, IsBulkNumber, IsGivenTries, AreTries, first_request, AsksBy, AreNames, AreSettings, IsAskOf, IsBulkOf, IsWalkOf, IsErrandBy, IsCommunityOf, IsErrandOf, IsAgentOf, IsStated};
 
 use crate::bindings::{name_of, names_of, settings_of};
 use crate::fault::WordsFault;
 use clap::ArgMatches;
-use manager_core::{Command, Errand};
+use manager_core::{Command, ManagerOperation};
 use message_core::{Bindings, Kind, MAX_COMMUNITY, MAX_REQUEST, Octets, Request, encode_request};
 use std::alloc::Global;
 use std::net::SocketAddr;
@@ -41,7 +41,7 @@ pub(crate) fn command_in<'a>(
     alloc: Global,
     matches: &ArgMatches<'a>,
 ) -> Result<Command, WordsFault<'a>>
-    ensures read { Reads (IsSaid (rows_in matches.now) (subcommand_rows_of matches.now)) result }
+    ensures read { Reads (IsStated (rows_in matches.now) (subcommand_rows_of matches.now)) result }
     ensures askable { IfOk result (λ c. IsAskable c.errand) }
 {
     let Some((name, request)) = matches.subcommand() else {
@@ -95,7 +95,7 @@ fn errand_of<'a>(
     alloc: Global,
     name: &str,
     request: &ArgMatches<'a>,
-) -> Result<Errand, WordsFault<'a>>
+) -> Result<ManagerOperation, WordsFault<'a>>
     ensures read { Reads (IsErrandOf name.now (rows_in request.now)) result }
     ensures askable { IfOk result IsAskable }
 {
@@ -140,7 +140,7 @@ fn errand_by<'a>(
     word: Word,
     community: Octets,
     request: &ArgMatches<'a>,
-) -> Result<Errand, WordsFault<'a>>
+) -> Result<ManagerOperation, WordsFault<'a>>
     requires { length community ≤ MAX_COMMUNITY }
     ensures read { Reads (IsErrandBy (Some word) community (rows_in request.now)) result }
     ensures askable { IfOk result IsAskable }
@@ -160,7 +160,7 @@ fn ask_of<'a>(
     kind: Kind,
     community: Octets,
     request: &ArgMatches<'a>,
-) -> Result<Errand, WordsFault<'a>>
+) -> Result<ManagerOperation, WordsFault<'a>>
     ensures read { Reads (IsAskOf kind community (pos 0) (pos 0) (AreNames (rows_in request.now)))
         result }
     ensures askable { IfOk result IsAskable }
@@ -174,7 +174,7 @@ fn set_of<'a>(
     alloc: Global,
     community: Octets,
     request: &ArgMatches<'a>,
-) -> Result<Errand, WordsFault<'a>>
+) -> Result<ManagerOperation, WordsFault<'a>>
     ensures read { Reads (IsAskOf kind.Set community (pos 0) (pos 0)
         (AreSettings (rows_in request.now))) result }
     ensures askable { IfOk result IsAskable }
@@ -188,7 +188,7 @@ fn bulk_of<'a>(
     alloc: Global,
     community: Octets,
     request: &ArgMatches<'a>,
-) -> Result<Errand, WordsFault<'a>>
+) -> Result<ManagerOperation, WordsFault<'a>>
     ensures read { Reads (IsBulkOf community (rows_in request.now)) result }
     ensures askable { IfOk result IsAskable }
 {
@@ -232,13 +232,13 @@ fn walk_of<'a>(
     alloc: Global,
     community: Octets,
     request: &ArgMatches<'a>,
-) -> Result<Errand, WordsFault<'a>>
+) -> Result<ManagerOperation, WordsFault<'a>>
     requires { length community ≤ MAX_COMMUNITY }
     ensures read { Reads (IsWalkOf community (rows_in request.now)) result }
     ensures askable { IfOk result IsAskable }
 {
     let root = name_of(alloc, word_in(request, "NAME")?)?;
-    Ok(Errand::Walk(community, root))
+    Ok(ManagerOperation::Walk(community, root))
 }
 
 // A request, where it fits into a datagram.
@@ -248,7 +248,7 @@ fn asking<'a>(
     second: i32,
     community: Octets,
     bindings: Bindings,
-) -> Result<Errand, WordsFault<'a>>
+) -> Result<ManagerOperation, WordsFault<'a>>
     requires { AreEncodable bindings }
     ensures read { Reads (AsksBy (first_request kind first second community bindings)) result }
     ensures askable { IfOk result IsAskable }
@@ -261,9 +261,9 @@ fn asking<'a>(
         community,
         bindings,
     };
-    let mut room = [0u8; MAX_REQUEST];
-    match encode_request(&request, &mut room) {
-        Ok(_) => Ok(Errand::Ask(request)),
+    let mut space = [0u8; MAX_REQUEST];
+    match encode_request(&request, &mut space) {
+        Ok(_) => Ok(ManagerOperation::Ask(request)),
         Err(_) => Err(WordsFault::Request),
     }
 }

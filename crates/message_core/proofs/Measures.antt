@@ -93,11 +93,11 @@ fits_size outer inner n few fits = elim (cases_lt 1460 (n + (outer + inner))) [
 ]
 
 -- the bindings have so many octets as the longest reply leaves them
-pub room_tells : (request : Request) (bs : List Binding) (version community id status index room : ℕ) →
+pub space_decides : (request : Request) (bs : List Binding) (version community id status index space : ℕ) →
     version ≡ length (canon_int (pos 1)) → community ≡ length (canon_tlv tags.octet_string request.community) → id ≡ length (canon_int request.id) → status ≡ length (canon_int (code_of NoError)) → index ≡ length (canon_int (pos 0)) →
-    version + community + id + status + index ≤ 300 → room + (version + community + id + status + index) ≡ 1460 →
-    (length (canon_bindings bs) ≤ room) ↔ (length (canon_reply (answer_to request NoError (pos 0) bs)) ≤ MAX_REPLY)
-room_tells request bs version community id status index room v c i s x few sum =
+    version + community + id + status + index ≤ 300 → space + (version + community + id + status + index) ≡ 1460 →
+    (length (canon_bindings bs) ≤ space) ↔ (length (canon_reply (answer_to request NoError (pos 0) bs)) ≤ MAX_REPLY)
+space_decides request bs version community id status index space v c i s x few sum =
     let outer : ℕ = length (canon_int (pos 1)) + length (canon_tlv tags.octet_string request.community) in
     let inner : ℕ = length (canon_int request.id) + length (canon_int (code_of NoError)) + length (canon_int (pos 0)) in
     let n : ℕ = length (canon_bindings bs) in

@@ -20,12 +20,12 @@ length_some n = elim (cases_lt n 128) [
   | inr long ↦ rw (le-ltb _ _ long) (omega arith)
 ]
 
-tlv_room : (tag : ℕ) (content : List ℕ) → length content + 2 ≤ length (canon_tlv tag content)
+tlv_space : (tag : ℕ) (content : List ℕ) → length content + 2 ≤ length (canon_tlv tag content)
 unfolding canon_tlv
-tlv_room tag content = omega (arith, length_some (length content), length-append (canon_length (length content)) content)
+tlv_space tag content = omega (arith, length_some (length content), length-append (canon_length (length content)) content)
 
 tlv_some : (tag : ℕ) (content : List ℕ) → 2 ≤ length (canon_tlv tag content)
-tlv_some tag content = omega (arith, tlv_room tag content)
+tlv_some tag content = omega (arith, tlv_space tag content)
 
 value_some : (v : Value) → 2 ≤ length (canon_value v)
 value_some (Integer z) = tlv_some _ _
@@ -45,13 +45,13 @@ value_some EndOfMibView = tlv_some _ _
 pub binding_some : (b : Binding) → 6 ≤ length (canon_binding b)
 unfolding canon_binding
 binding_some b =
-    omega (arith, value_some b.value, tlv_some tags.object_identifier (canon_name b.name), tlv_room tags.sequence (canon_name_tlv b.name ++ canon_value b.value), length-append (canon_name_tlv b.name) (canon_value b.value))
+    omega (arith, value_some b.value, tlv_some tags.object_identifier (canon_name b.name), tlv_space tags.sequence (canon_name_tlv b.name ++ canon_value b.value), length-append (canon_name_tlv b.name) (canon_value b.value))
 
 body_some : (id first second : ℤ) (bs : List Binding) → length (canon_bindings bs) ≤ length (canon_body id first second bs)
 unfolding canon_body canon_tail
 body_some id first second bs =
     let list = canon_tlv tags.sequence (canon_bindings bs) in
-    omega (arith, tlv_room tags.sequence (canon_bindings bs), length-append (canon_int id) (canon_int first ++ (canon_int second ++ list)), length-append (canon_int first) (canon_int second ++ list), length-append (canon_int second) list)
+    omega (arith, tlv_space tags.sequence (canon_bindings bs), length-append (canon_int id) (canon_int first ++ (canon_int second ++ list)), length-append (canon_int first) (canon_int second ++ list), length-append (canon_int second) list)
 
 pub reply_some : (r : Reply) → length (canon_bindings r.bindings) ≤ length (canon_reply r)
 reply_some r =

@@ -54,9 +54,9 @@ fn community_len(community: &[u8]) -> usize
 /// has at most `MAX_REPLY`.
 ///
 /// The community has at most `MAX_COMMUNITY` octets. Takes no memory.
-pub fn bindings_room(request: &Request) -> usize
+pub fn bindings_space(request: &Request) -> usize
     requires { length request.now.community ≤ MAX_COMMUNITY }
-    ensures room { (bindings : List Binding) →
+    ensures space { (bindings : List Binding) →
         (length (canon_bindings bindings) ≤ result) ↔
         (length (canon_reply (answer_to request.now ErrorStatus.NoError (pos 0) bindings))
         ≤ MAX_REPLY) }

@@ -38,7 +38,7 @@ struct Message<'a> {
 #[tactic(auto, unfolding(ber_core::specs::Encoding::canon_tlv))]
 fn put_oid(out: &mut Out<'_>, name: &Oid) -> Result<(), BerFault>
     requires { HasRoot name.now }
-    ensures same_reference { out.new.room.ghost_name ≡ out.old.room.ghost_name }
+    ensures same_reference { out.new.space.ghost_name ≡ out.old.space.ghost_name }
     ensures puts { Prepends out.old out.new result (canon_name_tlv name.now) }
 {
     let mark = out.len();
@@ -52,7 +52,7 @@ fn put_oid(out: &mut Out<'_>, name: &Oid) -> Result<(), BerFault>
 /// `NoRoom` where it does not fit. The caller ensures that a name can be encoded.
 pub fn put_value(out: &mut Out<'_>, value: &Value) -> Result<(), BerFault>
     requires { IsEncodableValue value.now }
-    ensures same_reference { out.new.room.ghost_name ≡ out.old.room.ghost_name }
+    ensures same_reference { out.new.space.ghost_name ≡ out.old.space.ghost_name }
     ensures puts { Prepends out.old out.new result (canon_value value.now) }
 {
     match value {
@@ -79,7 +79,7 @@ pub fn put_value(out: &mut Out<'_>, value: &Value) -> Result<(), BerFault>
 #[tactic(auto, unfolding(ber_core::specs::Encoding::canon_tlv, crate::specs::Canon::canon_binding))]
 pub fn put_binding(out: &mut Out<'_>, binding: &Binding) -> Result<(), BerFault>
     requires { IsEncodableBinding binding.now }
-    ensures same_reference { out.new.room.ghost_name ≡ out.old.room.ghost_name }
+    ensures same_reference { out.new.space.ghost_name ≡ out.old.space.ghost_name }
     ensures puts { Prepends out.old out.new result (canon_binding binding.now) }
 {
     let mark = out.len();
@@ -91,7 +91,7 @@ pub fn put_binding(out: &mut Out<'_>, binding: &Binding) -> Result<(), BerFault>
 
 fn put_bindings(out: &mut Out<'_>, bindings: &[Binding]) -> Result<(), BerFault>
     requires { AreEncodable bindings.now }
-    ensures same_reference { out.new.room.ghost_name ≡ out.old.room.ghost_name }
+    ensures same_reference { out.new.space.ghost_name ≡ out.old.space.ghost_name }
     ensures puts { Prepends out.old out.new result (flat_map canon_binding bindings.now) }
 {
     let mut i = bindings.len();
@@ -105,7 +105,7 @@ fn put_bindings(out: &mut Out<'_>, bindings: &[Binding]) -> Result<(), BerFault>
 #[tactic(auto, unfolding(ber_core::specs::Encoding::canon_tlv))]
 fn put_list(out: &mut Out<'_>, bindings: &[Binding]) -> Result<(), BerFault>
     requires { AreEncodable bindings.now }
-    ensures same_reference { out.new.room.ghost_name ≡ out.old.room.ghost_name }
+    ensures same_reference { out.new.space.ghost_name ≡ out.old.space.ghost_name }
     ensures puts { Prepends out.old out.new result (canon_tlv tags.sequence
         (flat_map canon_binding bindings.now)) }
 {
@@ -118,7 +118,7 @@ fn put_list(out: &mut Out<'_>, bindings: &[Binding]) -> Result<(), BerFault>
 #[tactic(auto, unfolding(crate::specs::Canon::canon_tail))]
 fn put_tail(out: &mut Out<'_>, second: i32, bindings: &[Binding]) -> Result<(), BerFault>
     requires { AreEncodable bindings.now }
-    ensures same_reference { out.new.room.ghost_name ≡ out.old.room.ghost_name }
+    ensures same_reference { out.new.space.ghost_name ≡ out.old.space.ghost_name }
     ensures puts { Prepends out.old out.new result (canon_tail second bindings.now) }
 {
     put_list(out, bindings)?;
@@ -128,7 +128,7 @@ fn put_tail(out: &mut Out<'_>, second: i32, bindings: &[Binding]) -> Result<(), 
 #[tactic(auto, unfolding(crate::specs::Canon::canon_body))]
 fn put_body(out: &mut Out<'_>, message: &Message<'_>) -> Result<(), BerFault>
     requires { AreEncodable message.now.bindings.now }
-    ensures same_reference { out.new.room.ghost_name ≡ out.old.room.ghost_name }
+    ensures same_reference { out.new.space.ghost_name ≡ out.old.space.ghost_name }
     ensures puts { let m = message.now in Prepends out.old out.new result
         (canon_body m.id m.first m.second m.bindings.now) }
 {
@@ -140,7 +140,7 @@ fn put_body(out: &mut Out<'_>, message: &Message<'_>) -> Result<(), BerFault>
 #[tactic(auto, unfolding(ber_core::specs::Encoding::canon_tlv))]
 fn put_pdu(out: &mut Out<'_>, message: &Message<'_>) -> Result<(), BerFault>
     requires { AreEncodable message.now.bindings.now }
-    ensures same_reference { out.new.room.ghost_name ≡ out.old.room.ghost_name }
+    ensures same_reference { out.new.space.ghost_name ≡ out.old.space.ghost_name }
     ensures puts { let m = message.now in Prepends out.old out.new result (canon_tlv m.tag.0
         (canon_body m.id m.first m.second m.bindings.now)) }
 {
@@ -153,7 +153,7 @@ fn put_pdu(out: &mut Out<'_>, message: &Message<'_>) -> Result<(), BerFault>
 #[tactic(auto, unfolding(crate::specs::Canon::canon_inside))]
 fn put_inside(out: &mut Out<'_>, message: &Message<'_>) -> Result<(), BerFault>
     requires { AreEncodable message.now.bindings.now }
-    ensures same_reference { out.new.room.ghost_name ≡ out.old.room.ghost_name }
+    ensures same_reference { out.new.space.ghost_name ≡ out.old.space.ghost_name }
     ensures puts { let m = message.now in Prepends out.old out.new result
         (canon_inside m.community.now m.tag.0 (canon_body m.id m.first m.second m.bindings.now)) }
 {
@@ -165,7 +165,7 @@ fn put_inside(out: &mut Out<'_>, message: &Message<'_>) -> Result<(), BerFault>
 #[tactic(auto, unfolding(ber_core::specs::Encoding::canon_tlv, crate::specs::Canon::canon_message))]
 fn put_message(out: &mut Out<'_>, message: &Message<'_>) -> Result<(), BerFault>
     requires { AreEncodable message.now.bindings.now }
-    ensures same_reference { out.new.room.ghost_name ≡ out.old.room.ghost_name }
+    ensures same_reference { out.new.space.ghost_name ≡ out.old.space.ghost_name }
     ensures puts { let m = message.now in Prepends out.old out.new result
         (canon_message m.community.now m.tag.0 (canon_body m.id m.first m.second m.bindings.now)) }
 {
@@ -177,9 +177,9 @@ fn put_message(out: &mut Out<'_>, message: &Message<'_>) -> Result<(), BerFault>
 
 /// Writes a message to the front of the buffer, and answers how long it is. A message that does not
 /// fit changes nothing there. The space, as long as the buffer, is written on the way.
-fn encode(message: &Message<'_>, room: &mut [u8], buffer: &mut [u8]) -> Result<usize, TooBig>
+fn encode(message: &Message<'_>, space: &mut [u8], buffer: &mut [u8]) -> Result<usize, TooBig>
     requires names { AreEncodable message.now.bindings.now }
-    requires same_len { length room.old ≡ length buffer.old }
+    requires same_len { length space.old ≡ length buffer.old }
     requires small { length buffer.old < 2 ^ 32 }
     ensures ok { let m = message.now in IfOk result (λ n.
         buffer.new ≡ canon_message m.community.now m.tag.0
@@ -191,13 +191,13 @@ fn encode(message: &Message<'_>, room: &mut [u8], buffer: &mut [u8]) -> Result<u
         (canon_message m.community.now m.tag.0 (canon_body m.id m.first m.second m.bindings.now))) }
     ensures unchanged { OnErr result (buffer.new ≡ buffer.old) }
 {
-    let mut out = Out::new(room);
+    let mut out = Out::new(space);
     if put_message(&mut out, message).is_err() {
         return Err(TooBig);
     }
     let len = out.len();
-    let start = room.len() - len;
-    buffer[..len].copy_from_slice(&room[start..]);
+    let start = space.len() - len;
+    buffer[..len].copy_from_slice(&space[start..]);
     Ok(len)
 }
 

@@ -26,7 +26,7 @@ root_more (a ∷ []) n r = absurd r
 root_more (a ∷ b ∷ rest) n r = r
 
 name_more : (front items octets : List ℕ) (n : ℕ) → IsName front items → IsCoded octets n → n < 2 ^ 32 → length items < MAX_NUMBERS → IsName (front ++ octets) (items ++ n ∷ [])
-name_more front items octets n i c small room =
+name_more front items octets n i c small space =
     let fits = i.fits in
     record {
       fits = record { root = root_more items n fits.root; most = omega (arith, length-append items (n ∷ [])); each = each_more items n fits.each small };
@@ -36,11 +36,11 @@ name_more front items octets n i c small room =
 -- one more number is read
 pub begun_more : (content items rest : List ℕ) (n : ℕ) (after : List ℕ) → EachIsOctet content → BeginsName content items rest → coded_at (2 ^ 32) rest ≡ Ok (n, after) → length items < MAX_NUMBERS
     → BeginsName content (items ++ n ∷ []) after
-begun_more content items rest n after fits b h room =
+begun_more content items rest n after fits b h space =
     let c = coded_found (2 ^ 32) rest (n, after) (rest_octets b.front rest (subst (λ (t : List ℕ). EachIsOctet t) b.joined fits)) h in
     record {
       front = b.front ++ c.0.front;
-      encoded = name_more b.front items c.0.front n b.encoded c.0.encoded c.1 room;
+      encoded = name_more b.front items c.0.front n b.encoded c.0.encoded c.1 space;
       joined = b.joined ∙ ap (λ (t : List ℕ). b.front ++ t) c.0.joined ∙ sym (append_assoc b.front c.0.front after);
     }
 
@@ -60,9 +60,9 @@ same_root content items n rest h root len = rw (len, root, h) refl
 -- what was begun is long
 pub long_more : (content items rest : List ℕ) (n : ℕ) (after : List ℕ) → EachIsOctet content → BeginsName content items rest → coded_at (2 ^ 32) rest ≡ Ok (n, after) → length items < MAX_NUMBERS
     → INLINE_NUMBERS ≤ length items → BeginsLong content
-long_more content items rest n after fits b h room long = record {
+long_more content items rest n after fits b h space long = record {
   name = items ++ n ∷ [];
   rest = after;
-  begun = begun_more content items rest n after fits b h room;
+  begun = begun_more content items rest n after fits b h space;
   long = omega (arith, length-append items (n ∷ []));
 }

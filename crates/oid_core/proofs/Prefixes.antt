@@ -4,8 +4,8 @@ use Rattle.std.proofs.lemmas.Bool.Decides.{eqb_tells, leb_tells, nat_tests}
 use Rattle.oid_core.specs.Order.{name_lt, name_eq, is_prefix}
 
 -- by the first number, or by the others
-pub lt_tells : (x y : ℕ) (xs ys : List ℕ) → name_lt (x ∷ xs) (y ∷ ys) ≡ true → (x < y) ⊎ ((x ≡ y) × (name_lt xs ys ≡ true))
-lt_tells x y xs ys h = elim (leb_tells (suc x) y) [
+pub lt_decides : (x y : ℕ) (xs ys : List ℕ) → name_lt (x ∷ xs) (y ∷ ys) ≡ true → (x < y) ⊎ ((x ≡ y) × (name_lt xs ys ≡ true))
+lt_decides x y xs ys h = elim (leb_tells (suc x) y) [
   | inl s ↦ inl (omega (arith, s.1))
   | inr s ↦
       let low : nat_lt x y ≡ false = grind (arith, nat_tests, s.1) in
@@ -45,15 +45,15 @@ prefix_between (a ∷ p) (y ∷ ys) (z ∷ zs) h k l = elim (eqb_tells a z) [
   | inl e ↦
       let under : is_prefix p zs ≡ true = rw e.0 at h in
       let s : a ≡ z = e.1 in
-      elim (lt_tells a y p ys k) [
-        | inl c ↦ elim (lt_tells y z ys zs l) [
+      elim (lt_decides a y p ys k) [
+        | inl c ↦ elim (lt_decides y z ys zs l) [
           | inl d ↦ absurd (omega (arith, c, d, s))
           | inr d ↦ let d0 : y ≡ z = d.0 in absurd (omega (arith, c, d0, s))
         ]
         | inr c ↦
             let c0 : a ≡ y = c.0 in
             let same : nat_eq a y ≡ true = grind (arith, nat_tests, c0) in
-            elim (lt_tells y z ys zs l) [
+            elim (lt_decides y z ys zs l) [
               | inl d ↦ absurd (omega (arith, c0, d, s))
               | inr d ↦ rw same (prefix_between p ys zs under c.1 d.1)
             ]

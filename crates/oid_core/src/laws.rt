@@ -63,7 +63,7 @@ pub fn order_is_total()
 {}
 
 /// The tests of two lists say what the relations say.
-pub fn tests_tell()
+pub fn tests_decide()
     ensures before { (a b : List ℕ) → IsTrue (name_lt a b) ↔ IsBefore a b }
     ensures same { (a b : List ℕ) → IsTrue (name_eq a b) ↔ (a ≡ b) }
     ensures prefix { (front name : List ℕ) → IsTrue (is_prefix front name) ↔ IsPrefix front name }

@@ -10,7 +10,7 @@ use ber_core::{BerFault, Out};
 /// Writes a coded number.
 #[tactic(auto, unfolding(crate::specs::Name::canon_coded))]
 fn put_coded(out: &mut Out<'_>, number: u64) -> Result<(), BerFault>
-    ensures same_reference { out.new.room.ghost_name ≡ out.old.room.ghost_name }
+    ensures same_reference { out.new.space.ghost_name ≡ out.old.space.ghost_name }
     ensures puts { Prepends out.old out.new result (canon_coded number) }
     ensures front { OnOk result (KeepsFront out.old out.new) }
     ensures behind { Extends (written_octets out.old) (written_octets out.new) }
@@ -26,20 +26,20 @@ fn put_coded(out: &mut Out<'_>, number: u64) -> Result<(), BerFault>
 
 /// Writes the last numbers of a name that have one octet each, as far as there is space, into a
 /// slice in front of `start`, and says how many. The first two numbers are left.
-fn put_short(room: &mut [u8], start: usize, name: &[u32]) -> usize
-    requires start { start ≤ length room.old }
+fn put_short(space: &mut [u8], start: usize, name: &[u32]) -> usize
+    requires start { start ≤ length space.old }
     requires root { 2 ≤ length name.now }
-    ensures octets { drop (start - result) room.new
-        ≡ flat_map canon_coded (drop (length name.now - result) name.now) ++ drop start room.old }
-    ensures front { take (start - result) room.new ≡ take (start - result) room.old }
-    ensures len { length room.new ≡ length room.old }
+    ensures octets { drop (start - result) space.new
+        ≡ flat_map canon_coded (drop (length name.now - result) name.now) ++ drop start space.old }
+    ensures front { take (start - result) space.new ≡ take (start - result) space.old }
+    ensures len { length space.new ≡ length space.old }
     ensures within { result ≤ start }
     ensures most { result + 2 ≤ length name.now }
 {
     let mut count = 0;
     while count < start && count + 2 < name.len() && name[name.len() - count - 1] < 128 {
         count += 1;
-        room[start - count] = name[name.len() - count] as u8;
+        space[start - count] = name[name.len() - count] as u8;
     }
     count
 }
@@ -48,15 +48,15 @@ fn put_short(room: &mut [u8], start: usize, name: &[u32]) -> usize
 /// how many. The first two numbers are left.
 fn put_last(out: &mut Out<'_>, name: &[u32]) -> usize
     requires { 2 ≤ length name.now }
-    ensures same_reference { out.new.room.ghost_name ≡ out.old.room.ghost_name }
+    ensures same_reference { out.new.space.ghost_name ≡ out.old.space.ghost_name }
     ensures octets { written_octets out.new
         ≡ flat_map canon_coded (drop (length name.now - result) name.now)
         ++ written_octets out.old }
-    ensures room { capacity out.new ≡ capacity out.old }
+    ensures space { capacity out.new ≡ capacity out.old }
     ensures front { KeepsFront out.old out.new }
     ensures most { result + 2 ≤ length name.now }
 {
-    let count = put_short(out.room, out.start, name);
+    let count = put_short(out.space, out.start, name);
     out.start -= count;
     count
 }
@@ -64,7 +64,7 @@ fn put_last(out: &mut Out<'_>, name: &[u32]) -> usize
 /// Writes the coded numbers of a name, the last one first.
 fn put_numbers(out: &mut Out<'_>, name: &[u32]) -> Result<(), BerFault>
     requires { HasRoot name.now }
-    ensures same_reference { out.new.room.ghost_name ≡ out.old.room.ghost_name }
+    ensures same_reference { out.new.space.ghost_name ≡ out.old.space.ghost_name }
     ensures puts { Prepends out.old out.new result (canon_name name.now) }
     ensures front { OnOk result (KeepsFront out.old out.new) }
     ensures behind { Extends (written_octets out.old) (written_octets out.new) }
@@ -86,7 +86,7 @@ fn put_numbers(out: &mut Out<'_>, name: &[u32]) -> Result<(), BerFault>
 /// they were.
 pub fn put_name(out: &mut Out<'_>, name: &[u32]) -> Result<(), BerFault>
     requires { HasRoot name.now }
-    ensures same_reference { out.new.room.ghost_name ≡ out.old.room.ghost_name }
+    ensures same_reference { out.new.space.ghost_name ≡ out.old.space.ghost_name }
     ensures puts { Prepends out.old out.new result (canon_name name.now) }
     ensures front { OnOk result (KeepsFront out.old out.new) }
     ensures err { OnErr result (written_octets out.new ≡ written_octets out.old) }

@@ -1,6 +1,6 @@
 pub mod KeyLemmas
 pub mod RowLemmas
-pub mod SaidLemmas
+pub mod StatedLemmas
 pub mod Utf8
 pub mod Begins
 pub mod BlankLemmas

@@ -42,5 +42,5 @@ arrays_take ms a (Err e) are h = λ is. record { arrays = a; are = are; reading 
 
 -- where checking the rows that a table says takes memory, reading it did
 pub memory_by : {X : Type 0} (ms : Members) (rows : PolicyRows) (result : Result X PolicyFault) → SaysRows ms rows → IfErr result (λ e. e ≡ Memory → RowsTakeMemory rows) → IfErr result (λ e. e ≡ Memory → TakesMemory ms)
-memory_by ms rows (Ok x) said h = tt
-memory_by ms rows (Err e) said h = λ is. record { arrays = said.arrays; are = said.are; reading = rows_take said.arrays rows said.say (h is) }
+memory_by ms rows (Ok x) stated h = tt
+memory_by ms rows (Err e) stated h = λ is. record { arrays = stated.arrays; are = stated.are; reading = rows_take stated.arrays rows stated.say (h is) }

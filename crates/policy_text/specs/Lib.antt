@@ -2,5 +2,5 @@ pub mod Keys
 pub mod Reading
 pub mod Typed
 pub mod Policies
-pub mod Said
+pub mod Stated
 pub mod Texts

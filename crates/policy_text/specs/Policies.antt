@@ -115,12 +115,12 @@ ArePolicyRowsRight rows = AreAllRight rows.vacm × AreRight community_rules rows
 -- the table says a policy of which nothing is wrong, and this is it
 pub record IsPolicy (ms : Members) (policy : PolicyTables) : Type 0 where
   pub rows : PolicyRows
-  pub said : SaysRows ms rows
+  pub stated : SaysRows ms rows
   pub right : ArePolicyRowsRight rows
   pub is : policy ≡ policy_tables rows
 
 -- the rows that the table says have this first fault
 pub record IsWrongPolicy (ms : Members) (e : PolicyFault) : Type 0 where
   pub rows : PolicyRows
-  pub said : SaysRows ms rows
+  pub stated : SaysRows ms rows
   pub fault : IsPolicyFault rows e

@@ -6,7 +6,7 @@ use Rattle.toml.specs.Errors.{IsBlank}
 use Rattle.toml.specs.Parse.{parse_document}
 use Rattle.community_core.specs.Communities.{PolicyTables}
 use Rattle.policy_text.specs.Reading.{◌>=>◌}
-use Rattle.policy_text.specs.Said.{policy_of_members}
+use Rattle.policy_text.specs.Stated.{policy_of_members}
 
 -- the text that octets are: themselves, where they are UTF-8 (RFC 3629, section 3)
 abbrev pub text_of : List ℕ → Option (List ℕ)

@@ -7,7 +7,7 @@
 //!
 //! # Definitions
 //! `specs/Policies.antt`, `specs/Reading.antt`: what a text says and its first fault;
-//! `specs/Said.antt`, `specs/Texts.antt`: the same as functions; `specs/Keys.antt`: what stands
+//! `specs/Stated.antt`, `specs/Texts.antt`: the same as functions; `specs/Keys.antt`: what stands
 //! under a key; `specs/Typed.antt`: a value that says a row is typed as one.
 //!
 //! # Laws

@@ -3,7 +3,7 @@ ghost use Rattle.std.specs.Prelude.{◌≡◌, IfOk, OnErr, option_map};
 ghost use Rattle.toml.specs.Errors.{IsBlank};
 ghost use Rattle.toml.specs.Parse.{parse_document};
 ghost use Rattle.toml.specs.View.{table_view};
-ghost use Rattle.policy_text.specs.Said.{policy_of_members};
+ghost use Rattle.policy_text.specs.Stated.{policy_of_members};
 ghost use Rattle.policy_text.specs.Policies.{TakesMemory};
 ghost use Rattle.policy_text.specs.Texts.{text_of, HasContent, policy_in};
 
@@ -40,7 +40,7 @@ fn table_of(alloc: Global, text: &str) -> Result<Option<Table>, AllocError>
 }
 
 // The policy that a table says, if it says one.
-fn policy_said(alloc: Global, table: &Table) -> Result<Option<Policy>, AllocError>
+fn policy_stated(alloc: Global, table: &Table) -> Result<Option<Policy>, AllocError>
     ensures policy { IfOk result (λ policy. policy ≡ policy_of_members (table_view table.now)) }
     ensures memory { OnErr result (TakesMemory (table_view table.now)) }
 {
@@ -66,7 +66,7 @@ pub fn policy_in(alloc: Global, octets: &[u8]) -> Result<Option<Policy>, AllocEr
         return Ok(None);
     };
     match table_of(alloc, text)? {
-        Some(table) => policy_said(alloc, &table),
+        Some(table) => policy_stated(alloc, &table),
         None => Ok(None),
     }
 }

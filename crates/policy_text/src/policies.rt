@@ -2,7 +2,7 @@
 ghost use Rattle.std.specs.Prelude.{◌≡◌, ◌≢◌, ◌⊎◌, IfOk, IfErr, OnOk, option_map, Some, None};
 ghost use Rattle.toml.specs.View.{table_view};
 ghost use Rattle.policy_text.specs.Policies.{arrays_in, arrays_of, AreRowsOf, IsUnreadOf, SaysRows, IsUnread, TakesMemoryOf, TakesMemory, RowsTakeMemory, IsPolicyFault, policy_tables, ArePolicyRowsRight, IsPolicy, IsWrongPolicy};
-ghost use Rattle.policy_text.specs.Said.{policy_of_members};
+ghost use Rattle.policy_text.specs.Stated.{policy_of_members};
 
 use crate::keys::{array_at, key_count};
 use crate::rows::read_rows;
@@ -126,7 +126,7 @@ pub fn policy_of(alloc: Global, table: &Table) -> Result<Policy, PolicyFault>
     ensures memory { IfErr result (λ e. e ≡ PolicyFault.Memory →
         TakesMemory (table_view table.now)) }
     // The same as a function of the table: its policy, or none.
-    ensures said { IfOk result (λ p. policy_of_members (table_view table.now) ≡ Some p) }
+    ensures stated { IfOk result (λ p. policy_of_members (table_view table.now) ≡ Some p) }
     ensures refused { IfErr result (λ e. e ≢ PolicyFault.Memory →
         policy_of_members (table_view table.now) ≡ None) }
 {

@@ -17,7 +17,7 @@ use Rattle.std.proofs.lemmas.Bool.{true≢false}
 use Rattle.frame_core.specs.declared.bpdu.BridgeId.{BridgeId}
 use Rattle.frame_core.specs.declared.bpdu.PriorityVector.{PriorityVector}
 use Rattle.rstp_rules.specs.declared.row.Best.{Best}
-use Rattle.rstp_rules.specs.declared.row.Row.{Row}
+use Rattle.rstp_rules.specs.declared.row.PortInEvent.{PortInEvent}
 use Rattle.rstp_rules.specs.Vectors.{bridge_cmp, vector_cmp}
 use Rattle.rstp_rules.specs.Roles.{best_cmp, beats, own_best, candidate, candidates, or_better, IsBest}
 
@@ -34,7 +34,7 @@ beats_ranks : IsStrictWeakOrder beats
 beats_ranks = ranks_by best_total (λ b. b)
 
 -- the best that a scan keeps is a least element
-pub IsBest-best_of : (own : BridgeId) (rows : List Row) → IsBest (candidates own rows) (best_of beats (own_best own) (filter_map (candidate own) rows))
+pub IsBest-best_of : (own : BridgeId) (rows : List PortInEvent) → IsBest (candidates own rows) (best_of beats (own_best own) (filter_map (candidate own) rows))
 IsBest-best_of own rows =
     let a = own_best own in
     let bs = filter_map (candidate own) rows in
@@ -45,17 +45,17 @@ IsBest-best_of own rows =
       least = λ k d h. subst (λ b. beats (get_or (a ∷ bs) k d) b ≡ false) (get_or_default (a ∷ bs) first.0 d a first.1.0 ∙ at) (first.1.1 k d h);
     }
 
-one_more : (own : BridgeId) (row : Row) (b : Best) (o : Option Best) → candidate own row ≡ o → best_of beats b (filter_map (candidate own) (row ∷ [])) ≡ or_better b o
+one_more : (own : BridgeId) (row : PortInEvent) (b : Best) (o : Option Best) → candidate own row ≡ o → best_of beats b (filter_map (candidate own) (row ∷ [])) ≡ or_better b o
 one_more own row b None e = rw e
 one_more own row b (Some c) e = rw e
 
 -- one more row of a scan
-pub best_more : (own : BridgeId) (rows : List Row) (i : ℕ) (d : Row) (b : Best) → i < length rows → b ≡ best_of beats (own_best own) (filter_map (candidate own) (take i rows)) → or_better b (candidate own (get_or rows i d)) ≡ best_of beats (own_best own) (filter_map (candidate own) (take (i + 1) rows))
+pub best_more : (own : BridgeId) (rows : List PortInEvent) (i : ℕ) (d : PortInEvent) (b : Best) → i < length rows → b ≡ best_of beats (own_best own) (filter_map (candidate own) (take i rows)) → or_better b (candidate own (get_or rows i d)) ≡ best_of beats (own_best own) (filter_map (candidate own) (take (i + 1) rows))
 best_more own rows i d b within e =
     rw (take_more rows i d within, filter_map-append (candidate own) (take i rows) (get_or rows i d ∷ []), fold-append, ← e) (sym (one_more own (get_or rows i d) b (candidate own (get_or rows i d)) refl))
 
 -- a scan of all rows
-pub best_whole : (own : BridgeId) (rows : List Row) (i : ℕ) (b : Best) → length rows ≤ i → b ≡ best_of beats (own_best own) (filter_map (candidate own) (take i rows)) → IsBest (candidates own rows) b
+pub best_whole : (own : BridgeId) (rows : List PortInEvent) (i : ℕ) (b : Best) → length rows ≤ i → b ≡ best_of beats (own_best own) (filter_map (candidate own) (take i rows)) → IsBest (candidates own rows) b
 best_whole own rows i b past e = rw (e, take_all i rows past) (IsBest-best_of own rows)
 
 then_equal : (o p : Ordering) → ordering_then o p ≡ Equal → (o ≡ Equal) × (p ≡ Equal)

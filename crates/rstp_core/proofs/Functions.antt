@@ -8,7 +8,7 @@ use Rattle.std.proofs.lemmas.List.Folds.{list_any_none}
 use Rattle.std.proofs.lemmas.List.Elements.{All-cons, All-tail}
 use Rattle.frame_core.specs.declared.bpdu.Bpdu.{Bpdu}
 use Rattle.rstp_settings.specs.Table.{Table}
-use Rattle.rstp_rules.specs.declared.row.Row.{Row}
+use Rattle.rstp_rules.specs.declared.row.PortInEvent.{PortInEvent}
 use Rattle.rstp_rules.specs.declared.row.Best.{Best}
 use Rattle.rstp_rules.specs.declared.row.Context.{Context}
 use Rattle.rstp_rules.specs.Lines.{timers_of, times_in_force, context_of}
@@ -70,21 +70,21 @@ unfolding ready_rows roled_rows
 ready_is e c r q =
     ap (λ (x : Context). ready e.tick x (rows_with_roles (event_own e) (event_root e) (fresh_rows e))) q ∙ ap (λ (b : Best). ready e.tick c (rows_with_roles (event_own e) b (fresh_rows e))) r
 
-left_is : (e : Event) (c : Context) (rows : List Row) → event_context e ≡ c → ready_rows e ≡ rows → left_rows e ≡ map (after_sending c) rows
+left_is : (e : Event) (c : Context) (rows : List PortInEvent) → event_context e ≡ c → ready_rows e ≡ rows → left_rows e ≡ map (after_sending c) rows
 unfolding left_rows
 left_is e c rows q h = ap (λ (x : Context). map (after_sending x) (ready_rows e)) q ∙ ap (map (after_sending c)) h
 
-bpdus_is : (e : Event) (c : Context) (rows : List Row) → event_context e ≡ c → ready_rows e ≡ rows → map (bpdu_of (event_context e)) (ready_rows e) ≡ map (bpdu_of c) rows
+bpdus_is : (e : Event) (c : Context) (rows : List PortInEvent) → event_context e ≡ c → ready_rows e ≡ rows → map (bpdu_of (event_context e)) (ready_rows e) ≡ map (bpdu_of c) rows
 bpdus_is e c rows q h = ap (λ (x : Context). map (bpdu_of x) (ready_rows e)) q ∙ ap (map (bpdu_of c)) h
 
 -- What an event leaves of a tree, by what it left of the rows.
-left_tree : Event → Context → List Row → Tree
+left_tree : Event → Context → List PortInEvent → Tree
 left_tree e c left = record e.tree {
   ports = ports_of left;
   facts = facts_after e.tick c (has_change e.tree.ports) (has_change (ports_of left)) e.tree.facts;
 }
 
-tree_is : (e : Event) (c : Context) (left : List Row) → event_context e ≡ c → left_rows e ≡ left → tree_after e ≡ left_tree e c left
+tree_is : (e : Event) (c : Context) (left : List PortInEvent) → event_context e ≡ c → left_rows e ≡ left → tree_after e ≡ left_tree e c left
 unfolding tree_after left_tree
 tree_is e c left q h = ap (λ (x : Context). left_tree e x (left_rows e)) q ∙ ap (left_tree e c) h
 

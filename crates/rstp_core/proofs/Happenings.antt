@@ -14,7 +14,7 @@ use Rattle.rstp_rules.specs.declared.port.Port.{Port}
 use Rattle.rstp_rules.specs.declared.port.Role.TheVariants.{Disabled}
 use Rattle.rstp_rules.specs.declared.port.State.{State}
 use Rattle.rstp_rules.specs.declared.port.State.TheVariants.{Discarding}
-use Rattle.rstp_rules.specs.declared.row.Row.{Row}
+use Rattle.rstp_rules.specs.declared.row.PortInEvent.{PortInEvent}
 use Rattle.rstp_rules.specs.declared.row.Best.{Best}
 use Rattle.rstp_rules.specs.declared.row.Context.{Context}
 use Rattle.rstp_rules.specs.declared.settled.SettledPort.{SettledPort}
@@ -35,7 +35,7 @@ use Rattle.rstp_core.specs.Passes.{rows_with_roles, ready}
 use Rattle.rstp_core.specs.Tree.{Tree, rows_of, has_other_version, Ends}
 use Rattle.rstp_core.specs.Runs.{Happening, Happens, event_by}
 use Rattle.rstp_core.specs.Runs.Happening.{Tick, Link, Message, Settle}
-use Rattle.rstp_core.proofs.Fresh.{IsFresh, Fresh-same, expired-same, ticked-same, received-same, told-same, linked-fresh, settled-fresh}
+use Rattle.rstp_core.proofs.Fresh.{IsFresh, Fresh-same, expired-same, ticked-same, received-same, reported-same, linked-fresh, settled-fresh}
 use Rattle.rstp_core.proofs.Roled.{IsDone, Done-keeps, turned-done}
 use Rattle.rstp_core.proofs.Places.{length-rows_from, rows_from-at, keep-ready, keep-sent, contains_flushed}
 
@@ -72,16 +72,16 @@ abbrev pub id_of : Table → ℕ → ℕ
 id_of s n = port_id (get s (key.Port n port.Priority)) n
 
 -- the rows as an event begins, place by place
-abbrev pub row_at : Table → Tree → ℕ → Row
+abbrev pub row_at : Table → Tree → ℕ → PortInEvent
 row_at s t k = row_of s (settled_port t.settled (1 + k)) (1 + k) (get_or t.config k no_config) (get_or t.ports k no_row.port)
 
-abbrev pub IsFreshAt : Table → Tree → ℕ → Row → Type 0
+abbrev pub IsFreshAt : Table → Tree → ℕ → PortInEvent → Type 0
 IsFreshAt s t k r = IsFresh s (settled_port t.settled (1 + k)) (1 + k) (get_or t.config k no_config) (get_or t.ports k no_row.port).state r
 
 -- the row of a calm port as an event begins
 begins : (s : Table) (w : SettledPort) (n : ℕ) (c : PortConfig) (p : Port) → IsCalm (enabled_by s n) p → IsFresh s w n c p.state (row_of s w n c p)
 begins s w n c p h = record {
-  line = refl;
+  inputs = refl;
   was = refl;
   still = h.still;
   off = h.off;
@@ -89,7 +89,7 @@ begins s w n c p h = record {
 }
 
 -- an event's own part: what it leaves of each port
-pub record OwnPart (s : Table) (t : Tree) (rows : List Row) : Type 0 where
+pub record OwnPart (s : Table) (t : Tree) (rows : List PortInEvent) : Type 0 where
   pub same : length rows ≡ length t.ports
   pub fresh : (k : ℕ) → k < length t.ports → IsFreshAt s t k (get_or rows k no_row)
 
@@ -119,7 +119,7 @@ spent_alike v = record {
 pub record IsEvent (v r : Table) (t u : Tree) (out : Outcome) : Type 0 where
   pub tick : Bool
   pub was : Times
-  pub rows : List Row
+  pub rows : List PortInEvent
   pub base : Tree
   pub part : OwnPart v t rows
   pub ends : Ends v tick was rows base u out
@@ -129,7 +129,7 @@ pub record IsEvent (v r : Table) (t u : Tree) (out : Outcome) : Type 0 where
   pub alike : Alike v r
 
 -- the row at a place after the states, and once all is sent
-done_ready : (tick : Bool) (own : BridgeId) (root : Best) (c : Context) (rows : List Row) (k : ℕ) (s : Table) (w : SettledPort) (n : ℕ) (p : PortConfig) (st : State) → k < length rows → IsFresh s w n p st (get_or rows k no_row) → IsDone s w n p st own root (after_expiry (get_or rows k no_row)) (get_or (ready tick c (rows_with_roles own root (map after_expiry rows))) k no_row)
+done_ready : (tick : Bool) (own : BridgeId) (root : Best) (c : Context) (rows : List PortInEvent) (k : ℕ) (s : Table) (w : SettledPort) (n : ℕ) (p : PortConfig) (st : State) → k < length rows → IsFresh s w n p st (get_or rows k no_row) → IsDone s w n p st own root (after_expiry (get_or rows k no_row)) (get_or (ready tick c (rows_with_roles own root (map after_expiry rows))) k no_row)
 done_ready tick own root c rows k s w n p st h f =
     let a = after_expiry (get_or rows k no_row) in
     let aged = map after_expiry rows in
@@ -146,18 +146,18 @@ done_ready tick own root c rows k s w n p st h f =
     let at : get_or (map (after_first_transitions c) ch) k no_row ≡ after_first_transitions c (with_role own root a) = e3 ∙ ap (after_first_transitions c) (e2 ∙ ap (with_role own root) e1) in
     let fresh : IsFresh s w n p st a = Fresh-same s w n p st (get_or rows k no_row) a f (expired-same (get_or rows k no_row)) in
     let done : IsDone s w n p st own root a (after_first_transitions c (with_role own root a)) = turned-done s w n p st own root c a fresh in
-    let here : IsDone s w n p st own root a (get_or (map (after_first_transitions c) ch) k no_row) = subst (λ (q : Row). IsDone s w n p st own root a q) (sym at) done in
+    let here : IsDone s w n p st own root a (get_or (map (after_first_transitions c) ch) k no_row) = subst (λ (q : PortInEvent). IsDone s w n p st own root a q) (sym at) done in
     Done-keeps s w n p st own root a _ _ here ((keep-ready tick c ch).at k ht)
 
-length_ready : (tick : Bool) (own : BridgeId) (root : Best) (c : Context) (rows : List Row) → length (ready tick c (rows_with_roles own root (map after_expiry rows))) ≡ length rows
+length_ready : (tick : Bool) (own : BridgeId) (root : Best) (c : Context) (rows : List PortInEvent) → length (ready tick c (rows_with_roles own root (map after_expiry rows))) ≡ length rows
 length_ready tick own root c rows =
     let aged = map after_expiry rows in
     let ch = rows_with_roles own root aged in
     (keep-ready tick c ch).same ∙ (length-map ch (after_first_transitions c) ∙ (length-map aged (with_role own root) ∙ length-map rows after_expiry))
 
 -- what an event leaves at a place
-pub record IsLeft (v : Table) (t u : Tree) (out : Outcome) (own : BridgeId) (root : Best) (a : Row) (k : ℕ) : Type 0 where
-  pub row : Row
+pub record IsLeft (v : Table) (t u : Tree) (out : Outcome) (own : BridgeId) (root : Best) (a : PortInEvent) (k : ℕ) : Type 0 where
+  pub row : PortInEvent
   pub done : IsDone v (settled_port t.settled (1 + k)) (1 + k) (get_or t.config k no_config) (get_or t.ports k no_row.port).state own root a row
   pub port : get_or u.ports k no_row.port ≡ row.port
   pub flushed : is_discarding (get_or t.ports k no_row.port).state ≡ false → is_root_or_designated row.port.role ≡ false → Contains out.flushed.items (1 + k)
@@ -181,15 +181,15 @@ Left-at v r t u out e k h =
     let last = get_or (map (after_sending c) rd) k no_row in
     let left = e.ends.left in
     let hl : k < length left = omega (arith, hd, length-map rd (after_sending c), ap length e.ends.concludes.rows) in
-    let ports : get_or u.ports k no_row.port ≡ (get_or left k no_row).port = ap (λ (x : Tree). get_or x.ports k no_row.port) e.ends.tree ∙ get_or-map (λ (q : Row). q.port) left k no_row no_row.port hl in
+    let ports : get_or u.ports k no_row.port ≡ (get_or left k no_row).port = ap (λ (x : Tree). get_or x.ports k no_row.port) e.ends.tree ∙ get_or-map (λ (q : PortInEvent). q.port) left k no_row no_row.port hl in
     record {
       row = last;
       done = Done-keeps v w n p st own c.root a (get_or rd k no_row) last one kept;
-      port = ports ∙ ap (λ (rs : List Row). (get_or rs k no_row).port) e.ends.concludes.rows;
-      flushed = λ f i. subst (λ (ns : List ℕ). Contains ns n) (sym e.ends.concludes.flushed) (contains_flushed rd k n hd (ap (λ l. l.number) one.line) (one.left f (ap is_root_or_designated (sym kept.role) ∙ i)));
+      port = ports ∙ ap (λ (rs : List PortInEvent). (get_or rs k no_row).port) e.ends.concludes.rows;
+      flushed = λ f i. subst (λ (ns : List ℕ). Contains ns n) (sym e.ends.concludes.flushed) (contains_flushed rd k n hd (ap (λ l. l.number) one.inputs) (one.left f (ap is_root_or_designated (sym kept.role) ∙ i)));
     }
 
-part_map : (s : Table) (t : Tree) (f : Row → Row) → length t.config ≡ length t.ports → ((k : ℕ) → k < length t.ports → IsFreshAt s t k (f (row_at s t k))) → OwnPart s t (map f (rows_of s t))
+part_map : (s : Table) (t : Tree) (f : PortInEvent → PortInEvent) → length t.config ≡ length t.ports → ((k : ℕ) → k < length t.ports → IsFreshAt s t k (f (row_at s t k))) → OwnPart s t (map f (rows_of s t))
 part_map s t f each h = record { same = length-map (rows_of s t) f ∙ few; fresh = fresh } where
   few : length (rows_of s t) ≡ length t.ports
   few = length-rows_from s t.settled 1 t.config t.ports each
@@ -197,14 +197,14 @@ part_map s t f each h = record { same = length-map (rows_of s t) f ∙ few; fres
   fresh : (k : ℕ) → k < length t.ports → IsFreshAt s t k (get_or (map f (rows_of s t)) k no_row)
   fresh k b =
       let at : get_or (map f (rows_of s t)) k no_row ≡ f (row_at s t k) = get_or-map f (rows_of s t) k no_row no_row (omega (arith, b, few)) ∙ ap f (rows_from-at s t.settled 1 t.config t.ports k each b) in
-      subst (λ (q : Row). IsFreshAt s t k q) (sym at) (h k b)
+      subst (λ (q : PortInEvent). IsFreshAt s t k q) (sym at) (h k b)
 
-part_again : (s : Table) (t : Tree) (g : Row → Row) (rows : List Row) → OwnPart s t rows → ((k : ℕ) (r : Row) → IsFreshAt s t k r → IsFreshAt s t k (g r)) → OwnPart s t (map g rows)
+part_again : (s : Table) (t : Tree) (g : PortInEvent → PortInEvent) (rows : List PortInEvent) → OwnPart s t rows → ((k : ℕ) (r : PortInEvent) → IsFreshAt s t k r → IsFreshAt s t k (g r)) → OwnPart s t (map g rows)
 part_again s t g rows p h = record { same = length-map rows g ∙ p.same; fresh = fresh } where
   fresh : (k : ℕ) → k < length t.ports → IsFreshAt s t k (get_or (map g rows) k no_row)
   fresh k b =
       let at : get_or (map g rows) k no_row ≡ g (get_or rows k no_row) = get_or-map g rows k no_row no_row (omega (arith, b, p.same)) in
-      subst (λ (q : Row). IsFreshAt s t k q) (sym at) (h k (get_or rows k no_row) (p.fresh k b))
+      subst (λ (q : PortInEvent). IsFreshAt s t k q) (sym at) (h k (get_or rows k no_row) (p.fresh k b))
 
 -- what was settled
 settled_enabled : (v : Table) (n : ℕ) → (settled_port (settled_of v) n).enabled ≡ enabled_by v n
@@ -227,7 +227,7 @@ unfolding after_arrival
 arrival_part s t n b each h =
     let own = own_id s t.address in
     let heard = after_receptions own (rstp_version s) n b (rows_of s t) in
-    part_again s t _ heard (part_map s t (after_reception own (rstp_version s) n b) each (λ k i. Fresh-same _ _ _ _ _ (row_at s t k) _ (h k i) (received-same own (rstp_version s) n b (row_at s t k)))) (λ k r i. Fresh-same _ _ _ _ _ r _ i (told-same _ own n b _ r))
+    part_again s t _ heard (part_map s t (after_reception own (rstp_version s) n b) each (λ k i. Fresh-same _ _ _ _ _ (row_at s t k) _ (h k i) (received-same own (rstp_version s) n b (row_at s t k)))) (λ k r i. Fresh-same _ _ _ _ _ r _ i (reported-same _ own n b _ r))
 
 -- the own part of each event
 pub own_part : (s : Table) (t : Tree) → IsReady s t → (h : Happening) → OwnPart (event_by h s t).settings t (event_by h s t).rows
@@ -247,7 +247,7 @@ own_part s t ready h = by h where
 pub event_of : (s : Table) (t : Tree) → IsReady s t → (h : Happening) (r : Table) (u : Tree) (out : Outcome) → Happens h s t r u out → (v : Table) × IsEvent v r t u out
 event_of s t ready h r u out = by h where
   -- under the same settings
-  plain : (rows : List Row) (tick : Bool) (was : Times) → OwnPart s t rows → Ends s tick was rows t u out → r ≡ s → (v : Table) × IsEvent v r t u out
+  plain : (rows : List PortInEvent) (tick : Bool) (was : Times) → OwnPart s t rows → Ends s tick was rows t u out → r ≡ s → (v : Table) × IsEvent v r t u out
   plain rows tick was part ends e = (
     s,
     subst (λ (x : Table). IsEvent s x t u out) (sym e) (record {
@@ -289,4 +289,4 @@ same_length v r t u out e =
     let c = e.ends.context in
     let own = own_id v e.base.address in
     let rd = ready e.tick c (rows_with_roles own c.root (map after_expiry e.rows)) in
-    ap (λ (x : Tree). length x.ports) e.ends.tree ∙ (length-map e.ends.left (λ (q : Row). q.port) ∙ (ap length e.ends.concludes.rows ∙ (length-map rd (after_sending c) ∙ (length_ready e.tick own c.root c e.rows ∙ e.part.same))))
+    ap (λ (x : Tree). length x.ports) e.ends.tree ∙ (length-map e.ends.left (λ (q : PortInEvent). q.port) ∙ (ap length e.ends.concludes.rows ∙ (length-map rd (after_sending c) ∙ (length_ready e.tick own c.root c e.rows ∙ e.part.same))))

@@ -15,8 +15,8 @@ use Rattle.rstp_rules.specs.declared.port.Port.{Port}
 use Rattle.rstp_rules.specs.declared.port.Role.TheVariants.{Disabled}
 use Rattle.rstp_rules.specs.declared.port.State.{State}
 use Rattle.rstp_rules.specs.declared.port.State.TheVariants.{Discarding}
-use Rattle.rstp_rules.specs.declared.row.Row.{Row}
-use Rattle.rstp_rules.specs.declared.row.Line.{Line}
+use Rattle.rstp_rules.specs.declared.row.PortInEvent.{PortInEvent}
+use Rattle.rstp_rules.specs.declared.row.PortInputs.{PortInputs}
 use Rattle.rstp_rules.specs.declared.row.Best.{Best}
 use Rattle.rstp_rules.specs.Ports.{is_root_or_designated, is_discarding}
 use Rattle.rstp_rules.specs.Vectors.{port_id}
@@ -48,15 +48,15 @@ row_chosen s t h k b =
     let best = t.facts.root in
     let rows = rows_of s t in
     let within : k < length rows = omega (arith, b, rows_are s t h.configured) in
-    let here : with_role own best (get_or rows k no_row) ≡ get_or rows k no_row = sym (get_or-map (with_role own best) rows k no_row no_row within) ∙ ap (λ (rs : List Row). get_or rs k no_row) h.roles.ports in
-    subst (λ (q : Row). with_role own best q ≡ q) (row_is s t h.configured k b) here
+    let here : with_role own best (get_or rows k no_row) ≡ get_or rows k no_row = sym (get_or-map (with_role own best) rows k no_row no_row within) ∙ ap (λ (rs : List PortInEvent). get_or rs k no_row) h.roles.ports in
+    subst (λ (q : PortInEvent). with_role own best q ≡ q) (row_is s t h.configured k b) here
 
-pub row_role : (own : BridgeId) (best : Best) (q : Row) → with_role own best q ≡ q → (row_choice own best q).role ≡ q.port.role
-row_role own best q h = ap (λ (y : Row). y.port.role) (sym (with_role-is own best q) ∙ h)
+pub row_role : (own : BridgeId) (best : Best) (q : PortInEvent) → with_role own best q ≡ q → (row_choice own best q).role ≡ q.port.role
+row_role own best q h = ap (λ (y : PortInEvent). y.port.role) (sym (with_role-is own best q) ∙ h)
 
 -- a port that is off is disabled
-off_disabled : (own : BridgeId) (best : Best) (q : Row) → with_role own best q ≡ q → q.line.on ≡ false → q.port.role ≡ Disabled
-off_disabled own best q h e = sym (row_role own best q h) ∙ choice-off q.line.on _ _ _ (own_vector own best q.line.id) q.port.info q.port.vector e
+off_disabled : (own : BridgeId) (best : Best) (q : PortInEvent) → with_role own best q ≡ q → q.inputs.on ≡ false → q.port.role ≡ Disabled
+off_disabled own best q h e = sym (row_role own best q h) ∙ choice-off q.inputs.on _ _ _ (own_vector own best q.inputs.id) q.port.info q.port.vector e
 
 stopped : (st : State) → is_discarding st ≡ true → st ≡ Discarding
 stopped Discarding e = refl
@@ -91,7 +91,7 @@ roled_list s t each h =
     ext_get_or no_row (map (with_role own best) rows) rows (length-map rows (with_role own best)) (λ k b.
     let within : k < length rows = omega (arith, b, length-map rows (with_role own best)) in
     let here : k < length t.ports = omega (arith, within, rows_are s t each) in
-    get_or-map (with_role own best) rows k no_row no_row within ∙ subst (λ (q : Row). with_role own best q ≡ q) (sym (row_is s t each k here)) (h.chosen k here))
+    get_or-map (with_role own best) rows k no_row no_row within ∙ subst (λ (q : PortInEvent). with_role own best q ≡ q) (sym (row_is s t each k here)) (h.chosen k here))
 
 roled_active : (s : Table) (t : Tree) → length t.config ≡ length t.ports → AreRoled s t → All MayLearn (rows_of s t)
 roled_active s t each h = All-from_get_or MayLearn (rows_of s t) no_row (λ k b.
@@ -105,7 +105,7 @@ roled_active s t each h = All-from_get_or MayLearn (rows_of s t) no_row (λ k b.
 
       may : (k : ℕ) → k < length t.ports → MayLearn (row_at s t k)
       may k here f = record {
-        on = elim (which (row_at s t k).line.on) [
+        on = elim (which (row_at s t k).inputs.on) [
           | inl y ↦ y
           | inr n ↦
               let off : (row_at s t k).port.role ≡ Disabled = off_disabled (own_id s t.address) t.facts.root (row_at s t k) (h.chosen k here) n in
@@ -116,30 +116,30 @@ roled_active s t each h = All-from_get_or MayLearn (rows_of s t) no_row (λ k b.
       }
 
 -- An event: the row at a place as the next event begins has the line, as far as roles go, and the port that this one left.
-record IsNext (row q : Row) : Type 0 where
-  on : q.line.on ≡ row.line.on
-  cost : q.line.cost ≡ row.line.cost
-  id : q.line.id ≡ row.line.id
+record IsNext (row q : PortInEvent) : Type 0 where
+  on : q.inputs.on ≡ row.inputs.on
+  cost : q.inputs.cost ≡ row.inputs.cost
+  id : q.inputs.id ≡ row.inputs.id
   port : q.port ≡ row.port
 
 next_row : (v r : Table) (t u : Tree) (out : Outcome) (e : IsEvent v r t u out) (k : ℕ) (b : k < length t.ports) → IsNext (Left-at v r t u out e k b).row (row_at r u k)
 next_row v r t u out e k b =
     let left = Left-at v r t u out e k b in
-    let line = left.done.line in
+    let inputs = left.done.inputs in
     let config : u.config ≡ t.config = ap (λ (x : Tree). x.config) e.ends.tree ∙ e.config in
     let n = 1 + k in
     record {
-      on = (λ i. e.alike.enabled n i && (left.port i).link) ∙ sym (ap (λ (l : Line). l.on) line);
-      cost = (λ i. cost_in_use (e.alike.cost n i) (get_or (config i) k no_config).speed) ∙ sym (ap (λ (l : Line). l.cost) line);
-      id = e.alike.id n ∙ sym (ap (λ (l : Line). l.id) line);
+      on = (λ i. e.alike.enabled n i && (left.port i).link) ∙ sym (ap (λ (l : PortInputs). l.on) inputs);
+      cost = (λ i. cost_in_use (e.alike.cost n i) (get_or (config i) k no_config).speed) ∙ sym (ap (λ (l : PortInputs). l.cost) inputs);
+      id = e.alike.id n ∙ sym (ap (λ (l : PortInputs). l.id) inputs);
       port = left.port;
     }
 
-next_chosen : (own : BridgeId) (best : Best) (row q : Row) → IsNext row q → with_role own best row ≡ row → with_role own best q ≡ q
+next_chosen : (own : BridgeId) (best : Best) (row q : PortInEvent) → IsNext row q → with_role own best row ≡ row → with_role own best q ≡ q
 next_chosen own best row q h e =
     chosen-keeps own best row q e h.on h.id (ap (λ (p : Port). p.info) h.port) (ap (λ (p : Port). p.role) h.port) (ap (λ (p : Port). p.vector) h.port)
 
-next_offer : (own : BridgeId) (row q : Row) → IsNext row q → row_offer own q ≡ row_offer own row
+next_offer : (own : BridgeId) (row q : PortInEvent) → IsNext row q → row_offer own q ≡ row_offer own row
 next_offer own row q h =
     offer-keeps own row q h.on h.cost h.id (ap (λ (p : Port). p.info) h.port) (ap (λ (p : Port). p.vector) h.port)
 
@@ -232,12 +232,12 @@ off_link true = refl
 off_link false = refl
 
 -- a port of the opening, as the first event begins
-record IsAtFirst (own : BridgeId) (q : Row) : Type 0 where
-  on : q.line.on ≡ false
+record IsAtFirst (own : BridgeId) (q : PortInEvent) : Type 0 where
+  on : q.inputs.on ≡ false
   info : q.port.info ≡ Mine
   role : q.port.role ≡ Disabled
   state : q.port.state ≡ Discarding
-  vector : q.port.vector ≡ own_vector own (own_best own) q.line.id
+  vector : q.port.vector ≡ own_vector own (own_best own) q.inputs.id
 
 at_first : (a : Mac) (cs : List PortConfig) (k : ℕ) → k < length cs → (let s = opening (length cs) in IsAtFirst (own_id s a) (row_at s (opening_tree a cs) k))
 at_first a cs k b =
@@ -255,15 +255,15 @@ at_first a cs k b =
       vector = ap (λ (x : Port). x.vector) p ∙ ap (λ (x : PortValues). own_vector own (own_best own) (port_id x.priority (1 + k))) (sym priority);
     }
 
-first_chosen : (own : BridgeId) (q : Row) → IsAtFirst own q → with_role own (own_best own) q ≡ q
+first_chosen : (own : BridgeId) (q : PortInEvent) → IsAtFirst own q → with_role own (own_best own) q ≡ q
 first_chosen own q h =
     let best = own_best own in
-    with_role-is own best q ∙ ap (with_choice q) ((λ i. choice_of own best (h.on i) q.line.id (q.port.info) (q.port.vector)) ∙ (λ i. record { info = q.port.info; role = sym h.role i; vector = sym h.vector i }))
+    with_role-is own best q ∙ ap (with_choice q) ((λ i. choice_of own best (h.on i) q.inputs.id (q.port.info) (q.port.vector)) ∙ (λ i. record { info = q.port.info; role = sym h.role i; vector = sym h.vector i }))
 
-first_offer : (own : BridgeId) (q : Row) → IsAtFirst own q → row_offer own q ≡ None
-first_offer own q h = λ i. offer_of own (h.on i) q.line.cost q.line.id q.port.info q.port.vector
+first_offer : (own : BridgeId) (q : PortInEvent) → IsAtFirst own q → row_offer own q ≡ None
+first_offer own q h = λ i. offer_of own (h.on i) q.inputs.cost q.inputs.id q.port.info q.port.vector
 
-none_offered : (own : BridgeId) (rows : List Row) → ((k : ℕ) → k < length rows → candidate own (get_or rows k no_row) ≡ None) → filter_map (candidate own) rows ≡ []
+none_offered : (own : BridgeId) (rows : List PortInEvent) → ((k : ℕ) → k < length rows → candidate own (get_or rows k no_row) ≡ None) → filter_map (candidate own) rows ≡ []
 none_offered own [] h = refl
 none_offered own (r ∷ rows) h = rw (h 0 (omega arith)) (none_offered own rows (λ k b. h (suc k) (omega arith)))
 

@@ -14,9 +14,9 @@ use Rattle.rstp_rules.specs.declared.port.Role.{Role}
 use Rattle.rstp_rules.specs.declared.port.Role.TheVariants.{Disabled, Designated, Root, Alternate, Backup}
 use Rattle.rstp_rules.specs.declared.port.State.{State}
 use Rattle.rstp_rules.specs.declared.port.State.TheVariants.{Discarding}
-use Rattle.rstp_rules.specs.declared.row.Row.{Row}
+use Rattle.rstp_rules.specs.declared.row.PortInEvent.{PortInEvent}
 use Rattle.rstp_rules.specs.declared.row.Best.{Best}
-use Rattle.rstp_rules.specs.declared.row.Line.{Line}
+use Rattle.rstp_rules.specs.declared.row.PortInputs.{PortInputs}
 use Rattle.rstp_rules.specs.declared.row.Context.{Context}
 use Rattle.rstp_rules.specs.Ports.{is_received, is_root_or_designated, is_alternate_or_backup, same_role, is_discarding}
 use Rattle.rstp_rules.specs.Lines.{line_of}
@@ -47,10 +47,10 @@ choice_of own best on id i v =
     let w = own_vector own best id in
     choice on (eqb best.receiver id) (is_lt (vector_cmp w v)) (same_mac v.bridge.address own.address) w i v
 
-abbrev pub with_choice : Row → Choice → Row
+abbrev pub with_choice : PortInEvent → Choice → PortInEvent
 with_choice r x = record r { port = record r.port { info = x.info; role = x.role; vector = x.vector } }
 
-five : (r : Row) (b1 b2 b3 b4 b5 : Bool) (x1 x2 x3 x4 x5 x6 : Choice) → cond b1 (with_choice r x1) (cond b2 (with_choice r x2) (cond b3 (with_choice r x3) (cond b4 (with_choice r x4) (cond b5 (with_choice r x5) (with_choice r x6))))) ≡ with_choice r (cond b1 x1 (cond b2 x2 (cond b3 x3 (cond b4 x4 (cond b5 x5 x6)))))
+five : (r : PortInEvent) (b1 b2 b3 b4 b5 : Bool) (x1 x2 x3 x4 x5 x6 : Choice) → cond b1 (with_choice r x1) (cond b2 (with_choice r x2) (cond b3 (with_choice r x3) (cond b4 (with_choice r x4) (cond b5 (with_choice r x5) (with_choice r x6))))) ≡ with_choice r (cond b1 x1 (cond b2 x2 (cond b3 x3 (cond b4 x4 (cond b5 x5 x6)))))
 five r true b2 b3 b4 b5 x1 x2 x3 x4 x5 x6 = refl
 five r false true b3 b4 b5 x1 x2 x3 x4 x5 x6 = refl
 five r false false true b4 b5 x1 x2 x3 x4 x5 x6 = refl
@@ -58,16 +58,16 @@ five r false false false true b5 x1 x2 x3 x4 x5 x6 = refl
 five r false false false false true x1 x2 x3 x4 x5 x6 = refl
 five r false false false false false x1 x2 x3 x4 x5 x6 = refl
 
-abbrev pub row_choice : BridgeId → Best → Row → Choice
-row_choice own best r = choice_of own best r.line.on r.line.id r.port.info r.port.vector
+abbrev pub row_choice : BridgeId → Best → PortInEvent → Choice
+row_choice own best r = choice_of own best r.inputs.on r.inputs.id r.port.info r.port.vector
 
 -- the choice of a role writes these three
-pub with_role-is : (own : BridgeId) (best : Best) (r : Row) → with_role own best r ≡ with_choice r (row_choice own best r)
+pub with_role-is : (own : BridgeId) (best : Best) (r : PortInEvent) → with_role own best r ≡ with_choice r (row_choice own best r)
 with_role-is own best r =
-    let w = own_vector own best r.line.id in
+    let w = own_vector own best r.inputs.id in
     let i = r.port.info in
     let v = r.port.vector in
-    five r (not r.line.on) (not (is_received i)) (eqb best.receiver r.line.id) (is_lt (vector_cmp w v)) (same_mac v.bridge.address own.address) (record { info = i; role = Disabled; vector = w }) (record { info = Mine; role = Designated; vector = w }) (record { info = i; role = Root; vector = v }) (record { info = Mine; role = Designated; vector = w }) (record { info = i; role = Backup; vector = v }) (record { info = i; role = Alternate; vector = v })
+    five r (not r.inputs.on) (not (is_received i)) (eqb best.receiver r.inputs.id) (is_lt (vector_cmp w v)) (same_mac v.bridge.address own.address) (record { info = i; role = Disabled; vector = w }) (record { info = Mine; role = Designated; vector = w }) (record { info = i; role = Root; vector = v }) (record { info = Mine; role = Designated; vector = w }) (record { info = i; role = Backup; vector = v }) (record { info = i; role = Alternate; vector = v })
 
 -- a choice that is made again is the same
 again : (on first : Bool) (better mine : PriorityVector → Bool) (b m : Bool) (own : PriorityVector) (i : Info) (v : PriorityVector) → better v ≡ b → mine v ≡ m → (let x = choice on first b m own i v in choice on first (better x.vector) (mine x.vector) own x.info x.vector ≡ x)
@@ -121,8 +121,8 @@ abbrev pub offer_of : BridgeId → Bool → ℕ → ℕ → Info → PriorityVec
 offer_of own on cost id i v =
     cond (on && is_received i && not (same_mac v.bridge.address own.address)) (Some (record { vector = record v { cost = min (v.cost + cost) 4294967295 }; receiver = id })) None
 
-abbrev pub row_offer : BridgeId → Row → Option Best
-row_offer own r = offer_of own r.line.on r.line.cost r.line.id r.port.info r.port.vector
+abbrev pub row_offer : BridgeId → PortInEvent → Option Best
+row_offer own r = offer_of own r.inputs.on r.inputs.cost r.inputs.id r.port.info r.port.vector
 
 -- by its role a port offers nothing more, and nothing else
 offer-less : (own : BridgeId) (cost id : ℕ) (on first b m : Bool) (w : PriorityVector) (i : Info) (v : PriorityVector) → (let x = choice on first b m w i v in (offer_of own on cost id x.info x.vector ≡ None) ⊎ (offer_of own on cost id x.info x.vector ≡ offer_of own on cost id i v))
@@ -147,54 +147,54 @@ offer-root own cost id best true false b m w Received v f e =
     absurd (elim (eqb_tells best.receiver id) [ inl t ↦ apart (eqb best.receiver id) t.0 f | inr d ↦ d.1 (sym same) ])
 
 -- The choice of a role, from the row a to the row r.
-record Roles (own : BridgeId) (best : Best) (a r : Row) : Type 0 where
-  line : r.line ≡ a.line
+record Roles (own : BridgeId) (best : Best) (a r : PortInEvent) : Type 0 where
+  inputs : r.inputs ≡ a.inputs
   link : r.port.link ≡ a.port.link
   was : r.was ≡ a.was
   state : r.port.state ≡ a.port.state
   flushed : r.flushed ≡ a.flushed
-  off : a.line.on ≡ false → r.port.role ≡ Disabled
-  disabled : r.port.role ≡ Disabled → a.line.on ≡ false
+  off : a.inputs.on ≡ false → r.port.role ≡ Disabled
+  disabled : r.port.role ≡ Disabled → a.inputs.on ≡ false
   chosen : with_role own best r ≡ r
   less : (row_offer own r ≡ None) ⊎ (row_offer own r ≡ row_offer own a)
   root : row_offer own a ≡ Some best → row_offer own r ≡ Some best
 
-with_choice-roles : (own : BridgeId) (best : Best) (a : Row) → Roles own best a (with_choice a (row_choice own best a))
+with_choice-roles : (own : BridgeId) (best : Best) (a : PortInEvent) → Roles own best a (with_choice a (row_choice own best a))
 with_choice-roles own best a =
-    let w = own_vector own best a.line.id in
+    let w = own_vector own best a.inputs.id in
     let i = a.port.info in
     let v = a.port.vector in
     let x = row_choice own best a in
     record {
-      line = refl;
+      inputs = refl;
       link = refl;
       was = refl;
       state = refl;
       flushed = refl;
-      off = λ e. choice-off a.line.on _ _ _ w i v e;
-      disabled = λ e. choice-disabled a.line.on _ _ _ w i v e;
-      chosen = with_role-is own best (with_choice a x) ∙ ap (with_choice (with_choice a x)) (choice-again own best a.line.on a.line.id i v);
-      less = offer-less own a.line.cost a.line.id a.line.on _ _ _ w i v;
-      root = offer-root own a.line.cost a.line.id best a.line.on _ _ _ w i v refl;
+      off = λ e. choice-off a.inputs.on _ _ _ w i v e;
+      disabled = λ e. choice-disabled a.inputs.on _ _ _ w i v e;
+      chosen = with_role-is own best (with_choice a x) ∙ ap (with_choice (with_choice a x)) (choice-again own best a.inputs.on a.inputs.id i v);
+      less = offer-less own a.inputs.cost a.inputs.id a.inputs.on _ _ _ w i v;
+      root = offer-root own a.inputs.cost a.inputs.id best a.inputs.on _ _ _ w i v refl;
     }
 
-with_role-roles : (own : BridgeId) (best : Best) (a : Row) → Roles own best a (with_role own best a)
+with_role-roles : (own : BridgeId) (best : Best) (a : PortInEvent) → Roles own best a (with_role own best a)
 with_role-roles own best a = subst (Roles own best a) (sym (with_role-is own best a)) (with_choice-roles own best a)
 
 -- a row that has the port's line, information, role and vector has its role too
-pub chosen-keeps : (own : BridgeId) (best : Best) (r q : Row) → with_role own best r ≡ r → q.line.on ≡ r.line.on → q.line.id ≡ r.line.id → q.port.info ≡ r.port.info → q.port.role ≡ r.port.role → q.port.vector ≡ r.port.vector → with_role own best q ≡ q
+pub chosen-keeps : (own : BridgeId) (best : Best) (r q : PortInEvent) → with_role own best r ≡ r → q.inputs.on ≡ r.inputs.on → q.inputs.id ≡ r.inputs.id → q.port.info ≡ r.port.info → q.port.role ≡ r.port.role → q.port.vector ≡ r.port.vector → with_role own best q ≡ q
 chosen-keeps own best r q h on id info role vector =
     with_role-is own best q ∙ ap (with_choice q) same where
       here : Choice
       here = record { info = r.port.info; role = r.port.role; vector = r.port.vector }
 
       there : row_choice own best r ≡ (record { info = r.port.info; role = r.port.role; vector = r.port.vector })
-      there = ap (λ (y : Row). record { info = y.port.info; role = y.port.role; vector = y.port.vector }) (sym (with_role-is own best r) ∙ h)
+      there = ap (λ (y : PortInEvent). record { info = y.port.info; role = y.port.role; vector = y.port.vector }) (sym (with_role-is own best r) ∙ h)
 
       same : row_choice own best q ≡ (record { info = q.port.info; role = q.port.role; vector = q.port.vector })
       same = (λ k. choice_of own best (on k) (id k) (info k) (vector k)) ∙ (there ∙ (λ k. record { info = sym info k; role = sym role k; vector = sym vector k }))
 
-pub offer-keeps : (own : BridgeId) (r q : Row) → q.line.on ≡ r.line.on → q.line.cost ≡ r.line.cost → q.line.id ≡ r.line.id → q.port.info ≡ r.port.info → q.port.vector ≡ r.port.vector → row_offer own q ≡ row_offer own r
+pub offer-keeps : (own : BridgeId) (r q : PortInEvent) → q.inputs.on ≡ r.inputs.on → q.inputs.cost ≡ r.inputs.cost → q.inputs.id ≡ r.inputs.id → q.port.info ≡ r.port.info → q.port.vector ≡ r.port.vector → row_offer own q ≡ row_offer own r
 offer-keeps own r q on cost id info vector = λ k. offer_of own (on k) (cost k) (id k) (info k) (vector k)
 
 opposite : (b c : Bool) → not b ≡ c → b ≡ not c
@@ -204,22 +204,22 @@ opposite false true e = refl
 opposite false false e = cc
 
 -- A port once all is done, whose state was st at the start of the event, and which a was as the roles were chosen.
-pub record IsDone (s : Table) (w : SettledPort) (n : ℕ) (c : PortConfig) (st : State) (own : BridgeId) (best : Best) (a r : Row) : Type 0 where
-  pub line : r.line ≡ line_of s w n c r.port.link
+pub record IsDone (s : Table) (w : SettledPort) (n : ℕ) (c : PortConfig) (st : State) (own : BridgeId) (best : Best) (a r : PortInEvent) : Type 0 where
+  pub inputs : r.inputs ≡ line_of s w n c r.port.link
   pub still : IsStill r
   pub chosen : with_role own best r ≡ r
   pub less : (row_offer own r ≡ None) ⊎ (row_offer own r ≡ row_offer own a)
   pub root : row_offer own a ≡ Some best → row_offer own r ≡ Some best
   pub left : is_discarding st ≡ false → is_root_or_designated r.port.role ≡ false → r.flushed ≡ true
 
-pub Done-keeps : (s : Table) (w : SettledPort) (n : ℕ) (c : PortConfig) (st : State) (own : BridgeId) (best : Best) (a r q : Row) → IsDone s w n c st own best a r → Keeps r q → IsDone s w n c st own best a q
+pub Done-keeps : (s : Table) (w : SettledPort) (n : ℕ) (c : PortConfig) (st : State) (own : BridgeId) (best : Best) (a r q : PortInEvent) → IsDone s w n c st own best a r → Keeps r q → IsDone s w n c st own best a q
 Done-keeps s w n c st own best a r q h k =
-    let on = ap (λ (l : Line). l.on) k.line in
-    let cost = ap (λ (l : Line). l.cost) k.line in
-    let id = ap (λ (l : Line). l.id) k.line in
+    let on = ap (λ (l : PortInputs). l.on) k.inputs in
+    let cost = ap (λ (l : PortInputs). l.cost) k.inputs in
+    let id = ap (λ (l : PortInputs). l.id) k.inputs in
     let offer : row_offer own q ≡ row_offer own r = offer-keeps own r q on cost id k.info k.vector in
     record {
-      line = k.line ∙ (h.line ∙ ap (line_of s w n c) (sym k.link));
+      inputs = k.inputs ∙ (h.inputs ∙ ap (line_of s w n c) (sym k.link));
       still = k.still h.still;
       chosen = chosen-keeps own best r q h.chosen on id k.info k.role k.vector;
       less = elim h.less [ inl e ↦ inl (offer ∙ e) | inr e ↦ inr (offer ∙ e) ];
@@ -243,15 +243,15 @@ kinds w Designated h e = cc
 kinds w Alternate h e = inr (same_role-is w Alternate (opposite (same_role w Alternate) false h))
 kinds w Backup h e = inr (same_role-is w Backup (opposite (same_role w Backup) false h))
 
-Done-if : (s : Table) (w : SettledPort) (n : ℕ) (c : PortConfig) (st : State) (own : BridgeId) (best : Best) (a : Row) (b : Bool) (x y : Row) → (b ≡ true → IsDone s w n c st own best a x) → (b ≡ false → IsDone s w n c st own best a y) → IsDone s w n c st own best a (cond b x y)
+Done-if : (s : Table) (w : SettledPort) (n : ℕ) (c : PortConfig) (st : State) (own : BridgeId) (best : Best) (a : PortInEvent) (b : Bool) (x y : PortInEvent) → (b ≡ true → IsDone s w n c st own best a x) → (b ≡ false → IsDone s w n c st own best a y) → IsDone s w n c st own best a (cond b x y)
 Done-if s w n c st own best a true x y h i = h refl
 Done-if s w n c st own best a false x y h i = i refl
 
-blocked-done : (s : Table) (w : SettledPort) (n : ℕ) (c : PortConfig) (st : State) (own : BridgeId) (best : Best) (a r : Row) → IsFresh s w n c st a → Roles own best a r → IsDone s w n c st own best a (after_blocking r)
+blocked-done : (s : Table) (w : SettledPort) (n : ℕ) (c : PortConfig) (st : State) (own : BridgeId) (best : Best) (a r : PortInEvent) → IsFresh s w n c st a → Roles own best a r → IsDone s w n c st own best a (after_blocking r)
 blocked-done s w n c st own best a r f h =
-    Done-if s w n c st own best a _ _ r (λ _. record { line = line; still = λ _. refl; chosen = chosen-keeps own best r _ h.chosen refl refl refl refl refl; less = h.less; root = h.root; left = λ _ _. refl }) (λ not_so. record { line = line; still = λ i. still not_so i; chosen = h.chosen; less = h.less; root = h.root; left = λ k i. left not_so k i }) where
-      line : r.line ≡ line_of s w n c r.port.link
-      line = h.line ∙ (f.line ∙ ap (line_of s w n c) (sym h.link))
+    Done-if s w n c st own best a _ _ r (λ _. record { inputs = inputs; still = λ _. refl; chosen = chosen-keeps own best r _ h.chosen refl refl refl refl refl; less = h.less; root = h.root; left = λ _ _. refl }) (λ not_so. record { inputs = inputs; still = λ i. still not_so i; chosen = h.chosen; less = h.less; root = h.root; left = λ k i. left not_so k i }) where
+      inputs : r.inputs ≡ line_of s w n c r.port.link
+      inputs = h.inputs ∙ (f.inputs ∙ ap (line_of s w n c) (sym h.link))
 
       before : r.was.role ≡ a.port.role
       before = ap (λ b. b.role) h.was ∙ f.was
@@ -273,7 +273,7 @@ blocked-done s w n c st own best a r f h =
       ]
 
 -- from the event's own part to the states
-pub turned-done : (s : Table) (w : SettledPort) (n : ℕ) (p : PortConfig) (st : State) (own : BridgeId) (best : Best) (c : Context) (a : Row) → IsFresh s w n p st a → IsDone s w n p st own best a (after_first_transitions c (with_role own best a))
+pub turned-done : (s : Table) (w : SettledPort) (n : ℕ) (p : PortConfig) (st : State) (own : BridgeId) (best : Best) (c : Context) (a : PortInEvent) → IsFresh s w n p st a → IsDone s w n p st own best a (after_first_transitions c (with_role own best a))
 turned-done s w n p st own best c a f =
     let r = with_role own best a in
     Done-keeps s w n p st own best a (after_blocking r) (after_first_transitions c r) (blocked-done s w n p st own best a r f (with_role-roles own best a)) (turned-keeps c r)

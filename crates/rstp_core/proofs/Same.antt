@@ -81,6 +81,6 @@ facts-Decides f g =
 pub port-Decides : (p q : Port) → Decides (same_port.eq-value.it p q) (p ≡ q)
 port-Decides p q =
     Decides-like _
-    (λ h i. record { link = h.0 i; info = h.1.0 i; vector = h.1.1.0 i; times = h.1.1.1.0 i; role = h.1.1.1.1.0 i; state = h.1.1.1.1.1.0 i; info_while = h.1.1.1.1.1.1.0 i; forward_while = h.1.1.1.1.1.1.1.0 i; recent_root_while = h.1.1.1.1.1.1.1.1.0 i; change_while = h.1.1.1.1.1.1.1.1.1.0 i; hello_when = h.1.1.1.1.1.1.1.1.1.1.0 i; sent_count = h.1.1.1.1.1.1.1.1.1.1.1.0 i; edge = h.1.1.1.1.1.1.1.1.1.1.1.1.0 i; send_rstp = h.1.1.1.1.1.1.1.1.1.1.1.1.1.0 i; agreed = h.1.1.1.1.1.1.1.1.1.1.1.1.1.1.0 i; agree = h.1.1.1.1.1.1.1.1.1.1.1.1.1.1.1.0 i; acknowledge = h.1.1.1.1.1.1.1.1.1.1.1.1.1.1.1.1.0 i; pending = h.1.1.1.1.1.1.1.1.1.1.1.1.1.1.1.1.1.0 i; forward_transitions = h.1.1.1.1.1.1.1.1.1.1.1.1.1.1.1.1.1.1 i })
-    (λ e. (ap (λ (x : Port). x.link) e, (ap (λ (x : Port). x.info) e, (ap (λ (x : Port). x.vector) e, (ap (λ (x : Port). x.times) e, (ap (λ (x : Port). x.role) e, (ap (λ (x : Port). x.state) e, (ap (λ (x : Port). x.info_while) e, (ap (λ (x : Port). x.forward_while) e, (ap (λ (x : Port). x.recent_root_while) e, (ap (λ (x : Port). x.change_while) e, (ap (λ (x : Port). x.hello_when) e, (ap (λ (x : Port). x.sent_count) e, (ap (λ (x : Port). x.edge) e, (ap (λ (x : Port). x.send_rstp) e, (ap (λ (x : Port). x.agreed) e, (ap (λ (x : Port). x.agree) e, (ap (λ (x : Port). x.acknowledge) e, (ap (λ (x : Port). x.pending) e, ap (λ (x : Port). x.forward_transitions) e)))))))))))))))))))
+    (λ h i. record { link = h.0 i; info = h.1.0 i; vector = h.1.1.0 i; times = h.1.1.1.0 i; role = h.1.1.1.1.0 i; state = h.1.1.1.1.1.0 i; rcvd_info_while = h.1.1.1.1.1.1.0 i; fd_while = h.1.1.1.1.1.1.1.0 i; rr_while = h.1.1.1.1.1.1.1.1.0 i; tc_while = h.1.1.1.1.1.1.1.1.1.0 i; hello_when = h.1.1.1.1.1.1.1.1.1.1.0 i; tx_count = h.1.1.1.1.1.1.1.1.1.1.1.0 i; oper_edge = h.1.1.1.1.1.1.1.1.1.1.1.1.0 i; send_rstp = h.1.1.1.1.1.1.1.1.1.1.1.1.1.0 i; agreed = h.1.1.1.1.1.1.1.1.1.1.1.1.1.1.0 i; agree = h.1.1.1.1.1.1.1.1.1.1.1.1.1.1.1.0 i; tc_ack = h.1.1.1.1.1.1.1.1.1.1.1.1.1.1.1.1.0 i; new_info = h.1.1.1.1.1.1.1.1.1.1.1.1.1.1.1.1.1.0 i; forward_transitions = h.1.1.1.1.1.1.1.1.1.1.1.1.1.1.1.1.1.1 i })
+    (λ e. (ap (λ (x : Port). x.link) e, (ap (λ (x : Port). x.info) e, (ap (λ (x : Port). x.vector) e, (ap (λ (x : Port). x.times) e, (ap (λ (x : Port). x.role) e, (ap (λ (x : Port). x.state) e, (ap (λ (x : Port). x.rcvd_info_while) e, (ap (λ (x : Port). x.fd_while) e, (ap (λ (x : Port). x.rr_while) e, (ap (λ (x : Port). x.tc_while) e, (ap (λ (x : Port). x.hello_when) e, (ap (λ (x : Port). x.tx_count) e, (ap (λ (x : Port). x.oper_edge) e, (ap (λ (x : Port). x.send_rstp) e, (ap (λ (x : Port). x.agreed) e, (ap (λ (x : Port). x.agree) e, (ap (λ (x : Port). x.tc_ack) e, (ap (λ (x : Port). x.new_info) e, ap (λ (x : Port). x.forward_transitions) e)))))))))))))))))))
     (Decides-and _ _ (booleans_Decides _ _) (Decides-and _ _ (info-Decides _ _) (Decides-and _ _ (vector-Decides _ _) (Decides-and _ _ (times-Decides _ _) (Decides-and _ _ (role-Decides _ _) (Decides-and _ _ (state-Decides _ _) (Decides-and _ _ (Decides-eqb _ _) (Decides-and _ _ (Decides-eqb _ _) (Decides-and _ _ (Decides-eqb _ _) (Decides-and _ _ (Decides-eqb _ _) (Decides-and _ _ (Decides-eqb _ _) (Decides-and _ _ (Decides-eqb _ _) (Decides-and _ _ (booleans_Decides _ _) (Decides-and _ _ (booleans_Decides _ _) (Decides-and _ _ (booleans_Decides _ _) (Decides-and _ _ (booleans_Decides _ _) (Decides-and _ _ (booleans_Decides _ _) (Decides-and _ _ (booleans_Decides _ _) (Decides-eqb _ _)))))))))))))))))))

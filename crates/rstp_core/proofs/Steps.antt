@@ -2,7 +2,7 @@
 use Rattle.std.proofs.Math.Numerals.{one-add}
 use Rattle.rstp_settings.specs.Table.{Table}
 use Rattle.rstp_rules.specs.declared.port.Port.{Port}
-use Rattle.rstp_rules.specs.declared.row.Row.{Row}
+use Rattle.rstp_rules.specs.declared.row.PortInEvent.{PortInEvent}
 use Rattle.rstp_settings.specs.declared.config.PortConfig.{PortConfig}
 use Rattle.rstp_rules.specs.Lines.{row_of}
 use Rattle.rstp_core.specs.Settled.{SettledValues, settled_port}
@@ -37,7 +37,7 @@ rows_from-more s w n (d ∷ cs) (q ∷ ps) (suc i) c p e h =
     let m : n + suc i ≡ (n + 1) + i = omega arith in
     rw m (ap (λ rs. row_of s (settled_port w n) n d q ∷ rs) (rows_from-more s w (n + 1) cs ps i c p (omega arith) (omega arith)))
 
-pub begin_step : (s : Table) (w : SettledValues) (cs : List PortConfig) (ps : List Port) (i : ℕ) (c : PortConfig) (p : Port) (rs : List Row) (r : Row) → length cs ≡ length ps → i < length ps → rs ≡ rows_from s w 1 (take i cs) (take i ps) → c ≡ get_or cs i c → r ≡ row_of s (settled_port w (i + 1)) (i + 1) c (get_or ps i p) → rs ++ r ∷ [] ≡ rows_from s w 1 (take (i + 1) cs) (take (i + 1) ps)
+pub begin_step : (s : Table) (w : SettledValues) (cs : List PortConfig) (ps : List Port) (i : ℕ) (c : PortConfig) (p : Port) (rs : List PortInEvent) (r : PortInEvent) → length cs ≡ length ps → i < length ps → rs ≡ rows_from s w 1 (take i cs) (take i ps) → c ≡ get_or cs i c → r ≡ row_of s (settled_port w (i + 1)) (i + 1) c (get_or ps i p) → rs ++ r ∷ [] ≡ rows_from s w 1 (take (i + 1) cs) (take (i + 1) ps)
 begin_step s w cs ps i c p rs r same h e f g =
     let m : i + 1 ≡ 1 + i = omega arith in
     let row : r ≡ row_of s (settled_port w (i + 1)) (i + 1) (get_or cs i c) (get_or ps i p) = g ∙ ap (λ (d : PortConfig). row_of s (settled_port w (i + 1)) (i + 1) d (get_or ps i p)) f in

@@ -17,7 +17,7 @@ use Rattle.rstp_settings.specs.Table.{Table, get}
 use Rattle.rstp_settings.specs.declared.key.Key.TheVariants as key
 use Rattle.rstp_settings.specs.declared.key.PortKey.TheVariants as port
 use Rattle.rstp_rules.specs.declared.port.Port.{Port}
-use Rattle.rstp_rules.specs.declared.row.Row.{Row}
+use Rattle.rstp_rules.specs.declared.row.PortInEvent.{PortInEvent}
 use Rattle.rstp_rules.specs.declared.row.Best.{Best}
 use Rattle.rstp_rules.specs.Ports.{is_received, is_root_or_designated}
 use Rattle.rstp_rules.specs.Vectors.{port_number, bridge_cmp}
@@ -84,7 +84,7 @@ root_at s t h n p =
     let role = row_role own best q (row_chosen s t h k within) ∙ p.root in
     record {
       within = within;
-      receiver = exact_unsigned_eq _ _ (choice-root q.line.on _ _ _ (own_vector own best q.line.id) q.port.info q.port.vector role);
+      receiver = exact_unsigned_eq _ _ (choice-root q.inputs.on _ _ _ (own_vector own best q.inputs.id) q.port.info q.port.vector role);
     }
 
 pub one_root_port : (s : Table) (t : Tree) → IsLegal s t → length t.ports ≤ 32 → (m n : ℕ) → IsRootPort t m → IsRootPort t n → m ≡ n
@@ -95,12 +95,12 @@ one_root_port s t h small m n p q =
     omega (arith, same, p.has_port.0, q.has_port.0)
 
 -- what a row offers
-record IsOffer (own : BridgeId) (r : Row) (b : Best) : Type 0 where
-  on : r.line.on ≡ true
+record IsOffer (own : BridgeId) (r : PortInEvent) (b : Best) : Type 0 where
+  on : r.inputs.on ≡ true
   received : is_received r.port.info ≡ true
   other : same_mac r.port.vector.bridge.address own.address ≡ false
-  receiver : b.receiver ≡ r.line.id
-  cost : b.vector.cost ≡ min (r.port.vector.cost + r.line.cost) 4294967295
+  receiver : b.receiver ≡ r.inputs.id
+  cost : b.vector.cost ≡ min (r.port.vector.cost + r.inputs.cost) 4294967295
 
 three : (x y z : Bool) → (x && y && not z) ≡ true → (x ≡ true) × (y ≡ true) × (z ≡ false)
 three true true false e = (refl, refl, refl)
@@ -108,10 +108,10 @@ three true true true e = cc
 three true false z e = cc
 three false y z e = cc
 
-offer : (own : BridgeId) (r : Row) (b : Best) → candidate own r ≡ Some b → IsOffer own r b
+offer : (own : BridgeId) (r : PortInEvent) (b : Best) → candidate own r ≡ Some b → IsOffer own r b
 offer own r b e =
-    let h = offered_if (r.line.on && is_received r.port.info && not (same_mac r.port.vector.bridge.address own.address)) (record { vector = record r.port.vector { cost = min (r.port.vector.cost + r.line.cost) 4294967295 }; receiver = r.line.id }) b e in
-    let each = three r.line.on (is_received r.port.info) (same_mac r.port.vector.bridge.address own.address) h.0 in
+    let h = offered_if (r.inputs.on && is_received r.port.info && not (same_mac r.port.vector.bridge.address own.address)) (record { vector = record r.port.vector { cost = min (r.port.vector.cost + r.inputs.cost) 4294967295 }; receiver = r.inputs.id }) b e in
+    let each = three r.inputs.on (is_received r.port.info) (same_mac r.port.vector.bridge.address own.address) h.0 in
     record {
       on = each.0;
       received = each.1;
@@ -125,7 +125,7 @@ record IsOffered (s : Table) (t : Tree) (k : ℕ) : Type 0 where
   within : k < length t.ports
   offered : IsOffer (own_id s t.address) (row_at s t k) t.facts.root
 
-source : (own : BridgeId) (rows : List Row) (b : Best) (k : ℕ) → k < length (candidates own rows) → get_or (candidates own rows) k b ≡ b → (b ≡ own_best own) ⊎ IsFrom own rows b
+source : (own : BridgeId) (rows : List PortInEvent) (b : Best) (k : ℕ) → k < length (candidates own rows) → get_or (candidates own rows) k b ≡ b → (b ≡ own_best own) ⊎ IsFrom own rows b
 source own rows b zero h e = inl (sym e)
 source own rows b (suc k) h e = inr (candidate_from own rows b k (omega arith) e)
 
@@ -149,7 +149,7 @@ offered_root s t h k o =
     let own = own_id s t.address in
     let best = t.facts.root in
     let first = sym (ap (λ (x : ℕ). eqb best.receiver x) (o.offered.receiver)) ∙ same_number best.receiver in
-    let role = sym (row_role own best q (row_chosen s t h k o.within)) ∙ choice-first q.line.on _ _ _ (own_vector own best q.line.id) q.port.info q.port.vector o.offered.on o.offered.received first in
+    let role = sym (row_role own best q (row_chosen s t h k o.within)) ∙ choice-first q.inputs.on _ _ _ (own_vector own best q.inputs.id) q.port.info q.port.vector o.offered.on o.offered.received first in
     let place : (1 + k) - 1 ≡ k = omega arith in
     record {
       has_port = (omega arith, omega (arith, o.within));

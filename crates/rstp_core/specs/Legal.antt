@@ -2,7 +2,7 @@
 -- settled.
 use Rattle.std.specs.Prelude.{◌≡◌, ℕ, ◌+◌, ◌<◌, true, false, List, length, slice_index_or, All}
 use Rattle.rstp_settings.specs.Table.{Table}
-use Rattle.rstp_rules.specs.declared.row.Row.{Row}
+use Rattle.rstp_rules.specs.declared.row.PortInEvent.{PortInEvent}
 use Rattle.rstp_rules.specs.Ports.{is_root_or_designated, is_discarding}
 use Rattle.rstp_rules.specs.Lines.{own_id}
 use Rattle.rstp_rules.specs.Roles.{candidates, own_best, IsBest}
@@ -13,11 +13,11 @@ use Rattle.rstp_core.specs.Tree.{Tree, rows_of}
 
 -- A port that learns or forwards is on, and is a root or designated port (IEEE 802.1D-2004 7.4,
 -- 17.29, 17.30).
-pub record IsActive (r : Row) : Type 0 where
-  pub on : r.line.on ≡ true
+pub record IsActive (r : PortInEvent) : Type 0 where
+  pub on : r.inputs.on ≡ true
   pub role : is_root_or_designated r.port.role ≡ true
 
-abbrev pub MayLearn : Row → Type 0
+abbrev pub MayLearn : PortInEvent → Type 0
 MayLearn r = is_discarding r.port.state ≡ false → IsActive r
 
 -- The roles of the whole tree (17.21.25): the root vector is the best of the candidates of the
@@ -36,8 +36,8 @@ pub record IsLegal (s : Table) (t : Tree) : Type 0 where
   pub active : All MayLearn (rows_of s t)
 
 -- The rows are of port 1, port 2, .., in this order.
-abbrev pub AreNumbered : List Row → Type 0
-AreNumbered rows = (k : ℕ) → k < length rows → (slice_index_or rows k no_row).line.number ≡ k + 1
+abbrev pub AreNumbered : List PortInEvent → Type 0
+AreNumbered rows = (k : ℕ) → k < length rows → (slice_index_or rows k no_row).inputs.number ≡ k + 1
 
 -- The root vector is this bridge's own: it is the root.
 abbrev pub IsRootBridge : Table → Tree → Type 0

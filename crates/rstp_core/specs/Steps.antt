@@ -7,7 +7,7 @@ use Rattle.frame_core.specs.declared.bpdu.BridgeId.{BridgeId}
 use Rattle.frame_core.specs.declared.bpdu.Times.{Times}
 use Rattle.frame_core.specs.declared.bpdu.Bpdu.{Bpdu}
 use Rattle.rstp_settings.specs.Table.{Table}
-use Rattle.rstp_rules.specs.declared.row.Row.{Row}
+use Rattle.rstp_rules.specs.declared.row.PortInEvent.{PortInEvent}
 use Rattle.rstp_rules.specs.declared.row.Best.{Best}
 use Rattle.rstp_rules.specs.declared.row.Context.{Context}
 use Rattle.rstp_rules.specs.Lines.{own_id, timers_of, times_in_force, context_of}
@@ -40,7 +40,7 @@ abbrev pub best_candidate : Best → List Best → Best
 best_candidate none bs = unwrap_or (find (is_unbeaten bs) bs) none
 
 -- The root vector of these rows.
-unfoldable pub root_of : BridgeId → List Row → Best
+unfoldable pub root_of : BridgeId → List PortInEvent → Best
 root_of own rows = best_candidate (own_best own) (candidates own rows)
 
 -- An event under way: whether it is a tick, the rows that its own part left of a tree, and the
@@ -51,30 +51,30 @@ pub record Event : Type 0 where
   pub tree : Tree
   pub tick : Bool
   pub was : Times
-  pub rows : List Row
+  pub rows : List PortInEvent
 
 -- This bridge's identifier, and the rows without vectors that are too old.
 abbrev pub event_own : Event → BridgeId
 event_own e = own_id e.settings e.tree.address
 
-abbrev pub fresh_rows : Event → List Row
+abbrev pub fresh_rows : Event → List PortInEvent
 fresh_rows e = map after_expiry e.rows
 
 unfoldable pub event_root : Event → Best
 event_root e = root_of (event_own e) (fresh_rows e)
 
 -- The rows with their roles, and what then holds for all ports.
-unfoldable pub roled_rows : Event → List Row
+unfoldable pub roled_rows : Event → List PortInEvent
 roled_rows e = rows_with_roles (event_own e) (event_root e) (fresh_rows e)
 
 unfoldable pub event_context : Event → Context
 event_context e = context_of e.settings (event_own e) (event_root e) e.was (times_in_force (timers_of e.settings) (roled_rows e))
 
 -- The rows as they are ready to send, and as sending leaves them.
-unfoldable pub ready_rows : Event → List Row
+unfoldable pub ready_rows : Event → List PortInEvent
 ready_rows e = ready e.tick (event_context e) (roled_rows e)
 
-unfoldable pub left_rows : Event → List Row
+unfoldable pub left_rows : Event → List PortInEvent
 left_rows e = map (after_sending (event_context e)) (ready_rows e)
 
 -- What the event leaves of the tree.

@@ -9,7 +9,7 @@ use Rattle.frame_core.specs.declared.bpdu.Bpdu.{Bpdu}
 use Rattle.rstp_settings.specs.Table.{Table, IsPortOf, opening}
 use Rattle.rstp_settings.specs.declared.config.PortConfig.{PortConfig}
 use Rattle.rstp_rules.specs.declared.port.Port.{Port}
-use Rattle.rstp_rules.specs.declared.row.Row.{Row}
+use Rattle.rstp_rules.specs.declared.row.PortInEvent.{PortInEvent}
 use Rattle.rstp_rules.specs.declared.row.Context.{Context}
 use Rattle.rstp_rules.specs.Vectors.{port_id}
 use Rattle.rstp_rules.specs.Ports.{opening_port}
@@ -48,21 +48,21 @@ config_at t port = slice_index_or t.config (port - 1) no_config
 
 -- The rows of all ports, from this port on, as an event begins under the settings s, where w is
 -- what was settled.
-abbrev pub rows_from : Table → SettledValues → ℕ → List PortConfig → List Port → List Row
+abbrev pub rows_from : Table → SettledValues → ℕ → List PortConfig → List Port → List PortInEvent
 rows_from s w port [] ports = []
 rows_from s w port (c ∷ configs) [] = []
 rows_from s w port (c ∷ configs) (p ∷ ports) =
     row_of s (settled_port w port) port c p ∷ rows_from s w (port + 1) configs ports
 
-abbrev pub rows_of : Table → Tree → List Row
+abbrev pub rows_of : Table → Tree → List PortInEvent
 rows_of s t = rows_from s t.settled 1 t.config t.ports
 
-abbrev pub ports_of : List Row → List Port
+abbrev pub ports_of : List PortInEvent → List Port
 ports_of rows = map (λ r. r.port) rows
 
 -- Some port signals a topology change.
 abbrev pub has_change : List Port → Bool
-has_change ports = list_any (λ p. nat_lt 0 p.change_while) ports
+has_change ports = list_any (λ p. nat_lt 0 p.tc_while) ports
 
 -- The root, the times in force, and the counts of topology changes, where one was signalled before
 -- the event or not, and one is signalled after it or not. A topology change is counted where one is
@@ -85,7 +85,7 @@ facts_after tick c had has f = record {
 -- How each event ends, from the rows that the event's own part left: vectors that are too old are
 -- received no longer; the root vector is a least element; the roles; the times in force; the
 -- states; on a tick the hello step; and what is sent.
-pub record Concludes (s : Table) (own : BridgeId) (tick : Bool) (was : Times) (old : List Row) (c : Context) (new : List Row) (out : Outcome) : Type 0 where
+pub record Concludes (s : Table) (own : BridgeId) (tick : Bool) (was : Times) (old : List PortInEvent) (c : Context) (new : List PortInEvent) (out : Outcome) : Type 0 where
   pub root : IsBest (candidates own (map after_expiry old)) c.root
   pub context : c ≡ context_of s own c.root was (times_in_force (timers_of s) (rows_with_roles own c.root (map after_expiry old)))
   pub rows : new ≡ map (after_sending c) (ready tick c (rows_with_roles own c.root (map after_expiry old)))
@@ -93,9 +93,9 @@ pub record Concludes (s : Table) (own : BridgeId) (tick : Bool) (was : Times) (o
   pub flushed : out.flushed.items ≡ flushed_ports (ready tick c (rows_with_roles own c.root (map after_expiry old)))
 
 -- What an event leaves of the tree and gives, where its own part left these rows.
-pub record Ends (s : Table) (tick : Bool) (was : Times) (rows : List Row) (t u : Tree) (out : Outcome) : Type 0 where
+pub record Ends (s : Table) (tick : Bool) (was : Times) (rows : List PortInEvent) (t u : Tree) (out : Outcome) : Type 0 where
   pub context : Context
-  pub left : List Row
+  pub left : List PortInEvent
   pub concludes : Concludes s (own_id s t.address) tick was rows context left out
   pub tree : u ≡ record t {
     ports = ports_of left;

@@ -13,7 +13,7 @@ use arrayvec::ArrayVec;
 use frame_core::{Bpdu, BridgeId, Times};
 use rstp_rules::lines;
 use rstp_rules::port::Port;
-use rstp_rules::row::{Context, Row};
+use rstp_rules::row::{Context, PortInEvent};
 use rstp_settings::config::PortConfig;
 use rstp_settings::settings::{MAX_PORTS, Settings};
 
@@ -23,7 +23,7 @@ pub fn begin_all(
     settled: &Settled,
     config: &[PortConfig],
     ports: &[Port],
-) -> ArrayVec<Row, MAX_PORTS>
+) -> ArrayVec<PortInEvent, MAX_PORTS>
     requires settled { length settled.now.ports ≡ length ports.now }
     requires settings { length settings.now.ports ≡ length ports.now }
     requires config { length config.now ≡ length ports.now }
@@ -35,7 +35,7 @@ pub fn begin_all(
     for i in 0..ports.len() {
         let port = i as u16 + 1;
         let settled = settled.port(port);
-        rows.push(Row::begin(settings, settled, port, &config[i], ports[i]));
+        rows.push(PortInEvent::begin(settings, settled, port, &config[i], ports[i]));
     }
     rows
 }
@@ -44,22 +44,28 @@ pub fn begin_all(
 pub fn has_changes(ports: &[Port]) -> bool
     ensures { result ≡ has_change ports.now }
 {
-    ports.iter().any(|port| port.change_while > 0)
+    ports.iter().any(|port| port.tc_while > 0)
 }
 
 /// A message at port `port`: what it says to the port, and then the topology change (17.21.8,
 /// 17.21.17, 17.21.18, 17.23).
-pub fn arrive_all(settings: &Settings, own: BridgeId, port: u16, bpdu: &Bpdu, rows: &mut [Row])
+pub fn arrive_all(
+    settings: &Settings,
+    own: BridgeId,
+    port: u16,
+    bpdu: &Bpdu,
+    rows: &mut [PortInEvent],
+)
     ensures { rows.new ≡ after_arrival settings.now own port bpdu.now rows.old }
 {
     loops::receive_all(own, lines::has_rstp_version(settings), port, bpdu, rows);
     let times = lines::find_times(lines::timers(settings), rows);
     let timing = lines::make_timing(settings, &times);
-    loops::tell_all(&timing, own, port, bpdu, rows);
+    loops::signal_all(&timing, own, port, bpdu, rows);
 }
 
 // The states, by the roles (17.29 to 17.31).
-fn move_all(context: &Context, rows: &mut [Row])
+fn move_all(context: &Context, rows: &mut [PortInEvent])
     requires { IsSmall context.now.timing }
     ensures { rows.new ≡ after_turns context.now rows.old }
 {
@@ -76,7 +82,7 @@ pub fn conclude(
     own: BridgeId,
     tick: bool,
     was_times: Times,
-    rows: &mut [Row],
+    rows: &mut [PortInEvent],
 ) -> (Context, Outcome)
     requires { length rows.old ≤ MAX_PORTS }
     ensures event { Concludes settings.now own tick was_times rows.old result.0 rows.new result.1 }

@@ -12,9 +12,9 @@ ghost use Rattle.frame_core.specs.declared.mac.Mac.{Mac};
 ghost use Rattle.rstp_settings.specs.Table.{Table};
 ghost use Rattle.rstp_settings.specs.declared.config.PortConfig.{PortConfig};
 ghost use Rattle.rstp_rules.specs.declared.row.Best.{Best};
-ghost use Rattle.rstp_rules.specs.declared.row.Row.{Row};
+ghost use Rattle.rstp_rules.specs.declared.row.PortInEvent.{PortInEvent};
 ghost use Rattle.rstp_rules.specs.declared.row.Timing.{Timing};
-ghost use Rattle.rstp_rules.specs.Turns.{turns, another_starts, with_changes_told, AreDistinct};
+ghost use Rattle.rstp_rules.specs.Turns.{turns, another_starts, with_changes_signalled, AreDistinct};
 ghost use Rattle.rstp_rules.specs.Lines.{own_id};
 ghost use Rattle.rstp_rules.specs.Roles.{IsBest};
 ghost use Rattle.rstp_core.specs.declared.rstp.Outcome.{Outcome};
@@ -99,8 +99,8 @@ pub fn starting_anew_flushes()
 /// another port starts one and it is on, root or designated, and not at the edge (17.31). So it is
 /// of any rows of which no two are of one port, and of each event after every run.
 pub fn turns_are_one_change()
-    ensures rows { (t : Timing) (rows : List Row) → AreDistinct rows
-        → turns t rows ≡ map (λ r. with_changes_told t (another_starts rows r) r) rows }
+    ensures rows { (t : Timing) (rows : List PortInEvent) → AreDistinct rows
+        → turns t rows ≡ map (λ r. with_changes_signalled t (another_starts rows r) r) rows }
     ensures event { (a : Mac) (cs : List PortConfig) (hs : List Happening) (s : Table) (t : Tree)
         (h : Happening)
         → Runs a cs hs s t → let e = event_by h s t in

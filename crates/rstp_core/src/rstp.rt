@@ -11,7 +11,7 @@ use arrayvec::ArrayVec;
 use frame_core::{Bpdu, BridgeId, Mac, PriorityVector, Times};
 use rstp_rules::lines;
 use rstp_rules::port::{Port, Role, State};
-use rstp_rules::row::{Best, Row};
+use rstp_rules::row::{Best, PortInEvent};
 use rstp_rules::settled::Timers;
 use rstp_settings::config::{BridgeConfig, PortConfig};
 use rstp_settings::copies::copied;
@@ -30,7 +30,7 @@ pub struct Outcome {
 // An event under way: the rows of all ports, and the times in force before it.
 #[derive(Drop)]
 struct Started {
-    rows: ArrayVec<Row, MAX_PORTS>,
+    rows: ArrayVec<PortInEvent, MAX_PORTS>,
     was_times: Times,
 }
 
@@ -237,7 +237,7 @@ impl Rstp {
         settings: &Settings,
         tick: bool,
         was_times: Times,
-        rows: &mut [Row],
+        rows: &mut [PortInEvent],
     ) -> Outcome
         requires { length rows.old ≡ length self.old.ports }
         ensures event { Ends settings.now tick was_times rows.old self.old self.new result }

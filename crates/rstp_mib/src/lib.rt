@@ -8,7 +8,7 @@
 //! # Definitions
 //! What each object shows stands in `setphase_core`: `specs/Columns.antt`, the objects' names in
 //! `specs/Names.antt`, and how a Set writes each in `specs/Writing.antt`; an object that may be
-//! written as plain data stands in `bridge_mib`: `specs/Written.antt`.
+//! written as plain data stands in `bridge_mib`: `specs/WritableObject.antt`.
 //!
 //! # Laws
 //! None: each object is its row, and what it has reserved.

@@ -5,7 +5,7 @@ ghost use Rattle.setphase_core.specs.Columns.{truth, ext_port_value};
 
 use bridge_core::Bridge;
 use bridge_mib::values::{integer, port_setting};
-use bridge_mib::written::column_of;
+use bridge_mib::written::writable_column;
 use bridge_mib::{Described, Descriptor};
 use message_core::Value;
 use rstp_core::PortKey;
@@ -33,7 +33,7 @@ fn ext_port_value(which: ExtPort, bridge: &Bridge, port: u16) -> Value
     match which {
         ExtPort::ProtocolMigration => integer(2),
         ExtPort::AdminEdgePort => port_setting(bridge, port, PortKey::Edge),
-        ExtPort::OperEdgePort => truth(bridge.port_facts(port).edge),
+        ExtPort::OperEdgePort => truth(bridge.port_facts(port).oper_edge),
         ExtPort::AdminPointToPoint => port_setting(bridge, port, PortKey::PointToPoint),
         ExtPort::OperPointToPoint => truth(bridge.port_facts(port).point_to_point),
         ExtPort::AdminPathCost => port_setting(bridge, port, PortKey::Cost),
@@ -69,10 +69,10 @@ impl Descriptor for ExtPortDescriptor {
 
     fn writable(self) -> Option<Writable> {
         match self.0 {
-            ExtPort::ProtocolMigration => column_of(PortKey::Migrate, 1, 2, 1),
-            ExtPort::AdminEdgePort => column_of(PortKey::Edge, 1, 2, 1),
-            ExtPort::AdminPointToPoint => column_of(PortKey::PointToPoint, 0, 2, 1),
-            ExtPort::AdminPathCost => column_of(PortKey::Cost, 0, 200_000_000, 1),
+            ExtPort::ProtocolMigration => writable_column(PortKey::Migrate, 1, 2, 1),
+            ExtPort::AdminEdgePort => writable_column(PortKey::Edge, 1, 2, 1),
+            ExtPort::AdminPointToPoint => writable_column(PortKey::PointToPoint, 0, 2, 1),
+            ExtPort::AdminPathCost => writable_column(PortKey::Cost, 0, 200_000_000, 1),
             ExtPort::OperEdgePort | ExtPort::OperPointToPoint => None,
         }
     }

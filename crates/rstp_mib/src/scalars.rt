@@ -4,7 +4,7 @@ ghost use Rattle.setphase_core.specs.Columns.{rapid_value};
 
 use bridge_core::Bridge;
 use bridge_mib::values::bridge_setting;
-use bridge_mib::written::scalar_of;
+use bridge_mib::written::writable_scalar;
 use bridge_mib::{Described, Descriptor};
 use message_core::Value;
 use rstp_core::BridgeKey;
@@ -55,8 +55,8 @@ impl Descriptor for RapidDescriptor {
 
     fn writable(self) -> Option<Writable> {
         match self.0 {
-            Rapid::Version => scalar_of(BridgeKey::Version, 0, 2, 2),
-            Rapid::TxHoldCount => scalar_of(BridgeKey::HoldCount, 1, 10, 1),
+            Rapid::Version => writable_scalar(BridgeKey::Version, 0, 2, 2),
+            Rapid::TxHoldCount => writable_scalar(BridgeKey::HoldCount, 1, 10, 1),
         }
     }
 }

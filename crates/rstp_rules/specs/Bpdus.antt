@@ -4,7 +4,7 @@ use Rattle.frame_core.specs.declared.bpdu.Bpdu.{Bpdu}
 use Rattle.frame_core.specs.declared.bpdu.Bpdu.TheVariants.{Config, TopologyChange, Rapid}
 
 -- The topology change flag; a topology change notification is one.
-abbrev pub tells_change : Bpdu → Bool
-tells_change TopologyChange = true
-tells_change (Config m) = m.topology_change
-tells_change (Rapid m) = m.topology_change
+abbrev pub signals_change : Bpdu → Bool
+signals_change TopologyChange = true
+signals_change (Config m) = m.topology_change
+signals_change (Rapid m) = m.topology_change

@@ -14,8 +14,8 @@ use Rattle.rstp_settings.specs.declared.key.PortKey.TheVariants as port_key
 use Rattle.rstp_settings.specs.declared.config.PortConfig.{PortConfig}
 use Rattle.rstp_settings.specs.Config.{cost_in_use, is_point_to_point}
 use Rattle.rstp_rules.specs.declared.port.Port.{Port}
-use Rattle.rstp_rules.specs.declared.row.Line.{Line}
-use Rattle.rstp_rules.specs.declared.row.Row.{Row}
+use Rattle.rstp_rules.specs.declared.row.PortInputs.{PortInputs}
+use Rattle.rstp_rules.specs.declared.row.PortInEvent.{PortInEvent}
 use Rattle.rstp_rules.specs.declared.row.Best.{Best}
 use Rattle.rstp_rules.specs.declared.row.Context.{Context}
 use Rattle.rstp_rules.specs.declared.row.Timing.{Timing}
@@ -42,7 +42,7 @@ edge_by s port = get s (key.Port port port_key.Edge) == EDGE_TRUE
 
 -- A port under the settings s, where w are its settled values. It is on where it is enabled and its
 -- link is up.
-abbrev pub line_of : Table → SettledPort → ℕ → PortConfig → Bool → Line
+abbrev pub line_of : Table → SettledPort → ℕ → PortConfig → Bool → PortInputs
 line_of s w port c link = record {
   number = port;
   id = port_id (get s (key.Port port port_key.Priority)) port;
@@ -57,9 +57,9 @@ line_of s w port c link = record {
 }
 
 -- The row of a port as an event begins.
-abbrev pub row_of : Table → SettledPort → ℕ → PortConfig → Port → Row
+abbrev pub row_of : Table → SettledPort → ℕ → PortConfig → Port → PortInEvent
 row_of s w port c p = record {
-  line = line_of s w port c p.link;
+  inputs = line_of s w port c p.link;
   was = record { role = p.role; state = p.state; vector = p.vector };
   port = p;
   proposed = false;
@@ -93,12 +93,12 @@ set_times m = record { message_age = 0; max_age = in_256ths m.max_age; hello = i
 
 -- 17.18.7, 17.21.25. The times in force: the settings where this bridge is root, and else those of
 -- the root port with one second added to the message age, at most 65535.
-abbrev pub times_by : Timers → Option Row → Times
+abbrev pub times_by : Timers → Option PortInEvent → Times
 times_by m None = set_times m
 times_by m (Some r) =
     record r.port.times { message_age = min (r.port.times.message_age + 256) 65535 }
 
-abbrev pub times_in_force : Timers → List Row → Times
+abbrev pub times_in_force : Timers → List PortInEvent → Times
 times_in_force m rows = times_by m (find (λ r. is_root r.port.role) rows)
 
 -- The times in force in seconds.

@@ -6,8 +6,8 @@ use Rattle.std.specs.Ordering.{nat_cmp, ordering_then, is_lt}
 use Rattle.frame_core.specs.declared.bpdu.BridgeId.{BridgeId}
 use Rattle.frame_core.specs.declared.bpdu.PriorityVector.{PriorityVector}
 use Rattle.rstp_rules.specs.declared.row.Best.{Best}
-use Rattle.rstp_rules.specs.declared.row.Line.{Line}
-use Rattle.rstp_rules.specs.declared.row.Row.{Row}
+use Rattle.rstp_rules.specs.declared.row.PortInputs.{PortInputs}
+use Rattle.rstp_rules.specs.declared.row.PortInEvent.{PortInEvent}
 use Rattle.rstp_rules.specs.declared.port.Info.TheVariants.{Mine}
 use Rattle.rstp_rules.specs.declared.port.Role.TheVariants.{Disabled, Designated, Root, Alternate, Backup}
 use Rattle.rstp_rules.specs.Ports.{is_received}
@@ -22,8 +22,8 @@ abbrev pub beats : Best → Best → Bool
 beats a b = is_lt (best_cmp a b)
 
 -- 17.21.23, 17.27. A received vector whose time is over is received no longer.
-abbrev pub after_expiry : Row → Row
-after_expiry r = if is_received r.port.info && r.port.info_while == 0
+abbrev pub after_expiry : PortInEvent → PortInEvent
+after_expiry r = if is_received r.port.info && r.port.rcvd_info_while == 0
     then record r { port = record r.port { info = Mine } }
     else r
 
@@ -34,12 +34,12 @@ own_best own =
 
 -- What a port that is on offers for the root vector: a received vector of another bridge, with the
 -- port's cost added, at most 4294967295.
-abbrev pub candidate : BridgeId → Row → Option Best
-candidate own r = if r.line.on && is_received r.port.info && not (same_mac r.port.vector.bridge.address own.address)
-    then Some (record { vector = record r.port.vector { cost = min (r.port.vector.cost + r.line.cost) 4294967295 }; receiver = r.line.id })
+abbrev pub candidate : BridgeId → PortInEvent → Option Best
+candidate own r = if r.inputs.on && is_received r.port.info && not (same_mac r.port.vector.bridge.address own.address)
+    then Some (record { vector = record r.port.vector { cost = min (r.port.vector.cost + r.inputs.cost) 4294967295 }; receiver = r.inputs.id })
     else None
 
-abbrev pub candidates : BridgeId → List Row → List Best
+abbrev pub candidates : BridgeId → List PortInEvent → List Best
 candidates own rows = own_best own ∷ filter_map (candidate own) rows
 
 -- The better of a vector and what a port may offer.
@@ -53,23 +53,23 @@ pub record IsBest (bs : List Best) (b : Best) : Type 0 where
   pub least : All (λ c. beats c b ≡ false) bs
 
 -- 17.19.4. The vector of a designated port.
-abbrev pub designated_vector : BridgeId → Best → Line → PriorityVector
+abbrev pub designated_vector : BridgeId → Best → PortInputs → PriorityVector
 designated_vector own root l =
     record { root = root.vector.root; cost = root.vector.cost; bridge = own; port = l.id }
 
 -- A port that is not received holds its designated vector.
-abbrev pub with_designated_vector : BridgeId → Best → Row → Row
-with_designated_vector own root r = record r { port = record r.port { info = Mine; role = Designated; vector = designated_vector own root r.line } }
+abbrev pub with_designated_vector : BridgeId → Best → PortInEvent → PortInEvent
+with_designated_vector own root r = record r { port = record r.port { info = Mine; role = Designated; vector = designated_vector own root r.inputs } }
 
 -- 17.21.25. The role of a port: disabled where it is off; designated where its vector is its own;
 -- root where the root vector came by it; designated where its designated vector is better than its
 -- vector; backup where its vector is of this bridge; and else alternate. A port that is off holds
 -- its designated vector too.
-abbrev pub with_role : BridgeId → Best → Row → Row
+abbrev pub with_role : BridgeId → Best → PortInEvent → PortInEvent
 with_role own root r =
-    if not r.line.on then record r { port = record r.port { role = Disabled; vector = designated_vector own root r.line } }
+    if not r.inputs.on then record r { port = record r.port { role = Disabled; vector = designated_vector own root r.inputs } }
     else (if not (is_received r.port.info) then with_designated_vector own root r
-    else (if root.receiver == r.line.id then record r { port = record r.port { role = Root } }
-    else (if is_lt (vector_cmp (designated_vector own root r.line) r.port.vector) then with_designated_vector own root r
+    else (if root.receiver == r.inputs.id then record r { port = record r.port { role = Root } }
+    else (if is_lt (vector_cmp (designated_vector own root r.inputs) r.port.vector) then with_designated_vector own root r
     else (if same_mac r.port.vector.bridge.address own.address then record r { port = record r.port { role = Backup } }
     else record r { port = record r.port { role = Alternate } }))))

@@ -6,19 +6,19 @@ ghost use Rattle.rstp_rules.specs.Arrivals.{is_own, is_taken, after_mark, is_sup
 
 use crate::bpdus::has_topology_change;
 use crate::port::Info;
-use crate::row::{Row, Timing};
+use crate::row::{PortInEvent, Timing};
 use crate::vector::{
     info_time_of, is_better, is_same_sender, is_same_times, is_same_vector, number_of_port,
 };
 use frame_core::{Bpdu, BridgeId, PortRole, PriorityVector, Rapid, Times};
 
-impl Row {
+impl PortInEvent {
     // Whether the port itself sent the vector.
     fn is_own(&self, own: BridgeId, vector: &PriorityVector) -> bool
         ensures { result ≡ is_own own self.now vector.now }
     {
         vector.bridge.address.is_same(own.address)
-            && number_of_port(vector.port) == number_of_port(self.line.id)
+            && number_of_port(vector.port) == number_of_port(self.inputs.id)
     }
 
     // Whether a message is not ignored: the port is on, and a Configuration or RST BPDU is not its
@@ -27,9 +27,9 @@ impl Row {
         ensures { result ≡ is_taken own bpdu.now self.now }
     {
         match bpdu {
-            Bpdu::TopologyChange => self.line.on,
-            Bpdu::Config(message) => self.line.on && !self.is_own(own, &message.vector),
-            Bpdu::Rapid(message) => self.line.on && !self.is_own(own, &message.vector),
+            Bpdu::TopologyChange => self.inputs.on,
+            Bpdu::Config(message) => self.inputs.on && !self.is_own(own, &message.vector),
+            Bpdu::Rapid(message) => self.inputs.on && !self.is_own(own, &message.vector),
         }
     }
 
@@ -37,7 +37,7 @@ impl Row {
     fn mark(&mut self, rapid: bool)
         ensures { self.new ≡ after_mark rapid self.old }
     {
-        self.port.edge = false;
+        self.port.oper_edge = false;
         self.port.send_rstp = rapid;
     }
 
@@ -60,7 +60,7 @@ impl Row {
         port.info = Info::Received;
         port.vector = *vector;
         port.times = *times;
-        port.info_while = info_time_of(times);
+        port.rcvd_info_while = info_time_of(times);
         port.agreed = port.agreed && same;
         port.agree = port.agree && same;
         self.proposed = proposal;
@@ -73,7 +73,7 @@ impl Row {
         if self.is_superior(vector) {
             self.record(vector, times, proposal);
         } else if self.port.role.is_designated() {
-            self.port.pending = true;
+            self.port.new_info = true;
         }
     }
 
@@ -82,7 +82,7 @@ impl Row {
         ensures { self.new ≡ after_answer vector.now agreement self.old }
     {
         if self.port.role.is_designated() && !is_better(vector, &self.port.vector) {
-            self.port.agreed = agreement && self.line.point_to_point;
+            self.port.agreed = agreement && self.inputs.point_to_point;
         }
     }
 
@@ -124,7 +124,7 @@ impl Row {
     pub fn receive(&mut self, own: BridgeId, rstp: bool, port: u16, bpdu: &Bpdu)
         ensures { self.new ≡ after_reception own rstp port bpdu.now self.old }
     {
-        if self.line.number == port && self.is_taken(own, bpdu) {
+        if self.inputs.number == port && self.is_taken(own, bpdu) {
             self.take(rstp, bpdu);
         }
     }
@@ -133,7 +133,7 @@ impl Row {
     pub fn spreads(&self, own: BridgeId, port: u16, bpdu: &Bpdu) -> bool
         ensures { result ≡ spreads own port bpdu.now self.now }
     {
-        self.line.number == port
+        self.inputs.number == port
             && self.is_taken(own, bpdu)
             && self.port.role.is_root_or_designated()
             && has_topology_change(bpdu)
@@ -146,13 +146,13 @@ impl Row {
         match bpdu {
             Bpdu::TopologyChange => {
                 if self.port.role.is_designated() {
-                    self.port.acknowledge = true;
-                    self.port.pending = true;
+                    self.port.tc_ack = true;
+                    self.port.new_info = true;
                 }
             }
             Bpdu::Config(message) => {
                 if message.acknowledge && self.port.role.is_root() {
-                    self.port.change_while = 0;
+                    self.port.tc_while = 0;
                 }
             }
             Bpdu::Rapid(_) => {}
@@ -172,7 +172,7 @@ impl Row {
         requires { IsSmall timing.now }
         ensures { self.new ≡ after_change_notice timing.now own port bpdu.now change self.old }
     {
-        if self.line.number == port {
+        if self.inputs.number == port {
             if self.is_taken(own, bpdu) {
                 self.acknowledge(bpdu);
             }

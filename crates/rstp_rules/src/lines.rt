@@ -8,7 +8,7 @@ ghost use Rattle.rstp_rules.specs.Ports.{is_root};
 ghost use Rattle.rstp_rules.specs.Lines.{IsSmall, own_id, rstp_version, enabled_by, edge_by, line_of, row_of, seconds, in_256ths, timers_of, AreTimers, set_times, times_in_force, timing_of, context_of};
 
 use crate::port::Port;
-use crate::row::{Before, Best, Context, Line, Row, Timing};
+use crate::row::{Before, Best, Context, PortInEvent, PortInputs, Timing};
 use crate::settled::{SettledPort, Timers};
 use frame_core::{BridgeId, Mac, Times};
 use rstp_settings::config::PortConfig;
@@ -50,7 +50,7 @@ pub fn is_set_edge(settings: &Settings, port: u16) -> bool
     settings.get(Key::Port(port, PortKey::Edge)) == EDGE_TRUE
 }
 
-impl Line {
+impl PortInputs {
     // What follows from the settings of port `port` and its link (6.4.3, 9.2.7, 17.14).
     fn of(
         settings: &Settings,
@@ -64,7 +64,7 @@ impl Line {
         ensures { result ≡ line_of settings.now settled port config.now link }
     {
         let enabled = is_enabled(settings, port);
-        Line {
+        PortInputs {
             number: port,
             id: 256 * settings.get(Key::Port(port, PortKey::Priority)) as u16 + port,
             cost: config.cost_in_use(settings.get(Key::Port(port, PortKey::Cost))),
@@ -82,7 +82,7 @@ impl Line {
     }
 }
 
-impl Row {
+impl PortInEvent {
     /// The row of port `port` as an event begins.
     pub fn begin(
         settings: &Settings,
@@ -95,8 +95,8 @@ impl Row {
         requires small { port ≤ MAX_PORTS }
         ensures { result ≡ row_of settings.now settled port config.now held }
     {
-        Row {
-            line: Line::of(settings, settled, port, config, held.link),
+        PortInEvent {
+            inputs: PortInputs::of(settings, settled, port, config, held.link),
             was: Before {
                 role: held.role,
                 state: held.state,
@@ -151,7 +151,7 @@ pub fn times_set(timers: Timers) -> Times
 }
 
 // The row of the root port, if there is one.
-fn root_row(rows: &[Row]) -> Option<&Row>
+fn root_row(rows: &[PortInEvent]) -> Option<&PortInEvent>
     ensures { option_copied result ≡ find (λ r. is_root r.port.role) rows.now }
 {
     rows.iter().find(|row| row.port.role.is_root())
@@ -159,7 +159,7 @@ fn root_row(rows: &[Row]) -> Option<&Row>
 
 /// The times in force, where `timers` are those of the settings: the root port's a second later, or
 /// those set (17.18.7, 17.21.25).
-pub fn find_times(timers: Timers, rows: &[Row]) -> Times
+pub fn find_times(timers: Timers, rows: &[PortInEvent]) -> Times
     requires { AreTimers timers }
     ensures { result ≡ times_in_force timers rows.now }
 {

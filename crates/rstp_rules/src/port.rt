@@ -61,19 +61,19 @@ pub struct Port {
     /// Its state (7.4).
     pub state: State,
     /// How long the received vector is kept (rcvdInfoWhile).
-    pub info_while: u16,
+    pub rcvd_info_while: u16,
     /// The wait before the next state (fdWhile).
-    pub forward_while: u16,
+    pub fd_while: u16,
     /// How long the port counts as a recent root port (rrWhile).
-    pub recent_root_while: u16,
+    pub rr_while: u16,
     /// How long the port signals a topology change (tcWhile).
-    pub change_while: u16,
+    pub tc_while: u16,
     /// The wait before the next regular message (helloWhen).
     pub hello_when: u16,
     /// How many messages were sent lately (txCount).
-    pub sent_count: u16,
+    pub tx_count: u16,
     /// Whether the port is at the edge of the network (operEdge).
-    pub edge: bool,
+    pub oper_edge: bool,
     /// Whether the port sends RST messages under version 2 (sendRSTP).
     pub send_rstp: bool,
     /// Whether the neighbour has agreed (agreed).
@@ -81,9 +81,9 @@ pub struct Port {
     /// Whether the port signals its agreement (agree).
     pub agree: bool,
     /// Whether the port has a topology change acknowledgment to send (tcAck).
-    pub acknowledge: bool,
+    pub tc_ack: bool,
     /// Whether the port has something to send (newInfo).
-    pub pending: bool,
+    pub new_info: bool,
     /// How often the port became forwarding, modulo 2^32.
     pub forward_transitions: u32,
 }
@@ -167,18 +167,18 @@ impl Port {
             times,
             role: Role::Disabled,
             state: State::Discarding,
-            info_while: 0,
-            forward_while: 0,
-            recent_root_while: 0,
-            change_while: 0,
+            rcvd_info_while: 0,
+            fd_while: 0,
+            rr_while: 0,
+            tc_while: 0,
             hello_when: 0,
-            sent_count: 0,
-            edge: false,
+            tx_count: 0,
+            oper_edge: false,
             send_rstp: true,
             agreed: false,
             agree: false,
-            acknowledge: false,
-            pending: false,
+            tc_ack: false,
+            new_info: false,
             forward_transitions: 0,
         }
     }

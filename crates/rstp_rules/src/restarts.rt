@@ -4,9 +4,9 @@ ghost use Rattle.std.specs.Prelude.{◌≡◌};
 ghost use Rattle.rstp_rules.specs.Restarts.{after_restart, after_switch, after_link, is_renewed, after_settling};
 
 use crate::port::{Info, Role, State};
-use crate::row::Row;
+use crate::row::PortInEvent;
 
-impl Row {
+impl PortInEvent {
     // The port starts anew; its learned rows go (17.24, 17.25, 17.29.1).
     fn restart(&mut self)
         ensures { self.new ≡ after_restart self.old }
@@ -17,18 +17,18 @@ impl Row {
         port.info = Info::Mine;
         port.role = Role::Disabled;
         port.state = State::Discarding;
-        port.info_while = 0;
-        port.forward_while = 0;
-        port.recent_root_while = 0;
-        port.change_while = 0;
+        port.rcvd_info_while = 0;
+        port.fd_while = 0;
+        port.rr_while = 0;
+        port.tc_while = 0;
         port.hello_when = 0;
-        port.sent_count = 0;
-        port.edge = self.line.edge;
+        port.tx_count = 0;
+        port.oper_edge = self.inputs.edge;
         port.send_rstp = true;
         port.agreed = false;
         port.agree = false;
-        port.acknowledge = false;
-        port.pending = false;
+        port.tc_ack = false;
+        port.new_info = false;
         self.flushed = true;
     }
 
@@ -36,9 +36,9 @@ impl Row {
     fn switch(&mut self, up: bool)
         ensures { self.new ≡ after_switch up self.old }
     {
-        self.line.on = self.line.enabled && up;
+        self.inputs.on = self.inputs.enabled && up;
         self.port.link = up;
-        if self.line.enabled {
+        if self.inputs.enabled {
             self.restart();
         }
     }
@@ -47,7 +47,7 @@ impl Row {
     pub fn link(&mut self, port: u16, up: bool)
         ensures { self.new ≡ after_link port up self.old }
     {
-        if self.line.number == port && self.port.link != up {
+        if self.inputs.number == port && self.port.link != up {
             self.switch(up);
         }
     }
@@ -56,7 +56,7 @@ impl Row {
     fn is_renewed(&self, version_changed: bool) -> bool
         ensures { result ≡ is_renewed version_changed self.now }
     {
-        version_changed || self.port.link && self.line.enabled != self.line.was_enabled
+        version_changed || self.port.link && self.inputs.enabled != self.inputs.was_enabled
     }
 
     /// What settling the settings does to the port (17.13, 17.19.13).
@@ -66,10 +66,10 @@ impl Row {
         if self.is_renewed(version_changed) {
             self.restart();
         }
-        if self.line.edge != self.line.was_edge {
-            self.port.edge = self.line.edge;
+        if self.inputs.edge != self.inputs.was_edge {
+            self.port.oper_edge = self.inputs.edge;
         }
-        if self.line.migrate {
+        if self.inputs.migrate {
             self.port.send_rstp = true;
         }
     }

@@ -4,7 +4,7 @@ ghost use Rattle.std.specs.Prelude.{◌≡◌};
 ghost use Rattle.rstp_rules.specs.Roles.{beats, after_expiry, own_best, candidate, or_better, designated_vector, with_designated_vector, with_role};
 
 use crate::port::{Info, Role};
-use crate::row::{Best, Line, Row};
+use crate::row::{Best, PortInEvent, PortInputs};
 use crate::vector::is_better;
 use frame_core::{BridgeId, PriorityVector};
 
@@ -43,24 +43,24 @@ impl Best {
     }
 
     /// The vector of a designated port under this root (17.19.4).
-    pub(crate) fn designated(&self, own: BridgeId, line: &Line) -> PriorityVector
-        ensures { result ≡ designated_vector own self.now line.now }
+    pub(crate) fn designated(&self, own: BridgeId, inputs: &PortInputs) -> PriorityVector
+        ensures { result ≡ designated_vector own self.now inputs.now }
     {
         PriorityVector {
             root: self.vector.root,
             cost: self.vector.cost,
             bridge: own,
-            port: line.id,
+            port: inputs.id,
         }
     }
 }
 
-impl Row {
+impl PortInEvent {
     /// A received vector whose time is over is received no longer (17.21.23, 17.27).
     pub fn expire(&mut self)
         ensures { self.new ≡ after_expiry self.old }
     {
-        if self.port.info.is_received() && self.port.info_while == 0 {
+        if self.port.info.is_received() && self.port.rcvd_info_while == 0 {
             self.port.info = Info::Mine;
         }
     }
@@ -70,15 +70,15 @@ impl Row {
     pub fn candidate(&self, own: BridgeId) -> Option<Best>
         ensures { result ≡ candidate own self.now }
     {
-        if self.line.on
+        if self.inputs.on
             && self.port.info.is_received()
             && !self.port.vector.bridge.address.is_same(own.address)
         {
             let mut vector = self.port.vector;
-            vector.cost = vector.cost.saturating_add(self.line.cost);
+            vector.cost = vector.cost.saturating_add(self.inputs.cost);
             Some(Best {
                 vector,
-                receiver: self.line.id,
+                receiver: self.inputs.id,
             })
         } else {
             None
@@ -91,20 +91,20 @@ impl Row {
     {
         self.port.info = Info::Mine;
         self.port.role = Role::Designated;
-        self.port.vector = root.designated(own, &self.line);
+        self.port.vector = root.designated(own, &self.inputs);
     }
 
     /// Gives the port its role under a root (17.21.25).
     pub fn choose_role(&mut self, own: BridgeId, root: &Best)
         ensures { self.new ≡ with_role own root.now self.old }
     {
-        let designated = root.designated(own, &self.line);
-        if !self.line.on {
+        let designated = root.designated(own, &self.inputs);
+        if !self.inputs.on {
             self.port.role = Role::Disabled;
             self.port.vector = designated;
         } else if !self.port.info.is_received() {
             self.designate(own, root);
-        } else if root.receiver == self.line.id {
+        } else if root.receiver == self.inputs.id {
             self.port.role = Role::Root;
         } else if is_better(&designated, &self.port.vector) {
             self.designate(own, root);

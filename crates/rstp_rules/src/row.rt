@@ -4,7 +4,7 @@ use frame_core::{BridgeId, PriorityVector, Times};
 
 /// What follows from a port's settings, its link and its number during an event.
 #[derive(Clone, Copy, Debug, Default)]
-pub struct Line {
+pub struct PortInputs {
     /// The port's number, from 1.
     pub number: u16,
     /// Its port identifier (9.2.7).
@@ -40,9 +40,9 @@ pub struct Before {
 
 /// A port in the course of an event.
 #[derive(Clone, Copy, Debug)]
-pub struct Row {
+pub struct PortInEvent {
     /// What follows from its settings, its link and its number.
-    pub line: Line,
+    pub inputs: PortInputs,
     /// What it was before.
     pub was: Before,
     /// What it holds.
@@ -92,12 +92,12 @@ pub struct Context {
     pub hold_count: u16,
 }
 
-impl Default for Row {
+impl Default for PortInEvent {
     /// What stands in places that no port has.
     fn default() -> Self {
         let port = Port::default();
-        Row {
-            line: Line::default(),
+        PortInEvent {
+            inputs: PortInputs::default(),
             was: Before {
                 role: port.role,
                 state: port.state,

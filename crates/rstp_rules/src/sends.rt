@@ -3,12 +3,12 @@ ghost use Rattle.std.specs.Prelude.{◌≡◌};
 ghost use Rattle.rstp_rules.specs.Sends.{role_in_bpdu, sends_rapid, config_of, rapid_of, message_due, sends, bpdu_of, after_sending};
 
 use crate::port::Role;
-use crate::row::{Context, Row, Timing};
+use crate::row::{Context, PortInEvent, Timing};
 use frame_core::{Bpdu, Config, PortRole, Rapid};
 
 impl Role {
     // What an RST message says of the role (9.2.9, 17.21.20).
-    fn said(self) -> PortRole
+    fn stated(self) -> PortRole
         ensures { result ≡ role_in_bpdu self }
     {
         match self {
@@ -20,7 +20,7 @@ impl Role {
     }
 }
 
-impl Row {
+impl PortInEvent {
     /// Whether the port sends RST messages (17.19.38, 17.20.11).
     pub(crate) fn sends_rapid(&self, timing: &Timing) -> bool
         ensures { result ≡ sends_rapid timing.now self.now }
@@ -33,10 +33,10 @@ impl Row {
         ensures { result ≡ config_of context.now self.now }
     {
         Config {
-            topology_change: self.port.change_while > 0,
+            topology_change: self.port.tc_while > 0,
             proposal: false,
-            acknowledge: self.port.acknowledge,
-            vector: context.root.designated(context.own, &self.line),
+            acknowledge: self.port.tc_ack,
+            vector: context.root.designated(context.own, &self.inputs),
             times: context.times,
         }
     }
@@ -46,15 +46,15 @@ impl Row {
         ensures { result ≡ rapid_of context.now self.now }
     {
         Rapid {
-            topology_change: self.port.change_while > 0,
+            topology_change: self.port.tc_while > 0,
             proposal: self.port.role.is_designated()
                 && !self.port.state.is_forwarding()
-                && !self.port.edge,
-            role: self.port.role.said(),
+                && !self.port.oper_edge,
+            role: self.port.role.stated(),
             learning: !self.port.state.is_discarding(),
             forwarding: self.port.state.is_forwarding(),
             agreement: self.port.role.is_root() && self.port.agree,
-            vector: context.root.designated(context.own, &self.line),
+            vector: context.root.designated(context.own, &self.inputs),
             times: context.times,
         }
     }
@@ -73,7 +73,7 @@ impl Row {
         } else if self.port.role.is_root() {
             if rapid {
                 Some(Bpdu::Rapid(self.rapid(context)))
-            } else if self.port.change_while > 0 {
+            } else if self.port.tc_while > 0 {
                 Some(Bpdu::TopologyChange)
             } else {
                 None
@@ -90,16 +90,16 @@ impl Row {
     {
         let due = self.due(context);
         if due.is_none() {
-            self.port.pending = false;
+            self.port.new_info = false;
             return None;
         }
-        if !self.port.pending || self.port.sent_count >= context.hold_count {
+        if !self.port.new_info || self.port.tx_count >= context.hold_count {
             return None;
         }
-        self.port.sent_count += 1;
-        self.port.pending = false;
+        self.port.tx_count += 1;
+        self.port.new_info = false;
         if self.port.role.is_designated() && !self.sends_rapid(&context.timing) {
-            self.port.acknowledge = false;
+            self.port.tc_ack = false;
         }
         due
     }

@@ -5,10 +5,10 @@ ghost use Rattle.rstp_rules.specs.Transitions.{has_changed_role, after_blocking,
 ghost use Rattle.rstp_rules.specs.Turns.{with_change_spread_but, after_begin};
 
 use crate::port::State;
-use crate::row::{Context, Row, Timing};
+use crate::row::{Context, PortInEvent, Timing};
 use crate::vector::{is_same_times, is_same_vector};
 
-impl Row {
+impl PortInEvent {
     // Whether the role is another than before the roles were chosen.
     fn has_changed_role(&self) -> bool
         ensures { result ≡ has_changed_role self.now }
@@ -22,8 +22,8 @@ impl Row {
     {
         if self.port.role.is_alternate_or_backup() && self.has_changed_role() {
             self.port.state = State::Discarding;
-            self.port.forward_while = 0;
-            self.port.change_while = 0;
+            self.port.fd_while = 0;
+            self.port.tc_while = 0;
             self.flushed = true;
         }
     }
@@ -36,7 +36,7 @@ impl Row {
             && !self.was.role.is_root_or_designated()
             && self.port.state.is_discarding()
         {
-            self.port.forward_while = context.timing.forward_delay;
+            self.port.fd_while = context.timing.forward_delay;
         }
     }
 
@@ -48,7 +48,7 @@ impl Row {
             && self.port.role.is_designated()
             && !self.port.state.is_discarding()
         {
-            self.port.recent_root_while = context.timing.forward_delay;
+            self.port.rr_while = context.timing.forward_delay;
         }
     }
 
@@ -67,7 +67,7 @@ impl Row {
         ensures { self.new ≡ after_discarding self.old }
     {
         if self.port.state.is_discarding() {
-            self.port.recent_root_while = 0;
+            self.port.rr_while = 0;
         }
     }
 
@@ -82,7 +82,7 @@ impl Row {
                 || !same
                 || !is_same_times(&context.was_times, &context.times))
         {
-            self.port.pending = true;
+            self.port.new_info = true;
             self.port.agreed = self.port.agreed && same;
         }
     }
@@ -105,16 +105,16 @@ impl Row {
     {
         if self.port.role.is_root() {
             self.port.agree = true;
-            self.port.pending = true;
+            self.port.new_info = true;
         } else if self.port.role.is_designated()
-            && !self.port.edge
+            && !self.port.oper_edge
             && !self.port.agreed
             && !self.port.state.is_discarding()
         {
             self.port.state = State::Discarding;
-            self.port.forward_while = context.timing.forward_delay;
-            self.port.recent_root_while = 0;
-            self.port.pending = true;
+            self.port.fd_while = context.timing.forward_delay;
+            self.port.rr_while = 0;
+            self.port.new_info = true;
         }
     }
 
@@ -124,7 +124,7 @@ impl Row {
     {
         context.timing.rstp_version
             && (self.port.role.is_root() && clear
-                || self.port.role.is_designated() && (self.port.edge || self.port.agreed))
+                || self.port.role.is_designated() && (self.port.oper_edge || self.port.agreed))
     }
 
     /// The port's next state (17.29.2, 17.29.3, 17.30); `clear` says that no port but the root port
@@ -134,9 +134,9 @@ impl Row {
     {
         if self.is_quick(context, clear) {
             self.port.state = State::Forwarding;
-        } else if self.port.role.is_root_or_designated() && self.port.forward_while == 0 {
+        } else if self.port.role.is_root_or_designated() && self.port.fd_while == 0 {
             if self.port.state.is_discarding() {
-                self.port.forward_while = context.timing.forward_delay;
+                self.port.fd_while = context.timing.forward_delay;
             }
             self.port.state = self.port.state.next();
         }
@@ -166,9 +166,9 @@ impl Row {
         requires { IsSmall timing.now }
         ensures { self.new ≡ with_change_started timing.now self.old }
     {
-        if self.port.change_while == 0 {
-            self.port.change_while = self.change_time(timing);
-            self.port.pending = true;
+        if self.port.tc_while == 0 {
+            self.port.tc_while = self.change_time(timing);
+            self.port.new_info = true;
         }
     }
 
@@ -177,7 +177,7 @@ impl Row {
         requires { IsSmall timing.now }
         ensures { self.new ≡ with_change_spread timing.now self.old }
     {
-        if self.line.on && self.port.role.is_root_or_designated() && !self.port.edge {
+        if self.inputs.on && self.port.role.is_root_or_designated() && !self.port.oper_edge {
             self.start_change(timing);
             self.flushed = true;
         }
@@ -188,7 +188,7 @@ impl Row {
         requires { IsSmall timing.now }
         ensures { self.new ≡ with_change_spread_but timing.now port self.old }
     {
-        if self.line.number != port {
+        if self.inputs.number != port {
             self.spread(timing);
         }
     }
@@ -206,7 +206,7 @@ impl Row {
         ensures { self.new ≡ after_begin timing.now self.old }
     {
         self.count();
-        if !self.port.edge {
+        if !self.port.oper_edge {
             self.start_change(timing);
         }
     }

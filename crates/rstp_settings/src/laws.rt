@@ -17,7 +17,7 @@ pub fn get_after_put()
 {}
 
 /// A put of the old value restores all settings.
-pub fn put_back_restores()
+pub fn undo_restores()
     ensures { (t : Table) (k : Key) (v : ℕ) → HasKey t k → put (put t k v) k (get t k) ≡ t }
 {}
 

@@ -62,18 +62,18 @@ on_either (Err e) a b f g = g e b
 -- ---- what is added
 
 pub Adds-same : {old new : List ℕ} (P : List ℕ → Type 0) → new ≡ old → P [] → Adds old new P
-Adds-same {old} {new} P e p = record { said = []; added = e ∙ sym (append-nil old); holds = p }
+Adds-same {old} {new} P e p = record { stated = []; added = e ∙ sym (append-nil old); holds = p }
 
 pub Adds-more : {a b c : List ℕ} {P Q : List ℕ → Type 0} (R : List ℕ → Type 0) → Adds a b P → Adds b c Q
     → ((s t : List ℕ) → P s → Q t → R (s ++ t)) → Adds a c R
 Adds-more {a} {b} {c} R p q f = record {
-  said = p.said ++ q.said;
-  added = q.added ∙ ap (λ l. l ++ q.said) p.added ∙ append_assoc a p.said q.said;
-  holds = f p.said q.said p.holds q.holds;
+  stated = p.stated ++ q.stated;
+  added = q.added ∙ ap (λ l. l ++ q.stated) p.added ∙ append_assoc a p.stated q.stated;
+  holds = f p.stated q.stated p.holds q.holds;
 }
 
 pub Adds-weaker : {a b : List ℕ} {P : List ℕ → Type 0} (R : List ℕ → Type 0) → Adds a b P → ((s : List ℕ) → P s → R s) → Adds a b R
-Adds-weaker R p f = record { said = p.said; added = p.added; holds = f p.said p.holds }
+Adds-weaker R p f = record { stated = p.stated; added = p.added; holds = f p.stated p.holds }
 
 pub Writes-none : {old : Option (List ℕ)} (P : List ℕ → Type 0) → P [] → Writes old old P
 Writes-none {old} P p = record { text = []; took = Appends-nil old; holds = p }
@@ -92,7 +92,7 @@ Writes-weaker R p f = record { text = p.text; took = p.took; holds = f p.text p.
 -- what was added to nothing is written
 pub Adds-written : {a b : Option (List ℕ)} {none out : List ℕ} {P : List ℕ → Type 0} → none ≡ [] → Appends a b out → Adds none out P → Writes a b P
 Adds-written {a} {b} {none} {out} e took p =
-    record { text = p.said; took = rw (p.added ∙ ap (λ l. l ++ p.said) e) at took; holds = p.holds }
+    record { text = p.stated; took = rw (p.added ∙ ap (λ l. l ++ p.stated) e) at took; holds = p.holds }
 
 -- a write that failed, or a flush, leaves what was written
 pub Writes-kept : {a b c : Option (List ℕ)} (P : List ℕ → Type 0) → Writes a b P → Keeps b c → Writes a c P
@@ -118,9 +118,9 @@ pub Adds-front : {a b : Option (List ℕ)} {none out : List ℕ} {P : List ℕ �
     → Writes a b (λ text. IsFrontOf (λ whole. whole ≡ out) text) → Adds none out P → ((s : List ℕ) → P s → Q s)
     → Writes a b (λ text. IsFrontOf Q text)
 Adds-front {a} {b} {none} {out} {P} Q e written p f =
-    let all : out ≡ p.said = p.added ∙ ap (λ l. l ++ p.said) e in
+    let all : out ≡ p.stated = p.added ∙ ap (λ l. l ++ p.stated) e in
     Writes-weaker (λ text. IsFrontOf Q text) written
-    (λ text front. IsFrontOf-weaker Q front (λ s same. rw (same ∙ all) (f p.said p.holds)))
+    (λ text front. IsFrontOf-weaker Q front (λ s same. rw (same ∙ all) (f p.stated p.holds)))
 
 -- ---- what is answered
 
@@ -129,21 +129,21 @@ module _ {X : Type 0} (line_says : X → List ℕ → List ℕ → X → Type 0)
   unfolding Says
   Says-none s = (refl, refl)
 
-  pub Says-one : {s t : X} {line said : List ℕ} → line_says s line said t → Says line_says s (line ∷ []) said t
+  pub Says-one : {s t : X} {line stated : List ℕ} → line_says s line stated t → Says line_says s (line ∷ []) stated t
   unfolding Says
-  Says-one {s} {t} {line} {said} p =
-      record { said = said; between = t; rest = []; answered = p; split = sym (append-nil said); goes_on = (refl, refl) }
+  Says-one {s} {t} {line} {stated} p =
+      record { stated = stated; between = t; rest = []; answered = p; split = sym (append-nil stated); goes_on = (refl, refl) }
 
   pub Says-append : (ls ms : List (List ℕ)) (a b c : X) (s t : List ℕ) → Says line_says a ls s b → Says line_says b ms t c
       → Says line_says a (ls ++ ms) (s ++ t) c
   unfolding Says
   Says-append [] ms a b c s t p q = rw (p.0, p.1) q
   Says-append (l ∷ ls) ms a b c s t p q = record {
-    said = p.said;
+    stated = p.stated;
     between = p.between;
     rest = p.rest ++ t;
     answered = p.answered;
-    split = ap (λ x. x ++ t) p.split ∙ append_assoc p.said p.rest t;
+    split = ap (λ x. x ++ t) p.split ∙ append_assoc p.stated p.rest t;
     goes_on = Says-append ls ms p.between b c p.rest t p.goes_on q;
   }
 
@@ -154,8 +154,8 @@ module _ {X : Type 0} (line_says : X → List ℕ → List ℕ → X → Type 0)
   Feeds-none {s} {octets} = record { ended = []; no_end = All-nil HasNoEnd; split = refl; says = Says-none s }
 
   -- one line has ended
-  pub Feeds-line : {s t : X} {line said rest : List ℕ} → HasNoEnd line → line_says s line said t → Feeds line_says s (line ++ (10 ∷ rest)) t rest said
-  Feeds-line {s} {t} {line} {said} {rest} no_end p = record {
+  pub Feeds-line : {s t : X} {line stated rest : List ℕ} → HasNoEnd line → line_says s line stated t → Feeds line_says s (line ++ (10 ∷ rest)) t rest stated
+  Feeds-line {s} {t} {line} {stated} {rest} no_end p = record {
     ended = line ∷ [];
     no_end = All-cons HasNoEnd line [] no_end (All-nil HasNoEnd);
     split = simp append_assoc;
@@ -178,9 +178,9 @@ module _ {X : Type 0} (line_says : X → List ℕ → List ℕ → X → Type 0)
   Feeds-then {a} {b} {c} {octets} {left} {same} {last} {s} {t} p e q = Feeds-more p (rw e q)
 
   -- one line has ended that was read in two parts
-  pub Feeds-parts : {s t : X} {said rest : List ℕ} (line part held : List ℕ) → held ≡ line ++ part → HasNoEnd line → HasNoEnd part
-      → line_says s held said t → Feeds line_says s (line ++ (part ++ (10 ∷ rest))) t rest said
-  Feeds-parts {s} {t} {said} {rest} line part held e h k p =
+  pub Feeds-parts : {s t : X} {stated rest : List ℕ} (line part held : List ℕ) → held ≡ line ++ part → HasNoEnd line → HasNoEnd part
+      → line_says s held stated t → Feeds line_says s (line ++ (part ++ (10 ∷ rest))) t rest stated
+  Feeds-parts {s} {t} {stated} {rest} line part held e h k p =
       rw (sym (append_assoc line part (10 ∷ rest)), sym e) (Feeds-line (rw e (HasNoEnd-append line part h k)) p)
 
   pub Feeds-first : {a b : X} {octets left s : List ℕ} → Feeds line_says a octets b left s → FeedsFirst line_says a octets s
@@ -213,12 +213,12 @@ module _ {X : Type 0} (line_says : X → List ℕ → List ℕ → X → Type 0)
   pub Feeds-says-all : (end_says : X → List ℕ → X → Type 0) {a b c : X} {octets left s t : List ℕ} → Feeds line_says a octets b left s
       → SaysAll line_says end_says b (lines_of left) t c → SaysAll line_says end_says a (lines_of octets) (s ++ t) c
   Feeds-says-all end_says {a} {b} {c} {octets} {left} {s} {t} p q = record {
-    said = s ++ q.said;
+    stated = s ++ q.stated;
     between = q.between;
     last = q.last;
-    says = rw (Feeds-lines p) (Says-append p.ended (lines_of left) a b q.between s q.said p.says q.says);
+    says = rw (Feeds-lines p) (Says-append p.ended (lines_of left) a b q.between s q.stated p.says q.says);
     ends = q.ends;
-    split = ap (λ l. s ++ l) q.split ∙ sym (append_assoc s q.said q.last);
+    split = ap (λ l. s ++ l) q.split ∙ sym (append_assoc s q.stated q.last);
   }
 
   -- none of the lines was answered
@@ -314,8 +314,8 @@ module _ {X : Type 0} (line_says : X → List ℕ → List ℕ → X → Type 0)
   pub Says-nothing : (s : X) (lines : List (List ℕ)) → lines ≡ [] → Says line_says s lines [] s
   Says-nothing s lines e = rw e (Says-none s)
 
-  pub Says-last : (s t : X) (lines : List (List ℕ)) (line said : List ℕ) → lines ≡ line ∷ [] → line_says s line said t → Says line_says s lines said t
-  Says-last s t lines line said e p = rw e (Says-one p)
+  pub Says-last : (s t : X) (lines : List (List ℕ)) (line stated : List ℕ) → lines ≡ line ∷ [] → line_says s line stated t → Says line_says s lines stated t
+  Says-last s t lines line stated e p = rw e (Says-one p)
 
   -- a run that stops within a line
   pub Feeds-stop : {a b : X} {input rest s : List ℕ} (part : List ℕ) → HasNoEnd part → Feeds line_says a input b (part ++ rest) s

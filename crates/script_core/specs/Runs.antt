@@ -8,9 +8,9 @@ use Rattle.script_core.specs.declared.fault.LineFault.TheVariants.{Memory}
 
 -- octets were added, and this holds of them
 pub record Adds (old new : List ℕ) (P : List ℕ → Type 0) : Type 0 where
-  pub said : List ℕ
-  pub added : new ≡ old ++ said
-  pub holds : P said
+  pub stated : List ℕ
+  pub added : new ≡ old ++ stated
+  pub holds : P stated
 
 -- a writer took octets, and this holds of them
 pub record Writes (old new : Option (List ℕ)) (P : List ℕ → Type 0) : Type 0 where
@@ -34,10 +34,10 @@ Reads (Some input) (Some rest) P = P input rest
 
 -- a session may say octets, and be something after them
 pub record SaysSomething {X : Type 0} (says : List ℕ → X → Type 0) : Type 0 where
-  pub said : List ℕ
+  pub stated : List ℕ
   pub now : X
-  pub some : 0 < length said
-  pub are_said : says said now
+  pub some : 0 < length stated
+  pub are_stated : says stated now
 
 -- The end of a script may be given up: the session may do so, or there may be no memory for the
 -- answer to it.
@@ -46,19 +46,19 @@ abbrev pub MayGiveUpEnd : {X : Type 0} → (X → List ℕ → X → Type 0) →
 MayGiveUpEnd end_says may_give_up_end session fault =
     may_give_up_end session fault ⊎ ((fault ≡ Memory) × SaysSomething (end_says session))
 
--- A session answers line by line. `line_says before line said now` says that the session `before`
+-- A session answers line by line. `line_says before line stated now` says that the session `before`
 -- may answer this to the line, and be
--- `now` after it; `end_says before said now` says the same of the end of the script.
+-- `now` after it; `end_says before stated now` says the same of the end of the script.
 -- `may_give_up_line before line fault` says that it may give up this line for this fault, and
 -- `may_give_up_end before fault` the same of the end.
 module _ {X : Type 0} (line_says : X → List ℕ → List ℕ → X → Type 0) where
   -- a line was answered, and what follows holds of the session after it and of the rest of the text
   pub record Answered (follows : X → List ℕ → Type 0) (before : X) (line text : List ℕ) : Type 0 where
-    pub said : List ℕ
+    pub stated : List ℕ
     pub between : X
     pub rest : List ℕ
-    pub answered : line_says before line said between
-    pub split : text ≡ said ++ rest
+    pub answered : line_says before line stated between
+    pub split : text ≡ stated ++ rest
     pub goes_on : follows between rest
 
   -- lines were answered in their order: `text` is the answers
@@ -69,12 +69,12 @@ module _ {X : Type 0} (line_says : X → List ℕ → List ℕ → X → Type 0)
 
   -- all lines of a script were answered, and its end
   pub record SaysAll (end_says : X → List ℕ → X → Type 0) (before : X) (lines : List (List ℕ)) (text : List ℕ) (now : X) : Type 0 where
-    pub said : List ℕ
+    pub stated : List ℕ
     pub between : X
     pub last : List ℕ
-    pub says : Says before lines said between
+    pub says : Says before lines stated between
     pub ends : end_says between last now
-    pub split : text ≡ said ++ last
+    pub split : text ≡ stated ++ last
 
   -- the first of these lines were answered, and no others: `text` is the answers
   pub record SaysFirst (before : X) (lines : List (List ℕ)) (text : List ℕ) : Type 0 where

@@ -29,23 +29,23 @@ struct Buffers {
     // The part of a line that was read so far.
     line: Vec<u8>,
     // What the session says to one line.
-    said: Vec<u8>,
+    stated: Vec<u8>,
     // What it answered to the lines of one read.
     out: Vec<u8>,
 }
 
 // Hands a line to the session, keeps what it says, and empties the line.
 fn finish_line<S: Session>(session: &mut S, buffers: &mut Buffers) -> Result<(), LineFault>
-    ensures said { OnOk result (Adds buffers.old.out.items buffers.new.out.items (λ said.
-        S.line_says session.old buffers.old.line.items said session.new)) }
+    ensures stated { OnOk result (Adds buffers.old.out.items buffers.new.out.items (λ stated.
+        S.line_says session.old buffers.old.line.items stated session.new)) }
     ensures empty { OnOk result (buffers.new.line.items ≡ []) }
     ensures same { OnErr result (buffers.new.out.items ≡ buffers.old.out.items) }
     ensures given_up { IfErr result (λ fault.
         MayGiveUpLine S.line_says S.may_give_up_line session.old buffers.old.line.items fault) }
 {
-    buffers.said.clear();
-    session.line(buffers.line.as_slice(), &mut buffers.said)?;
-    buffers.out.extend_from_slice(buffers.said.as_slice())?;
+    buffers.stated.clear();
+    session.line(buffers.line.as_slice(), &mut buffers.stated)?;
+    buffers.out.extend_from_slice(buffers.stated.as_slice())?;
     buffers.line.clear();
     Ok(())
 }
@@ -83,10 +83,10 @@ fn feed_line<S: Session>(
     requires line { HasNoEnd buffers.old.line.items }
     requires part { HasNoEnd part.now }
     ensures feeds { OnOk result ((rest : List ℕ) →
-        Adds buffers.old.out.items buffers.new.out.items (λ said.
+        Adds buffers.old.out.items buffers.new.out.items (λ stated.
         Feeds S.line_says session.old
         (buffers.old.line.items ++ (part.now ++ (LINE_END ∷ rest)))
-        session.new (buffers.new.line.items ++ rest) said)) }
+        session.new (buffers.new.line.items ++ rest) stated)) }
     ensures part { OnOk result (buffers.new.line.items ≡ []) }
     ensures same { OnErr result (buffers.new.out.items ≡ buffers.old.out.items) }
     ensures given_up { IfErr result (λ fault. (rest : List ℕ) →
@@ -102,14 +102,14 @@ fn feed_line<S: Session>(
 fn feed<S: Session>(session: &mut S, buffers: &mut Buffers, chunk: &[u8]) -> Result<(), LineFault>
     requires { HasNoEnd buffers.old.line.items }
     ensures feeds { OnOk result ((rest : List ℕ) →
-        Adds buffers.old.out.items buffers.new.out.items (λ said.
+        Adds buffers.old.out.items buffers.new.out.items (λ stated.
         Feeds S.line_says session.old (buffers.old.line.items ++ (chunk.now ++ rest))
-        session.new (buffers.new.line.items ++ rest) said)) }
+        session.new (buffers.new.line.items ++ rest) stated)) }
     ensures part { OnOk result (HasNoEnd buffers.new.line.items) }
     ensures given_up { IfErr result (λ fault. (rest : List ℕ) →
-        Adds buffers.old.out.items buffers.new.out.items (λ said.
+        Adds buffers.old.out.items buffers.new.out.items (λ stated.
         GivesUpLine S.line_says S.may_give_up_line session.old fault
-        (buffers.old.line.items ++ (chunk.now ++ rest)) rest said)) }
+        (buffers.old.line.items ++ (chunk.now ++ rest)) rest stated)) }
 {
     let mut left = chunk;
     while let Some((part, behind)) = cut_line(left) {
@@ -121,24 +121,24 @@ fn feed<S: Session>(session: &mut S, buffers: &mut Buffers, chunk: &[u8]) -> Res
 
 // Ends the session, and keeps what it says.
 fn end_session<S: Session>(session: &mut S, buffers: &mut Buffers) -> Result<(), LineFault>
-    ensures said { OnOk result (Adds buffers.old.out.items buffers.new.out.items (λ said.
-        S.end_says session.old said session.new)) }
+    ensures stated { OnOk result (Adds buffers.old.out.items buffers.new.out.items (λ stated.
+        S.end_says session.old stated session.new)) }
     ensures same { OnErr result (buffers.new.out.items ≡ buffers.old.out.items) }
     ensures given_up { IfErr result (λ fault.
         MayGiveUpEnd S.end_says S.may_give_up_end session.old fault) }
 {
-    buffers.said.clear();
-    session.end(&mut buffers.said)?;
-    buffers.out.extend_from_slice(buffers.said.as_slice())?;
+    buffers.stated.clear();
+    session.end(&mut buffers.stated)?;
+    buffers.out.extend_from_slice(buffers.stated.as_slice())?;
     Ok(())
 }
 
 // Hands on a last line that has no end, if there is one.
 fn finish_last_line<S: Session>(session: &mut S, buffers: &mut Buffers) -> Result<(), LineFault>
     requires { HasNoEnd buffers.old.line.items }
-    ensures said { OnOk result (Adds buffers.old.out.items buffers.new.out.items (λ said.
+    ensures stated { OnOk result (Adds buffers.old.out.items buffers.new.out.items (λ stated.
         Says S.line_says session.old
-        (lines_of buffers.old.line.items) said session.new)) }
+        (lines_of buffers.old.line.items) stated session.new)) }
     ensures same { OnErr result (buffers.new.out.items ≡ buffers.old.out.items) }
     ensures some { OnErr result (0 < length buffers.old.line.items) }
     ensures given_up { IfErr result (λ fault.
@@ -154,13 +154,13 @@ fn finish_last_line<S: Session>(session: &mut S, buffers: &mut Buffers) -> Resul
 // Answers the last line, and ends the session.
 fn finish<S: Session>(session: &mut S, buffers: &mut Buffers) -> Result<(), LineFault>
     requires { HasNoEnd buffers.old.line.items }
-    ensures said { OnOk result (Adds buffers.old.out.items buffers.new.out.items (λ said.
+    ensures stated { OnOk result (Adds buffers.old.out.items buffers.new.out.items (λ stated.
         SaysAll S.line_says S.end_says session.old
-        (lines_of buffers.old.line.items) said session.new)) }
+        (lines_of buffers.old.line.items) stated session.new)) }
     ensures given_up { IfErr result (λ fault.
-        Adds buffers.old.out.items buffers.new.out.items (λ said.
+        Adds buffers.old.out.items buffers.new.out.items (λ stated.
         GivesUp S.line_says S.end_says S.may_give_up_line S.may_give_up_end session.old fault
-        buffers.old.line.items [] said)) }
+        buffers.old.line.items [] stated)) }
 {
     finish_last_line(session, buffers)?;
     end_session(session, buffers)?;
@@ -303,7 +303,7 @@ pub fn run_script<S: Session, R: Read, W: Write>(
 {
     let mut buffers = Buffers {
         line: Vec::new(alloc),
-        said: Vec::new(alloc),
+        stated: Vec::new(alloc),
         out: Vec::new(alloc),
     };
     let mut chunk = [0u8; READ_SIZE];

@@ -26,13 +26,13 @@ pub trait Session {
     /// Appends to `out` the answer to one line, which is given without its end. After an error
     /// the run stops, and what `out` then holds is dropped.
     fn line(&mut self, line: &[u8], out: &mut Vec<u8>) -> Result<(), LineFault>
-        ensures said { OnOk result (Adds out.old.items out.new.items (λ said.
-            line_says self.old line.now said self.new)) }
+        ensures stated { OnOk result (Adds out.old.items out.new.items (λ stated.
+            line_says self.old line.now stated self.new)) }
         ensures given_up { IfErr result (λ fault. may_give_up_line self.old line.now fault) };
 
     /// Appends to `out` the answer to the end of the script. After an error the run stops.
     fn end(&mut self, out: &mut Vec<u8>) -> Result<(), LineFault>
-        ensures said { OnOk result (Adds out.old.items out.new.items (λ said.
-            end_says self.old said self.new)) }
+        ensures stated { OnOk result (Adds out.old.items out.new.items (λ stated.
+            end_says self.old stated self.new)) }
         ensures given_up { IfErr result (λ fault. may_give_up_end self.old fault) };
 }

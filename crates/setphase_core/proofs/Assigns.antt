@@ -1,4 +1,4 @@
--- Settings that are given values one after the other, and one among them that is put back.
+-- Settings that are given values one after the other, and one among them that is restored.
 use Rattle.std.proofs.Common.{◌≡◌, ◌≢◌, ℕ, zero, suc, ◌+◌, ◌<◌, ◌≤◌, ◌∙◌, sym, ap, subst, refl, Bool, true, false, List, [], ◌∷◌, ◌++◌, length, take, drop, slice_index_or, arith, add-one, append_assoc}
 use Rattle.std.proofs.lemmas.List.{take-map, get_or_default}
 use Rattle.setting_keys.specs.declared.SettingKey.{SettingKey}
@@ -55,18 +55,18 @@ put-assign (a ∷ ps) w k v apart has h range =
     put-assign ps (put w a.key a.value) k v apart.1 (legal_after w ps a.key a.value has.0.value has.1) (keys-kept w a.key k a.value has.0.value h) (range-kept w a.key k a.value v range)
     ∙ ap (assign ps) (puts-commuted w a.key k a.value v apart.0 has.0.key h has.0.value range)
 
--- One setting among others is put back, to a value that it may have.
-pub put_back : (ps qs : List Assignment) (w : World) (a : Assignment) → Without a.key ps →
+-- One setting among others is restored, to a value that it may have.
+pub value_restored : (ps qs : List Assignment) (w : World) (a : Assignment) → Without a.key ps →
     Without a.key qs → AreLegal w ps → AreLegal w qs → IsLegal w a →
     IsSettingInRange w a.key (setting w a.key) →
     put (assign (ps ++ a ∷ qs) w) a.key (setting w a.key) ≡ assign (ps ++ qs) w
-put_back [] qs w a before behind has there h range =
+value_restored [] qs w a before behind has there h range =
     put-assign qs (put w a.key a.value) a.key (setting w a.key) behind (legal_after w qs a.key a.value h.value there) (keys-kept w a.key a.key a.value h.value h.key) (range-kept w a.key a.key a.value (setting w a.key) range)
     ∙ ap (assign qs) (put-restored w a.key a.value h.key)
-put_back (p ∷ ps) qs w a before behind has there h range =
+value_restored (p ∷ ps) qs w a before behind has there h range =
     let same : setting (put w p.key p.value) a.key ≡ setting w a.key = setting-put_other w p.key a.key p.value (different p.key a.key before.0) has.0.key h.key in
     ap (λ v. put (assign (ps ++ a ∷ qs) (put w p.key p.value)) a.key v) (sym same)
-    ∙ put_back ps qs (put w p.key p.value) a before.1 behind (legal_after w ps p.key p.value has.0.value has.1) (legal_after w qs p.key p.value has.0.value there) (still_legal w a p.key p.value has.0.value h)
+    ∙ value_restored ps qs (put w p.key p.value) a before.1 behind (legal_after w ps p.key p.value has.0.value has.1) (legal_after w qs p.key p.value has.0.value there) (still_legal w a p.key p.value has.0.value h)
     (subst (IsSettingInRange (put w p.key p.value) a.key) (sym same) (range-kept w p.key a.key p.value (setting w a.key) range))
 
 -- What is in range after assignments was before: the ports are as many.

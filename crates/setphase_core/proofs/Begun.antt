@@ -3,11 +3,11 @@ use Rattle.std.proofs.Common.{◌≡◌, ℕ, ◌+◌, ◌-◌, ◌/◌, ◌<◌
 use Rattle.std.proofs.lemmas.Bool.Decides.{eqb_tells}
 use Rattle.oid_core.specs.Order.{is_prefix}
 use Rattle.setphase_core.specs.Searching.{prefix_at, AreBegun}
-use Rattle.setphase_core.proofs.Below.{is_below, below_tells}
+use Rattle.setphase_core.proofs.Below.{is_below, below_decides}
 use Rattle.setphase_core.proofs.Ordered.{AreOrdered, ordered_at}
 
-begins_tells : (x y : ℕ) (p n : List ℕ) → is_prefix (x ∷ p) (y ∷ n) ≡ true → (x ≡ y) × (is_prefix p n ≡ true)
-begins_tells x y p n h = elim (eqb_tells x y) [
+begins_decides : (x y : ℕ) (p n : List ℕ) → is_prefix (x ∷ p) (y ∷ n) ≡ true → (x ≡ y) × (is_prefix p n ≡ true)
+begins_decides x y p n h = elim (eqb_tells x y) [
   | inl e ↦ (e.1, rw e.0 at h)
   | inr e ↦ let f : false ≡ true = rw e.0 at h in absurd (cc)
 ]
@@ -19,14 +19,14 @@ between (z ∷ f) [] b c h k m n = absurd (cc)
 between (z ∷ f) (x ∷ a) [] c h k m n = absurd (cc)
 between (z ∷ f) (x ∷ a) (y ∷ b) [] h k m n = absurd (cc)
 between (z ∷ f) (x ∷ a) (y ∷ b) (w ∷ c) h k m n =
-    let first = begins_tells z x f a m in
-    let last = begins_tells z w f c n in
-    elim (below_tells x y a b h) [
-      | inl l ↦ elim (below_tells y w b c k) [
+    let first = begins_decides z x f a m in
+    let last = begins_decides z w f c n in
+    elim (below_decides x y a b h) [
+      | inl l ↦ elim (below_decides y w b c k) [
         | inl j ↦ absurd (omega (arith, first.0, last.0, l.less, j.less))
         | inr j ↦ absurd (omega (arith, first.0, last.0, l.less, j.0.same))
       ]
-      | inr s ↦ elim (below_tells y w b c k) [
+      | inr s ↦ elim (below_decides y w b c k) [
         | inl j ↦ absurd (omega (arith, first.0, last.0, s.0.same, j.less))
         | inr j ↦
             let eq : nat_eq z y ≡ true = ap (λ i. nat_eq i y) first.0 ∙ s.0.eq in

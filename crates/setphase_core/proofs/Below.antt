@@ -22,8 +22,8 @@ pub record IsSame (x y : ℕ) : Type 0 where
   pub lt : nat_lt x y ≡ false
   pub eq : nat_eq x y ≡ true
 
-pub order_tells : (x y : ℕ) → IsLess x y ⊎ (IsSame x y ⊎ IsLess y x)
-order_tells x y = elim (leb_tells (suc x) y) [
+pub order_decides : (x y : ℕ) → IsLess x y ⊎ (IsSame x y ⊎ IsLess y x)
+order_decides x y = elim (leb_tells (suc x) y) [
   | inl s ↦ inl (record { less = omega (arith, s.1); lt = grind (arith, nat_tests, s.1); eq = grind (arith, nat_tests, s.1) })
   | inr s ↦ elim (eqb_tells x y) [
     | inl e ↦ inr (inl (record { same = e.1; lt = grind (arith, nat_tests, e.1); eq = e.0 }))
@@ -57,7 +57,7 @@ less_then x y z h k =
 pub below_from : (p q : List ℕ) → name_lt q p ≡ false → is_prefix p q ≡ false → is_below p q ≡ true
 below_from [] q h k = absurd (cc)
 below_from (x ∷ p) [] h k = absurd (cc)
-below_from (x ∷ p) (y ∷ q) h k = elim (order_tells x y) [
+below_from (x ∷ p) (y ∷ q) h k = elim (order_decides x y) [
   | inl l ↦ rw l.lt refl
   | inr (inl s) ↦
       let lt : nat_lt y x ≡ false = lt_back_same x y s in
@@ -69,8 +69,8 @@ below_from (x ∷ p) (y ∷ q) h k = elim (order_tells x y) [
 ]
 
 -- what one below the other says of the first numbers
-pub below_tells : (x y : ℕ) (p q : List ℕ) → is_below (x ∷ p) (y ∷ q) ≡ true → IsLess x y ⊎ (IsSame x y × (is_below p q ≡ true))
-below_tells x y p q h = elim (order_tells x y) [
+pub below_decides : (x y : ℕ) (p q : List ℕ) → is_below (x ∷ p) (y ∷ q) ≡ true → IsLess x y ⊎ (IsSame x y × (is_below p q ≡ true))
+below_decides x y p q h = elim (order_decides x y) [
   | inl l ↦ inl l
   | inr (inl s) ↦ inr (s, rw (s.lt, s.eq) at h)
   | inr (inr l) ↦
@@ -84,12 +84,12 @@ pub below_then : (p q r : List ℕ) → is_below p q ≡ true → is_below q r �
 below_then [] q r h k = absurd (cc)
 below_then (x ∷ p) [] r h k = absurd (cc)
 below_then (x ∷ p) (y ∷ q) [] h k = absurd (cc)
-below_then (x ∷ p) (y ∷ q) (z ∷ r) h k = elim (below_tells x y p q h) [
-  | inl a ↦ elim (below_tells y z q r k) [
+below_then (x ∷ p) (y ∷ q) (z ∷ r) h k = elim (below_decides x y p q h) [
+  | inl a ↦ elim (below_decides y z q r k) [
     | inl b ↦ let c : IsLess x z = less_then x y z a b in rw c.lt refl
     | inr b ↦ let lt : nat_lt x z ≡ true = ap (λ n. nat_lt x n) (sym b.0.same) ∙ a.lt in rw lt refl
   ]
-  | inr a ↦ elim (below_tells y z q r k) [
+  | inr a ↦ elim (below_decides y z q r k) [
     | inl b ↦ let lt : nat_lt x z ≡ true = ap (λ n. nat_lt n z) a.0.same ∙ b.lt in rw lt refl
     | inr b ↦
         let lt : nat_lt x z ≡ false = ap (λ n. nat_lt n z) a.0.same ∙ b.0.lt in
@@ -102,7 +102,7 @@ below_then (x ∷ p) (y ∷ q) (z ∷ r) h k = elim (below_tells x y p q h) [
 pub below_lt : (p q a b : List ℕ) → is_below p q ≡ true → name_lt (p ++ a) (q ++ b) ≡ true
 below_lt [] q a b h = absurd (cc)
 below_lt (x ∷ p) [] a b h = absurd (cc)
-below_lt (x ∷ p) (y ∷ q) a b h = elim (below_tells x y p q h) [
+below_lt (x ∷ p) (y ∷ q) a b h = elim (below_decides x y p q h) [
   | inl l ↦ rw l.lt refl
   | inr s ↦ rw (s.0.lt, s.0.eq) (below_lt p q a b s.1)
 ]
@@ -147,7 +147,7 @@ below_itself_lt p q h = ap (λ n. name_lt n q) (sym (append-nil p)) ∙ ap (name
 pub below_more : (p q rest : List ℕ) → is_below p q ≡ true → is_below p (q ++ rest) ≡ true
 below_more [] q rest h = absurd (cc)
 below_more (x ∷ p) [] rest h = absurd (cc)
-below_more (x ∷ p) (y ∷ q) rest h = elim (below_tells x y p q h) [
+below_more (x ∷ p) (y ∷ q) rest h = elim (below_decides x y p q h) [
   | inl l ↦ rw l.lt refl
   | inr s ↦ rw (s.0.lt, s.0.eq) (below_more p q rest s.1)
 ]
@@ -157,8 +157,8 @@ pub below_lt_then : (p q r : List ℕ) → is_below p q ≡ true → name_lt q r
 below_lt_then [] q r h k = absurd (cc)
 below_lt_then (x ∷ p) [] r h k = absurd (cc)
 below_lt_then (x ∷ p) (y ∷ q) [] h k = absurd (cc)
-below_lt_then (x ∷ p) (y ∷ q) (z ∷ r) h k = elim (below_tells x y p q h) [
-  | inl a ↦ elim (order_tells y z) [
+below_lt_then (x ∷ p) (y ∷ q) (z ∷ r) h k = elim (below_decides x y p q h) [
+  | inl a ↦ elim (order_decides y z) [
     | inl b ↦ let c : IsLess x z = less_then x y z a b in rw c.lt refl
     | inr (inl b) ↦ let lt : nat_lt x z ≡ true = ap (λ n. nat_lt x n) (sym b.same) ∙ a.lt in rw lt refl
     | inr (inr b) ↦
@@ -167,7 +167,7 @@ below_lt_then (x ∷ p) (y ∷ q) (z ∷ r) h k = elim (below_tells x y p q h) [
         let f : false ≡ true = rw (lt, eq) at k in
         absurd (cc)
   ]
-  | inr a ↦ elim (order_tells y z) [
+  | inr a ↦ elim (order_decides y z) [
     | inl b ↦ let lt : nat_lt x z ≡ true = ap (λ n. nat_lt n z) a.0.same ∙ b.lt in rw lt refl
     | inr (inl b) ↦
         let lt : nat_lt x z ≡ false = ap (λ n. nat_lt n z) a.0.same ∙ b.lt in
@@ -186,7 +186,7 @@ below_lt_then (x ∷ p) (y ∷ q) (z ∷ r) h k = elim (below_tells x y p q h) [
 pub above_not_lt : (p q : List ℕ) → is_below p q ≡ true → name_lt q p ≡ false
 above_not_lt [] q h = absurd (cc)
 above_not_lt (x ∷ p) [] h = absurd (cc)
-above_not_lt (x ∷ p) (y ∷ q) h = elim (below_tells x y p q h) [
+above_not_lt (x ∷ p) (y ∷ q) h = elim (below_decides x y p q h) [
   | inl l ↦ let lt : nat_lt y x ≡ false = lt_back x y l in let eq : nat_eq y x ≡ false = eq_back x y l in rw (lt, eq) refl
   | inr s ↦ let lt : nat_lt y x ≡ false = lt_back_same x y s.0 in let eq : nat_eq y x ≡ true = eq_back_same x y s.0 in rw (lt, eq) (above_not_lt p q s.1)
 ]
@@ -195,7 +195,7 @@ above_not_lt (x ∷ p) (y ∷ q) h = elim (below_tells x y p q h) [
 pub above_not_begun : (p q : List ℕ) → is_below p q ≡ true → is_prefix p q ≡ false
 above_not_begun [] q h = absurd (cc)
 above_not_begun (x ∷ p) [] h = absurd (cc)
-above_not_begun (x ∷ p) (y ∷ q) h = elim (below_tells x y p q h) [
+above_not_begun (x ∷ p) (y ∷ q) h = elim (below_decides x y p q h) [
   | inl l ↦ rw l.eq refl
   | inr s ↦ rw s.0.eq (above_not_begun p q s.1)
 ]

@@ -12,7 +12,7 @@ use Rattle.setphase_core.specs.Outcomes.{has_key}
 use Rattle.setphase_core.specs.Registry.{rows_of, prefixes_of}
 use Rattle.setphase_core.specs.Searching.{prefix_at, IsOwnerPlace}
 use Rattle.setphase_core.specs.Staging.{CallAt, object_at, entry_at, no_entry, assignments_of, Without, after_call_at, after_calls_at, AreByPlanAt, AreCalled, commit_at, undo_at, undos_at}
-use Rattle.setphase_core.specs.Variables.{Written}
+use Rattle.setphase_core.specs.Variables.{NamedAssignment}
 use Rattle.setphase_core.proofs.Assigns.{different}
 use Rattle.setphase_core.proofs.Holding.{object_at-released}
 
@@ -72,7 +72,7 @@ undos-cons keys e es =
     ap (map (undo_at keys)) (reverse-append (e ∷ []) es)
     ∙ map-append (undo_at keys) (reverse es) (e ∷ [])
 
-pub undo_calls-cons : (keys : List SettingKey) (x : Written) (xs : List Written) →
+pub undo_calls-cons : (keys : List SettingKey) (x : NamedAssignment) (xs : List NamedAssignment) →
     map (undo_call keys) (reverse (x ∷ xs))
     ≡ map (undo_call keys) (reverse xs) ++ undo_call keys x ∷ []
 undo_calls-cons keys x xs =

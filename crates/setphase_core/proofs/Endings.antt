@@ -1,4 +1,4 @@
--- What a Set leaves, told by its variables in place of its entries.
+-- What a Set leaves, reported by its variables in place of its entries.
 use Rattle.std.proofs.Common.{◌≡◌, ℕ, zero, suc, ◌-◌, ◌<◌, ◌∙◌, sym, ap, subst, refl, Bool, true, false, ◌||◌, cond, if◌then◌else◌, List, [], ◌∷◌, ◌++◌, length, map, take, drop, reverse, slice_get, Option, Some, None, arith}
 use Rattle.std.proofs.lemmas.List.{length-map, take-map}
 use Rattle.setting_keys.specs.declared.SettingKey.{SettingKey}
@@ -10,7 +10,7 @@ use Rattle.setphase_core.specs.Objects.{ObjectRow, ObjectState, object_after_rel
 use Rattle.setphase_core.specs.Registry.{rows_of, prefixes_of}
 use Rattle.setphase_core.specs.Searching.{IsOwnerPlace}
 use Rattle.setphase_core.specs.Settings.{same_setting}
-use Rattle.setphase_core.specs.Variables.{Written}
+use Rattle.setphase_core.specs.Variables.{NamedAssignment}
 use Rattle.setphase_core.specs.Together.{assign, assignments}
 use Rattle.setphase_core.specs.Outcomes.{has_key, keys_of, firsts, committed_of, writers_of, stuck, CanFail}
 use Rattle.setphase_core.specs.Staging.{CallAt, entry_at, assignment_of_entry, assignments_of, Without, IsDistinct, AreCommitted, HasFailed, AreCalled, commit_at, commits_at, undo_at, undos_at, entries_of}
@@ -24,16 +24,16 @@ use Rattle.setphase_core.proofs.Stuck.{entry_keys, absent}
 -- ---- entries and their variables
 
 -- The entries are those of these variables: each writes what its variable does, at its object.
-abbrev pub AreFor : List ObjectRow → List Staged → List Written → Type 0
+abbrev pub AreFor : List ObjectRow → List Staged → List NamedAssignment → Type 0
 AreFor rows [] [] = Unit {0}
 AreFor rows (e ∷ es) (x ∷ xs) =
     (assignment_of_entry e ≡ x.assignment) × IsOwnerPlace (prefixes_of rows) x.name (Some e.object)
     × AreFor rows es xs
 AreFor rows es xs = ⊥
 
-are_for : (rows : List ObjectRow) (es : List Staged) (xs : List Written) →
+are_for : (rows : List ObjectRow) (es : List Staged) (xs : List NamedAssignment) →
     assignments_of es ≡ assignments xs →
-    ((k : ℕ) (x : Written) → slice_get xs k ≡ Some x →
+    ((k : ℕ) (x : NamedAssignment) → slice_get xs k ≡ Some x →
     IsOwnerPlace (prefixes_of rows) x.name (Some (entry_at es k).object)) → AreFor rows es xs
 are_for rows [] [] q placed = tt
 are_for rows [] (x ∷ xs) q placed = absurd (cc)
@@ -43,7 +43,7 @@ are_for rows (e ∷ es) (x ∷ xs) q placed =
     let tail : assignments_of es ≡ assignments xs = cc in
     (head, placed 0 x refl, are_for rows es xs tail (λ k y at. placed (suc k) y at))
 
-are_for-take : (rows : List ObjectRow) (k : ℕ) (es : List Staged) (xs : List Written) →
+are_for-take : (rows : List ObjectRow) (k : ℕ) (es : List Staged) (xs : List NamedAssignment) →
     AreFor rows es xs → AreFor rows (take k es) (take k xs)
 are_for-take rows zero es xs h = tt
 are_for-take rows (suc k) [] [] h = tt
@@ -51,8 +51,8 @@ are_for-take rows (suc k) [] (x ∷ xs) h = absurd h
 are_for-take rows (suc k) (e ∷ es) [] h = absurd h
 are_for-take rows (suc k) (e ∷ es) (x ∷ xs) h = (h.0, h.1, are_for-take rows k es xs h.2)
 
-are_for-one : (rows : List ObjectRow) (b : Bool) (e : Staged) (x : Written) (es : List Staged)
-    (xs : List Written) → assignment_of_entry e ≡ x.assignment →
+are_for-one : (rows : List ObjectRow) (b : Bool) (e : Staged) (x : NamedAssignment) (es : List Staged)
+    (xs : List NamedAssignment) → assignment_of_entry e ≡ x.assignment →
     IsOwnerPlace (prefixes_of rows) x.name (Some e.object) → AreFor rows es xs →
     AreFor rows (cond b (e ∷ es) es) (cond b (x ∷ xs) xs)
 are_for-one rows true e x es xs same owner h = (same, owner, h)
@@ -60,14 +60,14 @@ are_for-one rows false e x es xs same owner h = h
 
 -- Those whose settings are among some.
 are_for-picked : (rows : List ObjectRow) (keys : List SettingKey) (es : List Staged)
-    (xs : List Written) → AreFor rows es xs → AreFor rows (entries_of keys es) (writers_of keys xs)
+    (xs : List NamedAssignment) → AreFor rows es xs → AreFor rows (entries_of keys es) (writers_of keys xs)
 are_for-picked rows keys [] [] h = tt
 are_for-picked rows keys [] (x ∷ xs) h = absurd h
 are_for-picked rows keys (e ∷ es) [] h = absurd h
 are_for-picked rows keys (e ∷ es) (x ∷ xs) h =
     subst (λ b. AreFor rows (cond (has_key keys e.slot.key) (e ∷ entries_of keys es) (entries_of keys es)) (cond b (x ∷ writers_of keys xs) (writers_of keys xs))) (ap (λ (a : Assignment). has_key keys a.key) h.0) (are_for-one rows (has_key keys e.slot.key) e x (entries_of keys es) (writers_of keys xs) h.0 h.1 (are_for-picked rows keys es xs h.2))
 
-assignments_for : (rows : List ObjectRow) (es : List Staged) (xs : List Written) →
+assignments_for : (rows : List ObjectRow) (es : List Staged) (xs : List NamedAssignment) →
     AreFor rows es xs → assignments_of es ≡ assignments xs
 assignments_for rows [] [] h = refl
 assignments_for rows [] (x ∷ xs) h = absurd h
@@ -76,7 +76,7 @@ assignments_for rows (e ∷ es) (x ∷ xs) h =
     ap (λ a. a ∷ assignments_of es) h.0
     ∙ ap (λ ps. x.assignment ∷ ps) (assignments_for rows es xs h.2)
 
-keys_for : (rows : List ObjectRow) (es : List Staged) (xs : List Written) →
+keys_for : (rows : List ObjectRow) (es : List Staged) (xs : List NamedAssignment) →
     AreFor rows es xs → entry_keys es ≡ keys_of xs
 keys_for rows [] [] h = refl
 keys_for rows [] (x ∷ xs) h = absurd h
@@ -85,19 +85,19 @@ keys_for rows (e ∷ es) (x ∷ xs) h =
     ap (λ (a : Assignment). a.key ∷ entry_keys es) h.0
     ∙ ap (λ ks. x.assignment.key ∷ ks) (keys_for rows es xs h.2)
 
-key_for : (rows : List ObjectRow) (es : List Staged) (xs : List Written) (k : ℕ) (x : Written) →
+key_for : (rows : List ObjectRow) (es : List Staged) (xs : List NamedAssignment) (k : ℕ) (x : NamedAssignment) →
     AreFor rows es xs → slice_get xs k ≡ Some x → (entry_at es k).slot.key ≡ x.assignment.key
 key_for rows [] [] k x h at = absurd (cc)
 key_for rows [] (y ∷ xs) k x h at = absurd h
 key_for rows (e ∷ es) [] k x h at = absurd h
 key_for rows (e ∷ es) (y ∷ xs) zero x h at =
     let same : y ≡ x = cc in
-    ap (λ (a : Assignment). a.key) h.0 ∙ ap (λ (z : Written). z.assignment.key) same
+    ap (λ (a : Assignment). a.key) h.0 ∙ ap (λ (z : NamedAssignment). z.assignment.key) same
 key_for rows (e ∷ es) (y ∷ xs) (suc k) x h at = key_for rows es xs k x h.2 at
 
 -- ---- the calls of entries, by the names of their variables
 
-commits_for : (rows : List ObjectRow) (fails : Bool) (es : List Staged) (xs : List Written) →
+commits_for : (rows : List ObjectRow) (fails : Bool) (es : List Staged) (xs : List NamedAssignment) →
     AreFor rows es xs → CallsFor rows (map (commit_at fails) es) (map (commit_call fails) xs)
 commits_for rows fails [] [] h = tt
 commits_for rows fails [] (x ∷ xs) h = absurd h
@@ -105,7 +105,7 @@ commits_for rows fails (e ∷ es) [] h = absurd h
 commits_for rows fails (e ∷ es) (x ∷ xs) h = (refl, h.1, commits_for rows fails es xs h.2)
 
 undos_for : (rows : List ObjectRow) (keys : List SettingKey) (es : List Staged)
-    (xs : List Written) → AreFor rows es xs →
+    (xs : List NamedAssignment) → AreFor rows es xs →
     CallsFor rows (undos_at keys es) (map (undo_call keys) (reverse xs))
 undos_for rows keys [] [] h = tt
 undos_for rows keys [] (x ∷ xs) h = absurd h
@@ -130,7 +130,7 @@ refused_objects [] = refl
 refused_objects (o ∷ os) = ap (λ zs. object_after_release o ∷ zs) (refused_objects os)
 
 -- A Set of whose commits none failed.
-pub done_objects : (os ns : List ObjectState) (ws : List Written) (es : List Staged) →
+pub done_objects : (os ns : List ObjectState) (ws : List NamedAssignment) (es : List Staged) →
     AreStaged (rows_of os) ws es →
     AreCalled (commits_at es None) (map object_after_release os) (map object_after_release ns) →
     (map object_after_release ns ≡ map (object_after_set (calls_by ws None [])) os)
@@ -146,7 +146,7 @@ or_assoc : (a b c : Bool) → ((a || b) || c) ≡ (a || (b || c))
 or_assoc true b c = refl
 or_assoc false b c = refl
 
-has_key-last : (xs : List Written) (x : Written) (k : SettingKey) →
+has_key-last : (xs : List NamedAssignment) (x : NamedAssignment) (k : SettingKey) →
     has_key (keys_of (xs ++ x ∷ [])) k ≡ (has_key (keys_of xs) k || same_setting x.assignment.key k)
 has_key-last [] x k = or_false (same_setting x.assignment.key k)
   where
@@ -157,14 +157,14 @@ has_key-last (y ∷ xs) x k =
     ap (λ b. same_setting y.assignment.key k || b) (has_key-last xs x k)
     ∙ sym (or_assoc (same_setting y.assignment.key k) (has_key (keys_of xs) k) (same_setting x.assignment.key k))
 
--- A setting that is there needs no second look.
+-- A setting that is there needs no second lookup.
 seen_twice : (a b : Bool) (r s : Bool) → (b ≡ true → a ≡ true) →
     ((a || b) || r) ≡ ((a || b) || s) → (a || r) ≡ (a || (b || s))
 seen_twice true b r s h e = refl
 seen_twice false true r s h e = let no : false ≡ true = h refl in absurd (cc)
 seen_twice false false r s h e = e
 
-firsts_one : (xs later ws : List Written) (x : Written) (k : SettingKey) (b : Bool) →
+firsts_one : (xs later ws : List NamedAssignment) (x : NamedAssignment) (k : SettingKey) (b : Bool) →
     has_key (keys_of xs) x.assignment.key ≡ b →
     ((has_key (keys_of xs) k || same_setting x.assignment.key k) || has_key (keys_of later) k)
     ≡ ((has_key (keys_of xs) k || same_setting x.assignment.key k) || has_key (keys_of ws) k) →
@@ -178,7 +178,7 @@ firsts_one xs later ws x k false at e =
     ∙ e
     ∙ or_assoc (has_key (keys_of xs) k) (same_setting x.assignment.key k) (has_key (keys_of ws) k)
 
-firsts_have : (xs ws : List Written) (k : SettingKey) →
+firsts_have : (xs ws : List NamedAssignment) (k : SettingKey) →
     (has_key (keys_of xs) k || has_key (keys_of (firsts xs ws)) k)
     ≡ (has_key (keys_of xs) k || has_key (keys_of ws) k)
 firsts_have xs [] k = refl
@@ -186,7 +186,7 @@ firsts_have xs (x ∷ ws) k =
     firsts_one xs (firsts (xs ++ x ∷ []) ws) ws x k (has_key (keys_of xs) x.assignment.key) refl
     (subst (λ b. (b || has_key (keys_of (firsts (xs ++ x ∷ []) ws)) k) ≡ (b || has_key (keys_of ws) k)) (has_key-last xs x k) (firsts_have (xs ++ x ∷ []) ws k))
 
-committed_have : (ws : List Written) (k : SettingKey) →
+committed_have : (ws : List NamedAssignment) (k : SettingKey) →
     has_key (keys_of (committed_of ws)) k ≡ has_key (keys_of ws) k
 committed_have ws k = firsts_have [] ws k
 
@@ -205,15 +205,15 @@ one_at (y ∷ xs) (suc i) x h = one_at xs i x h
 
 -- ---- a Set whose commit of the entry at a place failed
 
-module _ (os : List ObjectState) (ws : List Written) (es : List Staged) (i : ℕ)
+module _ (os : List ObjectState) (ws : List NamedAssignment) (es : List Staged) (i : ℕ)
     (keys : List SettingKey) (staged : AreStaged (rows_of os) ws es) (within : i < length es)
     (distinct : IsDistinct (assignments_of es)) where
   all_for : AreFor (rows_of os) es (committed_of ws)
   all_for = are_for (rows_of os) es (committed_of ws) staged.written staged.placed
 
-  at : (x : Written) × (slice_get (committed_of ws) i ≡ Some x)
+  at : (x : NamedAssignment) × (slice_get (committed_of ws) i ≡ Some x)
   at =
-      there_at (committed_of ws) i (omega (arith, within, ap length staged.written, length-map es assignment_of_entry, length-map (committed_of ws) (λ (x : Written). x.assignment)))
+      there_at (committed_of ws) i (omega (arith, within, ap length staged.written, length-map es assignment_of_entry, length-map (committed_of ws) (λ (x : NamedAssignment). x.assignment)))
 
   number_is : IsNumber ws (committed_of ws) i (entry_at es i).number at.0
   number_is = staged.numbered i at.0 at.1
@@ -230,8 +230,8 @@ module _ (os : List ObjectState) (ws : List Written) (es : List Staged) (i : ℕ
 
   pub stuck_keys : keys ≡ entry_keys (entries_of keys (take i es)) →
       keys ≡ keys_of (stuck ws (entry_at es i).number keys)
-  stuck_keys told =
-      told
+  stuck_keys reported =
+      reported
       ∙ keys_for (rows_of os) (entries_of keys (take i es)) (stuck ws (entry_at es i).number keys) stuck_for
 
   -- No variable before it writes the setting whose commit failed.
@@ -246,23 +246,23 @@ module _ (os : List ObjectState) (ws : List Written) (es : List Staged) (i : ℕ
   -- These are notes that the Set can have.
   pub can_fail : keys ≡ entry_keys (entries_of keys (take i es)) →
       CanFail ws (Some (entry_at es i).number) keys
-  can_fail told = (
+  can_fail reported = (
     number_is.least,
     number_is.most,
     (λ x there.
         let same : at.0 ≡ x = same_value (slice_get ws ((entry_at es i).number - 1)) at.0 x number_is.there there in
-        ap (has_key (keys_of (take ((entry_at es i).number - 1) ws))) (sym (key_for (rows_of os) es (committed_of ws) i at.0 all_for at.1 ∙ ap (λ (z : Written). z.assignment.key) same))
+        ap (has_key (keys_of (take ((entry_at es i).number - 1) ws))) (sym (key_for (rows_of os) es (committed_of ws) i at.0 all_for at.1 ∙ ap (λ (z : NamedAssignment). z.assignment.key) same))
         ∙ first_of_its_key),
-    stuck_keys told,
+    stuck_keys reported,
   )
     where
-      same_value : (o : Option Written) (x y : Written) → o ≡ Some x → o ≡ Some y → x ≡ y
+      same_value : (o : Option NamedAssignment) (x y : NamedAssignment) → o ≡ Some x → o ≡ Some y → x ≡ y
       same_value o x y p q = cc
 
   calls_are : CallsFor (rows_of os) (commits_at es (Some i) ++ undos_at keys (take i es)) (calls_by ws (Some (entry_at es i).number) keys)
   calls_are =
       let rows = rows_of os in
-      let front : List Written = committed_of (take ((entry_at es i).number - 1) ws) in
+      let front : List NamedAssignment = committed_of (take ((entry_at es i).number - 1) ws) in
       let for_front : AreFor (rows_of os) (take i es) (committed_of (take ((entry_at es i).number - 1) ws))
       = subst (AreFor (rows_of os) (take i es)) (sym number_is.before) (are_for-take (rows_of os) i es (committed_of ws) all_for) in
       let failing : CallsFor (rows_of os) (commit_at true (entry_at es i) ∷ []) (map (commit_call true) (take 1 (drop ((entry_at es i).number - 1) ws)))
@@ -272,20 +272,20 @@ module _ (os : List ObjectState) (ws : List Written) (es : List Staged) (i : ℕ
       (undos_for rows keys (take i es) front for_front)
 
   -- What the objects are, by the calls of their devices.
-  pub calls_told : (made undone : List ObjectState) →
+  pub calls_reported : (made undone : List ObjectState) →
       AreCalled (commits_at es (Some i)) (map object_after_release os) made →
       AreCalled (undos_at keys (take i es)) made undone →
       (undone ≡ map (object_after_set (calls_by ws (Some (entry_at es i).number) keys)) os)
       × FollowPlans (calls_by ws (Some (entry_at es i).number) keys) os
-  calls_told made undone commits undos =
+  calls_reported made undone commits undos =
       after_set os undone (commits_at es (Some i) ++ undos_at keys (take i es)) (calls_by ws (Some (entry_at es i).number) keys) calls_are
       (called-append (commits_at es (Some i)) (undos_at keys (take i es)) (map object_after_release os) made undone commits undos)
 
   -- What the world is: the settings that could not be undone keep their new values.
-  pub world_told : (w v u : World) (rs : List ObjectState) → HasFailed w v rs es i →
+  pub world_reported : (w v u : World) (rs : List ObjectState) → HasFailed w v rs es i →
       ((before : World) → AreCommitted before v rs es i →
       v ≡ assign (take i (assignments_of es)) before →
       u ≡ assign (assignments_of (entries_of keys (take i es))) before) →
       u ≡ assign (assignments (stuck ws (entry_at es i).number keys)) w
-  world_told w v u rs failed undone =
+  world_reported w v u rs failed undone =
       undone w failed.stands failed.world ∙ ap (λ ps. assign ps w) stuck_assignments

@@ -182,9 +182,9 @@ record IsLeast (p : FamilyRow → Bool) (rows : List FamilyRow) (y : FamilyRow) 
   among : (q : FamilyRow → Bool) → list_any q rows ≡ false → q y ≡ false
   first : AllByRecursion (λ x. p x ≡ true → index_before x y ≡ false) rows
 
-abbrev TellsLeast : (FamilyRow → Bool) → List FamilyRow → Option FamilyRow → Type 0
-TellsLeast p rows None = AllByRecursion (λ x. p x ≡ false) rows
-TellsLeast p rows (Some y) = IsLeast p rows y
+abbrev DecidesLeast : (FamilyRow → Bool) → List FamilyRow → Option FamilyRow → Type 0
+DecidesLeast p rows None = AllByRecursion (λ x. p x ≡ false) rows
+DecidesLeast p rows (Some y) = IsLeast p rows y
 
 not_before_itself : (r : FamilyRow) → index_before r r ≡ false
 not_before_itself r = lt_itself (family_index r)
@@ -205,24 +205,24 @@ rest_least p r rows y e h = record {
   first = (e, h.first);
 }
 
-choose_least : (p : FamilyRow → Bool) (r : FamilyRow) (rows : List FamilyRow) (y : FamilyRow) (b : Bool) → index_before y r ≡ b → p r ≡ true → IsLeast p rows y → TellsLeast p (r ∷ rows) (cond b (Some y) (Some r))
+choose_least : (p : FamilyRow → Bool) (r : FamilyRow) (rows : List FamilyRow) (y : FamilyRow) (b : Bool) → index_before y r ≡ b → p r ≡ true → IsLeast p rows y → DecidesLeast p (r ∷ rows) (cond b (Some y) (Some r))
 choose_least p r rows y true e pr h = rest_least p r rows y (λ f. index_order.one_way y r e) h
 choose_least p r rows y false e pr h =
     head_least p r rows pr (all_weaker (λ x. p x ≡ true → index_before x y ≡ false) (λ x. p x ≡ true → index_before x r ≡ false) rows (λ x k f. index_order.chain x y r (k f) e) h.first)
 
-one_more_least : (p : FamilyRow → Bool) (r : FamilyRow) (rows : List FamilyRow) (best : Option FamilyRow) (b : Bool) → p r ≡ b → TellsLeast p rows best → TellsLeast p (r ∷ rows) (cond b (better r best) best)
+one_more_least : (p : FamilyRow → Bool) (r : FamilyRow) (rows : List FamilyRow) (best : Option FamilyRow) (b : Bool) → p r ≡ b → DecidesLeast p rows best → DecidesLeast p (r ∷ rows) (cond b (better r best) best)
 one_more_least p r rows None false e h = (e, h)
 one_more_least p r rows (Some y) false e h = rest_least p r rows y (λ f. absurd (both_ways (p r) e f)) h
 one_more_least p r rows None true e h =
     head_least p r rows e (all_weaker (λ x. p x ≡ false) (λ x. p x ≡ true → index_before x r ≡ false) rows (λ x k f. absurd (both_ways (p x) k f)) h)
 one_more_least p r rows (Some y) true e h = choose_least p r rows y (index_before y r) refl e h
 
-least_tells : (p : FamilyRow → Bool) (rows : List FamilyRow) → TellsLeast p rows (least p rows)
-least_tells p [] = tt
-least_tells p (r ∷ rows) = one_more_least p r rows (least p rows) (p r) refl (least_tells p rows)
+least_decides : (p : FamilyRow → Bool) (rows : List FamilyRow) → DecidesLeast p rows (least p rows)
+least_decides p [] = tt
+least_decides p (r ∷ rows) = one_more_least p r rows (least p rows) (p r) refl (least_decides p rows)
 
 -- its index is that of any row of the list that none which passes is before
-least_index : (p : FamilyRow → Bool) (rows : List FamilyRow) (n : ℕ) (best : Option FamilyRow) → IsUnbeatenAt p index_before rows n → TellsLeast p rows best →
+least_index : (p : FamilyRow → Bool) (rows : List FamilyRow) (n : ℕ) (best : Option FamilyRow) → IsUnbeatenAt p index_before rows n → DecidesLeast p rows best →
     option_map family_index best ≡ option_map family_index (slice_get rows n)
 least_index p rows n None u h =
     let parts = and_parts (p u.row) (not (list_any (λ other. p other && index_before other u.row) rows)) u.unbeaten in
@@ -243,7 +243,7 @@ least_index p rows n (Some y) u h =
     second true b e f = f
     second false b e f = absurd (cc)
 
-least_none : (p : FamilyRow → Bool) (rows : List FamilyRow) (best : Option FamilyRow) → list_any p rows ≡ false → TellsLeast p rows best → best ≡ None
+least_none : (p : FamilyRow → Bool) (rows : List FamilyRow) (best : Option FamilyRow) → list_any p rows ≡ false → DecidesLeast p rows best → best ≡ None
 least_none p rows None e h = refl
 least_none p rows (Some y) e h = absurd (both_ways (p y) (h.among p e) h.passes)
 
@@ -297,12 +297,12 @@ pub after_there : (rows : List FamilyRow) (f : FamilyRow → Value) (after : Opt
     index_after (by_family rows f) after ≡ Some (family_index row)
 after_there rows f after n row e here =
     let p = is_behind (unwrap_or after []) in
-    after_found rows f after ∙ least_index p rows n (least p rows) (some_is_unbeaten index_order p rows n e) (least_tells p rows) ∙ ap (option_map family_index) here
+    after_found rows f after ∙ least_index p rows n (least p rows) (some_is_unbeaten index_order p rows n e) (least_decides p rows) ∙ ap (option_map family_index) here
 
 pub after_none : (rows : List FamilyRow) (f : FamilyRow → Value) (after : Option (List ℕ)) → next_family rows (unwrap_or after []) ≡ None → index_after (by_family rows f) after ≡ None
 after_none rows f after e =
     let p = is_behind (unwrap_or after []) in
-    after_found rows f after ∙ ap (option_map family_index) (least_none p rows (least p rows) ((none_where_none_passes index_order p rows).0 e) (least_tells p rows))
+    after_found rows f after ∙ ap (option_map family_index) (least_none p rows (least p rows) ((none_where_none_passes index_order p rows).0 e) (least_decides p rows))
 
 -- ---- indexes rise
 
@@ -371,8 +371,8 @@ module _ (rows : List FamilyRow) (right : AreRight family_rules (map written_fam
       let all : wrong_at family_rules (map written_family rows) k ≡ None = right k in
       rw here at all
 
-  right_tells : (k : ℕ) (d : FamilyRow) → k < length rows → (family_rules.lengths (written_family (get_or rows k d)) ≡ true) × (has_earlier family_rules (take k (map written_family rows)) (written_family (get_or rows k d)) ≡ false)
-  right_tells k d lt =
+  right_decides : (k : ℕ) (d : FamilyRow) → k < length rows → (family_rules.lengths (written_family (get_or rows k d)) ≡ true) × (has_earlier family_rules (take k (map written_family rows)) (written_family (get_or rows k d)) ≡ false)
+  right_decides k d lt =
       right_parts (family_rules.lengths (written_family (get_or rows k d))) (family_rules.fields (written_family (get_or rows k d)))
       (has_earlier family_rules (take k (map written_family rows)) (written_family (get_or rows k d))) (right_at k d lt)
 
@@ -385,13 +385,13 @@ module _ (rows : List FamilyRow) (right : AreRight family_rules (map written_fam
         let there : get_or earlier i (written_family d) ≡ written_family (get_or rows i d) = get_or-take j (map written_family rows) i (written_family d) lt ∙ get_or-map written_family rows i d (written_family d) (omega (arith, lt, within)) in
         let test : WrittenFamily → Bool = λ e. same_family (family_row e) (family_row (written_family (get_or rows j d))) in
         let some : list_any test earlier ≡ true = list_any_at test earlier i (written_family d) long (ap test there ∙ same) in
-        absurd (both_ways (list_any test earlier) (right_tells j d within).1 some)
+        absurd (both_ways (list_any test earlier) (right_decides j d within).1 some)
   ]
 
   short_at : All (λ (row : FamilyRow). length row.view + length row.subtree ≤ MAX_FAMILY) rows
   short_at k d lt =
       let row = get_or rows k d in
-      let parts = right_tells k d lt in
+      let parts = right_decides k d lt in
       let last : nat_le (length row.view + length row.subtree) MAX_FAMILY ≡ true = last_part (has_length 1 MAX_NAME row.view) (nat_le (length row.mask) MAX_MASK) (nat_le (length row.view + length row.subtree) MAX_FAMILY) parts.0 in
       grind (arith, nat_tests, last)
 

@@ -11,7 +11,7 @@ use Rattle.setphase_core.specs.declared.world.World.{World}
 use Rattle.setphase_core.specs.declared.object.Assignment.{Assignment}
 use Rattle.setphase_core.specs.declared.staging.Standing.TheVariants.{First, Repeats, Contradicts}
 use Rattle.setphase_core.specs.Settings.{put, HasSetting, IsSettingInRange, same_setting, same_bool, same_ports, same_value}
-use Rattle.setphase_core.specs.Variables.{Written}
+use Rattle.setphase_core.specs.Variables.{NamedAssignment}
 use Rattle.setphase_core.specs.Together.{assign, assignments, contradicts}
 use Rattle.setphase_core.specs.Outcomes.{has_key, keys_of, firsts, committed_of}
 use Rattle.setphase_core.specs.Staging.{Without, IsDistinct, AreLegal}
@@ -85,7 +85,7 @@ value_last ps a e =
     ∙ ap (λ o. or_value o (cond (same_setting a.key a.key) (Some a.value) None)) e
     ∙ ap (λ b. cond b (Some a.value) None) (same_itself a.key)
 
--- What a standing tells of the value among those before.
+-- What a standing reports of the value among those before.
 pub is_first : (o : Option SettingValue) (v : SettingValue) → standing_by o v ≡ First → o ≡ None
 is_first None v e = refl
 is_first (Some u) v e = absurd (by_same (same_value u v) e)
@@ -110,10 +110,10 @@ is_contradicted (Some u) v e = refl
 
 -- ---- what is staged knows each setting that was written
 
-abbrev pub IsKnown : List Written → List Assignment → Type 0
+abbrev pub IsKnown : List NamedAssignment → List Assignment → Type 0
 IsKnown ws ps = (k : SettingKey) → has_key (keys_of ws) k ≡ is_some (value_among ps k)
 
-has-append : (ws : List Written) (x : Written) (k : SettingKey) →
+has-append : (ws : List NamedAssignment) (x : NamedAssignment) (k : SettingKey) →
     has_key (keys_of (ws ++ x ∷ [])) k ≡ (has_key (keys_of ws) k || same_setting x.assignment.key k)
 has-append [] x k = or_false (same_setting x.assignment.key k)
   where
@@ -134,14 +134,14 @@ some-or None true v = refl
 some-or None false v = refl
 some-or (Some u) b v = refl
 
-pub known_first : (ws : List Written) (ps : List Assignment) (x : Written) → IsKnown ws ps →
+pub known_first : (ws : List NamedAssignment) (ps : List Assignment) (x : NamedAssignment) → IsKnown ws ps →
     IsKnown (ws ++ x ∷ []) (ps ++ x.assignment ∷ [])
 known_first ws ps x known k =
     has-append ws x k
     ∙ ap (λ b. b || same_setting x.assignment.key k) (known k)
     ∙ sym (ap is_some (value-append ps x.assignment k) ∙ some-or (value_among ps k) (same_setting x.assignment.key k) x.assignment.value)
 
-pub known_again : (ws : List Written) (ps : List Assignment) (x : Written) → IsKnown ws ps →
+pub known_again : (ws : List NamedAssignment) (ps : List Assignment) (x : NamedAssignment) → IsKnown ws ps →
     is_some (value_among ps x.assignment.key) ≡ true → IsKnown (ws ++ x ∷ []) ps
 known_again ws ps x known there k =
     has-append ws x k ∙ ap (λ b. b || same_setting x.assignment.key k) (known k)
@@ -164,17 +164,17 @@ known_again ws ps x known there k =
 
 -- ---- what is staged agrees with all that was written
 
-abbrev pub Agrees : List Assignment → List Written → Type 0
+abbrev pub Agrees : List Assignment → List NamedAssignment → Type 0
 Agrees ps [] = Unit {0}
 Agrees ps (x ∷ ws) = (value_among ps x.assignment.key ≡ Some x.assignment.value) × Agrees ps ws
 
-pub agrees_more : (ps : List Assignment) (ws : List Written) (a : Assignment) → Agrees ps ws →
+pub agrees_more : (ps : List Assignment) (ws : List NamedAssignment) (a : Assignment) → Agrees ps ws →
     Agrees (ps ++ a ∷ []) ws
 agrees_more ps [] a h = tt
 agrees_more ps (x ∷ ws) a h =
     (value_stays ps a x.assignment.key x.assignment.value h.0, agrees_more ps ws a h.1)
 
-pub agrees_last : (ps : List Assignment) (ws : List Written) (x : Written) → Agrees ps ws →
+pub agrees_last : (ps : List Assignment) (ws : List NamedAssignment) (x : NamedAssignment) → Agrees ps ws →
     value_among ps x.assignment.key ≡ Some x.assignment.value → Agrees ps (ws ++ x ∷ [])
 agrees_last ps [] x h e = (e, tt)
 agrees_last ps (y ∷ ws) x h e = (h.0, agrees_last ps ws x h.1 e)
@@ -182,11 +182,11 @@ agrees_last ps (y ∷ ws) x h e = (h.0, agrees_last ps ws x h.1 e)
 -- ---- contradictions
 
 -- All that write a setting give it this value.
-abbrev Gives : SettingKey → SettingValue → List Written → Type 0
+abbrev Gives : SettingKey → SettingValue → List NamedAssignment → Type 0
 Gives k v [] = Unit {0}
 Gives k v (x ∷ ws) = (same_setting x.assignment.key k ≡ true → x.assignment.value ≡ v) × Gives k v ws
 
-gives_from : (ps : List Assignment) (k : SettingKey) (v : SettingValue) (ws : List Written) →
+gives_from : (ps : List Assignment) (k : SettingKey) (v : SettingValue) (ws : List NamedAssignment) →
     value_among ps k ≡ Some v → Agrees ps ws → Gives k v ws
 gives_from ps k v [] e h = tt
 gives_from ps k v (x ∷ ws) e h =
@@ -195,7 +195,7 @@ gives_from ps k v (x ∷ ws) e h =
     one : {u w : SettingValue} → Some u ≡ Some w → u ≡ w
     one e = cc
 
-none_differs : (ws : List Written) (a : Assignment) → has_key (keys_of ws) a.key ≡ false →
+none_differs : (ws : List NamedAssignment) (a : Assignment) → has_key (keys_of ws) a.key ≡ false →
     contradicts (assignments ws) a ≡ false
 none_differs [] a e = refl
 none_differs (x ∷ ws) a e = by_same (same_setting x.assignment.key a.key) (λ h. none_differs ws a h) e
@@ -206,7 +206,7 @@ none_differs (x ∷ ws) a e = by_same (same_setting x.assignment.key a.key) (λ 
     by_same true rest e = absurd (cc)
     by_same false rest e = rest e
 
-same_differ : (ws : List Written) (a : Assignment) (v : SettingValue) → Gives a.key v ws →
+same_differ : (ws : List NamedAssignment) (a : Assignment) (v : SettingValue) → Gives a.key v ws →
     contradicts (assignments ws) a ≡ (has_key (keys_of ws) a.key && not (same_value v a.value))
 same_differ [] a v h = refl
 same_differ (x ∷ ws) a v h = by_same (same_setting x.assignment.key a.key) refl (same_differ ws a v h.1)
@@ -226,7 +226,7 @@ same_differ (x ∷ ws) a v h = by_same (same_setting x.assignment.key a.key) ref
         ∙ again (not (same_value v a.value)) (has_key (keys_of ws) a.key)
     by_same false s rest = rest
 
-pub contradicts_is : (ws : List Written) (ps : List Assignment) (a : Assignment) → IsKnown ws ps →
+pub contradicts_is : (ws : List NamedAssignment) (ps : List Assignment) (a : Assignment) → IsKnown ws ps →
     Agrees ps ws →
     contradicts (assignments ws) a ≡ is_contradicting (standing_by (value_among ps a.key) a.value)
 contradicts_is ws ps a known agrees = by_value (value_among ps a.key) refl
@@ -302,7 +302,7 @@ distinct_last (p ∷ ps) a h e =
 
 -- ---- the first of each setting
 
-firsts-last : (done ws : List Written) (x : Written) →
+firsts-last : (done ws : List NamedAssignment) (x : NamedAssignment) →
     firsts done (ws ++ x ∷ [])
     ≡ firsts done ws ++ cond (has_key (keys_of (done ++ ws)) x.assignment.key) [] (x ∷ [])
 firsts-last done [] x =
@@ -318,7 +318,7 @@ firsts-last done (y ∷ ws) x =
     ∙ ap (λ zs. (cond (has_key (keys_of done) y.assignment.key) [] (y ∷ []) ++ firsts (done ++ y ∷ []) ws)
     ++ cond (has_key (keys_of zs) x.assignment.key) [] (x ∷ [])) (append_assoc done (y ∷ []) ws)
 
-pub committed-last : (ws : List Written) (x : Written) →
+pub committed-last : (ws : List NamedAssignment) (x : NamedAssignment) →
     committed_of (ws ++ x ∷ [])
     ≡ committed_of ws ++ cond (has_key (keys_of ws) x.assignment.key) [] (x ∷ [])
 committed-last ws x = firsts-last [] ws x

@@ -8,14 +8,14 @@ use Rattle.setting_keys.specs.declared.SettingKey.TheVariants.{Bridge, Made, All
 use Rattle.setting_keys.specs.declared.SettingValue.{SettingValue}
 use Rattle.setting_keys.specs.declared.SettingValue.TheVariants.{Number, Ports, Mask}
 use Rattle.setphase_core.specs.declared.object.Assignment.{Assignment}
-use Rattle.setphase_core.specs.declared.sets.Refusal.{Refusal}
+use Rattle.setphase_core.specs.declared.sets.SetRefusal.{SetRefusal}
 use Rattle.setphase_core.specs.declared.world.World.{World}
 use Rattle.setphase_core.specs.declared.object.Reservation.{Reservation}
 use Rattle.setphase_core.specs.Objects.{ObjectState, object_after_release}
 use Rattle.setphase_core.specs.Registry.{rows_of, held_count}
 use Rattle.setphase_core.specs.Settings.{families_of, put, included_by, bridge_keys, with_families_in, with_settings_of}
 use Rattle.setphase_core.specs.Together.{assign, assignments}
-use Rattle.setphase_core.specs.Variables.{Written}
+use Rattle.setphase_core.specs.Variables.{NamedAssignment}
 use Rattle.setphase_core.specs.Outcomes.{SetNotes, has_key, committed_of, writers_of, world_by, world_after_set, stuck}
 use Rattle.setphase_core.specs.Calls.{Call, object_after_set}
 use Rattle.setphase_core.proofs.FamilyPuts.{marks_over_mask, marks_over_type, marks_itself}
@@ -51,18 +51,18 @@ assign_keeps (a ∷ ps) w =
     assign_keeps ps (put w a.key a.value)
     ∙ put_keeps (assign ps (put w a.key a.value)) w a.key a.value
 
-by_keeps : (ws : List Written) (w : World) (commit : Option ℕ) (undos : List SettingKey) →
+by_keeps : (ws : List NamedAssignment) (w : World) (commit : Option ℕ) (undos : List SettingKey) →
     world_by ws w commit undos ≡ with_settings_of (world_by ws w commit undos) w
 by_keeps ws w None undos = assign_keeps (assignments ws) w
 by_keeps ws w (Some i) undos = assign_keeps (assignments (stuck ws i undos)) w
 
-after_set_keeps : (refusal : Option Refusal) (ws : List Written) (w : World) (notes : SetNotes) →
+after_set_keeps : (refusal : Option SetRefusal) (ws : List NamedAssignment) (w : World) (notes : SetNotes) →
     world_after_set refusal ws w notes ≡ with_settings_of (world_after_set refusal ws w notes) w
 after_set_keeps (Some refusal) ws w notes = with_itself w
 after_set_keeps None ws w notes = by_keeps ws w notes.commit (bridge_keys notes.undos)
 
 -- A Set changes nothing but settings.
-pub set_keeps : (refusal : Option Refusal) (ws : List Written) (w new : World)
+pub set_keeps : (refusal : Option SetRefusal) (ws : List NamedAssignment) (w new : World)
     (notes : SetNotes) → new ≡ world_after_set refusal ws w notes → new ≡ with_settings_of new w
 set_keeps refusal ws w new notes e =
     e ∙ after_set_keeps refusal ws w notes ∙ ap (λ (x : World). with_settings_of x w) (sym e)
@@ -105,7 +105,7 @@ bridge_only (l ∷ keys) (FamilyMask n) e = bridge_only keys (FamilyMask n) e
 bridge_only [] (FamilyType n) e = absurd cc
 bridge_only (l ∷ keys) (FamilyType n) e = bridge_only keys (FamilyType n) e
 
-one_kept : (x : Written) (xs : List Written) (w : World) (b : Bool) →
+one_kept : (x : NamedAssignment) (xs : List NamedAssignment) (w : World) (b : Bool) →
     (b ≡ true → is_of_bridge x.assignment.key ≡ true) →
     ((v : World) → KeepsOthers v (assign (assignments xs) v)) →
     KeepsOthers w (assign (assignments (cond b (x ∷ xs) xs)) w)
@@ -115,7 +115,7 @@ one_kept x xs w true plain rest =
     record { rows = later.rows ∙ first.rows; policy = later.policy ∙ first.policy }
 one_kept x xs w false plain rest = rest w
 
-writers_kept : (keys : List Key) (xs : List Written) (w : World) →
+writers_kept : (keys : List Key) (xs : List NamedAssignment) (w : World) →
     KeepsOthers w (assign (assignments (writers_of (bridge_keys keys) xs)) w)
 writers_kept keys [] w = record { rows = refl; policy = refl }
 writers_kept keys (x ∷ xs) w =
@@ -123,12 +123,12 @@ writers_kept keys (x ∷ xs) w =
     (bridge_only keys x.assignment.key) (writers_kept keys xs)
 
 -- Settings of a bridge that could not be undone leave the static rows, and the policy.
-pub stuck_keeps_rows : (ws : List Written) (i : ℕ) (keys : List Key) (w : World) →
+pub stuck_keeps_rows : (ws : List NamedAssignment) (i : ℕ) (keys : List Key) (w : World) →
     (assign (assignments (stuck ws i (bridge_keys keys))) w).bridge.statics.rows
     ≡ w.bridge.statics.rows
 stuck_keeps_rows ws i keys w = (writers_kept keys (committed_of (take (i - 1) ws)) w).rows
 
-pub stuck_keeps_policy : (ws : List Written) (i : ℕ) (keys : List Key) (w : World) →
+pub stuck_keeps_policy : (ws : List NamedAssignment) (i : ℕ) (keys : List Key) (w : World) →
     (assign (assignments (stuck ws i (bridge_keys keys))) w).policy ≡ w.policy
 stuck_keeps_policy ws i keys w = (writers_kept keys (committed_of (take (i - 1) ws)) w).policy
 

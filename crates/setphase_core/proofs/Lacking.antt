@@ -11,7 +11,7 @@ use Rattle.setphase_core.specs.declared.staging.Staged.{Staged}
 use Rattle.setphase_core.specs.declared.world.World.{World}
 use Rattle.setphase_core.specs.Objects.{ObjectRow}
 use Rattle.setphase_core.specs.Settings.{same_setting}
-use Rattle.setphase_core.specs.Variables.{Written}
+use Rattle.setphase_core.specs.Variables.{NamedAssignment}
 use Rattle.setphase_core.specs.Together.{assignments, lacks_row, numbers_where}
 use Rattle.setphase_core.specs.Outcomes.{has_key, keys_of, firsts, committed_of}
 use Rattle.setphase_core.specs.Staging.{assignment_of_entry, assignments_of, entry_at}
@@ -22,11 +22,11 @@ use Rattle.setphase_core.proofs.Puts.{same-exact}
 
 module _ (test : SettingKey → Bool) where
   -- one of these does
-  abbrev passes : List Written → Bool
+  abbrev passes : List NamedAssignment → Bool
   passes ws = list_any (λ x. test x.assignment.key) ws
 
   -- where none does, none writes a setting that passes
-  none_writes : (ws : List Written) (k : SettingKey) → passes ws ≡ false → test k ≡ true →
+  none_writes : (ws : List NamedAssignment) (k : SettingKey) → passes ws ≡ false → test k ≡ true →
       has_key (keys_of ws) k ≡ false
   none_writes [] k e h = refl
   none_writes (x ∷ ws) k e h =
@@ -41,7 +41,7 @@ module _ (test : SettingKey → Bool) where
       by_same false s fails rest = rest
 
   -- so one passes where one of the firsts does
-  firsts_pass : (earlier ws : List Written) → passes earlier ≡ false →
+  firsts_pass : (earlier ws : List NamedAssignment) → passes earlier ≡ false →
       passes (firsts earlier ws) ≡ passes ws
   firsts_pass earlier [] none = refl
   firsts_pass earlier (x ∷ ws) none = by_test (test x.assignment.key) refl (firsts_pass (earlier ++ x ∷ []) ws)
@@ -65,18 +65,18 @@ module _ (test : SettingKey → Bool) where
           ∙ sym (ap (λ b. b || passes ws) h)
       by_test false h more =
           let later : passes (earlier ++ x ∷ []) ≡ false =
-          list_any-append (λ (y : Written). test y.assignment.key) earlier (x ∷ [])
+          list_any-append (λ (y : NamedAssignment). test y.assignment.key) earlier (x ∷ [])
           ∙ ap (λ b. b || (test x.assignment.key || false)) none ∙ ap (λ b. b || false) h in
           other (has_key (keys_of earlier) x.assignment.key) h
           ∙ more later
           ∙ sym (ap (λ b. b || passes ws) h)
 
-  committed_pass : (ws : List Written) → passes (committed_of ws) ≡ passes ws
+  committed_pass : (ws : List NamedAssignment) → passes (committed_of ws) ≡ passes ws
   committed_pass ws = firsts_pass [] ws refl
 
   -- ---- the first number
 
-  numbers_none : (first : ℕ) (ws : List Written) → passes ws ≡ false →
+  numbers_none : (first : ℕ) (ws : List NamedAssignment) → passes ws ≡ false →
       numbers_where test first (assignments ws) ≡ []
   numbers_none first [] e = refl
   numbers_none first (x ∷ ws) e =
@@ -84,13 +84,13 @@ module _ (test : SettingKey → Bool) where
       ap (λ b. cond b (first ∷ []) [] ++ numbers_where test (first + 1) (assignments ws)) parts.0
       ∙ numbers_none (first + 1) ws parts.1
 
-  first_number : (first : ℕ) (ws : List Written) (n : ℕ) (x : Written) → slice_get ws n ≡ Some x →
+  first_number : (first : ℕ) (ws : List NamedAssignment) (n : ℕ) (x : NamedAssignment) → slice_get ws n ≡ Some x →
       passes (take n ws) ≡ false → test x.assignment.key ≡ true →
       slice_get (numbers_where test first (assignments ws)) 0 ≡ Some (first + n)
   first_number first [] n x at before here = absurd cc
   first_number first (y ∷ ws) zero x at before here =
       let same : y ≡ x = cc in
-      let passed : test y.assignment.key ≡ true = ap (λ (z : Written). test z.assignment.key) same ∙ here in
+      let passed : test y.assignment.key ≡ true = ap (λ (z : NamedAssignment). test z.assignment.key) same ∙ here in
       let number : first ≡ first + 0 = omega arith in
       ap (λ b. slice_get (cond b (first ∷ []) [] ++ numbers_where test (first + 1) (assignments ws)) 0) passed
       ∙ ap Some number
@@ -113,7 +113,7 @@ there_at [] i h = absurd (omega arith)
 there_at (x ∷ xs) zero h = (x, refl)
 there_at (x ∷ xs) (suc i) h = there_at xs i (omega arith)
 
-key_at : (es : List Staged) (cs : List Written) (k : ℕ) (x : Written) →
+key_at : (es : List Staged) (cs : List NamedAssignment) (k : ℕ) (x : NamedAssignment) →
     assignments_of es ≡ assignments cs → slice_get cs k ≡ Some x →
     (entry_at es k).slot.key ≡ x.assignment.key
 key_at es [] k x e at = absurd cc
@@ -121,7 +121,7 @@ key_at [] (y ∷ cs) k x e at = absurd cc
 key_at (d ∷ es) (y ∷ cs) zero x e at =
     let head : assignment_of_entry d ≡ y.assignment = cc in
     let same : y ≡ x = cc in
-    ap (λ (a : Assignment). a.key) head ∙ ap (λ (z : Written). z.assignment.key) same
+    ap (λ (a : Assignment). a.key) head ∙ ap (λ (z : NamedAssignment). z.assignment.key) same
 key_at (d ∷ es) (y ∷ cs) (suc k) x e at =
     let tail : assignments_of es ≡ assignments cs = cc in
     key_at es cs k x tail at
@@ -130,13 +130,13 @@ module _ (v : World) where
   abbrev lacks_one : List Staged → Bool
   lacks_one es = list_any (λ e. lacks_row v e.slot.key) es
 
-  lacks_as : (es : List Staged) (cs : List Written) → assignments_of es ≡ assignments cs →
+  lacks_as : (es : List Staged) (cs : List NamedAssignment) → assignments_of es ≡ assignments cs →
       lacks_one es ≡ passes (lacks_row v) cs
   lacks_as es cs e =
       let lacks : Assignment → Bool = λ a. lacks_row v a.key in
       sym (any-map assignment_of_entry lacks es)
       ∙ ap (list_any lacks) e
-      ∙ any-map (λ (x : Written). x.assignment) lacks cs
+      ∙ any-map (λ (x : NamedAssignment). x.assignment) lacks cs
 
   none_lacks : (es : List Staged) → first_lacking v es ≡ None → lacks_one es ≡ false
   none_lacks [] e = refl
@@ -180,16 +180,16 @@ module _ (v : World) where
 
   -- ---- the entry's number is that of the first variable that lacks its row
 
-  module _ (rows : List ObjectRow) (ws : List Written) (es : List Staged) (staged : AreStaged rows ws es) where
+  module _ (rows : List ObjectRow) (ws : List NamedAssignment) (es : List Staged) (staged : AreStaged rows ws es) where
     found : (n : ℕ) → IsFirstLacking es n →
         Some n ≡ slice_get (numbers_where (lacks_row v) 1 (assignments ws)) 0
     found n first =
         let k = first.place in
         let cs = committed_of ws in
-        let at = there_at cs k (omega (arith, first.within, ap length staged.written, length-map es assignment_of_entry, length-map cs (λ (x : Written). x.assignment))) in
+        let at = there_at cs k (omega (arith, first.within, ap length staged.written, length-map es assignment_of_entry, length-map cs (λ (x : NamedAssignment). x.assignment))) in
         let its : IsNumber ws cs k (entry_at es k).number at.0 = staged.numbered k at.0 at.1 in
         let front : assignments_of (take k es) ≡ assignments (take k cs) =
-        sym (take-map assignment_of_entry k es) ∙ ap (take k) staged.written ∙ take-map (λ (x : Written). x.assignment) k cs in
+        sym (take-map assignment_of_entry k es) ∙ ap (take k) staged.written ∙ take-map (λ (x : NamedAssignment). x.assignment) k cs in
         let before : passes (lacks_row v) (take ((entry_at es k).number - 1) ws) ≡ false =
         sym (committed_pass (lacks_row v) (take ((entry_at es k).number - 1) ws))
         ∙ ap (passes (lacks_row v)) its.before ∙ sym (lacks_as (take k es) (take k cs) front) ∙ first.before in

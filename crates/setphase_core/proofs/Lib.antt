@@ -25,7 +25,7 @@ pub mod Firsts
 pub mod Slotted
 pub mod Stages
 pub mod Assigns
-pub mod Room
+pub mod Space
 pub mod Holding
 pub mod Called
 pub mod Commits
@@ -39,7 +39,7 @@ pub mod Endings
 pub mod Lacking
 pub mod Faults
 pub mod Runs
-pub mod Told
+pub mod Reported
 pub mod Kept
 pub mod StaticIndexes
 pub mod Reserving

@@ -6,7 +6,7 @@ use Rattle.setphase_core.specs.declared.registry.RegistryFault.TheVariants.{Unso
 use Rattle.setphase_core.specs.Objects.{ObjectRow}
 use Rattle.setphase_core.specs.Registry.{prefixes_of, first_fault, is_apart, AreApart}
 use Rattle.setphase_core.specs.Searching.{prefix_at}
-use Rattle.setphase_core.proofs.Below.{is_below, below_from, below_then, below_tells, eq_back, eq_back_same}
+use Rattle.setphase_core.proofs.Below.{is_below, below_from, below_then, below_decides, eq_back, eq_back_same}
 use Rattle.std.proofs.lemmas.List.Kept.{AllPairs-cons}
 use Rattle.std.proofs.lemmas.List.Elements.{All-from_recursion}
 
@@ -38,7 +38,7 @@ ordered_from (row ∷ next ∷ rows) e =
 pub below_apart : (p q : List ℕ) → is_below p q ≡ true → is_apart p q ≡ true
 below_apart [] q h = absurd (cc)
 below_apart (x ∷ p) [] h = absurd (cc)
-below_apart (x ∷ p) (y ∷ q) h = elim (below_tells x y p q h) [
+below_apart (x ∷ p) (y ∷ q) h = elim (below_decides x y p q h) [
   | inl l ↦ let eq : nat_eq y x ≡ false = eq_back x y l in rw (l.eq, eq) refl
   | inr s ↦ let eq : nat_eq y x ≡ true = eq_back_same x y s.0 in rw (s.0.eq, eq) (below_apart p q s.1)
 ]

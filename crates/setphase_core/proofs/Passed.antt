@@ -87,9 +87,9 @@ module _ (passes : List ℕ → Bool) where
   abbrev passed_count : List ObjectRow → ℕ
   passed_count rows = count_by (λ row. passes row.prefix) rows
 
-  -- what a test said of a name
-  pub test_is : {p q : List ℕ} {said b : Bool} → p ≡ q → said ≡ passes p → said ≡ b → passes q ≡ b
-  test_is {p = p} {q = q} {said = said} {b = b} e f h = ap passes (sym e) ∙ sym f ∙ h
+  -- what a test stated of a name
+  pub test_is : {p q : List ℕ} {stated b : Bool} → p ≡ q → stated ≡ passes p → stated ≡ b → passes q ≡ b
+  test_is {p = p} {q = q} {stated = stated} {b = b} e f h = ap passes (sym e) ∙ sym f ∙ h
 
   -- ---- one object more
 

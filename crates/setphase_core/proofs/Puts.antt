@@ -343,7 +343,7 @@ put-restored w (FamilyType k) (Number n) h =
 put-restored w (FamilyType k) (Ports s) h = put-again w (FamilyType k) h
 put-restored w (FamilyType k) (Mask m) h = put-again w (FamilyType k) h
 
--- a put of another kind's value needs no second look
+-- a put of another kind's value needs no second lookup
 pub puts-commuted : (w : World) (k l : SettingKey) (v u : SettingValue) → k ≢ l → HasSetting w k → HasSetting w l → IsSettingInRange w k v → IsSettingInRange w l u → put (put w k v) l u ≡ put (put w l u) k v
 puts-commuted w (Bridge k) l (Ports s) u ne h i range fits = absurd range
 puts-commuted w (Bridge k) l (Mask a) u ne h i range fits = absurd range

@@ -12,10 +12,10 @@ use Rattle.setphase_core.specs.declared.world.World.{World}
 use Rattle.setphase_core.specs.Objects.{ObjectState}
 use Rattle.setphase_core.specs.Outcomes.{world_by, stuck, has_key, firsts, committed_of, keys_of}
 use Rattle.setphase_core.specs.Settings.{put, same_settings_of, HasSetting, IsSettingInRange}
-use Rattle.setphase_core.specs.Staging.{IsUnderWay, HasRoomFor, assignments_of, static_count, entry_at}
+use Rattle.setphase_core.specs.Staging.{IsUnderWay, HasSpaceFor, assignments_of, static_count, entry_at}
 use Rattle.setphase_core.specs.Together.{assign, assignments}
-use Rattle.setphase_core.specs.Variables.{Written}
-use Rattle.setphase_core.proofs.Room.{places-assign}
+use Rattle.setphase_core.specs.Variables.{NamedAssignment}
+use Rattle.setphase_core.proofs.Space.{places-assign}
 
 abbrev pub bridge_with : ℕ → BridgeState → BridgeState
 bridge_with places b = record b { statics = record b.statics { places = places } }
@@ -114,30 +114,30 @@ under_way_with p w os es tested committed h = record {
 }
 
 -- Once as many places were asked for as it stages static settings, there is memory for all.
-pub room_with : (w : World) (ps : List Assignment) (v : World) →
+pub space_with : (w : World) (ps : List Assignment) (v : World) →
     v ≡ record w { bridge = record w.bridge { statics = with_places_for (static_count ps) w.bridge.statics } } →
-    HasRoomFor v ps
-room_with w ps v is =
-    subst (λ (u : World). HasRoomFor u ps) (sym is)
+    HasSpaceFor v ps
+space_with w ps v is =
+    subst (λ (u : World). HasSpaceFor u ps) (sym is)
     (λ some. enough w.bridge.statics.places (length w.bridge.statics.rows + static_count ps))
   where
     enough : (a b : ℕ) → b ≤ max a b
     enough a b = omega arith
 
 -- The world after a Set, by what the variables give.
-pub after_with : (p : ℕ) (ws : List Written) (w : World) (commit : Option ℕ) (undos : List SettingKey) →
+pub after_with : (p : ℕ) (ws : List NamedAssignment) (w : World) (commit : Option ℕ) (undos : List SettingKey) →
     world_by ws (with_places p w) commit undos ≡ with_places p (world_by ws w commit undos)
 after_with p ws w None undos = assign_with p (assignments ws) w
 after_with p ws w (Some i) undos = assign_with p (assignments (stuck ws i undos)) w
 
-pub after_places : (ws : List Written) (w : World) (commit : Option ℕ) (undos : List SettingKey) →
+pub after_places : (ws : List NamedAssignment) (w : World) (commit : Option ℕ) (undos : List SettingKey) →
     (world_by ws w commit undos).bridge.statics.places ≡ w.bridge.statics.places
 after_places ws w None undos = places-assign (assignments ws) w
 after_places ws w (Some i) undos = places-assign (assignments (stuck ws i undos)) w
 
 -- ---- the first variable of each setting writes a static one where any does
 
-firsts_static : (earlier ws : List Written) →
+firsts_static : (earlier ws : List NamedAssignment) →
     static_count (assignments (firsts earlier ws)) ≤ static_count (assignments ws)
 firsts_static earlier [] = omega arith
 firsts_static earlier (x ∷ ws) = pick (has_key (keys_of earlier) x.assignment.key) (firsts_static (earlier ++ x ∷ []) ws)
@@ -147,7 +147,7 @@ firsts_static earlier (x ∷ ws) = pick (has_key (keys_of earlier) x.assignment.
     pick true less = omega (arith, less)
     pick false less = omega (arith, less)
 
-pub some_static : (ws : List Written) (es : List Staged) → assignments_of es ≡ assignments (committed_of ws) →
+pub some_static : (ws : List NamedAssignment) (es : List Staged) → assignments_of es ≡ assignments (committed_of ws) →
     0 < static_count (assignments_of es) → 0 < static_count (assignments ws)
 some_static ws es is some =
     omega (arith, some, ap static_count is, firsts_static [] ws)

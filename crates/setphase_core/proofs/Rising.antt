@@ -8,7 +8,7 @@ use Rattle.std.proofs.lemmas.List.Elements.{All-from_recursion, recursion_from_A
 use Rattle.std.proofs.lemmas.Map.Keys.{sorted_head, sorted_tail}
 use Rattle.std.proofs.lemmas.Map.Views.{All-after_first}
 use Rattle.frame_core.specs.Octets.{mac_cmp}
-use Rattle.fdb_core.specs.declared.row.Row.{Row}
+use Rattle.fdb_core.specs.declared.row.LearnedRow.{LearnedRow}
 use Rattle.fdb_core.specs.Rows.{IsRising as AreRising}
 use Rattle.fdb_core.specs.declared.static_row.StaticRow.{StaticRow}
 use Rattle.fdb_core.specs.Statics.{numbers_of, index_cmp, made_rows, IsRising as AreRisingStatics}
@@ -85,16 +85,16 @@ ports_climb : (first count : ℕ) (f : ℕ → Value) → Climbs (map (λ n. rec
 ports_climb first zero f = tt
 ports_climb first (suc count) f = (below_ports first (first + 1) count f (omega arith), ports_climb (first + 1) count f)
 
-below_addresses : (r : Row) (rows : List Row) (f : Row → Value) → AllByRecursion (λ s. mac_cmp r.address s.address ≡ Less) rows →
+below_addresses : (r : LearnedRow) (rows : List LearnedRow) (f : LearnedRow → Value) → AllByRecursion (λ s. mac_cmp r.address s.address ≡ Less) rows →
     AllByRecursion (λ (t : IndexedValue). name_lt r.address.0 t.index ≡ true) (by_address rows f)
 below_addresses r [] f h = tt
 below_addresses r (s ∷ rows) f h = (sym (name_lt-cmp r.address.0 s.address.0 Less (sym h.0)), below_addresses r rows f h.1)
 
-addresses_climb : (rows : List Row) (f : Row → Value) → AreRising rows → Climbs (by_address rows f)
+addresses_climb : (rows : List LearnedRow) (f : LearnedRow → Value) → AreRising rows → Climbs (by_address rows f)
 addresses_climb [] f h = tt
 addresses_climb (r ∷ rows) f h = (
-  below_addresses r rows f (recursion_from_All (λ s. mac_cmp r.address s.address ≡ Less) rows (All-after_first (λ (a b : Row). mac_cmp a.address b.address) r rows h)),
-  addresses_climb rows f (sorted_tail (λ (a b : Row). mac_cmp a.address b.address) r rows h),
+  below_addresses r rows f (recursion_from_All (λ s. mac_cmp r.address s.address ≡ Less) rows (All-after_first (λ (a b : LearnedRow). mac_cmp a.address b.address) r rows h)),
+  addresses_climb rows f (sorted_tail (λ (a b : LearnedRow). mac_cmp a.address b.address) r rows h),
 )
 
 -- An entry in front of those that are made goes with them where it is made itself.

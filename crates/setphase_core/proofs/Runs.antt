@@ -6,17 +6,17 @@ use Rattle.message_core.specs.declared.status.ErrorStatus.TheVariants as status
 use Rattle.setting_keys.specs.declared.SettingKey.{SettingKey}
 use Rattle.setphase_core.specs.declared.world.World.{World}
 use Rattle.setphase_core.specs.declared.object.Assignment.{Assignment}
-use Rattle.setphase_core.specs.declared.sets.Refusal.{Refusal}
+use Rattle.setphase_core.specs.declared.sets.SetRefusal.{SetRefusal}
 use Rattle.setphase_core.specs.declared.staging.Staged.{Staged}
 use Rattle.setphase_core.specs.Objects.{ObjectRow, ObjectState, object_after_release}
 use Rattle.setphase_core.specs.Registry.{rows_of}
-use Rattle.setphase_core.specs.Variables.{Written, writings}
+use Rattle.setphase_core.specs.Variables.{NamedAssignment, writings}
 use Rattle.setphase_core.specs.Together.{assign, assignments, contradicting, numbers_where, lacks_row, lacking_row, timer_numbers, timers_agree, disagreeing, joint_refusal, joint_refusals, refusal_of}
 use Rattle.setphase_core.specs.Outcomes.{CanFail, stuck}
 use Rattle.setphase_core.specs.Calls.{Call, calls_by, object_after_set, FollowPlans}
 use Rattle.setphase_core.specs.Staging.{assignments_of, entry_at, entries_of, AreCommitted, HasFailed, AreCalled, commits_at, undos_at, IsDistinct}
 use Rattle.setphase_core.specs.Tested.{first_lacking, inconsistency, AreStaged, ArePassed}
-use Rattle.setphase_core.proofs.Endings.{stuck_assignments, can_fail, calls_told}
+use Rattle.setphase_core.proofs.Endings.{stuck_assignments, can_fail, calls_reported}
 use Rattle.setphase_core.proofs.Called.{plans_released}
 use Rattle.setphase_core.proofs.Lacking.{first_lacking_staged}
 use Rattle.setphase_core.proofs.Stuck.{entry_keys}
@@ -36,7 +36,7 @@ first_if true ns = refl
 first_if false ns = refl
 
 -- The first joint refusal, by the first number of each kind.
-abbrev by_kind : Option ℕ → Option ℕ → Option ℕ → Option Refusal
+abbrev by_kind : Option ℕ → Option ℕ → Option ℕ → Option SetRefusal
 by_kind contradiction lacking timer =
     option_or (option_or (option_map (joint_refusal status.InconsistentValue) contradiction)
     (option_map (joint_refusal status.InconsistentName) lacking))
@@ -53,8 +53,8 @@ first_joint : (w : World) (ps : List Assignment) →
     slice_get (joint_refusals w ps) 0
     ≡ by_kind (slice_get (contradicting [] ps) 0) (slice_get (lacking_row w ps) 0) (slice_get (disagreeing w ps) 0)
 first_joint w ps =
-    let value : ℕ → Refusal = joint_refusal status.InconsistentValue in
-    let name : ℕ → Refusal = joint_refusal status.InconsistentName in
+    let value : ℕ → SetRefusal = joint_refusal status.InconsistentValue in
+    let name : ℕ → SetRefusal = joint_refusal status.InconsistentName in
     first-append (map value (contradicting [] ps) ++ map name (lacking_row w ps)) (map value (disagreeing w ps))
     ∙ ap (option_or (slice_get (map value (contradicting [] ps) ++ map name (lacking_row w ps)) 0)) (first-map value (disagreeing w ps))
     ∙ ap (λ o. option_or o (option_map value (slice_get (disagreeing w ps) 0)))
@@ -99,12 +99,12 @@ refused_together rows w view bs es c t h =
 
 -- ---- a commit that failed, and the undoing of those before it
 
-module _ (os os₁ os₂ : List ObjectState) (w v u : World) (ws : List Written)
+module _ (os os₁ os₂ : List ObjectState) (w v u : World) (ws : List NamedAssignment)
     (es fs gs : List Staged) (i n : ℕ) (keys : List SettingKey)
     (staged : AreStaged (rows_of os) ws es) (distinct : IsDistinct (assignments_of es))
-    (kept : fs ≡ es) (looked : gs ≡ fs) (at : n ≡ i) (failed : HasFailed w v os₁ es i)
+    (kept : fs ≡ es) (same_entries : gs ≡ fs) (at : n ≡ i) (failed : HasFailed w v os₁ es i)
     (commits : AreCalled (commits_at es (Some i)) (map object_after_release os) (map object_after_release os₁))
-    (told : keys ≡ entry_keys (entries_of keys (take n fs)))
+    (reported : keys ≡ entry_keys (entries_of keys (take n fs)))
     (undone : (before : World) → AreCommitted before v os₁ fs n →
     v ≡ assign (take n (assignments_of fs)) before →
     u ≡ assign (assignments_of (entries_of keys (take n fs))) before)
@@ -113,14 +113,14 @@ module _ (os os₁ os₂ : List ObjectState) (w v u : World) (ws : List Written)
   front = ap (λ m. take m fs) at ∙ ap (take i) kept
 
   number : (entry_at gs i).number ≡ (entry_at es i).number
-  number = ap (λ xs. (entry_at xs i).number) (looked ∙ kept)
+  number = ap (λ xs. (entry_at xs i).number) (same_entries ∙ kept)
 
-  told_front : keys ≡ entry_keys (entries_of keys (take i es))
-  told_front = subst (λ xs. keys ≡ entry_keys (entries_of keys xs)) front told
+  reported_front : keys ≡ entry_keys (entries_of keys (take i es))
+  reported_front = subst (λ xs. keys ≡ entry_keys (entries_of keys xs)) front reported
 
   pub ended_notes : CanFail ws (Some (entry_at gs i).number) keys
   ended_notes =
-      subst (λ m. CanFail ws (Some m) keys) (sym number) (can_fail os ws es i keys staged failed.within distinct told_front)
+      subst (λ m. CanFail ws (Some m) keys) (sym number) (can_fail os ws es i keys staged failed.within distinct reported_front)
 
   pub ended_world : u ≡ assign (assignments (stuck ws (entry_at gs i).number keys)) w
   ended_world =
@@ -135,7 +135,7 @@ module _ (os os₁ os₂ : List ObjectState) (w v u : World) (ws : List Written)
       × FollowPlans (calls_by ws (Some (entry_at gs i).number) keys) os
   ended_calls =
       subst (λ m. (map object_after_release os₂ ≡ map (object_after_set (calls_by ws (Some m) keys)) os) × FollowPlans (calls_by ws (Some m) keys) os) (sym number)
-      (calls_told os ws es i keys staged failed.within distinct (map object_after_release os₁) (map object_after_release os₂) commits
+      (calls_reported os ws es i keys staged failed.within distinct (map object_after_release os₁) (map object_after_release os₂) commits
       (subst (λ xs. AreCalled (undos_at keys xs) (map object_after_release os₁) (map object_after_release os₂)) front undos))
 
   pub ended_objects : map object_after_release os₂ ≡ map (object_after_set (calls_by ws (Some (entry_at gs i).number) keys)) os

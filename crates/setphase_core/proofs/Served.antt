@@ -2,7 +2,7 @@
 -- value has an encoding.
 use Rattle.std.proofs.Common.{◌≡◌, ℕ, ◌<◌, ◌≤◌, Bool, true, false, cond, List, [], ◌∷◌, ◌++◌, map, None, zero, suc, ◌+◌, subst, sym, arith}
 use Rattle.std.specs.List.{AllByRecursion}
-use Rattle.fdb_core.specs.declared.row.Row.{Row}
+use Rattle.fdb_core.specs.declared.row.LearnedRow.{LearnedRow}
 use Rattle.fdb_core.specs.declared.static_row.StaticRow.{StaticRow}
 use Rattle.fdb_core.specs.Statics.{numbers_of, made_rows}
 use Rattle.oid_core.specs.Name.{HasRoot}
@@ -115,7 +115,7 @@ tp_served : (c : Tp) (b : BridgeState) → IsServed (tp_value c b)
 tp_served tp.LearnedEntryDiscards b = record { encodable = tt; valued = tt }
 tp_served tp.AgingTime b = record { encodable = tt; valued = tt }
 
-tp_fdb_served : (c : TpFdb) (r : Row) → IsServed (tp_fdb_value c r)
+tp_fdb_served : (c : TpFdb) (r : LearnedRow) → IsServed (tp_fdb_value c r)
 tp_fdb_served tp_fdb.Address r = record { encodable = tt; valued = tt }
 tp_fdb_served tp_fdb.Port r = record { encodable = tt; valued = tt }
 tp_fdb_served tp_fdb.Status r = record { encodable = tt; valued = tt }
@@ -141,7 +141,7 @@ ports_served : (first count : ℕ) (f : ℕ → Value) → ((n : ℕ) → IsServ
 ports_served first zero f h = tt
 ports_served first (suc count) f h = (h first, ports_served (first + 1) count f h)
 
-addresses_served : (rows : List Row) (f : Row → Value) → ((r : Row) → IsServed (f r)) → AllByRecursion (λ (s : IndexedValue). IsServed s.value) (by_address rows f)
+addresses_served : (rows : List LearnedRow) (f : LearnedRow → Value) → ((r : LearnedRow) → IsServed (f r)) → AllByRecursion (λ (s : IndexedValue). IsServed s.value) (by_address rows f)
 addresses_served [] f h = tt
 addresses_served (r ∷ rows) f h = (h r, addresses_served rows f h)
 

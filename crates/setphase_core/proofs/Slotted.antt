@@ -10,7 +10,7 @@ use Rattle.oid_core.specs.Order.{is_prefix}
 use Rattle.setphase_core.specs.declared.object.Reservation.{Reservation}
 use Rattle.setphase_core.specs.Registry.{rows_of, prefixes_of}
 use Rattle.setphase_core.specs.Searching.{IsOwnerPlace}
-use Rattle.setphase_core.specs.Variables.{Written, written_under}
+use Rattle.setphase_core.specs.Variables.{NamedAssignment, written_under}
 use Rattle.setphase_core.specs.Together.{assignments}
 use Rattle.setphase_core.specs.Outcomes.{has_key, keys_of, committed_of}
 use Rattle.setphase_core.specs.Staging.{object_at, no_object, entry_at, assignment_of_entry}
@@ -71,14 +71,14 @@ less n = omega arith
 
 -- ---- slots that are reserved
 
-under-last : (prefix : List ℕ) (ws : List Written) (x : Written) →
+under-last : (prefix : List ℕ) (ws : List NamedAssignment) (x : NamedAssignment) →
     reserved_for prefix (ws ++ x ∷ [])
     ≡ reserved_for prefix ws
     ++ cond (is_prefix prefix x.name) (record { key = x.assignment.key; value = x.assignment.value; old = None } ∷ []) []
 under-last prefix [] x = only (is_prefix prefix x.name)
   where
     only : (b : Bool) →
-        map {B = Reservation} (λ (y : Written). record { key = y.assignment.key; value = y.assignment.value; old = None }) (cond b (x ∷ []) [])
+        map {B = Reservation} (λ (y : NamedAssignment). record { key = y.assignment.key; value = y.assignment.value; old = None }) (cond b (x ∷ []) [])
         ≡ cond b (record { key = x.assignment.key; value = x.assignment.value; old = None } ∷ []) []
     only true = refl
     only false = refl
@@ -88,14 +88,14 @@ under-last prefix (y ∷ ws) x = first (is_prefix prefix y.name) (under-last pre
         reserved_for prefix (ws ++ x ∷ [])
         ≡ reserved_for prefix ws
         ++ cond (is_prefix prefix x.name) (record { key = x.assignment.key; value = x.assignment.value; old = None } ∷ []) [] →
-        map {B = Reservation} (λ (z : Written). record { key = z.assignment.key; value = z.assignment.value; old = None }) (cond b (y ∷ written_under prefix (ws ++ x ∷ [])) (written_under prefix (ws ++ x ∷ [])))
-        ≡ map {B = Reservation} (λ (z : Written). record { key = z.assignment.key; value = z.assignment.value; old = None }) (cond b (y ∷ written_under prefix ws) (written_under prefix ws))
+        map {B = Reservation} (λ (z : NamedAssignment). record { key = z.assignment.key; value = z.assignment.value; old = None }) (cond b (y ∷ written_under prefix (ws ++ x ∷ [])) (written_under prefix (ws ++ x ∷ [])))
+        ≡ map {B = Reservation} (λ (z : NamedAssignment). record { key = z.assignment.key; value = z.assignment.value; old = None }) (cond b (y ∷ written_under prefix ws) (written_under prefix ws))
         ++ cond (is_prefix prefix x.name) (record { key = x.assignment.key; value = x.assignment.value; old = None } ∷ []) []
     first true rest = ap (λ (zs : List Reservation). record { key = y.assignment.key; value = y.assignment.value; old = None } ∷ zs) rest
     first false rest = rest
 
 -- One slot more, of a variable whose object stands at a place.
-pub reserves_more : (os : List ObjectState) (p : ℕ) (s : Slot) (name : List ℕ) (ws : List Written) →
+pub reserves_more : (os : List ObjectState) (p : ℕ) (s : Slot) (name : List ℕ) (ws : List NamedAssignment) →
     IsOwnerPlace (prefixes_of (rows_of os)) name (Some p) →
     ((q : ℕ) → q < length os → (object_at os q).reserved ≡ reserved_for (object_at os q).row.prefix ws) →
     (q : ℕ) → q < length (slice_set os p (reserve (object_at os p) s)) →
@@ -104,7 +104,7 @@ pub reserves_more : (os : List ObjectState) (p : ℕ) (s : Slot) (name : List �
     (ws ++ record { name = name; assignment = record { key = s.key; value = s.value } } ∷ [])
 reserves_more os p s name ws owner all q h =
     let within : p < length os = owner_within os name p owner in
-    let x : Written = record { name = name; assignment = record { key = s.key; value = s.value } } in
+    let x : NamedAssignment = record { name = name; assignment = record { key = s.key; value = s.value } } in
     let there : q < length os = omega (arith, h, length-set {A = ObjectState}) in
     elim (eqb_tells q p) [
       | inl e ↦
@@ -136,24 +136,24 @@ reserves_more os p s name ws owner all q h =
         places [] = refl
         places (o ∷ os) = ap suc (places os)
 
-fewer_under : (prefix : List ℕ) (ws : List Written) → length (reserved_for prefix ws) ≤ length ws
+fewer_under : (prefix : List ℕ) (ws : List NamedAssignment) → length (reserved_for prefix ws) ≤ length ws
 fewer_under prefix [] = omega arith
 fewer_under prefix (x ∷ ws) = first (is_prefix prefix x.name) (fewer_under prefix ws)
   where
     first : (b : Bool) → length (reserved_for prefix ws) ≤ length ws →
-        length {A = Reservation} (map {B = Reservation} (λ (z : Written). record { key = z.assignment.key; value = z.assignment.value; old = None }) (cond b (x ∷ written_under prefix ws) (written_under prefix ws))) ≤ suc (length ws)
+        length {A = Reservation} (map {B = Reservation} (λ (z : NamedAssignment). record { key = z.assignment.key; value = z.assignment.value; old = None }) (cond b (x ∷ written_under prefix ws) (written_under prefix ws))) ≤ suc (length ws)
     first true rest = omega (arith, rest)
     first false rest = omega (arith, rest)
 
 -- So no object has reserved more than there are variables.
-pub few : (os : List ObjectState) (ws : List Written) (p : ℕ) →
+pub few : (os : List ObjectState) (ws : List NamedAssignment) (p : ℕ) →
     (object_at os p).reserved ≡ reserved_for (object_at os p).row.prefix ws →
     length (object_at os p).reserved ≤ length ws
 few os ws p e = omega (arith, ap (length {A = Reservation}) e, fewer_under (object_at os p).row.prefix ws)
 
 -- ---- entries and variables
 
-module _ (rows : List ObjectRow) (ws : List Written) (es : List Staged) (x : Written)
+module _ (rows : List ObjectRow) (ws : List NamedAssignment) (es : List Staged) (x : NamedAssignment)
     (all : AreStaged rows ws es) where
   as_many : length es ≡ length (committed_of ws)
   as_many =
@@ -162,7 +162,7 @@ module _ (rows : List ObjectRow) (ws : List Written) (es : List Staged) (x : Wri
       ∙ length-map (committed_of ws) (λ y. y.assignment)
 
   -- A variable keeps its number where more follow.
-  number_stays : (cs : List Written) (k : ℕ) (n : ℕ) (y : Written) →
+  number_stays : (cs : List NamedAssignment) (k : ℕ) (n : ℕ) (y : NamedAssignment) →
       slice_get (committed_of ws) k ≡ Some y → IsNumber ws (committed_of ws) k n y →
       IsNumber (ws ++ x ∷ []) (committed_of ws ++ cs) k n y
   number_stays cs k n y at h = record {
@@ -198,10 +198,10 @@ module _ (rows : List ObjectRow) (ws : List Written) (es : List Staged) (x : Wri
   staged_first e known is number owner =
       let more : committed_of (ws ++ x ∷ []) ≡ committed_of ws ++ x ∷ [] =
       committed-last ws x ∙ ap (λ b. committed_of ws ++ cond b [] (x ∷ [])) known in
-      let which : (k : ℕ) (y : Written) → slice_get (committed_of (ws ++ x ∷ [])) k ≡ Some y →
+      let which : (k : ℕ) (y : NamedAssignment) → slice_get (committed_of (ws ++ x ∷ [])) k ≡ Some y →
       (slice_get (committed_of ws) k ≡ Some y) ⊎ ((k ≡ length (committed_of ws)) × (x ≡ y))
       = λ k y at. last_or (committed_of ws) x k y (ap (λ cs. slice_get cs k) (sym more) ∙ at) in
-      let old : (k : ℕ) (y : Written) → slice_get (committed_of ws) k ≡ Some y → entry_at (es ++ e ∷ []) k ≡ entry_at es k
+      let old : (k : ℕ) (y : NamedAssignment) → slice_get (committed_of ws) k ≡ Some y → entry_at (es ++ e ∷ []) k ≡ entry_at es k
       = λ k y at. entry_at-append es e k (omega (arith, as_many, slice_get_within (committed_of ws) k y at)) in
       let new : (k : ℕ) → k ≡ length (committed_of ws) → entry_at (es ++ e ∷ []) k ≡ e
       = λ k at. ap (entry_at (es ++ e ∷ [])) (at ∙ sym as_many) ∙ entry_at-last es e in

@@ -14,7 +14,7 @@ use Rattle.setphase_core.specs.Objects.{ObjectRow, ObjectState, reserve, object_
 use Rattle.setphase_core.specs.Registry.{rows_of, prefixes_of}
 use Rattle.setphase_core.specs.Searching.{IsOwnerPlace}
 use Rattle.setphase_core.specs.Settings.{put}
-use Rattle.setphase_core.specs.Variables.{Written, writings_of, writings, variable, assignment_for, refusals_for, refusal_for, single_refusals}
+use Rattle.setphase_core.specs.Variables.{NamedAssignment, writings_of, writings, variable, assignment_for, refusals_for, refusal_for, single_refusals}
 use Rattle.setphase_core.specs.Together.{assign, assignments, contradicts, contradicting, is_timer, timer_numbers}
 use Rattle.setphase_core.specs.Staging.{object_at, assignments_of, assignment_of_entry, IsDistinct, IsLegal, AreLegal}
 use Rattle.setphase_core.specs.Tested.{first_in, value_among, standing_by, is_contradicting, staged_by, IsPassed, IsFaulty, AreStaged, ArePassed}
@@ -29,7 +29,7 @@ use Rattle.setphase_core.proofs.Writings.{reserved_for, owner_within, assigned_o
 pub record Stages (rows : List ObjectRow) (w : World) (view : List ℕ) (bs : List Binding)
     (os : List ObjectState) (es : List Staged) (contradiction timer : Option ℕ) (i : ℕ) :
     Type 0 where
-  pub earlier : List Written
+  pub earlier : List NamedAssignment
   pub all : writings rows w bs ≡ earlier ++ writings rows w (drop i bs)
   pub count : length earlier ≡ i
   pub single : single_refusals rows w view i earlier (drop i bs)
@@ -78,7 +78,7 @@ stages_begin w view bs os released = record {
   same = λ none. refl;
 }
   where
-    nothing : (x : Written) → None ≡ Some x → ⊥
+    nothing : (x : NamedAssignment) → None ≡ Some x → ⊥
     nothing x e = cc
 
 -- ---- one variable more
@@ -94,13 +94,13 @@ none_before None true n e = absurd (cc)
 none_before None false n e = (refl, refl)
 none_before (Some m) b n e = absurd (cc)
 
-assignments-last : (ws : List Written) (x : Written) →
+assignments-last : (ws : List NamedAssignment) (x : NamedAssignment) →
     assignments (ws ++ x ∷ []) ≡ assignments ws ++ x.assignment ∷ []
 assignments-last ws x = map-append (λ y. y.assignment) ws (x ∷ [])
 
-module _ (rows : List ObjectRow) (w : World) (ws : List Written) (es : List Staged) where
+module _ (rows : List ObjectRow) (w : World) (ws : List NamedAssignment) (es : List Staged) where
   -- What is known of the entries alone.
-  pub record Entries (vs : List Written) (fs : List Staged) (counts : Bool) : Type 0 where
+  pub record Entries (vs : List NamedAssignment) (fs : List Staged) (counts : Bool) : Type 0 where
     pub legal : AreLegal w (assignments_of fs)
     pub staged : AreStaged rows vs fs
     pub distinct : IsDistinct (assignments_of fs)
@@ -114,7 +114,7 @@ legal_last : (w : World) (ps : List Assignment) (a : Assignment) → AreLegal w 
 legal_last w [] a h new = (new, tt)
 legal_last w (q ∷ ps) a h new = (h.0, legal_last w ps a h.1 new)
 
-module _ (rows : List ObjectRow) (w : World) (ws : List Written) (es : List Staged)
+module _ (rows : List ObjectRow) (w : World) (ws : List NamedAssignment) (es : List Staged)
     (name : List ℕ) (p : ℕ) (slot : Slot)
     (owner : IsOwnerPlace (prefixes_of rows) name (Some p))
     (allowed : IsLegal w (record { key = slot.key; value = slot.value }))
@@ -124,7 +124,7 @@ module _ (rows : List ObjectRow) (w : World) (ws : List Written) (es : List Stag
   abbrev pub a : Assignment
   a = record { key = slot.key; value = slot.value }
 
-  abbrev pub x : Written
+  abbrev pub x : NamedAssignment
   x = record { name = name; assignment = a }
 
   abbrev pub e : Staged
@@ -185,7 +185,7 @@ module _ (rows : List ObjectRow) (w : World) (view : List ℕ) (bs : List Bindin
   abbrev b : Binding
   b = get_or bs i d
 
-  abbrev written_now : Written
+  abbrev written_now : NamedAssignment
   written_now = record { name = b.name; assignment = record { key = passed.slot.key; value = passed.slot.value } }
 
   rest : drop i bs ≡ b ∷ drop (suc i) bs
@@ -202,7 +202,7 @@ module _ (rows : List ObjectRow) (w : World) (view : List ℕ) (bs : List Bindin
   fine : variable rows w view before.earlier b ≡ Ok written_now.assignment
   fine =
       sym (of_rows (λ rs. variable rs w view before.earlier b))
-      ∙ variable_ok os w view before.earlier b passed.place passed.slot passed.seen (omega (arith, passed.room, before.count)) passed.at.owner
+      ∙ variable_ok os w view before.earlier b passed.place passed.slot passed.seen (omega (arith, passed.space, before.count)) passed.at.owner
       (before.reserves passed.place (owner_within os b.name passed.place passed.at.owner)) passed.at.answer
 
   writings-rest : writings rows w (drop i bs) ≡ written_now ∷ writings rows w (drop (suc i) bs)
@@ -273,7 +273,7 @@ module _ (rows : List ObjectRow) (w : World) (view : List ℕ) (bs : List Bindin
       numbered : suc i ≡ length (assignments before.earlier) + 1
       numbered = omega (arith, before.count, length-assignments before.earlier)
         where
-          length-assignments : (ws : List Written) → length (assignments ws) ≡ length ws
+          length-assignments : (ws : List NamedAssignment) → length (assignments ws) ≡ length ws
           length-assignments [] = refl
           length-assignments (y ∷ ws) = ap suc (length-assignments ws)
 

@@ -1,4 +1,4 @@
--- Of the entries of a Set those whose settings could not be undone, told by their keys.
+-- Of the entries of a Set those whose settings could not be undone, reported by their keys.
 use Rattle.std.proofs.Common.{◌≡◌, ◌≢◌, ℕ, suc, ◌+◌, ◌<◌, ◌≤◌, ◌∙◌, sym, ap, subst, refl, Bool, true, false, ◌||◌, cond, List, [], ◌∷◌, ◌++◌, length, map, take, drop, arith, add-one, length-take}
 use Rattle.std.proofs.lemmas.List.{get_or-take}
 use Rattle.std.proofs.Math.Seq.{drop-cons}

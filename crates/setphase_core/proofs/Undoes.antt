@@ -5,15 +5,15 @@ use Rattle.setting_keys.specs.declared.SettingValue.{SettingValue}
 use Rattle.setphase_core.specs.declared.object.Reservation.{Reservation}
 use Rattle.setphase_core.specs.declared.staging.Staged.{Staged}
 use Rattle.setphase_core.specs.declared.world.World.{World}
-use Rattle.setphase_core.specs.Objects.{ObjectState, HasRoom, HasRoomBack, committed_reservation, object_after_release, IsByPlan}
+use Rattle.setphase_core.specs.Objects.{ObjectState, HasSpace, HasSpaceBack, committed_reservation, object_after_release, IsByPlan}
 use Rattle.setphase_core.specs.Settings.{setting, put, IsSettingInRange}
-use Rattle.setphase_core.specs.Staging.{object_at, entry_at, assignment_of_entry, assignments_of, IsDistinct, IsLegal, StandsCommitted, HasRoomFor, AreCommitted, AreCalled, commit_at, undos_at, entries_of}
+use Rattle.setphase_core.specs.Staging.{object_at, entry_at, assignment_of_entry, assignments_of, IsDistinct, IsLegal, StandsCommitted, HasSpaceFor, AreCommitted, AreCalled, commit_at, undos_at, entries_of}
 use Rattle.setphase_core.specs.Together.{assign}
 use Rattle.setphase_core.proofs.Puts.{keys-kept, range-kept}
-use Rattle.setphase_core.proofs.Assigns.{legal-taken, legal-between, range-assigned, put_back, take_last, without_before}
+use Rattle.setphase_core.proofs.Assigns.{legal-taken, legal-between, range-assigned, value_restored, take_last, without_before}
 use Rattle.setphase_core.proofs.Called.{called_none}
 use Rattle.setphase_core.proofs.Commits.{after_called, had_key, committed_after_call, called_after_call}
-use Rattle.setphase_core.proofs.Room.{room_undo}
+use Rattle.setphase_core.proofs.Space.{space_undo}
 use Rattle.setphase_core.proofs.Stuck.{entry_keys, entries_none, without_entries, legal-entries, behind, stay_same, stay_more, undos_same, undos_failed}
 
 -- What stands while commits are undone: of a world and objects where n entries were committed there
@@ -21,7 +21,7 @@ use Rattle.setphase_core.proofs.Stuck.{entry_keys, entries_none, without_entries
 pub record Undoes (w₁ : World) (os₁ : List ObjectState) (es : List Staged) (n : ℕ) (w : World)
     (os : List ObjectState) (m : ℕ) (keys : List SettingKey) : Type 0 where
   pub stands : (before : World) → AreCommitted before w₁ os₁ es n → AreCommitted before w os es m
-  pub told : keys ≡ entry_keys (entries_of keys (drop m (take n es)))
+  pub reported : keys ≡ entry_keys (entries_of keys (drop m (take n es)))
   pub world : (before : World) → AreCommitted before w₁ os₁ es n →
       w₁ ≡ assign (take n (assignments_of es)) before →
       w ≡ assign (take m (assignments_of es)
@@ -40,7 +40,7 @@ undo_start w os es n =
     let none : entries_of [] (drop n (take n es)) ≡ [] = entries_none (drop n (take n es)) in
     record {
       stands = λ before done. done;
-      told = sym (ap entry_keys none);
+      reported = sym (ap entry_keys none);
       world = λ before done was.
           was
           ∙ ap (λ ps. assign ps before) (sym (ap (λ xs. take n (assignments_of es) ++ assignments_of xs) none ∙ append-nil (take n (assignments_of es))));
@@ -98,7 +98,7 @@ module _ (w₁ w v : World) (os₁ os ns : List ObjectState) (es ds : List Stage
       = range-assigned (take m (assignments_of es) ++ assignments_of (entries_of keys (drop m (take n es)))) before e.slot.key (setting before e.slot.key)
       (subst (λ (x : World). IsSettingInRange x e.slot.key (setting before e.slot.key)) is ((undoes.stands before done).stands k (omega arith)).committed.value) in
       ap (λ u. put u e.slot.key (setting before e.slot.key)) (is ∙ ap (λ ps. assign ps before) (take_last es m k (assignments_of (entries_of keys (drop m (take n es)))) one (omega arith)))
-      ∙ put_back (take k (assignments_of es)) (assignments_of (entries_of keys (drop m (take n es)))) before (assignment_of_entry e)
+      ∙ value_restored (take k (assignments_of es)) (assignments_of (entries_of keys (drop m (take n es)))) before (assignment_of_entry e)
       (without_before es k distinct (omega arith))
       (without_entries keys (drop m (take n es)) e.slot.key (behind es k m n one low high distinct))
       (legal-taken es k before (omega arith) (λ j less. had j (omega arith)))
@@ -106,17 +106,17 @@ module _ (w₁ w v : World) (os₁ os ns : List ObjectState) (es ds : List Stage
       (had k (omega arith)) range
 
   -- There is memory for that.
-  pub undo_room : (before : World) → AreCommitted before w₁ os₁ es n →
-      w₁ ≡ assign (take n (assignments_of es)) before → HasRoomFor before (assignments_of es) →
-      HasRoomBack w (object_at os (entry_at ds (m - 1)).object) (entry_at ds (m - 1)).slot
-  undo_room before done was room =
+  pub undo_space : (before : World) → AreCommitted before w₁ os₁ es n →
+      w₁ ≡ assign (take n (assignments_of es)) before → HasSpaceFor before (assignments_of es) →
+      HasSpaceBack w (object_at os (entry_at ds (m - 1)).object) (entry_at ds (m - 1)).slot
+  undo_space before done was space =
       let e = entry_at es k in
       let at : entry_at ds (m - 1) ≡ entry_at es k = last_is es ds m k same one in
       let stood = ((undoes.stands before done).stands k (omega arith)).committed.stands in
-      subst (λ (z : Staged). HasRoomBack w (object_at os z.object) z.slot) (sym at) (λ old there.
+      subst (λ (z : Staged). HasSpaceBack w (object_at os z.object) z.slot) (sym at) (λ old there.
       let is : setting before (entry_at es k).slot.key ≡ old = same_old (setting before e.slot.key) old (sym stood ∙ there) in
-      subst (HasRoom w e.slot.key) is
-      (room_undo before w es (take m (assignments_of es) ++ assignments_of (entries_of keys (drop m (take n es)))) k m n keys (setting before e.slot.key) room (undoes.world before done was) (omega arith) (omega arith) (put_old_is before done was)))
+      subst (HasSpace w e.slot.key) is
+      (space_undo before w es (take m (assignments_of es) ++ assignments_of (entries_of keys (drop m (take n es)))) k m n keys (setting before e.slot.key) space (undoes.world before done was) (omega arith) (omega arith) (put_old_is before done was)))
     where
       same_old : (u v : SettingValue) → Some (committed_reservation (entry_at es k).slot u) ≡ Some (committed_reservation (entry_at es k).slot v) → u ≡ v
       same_old u v e =
@@ -136,18 +136,18 @@ module _ (w₁ w v : World) (os₁ os ns : List ObjectState) (es ds : List Stage
       let e = entry_at es k in
       let at : entry_at ds (m - 1) ≡ entry_at es k = last_is es ds m k same one in
       let stay : entries_of keys (drop k (take n es)) ≡ entries_of keys (drop m (take n es))
-      = stay_same es k m n one low high distinct keys undoes.told in
+      = stay_same es k m n one low high distinct keys undoes.reported in
       let put_old : (before : World) → AreCommitted before w₁ os₁ es n → v ≡ put w (entry_at es k).slot.key (setting before (entry_at es k).slot.key)
       = λ before done.
       subst (λ (z : Staged). slice_get (object_at os z.object).reserved z.slot.place ≡ Some (committed_reservation z.slot (setting before e.slot.key)) → v ≡ put w z.slot.key (setting before e.slot.key)) at (puts (setting before e.slot.key)) ((undoes.stands before done).stands k (omega arith)).committed.stands in
       record {
         stands = λ before done. committed_after_put before w v ns es m k e.slot.key (setting before e.slot.key) (omega arith) ((undoes.stands before done).stands k (omega arith)).committed.value (put_old before done) (committed_after_call false before w w os ns es m (entry_at ds (m - 1)) within refl objects (undoes.stands before done));
-        told = undoes.told ∙ ap entry_keys (sym stay);
+        reported = undoes.reported ∙ ap entry_keys (sym stay);
         world = λ before done was.
             put_old before done
             ∙ put_old_is before done was
             ∙ ap (λ xs. assign (take k (assignments_of es) ++ assignments_of xs) before) (sym stay);
-        called = subst (λ cs. AreCalled cs (map object_after_release os₁) (map object_after_release ns)) (ap (λ (z : Staged). undos_at keys (drop m (take n es)) ++ commit_at false z ∷ []) at ∙ undos_same es k m n one low high distinct keys undoes.told) (called_after_call false os ns (map object_after_release os₁) (undos_at keys (drop m (take n es))) (entry_at ds (m - 1)) objects planned undoes.called);
+        called = subst (λ cs. AreCalled cs (map object_after_release os₁) (map object_after_release ns)) (ap (λ (z : Staged). undos_at keys (drop m (take n es)) ++ commit_at false z ∷ []) at ∙ undos_same es k m n one low high distinct keys undoes.reported) (called_after_call false os ns (map object_after_release os₁) (undos_at keys (drop m (take n es))) (entry_at ds (m - 1)) objects planned undoes.called);
       }
 
   -- The device failed that was to undo the last commit.
@@ -163,7 +163,7 @@ module _ (w₁ w v : World) (os₁ os ns : List ObjectState) (es ds : List Stage
       = stay_more es k m n one low high distinct keys in
       subst (λ z. Undoes w₁ os₁ es n v ns k (z ∷ keys)) (sym (is ∙ ap (λ (z : Staged). z.slot.key) at)) (record {
         stands = λ before done. committed_after_call true before w v os ns es k (entry_at ds (m - 1)) within world objects (fewer before w os es m k (omega arith) (undoes.stands before done));
-        told = ap (λ ks. e.slot.key ∷ ks) undoes.told ∙ ap entry_keys (sym stay);
+        reported = ap (λ ks. e.slot.key ∷ ks) undoes.reported ∙ ap entry_keys (sym stay);
         world = λ before done was.
             world
             ∙ undoes.world before done was

@@ -18,7 +18,7 @@ use Rattle.setphase_core.specs.Registry.{rows_of, prefixes_of}
 use Rattle.setphase_core.specs.Searching.{IsOwnerPlace}
 use Rattle.setphase_core.specs.Staging.{object_at}
 use Rattle.setphase_core.specs.Tested.{answer_at, IsFaulty}
-use Rattle.setphase_core.specs.Variables.{Written, written_under, written_by, object_of, assignment_in, assignment_for, with_room, in_answer, variable}
+use Rattle.setphase_core.specs.Variables.{NamedAssignment, written_under, written_by, object_of, assignment_in, assignment_for, with_space, in_answer, variable}
 use Rattle.setphase_core.specs.Writing.{assignment_of, makes_row, has_rows_left, within_rows, assignments_in, next_slot}
 
 -- ---- the object of a name
@@ -90,19 +90,19 @@ full_or_not : (a : Assignment) (reserved : List Reservation) (f : SetFault) (b :
 full_or_not a reserved f true is e = absurd (cc)
 full_or_not a reserved f false is e = (cc, grind (arith, nat_tests, is))
 
-with_none_left : (a : Assignment) (before : List Written) → MAX_VARIABLES ≤ length before →
-    with_room before (Ok a) ≡ Err (Refused ResourceUnavailable)
+with_none_left : (a : Assignment) (before : List NamedAssignment) → MAX_VARIABLES ≤ length before →
+    with_space before (Ok a) ≡ Err (Refused ResourceUnavailable)
 with_none_left a before full =
     let none : nat_lt (length before) MAX_VARIABLES ≡ false = grind (arith, nat_tests, full) in rw none refl
 
-with_some_left : (a : Assignment) (before : List Written) → length before < MAX_VARIABLES →
-    with_room before (Ok a) ≡ Ok a
-with_some_left a before room =
-    let some : nat_lt (length before) MAX_VARIABLES ≡ true = grind (arith, nat_tests, room) in rw some refl
+with_some_left : (a : Assignment) (before : List NamedAssignment) → length before < MAX_VARIABLES →
+    with_space before (Ok a) ≡ Ok a
+with_some_left a before space =
+    let some : nat_lt (length before) MAX_VARIABLES ≡ true = grind (arith, nat_tests, space) in rw some refl
 
-refused_by : (r : Result Assignment SetFault) (reserved : List Reservation) (before : List Written)
+refused_by : (r : Result Assignment SetFault) (reserved : List Reservation) (before : List NamedAssignment)
     (f : SetFault) → length reserved ≤ length before → next_slot reserved r ≡ Err f →
-    with_room before r ≡ Err (Refused f)
+    with_space before r ≡ Err (Refused f)
 refused_by (Err g) reserved before f few e = ap (λ (h : SetFault). Err (Refused h)) (same e)
   where
     same : ◌≡◌ {A = Result Slot SetFault} (Err g) (Err f) → g ≡ f
@@ -114,11 +114,11 @@ refused_by (Ok a) reserved before f few e =
 -- ---- slots that are reserved
 
 -- What an object of this name has reserved: what the variables under it write, in their order.
-abbrev pub reserved_for : List ℕ → List Written → List Reservation
+abbrev pub reserved_for : List ℕ → List NamedAssignment → List Reservation
 reserved_for prefix ws =
     map (λ x. record { key = x.assignment.key; value = x.assignment.value; old = None }) (written_under prefix ws)
 
-written_in : (xs : List Written) →
+written_in : (xs : List NamedAssignment) →
     assignments_in (map (λ x. record { key = x.assignment.key; value = x.assignment.value; old = None }) xs)
     ≡ map (λ x. x.assignment) xs
 written_in [] = refl
@@ -126,7 +126,7 @@ written_in (x ∷ xs) = ap (λ ps. x.assignment ∷ ps) (written_in xs)
 
 -- ---- variables
 
-module _ (os : List ObjectState) (w : World) (view : List ℕ) (before : List Written) (b : Binding) where
+module _ (os : List ObjectState) (w : World) (view : List ℕ) (before : List NamedAssignment) (b : Binding) where
   -- What the object at the place of a variable's name writes is what the variable writes.
   at_owner : (p : ℕ) → IsOwnerPlace (prefixes_of (rows_of os)) b.name (Some p) →
       assignment_for (rows_of os) w b
@@ -170,10 +170,10 @@ module _ (os : List ObjectState) (w : World) (view : List ℕ) (before : List Wr
       (object_at os p).reserved ≡ reserved_for (object_at os p).row.prefix before →
       answer_at os p w b ≡ Ok slot →
       variable (rows_of os) w view before b ≡ Ok (record { key = slot.key; value = slot.value })
-  variable_ok p slot seen room owner reserved answer =
+  variable_ok p slot seen space owner reserved answer =
       seen_through _ seen
-      ∙ ap (with_room before) (within_too p slot owner reserved answer)
-      ∙ with_some_left _ before room
+      ∙ ap (with_space before) (within_too p slot owner reserved answer)
+      ∙ with_some_left _ before space
 
   pub variable_err : (fault : VariableFault) →
       ((p : ℕ) → p < length os → (object_at os p).reserved ≡ reserved_for (object_at os p).row.prefix before) →
@@ -188,14 +188,14 @@ module _ (os : List ObjectState) (w : World) (view : List ℕ) (before : List Wr
           × ((answer_at os p w b ≡ Err f)
           ⊎ ((f ≡ ResourceUnavailable) × (MAX_VARIABLES ≤ length before)
           × ((slot : Slot) × (answer_at os p w b ≡ Ok slot))))) →
-          with_room before (within_rows w (written_by (object_of (rows_of os) b.name) before) (assignment_for (rows_of os) w b)) ≡ Err (Refused f)
+          with_space before (within_rows w (written_by (object_of (rows_of os) b.name) before) (assignment_for (rows_of os) w b)) ≡ Err (Refused f)
       because (inl (is, none)) =
-          ap (λ row. with_room before (within_rows w (written_by row before) (assignment_in row w b))) (no_owner_row os b.name none)
+          ap (λ row. with_space before (within_rows w (written_by row before) (assignment_in row w b))) (no_owner_row os b.name none)
           ∙ ap (λ (h : SetFault). Err (Refused h)) (sym is)
       because (inr (p, owner, inl answer)) =
           let within : p < length os = owner_within os b.name p owner in
           refused_by _ (object_at os p).reserved before f (few p within) (sym (answer_is p owner (all p within)) ∙ answer)
       because (inr (p, owner, inr (is, full, (slot, answer)))) =
-          ap (with_room before) (within_too p slot owner (all p (owner_within os b.name p owner)) answer)
+          ap (with_space before) (within_too p slot owner (all p (owner_within os b.name p owner)) answer)
           ∙ with_none_left _ before full
           ∙ ap (λ (h : SetFault). Err (Refused h)) (sym is)

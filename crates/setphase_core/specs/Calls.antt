@@ -4,11 +4,11 @@ use Rattle.std.specs.Prelude.{◌≡◌, ℕ, ◌-◌, Bool, true, false, if◌t
 use Rattle.std.specs.List.{AllByRecursion}
 use Rattle.oid_core.specs.Order.{is_prefix}
 use Rattle.setting_keys.specs.declared.SettingKey.{SettingKey}
-use Rattle.setphase_core.specs.declared.sets.Refusal.{Refusal}
+use Rattle.setphase_core.specs.declared.sets.SetRefusal.{SetRefusal}
 use Rattle.setphase_core.specs.Objects.{ObjectState, object_after_release, object_called, IsByPlan}
 use Rattle.setphase_core.specs.Outcomes.{SetNotes, has_key, committed_of}
 use Rattle.setphase_core.specs.Settings.{bridge_keys}
-use Rattle.setphase_core.specs.Variables.{Written}
+use Rattle.setphase_core.specs.Variables.{NamedAssignment}
 
 -- One call of a device: the name of the variable for which its object is called, and whether it
 -- failed.
@@ -16,17 +16,17 @@ pub record Call : Type 0 where
   pub name : List ℕ
   pub fails : Bool
 
-abbrev pub commit_call : Bool → Written → Call
+abbrev pub commit_call : Bool → NamedAssignment → Call
 commit_call fails x = record { name = x.name; fails = fails }
 
 -- The undoing of the commit of a variable fails where its setting is among these.
-abbrev pub undo_call : List SettingKey → Written → Call
+abbrev pub undo_call : List SettingKey → NamedAssignment → Call
 undo_call undos x = record { name = x.name; fails = has_key undos x.assignment.key }
 
 -- The calls of a Set whose calls failed so: all commits, in the order of the variables; where the
 -- commit of variable i failed, the commits before it, that one, and then the undos of those before
 -- it, from the last to the first.
-abbrev pub calls_by : List Written → Option ℕ → List SettingKey → List Call
+abbrev pub calls_by : List NamedAssignment → Option ℕ → List SettingKey → List Call
 calls_by ws None undos = map (commit_call false) (committed_of ws)
 calls_by ws (Some i) undos =
     map (commit_call false) (committed_of (take (i - 1) ws))
@@ -34,7 +34,7 @@ calls_by ws (Some i) undos =
     ++ map (undo_call undos) (reverse (committed_of (take (i - 1) ws)))
 
 -- A refused Set makes none.
-abbrev pub calls_of : Option Refusal → List Written → SetNotes → List Call
+abbrev pub calls_of : Option SetRefusal → List NamedAssignment → SetNotes → List Call
 calls_of (Some refusal) ws notes = []
 calls_of None ws notes = calls_by ws notes.commit (bridge_keys notes.undos)
 
@@ -52,14 +52,14 @@ object_after_calls (call ∷ calls) o = object_after_calls calls (object_after_c
 abbrev pub object_after_set : List Call → ObjectState → ObjectState
 object_after_set calls o = object_after_calls calls (object_after_release o)
 
--- Each call of the object failed exactly where its plan said so, if it has one.
+-- Each call of the object failed exactly where its plan stated so, if it has one.
 abbrev pub AreByPlan : List Call → ObjectState → Type 0
 AreByPlan [] o = Unit {0}
 AreByPlan (call ∷ calls) o =
     (is_prefix o.row.prefix call.name ≡ true → IsByPlan o call.fails)
     × AreByPlan calls (object_after_call call o)
 
--- Each call failed exactly where the plan of its object said so, if that has one. So the order of
+-- Each call failed exactly where the plan of its object stated so, if that has one. So the order of
 -- an object's calls shows wherever its plan says different things of them.
 abbrev pub FollowPlans : List Call → List ObjectState → Type 0
 FollowPlans calls os = AllByRecursion (AreByPlan calls) os

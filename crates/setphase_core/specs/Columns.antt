@@ -4,7 +4,7 @@
 -- third under 1.3.6.1.6.3.16.
 use Rattle.std.specs.Prelude.{ℕ, ◌*◌, ◌/◌, ◌%◌, ◌^◌, pos, Bool, min, if◌then◌else◌, List, [], ◌∷◌, ◌++◌}
 use Rattle.frame_core.specs.declared.bpdu.BridgeId.{BridgeId}
-use Rattle.fdb_core.specs.declared.row.Row.{Row}
+use Rattle.fdb_core.specs.declared.row.LearnedRow.{LearnedRow}
 use Rattle.fdb_core.specs.declared.static_row.StaticRow.{StaticRow}
 use Rattle.fdb_core.specs.PortSets.{octets_of}
 use Rattle.rstp_settings.specs.Table.{get}
@@ -192,7 +192,7 @@ ext_port_value ext_port.ProtocolMigration b n = number 2
 -- 2.19.1.2 dot1dStpPortAdminEdgePort
 ext_port_value ext_port.AdminEdgePort b n = port_setting b n port.Edge
 -- 2.19.1.3 dot1dStpPortOperEdgePort
-ext_port_value ext_port.OperEdgePort b n = truth (port_facts_of b n).edge
+ext_port_value ext_port.OperEdgePort b n = truth (port_facts_of b n).oper_edge
 -- 2.19.1.4 dot1dStpPortAdminPointToPoint
 ext_port_value ext_port.AdminPointToPoint b n = port_setting b n port.PointToPoint
 -- 2.19.1.5 dot1dStpPortOperPointToPoint
@@ -209,7 +209,7 @@ tp_value tp.LearnedEntryDiscards b = Counter32 (facts_of b).entry_discards
 -- 4.2 dot1dTpAgingTime
 tp_value tp.AgingTime b = bridge_setting b bridge.Aging
 
-abbrev pub tp_fdb_value : TpFdb → Row → Value
+abbrev pub tp_fdb_value : TpFdb → LearnedRow → Value
 -- 4.3.1.1 dot1dTpFdbAddress
 tp_fdb_value tp_fdb.Address r = OctetString r.address.0
 -- 4.3.1.2 dot1dTpFdbPort

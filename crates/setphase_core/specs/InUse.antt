@@ -67,7 +67,7 @@ four_ports =
 abbrev pub times_in_use : Times
 times_in_use = record { message_age = 256; max_age = 4000; hello = 300; forward_delay = 3001 }
 
--- A vector whose parts are told by one small number, a cost and a port identifier.
+-- A vector whose parts are reported by one small number, a cost and a port identifier.
 abbrev pub vector_in_use : ℕ → ℕ → ℕ → ℕ → ℕ → PriorityVector
 vector_in_use low root_priority cost bridge_priority port = record {
   root = record {
@@ -89,7 +89,7 @@ port_in_use vector state edge transitions =
     record opening {
       link = true;
       state = state;
-      edge = edge;
+      oper_edge = edge;
       forward_transitions = transitions;
     }
 

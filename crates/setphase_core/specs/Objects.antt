@@ -14,10 +14,10 @@ use Rattle.setphase_core.specs.Settings.{HasSetting, IsSettingInRange, made_by}
 
 -- There is memory to give a setting a value: where that brings in a static row, there is a place for
 -- it among those that the static table is sure of. Any other put takes no memory.
-abbrev pub HasRoom : World → SettingKey → SettingValue → Type 0
-HasRoom w (Made i) (Number n) = HasPlaceFrom w.bridge i (made_by n) (allowed w.bridge i)
-HasRoom w (Allowed i) (Ports s) = HasPlaceFrom w.bridge i (is_made w.bridge i) s
-HasRoom w k v = Unit {0}
+abbrev pub HasSpace : World → SettingKey → SettingValue → Type 0
+HasSpace w (Made i) (Number n) = HasPlaceFrom w.bridge i (made_by n) (allowed w.bridge i)
+HasSpace w (Allowed i) (Ports s) = HasPlaceFrom w.bridge i (is_made w.bridge i) s
+HasSpace w k v = Unit {0}
 
 -- An object's row: its name, and what it shows.
 pub record ObjectRow : Type 0 where
@@ -90,10 +90,10 @@ pub record IsReserved (w : World) (o : ObjectState) (slot : Slot) : Type 0 where
   pub stands : slice_get o.reserved slot.place ≡ Some (reservation_of slot old)
 
 -- There is memory to give the setting of a committed slot its old value back.
-abbrev pub HasRoomBack : World → ObjectState → Slot → Type 0
-HasRoomBack w o slot =
+abbrev pub HasSpaceBack : World → ObjectState → Slot → Type 0
+HasSpaceBack w o slot =
     (old : SettingValue) → slice_get o.reserved slot.place ≡ Some (committed_reservation slot old)
-    → HasRoom w slot.key old
+    → HasSpace w slot.key old
 
 -- The slot was committed over an old value, which its setting may get again.
 pub record IsCommitted (w : World) (o : ObjectState) (slot : Slot) (old : SettingValue) :

@@ -12,7 +12,7 @@ abbrev pub plan_after_arm : Option ℕ → ℕ → Option ℕ
 plan_after_arm plan next = option_map (λ p. next) plan
 
 -- By this plan the next call of a device that has failed so often fails: the lowest bit says so,
--- and the count of failures has room for one more.
+-- and the count of failures has space for one more.
 abbrev pub fails_next : ℕ → ℕ → Bool
 fails_next plan failures = (plan % 2 == 1) && nat_lt failures (2 ^ 64 - 1)
 

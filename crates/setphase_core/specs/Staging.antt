@@ -72,8 +72,8 @@ static_count [] = 0
 static_count (a ∷ ps) = (if is_static a.key then 1 else 0) + static_count ps
 
 -- There is memory for all static rows that assignments may bring in.
-abbrev pub HasRoomFor : World → List Assignment → Type 0
-HasRoomFor w ps =
+abbrev pub HasSpaceFor : World → List Assignment → Type 0
+HasSpaceFor w ps =
     0 < static_count ps
     → length w.bridge.statics.rows + static_count ps ≤ w.bridge.statics.places
 
@@ -126,7 +126,7 @@ abbrev pub after_calls_at : List CallAt → List ObjectState → List ObjectStat
 after_calls_at [] os = os
 after_calls_at (call ∷ calls) os = after_calls_at calls (after_call_at call os)
 
--- Each failed exactly where the plan of its object said so.
+-- Each failed exactly where the plan of its object stated so.
 abbrev pub AreByPlanAt : List CallAt → List ObjectState → Type 0
 AreByPlanAt [] os = Unit {0}
 AreByPlanAt (call ∷ calls) os =
@@ -170,4 +170,4 @@ pub record MayUndo (before w : World) (os : List ObjectState) (es : List Staged)
     Type 0 where
   pub world : w ≡ assign (take n (assignments_of es)) before
   pub stands : AreCommitted before w os es n
-  pub room : HasRoomFor before (assignments_of es)
+  pub space : HasSpaceFor before (assignments_of es)

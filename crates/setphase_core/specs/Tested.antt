@@ -10,7 +10,7 @@ use Rattle.setphase_core.specs.declared.object.Assignment.{Assignment}
 use Rattle.setphase_core.specs.declared.object.SetFault.{SetFault}
 use Rattle.setphase_core.specs.declared.object.SetFault.TheVariants.{NotWritable, ResourceUnavailable}
 use Rattle.setphase_core.specs.declared.object.Slot.{Slot}
-use Rattle.setphase_core.specs.declared.sets.Refusal.{Refusal}
+use Rattle.setphase_core.specs.declared.sets.SetRefusal.{SetRefusal}
 use Rattle.setphase_core.specs.declared.limits.TheConstants.{MAX_VARIABLES}
 use Rattle.setphase_core.specs.declared.staging.TestedVariable.{TestedVariable}
 use Rattle.setphase_core.specs.declared.staging.Staged.{Staged}
@@ -24,7 +24,7 @@ use Rattle.setphase_core.specs.Registry.{rows_of, prefixes_of}
 use Rattle.setphase_core.specs.Searching.{IsOwnerPlace}
 use Rattle.setphase_core.specs.Settings.{same_setting, same_value}
 use Rattle.setphase_core.specs.Writing.{test_answer}
-use Rattle.setphase_core.specs.Variables.{Written, writings, single_refusals}
+use Rattle.setphase_core.specs.Variables.{NamedAssignment, writings, single_refusals}
 use Rattle.setphase_core.specs.Together.{assignments, assign, contradicting, lacks_row, timer_numbers, joint_refusal}
 use Rattle.setphase_core.specs.Outcomes.{committed_of}
 use Rattle.setphase_core.specs.Staging.{object_at, entry_at, assignments_of, IsDistinct, AreLegal}
@@ -79,13 +79,13 @@ pub record IsPassedAt (os ns : List ObjectState) (w : World) (b : Binding)
 pub record IsPassed (os ns : List ObjectState) (w : World) (view : List ℕ) (before : ℕ)
     (b : Binding) (es fs : List Staged) (passed : TestedVariable) : Type 0 where
   pub seen : in_view w.policy.vacm.families view b.name ≡ true
-  pub room : before < MAX_VARIABLES
+  pub space : before < MAX_VARIABLES
   pub place : ℕ
   pub slot : Slot
   pub at : IsPassedAt os ns w b es fs before place slot passed
 
 -- Why a variable behind so many others did not pass: it is not in the view; or no object has it; or
--- its object refused it; or the Set has no room.
+-- its object refused it; or the Set has no space.
 abbrev pub IsFaulty : List ObjectState → World → List ℕ → ℕ → Binding → VariableFault → Type 0
 IsFaulty os w view before b (NoAccess answer) =
     (answer ≡ family_answer w.policy.vacm.families view b.name) × (is_included answer ≡ false)
@@ -98,7 +98,7 @@ IsFaulty os w view before b (Refused fault) =
     × ((slot : Slot) × (answer_at os p w b ≡ Ok slot))))))
 
 -- The variable of this number, counted from 1, is the one that is committed at place k.
-pub record IsNumber (ws cs : List Written) (k n : ℕ) (x : Written) : Type 0 where
+pub record IsNumber (ws cs : List NamedAssignment) (k n : ℕ) (x : NamedAssignment) : Type 0 where
   pub least : 1 ≤ n
   pub most : n ≤ length ws
   pub there : slice_get ws (n - 1) ≡ Some x
@@ -106,12 +106,12 @@ pub record IsNumber (ws cs : List Written) (k n : ℕ) (x : Written) : Type 0 wh
 
 -- The entries are those of the variables that are to be committed: each writes what its variable
 -- does, its object is the variable's, and its number is the variable's among all.
-pub record AreStaged (rows : List ObjectRow) (ws : List Written) (es : List Staged) :
+pub record AreStaged (rows : List ObjectRow) (ws : List NamedAssignment) (es : List Staged) :
     Type 0 where
   pub written : assignments_of es ≡ assignments (committed_of ws)
-  pub placed : (k : ℕ) (x : Written) → slice_get (committed_of ws) k ≡ Some x →
+  pub placed : (k : ℕ) (x : NamedAssignment) → slice_get (committed_of ws) k ≡ Some x →
       IsOwnerPlace (prefixes_of rows) x.name (Some (entry_at es k).object)
-  pub numbered : (k : ℕ) (x : Written) → slice_get (committed_of ws) k ≡ Some x →
+  pub numbered : (k : ℕ) (x : NamedAssignment) → slice_get (committed_of ws) k ≡ Some x →
       IsNumber ws (committed_of ws) k (entry_at es k).number x
 
 -- The variables of a Set passed their tests: none has a fault of its own; the first that
@@ -136,7 +136,7 @@ first_lacking w (e ∷ es) = if lacks_row w e.slot.key then Some e.number else f
 
 -- Why the variables of a Set do not go together: one contradicts an earlier one; or else one lacks
 -- its row; or else the timers do not agree, of which this is the first.
-abbrev pub inconsistency : Option ℕ → Option ℕ → Bool → Option ℕ → Option Refusal
+abbrev pub inconsistency : Option ℕ → Option ℕ → Bool → Option ℕ → Option SetRefusal
 inconsistency (Some n) lacking agree timer = Some (joint_refusal status.InconsistentValue n)
 inconsistency None (Some n) agree timer = Some (joint_refusal status.InconsistentName n)
 inconsistency None None agree timer =

@@ -15,17 +15,17 @@ use Rattle.setting_keys.specs.declared.SettingKey.{SettingKey}
 use Rattle.setting_keys.specs.declared.SettingKey.TheVariants.{Bridge, Made, Allowed, FamilyMask, FamilyType}
 use Rattle.setphase_core.specs.declared.world.World.{World}
 use Rattle.setphase_core.specs.declared.object.Assignment.{Assignment}
-use Rattle.setphase_core.specs.declared.sets.Refusal.{Refusal}
+use Rattle.setphase_core.specs.declared.sets.SetRefusal.{SetRefusal}
 use Rattle.setphase_core.specs.Objects.{ObjectRow}
 use Rattle.setphase_core.specs.Settings.{put, same_setting, same_value}
-use Rattle.setphase_core.specs.Variables.{Written, writings, single_refusals}
+use Rattle.setphase_core.specs.Variables.{NamedAssignment, writings, single_refusals}
 
 -- The world in which settings were given values.
 abbrev pub assign : List Assignment → World → World
 assign [] w = w
 assign (a ∷ ps) w = assign ps (put w a.key a.value)
 
-abbrev pub assignments : List Written → List Assignment
+abbrev pub assignments : List NamedAssignment → List Assignment
 assignments ws = map (λ x. x.assignment) ws
 
 -- An earlier variable gives the same setting another value.
@@ -89,12 +89,12 @@ timers_agree w =
 abbrev pub disagreeing : World → List Assignment → List ℕ
 disagreeing w ps = if timers_agree (assign ps w) then [] else timer_numbers 1 ps
 
-abbrev pub joint_refusal : ErrorStatus → ℕ → Refusal
+abbrev pub joint_refusal : ErrorStatus → ℕ → SetRefusal
 joint_refusal s i = record { status = s; index = i; family = None }
 
 -- The refusals of variables that do not go together: for contradictions, for rows that are not
 -- there, and for timers, in this order.
-abbrev pub joint_refusals : World → List Assignment → List Refusal
+abbrev pub joint_refusals : World → List Assignment → List SetRefusal
 joint_refusals w ps =
     map (joint_refusal status.InconsistentValue) (contradicting [] ps)
     ++ map (joint_refusal status.InconsistentName) (lacking_row w ps)
@@ -104,7 +104,7 @@ joint_refusals w ps =
 -- variable has one, its first variable that contradicts an earlier one; where none does, its first
 -- variable that writes the ports of a static row that is not there; and where none does that, its
 -- first timer, where the timers do not agree.
-abbrev pub refusal_of : List ObjectRow → World → List ℕ → List Binding → Option Refusal
+abbrev pub refusal_of : List ObjectRow → World → List ℕ → List Binding → Option SetRefusal
 refusal_of rows w view bs =
     slice_get (single_refusals rows w view 0 [] bs
     ++ joint_refusals w (assignments (writings rows w bs))) 0

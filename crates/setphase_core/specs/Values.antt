@@ -2,7 +2,7 @@
 use Rattle.std.specs.Prelude.{ℕ, ◌+◌, nat_le, ◌&&◌, if◌then◌else◌, List, [], ◌∷◌, map, find, slice_get, Option, Some, None}
 use Rattle.std.specs.Option.{option_map}
 use Rattle.std.proofs.Common.{zero, suc}
-use Rattle.fdb_core.specs.declared.row.Row.{Row}
+use Rattle.fdb_core.specs.declared.row.LearnedRow.{LearnedRow}
 use Rattle.fdb_core.specs.declared.static_row.StaticRow.{StaticRow}
 use Rattle.fdb_core.specs.Statics.{numbers_of, made_rows}
 use Rattle.oid_core.specs.Order.{name_lt, name_eq}
@@ -34,7 +34,7 @@ port_index count (n ∷ []) = if nat_le 1 n && nat_le n count then Some n else N
 port_index count at = None
 
 -- The instances of a table of learned addresses have the six octets of the address for index.
-abbrev pub by_address : List Row → (Row → Value) → List IndexedValue
+abbrev pub by_address : List LearnedRow → (LearnedRow → Value) → List IndexedValue
 by_address rows f = map (λ r. record { index = r.address.0; value = f r }) rows
 
 -- The instances of a table of static rows are those of the made rows, and have the seven numbers of

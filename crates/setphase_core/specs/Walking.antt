@@ -41,7 +41,7 @@ IsWalk passes rows w name old new =
     new + passed_ahead passes rows (next_of (open_instances passes rows w) name)
     ≡ old + count_by (λ row. passes row.prefix) rows
 
--- A walk over objects has come to those that are left: what these show is what all show, and their
+-- A walk over objects has reached those that are left: what these show is what all show, and their
 -- steps complete those of all.
 pub record IsWalked (passes : List ℕ → Bool) (rows left : List ObjectRow) (w : World)
     (name : List ℕ) (old now : ℕ) : Type 0 where

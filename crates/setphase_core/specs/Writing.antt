@@ -60,57 +60,57 @@ use Rattle.setphase_core.specs.declared.column.Column.TheVariants as column
 
 -- ---- which setting, and which INTEGERs: from a least to a greatest, the multiples of a step
 
-abbrev pub scalar_of : BridgeKey → ℕ → ℕ → ℕ → Option Writable
-scalar_of k least most step =
+abbrev pub writable_scalar : BridgeKey → ℕ → ℕ → ℕ → Option Writable
+writable_scalar k least most step =
     Some (Integers (record { target = target.Bridge k; least = least; most = most; step = step }))
 
-abbrev pub column_of : PortKey → ℕ → ℕ → ℕ → Option Writable
-column_of k least most step =
+abbrev pub writable_column : PortKey → ℕ → ℕ → ℕ → Option Writable
+writable_column k least most step =
     Some (Integers (record { target = target.Port k; least = least; most = most; step = step }))
 
 abbrev pub stp_writable : Stp → Option Writable
 -- 2.2 dot1dStpPriority
-stp_writable stp.Priority = scalar_of bridge.Priority 0 61440 4096
+stp_writable stp.Priority = writable_scalar bridge.Priority 0 61440 4096
 -- 2.12 dot1dStpBridgeMaxAge: whole seconds
-stp_writable stp.BridgeMaxAge = scalar_of bridge.MaxAge 600 4000 100
+stp_writable stp.BridgeMaxAge = writable_scalar bridge.MaxAge 600 4000 100
 -- 2.13 dot1dStpBridgeHelloTime: whole seconds
-stp_writable stp.BridgeHelloTime = scalar_of bridge.Hello 100 1000 100
+stp_writable stp.BridgeHelloTime = writable_scalar bridge.Hello 100 1000 100
 -- 2.14 dot1dStpBridgeForwardDelay: whole seconds
-stp_writable stp.BridgeForwardDelay = scalar_of bridge.ForwardDelay 400 3000 100
+stp_writable stp.BridgeForwardDelay = writable_scalar bridge.ForwardDelay 400 3000 100
 stp_writable other = None
 
 abbrev pub stp_port_writable : StpPort → Option Writable
 -- 2.15.1.2 dot1dStpPortPriority
-stp_port_writable stp_port.Priority = column_of port.Priority 0 240 16
+stp_port_writable stp_port.Priority = writable_column port.Priority 0 240 16
 -- 2.15.1.4 dot1dStpPortEnable: 1 enabled, 2 disabled
-stp_port_writable stp_port.Enable = column_of port.Enable 1 2 1
+stp_port_writable stp_port.Enable = writable_column port.Enable 1 2 1
 -- 2.15.1.5 dot1dStpPortPathCost
-stp_port_writable stp_port.PathCost = column_of port.Cost 1 MAX_PATH_COST 1
+stp_port_writable stp_port.PathCost = writable_column port.Cost 1 MAX_PATH_COST 1
 -- 2.15.1.11 dot1dStpPortPathCost32
-stp_port_writable stp_port.PathCost32 = column_of port.Cost 1 200000000 1
+stp_port_writable stp_port.PathCost32 = writable_column port.Cost 1 200000000 1
 stp_port_writable other = None
 
 abbrev pub rapid_writable : Rapid → Option Writable
 -- 2.16 dot1dStpVersion: 0 stpCompatible, 2 rstp
-rapid_writable rapid.Version = scalar_of bridge.Version 0 2 2
+rapid_writable rapid.Version = writable_scalar bridge.Version 0 2 2
 -- 2.17 dot1dStpTxHoldCount
-rapid_writable rapid.TxHoldCount = scalar_of bridge.HoldCount 1 10 1
+rapid_writable rapid.TxHoldCount = writable_scalar bridge.HoldCount 1 10 1
 
 abbrev pub ext_port_writable : ExtPort → Option Writable
 -- 2.19.1.1 dot1dStpPortProtocolMigration: 1 true, 2 false
-ext_port_writable ext_port.ProtocolMigration = column_of port.Migrate 1 2 1
+ext_port_writable ext_port.ProtocolMigration = writable_column port.Migrate 1 2 1
 -- 2.19.1.2 dot1dStpPortAdminEdgePort: 1 true, 2 false
-ext_port_writable ext_port.AdminEdgePort = column_of port.Edge 1 2 1
+ext_port_writable ext_port.AdminEdgePort = writable_column port.Edge 1 2 1
 -- 2.19.1.4 dot1dStpPortAdminPointToPoint: 0 forceTrue, 1 forceFalse, 2 auto
-ext_port_writable ext_port.AdminPointToPoint = column_of port.PointToPoint 0 2 1
+ext_port_writable ext_port.AdminPointToPoint = writable_column port.PointToPoint 0 2 1
 -- 2.19.1.6 dot1dStpPortAdminPathCost: 0 is the default cost of the port's speed
-ext_port_writable ext_port.AdminPathCost = column_of port.Cost 0 200000000 1
+ext_port_writable ext_port.AdminPathCost = writable_column port.Cost 0 200000000 1
 ext_port_writable other = None
 
 abbrev pub tp_writable : Tp → Option Writable
 tp_writable tp.LearnedEntryDiscards = None
 -- 4.2 dot1dTpAgingTime: seconds
-tp_writable tp.AgingTime = scalar_of bridge.Aging MIN_AGING MAX_AGING 1
+tp_writable tp.AgingTime = writable_scalar bridge.Aging MIN_AGING MAX_AGING 1
 
 abbrev pub static_writable : Static → Option Writable
 -- 5.1.1.3 dot1dStaticAllowedToGoTo

@@ -1,7 +1,7 @@
 //! Commits and their undoing by the objects of a registry.
 ghost use Rattle.std.specs.Prelude.{◌≡◌, ◌<◌, true, false, length, slice_get, slice_set, Some, OnOk, OnErr};
 ghost use Rattle.setting_keys.specs.declared.SettingValue.{SettingValue as AnySetting};
-ghost use Rattle.setphase_core.specs.Objects.{after_call, object_after_commit, committed_reservation, object_after_failure, IsReserved, IsCommitted, HasRoom, HasRoomBack, IsByPlan};
+ghost use Rattle.setphase_core.specs.Objects.{after_call, object_after_commit, committed_reservation, object_after_failure, IsReserved, IsCommitted, HasSpace, HasSpaceBack, IsByPlan};
 ghost use Rattle.setphase_core.specs.Settings.{put, setting, IsSettingInRange, IsLine};
 ghost use Rattle.setphase_core.specs.Staging.{object_at};
 
@@ -19,7 +19,7 @@ impl<O: MibObject> Registry<O> {
     ) -> Result<(), DeviceFault>
         requires within { place < length self.old }
         requires reserved { IsReserved world.old (object_at self.old place) slot }
-        requires room { HasRoom world.old slot.key slot.value }
+        requires space { HasSpace world.old slot.key slot.value }
         ensures put { OnOk result (world.new ≡ put world.old slot.key slot.value) }
         ensures kept { OnOk result (self.new ≡ slice_set self.old place
             (object_after_commit (object_at self.old place) slot (setting world.old slot.key))) }
@@ -45,7 +45,7 @@ impl<O: MibObject> Registry<O> {
         requires within { place < length self.old }
         requires committed { (before : AnySetting)
             × IsCommitted world.old (object_at self.old place) slot before }
-        requires room { HasRoomBack world.old (object_at self.old place) slot }
+        requires space { HasSpaceBack world.old (object_at self.old place) slot }
         ensures put { OnOk result ((before : AnySetting)
             → slice_get (object_at self.old place).reserved slot.place
             ≡ Some (committed_reservation slot before)

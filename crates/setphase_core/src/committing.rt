@@ -4,7 +4,7 @@ ghost use Rattle.setphase_core.specs.declared.world.World.{World as AnyWorld};
 ghost use Rattle.setphase_core.specs.Objects.{object_after_release};
 ghost use Rattle.setphase_core.specs.Settings.{bridge_keys, IsLine};
 ghost use Rattle.setphase_core.specs.Together.{assign};
-ghost use Rattle.setphase_core.specs.Staging.{assignments_of, IsUnderWay, AreCommitted, HasFailed, HasRoomFor, MayUndo, AreCalled, commits_at, undos_at, entries_of};
+ghost use Rattle.setphase_core.specs.Staging.{assignments_of, IsUnderWay, AreCommitted, HasFailed, HasSpaceFor, MayUndo, AreCalled, commits_at, undos_at, entries_of};
 
 use crate::limits::MAX_VARIABLES;
 use crate::object::MibObject;
@@ -20,7 +20,7 @@ pub(crate) fn commit_all<O: MibObject, const PLACES: usize>(
     requires none { staging.old.committed ≡ 0 }
     requires under_way { IsUnderWay world.old staging.old.registry.now staging.old.staged.items
         staging.old.tested staging.old.committed }
-    requires room { HasRoomFor world.old (assignments_of staging.old.staged.items) }
+    requires space { HasSpaceFor world.old (assignments_of staging.old.staged.items) }
     ensures under_way { IsUnderWay world.new staging.new.registry.now staging.new.staged.items
         staging.new.tested staging.new.committed }
     ensures same_reference { staging.new.registry.ghost_name ≡ staging.old.registry.ghost_name }
@@ -45,7 +45,7 @@ pub(crate) fn commit_all<O: MibObject, const PLACES: usize>(
 // Puts the key of a setting that a device holds in front.
 fn put_line(keys: &mut SettingKeys, key: SettingKey)
     requires line { IsLine key }
-    requires room { length keys.old < MAX_KEYS }
+    requires space { length keys.old < MAX_KEYS }
     ensures count { length keys.new ≡ length keys.old + 1 }
     ensures keys { bridge_keys keys.new ≡ key ∷ bridge_keys keys.old }
 {

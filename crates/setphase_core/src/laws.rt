@@ -55,7 +55,7 @@ pub fn same_where_equal()
 {}
 
 /// Putting the old value again restores the world.
-pub fn put_back_restores()
+pub fn undo_restores()
     ensures { (w : World) (k : SettingKey) (v : SettingValue) → HasSetting w k
         → put (put w k v) k (setting w k) ≡ w }
 {}

@@ -15,7 +15,7 @@
 //! `held`, `release` and `arm` of all objects. [`are_named`]: whether any index may stand
 //! behind the names of objects, as a registry asks of objects of which nothing else is known.
 //! [`run_set`]: a Set over a registry and a world, all its variables or none, whose result is a
-//! [`SetOutcome`], with its [`Refusal`]; [`Staging`]: its steps.
+//! [`SetOutcome`], with its [`SetRefusal`]; [`Staging`]: its steps.
 //! [`is_scalar`], [`scalar_after`], [`port_at`], [`port_after`]: the indexes of scalars and ports;
 //! [`family_at`], [`family_after`]: the rows of vacmViewTreeFamilyTable by index;
 //! [`Writable`], [`assignment_by`], [`Slots`]: how an object is written, what a variable of it
@@ -55,8 +55,8 @@
 //! [`assignment_by`], and `specs/Writing.antt`. The laws of settings are proved by kind in
 //! `proofs/Puts.antt`, that what is tested is legal in `proofs/Ranges.antt`, and that the same
 //! settings are equal in `proofs/Same.antt`. A setting that a device holds: `is_line` of
-//! `specs/Settings.antt`. A put that may take memory: `is_static` there, `HasRoom` of
-//! `specs/Objects.antt`, and `proofs/Room.antt`. Beside these the
+//! `specs/Settings.antt`. A put that may take memory: `is_static` there, `HasSpace` of
+//! `specs/Objects.antt`, and `proofs/Space.antt`. Beside these the
 //! timers and the ports of rows that are not there (`specs/Together.antt`, `src/sets.rt`) and what
 //! could not be undone (`src/committing.rt`) go by kinds of keys, and say of a new one that it is
 //! none of theirs. A value may have a type with a model, as a mask has: a slot that is used
@@ -122,7 +122,7 @@ pub use named::are_named;
 pub use object::{Assignment, DeviceFault, Index, MibObject, Reservation, SetFault, Slot};
 pub use passing::{Passing, Spot};
 pub use registry::{Registry, RegistryFault};
-pub use sets::{Refusal, SetOutcome, run_set};
+pub use sets::{SetOutcome, SetRefusal, run_set};
 pub use slots::Slots;
 pub use staging::{Staged, Staging, Standing, TestedVariable, VariableFault};
 pub use world::World;

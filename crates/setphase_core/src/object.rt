@@ -85,7 +85,7 @@ pub struct DeviceFault;
 /// for the Set that is being made. None of its calls changes what it shows of a given world.
 pub trait MibObject: Drop {
     ghost use Rattle.setting_keys.specs.declared.SettingValue.{SettingValue as AnySetting};
-    ghost use Rattle.setphase_core.specs.Objects.{ObjectState, IsReserved, IsCommitted, HasRoom, HasRoomBack, IsByPlan, reserve, after_call, object_after_arm, object_after_commit, object_after_release, object_after_failure, committed_reservation};
+    ghost use Rattle.setphase_core.specs.Objects.{ObjectState, IsReserved, IsCommitted, HasSpace, HasSpaceBack, IsByPlan, reserve, after_call, object_after_arm, object_after_commit, object_after_release, object_after_failure, committed_reservation};
     ghost use Rattle.setphase_core.specs.Settings.{setting, put, IsSettingInRange, IsLine};
     ghost use Rattle.setphase_core.specs.Columns.{shown_by, longest_index};
     ghost use Rattle.setphase_core.specs.Values.{value_at, index_after};
@@ -150,7 +150,7 @@ pub trait MibObject: Drop {
     /// device holds can fail.
     fn commit(&mut self, world: &mut World, slot: Slot) -> Result<(), DeviceFault>
         requires reserved { IsReserved world.old (state self.old) slot }
-        requires room { HasRoom world.old slot.key slot.value }
+        requires space { HasSpace world.old slot.key slot.value }
         ensures put { OnOk result (world.new ≡ put world.old slot.key slot.value) }
         ensures kept { OnOk result
             (state self.new ≡ object_after_commit (state self.old) slot
@@ -172,7 +172,7 @@ pub trait MibObject: Drop {
     fn undo(&mut self, world: &mut World, slot: Slot) -> Result<(), DeviceFault>
         requires committed { (before : AnySetting)
             × IsCommitted world.old (state self.old) slot before }
-        requires room { HasRoomBack world.old (state self.old) slot }
+        requires space { HasSpaceBack world.old (state self.old) slot }
         ensures put { OnOk result ((before : AnySetting)
             → slice_get (state self.old).reserved slot.place
             ≡ Some (committed_reservation slot before)

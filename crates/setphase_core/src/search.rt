@@ -18,7 +18,7 @@ use steps::Steps;
 
 // How the name of the object at a place stands to a name: `Equal` where it begins it, `Greater`
 // where it is greater, and else `Less`. It is one step, and the search compares names here alone.
-fn look<O: MibObject, L: Ledger>(
+fn lookup<O: MibObject, L: Ledger>(
     objects: &[O],
     place: usize,
     name: &[u32],
@@ -58,7 +58,7 @@ pub fn place_of<O: MibObject, L: Ledger>(
     let mut high = objects.len();
     while low < high {
         let middle = low + (high - low) / 2;
-        match look(objects, middle, name, steps) {
+        match lookup(objects, middle, name, steps) {
             Ordering::Less => low = middle + 1,
             Ordering::Equal => return Ok(middle),
             Ordering::Greater => high = middle,

@@ -5,11 +5,11 @@ ghost use Rattle.vacm_core.specs.Families.{NamesFamilyOf};
 ghost use Rattle.setphase_core.specs.Objects.{object_after_release};
 ghost use Rattle.setphase_core.specs.Registry.{rows_of, held_count};
 ghost use Rattle.setphase_core.specs.Settings.{setting, HasSetting, same_settings_of, with_settings_of};
-ghost use Rattle.setphase_core.specs.Variables.{Written as Variable, status_of, refusal_for, single_refusals, writings};
+ghost use Rattle.setphase_core.specs.Variables.{NamedAssignment as Variable, status_of, refusal_for, single_refusals, writings};
 ghost use Rattle.setphase_core.specs.Together.{assign, assignments, is_timer, lacks_row, timer, timers_agree, joint_refusal, refusal_of};
 ghost use Rattle.setphase_core.specs.Outcomes.{committed_of, refusal_in, notes_in, changed_in, world_after_set, AreNotes, NamesASetting};
 ghost use Rattle.setphase_core.specs.Calls.{calls_of, object_after_set, FollowPlans};
-ghost use Rattle.setphase_core.specs.Staging.{assignments_of, static_count, IsDistinct, AreLegal, HasRoomFor, IsUnderWay};
+ghost use Rattle.setphase_core.specs.Staging.{assignments_of, static_count, IsDistinct, AreLegal, HasSpaceFor, IsUnderWay};
 ghost use Rattle.setphase_core.specs.Tested.{first_in, first_lacking, is_contradicting, inconsistency, AreStaged, ArePassed, AreReady};
 
 use crate::committing::{commit_all, undo_all};
@@ -29,7 +29,7 @@ const TWO_SECONDS: u64 = 200;
 
 /// Why a Set is refused.
 #[derive(Clone, Copy, Debug, PartialEq, Eq)]
-pub struct Refusal {
+pub struct SetRefusal {
     /// The error-status.
     pub status: ErrorStatus,
     /// The number of the variable, counted from 1.
@@ -47,7 +47,7 @@ pub enum SetOutcome {
         changed: bool,
     },
     /// Nothing was changed.
-    Refused(Refusal),
+    Refused(SetRefusal),
     /// The commit of the variable of this number, counted from 1, failed, and those committed
     /// before it were undone: nothing is changed (RFC 3416, 4.2.5).
     CommitFailed(usize),
@@ -130,16 +130,16 @@ impl SetFault {
 }
 
 // The refusal for the fault of the variable of a number.
-fn refusal_for(number: usize, fault: VariableFault) -> Refusal
+fn refusal_for(number: usize, fault: VariableFault) -> SetRefusal
     ensures { result ≡ refusal_for number fault }
 {
     match fault {
-        VariableFault::NoAccess(answer) => Refusal {
+        VariableFault::NoAccess(answer) => SetRefusal {
             status: ErrorStatus::NoAccess,
             index: number,
             family: Some(answer),
         },
-        VariableFault::Refused(fault) => Refusal {
+        VariableFault::Refused(fault) => SetRefusal {
             status: fault.status(),
             index: number,
             family: None,
@@ -153,7 +153,7 @@ fn stage_all<O: MibObject, const PLACES: usize>(
     world: &World,
     view: &Name,
     bindings: &[Binding],
-) -> Result<Joint, Refusal>
+) -> Result<Joint, SetRefusal>
     requires places { min (length bindings.now) MAX_VARIABLES ≤ PLACES }
     requires fresh { staging.old.registry.now ≡ map object_after_release staging.old.registry.now }
     requires staged { staging.old.staged.items ≡ [] }
@@ -262,10 +262,10 @@ fn first_lacking(world: &World, staged: &[Staged]) -> Option<usize>
 }
 
 // The refusal for a variable that does not go together with the others.
-fn joint_refusal(status: ErrorStatus, number: usize) -> Refusal
+fn joint_refusal(status: ErrorStatus, number: usize) -> SetRefusal
     ensures { result ≡ joint_refusal status number }
 {
-    Refusal {
+    SetRefusal {
         status,
         index: number,
         family: None,
@@ -273,7 +273,7 @@ fn joint_refusal(status: ErrorStatus, number: usize) -> Refusal
 }
 
 // Why the variables do not go together, where they do not.
-fn inconsistency(world: &World, staged: &[Staged], joint: Joint) -> Option<Refusal>
+fn inconsistency(world: &World, staged: &[Staged], joint: Joint) -> Option<SetRefusal>
     requires distinct { IsDistinct (assignments_of staged.now) }
     requires legal { AreLegal world.now (assignments_of staged.now) }
     ensures { result ≡ inconsistency joint.contradiction
@@ -299,7 +299,7 @@ fn refused<O: MibObject, const PLACES: usize>(
     world: &World,
     view: &Name,
     bindings: &[Binding],
-) -> Option<Refusal>
+) -> Option<SetRefusal>
     requires places { min (length bindings.now) MAX_VARIABLES ≤ PLACES }
     requires fresh { staging.old.registry.now ≡ map object_after_release staging.old.registry.now }
     requires staged { staging.old.staged.items ≡ [] }
@@ -355,7 +355,7 @@ fn count_static(staged: &[Staged]) -> usize
 }
 
 // Commits all that is staged; where a commit fails, undoes those before it. Whether a setting gets
-// another value from what is staged is said ahead.
+// another value from what is staged is stated ahead.
 fn commit_staged<O: MibObject, const PLACES: usize>(
     staging: &mut Staging<'_, O, PLACES>,
     world: &mut World,
@@ -366,7 +366,7 @@ fn commit_staged<O: MibObject, const PLACES: usize>(
     requires under_way { IsUnderWay world.old staging.old.registry.now staging.old.staged.items
         staging.old.tested staging.old.committed }
     requires distinct { IsDistinct (assignments_of staging.old.staged.items) }
-    requires room { HasRoomFor world.old (assignments_of staging.old.staged.items) }
+    requires space { HasSpaceFor world.old (assignments_of staging.old.staged.items) }
     requires changed { changed ≡ not (same_settings_of world.old
         (assign (assignments_of staging.old.staged.items) world.old)) }
     ensures same_reference { staging.new.registry.ghost_name ≡ staging.old.registry.ghost_name }

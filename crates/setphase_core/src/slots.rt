@@ -1,7 +1,7 @@
 //! The slots that an object has reserved, for those who write objects.
 ghost use Rattle.std.specs.Prelude.{◌≡◌, ◌<◌, ◌≤◌, [], ◌∷◌, ◌++◌, length, slice_get, slice_set, Some, IfOk, OnErr, Ok, Err};
 ghost use Rattle.setting_keys.specs.declared.SettingValue.{SettingValue as AnySetting};
-ghost use Rattle.setphase_core.specs.Objects.{HasRoom, pending_reservation, committed_reservation};
+ghost use Rattle.setphase_core.specs.Objects.{HasSpace, pending_reservation, committed_reservation};
 ghost use Rattle.setphase_core.specs.Settings.{HasSetting, IsSettingInRange, setting, put};
 ghost use Rattle.setphase_core.specs.Writing.{next_slot, within_rows, assignments_in};
 
@@ -89,7 +89,7 @@ impl Slots {
     pub fn commit(&mut self, world: &mut World, slot: Slot)
         requires key { HasSetting world.old slot.key }
         requires value { IsSettingInRange world.old slot.key slot.value }
-        requires room { HasRoom world.old slot.key slot.value }
+        requires space { HasSpace world.old slot.key slot.value }
         requires place { slot.place < length self.old }
         ensures put { world.new ≡ put world.old slot.key slot.value }
         ensures kept { self.new

@@ -3,7 +3,7 @@
 ghost use Rattle.std.specs.Prelude.{◌≡◌, ◌+◌, ◌-◌, ◌≤◌, ◌<◌, true, false, [], length, map, slice_get, slice_set, Some, OnOk, OnErr, IfOk, IfErr};
 ghost use Rattle.setting_keys.specs.declared.SettingValue.{SettingValue as AnySetting};
 ghost use Rattle.setphase_core.specs.declared.world.World.{World as AnyWorld};
-ghost use Rattle.setphase_core.specs.Objects.{after_call, object_after_release, object_after_commit, committed_reservation, object_after_failure, HasRoom, HasRoomBack, IsByPlan};
+ghost use Rattle.setphase_core.specs.Objects.{after_call, object_after_release, object_after_commit, committed_reservation, object_after_failure, HasSpace, HasSpaceBack, IsByPlan};
 ghost use Rattle.setphase_core.specs.Settings.{put, setting, IsSettingInRange, IsLine};
 ghost use Rattle.setphase_core.specs.declared.object.SetFault.TheVariants.{ResourceUnavailable};
 ghost use Rattle.setphase_core.specs.Staging.{object_at, entry_at, assignments_of, IsUnderWay};
@@ -185,7 +185,7 @@ impl<'a, O: MibObject, const PLACES: usize> Staging<'a, O, PLACES> {
         }
     }
 
-    // Keeps the slot of a variable, where the Set has room for it, and stages it where it is the
+    // Keeps the slot of a variable, where the Set has space for it, and stages it where it is the
     // first of its setting.
     fn keep(&mut self, object: usize, slot: Slot) -> Result<TestedVariable, VariableFault>
         requires few { length self.old.staged.items ≤ self.old.tested }
@@ -193,7 +193,7 @@ impl<'a, O: MibObject, const PLACES: usize> Staging<'a, O, PLACES> {
         ensures same_reference { self.new.registry.ghost_name ≡ self.old.registry.ghost_name }
         ensures registry { self.new.registry.now ≡ self.old.registry.now }
         ensures committed { self.new.committed ≡ self.old.committed }
-        ensures room { OnOk result (self.old.tested < MAX_VARIABLES) }
+        ensures space { OnOk result (self.old.tested < MAX_VARIABLES) }
         ensures tested { OnOk result (self.new.tested ≡ self.old.tested + 1) }
         ensures standing { IfOk result (λ passed. passed ≡ record {
           key = slot.key;
@@ -233,8 +233,8 @@ impl<'a, O: MibObject, const PLACES: usize> Staging<'a, O, PLACES> {
         requires pending { self.old.committed < length self.old.staged.items }
         requires under_way { IsUnderWay world.old self.old.registry.now self.old.staged.items
             self.old.tested self.old.committed }
-        requires room { let e = entry_at self.old.staged.items self.old.committed in
-            HasRoom world.old e.slot.key e.slot.value }
+        requires space { let e = entry_at self.old.staged.items self.old.committed in
+            HasSpace world.old e.slot.key e.slot.value }
         ensures under_way { IsUnderWay world.new self.new.registry.now self.new.staged.items
             self.new.tested self.new.committed }
         ensures same_reference { self.new.registry.ghost_name ≡ self.old.registry.ghost_name }
@@ -275,8 +275,8 @@ impl<'a, O: MibObject, const PLACES: usize> Staging<'a, O, PLACES> {
         requires pending { 0 < self.old.committed }
         requires under_way { IsUnderWay world.old self.old.registry.now self.old.staged.items
             self.old.tested self.old.committed }
-        requires room { let e = entry_at self.old.staged.items (self.old.committed - 1) in
-            HasRoomBack world.old (object_at self.old.registry.now e.object) e.slot }
+        requires space { let e = entry_at self.old.staged.items (self.old.committed - 1) in
+            HasSpaceBack world.old (object_at self.old.registry.now e.object) e.slot }
         ensures under_way { IsUnderWay world.new self.new.registry.now self.new.staged.items
             self.new.tested self.new.committed }
         ensures same_reference { self.new.registry.ghost_name ≡ self.old.registry.ghost_name }

@@ -38,7 +38,7 @@ impl Drop for World {
 
 impl World {
     ghost use Rattle.setphase_core.specs.Settings.{setting, put, HasSetting, IsSettingInRange};
-    ghost use Rattle.setphase_core.specs.Objects.{HasRoom};
+    ghost use Rattle.setphase_core.specs.Objects.{HasSpace};
 
     /// A copy: the same bridge, policy and counts.
     ///
@@ -101,7 +101,7 @@ impl World {
     pub fn put_setting(&mut self, key: SettingKey, value: SettingValue) -> SettingValue
         requires key { HasSetting self.old key }
         requires value { IsSettingInRange self.old key value }
-        requires room { HasRoom self.old key value }
+        requires space { HasSpace self.old key value }
         ensures before { result ≡ setting self.old key }
         ensures after { self.new ≡ put self.old key value }
     {

@@ -78,7 +78,7 @@ impl Default for SettingValue {
 pub const MAX_KEYS: usize = 64;
 
 // The parts of a bridge's key, in an order in which they take four octets and not eight: a list of 64 is moved
-// about while a Set is made, and room for two is reserved for each.
+// about while a Set is made, and space for two is reserved for each.
 #[derive(Clone, Copy)]
 enum Parts {
     Bridge(BridgeKey),

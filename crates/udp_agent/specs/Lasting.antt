@@ -45,7 +45,7 @@ module _ {A W T C V P : Type 0} (worker_did : A → List Deed → A → Type 0) 
     pub gone_on : HaveGoneOn worker_did worker_failures went failures ticker_did ticker_failures
         control_did watch_went pace_went plan start later (all_lines watch pace run control) left ends
 
-  -- What comes of lines that are to go on: nothing is said of where there was no memory to begin with.
+  -- What comes of lines that are to go on: nothing is stated of where there was no memory to begin with.
   abbrev pub IsServingForever : V → P → Plan → History → Lines A W T → Option C
       → Result (Vec End Global) AllocError → Type 0
   IsServingForever watch pace plan start run control (Ok ends) =
@@ -67,7 +67,7 @@ module _ {A W T C V P : Type 0} (worker_did : A → List Deed → A → Type 0) 
     pub pace : P
     pub served : HaveServed watch pace plan start run control ends
 
-  -- What comes of a setup that is served without an end: nothing is said of where its sockets could
+  -- What comes of a setup that is served without an end: nothing is stated of where its sockets could
   -- not be bound, where there was no memory to begin with, or where a task had not begun in time.
   abbrev pub IsServedForever : (A → Bool) → Setup → Bool → Bool → History
       → Result (Vec End Global) Error → Type 0

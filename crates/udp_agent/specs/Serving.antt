@@ -33,7 +33,7 @@ module _ {A W T : Type 0} (worker_did : A → List Deed → A → Type 0) (worke
     pub bound : AreLines setup lines
     pub served : IsServing plan start lines answer
 
-  -- What comes of a setup: nothing is said of where its sockets could not be bound.
+  -- What comes of a setup: nothing is stated of where its sockets could not be bound.
   abbrev pub IsServed : Setup → History → Result Report ServeFault → Type 0
   IsServed setup start (Ok report) = IsServingBy setup start (Ok report)
   IsServed setup start (Err (Run why)) = IsServingBy setup start (Err why)

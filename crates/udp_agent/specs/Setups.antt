@@ -8,14 +8,14 @@ use Rattle.udp_agent.specs.declared.setup.Setup.{Setup}
 use Rattle.udp_agent.specs.declared.setup.Unserved.{Unserved}
 use Rattle.udp_agent.specs.declared.setup.Unserved.TheVariants.{NoServe, NoSockets}
 
--- it is said of a port where its frames come in, and where they go
+-- it is stated of a port where its frames come in, and where they go
 pub record HasSockets (port : Port) : Type 0 where
   pub listens : SocketAddr
   pub listens_at : port.listen ≡ Some listens
   pub sends : SocketAddr
   pub sends_to : port.peer ≡ Some sends
 
--- it is said how to serve, and of each port where its frames come in and go
+-- it is stated how to serve, and of each port where its frames come in and go
 pub record HasSetup (ports : List Port) (serve : Option Serve) : Type 0 where
   pub how : Serve
   pub is : serve ≡ Some how

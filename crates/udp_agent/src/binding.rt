@@ -48,11 +48,11 @@ fn bind_ports<R: Net>(rt: &R, alloc: Global, ports: &[Port]) -> io::Result<Vec<U
     Ok(wires)
 }
 
-// An address that is said.
-pub(crate) fn address_of(said: Option<SocketAddr>) -> io::Result<SocketAddr>
-    ensures { IfOk result (λ address. said ≡ Some address) }
+// An address that is stated.
+pub(crate) fn address_of(stated: Option<SocketAddr>) -> io::Result<SocketAddr>
+    ensures { IfOk result (λ address. stated ≡ Some address) }
 {
-    match said {
+    match stated {
         Some(address) => Ok(address),
         None => Err(io::Error::from(ErrorKind::InvalidInput)),
     }

@@ -1,5 +1,5 @@
 //! Logs what became of an operator's commands.
-use control_text::Refusal;
+use control_text::CommandFault;
 use history_core::{Receipt, ReceiptEvent};
 use live_control::ControlItem;
 use log::{Log, info, warn};
@@ -9,7 +9,7 @@ use log::{Log, info, warn};
 /// `control: refused: WHY`. Nothing is logged of one for the counts, nor any text of a policy.
 pub(crate) fn log_command<R: Log>(rt: &R, item: &ControlItem) {
     match item {
-        ControlItem::Told => {}
+        ControlItem::Reported => {}
         ControlItem::Entered(receipt) => log_entered(rt, receipt),
         ControlItem::Refused(refusal) => log_refused(rt, why_refused(*refusal)),
         ControlItem::Short => log_refused(rt, NO_MEMORY),
@@ -38,10 +38,10 @@ fn log_refused<R: Log>(rt: &R, why: &str) {
 }
 
 // Why a command is refused.
-fn why_refused(refusal: Refusal) -> &'static str {
+fn why_refused(refusal: CommandFault) -> &'static str {
     match refusal {
-        Refusal::BadLine => "no command",
-        Refusal::NoPolicy => "no policy, or one without its end or of too many octets",
-        Refusal::Memory => NO_MEMORY,
+        CommandFault::BadLine => "no command",
+        CommandFault::NoPolicy => "no policy, or one without its end or of too many octets",
+        CommandFault::Memory => NO_MEMORY,
     }
 }

@@ -7,14 +7,14 @@ ghost use Rattle.udp_agent.specs.Lasting.{is_failure, is_any_failure, IsServingF
 use crate::binding::plan_of;
 use crate::lasting_binding::{LastingControl, LastingWorker, bind_lasting, control_wire};
 use crate::ready::log_ready;
+use crate::reporting::Reporter;
 use crate::setup::Setup;
-use crate::telling::Teller;
 use control_socket::ControlSocket;
 use history_core::Kept;
 use live_agent::{End, GatedWire, Paced, PacedWire, Plan};
 use live_audit::Auditing;
 use live_control::ControlWire;
-use live_laps::{Book, Watch, lines_of, serve_laps};
+use live_laps::{Watch, WorkTotals, lines_of, serve_laps};
 use live_run::Lines;
 use log::Log;
 use setphase_core::MibObject;
@@ -145,7 +145,7 @@ pub fn serve_forever<'r, O: MibObject + Send, R: Threads + Wait + Net + Clock + 
         ⟦<LastingWire<&'r R> as Wire>⟧.went ⟦<LastingWire<&'r R> as Wire>⟧.failures
         ⟦<LastingTicker<&'r R> as PacedWire>⟧.did ⟦<LastingTicker<&'r R> as Wire>⟧.failures
         ⟦<LastingControl<&'r R> as ControlWire>⟧.did
-        ⟦<Teller<'r, R> as Watch>⟧.went ⟦<SecondPace<&'r R> as Pace>⟧.went
+        ⟦<Reporter<'r, R> as Watch>⟧.went ⟦<SecondPace<&'r R> as Pace>⟧.went
         is_audited_worker setup.now (is_audited audits.now) (is_some control.entry) kept result }
 {
     let plan = plan_of(alloc, setup)?;
@@ -158,8 +158,8 @@ pub fn serve_forever<'r, O: MibObject + Send, R: Threads + Wait + Net + Clock + 
     let control = control_wire(lines.ports.as_slice(), control)?;
     let is_audited = audits.backlog().is_some();
     log_ready(rt, version, setup, is_audited);
-    let book = Book::new();
-    let watch = Teller {
+    let book = WorkTotals::new();
+    let watch = Reporter {
         rt,
         book: &book,
         losses: sending.losses(),

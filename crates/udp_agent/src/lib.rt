@@ -4,13 +4,13 @@
 //! # Entry points
 //! [`Setup`] says where, and how many rounds a line makes, and [`setup_of`] makes one of what is
 //! configured; where it makes none, [`why_unserved`] says why, an [`Unserved`]. [`serve`] binds its
-//! sockets ([`bind_lines`]) and runs its lines over a history by its plan ([`plan_of`], [`serve_lines`]), each in a thread of its own; [`tell_report`] logs what
-//! they did, [`tell_fault`] why there is no report, a [`ServeFault`]. [`serve_forever`] does the
+//! sockets ([`bind_lines`]) and runs its lines over a history by its plan ([`plan_of`], [`serve_lines`]), each in a thread of its own; [`log_report`] logs what
+//! they did, [`report_fault`] why there is no report, a [`ServeFault`]. [`serve_forever`] does the
 //! same without an end ([`serve_lines_forever`]), over lines of its own ([`bind_lasting`]) at which no
 //! send fails and whose workers may be audited (`live_audit`), and takes an operator's commands at a
 //! control socket, if it is handed one ([`LastingControl`]), logs what it serves ([`log_ready`]), and
 //! logs as it goes on, also what became of each command. Each of its tasks reports that it has begun
-//! (`wire_core::Startup`); where one does not in time, all end. [`log_losses`] logs what could not be sent, [`any_failed`] says whether a line failed, [`tell_not_begun`] logs why nothing
+//! (`wire_core::Startup`); where one does not in time, all end. [`log_losses`] logs what could not be sent, [`any_failed`] says whether a line failed, [`log_not_begun`] logs why nothing
 //! was served.
 //!
 //! # Definitions
@@ -40,15 +40,15 @@ mod lasting;
 mod lasting_binding;
 mod losses;
 mod ready;
+mod reporting;
 mod serving;
 mod setup;
-mod telling;
 
 pub use binding::{UdpLines, UdpTicker, UdpWorker, bind_lines, plan_of};
 pub use lasting::{LastingTicker, any_failed, serve_forever, serve_lines_forever};
 pub use lasting_binding::{LastingControl, LastingLines, LastingWorker, bind_lasting};
 pub use losses::log_losses;
 pub use ready::log_ready;
+pub use reporting::{Reporter, log_not_begun, log_report, report_fault};
 pub use serving::{ServeFault, serve, serve_lines};
 pub use setup::{Setup, Unserved, setup_of, why_unserved};
-pub use telling::{Teller, tell_fault, tell_not_begun, tell_report};

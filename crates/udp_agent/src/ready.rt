@@ -47,7 +47,7 @@ impl Display for Served<'_> {
     }
 }
 
-// The sockets of a port, as far as they are said.
+// The sockets of a port, as far as they are stated.
 #[derive(Drop)]
 struct Sockets<'a>(&'a Port);
 

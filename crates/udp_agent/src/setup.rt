@@ -19,7 +19,7 @@ pub struct Setup {
     pub serve: Serve,
 }
 
-// Whether it is said of a port where its frames come in, and where they go.
+// Whether it is stated of a port where its frames come in, and where they go.
 fn has_sockets(port: &Port) -> bool
     ensures yes { result ≡ true → HasSockets port.now }
     ensures no { result ≡ false → HasSockets port.now → ⊥ }

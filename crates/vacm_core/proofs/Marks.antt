@@ -5,8 +5,8 @@ use Rattle.std.proofs.lemmas.Bool.{both_ways, and_from, eqb-true, cases_Bool, ca
 use Rattle.vacm_core.specs.declared.tree.Step.{Step}
 use Rattle.std.specs.declared.alloc.Global.{Global}
 use Rattle.vacm_core.specs.declared.radix.Radix.{Radix}
-use Rattle.vacm_core.specs.declared.radix.Radix.TheVariants.{Run as RunOf}
-use Rattle.vacm_core.specs.declared.radix.Run.{Run}
+use Rattle.vacm_core.specs.declared.radix.Radix.TheVariants.{Segment as RunOf}
+use Rattle.vacm_core.specs.declared.radix.Segment.{Segment}
 use Rattle.vacm_core.specs.Trees.{runs, reaches, after_run, counting, same_parts}
 use Rattle.vacm_core.proofs.Agrees.{and_true}
 
@@ -87,8 +87,8 @@ runs_marked loose marked (p ∷ parts) old new (o ∷ other) (s ∷ way) tight b
     (runs_marked loose marked parts old new other way (λ m. (and_true s.counts (list_all (λ t. t.counts) (take (length parts) way)) (tight m)).1) below alike.1 on.1)
 
 -- what a way reaches at a run
-pub at_run : (t : Radix) (b : Box Run Global) → t ≡ RunOf b → (r : Run) → r ≡ b.value → (way : List Step) (n : ℕ) → reaches t way n ≡ true → runs r.loose r.parts.items (λ rest. reaches r.below rest n) way ≡ true
-at_run t b is r same way n e = subst (λ (x : Run). runs x.loose x.parts.items (λ rest. reaches x.below rest n) way ≡ true) (sym same) (rw is at e)
+pub at_run : (t : Radix) (b : Box Segment Global) → t ≡ RunOf b → (r : Segment) → r ≡ b.value → (way : List Step) (n : ℕ) → reaches t way n ≡ true → runs r.loose r.parts.items (λ rest. reaches r.below rest n) way ≡ true
+at_run t b is r same way n e = subst (λ (x : Segment). runs x.loose x.parts.items (λ rest. reaches x.below rest n) way ≡ true) (sym same) (rw is at e)
 
 -- ---- names
 

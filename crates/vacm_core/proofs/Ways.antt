@@ -6,9 +6,9 @@ use Rattle.std.proofs.lemmas.Option.{same_Some, none-some}
 use Rattle.std.proofs.Math.Seq.{take-length}
 use Rattle.vacm_core.specs.declared.tree.Step.{Step}
 use Rattle.vacm_core.specs.declared.radix.Radix.{Radix}
-use Rattle.vacm_core.specs.declared.radix.Radix.TheVariants.{Fork, Run as RunOf}
+use Rattle.vacm_core.specs.declared.radix.Radix.TheVariants.{Fork, Segment as RunOf}
 use Rattle.vacm_core.specs.declared.radix.Branch.{Branch}
-use Rattle.vacm_core.specs.declared.radix.Run.{Run}
+use Rattle.vacm_core.specs.declared.radix.Segment.{Segment}
 use Rattle.vacm_core.specs.Trees.{is_row, ends_or, runs, after_run, reaches, fits}
 use Rattle.vacm_core.proofs.Agrees.{and_true, part_found}
 
@@ -120,7 +120,7 @@ along loose (p ∷ parts) deeper (s ∷ rest) (x ∷ name) e f =
     }
 
 -- what reaches a run goes along it
-pub along_run : (t : Radix) (b : Box Run Global) → t ≡ RunOf b → (way : List Step) (name : List ℕ) (n : ℕ) → reaches t way n ≡ true → fits way name ≡ true
+pub along_run : (t : Radix) (b : Box Segment Global) → t ≡ RunOf b → (way : List Step) (name : List ℕ) (n : ℕ) → reaches t way n ≡ true → fits way name ≡ true
     → Along b.value.loose b.value.parts.items (λ rest. reaches b.value.below rest n) name
 along_run t b is way name n e f = along b.value.loose b.value.parts.items (λ rest. reaches b.value.below rest n) way name (rw is at e) f
 

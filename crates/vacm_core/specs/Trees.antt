@@ -57,7 +57,7 @@ reaches (Radixes.Fork' p part here loose loose_equal less equal greater) (s ∷ 
     && (if nat_lt s.part part then reaches less (s ∷ rest) row
     else (if nat_lt part s.part then reaches greater (s ∷ rest) row
     else (loose_equal || s.counts) && ends_or here (reaches equal rest row) rest row))
-reaches (Radixes.Run' p parts loose below) way row =
+reaches (Radixes.Segment' p parts loose below) way row =
     runs loose parts.items (λ rest. reaches below rest row) way
 
 -- ---- names

@@ -12,7 +12,7 @@ use std::alloc::{AllocError, Global};
 use std::cmp::Ordering;
 
 /// A row as it is written, which stands for a row where its lengths and fields are right.
-pub trait Written: Sized + Drop {
+pub trait WrittenRow: Sized + Drop {
     /// The row that is kept.
     type Row: Drop;
 
@@ -64,7 +64,7 @@ pub trait Written: Sized + Drop {
 }
 
 // The row that a written row stands for, or what is wrong with it by itself.
-fn read_row<W: Written>(written: W) -> Result<W::Row, Wrong>
+fn read_row<W: WrittenRow>(written: W) -> Result<W::Row, Wrong>
     ensures { result ≡ by_itself (rules_of W.lengths W.fields W.row_of W.same_key) written }
 {
     if !written.has_right_lengths() {
@@ -78,7 +78,7 @@ fn read_row<W: Written>(written: W) -> Result<W::Row, Wrong>
 
 // The rows that written rows stand for up to the first that is at fault by itself, and what is wrong
 // with that one, if there is one.
-fn read_rows<W: Written>(
+fn read_rows<W: WrittenRow>(
     alloc: Global,
     written: Rows<W>,
 ) -> Result<(Rows<W::Row>, Option<Wrong>), AllocError>
@@ -104,7 +104,7 @@ fn read_rows<W: Written>(
 /// `Row` with the table, the number of the row, counted from 0, and what is wrong with it; `Memory`
 /// where a growth was refused: the rows that are kept and their numbers take memory, so there is a
 /// first row and nothing is wrong with it.
-pub fn checked_rows<W: Written, T: Copy>(
+pub fn checked_rows<W: WrittenRow, T: Copy>(
     alloc: Global,
     table: T,
     written: Rows<W>,

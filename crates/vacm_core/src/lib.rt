@@ -11,7 +11,7 @@
 //! it had. None of these but `new` takes memory.
 //!
 //! `Vacm::try_copy` copies the tables. `Vacm::rows` gives the rows as they are written; [`Same`]
-//! compares two of these. [`checked_rows`] checks a table of any rows that are [`Written`],
+//! compares two of these. [`checked_rows`] checks a table of any rows that are [`WrittenRow`],
 //! [`copied_rows`] copies any that are [`CopiedAs`] others, and [`deciding_row`] finds the row that
 //! decides a [`Contest`]; `community_core` uses all three.
 //!
@@ -97,7 +97,7 @@ mod verdict;
 mod walk;
 mod written;
 
-pub use checking::{Written, checked_rows};
+pub use checking::{WrittenRow, checked_rows};
 pub use contest::{Contest, deciding_row};
 pub use copying::{CopiedAs, copied_rows};
 pub use fault::{TableFault, VacmTable, Wrong};

@@ -17,7 +17,7 @@ pub enum Radix {
     /// The rows on the three sides of a number.
     Fork(Box<Branch>),
     /// The rows whose ways all go on alike.
-    Run(Box<Run>),
+    Segment(Box<Segment>),
 }
 
 /// Where ways part or end.
@@ -43,7 +43,7 @@ pub struct Branch {
 /// Numbers that each way has here.
 #[cycle(radix)]
 #[derive(Drop)]
-pub struct Run {
+pub struct Segment {
     /// The numbers.
     pub parts: Vec<u32>,
     /// Whether some of their steps does not count.
@@ -72,7 +72,7 @@ fn past(list: &[u32], long: usize) -> Option<&[u32]>
     }
 }
 
-impl Run {
+impl Segment {
     /// What follows in a name that may go along.
     pub fn after<'a>(&self, name: &'a [u32]) -> Option<&'a [u32]>
         ensures { option_map (λ rest. rest.now) result ≡ after_run self.now.loose self.now.parts.items name.now }
@@ -103,7 +103,7 @@ impl Radix {
     /// Whether some step at the first place where ways part does not count.
     pub fn starts_loose(&self) -> bool {
         let first = match self {
-            Radix::Run(run) => &run.below,
+            Radix::Segment(run) => &run.below,
             _ => self,
         };
         match first {
@@ -124,8 +124,8 @@ impl Radix {
         };
         match self {
             Radix::Empty => {}
-            Radix::Run(run) => {
-                let run: &mut Run = run;
+            Radix::Segment(run) => {
+                let run: &mut Segment = run;
                 let long = run.parts.len();
                 if long <= way.len() {
                     run.loose = run.loose || !all_count(&way[..long]);
@@ -153,8 +153,8 @@ impl Radix {
     {
         match self {
             Radix::Empty => {}
-            Radix::Run(run) => {
-                let run: &mut Run = run;
+            Radix::Segment(run) => {
+                let run: &mut Segment = run;
                 run.loose = false;
                 run.below.clear();
             }
@@ -185,19 +185,19 @@ fn run_on(alloc: Global, part: u32, below: Radix) -> Result<Radix, AllocError>
         → reaches radix way row ≡ true) }
 {
     match below {
-        Radix::Run(mut run) => {
+        Radix::Segment(mut run) => {
             run.parts.insert(0, part)?;
-            Ok(Radix::Run(run))
+            Ok(Radix::Segment(run))
         }
         below => {
             let mut parts = Vec::new(alloc);
             parts.push(part)?;
-            let run = Run {
+            let run = Segment {
                 parts,
                 loose: false,
                 below,
             };
-            Ok(Radix::Run(Box::new(alloc, run)?))
+            Ok(Radix::Segment(Box::new(alloc, run)?))
         }
     }
 }

@@ -8,7 +8,7 @@ ghost use Rattle.vacm_core.specs.Orders.{group_key_total, group_key_ties, access
 ghost use Rattle.vacm_core.specs.Texts.{has_length, is_plain};
 ghost use Rattle.vacm_core.specs.Rows.{natural, is_between, level_of, group_lengths, group_fields, group_row, same_group, group_key_cmp, access_lengths, access_fields, access_row, same_access, access_key_cmp, family_lengths, family_fields, family_row, same_family, family_key_cmp, context_lengths};
 
-use crate::checking::Written;
+use crate::checking::WrittenRow;
 use crate::limits::{MAX_FAMILY, MAX_MASK, MAX_MODEL, MAX_NAME};
 use crate::name::{Mask, Name};
 use crate::tables::{AccessRow, FamilyRow, GroupRow, Level};
@@ -42,7 +42,7 @@ fn level_of(number: i64) -> Level
     }
 }
 
-impl Written for WrittenGroup {
+impl WrittenRow for WrittenGroup {
     type Row = GroupRow;
 
     ghost lengths = { group_lengths };
@@ -88,7 +88,7 @@ impl Written for WrittenGroup {
     }
 }
 
-impl Written for WrittenAccess {
+impl WrittenRow for WrittenAccess {
     type Row = AccessRow;
 
     ghost lengths = { access_lengths };
@@ -151,7 +151,7 @@ impl Written for WrittenAccess {
     }
 }
 
-impl Written for WrittenFamily {
+impl WrittenRow for WrittenFamily {
     type Row = FamilyRow;
 
     ghost lengths = { family_lengths };
@@ -202,7 +202,7 @@ impl Written for WrittenFamily {
     }
 }
 
-impl Written for Text {
+impl WrittenRow for Text {
     type Row = Name;
 
     ghost lengths = { context_lengths };

@@ -4,13 +4,13 @@ ghost use Rattle.std.specs.Prelude.{◌≡◌, ◌<◌, ℕ, length, IfOk, OnErr
 ghost use Rattle.std.specs.Option.{option_cmp};
 ghost use Rattle.vacm_core.specs.Repeats.{AreInOrder, IsLeastTied, IsFirstRepeat, cmp_at, lesser};
 
-use crate::checking::Written;
+use crate::checking::WrittenRow;
 use crate::index::numbers_below;
 use std::alloc::{AllocError, Global};
 use std::cmp::Ordering;
 
 // Where the row of one number lies beside that of another; no row comes before any.
-fn cmp_rows<W: Written>(rows: &[W::Row], a: usize, b: usize) -> Ordering
+fn cmp_rows<W: WrittenRow>(rows: &[W::Row], a: usize, b: usize) -> Ordering
     ensures { result ≡ cmp_at W.key_cmp rows.now a b }
 {
     match (rows.get(a), rows.get(b)) {
@@ -26,7 +26,10 @@ fn cmp_rows<W: Written>(rows: &[W::Row], a: usize, b: usize) -> Ordering
 /// # Errors
 ///
 /// Where there is no memory for the numbers; there is then a row.
-pub fn numbers_by_key<W: Written>(alloc: Global, rows: &[W::Row]) -> Result<Vec<usize>, AllocError>
+pub fn numbers_by_key<W: WrittenRow>(
+    alloc: Global,
+    rows: &[W::Row],
+) -> Result<Vec<usize>, AllocError>
     ensures order { IfOk result (λ numbers. AreInOrder W.key_cmp rows.now numbers.items) }
     ensures memory { OnErr result (0 < length rows.now) }
 {
@@ -46,7 +49,7 @@ fn lesser(least: Option<usize>, n: usize) -> usize
 }
 
 // Of the numbers whose rows have the keys of those of the numbers before them, the least.
-fn least_tied<W: Written>(rows: &[W::Row], numbers: &[usize]) -> Option<usize>
+fn least_tied<W: WrittenRow>(rows: &[W::Row], numbers: &[usize]) -> Option<usize>
     ensures { IsLeastTied W.key_cmp rows.now numbers.now result }
 {
     let mut least = None;
@@ -63,7 +66,10 @@ fn least_tied<W: Written>(rows: &[W::Row], numbers: &[usize]) -> Option<usize>
 /// # Errors
 ///
 /// Where there is no memory for the numbers of the rows; there is then a row.
-pub fn first_repeat<W: Written>(alloc: Global, rows: &[W::Row]) -> Result<Option<usize>, AllocError>
+pub fn first_repeat<W: WrittenRow>(
+    alloc: Global,
+    rows: &[W::Row],
+) -> Result<Option<usize>, AllocError>
     ensures first { IfOk result (λ n. IsFirstRepeat W.same_key rows.now n) }
     ensures memory { OnErr result (0 < length rows.now) }
 {

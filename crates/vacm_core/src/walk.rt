@@ -90,7 +90,7 @@ pub fn best_below<C: Contest>(
 {
     let node = match tree {
         Radix::Empty => return best,
-        Radix::Run(run) => {
+        Radix::Segment(run) => {
             return match run.after(name) {
                 Some(after) => best_below(&run.below, contest, rows, after, best, left),
                 None => best,

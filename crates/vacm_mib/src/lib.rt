@@ -8,7 +8,7 @@
 //! # Definitions
 //! What each object shows stands in `setphase_core`: `specs/Columns.antt`, the objects' names in
 //! `specs/Names.antt`, how a Set writes it in `specs/Writing.antt`; the index of a family row in
-//! `vacm_core`: `specs/FamilyIndex.antt`; an object as plain data in `bridge_mib`: `specs/Written.antt`.
+//! `vacm_core`: `specs/FamilyIndex.antt`; an object as plain data in `bridge_mib`: `specs/WritableObject.antt`.
 //!
 //! # Laws
 //! None: each object is its row, and what it has reserved.

@@ -6,7 +6,7 @@ use Rattle.wire_core.specs.declared.wire.Received.{Received}
 use Rattle.wire_core.specs.declared.wire.Received.TheVariants.{Datagram, Nothing, Closed}
 use Rattle.wire_core.specs.declared.wire.WireFault.{WireFault}
 
--- Into room for so many octets came a datagram of this peer, of which these octets have room;
+-- Into space for so many octets came a datagram of this peer, of which these octets have space;
 -- nothing came; nothing will come any more; these octets went to this peer; or a fault.
 pub data Act : Type 0 where
   got : ℕ → SocketAddr → List ℕ → Act
@@ -29,9 +29,9 @@ sent_act peer octets (Err fault) = failed fault
 
 -- A datagram is within the lent slice, which has this length.
 abbrev pub IsWithin : ℕ → Received → Type 0
-IsWithin room (Datagram n peer) = n ≤ room
-IsWithin room Nothing = Unit
-IsWithin room Closed = Unit
+IsWithin space (Datagram n peer) = n ≤ space
+IsWithin space Nothing = Unit
+IsWithin space Closed = Unit
 
 -- A count of failures with one more, which stops at the largest number of 64 bits.
 abbrev pub one_more : ℕ → ℕ

@@ -6,7 +6,7 @@ use Rattle.wire_core.specs.Acts.{Act, got, quiet, closed, sent, failed}
 -- No send of these acts failed.
 abbrev pub NoSendFails : List Act → Type 0
 NoSendFails [] = Unit
-NoSendFails (got room peer octets ∷ acts) = NoSendFails acts
+NoSendFails (got space peer octets ∷ acts) = NoSendFails acts
 NoSendFails (quiet ∷ acts) = NoSendFails acts
 NoSendFails (closed ∷ acts) = NoSendFails acts
 NoSendFails (sent peer octets ∷ acts) = NoSendFails acts

@@ -6,7 +6,7 @@ use Rattle.wire_core.specs.Lasting.{NoSendFails}
 
 pub goes_on : (xs ys : List Act) → NoSendFails xs → NoSendFails ys → NoSendFails (xs ++ ys)
 goes_on [] ys p q = q
-goes_on (got room peer octets ∷ xs) ys p q = goes_on xs ys p q
+goes_on (got space peer octets ∷ xs) ys p q = goes_on xs ys p q
 goes_on (quiet ∷ xs) ys p q = goes_on xs ys p q
 goes_on (closed ∷ xs) ys p q = goes_on xs ys p q
 goes_on (sent peer octets ∷ xs) ys p q = goes_on xs ys p q

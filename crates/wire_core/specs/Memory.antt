@@ -3,38 +3,38 @@ use Rattle.std.specs.Prelude.{◌≡◌, ℕ, List, [], ◌∷◌, ◌++◌, tak
 use Rattle.std.specs.declared.net.socket_addr.SocketAddr.{SocketAddr}
 use Rattle.wire_core.specs.declared.wire.Packet.{Packet}
 use Rattle.wire_core.specs.declared.wire.WireFault.TheVariants.{Receive, Send}
-use Rattle.wire_core.specs.declared.memory.Given.{Given}
-use Rattle.wire_core.specs.declared.memory.Given.TheVariants.{Datagram, Nothing, Fault}
+use Rattle.wire_core.specs.declared.memory.WireInput.{WireInput}
+use Rattle.wire_core.specs.declared.memory.WireInput.TheVariants.{Datagram, Nothing, Fault}
 use Rattle.wire_core.specs.Acts.{Act, got, quiet, closed, sent, failed}
 
 -- What contracts see of it: what is left to give, what was sent, how often it has failed.
 pub record MemoryLine : Type 0 where
-  pub left : List Given
+  pub left : List WireInput
   pub sent : List Packet
   pub failures : ℕ
 
 -- A datagram of a peer, to be given.
-abbrev pub datagram_given : SocketAddr → List ℕ → Given
+abbrev pub datagram_given : SocketAddr → List ℕ → WireInput
 datagram_given peer octets = Datagram (record { peer = peer; octets = octets })
 
--- Each receive takes the next of what is left to give, a datagram cut to its room, and is closed
+-- Each receive takes the next of what is left to give, a datagram cut to its space, and is closed
 -- where nothing is left; a send takes nothing.
-abbrev pub GivesAll : List Given → List Act → List Given → Type 0
+abbrev pub GivesAll : List WireInput → List Act → List WireInput → Type 0
 GivesAll left [] left' = left' ≡ left
-GivesAll left (got room peer octets ∷ acts) left' =
-    (p : Packet) × (rest : List Given) × (left ≡ Datagram p ∷ rest) × (p.peer ≡ peer) × (octets ≡ take room p.octets) × GivesAll rest acts left'
+GivesAll left (got space peer octets ∷ acts) left' =
+    (p : Packet) × (rest : List WireInput) × (left ≡ Datagram p ∷ rest) × (p.peer ≡ peer) × (octets ≡ take space p.octets) × GivesAll rest acts left'
 GivesAll left (quiet ∷ acts) left' =
-    (rest : List Given) × (left ≡ Nothing ∷ rest) × GivesAll rest acts left'
+    (rest : List WireInput) × (left ≡ Nothing ∷ rest) × GivesAll rest acts left'
 GivesAll left (closed ∷ acts) left' = (left ≡ []) × GivesAll left acts left'
 GivesAll left (sent peer octets ∷ acts) left' = GivesAll left acts left'
 GivesAll left (failed Receive ∷ acts) left' =
-    (rest : List Given) × (left ≡ Fault ∷ rest) × GivesAll rest acts left'
+    (rest : List WireInput) × (left ≡ Fault ∷ rest) × GivesAll rest acts left'
 GivesAll left (failed Send ∷ acts) left' = GivesAll left acts left'
 
 -- The datagrams that acts sent, in order.
 abbrev pub packets_of : List Act → List Packet
 packets_of [] = []
-packets_of (got room peer octets ∷ acts) = packets_of acts
+packets_of (got space peer octets ∷ acts) = packets_of acts
 packets_of (quiet ∷ acts) = packets_of acts
 packets_of (closed ∷ acts) = packets_of acts
 packets_of (sent peer octets ∷ acts) = record { peer = peer; octets = octets } ∷ packets_of acts

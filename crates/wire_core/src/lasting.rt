@@ -100,7 +100,7 @@ impl<C: Clock + Copy> LastingWire<C> {
 }
 
 impl<C: Clock + Drop> LastingWire<C> {
-    // What comes to the socket while it waits.
+    // What arrives at the socket while it waits.
     fn receive_from(&mut self, into: &mut [u8]) -> Result<Received, WireFault>
         ensures within { IfOk result (IsWithin (length into.new)) }
         ensures fault { IfErr result (λ fault. fault ≡ Receive) }

@@ -12,7 +12,7 @@
 //! agent's start. A [`Startup`] says whether all tasks of an agent have begun, within
 //! [`STARTUP_WAIT_MILLIS`] milliseconds; each has a part in it, a [`TaskStart`], by which a lasting wire is
 //! closed, and such a pace ends, where the start has failed. A [`Packet`] is a datagram and its peer,
-//! [`Received`] what a receive gave, [`Given`] what a wire in memory is to give; what goes wrong is a
+//! [`Received`] what a receive gave, [`WireInput`] what a wire in memory is to give; what goes wrong is a
 //! [`WireFault`]. A receive over UDP is set to wait [`RECEIVE_WAIT_MILLIS`] milliseconds, and at a
 //! lasting wire [`FAULT_WAIT_MILLIS`] behind an error of a socket that is there. Errors above
 //! [`MAX_ERROR_NUMBER`] have one count together.
@@ -50,7 +50,7 @@ mod wire;
 pub use failing::FailingWire;
 pub use lasting::{FAULT_WAIT_MILLIS, LastingWire};
 pub use losses::{Cause, Losses, MAX_ERROR_NUMBER, cause_of};
-pub use memory::{Given, MemoryWire};
+pub use memory::{MemoryWire, WireInput};
 pub use pace::{CountPace, Pace, SecondPace, StartingPace, WholeSecondPace};
 pub use sockets::SendingSockets;
 pub use startup::{STARTUP_WAIT_MILLIS, Startup, TaskStart};

@@ -1,7 +1,7 @@
 //! A wire in memory.
 ghost use Rattle.std.specs.Prelude.{◌≡◌, ◌≤◌, ◌++◌, ◌∷◌, [], take, length, OnOk, OnErr};
 ghost use Rattle.wire_core.specs.Memory.{datagram_given};
-ghost use Rattle.wire_core.specs.declared.memory.Given.{Given};
+ghost use Rattle.wire_core.specs.declared.memory.WireInput.{WireInput};
 
 use crate::wire::{Packet, Received, Wire, WireFault, count_failure};
 use message_core::Octets;
@@ -12,7 +12,7 @@ use std::net::SocketAddr;
 
 /// What a wire in memory is to give at one receive.
 #[derive(Drop)]
-pub enum Given {
+pub enum WireInput {
     /// A datagram.
     Datagram(Packet),
     /// Nothing, as if its time had run out.
@@ -26,7 +26,7 @@ pub enum Given {
 #[derive(Drop)]
 pub struct MemoryWire {
     alloc: Global,
-    left: VecDeque<Given>,
+    left: VecDeque<WireInput>,
     sent: Vec<Packet>,
     failures: u64,
 }
@@ -55,7 +55,7 @@ impl MemoryWire {
 
     /// Hands it one thing more to give, behind the others. Takes memory; without it, nothing
     /// changes.
-    pub fn give(&mut self, given: Given) -> Result<(), AllocError>
+    pub fn give(&mut self, given: WireInput) -> Result<(), AllocError>
         ensures ok { OnOk result (self.new
             ≡ record self.old { left = self.old.left ++ given ∷ [] }) }
         ensures err { OnErr result (self.new ≡ self.old) }
@@ -72,7 +72,7 @@ impl MemoryWire {
         ensures err { OnErr result (self.new ≡ self.old) }
     {
         let octets = Octets::from_slice(self.alloc, octets)?;
-        self.give(Given::Datagram(Packet { peer, octets }))
+        self.give(WireInput::Datagram(Packet { peer, octets }))
     }
 
     /// What was sent, in order.
@@ -106,9 +106,9 @@ impl Wire for MemoryWire {
     fn receive(&mut self, into: &mut [u8]) -> Result<Received, WireFault> {
         match self.left.pop_front() {
             None => Ok(Received::Closed),
-            Some(Given::Nothing) => Ok(Received::Nothing),
-            Some(Given::Fault) => Err(count_failure(&mut self.failures, WireFault::Receive)),
-            Some(Given::Datagram(packet)) => {
+            Some(WireInput::Nothing) => Ok(Received::Nothing),
+            Some(WireInput::Fault) => Err(count_failure(&mut self.failures, WireFault::Receive)),
+            Some(WireInput::Datagram(packet)) => {
                 let len = copy_front(packet.octets.as_slice(), into);
                 Ok(Received::Datagram(len, packet.peer))
             }
@@ -123,7 +123,7 @@ impl Wire for MemoryWire {
     }
 }
 
-// Copies as many octets as there is room for.
+// Copies as many octets as there is space for.
 fn copy_front(octets: &[u8], into: &mut [u8]) -> usize
     ensures front { take result into.new ≡ take (length into.old) octets.now }
     ensures within { result ≤ length into.old }

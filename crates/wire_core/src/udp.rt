@@ -86,7 +86,7 @@ impl Wire for UdpWire {
 }
 
 // Whether a read that ended so only gave nothing: its time ran out, a signal came, or a peer
-// refused an earlier datagram (an ICMP answer, which tells nothing of this socket's own state).
+// refused an earlier datagram (an ICMP answer, which reports nothing of this socket's own state).
 pub(crate) fn gave_nothing(kind: ErrorKind) -> bool {
     matches!(
         kind,
@@ -99,7 +99,7 @@ pub(crate) fn gave_nothing(kind: ErrorKind) -> bool {
 }
 
 // Whether a send that ended so says only that its peer is out of reach at the time: by no route, by a
-// filter of packets, or since the system's room for what is to go out is full.
+// filter of packets, or since the system's space for what is to go out is full.
 fn is_out_of_reach(kind: ErrorKind) -> bool {
     matches!(
         kind,

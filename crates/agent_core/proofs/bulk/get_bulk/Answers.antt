@@ -7,7 +7,7 @@ use Rattle.agent_core.specs.Fitting.{total, IsFilled}
 use Rattle.agent_core.proofs.Fits.{filled_at}
 use Rattle.agent_core.proofs.Longest.{filled_fits}
 use Rattle.agent_core.proofs.LawProofs.{work_within}
-use Rattle.agent_core.specs.Looking.{most_looks}
+use Rattle.agent_core.specs.Lookups.{most_lookups}
 use Rattle.agent_core.proofs.Lackings.{bulk_lacks}
 use Rattle.agent_core.proofs.bulk.get_bulk.Goals as goal
 
@@ -18,50 +18,50 @@ returns-clause-answer g c =
     let most : c.max_repetitions-most.result ≡ count_of request.second = c.max_repetitions-most.ensures in
     let asked : c.as_slice-asked.result.now ≡ request.bindings = c.as_slice-asked.ensures in
     let once : c.non_repeaters-once.result ≡ min (count_of request.first) (length request.bindings) = c.non_repeaters-once.ensures.count in
-    let room : c.in_ok-sent.sent.room ≡ c.bindings_room.result = ap (λ s. s.room) c.in_ok-sent.ensures in
-    let list : c.in_ok-sent.sent.bindings ++ bulk_list rows c.non_repeaters-once.result c.max_repetitions-most.result (names_of c.as_slice-asked.result.now) ≡ asked_list rows request =
-    ap (λ s. s.bindings ++ bulk_list rows c.non_repeaters-once.result c.max_repetitions-most.result (names_of c.as_slice-asked.result.now)) c.in_ok-sent.ensures
+    let space : c.in_ok-fitting.fitting.space ≡ c.bindings_space.result = ap (λ s. s.space) c.in_ok-fitting.ensures in
+    let list : c.in_ok-fitting.fitting.bindings ++ bulk_list rows c.non_repeaters-once.result c.max_repetitions-most.result (names_of c.as_slice-asked.result.now) ≡ asked_list rows request =
+    ap (λ s. s.bindings ++ bulk_list rows c.non_repeaters-once.result c.max_repetitions-most.result (names_of c.as_slice-asked.result.now)) c.in_ok-fitting.ensures
     ∙ ap (λ n. bulk_list rows n c.max_repetitions-most.result (names_of c.as_slice-asked.result.now)) once
     ∙ ap (λ n. bulk_list rows (min (count_of request.first) (length request.bindings)) n (names_of c.as_slice-asked.result.now)) most
     ∙ ap (λ bs. bulk_list rows (min (count_of request.first) (length request.bindings)) (count_of request.second) (names_of bs)) asked in
-    let filled : IsFilled c.bindings_room.result (asked_list rows request) c.send_list-filled.new.sent.bindings = filled_at _ _ _ _ c.send_list-filled.new.sent.bindings room list (search rules) in
-    let within : total c.send_list-filled.new.sent.bindings ≤ c.bindings_room.result = subst (λ r. total c.send_list-filled.new.sent.bindings ≤ r) (c.send_list-filled.ensures.room ∙ room) c.into_bindings-bindings.ensures.within in
-    c.into_bindings-bindings.ensures.value ∙ filled_fits request c.bindings_room.result (asked_list rows request) c.send_list-filled.new.sent.bindings c.bindings_room.ensures.room within filled
+    let filled : IsFilled c.bindings_space.result (asked_list rows request) c.send_list-filled.new.fitting.bindings = filled_at _ _ _ _ c.send_list-filled.new.fitting.bindings space list (search rules) in
+    let within : total c.send_list-filled.new.fitting.bindings ≤ c.bindings_space.result = subst (λ r. total c.send_list-filled.new.fitting.bindings ≤ r) (c.send_list-filled.ensures.space ∙ space) c.into_bindings-bindings.ensures.within in
+    c.into_bindings-bindings.ensures.value ∙ filled_fits request c.bindings_space.result (asked_list rows request) c.send_list-filled.new.fitting.bindings c.bindings_space.ensures.space within filled
 
--- a successor is looked for for each binding that is sent, and one more
+-- a successor is searched for, for each binding that is sent, and one more
 pub returns-clause-work : goal.returns-clause-work
 returns-clause-work g c =
-    let most : ℕ = most_looks (g.S.View.shows c.args.source.now) (g.S.Successors.instances c.args.source.now) in
-    let sent : List Binding = c.send_list-filled.new.sent.bindings in
-    let looks : c.send_list-filled.new.steps ≤ c.args.steps.now + (length sent + 1) * most = omega (arith, c.send_list-filled.ensures.work) in
-    subst (λ (bs : List Binding). c.send_list-filled.new.steps ≤ c.args.steps.now + (length bs + 1) * most) (sym c.into_bindings-bindings.ensures.value) looks
+    let most : ℕ = most_lookups (g.S.View.shows c.args.source.now) (g.S.Successors.instances c.args.source.now) in
+    let fitting : List Binding = c.send_list-filled.new.fitting.bindings in
+    let lookups : c.send_list-filled.new.steps ≤ c.args.steps.now + (length fitting + 1) * most = omega (arith, c.send_list-filled.ensures.work) in
+    subst (λ (bs : List Binding). c.send_list-filled.new.steps ≤ c.args.steps.now + (length bs + 1) * most) (sym c.into_bindings-bindings.ensures.value) lookups
 
 pub returns-clause-most_work : goal.returns-clause-most_work
 returns-clause-most_work g c =
-    let most : ℕ = most_looks (g.S.View.shows c.args.source.now) (g.S.Successors.instances c.args.source.now) in
-    let sent : List Binding = c.send_list-filled.new.sent.bindings in
-    let room : c.in_ok-sent.sent.room ≡ c.bindings_room.result = ap (λ s. s.room) c.in_ok-sent.ensures in
-    let within : total sent ≤ c.bindings_room.result = subst (λ r. total sent ≤ r) (c.send_list-filled.ensures.room ∙ room) c.into_bindings-bindings.ensures.within in
-    let looks : c.send_list-filled.new.steps ≤ c.args.steps.now + (length sent + 1) * most = omega (arith, c.send_list-filled.ensures.work) in
-    work_within c.args.steps.now c.send_list-filled.new.steps c.bindings_room.result most sent within c.bindings_room.ensures.most looks
+    let most : ℕ = most_lookups (g.S.View.shows c.args.source.now) (g.S.Successors.instances c.args.source.now) in
+    let fitting : List Binding = c.send_list-filled.new.fitting.bindings in
+    let space : c.in_ok-fitting.fitting.space ≡ c.bindings_space.result = ap (λ s. s.space) c.in_ok-fitting.ensures in
+    let within : total fitting ≤ c.bindings_space.result = subst (λ r. total fitting ≤ r) (c.send_list-filled.ensures.space ∙ space) c.into_bindings-bindings.ensures.within in
+    let lookups : c.send_list-filled.new.steps ≤ c.args.steps.now + (length fitting + 1) * most = omega (arith, c.send_list-filled.ensures.work) in
+    work_within c.args.steps.now c.send_list-filled.new.steps c.bindings_space.result most fitting within c.bindings_space.ensures.most lookups
 
 -- the same where memory fails
 pub returns-then-is_err-clause-most_work : goal.returns-then-is_err-clause-most_work
 returns-then-is_err-clause-most_work g c =
-    let most : ℕ = most_looks (g.S.View.shows c.args.source.now) (g.S.Successors.instances c.args.source.now) in
-    let sent : List Binding = c.send_list-filled.new.sent.bindings in
-    let room : c.in_ok-sent.sent.room ≡ c.bindings_room.result = ap (λ s. s.room) c.in_ok-sent.ensures in
-    let within : total sent ≤ c.bindings_room.result = subst (λ r. total sent ≤ r) (c.send_list-filled.ensures.room ∙ room) c.into_bindings-bindings.ensures.within in
-    let looks : c.send_list-filled.new.steps ≤ c.args.steps.now + (length sent + 1) * most = omega (arith, c.send_list-filled.ensures.work) in
-    work_within c.args.steps.now c.send_list-filled.new.steps c.bindings_room.result most sent within c.bindings_room.ensures.most looks
+    let most : ℕ = most_lookups (g.S.View.shows c.args.source.now) (g.S.Successors.instances c.args.source.now) in
+    let fitting : List Binding = c.send_list-filled.new.fitting.bindings in
+    let space : c.in_ok-fitting.fitting.space ≡ c.bindings_space.result = ap (λ s. s.space) c.in_ok-fitting.ensures in
+    let within : total fitting ≤ c.bindings_space.result = subst (λ r. total fitting ≤ r) (c.send_list-filled.ensures.space ∙ space) c.into_bindings-bindings.ensures.within in
+    let lookups : c.send_list-filled.new.steps ≤ c.args.steps.now + (length fitting + 1) * most = omega (arith, c.send_list-filled.ensures.work) in
+    work_within c.args.steps.now c.send_list-filled.new.steps c.bindings_space.result most fitting within c.bindings_space.ensures.most lookups
 
 pub returns-then-is_err-clause-lacks : goal.returns-then-is_err-clause-lacks
 returns-then-is_err-clause-lacks g c =
-    let sent : List Binding = c.send_list-filled.new.sent.bindings in
-    let room : c.in_ok-sent.sent.room ≡ c.bindings_room.result = ap (λ s. s.room) c.in_ok-sent.ensures in
-    let within : total sent ≤ c.bindings_room.result = subst (λ r. total sent ≤ r) (c.send_list-filled.ensures.room ∙ room) c.into_bindings-bindings.ensures.within in
-    bulk_lacks (g.S.View.shows c.args.source.now) (g.S.Successors.instances c.args.source.now) c.send_list-filled.result c.args.request.now c.as_slice-asked.result.now c.in_ok-sent.sent.bindings sent
+    let fitting : List Binding = c.send_list-filled.new.fitting.bindings in
+    let space : c.in_ok-fitting.fitting.space ≡ c.bindings_space.result = ap (λ s. s.space) c.in_ok-fitting.ensures in
+    let within : total fitting ≤ c.bindings_space.result = subst (λ r. total fitting ≤ r) (c.send_list-filled.ensures.space ∙ space) c.into_bindings-bindings.ensures.within in
+    bulk_lacks (g.S.View.shows c.args.source.now) (g.S.Successors.instances c.args.source.now) c.send_list-filled.result c.args.request.now c.as_slice-asked.result.now c.in_ok-fitting.fitting.bindings fitting
     c.non_repeaters-once.result c.max_repetitions-most.result c.binding_number.result (length c.as_slice-before.result.now)
-    (ap (λ s. s.bindings) c.in_ok-sent.ensures) c.as_slice-asked.ensures c.non_repeaters-once.ensures.count c.max_repetitions-most.ensures
-    (sym c.if-is_err.ensures.value) c.send_list-filled.ensures.lacks ((c.bindings_room.ensures.room sent).0 within)
+    (ap (λ s. s.bindings) c.in_ok-fitting.ensures) c.as_slice-asked.ensures c.non_repeaters-once.ensures.count c.max_repetitions-most.ensures
+    (sym c.if-is_err.ensures.value) c.send_list-filled.ensures.lacks ((c.bindings_space.ensures.space fitting).0 within)
     (ap length (c.as_slice-before.ensures ∙ c.into_bindings-bindings.ensures.value)) c.binding_number.ensures

@@ -6,7 +6,7 @@ use Rattle.agent_core.proofs.Stands.{offered}
 use Rattle.std.specs.Prelude.{Result, Ok}
 use Rattle.std.specs.declared.alloc.AllocError.{AllocError}
 use Rattle.setphase_core.proofs.States.{on_err_always}
-use Rattle.agent_core.specs.Looking.{LacksName}
+use Rattle.agent_core.specs.Lookups.{LacksName}
 use Rattle.agent_core.proofs.Lacks.{lacks_answer, lacks_made}
 use Rattle.agent_core.proofs.bulk.send_next.Goals as goal
 
@@ -17,19 +17,19 @@ returns-then-branch-clause-fits g c =
     let rows : List Binding = visible (g.S.View.shows c.args.source.now) (g.S.Successors.instances c.args.source.now) in
     let here : Binding = g.S.Successors.at c.args.source.now c.find_next.new.spot in
     let row : here ≡ next_answer rows c.args.name.now = subst (λ (found : Bool). cond found here (end_under c.args.name.now) ≡ next_answer rows c.args.name.now) c.if-branch.true c.in_ok-find_next.ensures.answer in
-    subst (λ (b : Binding). IfOk c.offer_instance.result (λ taken. taken ≡ fit_into c.args.sent.now.room (c.args.sent.now.bindings ++ b ∷ []))) row c.offer_instance.ensures.fits
+    subst (λ (b : Binding). IfOk c.offer_instance.result (λ taken. taken ≡ fit_into c.args.fitting.now.space (c.args.fitting.now.bindings ++ b ∷ []))) row c.offer_instance.ensures.fits
 
 pub returns-then-branch-clause-taken : goal.returns-then-branch-clause-taken
 returns-then-branch-clause-taken g c =
     let rows : List Binding = visible (g.S.View.shows c.args.source.now) (g.S.Successors.instances c.args.source.now) in
     let here : Binding = g.S.Successors.at c.args.source.now c.find_next.new.spot in
     let row : here ≡ next_answer rows c.args.name.now = subst (λ (found : Bool). cond found here (end_under c.args.name.now) ≡ next_answer rows c.args.name.now) c.if-branch.true c.in_ok-find_next.ensures.answer in
-    subst (λ (b : Binding). IfOk c.offer_instance.result (λ taken. IsTrue taken → c.offer_instance.new.sent.bindings ≡ c.args.sent.now.bindings ++ b ∷ [])) row c.offer_instance.ensures.taken
+    subst (λ (b : Binding). IfOk c.offer_instance.result (λ taken. IsTrue taken → c.offer_instance.new.fitting.bindings ≡ c.args.fitting.now.bindings ++ b ∷ [])) row c.offer_instance.ensures.taken
 
 pub returns-then-branch-clause-stands : goal.returns-then-branch-clause-stands
 returns-then-branch-clause-stands g c =
     let here : Binding = g.S.Successors.at c.args.source.now c.find_next.new.spot in
-    offered (g.S.Successors.stands c.args.source.now) c.offer_instance.result c.args.sent.now c.offer_instance.new.sent here c.find_next.new.stand c.requires.stands
+    offered (g.S.Successors.stands c.args.source.now) c.offer_instance.result c.args.fitting.now c.offer_instance.new.fitting here c.find_next.new.stand c.requires.stands
     (subst (λ (found : Bool). g.S.Successors.stands c.args.source.now c.find_next.new.stand (cond found here (end_under c.args.name.now)).name) c.if-branch.true c.in_ok-find_next.ensures.stands)
     c.offer_instance.ensures.taken c.offer_instance.ensures.stand c.offer_instance.ensures.full c.offer_instance.ensures.err
 
@@ -41,7 +41,7 @@ returns-clause-fits g c =
     let here : Binding = g.S.Successors.at c.args.source.now c.find_next.new.spot in
     let row : end_under c.in_ok-name.name ≡ next_answer rows c.args.name.now =
     ap end_under c.in_ok-name.ensures.copy ∙ subst (λ (found : Bool). cond found here (end_under c.args.name.now) ≡ next_answer rows c.args.name.now) c.if-branch.false c.in_ok-find_next.ensures.answer in
-    subst (λ (b : Binding). c.offer.result ≡ fit_into c.args.sent.now.room (c.args.sent.now.bindings ++ b ∷ [])) row c.offer.ensures.fits
+    subst (λ (b : Binding). c.offer.result ≡ fit_into c.args.fitting.now.space (c.args.fitting.now.bindings ++ b ∷ [])) row c.offer.ensures.fits
 
 pub returns-clause-taken : goal.returns-clause-taken
 returns-clause-taken g c =
@@ -49,14 +49,14 @@ returns-clause-taken g c =
     let here : Binding = g.S.Successors.at c.args.source.now c.find_next.new.spot in
     let row : end_under c.in_ok-name.name ≡ next_answer rows c.args.name.now =
     ap end_under c.in_ok-name.ensures.copy ∙ subst (λ (found : Bool). cond found here (end_under c.args.name.now) ≡ next_answer rows c.args.name.now) c.if-branch.false c.in_ok-find_next.ensures.answer in
-    subst (λ (b : Binding). IsTrue c.offer.result → c.offer.new.self.bindings ≡ c.args.sent.now.bindings ++ b ∷ []) row c.offer.ensures.taken
+    subst (λ (b : Binding). IsTrue c.offer.result → c.offer.new.self.bindings ≡ c.args.fitting.now.bindings ++ b ∷ []) row c.offer.ensures.taken
 
 pub returns-clause-stands : goal.returns-clause-stands
 returns-clause-stands g c =
     let here : Binding = g.S.Successors.at c.args.source.now c.find_next.new.spot in
     let stood = subst (λ (found : Bool). g.S.Successors.stands c.args.source.now c.find_next.new.stand (cond found here (end_under c.args.name.now)).name) c.if-branch.false c.in_ok-find_next.ensures.stands in
     let taken : Result Bool AllocError = Ok c.offer.result in
-    offered (g.S.Successors.stands c.args.source.now) taken c.args.sent.now c.offer.new.self (end_under c.in_ok-name.name) c.find_next.new.stand c.requires.stands
+    offered (g.S.Successors.stands c.args.source.now) taken c.args.fitting.now c.offer.new.self (end_under c.in_ok-name.name) c.find_next.new.stand c.requires.stands
     (subst (g.S.Successors.stands c.args.source.now c.find_next.new.stand) (sym c.in_ok-name.ensures.copy) stood)
     c.offer.ensures.taken c.offer.ensures.stand c.offer.ensures.full tt
 

@@ -2,10 +2,10 @@ use Rattle.std.proofs.Common.{◌≡◌, ◌∙◌, ap, sym, refl, cond, find, f
 use Rattle.setphase_core.specs.declared.passing.Spot.{Spot}
 use Rattle.message_core.specs.declared.binding.Binding.{Binding}
 use Rattle.agent_core.proofs.Rest.{from, next-visible, from_shorter, from_hidden}
-use Rattle.agent_core.proofs.Looks.{first_look, next_look}
+use Rattle.agent_core.proofs.LookupLemmas.{first_lookup, next_lookup}
 use Rattle.agent_core.proofs.Lacks.{passed_first, passed_next}
 use Rattle.setphase_core.proofs.States.{on_err_always}
-use Rattle.agent_core.specs.Looking.{of_instance}
+use Rattle.agent_core.specs.Lookups.{of_instance}
 use Rattle.agent_core.proofs.reading.next_shown.Goals as goal
 
 pub loop-found-init : goal.loop-found-init
@@ -19,7 +19,7 @@ loop-found-init g c =
       stands = c.next-found.ensures.stands;
       passed = passed_first (g.S.View.shows c.args.source.now) (g.S.Successors.instances c.args.source.now) c.args.name.now c.next-found.result (g.S.Successors.at c.args.source.now c.next-found.new.spot) c.known.ensures.rising c.next-found.ensures.found;
       work =
-          first_look (g.S.View.shows c.args.source.now) (g.S.Successors.instances c.args.source.now) c.args.name.now found c.args.steps.now c.next-found.new.steps
+          first_lookup (g.S.View.shows c.args.source.now) (g.S.Successors.instances c.args.source.now) c.args.name.now found c.args.steps.now c.next-found.new.steps
           c.known.ensures.rising c.next-found.ensures.found c.next-found.ensures.work;
     }
 
@@ -46,7 +46,7 @@ loop-found-preserved g c =
       stands = c.in_ok-found.ensures.stands;
       passed = passed_next (g.S.View.shows c.args.source.now) (g.S.Successors.instances c.args.source.now) c.args.name.now (at c.loop-found.spot) c.in_ok-found.found (at c.next_behind.new.spot) c.known.ensures.rising (c.loop-found.invariant.passed c.loop-found-test.true) hidden c.in_ok-found.ensures.found;
       work =
-          next_look (g.S.View.shows c.args.source.now) (g.S.Successors.instances c.args.source.now) found next (at c.loop-found.spot) c.loop-found.steps c.next_behind.new.steps _
+          next_lookup (g.S.View.shows c.args.source.now) (g.S.Successors.instances c.args.source.now) found next (at c.loop-found.spot) c.loop-found.steps c.next_behind.new.steps _
           c.known.ensures.rising here c.in_ok-found.ensures.found hidden c.loop-found.invariant.work c.in_ok-found.ensures.work;
     }
 

@@ -1,7 +1,7 @@
 use Rattle.std.proofs.Common.{◌≡◌, ◌≤◌, ◌+◌, cond, length, find, Some, None, IsTrue}
 use Rattle.message_core.specs.Instances.{next_of}
 use Rattle.agent_core.specs.Reading.{visible}
-use Rattle.agent_core.specs.Looking.{hidden_count, most_looks, IsPassed}
+use Rattle.agent_core.specs.Lookups.{hidden_count, most_lookups, IsPassed}
 use Rattle.agent_core.proofs.Rest.{from}
 use Rattle.agent_core.proofs.reading.next_shown.Given as goal
 
@@ -16,7 +16,7 @@ invariant-loop-found g l =
       there : IsTrue l.found → g.S.Successors.is_there l.source l.spot;
       stands : IsTrue l.found → g.S.Successors.stands l.source l.stand (g.S.Successors.at l.source l.spot).name;
       passed : IsTrue l.found → IsPassed shows rows l.name (g.S.Successors.at l.source l.spot);
-      work : l.steps + hidden_count shows (from rows at) ≤ l.fn.steps + most_looks shows rows;
+      work : l.steps + hidden_count shows (from rows at) ≤ l.fn.steps + most_lookups shows rows;
     }
 
 abbrev pub decreases-loop-found : goal.decreases-loop-found

@@ -15,15 +15,15 @@ returns-in-Err-clause-fault c = (
     here = value_here c.args.rows.now.items c.deref-row-items.result.now c.loop-n.n c.row-item.result c.deref-row-items.ensures.value c.row-item.is c.loop-n-test.true;
     wrong = c.in-Err.ensures.fault;
     ports = c.loop-n.ports.items;
-    before = c.loop-n.invariant.said;
+    before = c.loop-n.invariant.stated;
   },
 )
 
 pub loop-n-preserved : goal.loop-n-preserved
 loop-n-preserved c = record {
-  said =
+  stated =
       rows_step port_says c.args.rows.now.items c.deref-row-items.result.now c.loop-n.n c.row-item.result
       c.loop-n.ports.items c.push.new.self.items (Some c.in-Ok.port) c.in-Ok.port
-      c.deref-row-items.ensures.value c.row-item.is c.loop-n-test.true c.loop-n.invariant.said c.in-Ok.ensures.port refl c.push.ensures.items;
+      c.deref-row-items.ensures.value c.row-item.is c.loop-n-test.true c.loop-n.invariant.stated c.in-Ok.ensures.port refl c.push.ensures.items;
   count = omega (arith, c.push.ensures.len, c.loop-n.invariant.count);
 }

@@ -7,6 +7,6 @@ use Rattle.configuration.proofs.ports.read_ports.Given as goal
 -- the ports that the values so far say, one for each
 abbrev pub invariant-loop-n : goal.invariant-loop-n
 invariant-loop-n l = record {
-  said : AreRows port_says (take l.n (map view l.rows.items)) l.ports.items;
+  stated : AreRows port_says (take l.n (map view l.rows.items)) l.ports.items;
   count : length l.ports.items ≡ l.n;
 }

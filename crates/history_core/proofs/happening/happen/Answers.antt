@@ -4,7 +4,7 @@ use Rattle.setphase_core.specs.declared.world.World.{World}
 use Rattle.history_core.specs.Happening.{quiet, Happens}
 use Rattle.history_core.specs.declared.event.Event.{Event}
 use Rattle.history_core.specs.declared.event.Event.TheVariants as event
-use Rattle.history_core.specs.declared.happening.Happened.{Happened}
+use Rattle.history_core.specs.declared.happening.EventOutcome.{EventOutcome}
 use Rattle.history_core.proofs.Quiet.{policy_happens}
 use Rattle.history_core.proofs.happening.happen.Goals as goal
 
@@ -15,14 +15,14 @@ returns-in-Frame-clause-happens g c =
 
 pub returns-in-Tick-clause-happens : goal.returns-in-Tick-clause-happens
 returns-in-Tick-clause-happens g c =
-    subst (λ (h : Happened). Happens c.args.registry.now c.args.world.now c.args.event.now h c.args.registry.now c.pass_second.new.world c.pass_second.new.buffer)
+    subst (λ (h : EventOutcome). Happens c.args.registry.now c.args.world.now c.args.event.now h c.args.registry.now c.pass_second.new.world c.pass_second.new.buffer)
     (sym c.requires.quiet)
     (subst (λ (e : Event). Happens c.args.registry.now c.args.world.now e quiet c.args.registry.now c.pass_second.new.world c.pass_second.new.buffer)
     (sym c.in-Tick.is) (c.pass_second.ensures c.args.registry.now))
 
 pub returns-in-Link-clause-happens : goal.returns-in-Link-clause-happens
 returns-in-Link-clause-happens g c =
-    subst (λ (h : Happened). Happens c.args.registry.now c.args.world.now c.args.event.now h c.args.registry.now c.turn_link.new.world c.turn_link.new.buffer)
+    subst (λ (h : EventOutcome). Happens c.args.registry.now c.args.world.now c.args.event.now h c.args.registry.now c.turn_link.new.world c.turn_link.new.buffer)
     (sym c.requires.quiet)
     (subst (λ (e : Event). Happens c.args.registry.now c.args.world.now e quiet c.args.registry.now c.turn_link.new.world c.turn_link.new.buffer)
     (sym c.in-Link.is) (c.turn_link.ensures c.args.registry.now))

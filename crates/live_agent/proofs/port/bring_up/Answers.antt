@@ -15,7 +15,7 @@ returns-clause-linked g c =
     let t = c.link-applied.ensures in
     record {
       happening = happening (event.Link c.args.port true) c.args.share.now.amount c.link-applied.result c.link-applied.new.buffer (fault_in c.send_ports-sent.result) s.0;
-      happens = record { event_is = refl; place = t.place; told = t.told; sent = s.2 };
+      happens = record { event_is = refl; place = t.place; reported = t.reported; sent = s.2 };
       behind = omega arith;
       acts = s.1;
       recorded = rw c.item_of.ensures at c.record.ensures;

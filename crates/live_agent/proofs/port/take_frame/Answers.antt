@@ -1,9 +1,9 @@
 use Rattle.std.proofs.Common.{◌∙◌, ap, refl, sym, arith}
 use Rattle.history_core.specs.declared.event.Event.TheVariants as event
 use Rattle.live_sending.specs.Sending.{fault_in}
-use Rattle.live_agent.specs.Lines.{frame_room}
+use Rattle.live_agent.specs.Lines.{frame_space}
 use Rattle.live_agent.specs.Turns.{was_taken, was_refused}
-use Rattle.live_agent.specs.declared.trace.Refusal.TheVariants as refusal
+use Rattle.live_agent.specs.declared.trace.InputFault.TheVariants as refusal
 use Rattle.live_agent.proofs.Turning.{happening, amount_is}
 use Rattle.std.specs.Prelude.{Option}
 use Rattle.live_agent.specs.declared.trace.End.{End}
@@ -14,7 +14,7 @@ use Rattle.live_agent.proofs.port.take_frame.Goals as goal
 pub returns-in-Err-clause-turn : goal.returns-in-Err-clause-turn
 returns-in-Err-clause-turn g c = λ a went.
     record {
-      turn = was_refused (record { room = frame_room; peer = c.args.peer; octets = c.args.octets.now }) (refusal.Frame c.in-Err.fault);
+      turn = was_refused (record { space = frame_space; peer = c.args.peer; octets = c.args.octets.now }) (refusal.Frame c.in-Err.fault);
       is = (refl, c.in-Err.ensures.fault);
       behind = tt;
       acts = went;
@@ -29,8 +29,8 @@ returns-clause-turn g c = λ a went.
     let t = c.frame-applied.ensures in
     let f = c.in-Ok.frame in
     record {
-      turn = was_taken (record { room = frame_room; peer = c.args.peer; octets = c.args.octets.now }) (happening (event.Frame c.args.port f) c.args.share.now.amount c.frame-applied.result c.frame-applied.new.buffer (fault_in c.send_forwarded-sent.result) s.0);
-      is = (refl, record { frame = f; reads = c.in-Ok.ensures.found; happens = record { event_is = refl; place = t.place; told = t.told; sent = s.2 } });
+      turn = was_taken (record { space = frame_space; peer = c.args.peer; octets = c.args.octets.now }) (happening (event.Frame c.args.port f) c.args.share.now.amount c.frame-applied.result c.frame-applied.new.buffer (fault_in c.send_forwarded-sent.result) s.0);
+      is = (refl, record { frame = f; reads = c.in-Ok.ensures.found; happens = record { event_is = refl; place = t.place; reported = t.reported; sent = s.2 } });
       behind = omega arith;
       acts = g.met.W.Wire.goes_on _ _ _ _ _ went s.1;
       recorded = c.noted.ensures.recorded;

@@ -15,7 +15,7 @@ returns-clause-turn g c =
     let t = c.tick-applied.ensures in
     record {
       turn = was_own (happening event.Tick c.args.share.now.amount c.tick-applied.result c.tick-applied.new.buffer (fault_in c.send_ports-sent.result) s.0);
-      is = record { event_is = refl; place = t.place; told = t.told; sent = s.2 };
+      is = record { event_is = refl; place = t.place; reported = t.reported; sent = s.2 };
       behind = omega arith;
       acts = s.1;
       recorded = c.noted.ensures.recorded;

@@ -1,7 +1,7 @@
 use Rattle.std.proofs.Common.{◌≡◌, ◌∙◌, ◌∷◌, [], Bool, true, false, refl, subst, arith, rules}
 use Rattle.live_agent.specs.declared.trace.End.TheVariants as end
 use Rattle.live_agent.specs.Deeds.{answered}
-use Rattle.live_agent.specs.Lines.{setting_of, ticker_deeds, IsSecond}
+use Rattle.live_agent.specs.Lines.{run_start_of, ticker_deeds, IsSecond}
 use Rattle.live_agent.specs.Turns.{acts_of}
 use Rattle.live_agent.proofs.Running.{goes_none, goes_more, goes_stops, goes_round, goes_short, ends_for_else}
 use Rattle.live_agent.proofs.Ticking.{second_turn, pause_turn}
@@ -20,12 +20,12 @@ returns-then-not-next-clause-run g c =
     let says : c.next.result ≡ false = search rules in
     let over = subst (λ (b : Bool). g.T.PacedWire.did c.loop-i.wire (answered b ∷ []) c.next.new.self) says c.next.ensures.did in
     goes_stops g.T.PacedWire.did g.met.T.PacedWire.deeds_go_on g.K.Recorder.went g.met.K.Recorder.goes_on ticker_deeds _ c.args.plan.now.rounds c.loop-i._i _ _ _ _ _ _ _ _ _ _ end.Closed c.loop-i.invariant.goes c.reserve.ensures.unchanged
-    (pause_turn g.T.PacedWire.did g.K.Recorder.went g.met.K.Recorder.starts (setting_of g.L.Run.start c.args.plan.now) c.loop-i.wire c.next.new.self c.reserve.new.self c.loop-i.share.amount over)
+    (pause_turn g.T.PacedWire.did g.K.Recorder.went g.met.K.Recorder.starts (run_start_of g.L.Run.start c.args.plan.now) c.loop-i.wire c.next.new.self c.reserve.new.self c.loop-i.share.amount over)
     (omega arith)
 
 pub returns-in-Some-clause-run : goal.returns-in-Some-clause-run
 returns-in-Some-clause-run g c =
-    let s = setting_of g.L.Run.start c.args.plan.now in
+    let s = run_start_of g.L.Run.start c.args.plan.now in
     let says : c.next.result ≡ true = search rules in
     let more = subst (λ (b : Bool). g.T.PacedWire.did c.loop-i.wire (answered b ∷ []) c.next.new.self) says c.next.ensures.did in
     goes_stops g.T.PacedWire.did g.met.T.PacedWire.deeds_go_on g.K.Recorder.went g.met.K.Recorder.goes_on ticker_deeds _ c.args.plan.now.rounds c.loop-i._i _ _ _ _ _ _ _ _ _ _ c.in-Some.end c.loop-i.invariant.goes c.reserve.ensures.unchanged
@@ -34,7 +34,7 @@ returns-in-Some-clause-run g c =
 
 pub loop-i-preserved : goal.loop-i-preserved
 loop-i-preserved g c =
-    let s = setting_of g.L.Run.start c.args.plan.now in
+    let s = run_start_of g.L.Run.start c.args.plan.now in
     let says : c.next.result ≡ true = search rules in
     let more = subst (λ (b : Bool). g.T.PacedWire.did c.loop-i.wire (answered b ∷ []) c.next.new.self) says c.next.ensures.did in
     record {
@@ -54,4 +54,4 @@ returns-clause-run g c =
 
 pub returns-in-Some-clause-memory : goal.returns-in-Some-clause-memory
 returns-in-Some-clause-memory g c = λ is _.
-    ends_for_else g.T.Wire.went g.K.Recorder.went acts_of (IsSecond (setting_of g.L.Run.start c.args.plan.now)) _ _ _ _ _ _ c.in-Some.end c.in-Some.ensures.turn is
+    ends_for_else g.T.Wire.went g.K.Recorder.went acts_of (IsSecond (run_start_of g.L.Run.start c.args.plan.now)) _ _ _ _ _ _ c.in-Some.end c.in-Some.ensures.turn is

@@ -8,7 +8,7 @@ loop-i-init g c =
     record {
       goes = goes_none g.W.ControlWire.did g.met.W.ControlWire.deeds_start g.K.ControlRecorder.went g.met.K.ControlRecorder.starts deeds_of _ _ _ _;
       parts = refl;
-      room = c.requires.room;
+      space = c.requires.space;
     }
 
 pub returns-in-Some-clause-run : goal.returns-in-Some-clause-run
@@ -20,7 +20,7 @@ loop-i-preserved g c =
     record {
       goes = goes_more g.W.ControlWire.did g.met.W.ControlWire.deeds_go_on g.K.ControlRecorder.went g.met.K.ControlRecorder.goes_on deeds_of _ c.loop-i._i _ _ _ _ _ _ _ _ _ _ c.loop-i.invariant.goes c.reserve.ensures.unchanged c.in_default.ensures.turn;
       parts = c.in_default.ensures.parts ∙ c.loop-i.invariant.parts;
-      room = search rules;
+      space = search rules;
     }
 
 pub returns-then-is_err-clause-run : goal.returns-then-is_err-clause-run

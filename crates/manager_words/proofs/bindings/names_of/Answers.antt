@@ -3,7 +3,7 @@ use Rattle.std.specs.Borrow.{Bor}
 use Rattle.message_core.specs.declared.binding.Binding.{Binding}
 use Rattle.message_core.specs.declared.value.Value.TheVariants.{Null}
 use Rattle.manager_words.specs.Bindings.{AreSomeTexts, IsAskedText, IsNameText}
-use Rattle.manager_words.proofs.Listed.{encodable_more, said_at, texts_more}
+use Rattle.manager_words.proofs.Listed.{encodable_more, stated_at, texts_more}
 use Rattle.manager_words.proofs.Passed.{passed}
 use Rattle.manager_words.proofs.Spelled.{asked_encodable}
 use Rattle.manager_words.proofs.bindings.names_of.Goals as goal
@@ -20,7 +20,7 @@ returns-in_err-name-clause-read c =
     let words = c.args.words.now in
     let i = c.loop-word.word-index in
     let low : i < length words = omega arith in
-    passed (IsNameText (get_or words i d).now) (AreSomeTexts IsAskedText (map bytes words)) (λ bs texts. let t = said_at IsAskedText bytes words i d low bs texts in (t.0.name, t.1.name)) c.in_err-name.field-0.0 c.from_residual.result c.in_err-name.ensures c.from_residual.ensures.1
+    passed (IsNameText (get_or words i d).now) (AreSomeTexts IsAskedText (map bytes words)) (λ bs texts. let t = stated_at IsAskedText bytes words i d low bs texts in (t.0.name, t.1.name)) c.in_err-name.field-0.0 c.from_residual.result c.in_err-name.ensures c.from_residual.ensures.1
 
 pub loop-word-preserved : goal.loop-word-preserved
 loop-word-preserved c =

@@ -1,7 +1,7 @@
 use Rattle.std.proofs.Common.{◌<◌, List, ℕ, [], get_or, length, map, arith}
 use Rattle.std.specs.Borrow.{Bor}
 use Rattle.manager_words.specs.Bindings.{AreSomeTexts, IsSettingText}
-use Rattle.manager_words.proofs.Listed.{encodable_more, said_at, texts_more}
+use Rattle.manager_words.proofs.Listed.{encodable_more, stated_at, texts_more}
 use Rattle.manager_words.proofs.Passed.{passed}
 use Rattle.manager_words.proofs.Spelled.{setting_encodable}
 use Rattle.manager_words.proofs.bindings.settings_of.Goals as goal
@@ -18,7 +18,7 @@ returns-in_err-binding-clause-read c =
     let words = c.args.words.now in
     let i = c.loop-word.word-index in
     let low : i < length words = omega arith in
-    passed (IsSettingText (get_or words i d).now) (AreSomeTexts IsSettingText (map bytes words)) (said_at IsSettingText bytes words i d low) c.in_err-binding.field-0.0 c.from_residual.result c.in_err-binding.ensures c.from_residual.ensures.1
+    passed (IsSettingText (get_or words i d).now) (AreSomeTexts IsSettingText (map bytes words)) (stated_at IsSettingText bytes words i d low) c.in_err-binding.field-0.0 c.from_residual.result c.in_err-binding.ensures c.from_residual.ensures.1
 
 pub loop-word-preserved : goal.loop-word-preserved
 loop-word-preserved c =

@@ -8,8 +8,8 @@ use Rattle.manager_words.proofs.matches.bulk_number.Goals as goal
 pub returns-in-Ok-Some : goal.returns-in-Ok-Some
 returns-in-Ok-Some c =
     let is : c.try_get_one.result ≡ Ok (Some c.in-Ok-Some.number) = cc in
-    let said = bulk_given (λ bs r. ParsesSigned w32 10 bs r × ExplainsSignedError 10 bs r × HasSignedDigitsIfOk bs r) (λ t x g. g.0) (found_of c.args.request.now) c.args.id.now c.try_get_one.result c.in-Ok-Some.number is c.try_get_one.ensures.none c.try_get_one.ensures.value in
-    rw (bulk_kept (one_of c.args.id.now (rows_of (found_of c.args.request.now))) c.in-Ok-Some.number said) said
+    let stated = bulk_given (λ bs r. ParsesSigned w32 10 bs r × ExplainsSignedError 10 bs r × HasSignedDigitsIfOk bs r) (λ t x g. g.0) (found_of c.args.request.now) c.args.id.now c.try_get_one.result c.in-Ok-Some.number is c.try_get_one.ensures.none c.try_get_one.ensures.value in
+    rw (bulk_kept (one_of c.args.id.now (rows_of (found_of c.args.request.now))) c.in-Ok-Some.number stated) stated
 
 pub returns-in-Ok-None : goal.returns-in-Ok-None
 returns-in-Ok-None c = λ _.

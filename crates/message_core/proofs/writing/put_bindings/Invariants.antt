@@ -7,8 +7,8 @@ use Rattle.message_core.proofs.writing.put_bindings.Given as goal
 abbrev pub invariant-loop-i : goal.invariant-loop-i
 invariant-loop-i l = record {
   all : flat_map canon_binding l.bindings ++ written_octets l.fn.out ≡ flat_map canon_binding (take l.i l.bindings) ++ written_octets l.out;
-  room : capacity l.out ≡ capacity l.fn.out;
-  same : l.out.room.ghost_name ≡ l.fn.out.room.ghost_name;
+  space : capacity l.out ≡ capacity l.fn.out;
+  same : l.out.space.ghost_name ≡ l.fn.out.space.ghost_name;
   within : l.i ≤ length l.bindings;
 }
 

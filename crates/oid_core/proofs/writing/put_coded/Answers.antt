@@ -12,14 +12,14 @@ returns-in_err-put_octets-2-clause-puts c =
     let p = err_from_is_err_and c.from_residual-in_err-put_octets-2.result c.from_residual-in_err-put_octets-2.ensures.1 in
     let h = c.in_err-put_octets-2.ensures.puts in
     let full = digit_full (canon_coded c.args.number ++ written_octets c.args.out.now) (written_octets c.loop-left.out) c.loop-left.left (capacity c.loop-left.out) (omega arith) c.loop-left.invariant.all h.1 in
-    rw (p.1, p.2) (h.0, omega (arith, full, c.loop-left.invariant.room), h.2 ∙ c.loop-left.invariant.room)
+    rw (p.1, p.2) (h.0, omega (arith, full, c.loop-left.invariant.space), h.2 ∙ c.loop-left.invariant.space)
 
 pub loop-left-preserved : goal.loop-left-preserved
 loop-left-preserved c =
     let h = c.in_ok-put_octets-2.ensures.puts in
     record {
       all = digit_written (canon_coded c.args.number ++ written_octets c.args.out.now) (written_octets c.loop-left.out) (written_octets c.put_octets-in-loop-left.new.self) c.loop-left.left (omega arith) c.loop-left.invariant.all h.0;
-      room = h.1 ∙ c.loop-left.invariant.room;
+      space = h.1 ∙ c.loop-left.invariant.space;
       front = front_then c.args.out.now c.loop-left.out c.put_octets-in-loop-left.new.self (Ok _) ((128 + c.loop-left.left % 128) ∷ []) h c.loop-left.invariant.front c.in_ok-put_octets-2.ensures.front;
       behind = extends_more (written_octets c.args.out.now) (written_octets c.loop-left.out) (written_octets c.put_octets-in-loop-left.new.self) ((128 + c.loop-left.left % 128) ∷ []) c.loop-left.invariant.behind h.0;
       same = c.in_ok-put_octets-2.ensures.same_reference ∙ c.loop-left.invariant.same;
@@ -35,7 +35,7 @@ loop-left-init c =
     let high = map (λ d. 128 + d) (digits_of 128 (c.args.number / 128)) in
     record {
       all = append_assoc high (c.args.number % 128 ∷ []) (written_octets c.args.out.now) ∙ ap (λ (t : List ℕ). high ++ t) (sym c.in_ok-put_octets.ensures.puts.0);
-      room = search rules;
+      space = search rules;
       front = c.in_ok-put_octets.ensures.front;
       behind = record { more = c.args.number % 128 ∷ []; parts = c.in_ok-put_octets.ensures.puts.0 };
       same = search rules;

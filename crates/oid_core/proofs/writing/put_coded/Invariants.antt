@@ -8,10 +8,10 @@ use Rattle.oid_core.proofs.writing.put_coded.Given as goal
 abbrev pub invariant-loop-left : goal.invariant-loop-left
 invariant-loop-left l = record {
   all : canon_coded l.number ++ written_octets l.fn.out ≡ map (λ d. 128 + d) (digits_of 128 l.left) ++ written_octets l.out;
-  room : capacity l.out ≡ capacity l.fn.out;
+  space : capacity l.out ≡ capacity l.fn.out;
   front : KeepsFront l.fn.out l.out;
   behind : Extends (written_octets l.fn.out) (written_octets l.out);
-  same : l.out.room.ghost_name ≡ l.fn.out.room.ghost_name;
+  same : l.out.space.ghost_name ≡ l.fn.out.space.ghost_name;
 }
 
 abbrev pub decreases-loop-left : goal.decreases-loop-left

@@ -13,7 +13,7 @@ loop-i-init c =
     let octets = c.put_last.ensures.octets in
     record {
       all = last_written c.args.name.now (written_octets c.put_last.new.out) (written_octets c.args.out.now) _ c.put_last.result refl c.put_last.ensures.most octets;
-      room = c.put_last.ensures.room;
+      space = c.put_last.ensures.space;
       front = c.put_last.ensures.front;
       behind = record { more = flat_map canon_coded (drop (length c.args.name.now - c.put_last.result) c.args.name.now); parts = octets };
       same = c.put_last.ensures.same_reference;
@@ -30,7 +30,7 @@ returns-in_err-put_coded-clause-puts c =
     let h = c.in_err-put_coded.ensures.puts in
     let full = no_room (canon_name c.args.name.now ++ written_octets c.args.out.now) (written_octets c.loop-i.out) (flat_map canon_coded (coded_numbers (take (c.loop-i.i - 1) c.args.name.now))) (canon_coded (get_or c.args.name.now (c.loop-i.i - 1) 0)) (capacity c.loop-i.out)
     (c.loop-i.invariant.all ∙ ap (λ (t : List ℕ). t ++ written_octets c.loop-i.out) (last_number c.args.name.now c.loop-i.i (omega arith) c.loop-i.invariant.high)) (rw (← c.from.ensures) h.1) in
-    rw (p.1, p.2) (h.0, omega (arith, full, c.loop-i.invariant.room), h.2 ∙ c.loop-i.invariant.room)
+    rw (p.1, p.2) (h.0, omega (arith, full, c.loop-i.invariant.space), h.2 ∙ c.loop-i.invariant.space)
 
 pub returns-in_err-put_coded-clause-behind : goal.returns-in_err-put_coded-clause-behind
 returns-in_err-put_coded-clause-behind c = extends_then _ _ _ c.loop-i.invariant.behind c.in_err-put_coded.ensures.behind
@@ -53,7 +53,7 @@ loop-i-preserved c =
     record {
       all = c.loop-i.invariant.all ∙ ap (λ (t : List ℕ). t ++ written_octets c.loop-i.out) (last_number name i (omega arith) c.loop-i.invariant.high)
           ∙ append_assoc before number (written_octets c.loop-i.out) ∙ ap (λ (t : List ℕ). before ++ t) (sym put);
-      room = h.1 ∙ c.loop-i.invariant.room;
+      space = h.1 ∙ c.loop-i.invariant.space;
       front = front_then c.args.out.now c.loop-i.out c.put_coded.new.out (Ok _) (canon_coded c.from.result) h c.loop-i.invariant.front c.in_ok-put_coded.ensures.front;
       behind = extends_then _ _ _ c.loop-i.invariant.behind c.in_ok-put_coded.ensures.behind;
       same = c.in_ok-put_coded.ensures.same_reference ∙ c.loop-i.invariant.same;

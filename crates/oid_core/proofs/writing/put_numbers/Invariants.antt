@@ -8,10 +8,10 @@ use Rattle.oid_core.proofs.writing.put_numbers.Given as goal
 abbrev pub invariant-loop-i : goal.invariant-loop-i
 invariant-loop-i l = record {
   all : canon_name l.name ++ written_octets l.fn.out ≡ flat_map canon_coded (coded_numbers (take l.i l.name)) ++ written_octets l.out;
-  room : capacity l.out ≡ capacity l.fn.out;
+  space : capacity l.out ≡ capacity l.fn.out;
   front : KeepsFront l.fn.out l.out;
   behind : Extends (written_octets l.fn.out) (written_octets l.out);
-  same : l.out.room.ghost_name ≡ l.fn.out.room.ghost_name;
+  same : l.out.space.ghost_name ≡ l.fn.out.space.ghost_name;
   low : 2 ≤ l.i;
   high : l.i ≤ length l.name;
 }

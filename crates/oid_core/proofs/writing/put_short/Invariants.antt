@@ -5,9 +5,9 @@ use Rattle.oid_core.proofs.writing.put_short.Given as goal
 
 abbrev pub invariant-loop-count : goal.invariant-loop-count
 invariant-loop-count l = record {
-  octets : drop (l.start - l.count) l.room ≡ flat_map canon_coded (drop (length l.name - l.count) l.name) ++ drop l.start l.fn.room;
-  front : take (l.start - l.count) l.room ≡ take (l.start - l.count) l.fn.room;
-  len : length l.room ≡ length l.fn.room;
+  octets : drop (l.start - l.count) l.space ≡ flat_map canon_coded (drop (length l.name - l.count) l.name) ++ drop l.start l.fn.space;
+  front : take (l.start - l.count) l.space ≡ take (l.start - l.count) l.fn.space;
+  len : length l.space ≡ length l.fn.space;
   within : l.count ≤ l.start;
   most : l.count + 2 ≤ length l.name;
 }

@@ -10,5 +10,5 @@ returns-in-Some-2-clause-memory c =
     let text = c.in-Some.text.now in
     let ms = table_view c.in-Some-2.table in
     let read : parse_document text ≡ Some ms = search rules in
-    on_err_weaker c.policy_said.result (λ takes.
-    has_content c.args.octets.now text (sym c.in-Some.ensures) (not_blank text ms read takes)) c.policy_said.ensures.memory
+    on_err_weaker c.policy_stated.result (λ takes.
+    has_content c.args.octets.now text (sym c.in-Some.ensures) (not_blank text ms read takes)) c.policy_stated.ensures.memory

@@ -4,7 +4,7 @@ use Rattle.std.proofs.lemmas.Result.{err_from_is_err_and}
 use Rattle.toml.specs.View.{table_view}
 use Rattle.community_core.specs.declared.fault.PolicyFault.TheVariants.{Memory}
 use Rattle.policy_text.specs.Policies.{IsUnread, IsPolicy, IsWrongPolicy}
-use Rattle.policy_text.proofs.SaidLemmas.{unread_told, said_if, refused_if}
+use Rattle.policy_text.proofs.StatedLemmas.{unread_reported, stated_if, refused_if}
 use Rattle.policy_text.proofs.Taking.{memory_by}
 use Rattle.policy_text.proofs.policies.policy_of.Goals as goal
 
@@ -16,13 +16,13 @@ returns-in_err-rows-clause-fault c =
 pub returns-in_err-rows-clause-refused : goal.returns-in_err-rows-clause-refused
 returns-in_err-rows-clause-refused c =
     let p = err_from_is_err_and c.from_residual.result c.from_residual.ensures.1 in
-    rw (p.1, p.2) (λ other. unread_told (table_view c.args.table.now) c.in_err-rows.field-0.0 (c.in_err-rows.ensures.fault other))
+    rw (p.1, p.2) (λ other. unread_reported (table_view c.args.table.now) c.in_err-rows.field-0.0 (c.in_err-rows.ensures.fault other))
 
-pub returns-clause-said : goal.returns-clause-said
-returns-clause-said c =
+pub returns-clause-stated : goal.returns-clause-stated
+returns-clause-stated c =
     let ms = table_view c.args.table.now in
     let found : IfOk c.policy_of_rows.result (λ p. IsPolicy ms p) = search rules in
-    said_if ms c.policy_of_rows.result found
+    stated_if ms c.policy_of_rows.result found
 
 pub returns-clause-refused : goal.returns-clause-refused
 returns-clause-refused c =

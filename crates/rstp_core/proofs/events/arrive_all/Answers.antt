@@ -1,5 +1,5 @@
 use Rattle.std.proofs.Common.{◌≡◌, Bool, List, ap, ◌∙◌}
-use Rattle.rstp_rules.specs.declared.row.Row.{Row}
+use Rattle.rstp_rules.specs.declared.row.PortInEvent.{PortInEvent}
 use Rattle.rstp_rules.specs.declared.row.Timing.{Timing}
 use Rattle.rstp_rules.specs.declared.settled.Timers.{Timers}
 use Rattle.rstp_rules.specs.Lines.{rstp_version, timers_of, times_in_force, timing_of}
@@ -17,4 +17,4 @@ returns c =
     let rows = c.receive_all.new.rows in
     let h : rows ≡ heard = c.receive_all.ensures ∙ ap (λ (v : Bool). after_receptions own v n b c.args.rows.now) c.has_rstp_version.ensures in
     let t : c.make_timing-timing.result ≡ timing_of s (times_in_force (timers_of s) heard) = c.make_timing-timing.ensures.value ∙ ap (timing_of s) (c.find_times-times.ensures ∙ (ap (λ (m : Timers). times_in_force m rows) c.timers.ensures.value ∙ ap (times_in_force (timers_of s)) h)) in
-    c.tell_all.ensures ∙ (ap (λ (x : Timing). after_change_notices x own n b rows) t ∙ ap (λ (rs : List Row). after_change_notices (timing_of s (times_in_force (timers_of s) heard)) own n b rs) h)
+    c.signal_all.ensures ∙ (ap (λ (x : Timing). after_change_notices x own n b rows) t ∙ ap (λ (rs : List PortInEvent). after_change_notices (timing_of s (times_in_force (timers_of s) heard)) own n b rs) h)

@@ -6,8 +6,8 @@ pub returns-in_err-deliver-clause-output : goal.returns-in_err-deliver-clause-ou
 returns-in_err-deliver-clause-output g c =
     if_err c.from_residual.result _
     (λ e failed.
-    on_either c.finish-finished.result c.finish-finished.ensures.said c.finish-finished.ensures.given_up
-    (λ said. Adds-front _ c.requires.empty c.in_err-deliver.ensures.front said (λ s p. inr (_, p)))
+    on_either c.finish-finished.result c.finish-finished.ensures.stated c.finish-finished.ensures.given_up
+    (λ stated. Adds-front _ c.requires.empty c.in_err-deliver.ensures.front stated (λ s p. inr (_, p)))
     (λ fault given_up. Adds-front _ c.requires.empty c.in_err-deliver.ensures.front given_up (λ s p. inl (GivesUp-says _ _ _ _ p))))
 
 pub returns-in_err-deliver-clause-given_up : goal.returns-in_err-deliver-clause-given_up

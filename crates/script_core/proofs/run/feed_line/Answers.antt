@@ -25,5 +25,5 @@ returns-clause-feeds g c =
     λ (rest : List ℕ).
     let empty : c.finish_line.new.buffers.line.items ≡ [] = c.in_ok-finish_line.ensures.empty in
     rw (empty, sym {A = List ℕ} c.in_ok-hold.ensures.same)
-    (Adds-weaker _ c.in_ok-finish_line.ensures.said
+    (Adds-weaker _ c.in_ok-finish_line.ensures.stated
     (λ s p. Feeds-parts _ c.args.buffers.now.line.items c.args.part.now _ c.in_ok-hold.ensures.held c.requires.line c.requires.part p))

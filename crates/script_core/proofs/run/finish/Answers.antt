@@ -16,4 +16,4 @@ returns-in_err-end_session-clause-given_up g c =
     (λ e made.
     let may = c.in_err-end_session.ensures.given_up in
     let same : c.end_session.new.buffers.out.items ≡ c.finish_last_line.new.buffers.out.items = c.in_err-end_session.ensures.same in
-    rw (made, same) (Adds-weaker _ c.in_ok-finish_last_line.ensures.said (λ s p. GivesUp-end _ _ _ _ _ may p)))
+    rw (made, same) (Adds-weaker _ c.in_ok-finish_last_line.ensures.stated (λ s p. GivesUp-end _ _ _ _ _ may p)))

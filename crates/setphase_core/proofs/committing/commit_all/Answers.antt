@@ -1,10 +1,10 @@
 use Rattle.std.proofs.Common.{◌∙◌, ◌+◌, sym, ap, subst, arith, true, false, [], ◌∷◌, ◌++◌, length, map, take}
 use Rattle.setphase_core.specs.declared.staging.Staged.{Staged}
-use Rattle.setphase_core.specs.Objects.{object_after_release, HasRoom}
+use Rattle.setphase_core.specs.Objects.{object_after_release, HasSpace}
 use Rattle.setphase_core.specs.Staging.{entry_at, AreCalled, commit_at}
 use Rattle.setphase_core.proofs.Called.{commits_more}
 use Rattle.setphase_core.proofs.Commits.{Commits, commit_step, entry_is, called_after_commit, called_after_call}
-use Rattle.setphase_core.proofs.Room.{room_commit}
+use Rattle.setphase_core.proofs.Space.{space_commit}
 use Rattle.setphase_core.proofs.committing.commit_all.Goals as goal
 
 pub loop-i-preserved : goal.loop-i-preserved
@@ -40,8 +40,8 @@ commit_next-requires g c =
         omega (arith, ap (length {A = Staged}) i.staged, i.counted),
         (
           i.under_way,
-          subst (λ (z : Staged). HasRoom c.loop-i.world z.slot.key z.slot.value) (sym (entry_is c.args.staging.now.staged.items c.loop-i.staging.staged.items c.loop-i.i c.loop-i.staging.committed i.staged i.counted))
-              (room_commit c.args.world.now c.loop-i.world c.args.staging.now.staged.items c.loop-i.i c.requires.room i.world (omega arith)),
+          subst (λ (z : Staged). HasSpace c.loop-i.world z.slot.key z.slot.value) (sym (entry_is c.args.staging.now.staged.items c.loop-i.staging.staged.items c.loop-i.i c.loop-i.staging.committed i.staged i.counted))
+              (space_commit c.args.world.now c.loop-i.world c.args.staging.now.staged.items c.loop-i.i c.requires.space i.world (omega arith)),
         ),
       ),
     )

@@ -4,7 +4,7 @@ use Rattle.setting_keys.specs.declared.SettingKey.{SettingKey}
 use Rattle.setphase_core.specs.Settings.{bridge_keys}
 use Rattle.setphase_core.specs.declared.staging.Staged.{Staged}
 use Rattle.setphase_core.proofs.Assigns.{entry_read}
-use Rattle.setphase_core.proofs.Undoes.{Undoes, undo_start, undo_step, undo_failed, undo_room}
+use Rattle.setphase_core.proofs.Undoes.{Undoes, undo_start, undo_step, undo_failed, undo_space}
 use Rattle.setphase_core.proofs.committing.undo_all.Goals as goal
 
 pub loop-staging-init : goal.loop-staging-init
@@ -57,8 +57,8 @@ undo_last-requires g c =
         c.loop-staging-test.true,
         (
           i.under_way,
-          undo_room c.args.world.now c.loop-staging.world c.loop-staging.world c.args.staging.now.registry.now c.loop-staging.staging.registry.now c.loop-staging.staging.registry.now c.args.staging.now.staged.items c.loop-staging.staging.staged.items c.args.staging.now.committed c.loop-staging.staging.committed (c.loop-staging.staging.committed - 1) (bridge_keys c.loop-staging.stuck) i.staged c.requires.under_way.distinct c.requires.under_way.counted (omega (arith, i.counted)) (omega arith) i.undoes
-              c.requires.may.0 may.stands may.world may.room,
+          undo_space c.args.world.now c.loop-staging.world c.loop-staging.world c.args.staging.now.registry.now c.loop-staging.staging.registry.now c.loop-staging.staging.registry.now c.args.staging.now.staged.items c.loop-staging.staging.staged.items c.args.staging.now.committed c.loop-staging.staging.committed (c.loop-staging.staging.committed - 1) (bridge_keys c.loop-staging.stuck) i.staged c.requires.under_way.distinct c.requires.under_way.counted (omega (arith, i.counted)) (omega arith) i.undoes
+              c.requires.may.0 may.stands may.world may.space,
         ),
       ),
     )

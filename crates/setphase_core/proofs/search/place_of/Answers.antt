@@ -11,9 +11,9 @@ loop-low-preserved-in-Less g c =
     let names : List (List ℕ) = prefixes_of (rows_of (map g.O.MibObject.state c.args.objects.now)) in
     let middle : ℕ = c.loop-low.low + (c.loop-low.high - c.loop-low.low) / 2 in
     let i = c.loop-low.invariant in
-    let turns : c.look.new.steps - c.args.steps.now ≡ c.loop-low.steps - c.args.steps.now + 1 = omega (arith, c.look.ensures.work, i.forward) in
+    let turns : c.lookup.new.steps - c.args.steps.now ≡ c.loop-low.steps - c.args.steps.now + 1 = omega (arith, c.lookup.ensures.work, i.forward) in
     record {
-      forward = omega (arith, c.look.ensures.work, i.forward);
+      forward = omega (arith, c.lookup.ensures.work, i.forward);
       searched = subst (IsSearched names c.args.name.now (middle + 1) c.loop-low.high) (sym turns)
           (search_right names c.args.name.now c.loop-low.low c.loop-low.high middle _ (ordered_from _ c.requires) i.searched c.loop-low-test.true refl
           c.in-Less.ensures.side.0 c.in-Less.ensures.side.1);
@@ -24,9 +24,9 @@ loop-low-preserved g c =
     let names : List (List ℕ) = prefixes_of (rows_of (map g.O.MibObject.state c.args.objects.now)) in
     let middle : ℕ = c.loop-low.low + (c.loop-low.high - c.loop-low.low) / 2 in
     let i = c.loop-low.invariant in
-    let turns : c.look.new.steps - c.args.steps.now ≡ c.loop-low.steps - c.args.steps.now + 1 = omega (arith, c.look.ensures.work, i.forward) in
+    let turns : c.lookup.new.steps - c.args.steps.now ≡ c.loop-low.steps - c.args.steps.now + 1 = omega (arith, c.lookup.ensures.work, i.forward) in
     record {
-      forward = omega (arith, c.look.ensures.work, i.forward);
+      forward = omega (arith, c.lookup.ensures.work, i.forward);
       searched = subst (IsSearched names c.args.name.now c.loop-low.low middle) (sym turns)
           (search_left names c.args.name.now c.loop-low.low c.loop-low.high middle _ (ordered_from _ c.requires) i.searched c.loop-low-test.true refl c.in-Greater.ensures.side);
     }
@@ -43,14 +43,14 @@ returns-in-Equal-clause-least g c =
     let middle : ℕ = c.loop-low.low + (c.loop-low.high - c.loop-low.low) / 2 in
     let i = c.loop-low.invariant in
     let one : least_comparisons names c.args.name.now ≡ 1 = least_found names c.args.name.now middle (omega (arith, c.loop-low-test.true, i.searched.within)) c.in-Equal.ensures.side in
-    omega (arith, one, c.look.ensures.work, i.forward)
+    omega (arith, one, c.lookup.ensures.work, i.forward)
 
 pub returns-in-Equal-clause-work : goal.returns-in-Equal-clause-work
 returns-in-Equal-clause-work g c =
     let names : List (List ℕ) = prefixes_of (rows_of (map g.O.MibObject.state c.args.objects.now)) in
     let i = c.loop-low.invariant in
     let count : length names ≡ length c.args.objects.now = prefixes_length g.O.MibObject.state c.args.objects.now in
-    let turns : c.look.new.steps - c.args.steps.now ≡ c.loop-low.steps - c.args.steps.now + 1 = omega (arith, c.look.ensures.work, i.forward) in
+    let turns : c.lookup.new.steps - c.args.steps.now ≡ c.loop-low.steps - c.args.steps.now + 1 = omega (arith, c.lookup.ensures.work, i.forward) in
     subst (λ (t : ℕ). 2 ^ t ≤ 2 * length c.args.objects.now + 1) (sym turns)
     (subst (λ (n : ℕ). 2 ^ (c.loop-low.steps - c.args.steps.now + 1) ≤ 2 * n + 1) count (search_found names c.args.name.now c.loop-low.low c.loop-low.high _ i.searched c.loop-low-test.true))
 

@@ -9,7 +9,7 @@ use Rattle.setphase_core.specs.Together.{assign, assignments}
 use Rattle.setphase_core.specs.Outcomes.{notes_in, world_by}
 use Rattle.setphase_core.specs.Staging.{assignments_of, static_count, IsUnderWay}
 use Rattle.setphase_core.proofs.States.{on_err_always}
-use Rattle.setphase_core.proofs.Reserving.{with_places, under_way_with, room_with, assign_with, after_with, after_places, same_with, places_back}
+use Rattle.setphase_core.proofs.Reserving.{with_places, under_way_with, space_with, assign_with, after_with, after_places, same_with, places_back}
 use Rattle.setphase_core.proofs.sets.commit_reserved.Goals as goal
 
 pub hold_static-requires : goal.hold_static-requires
@@ -73,7 +73,7 @@ commit_staged-outcome-requires g c =
             (
               c.requires.distinct,
               (
-                room_with w es _ (ap (λ (b : BridgeState). record w { bridge = b }) c.in_ok-reserve_static.ensures.ok
+                space_with w es _ (ap (λ (b : BridgeState). record w { bridge = b }) c.in_ok-reserve_static.ensures.ok
                     ∙ ap (λ (n : ℕ). record w { bridge = record w.bridge { statics = with_places_for n w.bridge.statics } }) (c.count_static.ensures.count ∙ ap (λ (xs : List Staged). static_count (assignments_of xs)) c.as_slice-staged.ensures.value)),
                 c.changes-changed.ensures
                     ∙ ap (λ (xs : List Staged). not (same_settings_of w (assign (assignments_of xs) w))) c.as_slice-staged.ensures.value

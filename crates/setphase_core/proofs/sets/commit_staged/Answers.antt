@@ -9,7 +9,7 @@ use Rattle.setphase_core.specs.Together.{assign, assignments}
 use Rattle.setphase_core.specs.Calls.{calls_by, object_after_set, FollowPlans}
 use Rattle.setphase_core.specs.Outcomes.{CanFail, stuck}
 use Rattle.setphase_core.specs.Staging.{no_entry, entry_at, entries_of, assignments_of, AreCommitted, HasFailed}
-use Rattle.setphase_core.proofs.Room.{may_undo, places-assign}
+use Rattle.setphase_core.proofs.Space.{may_undo, places-assign}
 use Rattle.setphase_core.proofs.Endings.{done_objects}
 use Rattle.setphase_core.proofs.Runs.{ended_notes, ended_world, ended_objects, ended_by_plan}
 use Rattle.setphase_core.proofs.Same.{same_itself_of}
@@ -171,7 +171,7 @@ returns-in_default-clause-places g c =
 pub commit_all-requires : goal.commit_all-requires
 commit_all-requires g c =
     let fits = c.well_formed in
-    (omega arith, (c.requires.none, (c.requires.under_way, c.requires.room)))
+    (omega arith, (c.requires.none, (c.requires.under_way, c.requires.space)))
 
 pub undo_all-keys-requires : goal.undo_all-keys-requires
 undo_all-keys-requires g c =
@@ -182,7 +182,7 @@ undo_all-keys-requires g c =
         (
           c.commit_all.ensures.under_way,
           may_undo c.args.world.now c.commit_all.new.world c.commit_all.new.staging.registry.now c.args.staging.now.staged.items c.commit_all.new.staging.staged.items c.in-Some.failed c.commit_all.new.staging.committed c.in-Some.ensures.failed c.commit_all.ensures.staged c.in-Some.ensures.committed
-              c.requires.room,
+              c.requires.space,
         ),
       ),
     )

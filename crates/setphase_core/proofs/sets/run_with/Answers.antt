@@ -1,7 +1,7 @@
 use Rattle.std.proofs.Common.{◌≡◌, ◌↔◌, ◌+◌, ◌<◌, ◌≤◌, ◌∙◌, sym, ap, subst, List, length, map, IfSome, IsSome, arith, rules}
 use Rattle.message_core.specs.declared.status.ErrorStatus.TheVariants.{NoAccess}
 use Rattle.vacm_core.specs.Families.{NamesFamilyOf}
-use Rattle.setphase_core.specs.declared.sets.Refusal.{Refusal}
+use Rattle.setphase_core.specs.declared.sets.SetRefusal.{SetRefusal}
 use Rattle.setphase_core.specs.declared.world.World.{World}
 use Rattle.setphase_core.specs.Objects.{ObjectRow, ObjectState, object_after_release}
 use Rattle.setphase_core.specs.Registry.{rows_of, held_count}
@@ -12,7 +12,7 @@ use Rattle.setphase_core.specs.Outcomes.{AreNotes, committed_of, notes_in, refus
 use Rattle.setphase_core.specs.Staging.{static_count}
 use Rattle.setphase_core.proofs.Released.{rows_of-released}
 use Rattle.setphase_core.proofs.Runs.{fresh, released-twice, dropped, dropped_plans, ok_then, err_then, either_way}
-use Rattle.setphase_core.proofs.Told.{refusal_numbered, failed_numbered, refusal_family, refusal_no_access}
+use Rattle.setphase_core.proofs.Reported.{refusal_numbered, failed_numbered, refusal_family, refusal_no_access}
 use Rattle.setphase_core.proofs.Kept.{set_keeps, rows_of-after, held_count-after, held_count-released, kept_itself}
 use Rattle.setphase_core.proofs.sets.run_with.Goals as goal
 
@@ -57,7 +57,7 @@ returns-clause-by_plan g c =
 pub returns-clause-refused_index : goal.returns-clause-refused_index
 returns-clause-refused_index g c =
     ok_then c.run_staged.result (returns-clause-refusal g c) (λ outcome h.
-    subst (λ o. IfSome o (λ (r : Refusal). (1 ≤ r.index) × (r.index ≤ length c.args.bindings.now))) (sym h)
+    subst (λ o. IfSome o (λ (r : SetRefusal). (1 ≤ r.index) × (r.index ≤ length c.args.bindings.now))) (sym h)
     (refusal_numbered (rows_of c.args.registry.now) c.args.world.now c.args.view.now c.args.bindings.now))
 
 pub returns-clause-failed_index : goal.returns-clause-failed_index
@@ -68,13 +68,13 @@ returns-clause-failed_index g c =
 pub returns-clause-family : goal.returns-clause-family
 returns-clause-family g c =
     ok_then c.run_staged.result (returns-clause-refusal g c) (λ outcome h.
-    subst (λ o. IfSome o (λ (r : Refusal). IfSome r.family (λ answer. NamesFamilyOf c.args.world.now.policy.vacm.families answer))) (sym h)
+    subst (λ o. IfSome o (λ (r : SetRefusal). IfSome r.family (λ answer. NamesFamilyOf c.args.world.now.policy.vacm.families answer))) (sym h)
     (refusal_family (rows_of c.args.registry.now) c.args.world.now c.args.view.now c.args.bindings.now))
 
 pub returns-clause-no_access : goal.returns-clause-no_access
 returns-clause-no_access g c =
     ok_then c.run_staged.result (returns-clause-refusal g c) (λ outcome h.
-    subst (λ o. IfSome o (λ (r : Refusal). (r.status ≡ NoAccess) ↔ IsSome r.family)) (sym h)
+    subst (λ o. IfSome o (λ (r : SetRefusal). (r.status ≡ NoAccess) ↔ IsSome r.family)) (sym h)
     (refusal_no_access (rows_of c.args.registry.now) c.args.world.now c.args.view.now c.args.bindings.now))
 
 pub returns-clause-accepted : goal.returns-clause-accepted

@@ -7,7 +7,7 @@ use Rattle.vacm_core.proofs.checking.checked_rows.Goals as goal
 
 pub returns-in_err-n-clause-memory : goal.returns-in_err-n-clause-memory
 returns-in_err-n-clause-memory g c =
-    let w = g.W.Written in
+    let w = g.W.WrittenRow in
     let rules = rules_of w.lengths w.fields w.row_of w.same_key in
     let some : 0 < length c.in_ok-rows.rows = omega (arith, c.in_err-n.ensures.memory, ap length c.as_slice.ensures) in
     if_memory c.from_residual-in_err-n.result (BeginsRight rules c.args.written)
@@ -15,7 +15,7 @@ returns-in_err-n-clause-memory g c =
 
 pub returns-in-Some-clause-fault : goal.returns-in-Some-clause-fault
 returns-in-Some-clause-fault g c other =
-    let w = g.W.Written in
+    let w = g.W.WrittenRow in
     let rules = rules_of w.lengths w.fields w.row_of w.same_key in
     let rows = c.in_ok-rows.rows in
     let first = subst (λ (l : List g.row.W-Row.Denot). IsFirstRepeat w.same_key l c.in_ok-n.field-0) c.as_slice.ensures c.in_ok-n.ensures.first in
@@ -24,7 +24,7 @@ returns-in-Some-clause-fault g c other =
 
 pub returns-in-Some-wrong-clause-fault : goal.returns-in-Some-wrong-clause-fault
 returns-in-Some-wrong-clause-fault g c other =
-    let w = g.W.Written in
+    let w = g.W.WrittenRow in
     let rules = rules_of w.lengths w.fields w.row_of w.same_key in
     let rows = c.in_ok-rows.rows in
     let first = subst (λ (l : List g.row.W-Row.Denot). IsFirstRepeat w.same_key l c.in_ok-n.field-0) c.as_slice.ensures c.in_ok-n.ensures.first in
@@ -35,7 +35,7 @@ returns-in-Some-wrong-clause-fault g c other =
 
 pub returns-in-None-clause-right : goal.returns-in-None-clause-right
 returns-in-None-clause-right g c =
-    let w = g.W.Written in
+    let w = g.W.WrittenRow in
     let rules = rules_of w.lengths w.fields w.row_of w.same_key in
     let rows = c.in_ok-rows.rows in
     let first = subst (λ (l : List g.row.W-Row.Denot). IsFirstRepeat w.same_key l c.in_ok-n.field-0) c.as_slice.ensures c.in_ok-n.ensures.first in

@@ -7,7 +7,7 @@ use Rattle.vacm_core.proofs.repeats.least_tied.Goals.{then-is_eq, else-is_eq}
 
 pub loop-k-preserved : goal.loop-k-preserved
 loop-k-preserved g c =
-    let cmp = g.W.Written.key_cmp in
+    let cmp = g.W.WrittenRow.key_cmp in
     let rows = c.args.rows.now in
     let numbers = c.args.numbers.now in
     let k = c.loop-k.k in

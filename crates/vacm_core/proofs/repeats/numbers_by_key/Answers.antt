@@ -10,13 +10,13 @@ use Rattle.vacm_core.proofs.repeats.numbers_by_key.Goals as goal
 
 pub returns-clause-order : goal.returns-clause-order
 returns-clause-order g c =
-    let cmp = g.W.Written.key_cmp in
+    let cmp = g.W.WrittenRow.key_cmp in
     let rows = c.args.rows.now in
     let before = c.in_ok-numbers.numbers.items in
     let numbers = c.sort_unstable_by.new.self.items in
     let moved = c.sort_unstable_by.ensures.permutation in
     record {
-      sorted = c.sort_unstable_by.ensures.sorted (comes_before cmp rows) (order_of_numbers g.met.W.Written.keys_are_ordered rows)
+      sorted = c.sort_unstable_by.ensures.sorted (comes_before cmp rows) (order_of_numbers g.met.W.WrittenRow.keys_are_ordered rows)
           (always_returns_same _ (λ a r. is_lt r ≡ comes_before cmp rows a.0.now a.1.0.now) _ (λ a r f' k. search rules));
       within = All-permutation (λ n. n < length rows) before numbers moved c.in_ok-numbers.ensures.below;
       all = λ n lt. Contains-permutation before numbers n moved (c.in_ok-numbers.ensures.all n lt);

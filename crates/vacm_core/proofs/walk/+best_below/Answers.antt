@@ -1,6 +1,6 @@
 use Rattle.std.proofs.Common.{◌≡◌, true, Some, None, option_map, sym, ap, subst, ◌∙◌, inl, inr, arith}
 use Rattle.vacm_core.specs.declared.radix.Branch.{Branch}
-use Rattle.vacm_core.specs.declared.radix.Run.{Run}
+use Rattle.vacm_core.specs.declared.radix.Segment.{Segment}
 use Rattle.vacm_core.specs.Trees.{reaches, after_run}
 use Rattle.vacm_core.proofs.Ways.{goes_straight, turns, leads_behind, leads_nowhere, along_run}
 use Rattle.vacm_core.proofs.walk.+best_below.Goals as goal
@@ -35,17 +35,17 @@ returns-then-deref-clause-found g t c still way n e f =
 
 pub returns-in-Some-clause-found : goal.returns-in-Some-clause-found
 returns-in-Some-clause-found g t c still way n e f =
-    let run = c.in-Run.run' in
+    let run = c.in-Segment.run' in
     let name = c.args.name.now in
     let found : Some c.in-Some.after.now ≡ after_run run.value.loose run.value.parts.items name =
-    ap (option_map (λ rest. rest.now)) (sym c.in-Some.is) ∙ c.after.ensures ∙ ap (λ (r : Run). after_run r.loose r.parts.items name) c.deref.ensures in
-    let on = leads_behind run.value.loose run.value.parts.items run.value.below name c.in-Some.after.now n (along_run c.args.tree.now run c.in-Run.is way name n e f) found in
-    c.best_below.ensures.found still on.rest n (subst (λ (r : Run). reaches r.below on.rest n ≡ true) (sym c.deref-in-Some.ensures) on.leads) on.fits
+    ap (option_map (λ rest. rest.now)) (sym c.in-Some.is) ∙ c.after.ensures ∙ ap (λ (r : Segment). after_run r.loose r.parts.items name) c.deref.ensures in
+    let on = leads_behind run.value.loose run.value.parts.items run.value.below name c.in-Some.after.now n (along_run c.args.tree.now run c.in-Segment.is way name n e f) found in
+    c.best_below.ensures.found still on.rest n (subst (λ (r : Segment). reaches r.below on.rest n ≡ true) (sym c.deref-in-Some.ensures) on.leads) on.fits
 
 pub returns-in-None-clause-found : goal.returns-in-None-clause-found
 returns-in-None-clause-found g t c still way n e f =
-    let run = c.in-Run.run' in
+    let run = c.in-Segment.run' in
     let name = c.args.name.now in
     let found : None ≡ after_run run.value.loose run.value.parts.items name =
-    ap (option_map (λ rest. rest.now)) (sym c.in-None.is) ∙ c.after.ensures ∙ ap (λ (r : Run). after_run r.loose r.parts.items name) c.deref.ensures in
-    leads_nowhere run.value.loose run.value.parts.items run.value.below name n (along_run c.args.tree.now run c.in-Run.is way name n e f) found
+    ap (option_map (λ rest. rest.now)) (sym c.in-None.is) ∙ c.after.ensures ∙ ap (λ (r : Segment). after_run r.loose r.parts.items name) c.deref.ensures in
+    leads_nowhere run.value.loose run.value.parts.items run.value.below name n (along_run c.args.tree.now run c.in-Segment.is way name n e f) found

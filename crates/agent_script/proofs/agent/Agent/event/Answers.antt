@@ -3,8 +3,8 @@ use Rattle.agent_script.specs.State.{Agent}
 use Rattle.agent_script.proofs.Happenings.{done_adds, dropped_adds, short_adds}
 use Rattle.agent_script.proofs.agent.Agent.event.Goals as goal
 
-pub returns-in-Done-clause-said : goal.returns-in-Done-clause-said
-returns-in-Done-clause-said g c =
+pub returns-in-Done-clause-stated : goal.returns-in-Done-clause-stated
+returns-in-Done-clause-stated g c =
     let a : Agent = record {
       history = c.self.inside.kept;
       is_auditing = c.self.inside.is_auditing;
@@ -15,11 +15,11 @@ returns-in-Done-clause-said g c =
     rw (← c.self.view_is)
     (done_adds a c.args.event c.in-Done.receipt c.in-Done.audit c.apply.new.self c.apply.new.buffer p.2
     c.args.out.now.items c.say_receipt.new.out.items c.say_bpdus.new.out.items c.world.result.now c.address_of-address.result c.bpdus.result.now
-    c.entries.result.now c.has_room.result p.1 c.world.ensures c.address_of-address.ensures c.in_ok-say_receipt-in-Done.ensures c.bpdus.ensures
-    c.in_ok-say_bpdus-in-Done.ensures c.entries.ensures c.has_room.ensures)
+    c.entries.result.now c.has_space.result p.1 c.world.ensures c.address_of-address.ensures c.in_ok-say_receipt-in-Done.ensures c.bpdus.ensures
+    c.in_ok-say_bpdus-in-Done.ensures c.entries.ensures c.has_space.ensures)
 
-pub returns-in-Dropped-clause-said : goal.returns-in-Dropped-clause-said
-returns-in-Dropped-clause-said g c =
+pub returns-in-Dropped-clause-stated : goal.returns-in-Dropped-clause-stated
+returns-in-Dropped-clause-stated g c =
     let a : Agent = record {
       history = c.self.inside.kept;
       is_auditing = c.self.inside.is_auditing;
@@ -29,11 +29,11 @@ returns-in-Dropped-clause-said g c =
     let p = c.in-Dropped.ensures in
     rw (← c.self.view_is)
     (dropped_adds a c.args.event c.in-Dropped.field-0 _ c.apply.new.self c.apply.new.buffer p.2
-    c.args.out.now.items c.say_dropped.new.out.items c.in-Dropped.cause c.entries-in-Dropped.result.now c.has_room-in-Dropped.result p.1
-    c.in_ok-say_dropped-in-Dropped.ensures c.entries-in-Dropped.ensures c.has_room-in-Dropped.ensures)
+    c.args.out.now.items c.say_dropped.new.out.items c.in-Dropped.cause c.entries-in-Dropped.result.now c.has_space-in-Dropped.result p.1
+    c.in_ok-say_dropped-in-Dropped.ensures c.entries-in-Dropped.ensures c.has_space-in-Dropped.ensures)
 
-pub returns-in-Short-clause-said : goal.returns-in-Short-clause-said
-returns-in-Short-clause-said g c =
+pub returns-in-Short-clause-stated : goal.returns-in-Short-clause-stated
+returns-in-Short-clause-stated g c =
     let a : Agent = record {
       history = c.self.inside.kept;
       is_auditing = c.self.inside.is_auditing;

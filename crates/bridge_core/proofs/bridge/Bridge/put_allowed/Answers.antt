@@ -12,7 +12,7 @@ invariant_of-self c =
     let rows = c.self.inside.statics.rows in
     let n = c.ports-count.result in
     let count = h.set ∙ sym c.ports-count.ensures.count in
-    let are : AreStaticRows n rows = subst (λ (k : ℕ). AreStaticRows k rows) count h.telling in
+    let are : AreStaticRows n rows = subst (λ (k : ℕ). AreStaticRows k rows) count h.reporting in
     let value = subst (λ (k : ℕ). IsOfPorts k c.args.ports) (sym (ap port_count c.self.view_is) ∙ sym c.ports-count.ensures.count) c.requires.value in
     let left = with_row n (record { index = c.args.index; made = is_made_in (row_of rows c.args.index); ports = c.args.ports }) rows value are in
     record {
@@ -22,5 +22,5 @@ invariant_of-self c =
       least = h.least;
       most = h.most;
       limit = h.limit;
-      telling = subst (λ (k : ℕ). AreStaticRows k c.put_allowed.new.statics.rows) (sym count) (subst (AreStaticRows n) (sym (ap (λ (t : Statics). t.rows) c.put_allowed.ensures.after)) left);
+      reporting = subst (λ (k : ℕ). AreStaticRows k c.put_allowed.new.statics.rows) (sym count) (subst (AreStaticRows n) (sym (ap (λ (t : Statics). t.rows) c.put_allowed.ensures.after)) left);
     }

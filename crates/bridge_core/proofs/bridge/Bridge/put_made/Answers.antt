@@ -10,7 +10,7 @@ invariant_of-self c =
     let rows = c.self.inside.statics.rows in
     let n = c.ports-count.result in
     let count = h.set ∙ sym c.ports-count.ensures.count in
-    let are : AreStaticRows n rows = subst (λ (k : ℕ). AreStaticRows k rows) count h.telling in
+    let are : AreStaticRows n rows = subst (λ (k : ℕ). AreStaticRows k rows) count h.reporting in
     let left = with_row n (record { index = c.args.index; made = c.args.made; ports = ports_of n (row_of rows c.args.index) }) rows (allowed_ports n rows c.args.index are) are in
     record {
       configured = h.configured;
@@ -19,5 +19,5 @@ invariant_of-self c =
       least = h.least;
       most = h.most;
       limit = h.limit;
-      telling = subst (λ (k : ℕ). AreStaticRows k c.put_made.new.statics.rows) (sym count) (subst (AreStaticRows n) (sym (ap (λ (t : Statics). t.rows) c.put_made.ensures.after)) left);
+      reporting = subst (λ (k : ℕ). AreStaticRows k c.put_made.new.statics.rows) (sym count) (subst (AreStaticRows n) (sym (ap (λ (t : Statics). t.rows) c.put_made.ensures.after)) left);
     }

@@ -16,7 +16,7 @@ invariant_of-self c =
     let h = c.self.invariant in
     let same = length-map c.self.inside.settings.ports without_migration_check in
     let kept = ap (λ (t : Settings). length t.ports) c.settle-outcome.ensures.settings ∙ same in
-    let rows = kept_rows (length c.self.inside.settings.ports) c.self.inside.statics.rows h.telling in
+    let rows = kept_rows (length c.self.inside.settings.ports) c.self.inside.statics.rows h.reporting in
     let same_length = c.follow.auto.counters ∙ ap length c.as_mut_slice.ensures.value in
     record {
       configured = search rules;
@@ -25,7 +25,7 @@ invariant_of-self c =
       least = search rules;
       most = search rules;
       limit = search rules;
-      telling = subst (λ (k : ℕ). AreStaticRows k c.drop_unmade.new.statics.rows) (sym kept) (subst (AreStaticRows (length c.self.inside.settings.ports)) (sym (ap (λ (t : Statics). t.rows) c.drop_unmade.ensures)) rows);
+      reporting = subst (λ (k : ℕ). AreStaticRows k c.drop_unmade.new.statics.rows) (sym kept) (subst (AreStaticRows (length c.self.inside.settings.ports)) (sym (ap (λ (t : Statics). t.rows) c.drop_unmade.ensures)) rows);
     }
 
 pub returns-clause-step : goal.returns-clause-step

@@ -4,8 +4,8 @@ use Rattle.bridge_mib.specs.Line.{AreEnables}
 use Rattle.bridge_mib.proofs.Enables.{enables_set, enable_at}
 use Rattle.bridge_mib.proofs.port_enable.PortEnableMibObject.commit.Goals as goal
 
-pub tell-requires : goal.tell-requires
-tell-requires g c =
+pub call_driver-requires : goal.call_driver-requires
+call_driver-requires g c =
     enable_at c.self.inside.slots c.args.slot.place (reservation_of c.args.slot c.requires.reserved.old) c.self.invariant (search rules)
 
 pub invariant_of-self-2 : goal.invariant_of-self-2

@@ -5,7 +5,7 @@ use Rattle.fdb_core.specs.Seen.{row_at, rows_at}
 use Rattle.fdb_core.proofs.Addresses.{addresses_learned}
 use Rattle.fdb_core.proofs.Kept.{rising_learned, young_learned}
 use Rattle.fdb_core.proofs.Found.{learned_here, learned_others}
-use Rattle.fdb_core.specs.declared.row.Row.{Row}
+use Rattle.fdb_core.specs.declared.row.LearnedRow.{LearnedRow}
 use Rattle.fdb_core.specs.Table.{Table}
 use Rattle.fdb_core.proofs.fdb.Fdb.learn.Goals as goal
 
@@ -28,9 +28,9 @@ invariant_of-self c =
 pub returns-clause-own : goal.returns-clause-own
 returns-clause-own c full memory =
     let old = c.self.inside.sightings in
-    ap (λ (l : List Row). row_of l c.args.address) c.learn.ensures.rows ∙ learned_here c.learn.result (rows_at old.tick old.seen.entries) c.args.address c.args.port full memory
+    ap (λ (l : List LearnedRow). row_of l c.args.address) c.learn.ensures.rows ∙ learned_here c.learn.result (rows_at old.tick old.seen.entries) c.args.address c.args.port full memory
 
 pub returns-clause-others : goal.returns-clause-others
 returns-clause-others c other differs =
     let old = c.self.inside.sightings in
-    ap (λ (l : List Row). row_of l other) c.learn.ensures.rows ∙ learned_others c.learn.result (rows_at old.tick old.seen.entries) c.args.address c.args.port other differs ∙ ap (λ (t : Table). row_of t.rows other) c.self.view_is
+    ap (λ (l : List LearnedRow). row_of l other) c.learn.ensures.rows ∙ learned_others c.learn.result (rows_at old.tick old.seen.entries) c.args.address c.args.port other differs ∙ ap (λ (t : Table). row_of t.rows other) c.self.view_is

@@ -32,6 +32,6 @@ returns g c =
     let made = c.made_of-entry.ensures.entry ∙ ap (λ (e : Event). entry_of e c.happen.new.happened) c.parted-kept_event.ensures.kept in
     let t = left-ok h c.args.event c.happen.new.happened _ _ _ _ _ _ _ _ _ c.self.invariant number below base happens made c.enter.ensures in
     let applied = applies-ok h c.args.event c.happen.new.happened c.happen.new.world c.happen.new.registry c.happen.new.buffer c.next_number-number.result c.parted-kept_event.result.1 c.made_of-entry.result.receipt c.made_of-entry.result.audit later
-    below happens number c.parted-kept_event.ensures.told c.made_of-entry.ensures.receipt c.made_of-entry.ensures.audit t.0 in
+    below happens number c.parted-kept_event.ensures.reported c.made_of-entry.ensures.receipt c.made_of-entry.ensures.audit t.0 in
     subst (λ (x : History). Applies x c.args.event c.applied.result later c.happen.new.buffer) c.self.view_is
     (subst (λ (x : Applied). Applies h c.args.event x later c.happen.new.buffer) (sym c.applied.ensures) applied)

@@ -1,5 +1,5 @@
 use Rattle.std.proofs.Common.{◌+◌, ap, ◌∙◌, arith}
-use Rattle.live_lock.proofs.Sharings.{applied-held, applied-told, applied-onward, applied-rises}
+use Rattle.live_lock.proofs.Sharings.{applied-held, applied-reported, applied-onward, applied-rises}
 use Rattle.live_lock.proofs.held.Held.apply.Goals as goal
 
 pub invariant_of-self : goal.invariant_of-self
@@ -30,8 +30,8 @@ returns-clause-place g c = record {
   applies = c.apply_duplicated-applied.ensures;
 }
 
-pub returns-clause-told : goal.returns-clause-told
-returns-clause-told g c = applied-told _ _ _ _ _ c.apply_duplicated-applied.ensures
+pub returns-clause-reported : goal.returns-clause-reported
+returns-clause-reported g c = applied-reported _ _ _ _ _ c.apply_duplicated-applied.ensures
 
 pub returns-clause-rises : goal.returns-clause-rises
 returns-clause-rises g c =

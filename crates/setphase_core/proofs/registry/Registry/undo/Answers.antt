@@ -1,6 +1,6 @@
 use Rattle.std.proofs.lemmas.Result.{on_ok_weaker, on_err_weaker}
 use Rattle.std.proofs.Common.{subst, sym, true, false}
-use Rattle.setphase_core.specs.Objects.{after_call, object_after_failure, HasRoomBack, IsByPlan}
+use Rattle.setphase_core.specs.Objects.{after_call, object_after_failure, HasSpaceBack, IsByPlan}
 use Rattle.setphase_core.proofs.States.{row_after_undo, right-set, state_is, states-step}
 use Rattle.setphase_core.proofs.registry.Registry.undo.Goals as goal
 
@@ -26,6 +26,6 @@ pub returns-clause-fails : goal.returns-clause-fails
 returns-clause-fails g c =
     on_err_weaker c.undo.result (λ h. subst (λ z. IsByPlan z true) (state_is g.O.MibObject.state c.self.inside.objects.items c.args.self.now c.args.place c.index_mut.result.now c.undo.new.self c.self.view_is c.requires.within c.index_mut.ensures.value) h) c.undo.ensures.fails
 
-pub undo-requires-clause-room : goal.undo-requires-clause-room
-undo-requires-clause-room g c =
-    subst (λ z. HasRoomBack c.args.world.now z c.args.slot) (sym (state_is g.O.MibObject.state c.self.inside.objects.items c.args.self.now c.args.place c.index_mut.result.now c.index_mut.result.now c.self.view_is c.requires.within c.index_mut.ensures.value)) c.requires.room
+pub undo-requires-clause-space : goal.undo-requires-clause-space
+undo-requires-clause-space g c =
+    subst (λ z. HasSpaceBack c.args.world.now z c.args.slot) (sym (state_is g.O.MibObject.state c.self.inside.objects.items c.args.self.now c.args.place c.index_mut.result.now c.index_mut.result.now c.self.view_is c.requires.within c.index_mut.ensures.value)) c.requires.space

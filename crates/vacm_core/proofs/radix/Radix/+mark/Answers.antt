@@ -15,7 +15,7 @@ returns-in_default-clause-marked t c other row same e =
 pub returns-after-run-clause-kept : goal.returns-after-run-clause-kept
 returns-after-run-clause-kept t c other row e =
     let run = c.deref_mut-run.result.now in
-    let on = at_run c.args.self.now c.in-Run.run' c.in-Run.is run c.deref_mut-run.ensures.value other row e in
+    let on = at_run c.args.self.now c.in-Segment.run' c.in-Segment.is run c.deref_mut-run.ensures.value other row e in
     let more : run.loose ≡ true → c.if-run.run ≡ true = λ loose. elim c.if-run.branch [
       | then-run w ↦ w.run-is ∙ loose
       | else-run w ↦ absurd (both_ways run.loose w.if-run.false loose)
@@ -25,7 +25,7 @@ returns-after-run-clause-kept t c other row e =
 pub returns-after-run-clause-marked : goal.returns-after-run-clause-marked
 returns-after-run-clause-marked t c other row same e =
     let run = c.deref_mut-run.result.now in
-    let on = at_run c.args.self.now c.in-Run.run' c.in-Run.is run c.deref_mut-run.ensures.value other row e in
+    let on = at_run c.args.self.now c.in-Segment.run' c.in-Segment.is run c.deref_mut-run.ensures.value other row e in
     let long : c.len-long.result ≡ length run.parts.items = omega (arith, c.len-long.ensures, run.parts.ok) in
     let tight : c.if-run.run ≡ false → list_all (λ s. s.counts) (take (length run.parts.items) c.args.way.now) ≡ true = λ marked. elim c.if-run.branch [
       | then-run w ↦ absurd (both_ways c.if-run.run marked (w.run-is ∙ w.if-run.true))
@@ -40,5 +40,5 @@ returns-after-run-clause-marked t c other row same e =
 pub returns-else-long-way-clause-marked : goal.returns-else-long-way-clause-marked
 returns-else-long-way-clause-marked t c other row same e =
     let run = c.deref_mut-run.result.now in
-    let on = at_run c.args.self.now c.in-Run.run' c.in-Run.is run c.deref_mut-run.ensures.value other row e in
+    let on = at_run c.args.self.now c.in-Segment.run' c.in-Segment.is run c.deref_mut-run.ensures.value other row e in
     never_along run.loose run.parts.items (λ rest. reaches run.below rest row) other c.args.way.now same (omega arith) on

@@ -1,0 +1,172 @@
+//! The bindings of a GetBulk that fit so far (RFC 3416, 4.2.3).
+ghost use Rattle.std.specs.Prelude.{List, MatchOption, ◌≡◌, ◌≤◌, ◌<◌, ◌-◌, ◌++◌, [], ◌∷◌, IfOk, OnErr, IsTrue, true, false, length, drop, nat_le, slice_get, if◌then◌else◌, None};
+ghost use Rattle.std.specs.Option.{option_copied};
+ghost use Rattle.message_core.specs.Encodable.{IsEncodableBinding, AreEncodable};
+ghost use Rattle.message_core.specs.declared.limits.TheConstants.{MAX_REPLY};
+ghost use Rattle.message_core.specs.Canon.{canon_binding};
+ghost use Rattle.message_core.specs.declared.binding.Binding.{Binding};
+ghost use Rattle.agent_core.specs.Fitting.{total, fit_into};
+ghost use Rattle.agent_core.specs.Sending.{kept, stands_of};
+
+use crate::source::Stand;
+use arrayvec::ArrayVec;
+use message_core::{Binding, Bindings, Value, encoded_len};
+use oid_core::Oid;
+use std::alloc::{AllocError, Global};
+use std::marker::Model;
+
+/// The most last bindings for which it is kept where a walk stands. In a repetition of more columns
+/// each binding begins with a search.
+pub const MAX_STANDS: usize = 16;
+
+// How many octets a binding has at least: its head, and the heads of its name and its value.
+const SHORTEST_BINDING: usize = 6;
+
+/// The bindings of a GetBulk's reply so far, and the octets that they may have (RFC 3416, 4.2.3: as
+/// many as fit).
+#[derive(Drop)]
+pub struct FittingBindings {
+    bindings: Vec<Binding>,
+    // Where walks stand at the names of the last of them, and for how many that is kept.
+    stands: ArrayVec<Stand, MAX_STANDS>,
+    most_stands: usize,
+    used: usize,
+    space: usize,
+}
+
+impl Model for FittingBindings {
+    ghost use Rattle.std.specs.Prelude.{◌<◌, ◌/◌, vec_capacity};
+    ghost use Rattle.agent_core.specs.Fitting.{least_binding};
+    ghost use Rattle.agent_core.specs.Sending.{Sending, IsSending};
+
+    ghost Value = { Sending };
+
+    ghost view = { λ s. record {
+      space = s.space;
+      bindings = s.bindings.items;
+      stands = s.stands.items;
+      most_stands = s.most_stands;
+    } };
+
+    ghost invariant = { λ s.
+        IsSending (record {
+          space = s.space;
+          bindings = s.bindings.items;
+          stands = s.stands.items;
+          most_stands = s.most_stands;
+        }) s.used × (s.space / least_binding < vec_capacity s.bindings) };
+}
+
+impl FittingBindings {
+    /// No bindings, and a buffer for so many octets. A repetition has so many columns: where walks
+    /// stand is kept for as many bindings. Memory for as many bindings as can fit, and for one more, is
+    /// reserved: so none of them is moved once it is made, and adding one takes none.
+    ///
+    /// # Errors
+    /// `AllocError` where there is no such memory.
+    pub fn new(alloc: Global, space: usize, columns: usize) -> Result<FittingBindings, AllocError>
+        requires { space ≤ MAX_REPLY }
+        ensures { IfOk result (λ fitting. fitting ≡ record {
+          space = space;
+          bindings = [];
+          stands = [];
+          most_stands = stands_of columns;
+        }) }
+    {
+        Ok(FittingBindings {
+            bindings: Vec::with_capacity(alloc, space / SHORTEST_BINDING + 1)?,
+            stands: ArrayVec::new(),
+            most_stands: columns.min(MAX_STANDS).max(1),
+            used: 0,
+            space,
+        })
+    }
+
+    /// Adds the binding of a name and a value where it fits (RFC 3416, 4.2.3), and says whether it
+    /// did. It is made in its place, and measured there; one that does not fit is
+    /// removed again. With it is kept where a walk stands at its name. It takes no memory.
+    #[inline(always)]
+    pub fn offer(&mut self, name: Oid, value: Value, stand: Stand) -> bool
+        requires { IsEncodableBinding (record { name = name; value = value }) }
+        ensures taken { IsTrue result →
+            self.new.bindings ≡ self.old.bindings ++ record { name = name; value = value } ∷ [] }
+        ensures stand { IsTrue result →
+            self.new.stands ≡ kept self.old.most_stands self.old.stands stand }
+        ensures full { result ≡ false → self.new ≡ self.old }
+        ensures fits { result ≡ fit_into self.old.space
+            (self.old.bindings ++ record { name = name; value = value } ∷ []) }
+        ensures space { self.new.space ≡ self.old.space }
+    {
+        self.bindings.push_reserved(Binding { name, value });
+        let Some(len) = last_len(self.bindings.as_slice(), self.space - self.used) else {
+            self.bindings.pop();
+            return false;
+        };
+        keep(&mut self.stands, self.most_stands, stand);
+        self.used += len;
+        true
+    }
+
+    /// The last so many bindings: those of one repetition.
+    pub fn last(&self, count: usize) -> &[Binding]
+        requires { count ≤ length self.now.bindings }
+        ensures value { result.now ≡ drop (length self.now.bindings - count) self.now.bindings }
+        ensures encodable { AreEncodable result.now }
+    {
+        let all = self.bindings.as_slice();
+        &all[all.len() - count..]
+    }
+
+    /// Where a walk stands at the name of the binding so many places back, 1 for the last, where that is
+    /// kept.
+    pub fn stand(&self, back: usize) -> Option<&Stand>
+        requires { 1 ≤ back }
+        ensures { option_copied result ≡ (if nat_le back (length self.now.stands)
+            then slice_get self.now.stands (length self.now.stands - back) else None) }
+    {
+        let all = self.stands.as_slice();
+        all.get(all.len().checked_sub(back)?)
+    }
+
+    /// The bindings. Takes no memory.
+    pub fn into_bindings(self) -> Bindings
+        ensures value { result ≡ self.bindings }
+        ensures encodable { AreEncodable self.bindings }
+        ensures within { total self.bindings ≤ self.space }
+    {
+        let FittingBindings {
+            bindings,
+            stands: _,
+            most_stands: _,
+            used: _,
+            space: _,
+        } = self;
+        Bindings::from_vec(bindings)
+    }
+}
+
+// How many octets the last binding has, where these are no more than so many.
+fn last_len(bindings: &[Binding], most: usize) -> Option<usize>
+    requires some { 1 ≤ length bindings.now }
+    requires encodable { AreEncodable bindings.now }
+    requires most { most ≤ MAX_REPLY }
+    ensures { (front : List Binding) (last : Binding) → bindings.now ≡ front ++ last ∷ [] →
+        MatchOption result (most < length (canon_binding last))
+        (λ len. (len ≡ length (canon_binding last)) × (len ≤ most)) }
+{
+    encoded_len(&bindings[bindings.len() - 1], most)
+}
+
+// Keeps where a walk stands at the name of the last binding, in place of the first one where there are
+// as many as are kept.
+fn keep(stands: &mut ArrayVec<Stand, MAX_STANDS>, most: usize, stand: Stand)
+    requires some { 1 ≤ most }
+    requires most { most ≤ MAX_STANDS }
+    requires within { length stands.old.items ≤ most }
+    ensures { stands.new.items ≡ kept most stands.old.items stand }
+{
+    if stands.len() >= most {
+        stands.remove(0);
+    }
+    stands.push(stand);
+}

@@ -1,0 +1,114 @@
+-- What is written of a text, and what a check reports of octets.
+use Rattle.std.specs.Prelude.{◌≡◌, ◌≢◌, ◌⊎◌, ℕ, codes, List, ◌++◌, Option, Some, None, Result, Ok, Err}
+use Rattle.std.specs.Io.KnownBytes.{Appends}
+use Rattle.policy_text.specs.Texts.{HasContent}
+use Rattle.configuration.specs.declared.configuration.Configuration.{Configuration}
+use Rattle.configuration.specs.declared.fault.ConfigurationFault.{ConfigurationFault}
+use Rattle.configuration.specs.declared.fault.ConfigurationFault.TheVariants.{Memory}
+use Rattle.configuration.specs.Configurations.{IsConfigurationIn, IsFaultIn}
+use Rattle.configuration.specs.Sentences.{sentence}
+use Rattle.udp_agent.specs.Setups.{IsUnserved}
+use Rattle.udp_agent.specs.declared.setup.Unserved.{Unserved}
+use Rattle.udp_agent.specs.declared.setup.Unserved.TheVariants.{NoServe, NoSockets}
+use Rattle.agent_program.specs.declared.files.NotRead.{NotRead}
+use Rattle.agent_program.specs.declared.files.NotRead.TheVariants.{Memory as FileMemory, Unreadable}
+use Rattle.agent_program.specs.declared.failure.Failure.{Failure}
+use Rattle.agent_program.specs.declared.failure.Failure.TheVariants.{NotText, NoName, CannotRead, Refused, Input, Output, Unanswered, NotDone, Run as RunFailed}
+use Rattle.agent_program.specs.Endings.{TakesFront}
+use Rattle.agent_program.specs.Files.{IsReadOf}
+
+-- what is stated of a configuration: a script can run by it, and it can be served, or why it cannot
+abbrev pub ok_text : Option Unserved → List ℕ
+ok_text None = codes "configuration ok for script and serve\n"
+ok_text (Some NoServe) = codes "configuration ok for script, not for serve: no [serve]\n"
+ok_text (Some NoSockets) =
+    codes "configuration ok for script, not for serve: a port without listen or peer\n"
+
+-- what is stated of a fault
+abbrev pub fault_text : ConfigurationFault → List ℕ
+fault_text fault = sentence fault ++ codes "\n"
+
+-- this is the first fault of the octets, unless it is want of memory, which says of them only that
+-- they are a text that is not blank
+abbrev pub IsFaultFound : List ℕ → ConfigurationFault → Type 0
+IsFaultFound octets fault =
+    (fault ≢ Memory → IsFaultIn octets fault) × (fault ≡ Memory → HasContent octets)
+
+-- A writer that may report which octets it took.
+module _ {O : Type 0} (contents : O → Option (List ℕ)) where
+  -- A failure of the output: a front of this text was written.
+  abbrev pub IsCutOff : List ℕ → O → O → Failure → Type 0
+  IsCutOff text writer writer' NotText = ⊥
+  IsCutOff text writer writer' (NoName word) = ⊥
+  IsCutOff text writer writer' (CannotRead file) = ⊥
+  IsCutOff text writer writer' Refused = ⊥
+  IsCutOff text writer writer' Input = ⊥
+  IsCutOff text writer writer' Output = TakesFront (contents writer) (contents writer') text
+  IsCutOff text writer writer' Unanswered = ⊥
+  IsCutOff text writer writer' NotDone = ⊥
+  IsCutOff text writer writer' RunFailed = ⊥
+
+  -- This text was written, or a front of it until the output failed.
+  abbrev pub IsReported : List ℕ → O → O → Result (Unit {0}) Failure → Type 0
+  IsReported text writer writer' (Ok done) = Appends (contents writer) (contents writer') text
+  IsReported text writer writer' (Err failure) = IsCutOff text writer writer' failure
+
+  -- A fault was reported, and the configuration is refused; or the output failed before its end; or
+  -- there was no memory for its sentence, and nothing was written.
+  abbrev pub IsFaultReported : ConfigurationFault → O → O → Failure → Type 0
+  IsFaultReported fault writer writer' NotText = ⊥
+  IsFaultReported fault writer writer' (NoName word) = ⊥
+  IsFaultReported fault writer writer' (CannotRead file) = ⊥
+  IsFaultReported fault writer writer' Refused =
+      Appends (contents writer) (contents writer') (fault_text fault)
+  IsFaultReported fault writer writer' Input = ⊥
+  IsFaultReported fault writer writer' Output =
+      TakesFront (contents writer) (contents writer') (fault_text fault)
+  IsFaultReported fault writer writer' Unanswered = ⊥
+  IsFaultReported fault writer writer' NotDone = ⊥
+  IsFaultReported fault writer writer' RunFailed = writer' ≡ writer
+
+  -- the octets are no configuration, and that is reported
+  pub record IsRefusalReported (octets : List ℕ) (writer writer' : O) (failure : Failure) : Type 0 where
+    pub fault : ConfigurationFault
+    pub found : IsFaultFound octets fault
+    pub reported : IsFaultReported fault writer writer' failure
+
+  -- the octets are a configuration, and that is reported, and whether it can be served, whole or until
+  -- the output failed
+  pub record IsRightReported (octets : List ℕ) (writer writer' : O) (ended : Result (Unit {0}) Failure) : Type 0 where
+    pub configuration : Configuration
+    pub stated : IsConfigurationIn octets configuration
+    pub why : Option Unserved
+    pub unserved : IsUnserved configuration.ports.items configuration.serve why
+    pub reported : IsReported (ok_text why) writer writer' ended
+
+  -- What a check of octets amounts to.
+  abbrev pub IsChecked : List ℕ → O → O → Result (Unit {0}) Failure → Type 0
+  IsChecked octets writer writer' (Ok done) = IsRightReported octets writer writer' (Ok done)
+  IsChecked octets writer writer' (Err failure) =
+      IsRightReported octets writer writer' (Err failure) ⊎ IsRefusalReported octets writer writer' failure
+
+  -- there was no memory to read a configuration, and that is reported
+  pub record IsWantReported (writer writer' : O) (ended : Result (Unit {0}) Failure) : Type 0 where
+    pub failure : Failure
+    pub failed : ended ≡ Err failure
+    pub reported : IsFaultReported Memory writer writer' failure
+
+  -- What a check of what was read of a file amounts to: want of memory for its octets is reported as that
+  -- for the configuration; of a file that cannot be read nothing is reported.
+  abbrev pub IsFileChecked : Result (List ℕ) NotRead → O → O → Result (Unit {0}) Failure → Type 0
+  IsFileChecked (Ok octets) writer writer' ended = IsChecked octets writer writer' ended
+  IsFileChecked (Err FileMemory) writer writer' ended = IsWantReported writer writer' ended
+  IsFileChecked (Err (Unreadable file)) writer writer' ended =
+      (ended ≡ Err (CannotRead file)) × (writer' ≡ writer)
+
+-- A reader of files, by what a read of the file of a name may give, and a writer.
+module _ {O : Type 0} (Gives : List ℕ → Result (List ℕ) NotRead → Type 0)
+    (contents : O → Option (List ℕ)) where
+  -- a file was read, or not, and it was reported whether what was read of it is a configuration
+  pub record IsCheckOf (file : List ℕ) (writer writer' : O) (ended : Result (Unit {0}) Failure)
+      : Type 0 where
+    pub read : Result (List ℕ) NotRead
+    pub is : IsReadOf Gives file read
+    pub checked : IsFileChecked contents read writer writer' ended

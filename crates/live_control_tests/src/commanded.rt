@@ -1,0 +1,277 @@
+//! Commands over a wire in memory: what each is answered, what is recorded of it, and what the ports
+//! send.
+ghost use Rattle.std.specs.Prelude.{◌≡◌, ◌<◌, ◌≤◌};
+
+use bridge_core::Bridge;
+use bridge_mib::Planned;
+use community_core::Policy;
+use configuration::{BUILT_IN, configuration_in};
+use control_text::MAX_POLICY;
+use frame_core::Mac;
+use history_core::Kept;
+use live_agent::{End, Plan};
+use live_control::{COMMAND_SPACE, ControlItem, Controlled, DropCounts, DropTally, control_run};
+use live_lock::{Live, Run};
+use object_list::{Object, objects};
+use rising::Blank;
+use rstp_core::{IfIndex, PortConfig};
+use setphase_core::{Registry, World, are_named};
+use std::alloc::Global;
+use std::marker::Brand;
+use std::net::{IpAddr, Ipv4Addr, SocketAddr};
+use std::sync::{Wait, ledger};
+use std::test::Fail;
+use wire_core::{FailingWire, MemoryWire, Packet, Wire, WireFault};
+
+// What was dropped of datagrams.
+#[derive(Drop)]
+struct Dropped;
+
+impl DropTally for Dropped {
+    ghost use Rattle.std.specs.Prelude.{⊤};
+
+    ghost reports = { λ _ _. ⊤ };
+
+    fn dropped<R: Wait>(&self, _rt: &R) -> DropCounts {
+        DropCounts {
+            too_long: 1,
+            malformed: 2,
+            bad_version: 3,
+            bad_kind: 4,
+            memory: 5,
+        }
+    }
+}
+
+// Somebody on this machine, at a port of UDP.
+fn peer(port: u16) -> SocketAddr {
+    SocketAddr::new(IpAddr::V4(Ipv4Addr::LOCALHOST), port)
+}
+
+// A port of 1000 Mb/s, full duplex.
+fn port(number: u32) -> PortConfig
+    requires { (1 ≤ number) × (number ≤ 9) }
+{
+    PortConfig {
+        ifindex: IfIndex::of(number),
+        speed: 1000,
+        full: true,
+    }
+}
+
+// The policy of the built-in configuration.
+fn built_in(alloc: Global) -> Result<Policy, Fail> {
+    let configuration = configuration_in(alloc, BUILT_IN.as_bytes())
+        .ok()
+        .ok_or("built in")?;
+    Ok(configuration.policy)
+}
+
+// A history of a bridge of two ports, in which nothing has happened.
+fn history(alloc: Global) -> Result<Kept<Object<Planned>>, Fail> {
+    let ports = [port(1), port(2)];
+    let bridge = Bridge::new(alloc, Mac([2, 0, 0, 0, 0, 10]), &ports)
+        .ok()
+        .ok_or("a bridge")?;
+    let world = World {
+        bridge,
+        policy: built_in(alloc)?,
+        bad_communities: 6,
+        unknown_contexts: 7,
+    };
+    let objects = objects(alloc, Planned::new())?;
+    if !are_named(objects.as_slice()) {
+        return Err(Fail::from("names of objects"));
+    }
+    let registry = Registry::new(objects).ok().ok_or("a registry")?;
+    Ok(Kept::new(alloc, registry, world).ok().ok_or("room")?)
+}
+
+// A policy that nobody may use, as a command.
+const NOBODY: &[u8] = b"policy
+contexts = []
+community = []
+group = []
+access = []
+family = []
+end
+";
+
+// The commands that are given, one behind another.
+const COMMANDS: [&[u8]; 8] = [
+    b"link 1 up\n",
+    b"link 3 up\n",
+    b"frame 1 00\n",
+    b"counts",
+    NOBODY,
+    b"policy\ncontexts = 1\nend\n",
+    b"policy\ncontexts = []\n",
+    b"link 1 down\nlink 1 up\n",
+];
+
+// What the line did: how it ended, what was recorded, and its wires.
+type Done<W, C> = (End, Vec<ControlItem>, Controlled<W, C>);
+
+// The line runs over these wires.
+fn commanded<L: Run, W: Wire, C: Wire, R: Wait>(
+    rt: &R,
+    alloc: Global,
+    kept: Kept<Object<Planned>>,
+    blank: ledger::Blank,
+    number: Blank,
+    moved: Blank,
+    wires: Controlled<W, C>,
+) -> Result<Done<W, C>, Fail>
+    requires name { blank.name ≡ L.name }
+    requires all { blank.parts ≡ L.parts }
+    requires number { number.name ≡ L.rise }
+    requires moved { moved.name ≡ L.base_rise }
+    requires some { 0 < blank.parts }
+    requires start { kept ≡ L.start }
+{
+    let (live, mut share) = Live::<Object<Planned>, L>::new(kept, blank, number, moved);
+    let plan = Plan {
+        alloc,
+        rounds: 20,
+        source: Mac([2, 0, 0, 0, 0, 10]),
+        peers: Vec::from_array(alloc, [peer(20001), peer(20002)])?,
+    };
+    let mut wires = wires;
+    let mut space = vec![in alloc; 0u8; COMMAND_SPACE]?;
+    let items = Vec::new(alloc);
+    let (end, items) = control_run(
+        rt, &plan, 2, &Dropped, &live, &mut share, &mut wires, &mut space, items,
+    );
+    Ok((end, items, wires))
+}
+
+// The same over a history in which nothing has happened.
+fn run_over<W: Wire, C: Wire, R: Wait>(
+    rt: &R,
+    alloc: Global,
+    wire: W,
+    control: C,
+) -> Result<Done<W, C>, Fail> {
+    let kept = history(alloc)?;
+    let blank = ledger::Blank::new(1);
+    let wires = Controlled { wire, control };
+    commanded::<Brand, W, C, R>(rt, alloc, kept, blank, Blank::new(), Blank::new(), wires)
+}
+
+// A wire that gives these commands, in order, and is closed behind them.
+fn giving(alloc: Global, commands: &[&[u8]]) -> Result<MemoryWire, Fail> {
+    let mut control = MemoryWire::new(alloc);
+    for command in commands {
+        control.give_datagram(peer(1), command)?;
+    }
+    Ok(control)
+}
+
+// Whether this is what was sent at a place.
+fn is_answer(sent: &[Packet], place: usize, text: &[u8]) -> bool {
+    match sent.get(place) {
+        Some(packet) => packet.octets.as_slice() == text,
+        None => false,
+    }
+}
+
+// Whether an item is of an event that was entered.
+fn is_entered(items: &[ControlItem], place: usize) -> bool {
+    matches!(items.get(place), Some(ControlItem::Entered(_)))
+}
+
+#[test]
+fn each_command_has_its_item_and_its_answer(rt: HostRuntime) -> Result<(), Fail> {
+    let alloc = rt.alloc();
+    let control = giving(alloc, &COMMANDS)?;
+    let (end, items, wires) = run_over(&rt, alloc, MemoryWire::new(alloc), control)?;
+    assert_eq!(rt; end, End::Closed);
+    assert_eq!(rt; items.len(), 8);
+    let sent = wires.control.sent();
+    assert_eq!(rt; sent.len(), 8);
+    assert!(rt; is_entered(&items, 0));
+    assert!(rt; is_entered(&items, 4));
+    assert!(rt; is_answer(sent, 1, b"badline\n"));
+    assert!(rt; is_answer(sent, 2, b"badline\n"));
+    assert!(rt; is_answer(sent, 3, b"counts 1 2 3 4 5 6 7\n"));
+    assert!(rt; is_answer(sent, 4, b"policy ok\n"));
+    assert!(rt; is_answer(sent, 5, b"policy refused\n"));
+    assert!(rt; is_answer(sent, 6, b"policy refused\n"));
+    assert!(rt; is_answer(sent, 7, b"badline\n"));
+    Ok(())
+}
+
+// What port 1 sends as its link goes up: the RST BPDU of IEEE 802.1D-2004, 9.3.3, of a root bridge
+// whose designated port proposes, as in the stored scripts.
+const PROPOSAL: &[u8] =
+    b"bpdu 1 0180C200000002000000000A0027424203000002020E800002000000000A00000000800002000000000A80010000140002000F000000000000000000\n";
+
+#[test]
+fn what_a_port_sends_goes_to_its_peer_and_is_answered(rt: HostRuntime) -> Result<(), Fail> {
+    let alloc = rt.alloc();
+    let control = giving(alloc, &[b"link 1 up"])?;
+    let (_, _, wires) = run_over(&rt, alloc, MemoryWire::new(alloc), control)?;
+    let sent = wires.wire.sent();
+    assert_eq!(rt; sent.len(), 1);
+    assert!(rt; sent[0].peer == peer(20001));
+    assert_eq!(rt; sent[0].octets.as_slice().len(), 60);
+    assert!(rt; is_answer(wires.control.sent(), 0, PROPOSAL));
+    Ok(())
+}
+
+// A policy of so many octets, as a command.
+fn policy_of(alloc: Global, octets: usize) -> Result<Vec<u8>, Fail> {
+    let text = b"contexts = []\ncommunity = []\ngroup = []\naccess = []\nfamily = []\n#";
+    let mut command = Vec::new(alloc);
+    command.extend_from_slice(b"policy\n")?;
+    command.extend_from_slice(text)?;
+    for _ in text.len() + 1..octets {
+        command.extend_from_slice(b"x")?;
+    }
+    command.extend_from_slice(b"\nend\n")?;
+    Ok(command)
+}
+
+#[test]
+fn a_policy_has_at_most_64_kilobytes(rt: HostRuntime) -> Result<(), Fail> {
+    let alloc = rt.alloc();
+    let (most, more) = (
+        policy_of(alloc, MAX_POLICY)?,
+        policy_of(alloc, MAX_POLICY + 1)?,
+    );
+    let control = giving(alloc, &[most.as_slice(), more.as_slice()])?;
+    let (_, items, wires) = run_over(&rt, alloc, MemoryWire::new(alloc), control)?;
+    assert!(rt; is_entered(&items, 0));
+    assert!(rt; !is_entered(&items, 1));
+    assert!(rt; is_answer(wires.control.sent(), 0, b"policy ok\n"));
+    assert!(rt; is_answer(wires.control.sent(), 1, b"policy refused\n"));
+    Ok(())
+}
+
+#[test]
+fn each_call_of_the_control_wire_fails(rt: HostRuntime) -> Result<(), Fail> {
+    let alloc = rt.alloc();
+    for call in 1..7u64 {
+        let control = FailingWire::new(giving(alloc, &COMMANDS)?, call);
+        let (end, items, _) = run_over(&rt, alloc, MemoryWire::new(alloc), control)?;
+        let fault = if call % 2 == 0 {
+            WireFault::Send
+        } else {
+            WireFault::Receive
+        };
+        assert_eq!(rt; end, End::Wire(fault));
+        assert_eq!(rt; items.len() as u64, call / 2);
+    }
+    Ok(())
+}
+
+#[test]
+fn a_command_is_answered_where_a_port_cannot_send(rt: HostRuntime) -> Result<(), Fail> {
+    let alloc = rt.alloc();
+    let wire = FailingWire::new(MemoryWire::new(alloc), 1);
+    let (end, items, wires) = run_over(&rt, alloc, wire, giving(alloc, &COMMANDS)?)?;
+    assert_eq!(rt; end, End::Wire(WireFault::Send));
+    assert_eq!(rt; items.len(), 1);
+    assert!(rt; is_answer(wires.control.sent(), 0, PROPOSAL));
+    Ok(())
+}

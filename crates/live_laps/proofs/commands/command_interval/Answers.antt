@@ -1,0 +1,7 @@
+use Rattle.live_agent.specs.Lines.{run_start_of}
+use Rattle.live_laps.proofs.Commanding.{commanded}
+use Rattle.live_laps.proofs.commands.command_interval.Goals as goal
+
+pub returns-clause-run : goal.returns-clause-run
+returns-clause-run g c =
+    commanded g.C.ControlWire.did _ (run_start_of g.L.Run.start c.args.plan.now) c.args.plan.now.rounds c.args.ports _ _ _ _ _ _ _ c.control_run-end.ensures.run

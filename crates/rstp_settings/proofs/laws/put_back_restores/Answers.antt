@@ -1,5 +1,0 @@
-use Rattle.rstp_settings.proofs.Puts.{put-back}
-use Rattle.rstp_settings.proofs.laws.put_back_restores.Goals as goal
-
-pub returns : goal.returns
-returns c = put-back
