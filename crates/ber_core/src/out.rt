@@ -119,30 +119,35 @@ impl<'a> Out<'a> {
     /// Writes an INTEGER, or another value that is encoded like one, under its tag (X.690, 8.3).
     ///
     /// `NoRoom` where it does not fit.
-    #[tactic(auto, unfolding(crate::specs::Encoding::canon_integer))]
+    #[tactic(auto, using(crate::proofs::Small::small_integer), unfolding(crate::specs::Encoding::canon_integer))]
     pub fn put_i32(&mut self, tag: Tag, value: i32) -> Result<(), BerFault>
         ensures same_reference { self.new.space.ghost_name ≡ self.old.space.ghost_name }
         ensures puts { Prepends self.old self.new result (canon_tlv tag.0 (canon_integer value)) }
         ensures front { OnOk result (KeepsFront self.old self.new) }
         ensures err { OnErr result (self.new ≡ self.old) }
     {
-        let bytes = value.to_be_bytes();
-        self.put_tlv(tag, shortest_of(&bytes))
+        let bits = value.cast_unsigned();
+        if bits < 0x80 {
+            return self.put_octets(&[tag.0, 1, bits as u8]);
+        }
+        self.put_tlv(tag, shortest_of(&value.to_be_bytes()))
     }
 
     /// Writes a Counter32, a Gauge32 or TimeTicks under its tag (RFC 2578, 7.1).
     ///
     /// `NoRoom` where it does not fit.
-    #[tactic(auto, using(crate::proofs::Contents::unsigned_of_four))]
+    #[tactic(auto, using(crate::proofs::Contents::unsigned_of_four, crate::proofs::Small::small_unsigned))]
     pub fn put_u32(&mut self, tag: Tag, value: u32) -> Result<(), BerFault>
         ensures same_reference { self.new.space.ghost_name ≡ self.old.space.ghost_name }
         ensures puts { Prepends self.old self.new result (canon_tlv tag.0 (canon_unsigned value)) }
         ensures front { OnOk result (KeepsFront self.old self.new) }
         ensures err { OnErr result (self.new ≡ self.old) }
     {
-        let bytes = value.to_be_bytes();
-        let octets = [0, bytes[0], bytes[1], bytes[2], bytes[3]];
-        self.put_tlv(tag, shortest_of(&octets))
+        if value < 0x80 {
+            return self.put_octets(&[tag.0, 1, value as u8]);
+        }
+        let [a, b, c, d] = value.to_be_bytes();
+        self.put_tlv(tag, shortest_of(&[0, a, b, c, d]))
     }
 
     /// Writes a Counter64 under its tag (RFC 2578, 7.1.10).
