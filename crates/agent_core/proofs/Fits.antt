@@ -53,15 +53,15 @@ names-drop (suc n) [] = refl
 names-drop (suc n) (b ∷ bs) = names-drop n bs
 
 -- the whole list is sent
-pub filled_whole : (space : ℕ) (all fitting : List Binding) → fitting ≡ all → IsFilled space all fitting
-filled_whole space all fitting e = record { rest = []; front = append-nil fitting ∙ e; full = λ next more k. absurd (cc) }
+pub filled_whole : (space : ℕ) (all sent : List Binding) → sent ≡ all → IsFilled space all sent
+filled_whole space all sent e = record { rest = []; front = append-nil sent ∙ e; full = λ next more k. absurd (cc) }
 
-pub filled_at : (space other : ℕ) (all whole fitting : List Binding) → space ≡ other → all ≡ whole → IsFilled space all fitting → IsFilled other whole fitting
-filled_at space other all whole fitting e k h = subst (λ r. IsFilled r whole fitting) e (subst (λ a. IsFilled space a fitting) k h)
+pub filled_at : (space other : ℕ) (all whole sent : List Binding) → space ≡ other → all ≡ whole → IsFilled space all sent → IsFilled other whole sent
+filled_at space other all whole sent e k h = subst (λ r. IsFilled r whole sent) e (subst (λ a. IsFilled space a sent) k h)
 
-pub filled_ok : {A E : Type 0} (result : Result A E) (space other : ℕ) (all whole fitting : List Binding) → space ≡ other → all ≡ whole → OnOk result (IsFilled space all fitting) → OnOk result (IsFilled other whole fitting)
-filled_ok (Ok x) space other all whole fitting e k h = filled_at space other all whole fitting e k h
-filled_ok (Err x) space other all whole fitting e k h = h
+pub filled_ok : {A E : Type 0} (result : Result A E) (space other : ℕ) (all whole sent : List Binding) → space ≡ other → all ≡ whole → OnOk result (IsFilled space all sent) → OnOk result (IsFilled other whole sent)
+filled_ok (Ok x) space other all whole sent e k h = filled_at space other all whole sent e k h
+filled_ok (Err x) space other all whole sent e k h = h
 
 -- the next binding does not fit
 pub once_cut : (rows : List Binding) (names : List (List ℕ)) (i : ℕ) (name : List ℕ) (space : ℕ) (old now new more : List Binding) → i < length names → name ≡ get_or names i name →
@@ -106,58 +106,58 @@ pub repeats : (rows : List Binding) (m k : ℕ) (names : List (List ℕ)) → m 
 repeats rows m k names left = ap (λ n. repetitions rows n names) left ∙ repeats_by rows k names _ refl
 
 -- the last bindings are the repetition
-pub last_is : (rows : List Binding) (names : List (List ℕ)) (n : ℕ) (fitting new : List Binding) → n ≡ length names → new ≡ fitting ++ next_answers rows names → drop (length new - n) new ≡ next_answers rows names
-last_is rows names n fitting new h is =
-    let len : length new ≡ length fitting + length (next_answers rows names) = ap length is ∙ length-append fitting (next_answers rows names) in
+pub last_is : (rows : List Binding) (names : List (List ℕ)) (n : ℕ) (sent new : List Binding) → n ≡ length names → new ≡ sent ++ next_answers rows names → drop (length new - n) new ≡ next_answers rows names
+last_is rows names n sent new h is =
+    let len : length new ≡ length sent + length (next_answers rows names) = ap length is ∙ length-append sent (next_answers rows names) in
     let count : length (next_answers rows names) ≡ length names = length-map names (next_answer rows) in
-    let start : length new - n ≡ length fitting = omega (arith, len, count, h) in
-    ap (λ k. drop k new) start ∙ ap (drop (length fitting)) is ∙ drop-append_seam fitting (next_answers rows names)
+    let start : length new - n ≡ length sent = omega (arith, len, count, h) in
+    ap (λ k. drop k new) start ∙ ap (drop (length sent)) is ∙ drop-append_seam sent (next_answers rows names)
 
-pub last_count : (rows : List Binding) (names : List (List ℕ)) (n : ℕ) (fitting new : List Binding) → n ≡ length names → new ≡ fitting ++ next_answers rows names → n ≤ length new
-last_count rows names n fitting new h is =
-    let len : length new ≡ length fitting + length (next_answers rows names) = ap length is ∙ length-append fitting (next_answers rows names) in
+pub last_count : (rows : List Binding) (names : List (List ℕ)) (n : ℕ) (sent new : List Binding) → n ≡ length names → new ≡ sent ++ next_answers rows names → n ≤ length new
+last_count rows names n sent new h is =
+    let len : length new ≡ length sent + length (next_answers rows names) = ap length is ∙ length-append sent (next_answers rows names) in
     let count : length (next_answers rows names) ≡ length names = length-map names (next_answer rows) in
     omega (arith, len, count, h)
 
 -- a repetition for which there is no space
-pub repeat_cut : (rows : List Binding) (m k space other : ℕ) (names : List (List ℕ)) (all fitting new : List Binding) → m ≡ suc k → space ≡ other →
-    all ≡ fitting ++ repetitions rows m names →
-    ((more : List Binding) → IsFilled space (fitting ++ (next_answers rows names ++ more)) new) → IsFilled other all new
-repeat_cut rows m k space other names all fitting new left same so reported =
-    filled_at space other _ all new same (sym (so ∙ ap (λ z. fitting ++ z) (repeats rows m k names left))) (reported (further rows k (next_answers rows names)))
+pub repeat_cut : (rows : List Binding) (m k space other : ℕ) (names : List (List ℕ)) (all sent new : List Binding) → m ≡ suc k → space ≡ other →
+    all ≡ sent ++ repetitions rows m names →
+    ((more : List Binding) → IsFilled space (sent ++ (next_answers rows names ++ more)) new) → IsFilled other all new
+repeat_cut rows m k space other names all sent new left same so reported =
+    filled_at space other _ all new same (sym (so ∙ ap (λ z. sent ++ z) (repeats rows m k names left))) (reported (further rows k (next_answers rows names)))
 
 -- a repetition, and those behind it
-pub repeat_more : (rows : List Binding) (m k n : ℕ) (names : List (List ℕ)) (all fitting new : List Binding) → m ≡ suc k →
-    all ≡ fitting ++ repetitions rows m names → new ≡ fitting ++ next_answers rows names → n ≡ length names →
+pub repeat_more : (rows : List Binding) (m k n : ℕ) (names : List (List ℕ)) (all sent new : List Binding) → m ≡ suc k →
+    all ≡ sent ++ repetitions rows m names → new ≡ sent ++ next_answers rows names → n ≡ length names →
     all ≡ new ++ further rows k (drop (length new - n) new)
-repeat_more rows m k n names all fitting new left so is count =
-    so ∙ ap (λ z. fitting ++ z) (repeats rows m k names left)
-    ∙ sym (append_assoc fitting (next_answers rows names) (further rows k (next_answers rows names)))
+repeat_more rows m k n names all sent new left so is count =
+    so ∙ ap (λ z. sent ++ z) (repeats rows m k names left)
+    ∙ sym (append_assoc sent (next_answers rows names) (further rows k (next_answers rows names)))
     ∙ ap (λ z. z ++ further rows k (next_answers rows names)) (sym is)
-    ∙ ap (λ row. new ++ further rows k row) (sym (last_is rows names n fitting new count is))
+    ∙ ap (λ row. new ++ further rows k row) (sym (last_is rows names n sent new count is))
 
 -- no repetition is left
-pub repeat_none : (rows : List Binding) (m space : ℕ) (names : List (List ℕ)) (fitting : List Binding) → m ≡ 0 → IsFilled space (fitting ++ repetitions rows m names) fitting
+pub repeat_none : (rows : List Binding) (m space : ℕ) (names : List (List ℕ)) (sent : List Binding) → m ≡ 0 → IsFilled space (sent ++ repetitions rows m names) sent
 unfolding repetitions
-repeat_none rows m space names fitting none = filled_whole space _ fitting (sym (ap (λ n. fitting ++ repetitions rows n names) none ∙ append-nil fitting))
+repeat_none rows m space names sent none = filled_whole space _ sent (sym (ap (λ n. sent ++ repetitions rows n names) none ∙ append-nil sent))
 
 -- behind a repetition that is all endOfMibView
-pub further_ended : (rows : List Binding) (k space : ℕ) (row all fitting : List Binding) → all ≡ fitting ++ further rows k row → all_end row ≡ true → IsFilled space all fitting
-further_ended rows k space row all fitting so end =
+pub further_ended : (rows : List Binding) (k space : ℕ) (row all sent : List Binding) → all ≡ sent ++ further rows k row → all_end row ≡ true → IsFilled space all sent
+further_ended rows k space row all sent so end =
     let none : further rows k row ≡ [] = rw end refl in
-    filled_whole space all fitting (sym (so ∙ ap (λ z. fitting ++ z) none ∙ append-nil fitting))
+    filled_whole space all sent (sym (so ∙ ap (λ z. sent ++ z) none ∙ append-nil sent))
 
 -- behind another one
-pub further_going : (rows : List Binding) (k : ℕ) (row all fitting : List Binding) → all ≡ fitting ++ further rows k row → all_end row ≡ false → all ≡ fitting ++ repetitions rows k (names_of row)
-further_going rows k row all fitting so going =
+pub further_going : (rows : List Binding) (k : ℕ) (row all sent : List Binding) → all ≡ sent ++ further rows k row → all_end row ≡ false → all ≡ sent ++ repetitions rows k (names_of row)
+further_going rows k row all sent so going =
     let are : further rows k row ≡ repetitions rows k (names_of row) = rw going refl in
-    so ∙ ap (λ z. fitting ++ z) are
+    so ∙ ap (λ z. sent ++ z) are
 
 -- where no repetition is left
-pub further_done : (rows : List Binding) (k space : ℕ) (row all fitting : List Binding) (b : Bool) → all_end row ≡ b → k ≡ 0 → all ≡ fitting ++ further rows k row → IsFilled space all fitting
-further_done rows k space row all fitting true end none so = further_ended rows k space row all fitting so end
-further_done rows k space row all fitting false going none so =
-    filled_at space space _ all fitting refl (sym (further_going rows k row all fitting so going)) (repeat_none rows k space (names_of row) fitting none)
+pub further_done : (rows : List Binding) (k space : ℕ) (row all sent : List Binding) (b : Bool) → all_end row ≡ b → k ≡ 0 → all ≡ sent ++ further rows k row → IsFilled space all sent
+further_done rows k space row all sent true end none so = further_ended rows k space row all sent so end
+further_done rows k space row all sent false going none so =
+    filled_at space space _ all sent refl (sym (further_going rows k row all sent so going)) (repeat_none rows k space (names_of row) sent none)
 
 -- ---- names of bindings that were asked, and of those sent before
 

@@ -255,11 +255,11 @@ module _ (shows : Name → Bool) (all_rows : List Binding) where
   columns_lacks (Err e) once most asked first columns old now new within is are so h = columns_lack once most asked first columns old now new within is are so h
 
   -- in a whole request
-  bulk_lacking : (request : Request) (asked old fitting : List Binding) (once most i before : ℕ) → old ≡ [] → asked ≡ request.bindings → once ≡ non_repeaters request → most ≡ count_of request.second →
-      IsLacking shows all_rows (bulk_names (names_of asked) once) old (old ++ bulk_list rows once most (names_of asked)) fitting →
-      reply_size request fitting ≤ MAX_REPLY → before ≡ length fitting → i ≡ binding_number once (length asked - once) before → LacksBulkName shows all_rows request i
-  bulk_lacking request asked old fitting once most i before none asked_is once_is most_is h fits before_is number =
-      let whole : fitting ≡ h.found = h.sent_is ∙ ap (λ (o : List Binding). o ++ h.found) none in
+  bulk_lacking : (request : Request) (asked old sent : List Binding) (once most i before : ℕ) → old ≡ [] → asked ≡ request.bindings → once ≡ non_repeaters request → most ≡ count_of request.second →
+      IsLacking shows all_rows (bulk_names (names_of asked) once) old (old ++ bulk_list rows once most (names_of asked)) sent →
+      reply_size request sent ≤ MAX_REPLY → before ≡ length sent → i ≡ binding_number once (length asked - once) before → LacksBulkName shows all_rows request i
+  bulk_lacking request asked old sent once most i before none asked_is once_is most_is h fits before_is number =
+      let whole : sent ≡ h.found = h.sent_is ∙ ap (λ (o : List Binding). o ++ h.found) none in
       let few : ℕ = non_repeaters request in
       let x : Binding = next_answer rows h.name in
       record {
@@ -283,9 +283,9 @@ module _ (shows : Name → Bool) (all_rows : List Binding) where
             ∙ ap (λ (b : ℕ). binding_number few (length request.bindings - few) b) (before_is ∙ ap length whole);
       }
 
-  pub bulk_lacks : {A : Type 0} (result : Result A AllocError) (request : Request) (asked old fitting : List Binding) (once most i before : ℕ) → old ≡ [] → asked ≡ request.bindings → once ≡ non_repeaters request → most ≡ count_of request.second →
-      is_err result ≡ true → OnErr result (IsLacking shows all_rows (bulk_names (names_of asked) once) old (old ++ bulk_list rows once most (names_of asked)) fitting) →
-      reply_size request fitting ≤ MAX_REPLY → before ≡ length fitting → i ≡ binding_number once (length asked - once) before → LacksBulkName shows all_rows request i
-  bulk_lacks (Ok x) request asked old fitting once most i before none asked_is once_is most_is failed h fits before_is number = absurd (cc failed)
-  bulk_lacks (Err e) request asked old fitting once most i before none asked_is once_is most_is failed h fits before_is number =
-      bulk_lacking request asked old fitting once most i before none asked_is once_is most_is h fits before_is number
+  pub bulk_lacks : {A : Type 0} (result : Result A AllocError) (request : Request) (asked old sent : List Binding) (once most i before : ℕ) → old ≡ [] → asked ≡ request.bindings → once ≡ non_repeaters request → most ≡ count_of request.second →
+      is_err result ≡ true → OnErr result (IsLacking shows all_rows (bulk_names (names_of asked) once) old (old ++ bulk_list rows once most (names_of asked)) sent) →
+      reply_size request sent ≤ MAX_REPLY → before ≡ length sent → i ≡ binding_number once (length asked - once) before → LacksBulkName shows all_rows request i
+  bulk_lacks (Ok x) request asked old sent once most i before none asked_is once_is most_is failed h fits before_is number = absurd (cc failed)
+  bulk_lacks (Err e) request asked old sent once most i before none asked_is once_is most_is failed h fits before_is number =
+      bulk_lacking request asked old sent once most i before none asked_is once_is most_is h fits before_is number

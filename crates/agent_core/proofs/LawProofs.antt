@@ -89,9 +89,9 @@ total_some (b ∷ bs) =
 
 pub few_law : (request : Request) (all : List Binding) → length request.community ≤ MAX_COMMUNITY → least_binding * length (fitting_front request all) ≤ MAX_REPLY
 few_law request all community =
-    let fitting : List Binding = fitting_front request all in
-    let fits : reply_size request fitting ≤ MAX_REPLY = (longest_law request all community).fits in
-    omega (arith, fits, reply_some (answer_to request NoError (pos 0) fitting), total_some fitting)
+    let sent : List Binding = fitting_front request all in
+    let fits : reply_size request sent ≤ MAX_REPLY = (longest_law request all community).fits in
+    omega (arith, fits, reply_some (answer_to request NoError (pos 0) sent), total_some sent)
 
 -- a successor for each binding that is sent, and one more, and so many searches for each
 -- for bindings that fit, and one more, there is memory

@@ -40,43 +40,43 @@ take_nothing zero xs e = refl
 take_nothing (suc n) xs e = rw e refl
 
 -- a front that is no shorter than another
-take_past : (all fitting rest : List Binding) → fitting ++ rest ≡ all → (k : ℕ) → length fitting ≤ k → take k all ≡ fitting ++ take (k - length fitting) rest
-take_past all fitting rest e k h =
-    let sum : k ≡ length fitting + (k - length fitting) = omega (arith, h) in
-    ap (take k) (sym e) ∙ ap (λ n. take n (fitting ++ rest)) sum ∙ take-append-add fitting rest (k - length fitting)
+take_past : (all sent rest : List Binding) → sent ++ rest ≡ all → (k : ℕ) → length sent ≤ k → take k all ≡ sent ++ take (k - length sent) rest
+take_past all sent rest e k h =
+    let sum : k ≡ length sent + (k - length sent) = omega (arith, h) in
+    ap (take k) (sym e) ∙ ap (λ n. take n (sent ++ rest)) sum ∙ take-append-add sent rest (k - length sent)
 
 -- what passes, where nothing longer does, is the longest
-pub longest_is : (passes : List Binding → Bool) (all fitting rest : List Binding) → fitting ++ rest ≡ all → passes fitting ≡ true →
-    ((b : Binding) (more behind : List Binding) → rest ≡ b ∷ more → passes (fitting ++ b ∷ behind) ≡ false) →
-    (most : ℕ) → length fitting ≤ most → longest_front passes most all ≡ fitting
-longest_is passes all fitting rest e fits full zero h = sym (nothing fitting h)
-longest_is passes all fitting rest e fits full (suc k) h = elim (cases_lt k (length fitting)) [
+pub longest_is : (passes : List Binding → Bool) (all sent rest : List Binding) → sent ++ rest ≡ all → passes sent ≡ true →
+    ((b : Binding) (more behind : List Binding) → rest ≡ b ∷ more → passes (sent ++ b ∷ behind) ≡ false) →
+    (most : ℕ) → length sent ≤ most → longest_front passes most all ≡ sent
+longest_is passes all sent rest e fits full zero h = sym (nothing sent h)
+longest_is passes all sent rest e fits full (suc k) h = elim (cases_lt k (length sent)) [
   | inl less ↦
-      let none : suc k - length fitting ≡ 0 = omega (arith, less) in
-      let same : take (suc k) all ≡ fitting = take_past all fitting rest e (suc k) h ∙ ap (λ n. fitting ++ take n rest) none ∙ append-nil fitting in
+      let none : suc k - length sent ≡ 0 = omega (arith, less) in
+      let same : take (suc k) all ≡ sent = take_past all sent rest e (suc k) h ∙ ap (λ n. sent ++ take n rest) none ∙ append-nil sent in
       front_yes passes k all (ap passes same ∙ fits) ∙ same
-  | inr past ↦ next rest refl (longest_is passes all fitting rest e fits full k past)
+  | inr past ↦ next rest refl (longest_is passes all sent rest e fits full k past)
 ]
   where
-    next : (behind : List Binding) → rest ≡ behind → longest_front passes k all ≡ fitting → longest_front passes (suc k) all ≡ fitting
+    next : (behind : List Binding) → rest ≡ behind → longest_front passes k all ≡ sent → longest_front passes (suc k) all ≡ sent
     next [] is more =
-        let same : take (suc k) all ≡ fitting = take_past all fitting rest e (suc k) h ∙ ap (λ z. fitting ++ z) (take_nothing (suc k - length fitting) rest is) ∙ append-nil fitting in
+        let same : take (suc k) all ≡ sent = take_past all sent rest e (suc k) h ∙ ap (λ z. sent ++ z) (take_nothing (suc k - length sent) rest is) ∙ append-nil sent in
         front_yes passes k all (ap passes same ∙ fits) ∙ same
-    next (b ∷ bs) is more = elim (cases_lt k (length fitting)) [
+    next (b ∷ bs) is more = elim (cases_lt k (length sent)) [
       | inl less ↦
-          let none : suc k - length fitting ≡ 0 = omega (arith, less) in
-          let same : take (suc k) all ≡ fitting = take_past all fitting rest e (suc k) h ∙ ap (λ n. fitting ++ take n rest) none ∙ append-nil fitting in
+          let none : suc k - length sent ≡ 0 = omega (arith, less) in
+          let same : take (suc k) all ≡ sent = take_past all sent rest e (suc k) h ∙ ap (λ n. sent ++ take n rest) none ∙ append-nil sent in
           front_yes passes k all (ap passes same ∙ fits) ∙ same
       | inr past ↦
-          let some : suc k - length fitting ≡ suc (k - length fitting) = omega (arith, past) in
-          let longer : take (suc k) all ≡ fitting ++ b ∷ take (k - length fitting) bs =
-          take_past all fitting rest e (suc k) h ∙ ap (λ n. fitting ++ take n rest) some ∙ ap (λ z. fitting ++ take (suc (k - length fitting)) z) is in
-          front_no passes k all (ap passes longer ∙ full b bs (take (k - length fitting) bs) is) ∙ more
+          let some : suc k - length sent ≡ suc (k - length sent) = omega (arith, past) in
+          let longer : take (suc k) all ≡ sent ++ b ∷ take (k - length sent) bs =
+          take_past all sent rest e (suc k) h ∙ ap (λ n. sent ++ take n rest) some ∙ ap (λ z. sent ++ take (suc (k - length sent)) z) is in
+          front_no passes k all (ap passes longer ∙ full b bs (take (k - length sent) bs) is) ∙ more
     ]
 
-total_grows : (fitting : List Binding) (b : Binding) (behind : List Binding) → total (fitting ++ b ∷ []) ≤ total (fitting ++ b ∷ behind)
-total_grows fitting b behind =
-    omega (arith, total-append fitting (b ∷ []), total-append fitting (b ∷ behind), total-append (b ∷ []) behind)
+total_grows : (sent : List Binding) (b : Binding) (behind : List Binding) → total (sent ++ b ∷ []) ≤ total (sent ++ b ∷ behind)
+total_grows sent b behind =
+    omega (arith, total-append sent (b ∷ []), total-append sent (b ∷ behind), total-append (b ∷ []) behind)
 
 too_long : (request : Request) (space : ℕ) (bs : List Binding) → ((bindings : List Binding) → (total bindings ≤ space) ↔ (reply_size request bindings ≤ MAX_REPLY)) → space < total bs →
     (w : Bool) → nat_le (reply_size request bs) MAX_REPLY ≡ w → w ≡ false
@@ -84,17 +84,17 @@ too_long request space bs decides past false e = refl
 too_long request space bs decides past true e = let within : total bs ≤ space = (decides bs).1 (true_le (reply_size request bs) MAX_REPLY e) in absurd (omega (arith, within, past))
 
 -- what is sent as far as there is space is the longest front that fits
-pub filled_fits : (request : Request) (space : ℕ) (all fitting : List Binding) → ((bindings : List Binding) → (total bindings ≤ space) ↔ (reply_size request bindings ≤ MAX_REPLY)) →
-    total fitting ≤ space → IsFilled space all fitting → fitting ≡ fitting_front request all
+pub filled_fits : (request : Request) (space : ℕ) (all sent : List Binding) → ((bindings : List Binding) → (total bindings ≤ space) ↔ (reply_size request bindings ≤ MAX_REPLY)) →
+    total sent ≤ space → IsFilled space all sent → sent ≡ fitting_front request all
 unfolding fitting_front
-filled_fits request space all fitting decides within filled =
-    let len : length fitting ≤ length all = omega (arith, ap length filled.front, length-append fitting filled.rest) in
-    sym (longest_is (λ front. nat_le (reply_size request front) MAX_REPLY) all fitting filled.rest filled.front
-    (le_true (reply_size request fitting) MAX_REPLY ((decides fitting).0 within))
+filled_fits request space all sent decides within filled =
+    let len : length sent ≤ length all = omega (arith, ap length filled.front, length-append sent filled.rest) in
+    sym (longest_is (λ front. nat_le (reply_size request front) MAX_REPLY) all sent filled.rest filled.front
+    (le_true (reply_size request sent) MAX_REPLY ((decides sent).0 within))
     (λ b more behind is.
-    let past : space < total (fitting ++ b ∷ []) = false_lt (total (fitting ++ b ∷ [])) space (filled.full b more is) in
-    let grows : total (fitting ++ b ∷ []) ≤ total (fitting ++ b ∷ behind) = total_grows fitting b behind in
-    too_long request space (fitting ++ b ∷ behind) decides (omega (arith, past, grows)) _ refl)
+    let past : space < total (sent ++ b ∷ []) = false_lt (total (sent ++ b ∷ [])) space (filled.full b more is) in
+    let grows : total (sent ++ b ∷ []) ≤ total (sent ++ b ∷ behind) = total_grows sent b behind in
+    too_long request space (sent ++ b ∷ behind) decides (omega (arith, past, grows)) _ refl)
     (length all) len)
 
 front_is : (passes : List Binding → Bool) (most : ℕ) (all : List Binding) → IsFront (longest_front passes most all) all

@@ -16,24 +16,24 @@ pub lookups_within : (start now i n u : ℕ) → now ≤ start + i * u → i ≤
 lookups_within start now i n u before h = let m : i * u ≤ n * u = mul-le-mul_right u h in omega (arith, before, m)
 
 -- beside so many that were there before
-pub beside_within : (start now old fitting u : ℕ) → now + old * u ≤ start + fitting * u → now + old * u ≤ start + (fitting + 1) * u
-beside_within start now old fitting u before = let e : (fitting + 1) * u ≡ fitting * u + 1 * u = add-mul fitting 1 u in omega (arith, before, e)
+pub beside_within : (start now old sent u : ℕ) → now + old * u ≤ start + sent * u → now + old * u ≤ start + (sent + 1) * u
+beside_within start now old sent u before = let e : (sent + 1) * u ≡ sent * u + 1 * u = add-mul sent 1 u in omega (arith, before, e)
 
-beside_more : (start now later old fitting u : ℕ) → now + old * u ≤ start + fitting * u → later ≤ now + u → later + old * u ≤ start + (fitting + 1) * u
-beside_more start now later old fitting u before one = let e : (fitting + 1) * u ≡ fitting * u + 1 * u = add-mul fitting 1 u in omega (arith, before, one, e)
+beside_more : (start now later old sent u : ℕ) → now + old * u ≤ start + sent * u → later ≤ now + u → later + old * u ≤ start + (sent + 1) * u
+beside_more start now later old sent u before one = let e : (sent + 1) * u ≡ sent * u + 1 * u = add-mul sent 1 u in omega (arith, before, one, e)
 
 -- a binding more is sent
-pub pushed_lookups : (start now later u : ℕ) (old fitting new : List Binding) (b : Binding) → now + length old * u ≤ start + length fitting * u → later ≤ now + u → new ≡ fitting ++ b ∷ [] →
+pub pushed_lookups : (start now later u : ℕ) (old sent new : List Binding) (b : Binding) → now + length old * u ≤ start + length sent * u → later ≤ now + u → new ≡ sent ++ b ∷ [] →
     later + length old * u ≤ start + length new * u
-pushed_lookups start now later u old fitting new b before one push =
-    let len : length new ≡ length fitting + 1 = ap length push ∙ length-append fitting (b ∷ []) in
-    subst (λ (n : ℕ). later + length old * u ≤ start + n * u) (sym len) (beside_more start now later (length old) (length fitting) u before one)
+pushed_lookups start now later u old sent new b before one push =
+    let len : length new ≡ length sent + 1 = ap length push ∙ length-append sent (b ∷ []) in
+    subst (λ (n : ℕ). later + length old * u ≤ start + n * u) (sym len) (beside_more start now later (length old) (length sent) u before one)
 
 -- a successor more is found, and not sent
-pub cut_lookups : (start now later u : ℕ) (old fitting new : List Binding) → now + length old * u ≤ start + length fitting * u → later ≤ now + u → new ≡ fitting →
+pub cut_lookups : (start now later u : ℕ) (old sent new : List Binding) → now + length old * u ≤ start + length sent * u → later ≤ now + u → new ≡ sent →
     later + length old * u ≤ start + (length new + 1) * u
-cut_lookups start now later u old fitting new before one same =
-    subst (λ (bs : List Binding). later + length old * u ≤ start + (length bs + 1) * u) (sym same) (beside_more start now later (length old) (length fitting) u before one)
+cut_lookups start now later u old sent new before one same =
+    subst (λ (bs : List Binding). later + length old * u ≤ start + (length bs + 1) * u) (sym same) (beside_more start now later (length old) (length sent) u before one)
 
 -- one instance more in front
 hidden_cons : (shows : List ℕ → Bool) (x : Binding) (xs : List Binding) → hidden_count shows (x ∷ xs) ≡ cond (not (shows x.name)) 1 0 + hidden_count shows xs

@@ -46,25 +46,25 @@ use Rattle.agent_core.specs.declared.sets.SetReported.{SetReported}
 
 -- the audit of a Set as it is reported
 abbrev pub reported_audit : Request → AccessKey → List ℕ → SentReply → List Denied → List Key → Audit
-reported_audit request row view fitting denied unrestored =
-    record { kind = request.kind; status = fitting.status; index = fitting.index; decision = Allowed row view; denied = denied; unrestored = unrestored }
+reported_audit request row view sent denied unrestored =
+    record { kind = request.kind; status = sent.status; index = sent.index; decision = Allowed row view; denied = denied; unrestored = unrestored }
 
-audit_same : (request : Request) (row : AccessKey) (view : List ℕ) (set : SetStep) (fitting : SentReply) (denied : List Denied) (unrestored : List Key)
-    → fitting.status ≡ set.reply.status → fitting.index ≡ set.reply.index → denied ≡ set.denied → unrestored ≡ set.unrestored
-    → reported_audit request row view fitting denied unrestored ≡ reply_audit request (Allowed row view) set.denied set.unrestored set.reply
-audit_same request row view set fitting denied unrestored s n d u i =
+audit_same : (request : Request) (row : AccessKey) (view : List ℕ) (set : SetStep) (sent : SentReply) (denied : List Denied) (unrestored : List Key)
+    → sent.status ≡ set.reply.status → sent.index ≡ set.reply.index → denied ≡ set.denied → unrestored ≡ set.unrestored
+    → reported_audit request row view sent denied unrestored ≡ reply_audit request (Allowed row view) set.denied set.unrestored set.reply
+audit_same request row view set sent denied unrestored s n d u i =
     record { kind = request.kind; status = s i; index = n i; decision = Allowed row view; denied = d i; unrestored = u i }
 
-pub done_of : (request : Request) (row : AccessKey) (view : List ℕ) (set : SetStep) (fitting : SentReply) (denied : List Denied) (unrestored : List Key) (failed : Option ℕ)
+pub done_of : (request : Request) (row : AccessKey) (view : List ℕ) (set : SetStep) (sent : SentReply) (denied : List Denied) (unrestored : List Key) (failed : Option ℕ)
     (reported : Answered) (buffer : Buffered) (later : World) (objects : List ObjectState)
-    → reported ≡ answered.Reply fitting.length (reported_audit request row view fitting denied unrestored) failed
-    → IsSent set.reply fitting buffer.reply → denied ≡ set.denied → unrestored ≡ set.unrestored
+    → reported ≡ answered.Reply sent.length (reported_audit request row view sent denied unrestored) failed
+    → IsSent set.reply sent buffer.reply → denied ≡ set.denied → unrestored ≡ set.unrestored
     → buffer.bpdus ≡ set.bpdus → later ≡ set.world → objects ≡ set.objects
     → IsDone (writing_step request row view set) reported buffer later objects
-done_of request row view set fitting denied unrestored failed reported buffer later objects e s d u b w o =
+done_of request row view set sent denied unrestored failed reported buffer later objects e s d u b w o =
     record {
       answer = subst (λ (t : Answered). IsAnswered (writing_step request row view set).outcome t buffer) (sym e)
-          (s.octets, s.len, audit_same request row view set fitting denied unrestored s.status s.index d u);
+          (s.octets, s.len, audit_same request row view set sent denied unrestored s.status s.index d u);
       world = w;
       objects_after = o;
       bpdus = b;
@@ -96,25 +96,25 @@ unfolding set_calls
 fitting_plans objects world view request notes reported e t p =
     rw e (subst (λ (ns : SetNotes). FollowPlans (calls_of (refusal_of (rows_of objects) world view request.bindings) (writings (rows_of objects) world request.bindings) ns) objects) (sym t) p)
 
-pub too_long_done : (objects : List ObjectState) (world : World) (request : Request) (row : AccessKey) (view : List ℕ) (fitting : SentReply) (reported : Answered) (buffer : Buffered)
-    → is_too_long request ≡ true → IsSent (too_long_reply request) fitting buffer.reply → buffer.bpdus ≡ []
-    → reported ≡ answered.Reply fitting.length (reported_audit request row view fitting [] []) None
+pub too_long_done : (objects : List ObjectState) (world : World) (request : Request) (row : AccessKey) (view : List ℕ) (sent : SentReply) (reported : Answered) (buffer : Buffered)
+    → is_too_long request ≡ true → IsSent (too_long_reply request) sent buffer.reply → buffer.bpdus ≡ []
+    → reported ≡ answered.Reply sent.length (reported_audit request row view sent [] []) None
     → IsDone (writing_step request row view (set_step objects world view request (notes_reported reported))) reported buffer world objects
-too_long_done objects world request row view fitting reported buffer e s b t =
+too_long_done objects world request row view sent reported buffer e s b t =
     subst (λ (set : SetStep). IsDone (writing_step request row view set) reported buffer world objects) (sym (too_long_step objects world view request (notes_reported reported) e))
-    (done_of request row view (untested_step objects world request) fitting [] [] None reported buffer world objects t s refl refl b refl refl)
+    (done_of request row view (untested_step objects world request) sent [] [] None reported buffer world objects t s refl refl b refl refl)
 
-sent_as : (request : Request) (answer : SetAnswer) (status : ErrorStatus) (index : ℤ) (fitting : SentReply) (octets : List ℕ) → status ≡ answer.status → index ≡ pos answer.index
-    → IsSent (reply_within_limit (answer_to request status index request.bindings)) fitting octets → IsSent (set_reply request answer) fitting octets
-sent_as request answer status index fitting octets e f s =
-    subst (λ (n : ℤ). IsSent (reply_within_limit (answer_to request answer.status n request.bindings)) fitting octets) f
-    (subst (λ (x : ErrorStatus). IsSent (reply_within_limit (answer_to request x index request.bindings)) fitting octets) e s)
+sent_as : (request : Request) (answer : SetAnswer) (status : ErrorStatus) (index : ℤ) (sent : SentReply) (octets : List ℕ) → status ≡ answer.status → index ≡ pos answer.index
+    → IsSent (reply_within_limit (answer_to request status index request.bindings)) sent octets → IsSent (set_reply request answer) sent octets
+sent_as request answer status index sent octets e f s =
+    subst (λ (n : ℤ). IsSent (reply_within_limit (answer_to request answer.status n request.bindings)) sent octets) f
+    (subst (λ (x : ErrorStatus). IsSent (reply_within_limit (answer_to request x index request.bindings)) sent octets) e s)
 
-pub notes_reported_of : (families : List FamilyRow) (outcome : SetOutcome) (answer : SetReported) (reported : Answered) (request : Request) (row : AccessKey) (view : List ℕ) (fitting : SentReply)
-    → IsReportedOf families outcome answer → reported ≡ answered.Reply fitting.length (reported_audit request row view fitting answer.denied answer.unrestored) answer.failed
+pub notes_reported_of : (families : List FamilyRow) (outcome : SetOutcome) (answer : SetReported) (reported : Answered) (request : Request) (row : AccessKey) (view : List ℕ) (sent : SentReply)
+    → IsReportedOf families outcome answer → reported ≡ answered.Reply sent.length (reported_audit request row view sent answer.denied answer.unrestored) answer.failed
     → notes_reported reported ≡ notes_in outcome
-notes_reported_of families outcome answer reported request row view fitting t e =
-    notes_are reported fitting.length (reported_audit request row view fitting answer.denied answer.unrestored) answer.failed (notes_in outcome) e t.failed_commit t.unrestored
+notes_reported_of families outcome answer reported request row view sent t e =
+    notes_are reported sent.length (reported_audit request row view sent answer.denied answer.unrestored) answer.failed (notes_in outcome) e t.failed_commit t.unrestored
 
 -- Only what is reported of a refusal names families.
 reported_before : (families kept : List FamilyRow) (outcome : SetOutcome) (answer : SetReported) → IfSome (refusal_in outcome) (λ r. families ≡ kept)
@@ -124,7 +124,7 @@ reported_before families kept (ended.Done changed) answer e t = record { status 
 reported_before families kept (ended.CommitFailed i) answer e t = record { status = t.status; index = t.index; denied = t.denied; failed_commit = t.failed_commit; unrestored = t.unrestored }
 reported_before families kept (ended.UndoFailed i keys) answer e t = record { status = t.status; index = t.index; denied = t.denied; failed_commit = t.failed_commit; unrestored = t.unrestored }
 
-pub set_done : (objects : List ObjectState) (world : World) (request : Request) (row : AccessKey) (view : List ℕ) (outcome : SetOutcome) (answer : SetReported) (fitting : SentReply)
+pub set_done : (objects : List ObjectState) (world : World) (request : Request) (row : AccessKey) (view : List ℕ) (outcome : SetOutcome) (answer : SetReported) (sent : SentReply)
     (buffer : Buffered) (after later : World) (objects_later : List ObjectState) (reported : Answered) (families : List FamilyRow)
     → is_too_long request ≡ false
     → refusal_in outcome ≡ refusal_of (rows_of objects) world view request.bindings
@@ -133,22 +133,22 @@ pub set_done : (objects : List ObjectState) (world : World) (request : Request) 
     → IsReportedOf families outcome answer
     → later ≡ settled_world world after
     → buffer.bpdus ≡ settling_bpdus world after
-    → IsSent (reply_within_limit (answer_to request answer.status answer.index request.bindings)) fitting buffer.reply
+    → IsSent (reply_within_limit (answer_to request answer.status answer.index request.bindings)) sent buffer.reply
     → objects_later ≡ map (object_after_set (calls_of (refusal_in outcome) (writings (rows_of objects) world request.bindings) (notes_in outcome))) objects
-    → reported ≡ answered.Reply fitting.length (reported_audit request row view fitting answer.denied answer.unrestored) answer.failed
+    → reported ≡ answered.Reply sent.length (reported_audit request row view sent answer.denied answer.unrestored) answer.failed
     → IsDone (writing_step request row view (set_step objects world view request (notes_reported reported))) reported buffer later objects_later
-set_done objects world request row view outcome answer fitting buffer after later objects_later reported families fits refusal after_is families_are t later_is bpdus_are s objects_are reported_is =
+set_done objects world request row view outcome answer sent buffer after later objects_later reported families fits refusal after_is families_are t later_is bpdus_are s objects_are reported_is =
     let ws : List NamedAssignment = writings (rows_of objects) world request.bindings in
     let kept : List FamilyRow = world.policy.vacm.families in
     let notes : SetNotes = notes_in outcome in
     let by : Option SetRefusal → SetStep = λ (r : Option SetRefusal). tested_step_by objects world request notes (set_answer kept r notes) (world_after_set r ws world notes) (calls_of r ws notes) in
     let is : IsReportedOf kept outcome answer = reported_before families kept outcome answer families_are t in
     let main : IsDone (writing_step request row view (by (refusal_in outcome))) reported buffer later objects_later =
-    done_of request row view (by (refusal_in outcome)) fitting answer.denied answer.unrestored answer.failed reported buffer later objects_later reported_is
-    (sent_as request (set_answer kept (refusal_in outcome) notes) answer.status answer.index fitting buffer.reply is.status is.index s) is.denied is.unrestored
+    done_of request row view (by (refusal_in outcome)) sent answer.denied answer.unrestored answer.failed reported buffer later objects_later reported_is
+    (sent_as request (set_answer kept (refusal_in outcome) notes) answer.status answer.index sent buffer.reply is.status is.index s) is.denied is.unrestored
     (bpdus_are ∙ ap (settling_bpdus world) after_is) (later_is ∙ ap (settled_world world) after_is) objects_are in
     subst (λ (ns : SetNotes). IsDone (writing_step request row view (set_step objects world view request ns)) reported buffer later objects_later)
-    (sym (notes_reported_of families outcome answer reported request row view fitting t reported_is))
+    (sym (notes_reported_of families outcome answer reported request row view sent t reported_is))
     (subst (λ (set : SetStep). IsDone (writing_step request row view set) reported buffer later objects_later) (sym (fitting_step objects world view request notes fits))
     (subst (λ (r : Option SetRefusal). IsDone (writing_step request row view (by r)) reported buffer later objects_later) refusal main))
 
@@ -187,29 +187,29 @@ dropped_step objects world later request cause reported buffer d t e b l =
 
 -- what is reported of a request that reads
 abbrev plain_reported : Request → Decision → SentReply → Answered
-plain_reported request decision fitting =
-    answered.Reply fitting.length (record { kind = request.kind; status = fitting.status; index = fitting.index; decision = decision; denied = []; unrestored = [] }) None
+plain_reported request decision sent =
+    answered.Reply sent.length (record { kind = request.kind; status = sent.status; index = sent.index; decision = decision; denied = []; unrestored = [] }) None
 
-sent_step : (request : Request) (decision : Decision) (reply : Reply) (fitting : SentReply) (buffer : Buffered) → IsSent reply fitting buffer.reply
-    → IsAnswered (replied reply (reply_audit request decision [] [] reply)) (plain_reported request decision fitting) buffer
-sent_step request decision reply fitting buffer s =
+sent_step : (request : Request) (decision : Decision) (reply : Reply) (sent : SentReply) (buffer : Buffered) → IsSent reply sent buffer.reply
+    → IsAnswered (replied reply (reply_audit request decision [] [] reply)) (plain_reported request decision sent) buffer
+sent_step request decision reply sent buffer s =
     (s.octets, s.len, λ i. record { kind = request.kind; status = s.status i; index = s.index i; decision = decision; denied = []; unrestored = [] })
 
-pub empty_step : (objects : List ObjectState) (world : World) (request : Request) (fitting : SentReply) (reported : Answered) (buffer : Buffered)
-    → decision_on world.policy request ≡ Empty → IsSent (reply_within_limit (answer_to request NoError (pos 0) [])) fitting buffer.reply → buffer.bpdus ≡ []
-    → reported ≡ plain_reported request Empty fitting → IsReported objects world request reported buffer world objects
-empty_step objects world request fitting reported buffer d s b t =
-    let is : Answered = plain_reported request Empty fitting in
+pub empty_step : (objects : List ObjectState) (world : World) (request : Request) (sent : SentReply) (reported : Answered) (buffer : Buffered)
+    → decision_on world.policy request ≡ Empty → IsSent (reply_within_limit (answer_to request NoError (pos 0) [])) sent buffer.reply → buffer.bpdus ≡ []
+    → reported ≡ plain_reported request Empty sent → IsReported objects world request reported buffer world objects
+empty_step objects world request sent reported buffer d s b t =
+    let is : Answered = plain_reported request Empty sent in
     subst (λ (x : Answered). IsReported objects world request x buffer world objects) (sym t)
-    (reported_by objects world request Empty d objects is buffer world refl (no_plans objects) (read_by objects world request Empty d is buffer world (sent_step request Empty _ fitting buffer s) refl b))
+    (reported_by objects world request Empty d objects is buffer world refl (no_plans objects) (read_by objects world request Empty d is buffer world (sent_step request Empty _ sent buffer s) refl b))
 
-pub refused_step : (objects : List ObjectState) (world : World) (request : Request) (why : Why) (fitting : SentReply) (reported : Answered) (buffer : Buffered)
-    → decision_on world.policy request ≡ Refused why → IsSent (refusal_reply request) fitting buffer.reply → buffer.bpdus ≡ []
-    → reported ≡ plain_reported request (Refused why) fitting → IsReported objects world request reported buffer world objects
-refused_step objects world request why fitting reported buffer d s b t =
-    let is : Answered = plain_reported request (Refused why) fitting in
+pub refused_step : (objects : List ObjectState) (world : World) (request : Request) (why : Why) (sent : SentReply) (reported : Answered) (buffer : Buffered)
+    → decision_on world.policy request ≡ Refused why → IsSent (refusal_reply request) sent buffer.reply → buffer.bpdus ≡ []
+    → reported ≡ plain_reported request (Refused why) sent → IsReported objects world request reported buffer world objects
+refused_step objects world request why sent reported buffer d s b t =
+    let is : Answered = plain_reported request (Refused why) sent in
     subst (λ (x : Answered). IsReported objects world request x buffer world objects) (sym t)
-    (reported_by objects world request (Refused why) d objects is buffer world refl (no_plans objects) (read_by objects world request (Refused why) d is buffer world (sent_step request (Refused why) _ fitting buffer s) refl b))
+    (reported_by objects world request (Refused why) d objects is buffer world refl (no_plans objects) (read_by objects world request (Refused why) d is buffer world (sent_step request (Refused why) _ sent buffer s) refl b))
 
 pub set_reported : (objects later_objects : List ObjectState) (world later : World) (request : Request) (row : AccessKey) (view : List ℕ) (reported : Answered) (buffer : Buffered)
     → decision_on world.policy request ≡ Allowed row view → request.kind ≡ Set

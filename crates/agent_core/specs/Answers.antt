@@ -295,11 +295,11 @@ request_calls rows world request notes =
     calls_by rows world request notes (decision_on world.policy request)
 
 -- these octets are a reply in its minimal encoding, and this is reported of it
-pub record IsSent (reply : Reply) (fitting : SentReply) (sent_octets : List ℕ) : Type 0 where
+pub record IsSent (reply : Reply) (sent : SentReply) (sent_octets : List ℕ) : Type 0 where
   pub octets : sent_octets ≡ canon_reply reply
-  pub len : fitting.length ≡ length (canon_reply reply)
-  pub status : fitting.status ≡ reply.status
-  pub index : fitting.index ≡ reply.index
+  pub len : sent.length ≡ length (canon_reply reply)
+  pub status : sent.status ≡ reply.status
+  pub index : sent.index ≡ reply.index
 
 -- A reply stands in the buffer in its minimal encoding, or the request is dropped and the buffer is
 -- empty; and the audit is reported.
@@ -326,13 +326,13 @@ IsReply reply request decision denied (answered.NoReply reported) octets = ⊥
 -- What is known of a reply to a request that reads: it is this one; or it is genErr with the number of
 -- a binding, within the limit, since there was no memory for a name that is made for it.
 abbrev pub IsSentBy : Reply → Request → (ℕ → Type 0) → Option ℕ → SentReply → List ℕ → Type 0
-IsSentBy reply request lacks None fitting octets = IsSent reply fitting octets
-IsSentBy reply request lacks (Some i) fitting octets =
-    IsSent (name_failure_reply request i) fitting octets × lacks i
+IsSentBy reply request lacks None sent octets = IsSent reply sent octets
+IsSentBy reply request lacks (Some i) sent octets =
+    IsSent (name_failure_reply request i) sent octets × lacks i
 
 abbrev pub IsSentRead : Reply → Request → (ℕ → Type 0) → ReadReply → List ℕ → Type 0
 IsSentRead reply request lacks read octets =
-    IsSentBy reply request lacks read.unnamed read.fitting octets
+    IsSentBy reply request lacks read.unnamed read.sent octets
 
 -- The same of what is answered, with this decision and these denied bindings.
 abbrev pub IsRead : Reply → Request → Decision → List Denied → (ℕ → Type 0) → Answered → List ℕ →

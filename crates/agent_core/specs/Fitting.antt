@@ -26,12 +26,12 @@ fitting_front request all =
 abbrev pub IsFront : List Binding → List Binding → Type 0
 IsFront front all = (rest : List Binding) × (front ++ rest ≡ all)
 
--- `fitting` is the longest front of the list whose reply is not too long
-pub record IsLongestFitting (request : Request) (all fitting : List Binding) : Type 0 where
-  pub front : IsFront fitting all
-  pub fits : reply_size request fitting ≤ MAX_REPLY
+-- `sent` is the longest front of the list whose reply is not too long
+pub record IsLongestFitting (request : Request) (all sent : List Binding) : Type 0 where
+  pub front : IsFront sent all
+  pub fits : reply_size request sent ≤ MAX_REPLY
   pub longest : (other : List Binding) → IsFront other all → reply_size request other ≤ MAX_REPLY →
-      length other ≤ length fitting
+      length other ≤ length sent
 
 -- A binding has so many octets or more: its head, a name and a value.
 abbrev pub least_binding : ℕ
@@ -50,9 +50,9 @@ total bindings = length (canon_bindings bindings)
 abbrev pub fit_into : ℕ → List Binding → Bool
 fit_into space bindings = nat_le (total bindings) space
 
--- `fitting` is a front of the list, and what comes next does not fit beside it
-pub record IsFilled (space : ℕ) (all fitting : List Binding) : Type 0 where
+-- `sent` is a front of the list, and what comes next does not fit beside it
+pub record IsFilled (space : ℕ) (all sent : List Binding) : Type 0 where
   pub rest : List Binding
-  pub front : fitting ++ rest ≡ all
+  pub front : sent ++ rest ≡ all
   pub full : (next : Binding) (more : List Binding) → rest ≡ next ∷ more →
-      fit_into space (fitting ++ next ∷ []) ≡ false
+      fit_into space (sent ++ next ∷ []) ≡ false

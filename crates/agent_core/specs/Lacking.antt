@@ -42,13 +42,13 @@ bulk_names names once found = names ++ drop once (names_of found)
 -- A list was sent as far as `found`, which stands behind `old`: its next member answers a name under
 -- which a long name is made.
 pub record IsLacking (shows : List ℕ → Bool) (rows : List Binding)
-    (names : List Binding → List (List ℕ)) (old all fitting : List Binding) : Type 0 where
+    (names : List Binding → List (List ℕ)) (old all sent : List Binding) : Type 0 where
   pub found : List Binding
-  pub sent_is : fitting ≡ old ++ found
+  pub sent_is : sent ≡ old ++ found
   pub name : List ℕ
   pub asked : slice_get (names found) (length found) ≡ Some name
   pub rest : List Binding
-  pub list : fitting ++ next_answer (visible shows rows) name ∷ rest ≡ all
+  pub list : sent ++ next_answer (visible shows rows) name ∷ rest ≡ all
   pub lacks : LacksName shows rows name
 
 -- how many bindings of a request are asked once
@@ -56,7 +56,7 @@ abbrev pub non_repeaters : Request → ℕ
 non_repeaters request = min (count_of request.first) (length request.bindings)
 
 -- A GetBulk: first members of the list that is asked for, which fit into the reply, and a next one,
--- fitting or not, under whose name a long name is made; i is the number of its binding, in whichever
+-- sent or not, under whose name a long name is made; i is the number of its binding, in whichever
 -- repetition (RFC 3416, 4.2.3).
 pub record LacksBulkName (shows : List ℕ → Bool) (rows : List Binding) (request : Request)
     (i : ℕ) : Type 0 where

@@ -16,9 +16,9 @@ use crate::answered::Answered;
 use crate::buffer::Buffer;
 use crate::bulk::get_bulk;
 use crate::denying::denied_bindings;
+use crate::fitting_reply::{ReadReply, SentReply};
 use crate::getting::get_all;
 use crate::nexts::get_next_all;
-use crate::sent_reply::{ReadReply, SentReply};
 use crate::served::Served;
 use crate::sets::answer_set;
 use crate::shortage::Shortage;
@@ -78,14 +78,14 @@ pub fn answer<O: MibObject>(
         }
         Decision::Empty => {
             let none = DeniedBindings::new(alloc);
-            let fitting = buffer.put(request, ErrorStatus::NoError, 0, &[]);
-            Ok(reply_with(request, Decision::Empty, none, fitting))
+            let sent = buffer.put(request, ErrorStatus::NoError, 0, &[]);
+            Ok(reply_with(request, Decision::Empty, none, sent))
         }
         Decision::Refused(why) => {
             let none = DeniedBindings::new(alloc);
             let asked = request.bindings.as_slice();
-            let fitting = buffer.put(request, ErrorStatus::AuthorizationError, 0, asked);
-            Ok(reply_with(request, Decision::Refused(why), none, fitting))
+            let sent = buffer.put(request, ErrorStatus::AuthorizationError, 0, asked);
+            Ok(reply_with(request, Decision::Refused(why), none, sent))
         }
         Decision::Allowed { row, view } => match request.kind {
             Kind::Set => answer_set(alloc, registry, world, request, row, view, buffer, space),
@@ -124,8 +124,8 @@ fn answer_read<O: MibObject>(
     let read = send_read(alloc, registry, world, &view, request, &denied, buffer)?;
     let decision = Decision::Allowed { row, view };
     Ok(match read.unnamed {
-        None => reply_with(request, decision, denied, read.fitting),
-        Some(number) => unnamed_with(alloc, request, decision, number, read.fitting),
+        None => reply_with(request, decision, denied, read.sent),
+        Some(number) => unnamed_with(alloc, request, decision, number, read.sent),
     })
 }
 
@@ -163,12 +163,12 @@ fn audit_with(
     request: &Request,
     decision: Decision,
     denied: DeniedBindings,
-    fitting: SentReply,
+    sent: SentReply,
 ) -> Audit
     ensures { result ≡ record {
       kind = request.now.kind;
-      status = fitting.status;
-      index = fitting.index;
+      status = sent.status;
+      index = sent.index;
       decision = decision;
       denied = denied;
       unrestored = [];
@@ -176,8 +176,8 @@ fn audit_with(
 {
     Audit {
         kind: request.kind,
-        status: fitting.status,
-        index: fitting.index,
+        status: sent.status,
+        index: sent.index,
         decision,
         denied,
         unrestored: Unrestored::none(),
@@ -189,20 +189,20 @@ fn reply_with(
     request: &Request,
     decision: Decision,
     denied: DeniedBindings,
-    fitting: SentReply,
+    sent: SentReply,
 ) -> Answered
-    ensures { result ≡ Answered.Reply fitting.length (record {
+    ensures { result ≡ Answered.Reply sent.length (record {
       kind = request.now.kind;
-      status = fitting.status;
-      index = fitting.index;
+      status = sent.status;
+      index = sent.index;
       decision = decision;
       denied = denied;
       unrestored = [];
     }) None }
 {
     Answered::Reply(
-        fitting.length,
-        audit_with(request, decision, denied, fitting),
+        sent.length,
+        audit_with(request, decision, denied, sent),
         None,
     )
 }
@@ -214,12 +214,12 @@ fn unnamed_with(
     request: &Request,
     decision: Decision,
     number: usize,
-    fitting: SentReply,
+    sent: SentReply,
 ) -> Answered
-    ensures { result ≡ Answered.Unnamed fitting.length (record {
+    ensures { result ≡ Answered.Unnamed sent.length (record {
       kind = request.now.kind;
-      status = fitting.status;
-      index = fitting.index;
+      status = sent.status;
+      index = sent.index;
       decision = decision;
       denied = [];
       unrestored = [];
@@ -227,8 +227,8 @@ fn unnamed_with(
 {
     let none = DeniedBindings::new(alloc);
     Answered::Unnamed(
-        fitting.length,
-        audit_with(request, decision, none, fitting),
+        sent.length,
+        audit_with(request, decision, none, sent),
         number,
     )
 }
@@ -267,7 +267,7 @@ fn send_read<O: MibObject>(
     requires reads { request.now.kind ≢ Kind.Set }
     requires denied { denied.now ≡
         denied_in world.now.policy.vacm.families view.now request.now request.now.kind }
-    ensures fitting { IfOk result (λ read. IsSentRead (kind_reply (prefixes_of (rows_of registry.now))
+    ensures sent { IfOk result (λ read. IsSentRead (kind_reply (prefixes_of (rows_of registry.now))
         (in_view world.now.policy.vacm.families view.now)
         (instances (rows_of registry.now) world.now) request.now request.now.kind) request.now
         (LacksNameOf (in_view world.now.policy.vacm.families view.now)
@@ -295,7 +295,7 @@ fn send_allowed<O: MibObject>(
     requires community { length request.now.community ≤ MAX_COMMUNITY }
     requires encodable { AreEncodable request.now.bindings }
     requires reads { request.now.kind ≢ Kind.Set }
-    ensures fitting { IfOk result (λ read. IsSentRead (kind_reply (prefixes_of (rows_of registry.now))
+    ensures sent { IfOk result (λ read. IsSentRead (kind_reply (prefixes_of (rows_of registry.now))
         (in_view world.now.policy.vacm.families view.now)
         (instances (rows_of registry.now) world.now) request.now request.now.kind) request.now
         (LacksNameOf (in_view world.now.policy.vacm.families view.now)
@@ -323,7 +323,7 @@ fn send_served<O: MibObject, L: Ledger>(
     requires parts { blank.parts ≡ L.parts }
     requires some { 0 < blank.parts }
     requires reads { request.now.kind ≢ Kind.Set }
-    ensures fitting { IfOk result (λ read. IsSentRead (kind_reply (prefixes_of (rows_of registry.now))
+    ensures sent { IfOk result (λ read. IsSentRead (kind_reply (prefixes_of (rows_of registry.now))
         (in_view world.now.policy.vacm.families view.now)
         (instances (rows_of registry.now) world.now) request.now request.now.kind) request.now
         (LacksNameOf (in_view world.now.policy.vacm.families view.now)
@@ -359,7 +359,7 @@ fn send_undenied<O: MibObject, L: Ledger>(
     requires parts { blank.parts ≡ L.parts }
     requires some { 0 < blank.parts }
     requires reads { request.now.kind ≢ Kind.Set }
-    ensures fitting { IfOk result (λ read. IsSentRead (kind_reply (prefixes_of (rows_of registry.now))
+    ensures sent { IfOk result (λ read. IsSentRead (kind_reply (prefixes_of (rows_of registry.now))
         (λ name. true) (instances (rows_of registry.now) world.now) request.now request.now.kind)
         request.now (LacksNameOf (λ name. true) (instances (rows_of registry.now) world.now)
         request.now request.now.kind) read buffer.new.reply) }
@@ -410,8 +410,8 @@ fn send_unnamed(
     requires community { length request.now.community ≤ MAX_COMMUNITY }
     requires encodable { AreEncodable request.now.bindings }
     ensures unnamed { IfOk result (λ read. read.unnamed ≡ Some number) }
-    ensures fitting { IfOk result (λ read.
-        IsSent (name_failure_reply request.now number) read.fitting buffer.new.reply) }
+    ensures sent { IfOk result (λ read.
+        IsSent (name_failure_reply request.now number) read.sent buffer.new.reply) }
     ensures bpdus { buffer.new.bpdus ≡ buffer.old.bpdus }
     ensures err { OnErr result (buffer.new ≡ buffer.old) }
     ensures most { OnErr result (greatest_index < number) }
@@ -421,7 +421,7 @@ fn send_unnamed(
     };
     let asked = request.bindings.as_slice();
     Ok(ReadReply {
-        fitting: buffer.put(request, ErrorStatus::GenErr, index, asked),
+        sent: buffer.put(request, ErrorStatus::GenErr, index, asked),
         unnamed: Some(number),
     })
 }
@@ -437,7 +437,7 @@ fn send_kind<S: Source<L>, L: Ledger>(
     requires community { length request.now.community ≤ MAX_COMMUNITY }
     requires encodable { AreEncodable request.now.bindings }
     requires reads { request.now.kind ≢ Kind.Set }
-    ensures fitting { IfOk result (λ read.
+    ensures sent { IfOk result (λ read.
         IsSentRead (kind_reply (S.objects source.now) (S.shows source.now)
         (S.instances source.now) request.now request.now.kind) request.now
         (LacksNameOf (S.shows source.now) (S.instances source.now) request.now request.now.kind)
@@ -447,7 +447,7 @@ fn send_kind<S: Source<L>, L: Ledger>(
 {
     match read_kind(alloc, source, request, steps) {
         Ok(answers) => Ok(ReadReply {
-            fitting: buffer.put(request, ErrorStatus::NoError, 0, answers.as_slice()),
+            sent: buffer.put(request, ErrorStatus::NoError, 0, answers.as_slice()),
             unnamed: None,
         }),
         Err(Shortage::Name(number)) => send_unnamed(request, number, buffer),

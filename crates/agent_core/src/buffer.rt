@@ -10,7 +10,7 @@ ghost use Rattle.agent_core.specs.Sets.{is_too_long, too_long_reply};
 ghost use Rattle.agent_core.specs.Answers.{IsSent};
 ghost use Rattle.agent_core.specs.Buffered.{bpdu_of};
 
-use crate::sent_reply::SentReply;
+use crate::fitting_reply::SentReply;
 use arrayvec::ArrayVec;
 use bridge_core::Bpdus;
 use frame_core::Bpdu;
@@ -106,20 +106,20 @@ impl Buffer {
     ) -> SentReply
         requires community { length request.now.community ≤ MAX_COMMUNITY }
         requires encodable { AreEncodable bindings.now }
-        ensures fitting { IsSent (reply_within_limit (answer_to request.now status index bindings.now))
+        ensures sent { IsSent (reply_within_limit (answer_to request.now status index bindings.now))
             result self.new.reply }
         ensures bpdus { self.new.bpdus ≡ self.old.bpdus }
     {
-        let fitting = put_sized(request, status, index, bindings, &mut self.octets);
-        self.length = fitting.length;
-        fitting
+        let sent = put_sized(request, status, index, bindings, &mut self.octets);
+        self.length = sent.length;
+        sent
     }
 
     /// Puts tooBig without bindings in, whatever the length of the request's own (RFC 3416, 4.2.5),
     /// and says what was put. Takes no memory.
     pub(crate) fn put_too_long(&mut self, request: &Request) -> SentReply
         requires { length request.now.community ≤ MAX_COMMUNITY }
-        ensures fitting { IsSent (too_long_reply request.now) result self.new.reply }
+        ensures sent { IsSent (too_long_reply request.now) result self.new.reply }
         ensures bpdus { self.new.bpdus ≡ self.old.bpdus }
     {
         self.length = put_too_big(request, &mut self.octets);
@@ -163,7 +163,7 @@ fn put_sized(
 ) -> SentReply
     requires community { length request.now.community ≤ MAX_COMMUNITY }
     requires encodable { AreEncodable bindings.now }
-    ensures fitting { IsSent (reply_within_limit (answer_to request.now status index bindings.now))
+    ensures sent { IsSent (reply_within_limit (answer_to request.now status index bindings.now))
         result (take result.length octets.new) }
     ensures most { result.length ≤ MAX_REPLY }
 {

@@ -16,7 +16,7 @@ pub struct SentReply {
 #[derive(Clone, Copy, Debug, PartialEq, Eq)]
 pub struct ReadReply {
     /// The reply.
-    pub fitting: SentReply,
+    pub sent: SentReply,
     /// The number of the binding for which a name was made that found no memory, where one was.
     pub unnamed: Option<usize>,
 }

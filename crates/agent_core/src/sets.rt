@@ -14,7 +14,7 @@ ghost use Rattle.agent_core.specs.Answers.{IsDone, notes_reported, unnamed_repor
 use crate::answered::Answered;
 use crate::buffer::Buffer;
 use crate::denying::denied_variable;
-use crate::sent_reply::SentReply;
+use crate::fitting_reply::SentReply;
 use audit_core::{Audit, DeniedBindings, UnrestoredSpace};
 use decision::{AccessKey, Decision};
 use message_core::{ErrorStatus, Request};
@@ -151,14 +151,14 @@ fn reported(
     row: AccessKey,
     view: Name,
     answer: SetReported,
-    fitting: SentReply,
+    sent: SentReply,
     space: UnrestoredSpace,
 ) -> Answered
     requires { space ≡ true }
-    ensures { result ≡ Answered.Reply fitting.length (record {
+    ensures { result ≡ Answered.Reply sent.length (record {
       kind = request.now.kind;
-      status = fitting.status;
-      index = fitting.index;
+      status = sent.status;
+      index = sent.index;
       decision = Decision.Allowed row view;
       denied = answer.denied;
       unrestored = answer.unrestored;
@@ -172,11 +172,11 @@ fn reported(
         unrestored,
     } = answer;
     Answered::Reply(
-        fitting.length,
+        sent.length,
         Audit {
             kind: request.kind,
-            status: fitting.status,
-            index: fitting.index,
+            status: sent.status,
+            index: sent.index,
             decision: Decision::Allowed { row, view },
             denied,
             unrestored: space.filled(unrestored),
@@ -220,15 +220,9 @@ pub(crate) fn answer_set<O: MibObject>(
     ensures kept { OnErr result (registry.new ≡ map object_after_release registry.old) }
 {
     if buffer.is_too_long(request) {
-        let fitting = buffer.put_too_long(request);
-        let none = plain_answer(
-            alloc,
-            fitting.status,
-            fitting.index,
-            None,
-            SettingKeys::new(),
-        );
-        return Ok(reported(request, row, view, none, fitting, space));
+        let sent = buffer.put_too_long(request);
+        let none = plain_answer(alloc, sent.status, sent.index, None, SettingKeys::new());
+        return Ok(reported(request, row, view, none, sent, space));
     }
     let bindings = request.bindings.as_slice();
     let before = world.bridge.copied_settings();
@@ -236,6 +230,6 @@ pub(crate) fn answer_set<O: MibObject>(
     let changed = changed(&outcome, &before, world);
     let answer = set_answer(alloc, world.policy.vacm(), outcome)?;
     settle(changed, world, buffer);
-    let fitting = buffer.put(request, answer.status, answer.index, bindings);
-    Ok(reported(request, row, view, answer, fitting, space))
+    let sent = buffer.put(request, answer.status, answer.index, bindings);
+    Ok(reported(request, row, view, answer, sent, space))
 }

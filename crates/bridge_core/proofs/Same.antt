@@ -6,7 +6,7 @@ use Rattle.std.specs.Cmp.Lexicographic.{pointwise}
 use Rattle.std.proofs.lemmas.Bool.Decides.{Decides-and, Decides-like}
 use Rattle.std.proofs.lemmas.Slice.Eq.{slice_eq-Decides}
 use Rattle.fdb_core.specs.declared.row.LearnedRow.{LearnedRow}
-use Rattle.fdb_core.specs.contracts.row.RowPartialEq.TheImpl as same_row
+use Rattle.fdb_core.specs.contracts.row.LearnedRowPartialEq.TheImpl as same_row
 use Rattle.fdb_core.specs.declared.static_row.StaticRow.{StaticRow}
 use Rattle.fdb_core.specs.declared.port_set.PortSet.{PortSet}
 use Rattle.fdb_core.specs.declared.static_row.StaticIndex.{StaticIndex}

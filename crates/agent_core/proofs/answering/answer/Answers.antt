@@ -10,13 +10,13 @@ returns-in-Drop g c =
 
 pub returns-in-Empty : goal.returns-in-Empty
 returns-in-Empty g c =
-    empty_step c.args.registry.now c.args.world.now c.args.request.now c.put-fitting.result c.reply_with.result c.put-fitting.new.self
-    (sym c.in-Empty.ensures.decision) c.put-fitting.ensures.fitting (c.put-fitting.ensures.bpdus ∙ c.clear.ensures.bpdus) (search rules)
+    empty_step c.args.registry.now c.args.world.now c.args.request.now c.put-sent.result c.reply_with.result c.put-sent.new.self
+    (sym c.in-Empty.ensures.decision) c.put-sent.ensures.sent (c.put-sent.ensures.bpdus ∙ c.clear.ensures.bpdus) (search rules)
 
 pub returns-in-Refused : goal.returns-in-Refused
 returns-in-Refused g c =
-    refused_step c.args.registry.now c.args.world.now c.args.request.now c.in-Refused.why c.put-fitting-in-Refused.result c.reply_with-in-Refused.result c.put-fitting-in-Refused.new.self
-    (sym c.in-Refused.ensures.decision) (search rules) (c.put-fitting-in-Refused.ensures.bpdus ∙ c.clear.ensures.bpdus) (search rules)
+    refused_step c.args.registry.now c.args.world.now c.args.request.now c.in-Refused.why c.put-sent-in-Refused.result c.reply_with-in-Refused.result c.put-sent-in-Refused.new.self
+    (sym c.in-Refused.ensures.decision) (search rules) (c.put-sent-in-Refused.ensures.bpdus ∙ c.clear.ensures.bpdus) (search rules)
 
 pub returns-in-Set : goal.returns-in-Set
 returns-in-Set g c =

@@ -7,8 +7,8 @@ use Rattle.agent_core.proofs.Undenied.{undenied, unnamed_no}
 use Rattle.vacm_core.specs.Families.{in_view}
 use Rattle.agent_core.proofs.answering.send_read.Goals as goal
 
-pub returns-then-is_empty-clause-fitting : goal.returns-then-is_empty-clause-fitting
-returns-then-is_empty-clause-fitting g c =
+pub returns-then-is_empty-clause-sent : goal.returns-then-is_empty-clause-sent
+returns-then-is_empty-clause-sent g c =
     let families = c.args.world.now.policy.vacm.families in
     let rows = rows_of c.args.registry.now in
     let request = c.args.request.now in
@@ -18,4 +18,4 @@ returns-then-is_empty-clause-fitting g c =
     read_more request c.send_undenied.result c.send_undenied.new.buffer.reply
     (undenied families c.args.view.now (prefixes_of rows) (instances rows c.args.world.now) request request.kind get none)
     (λ i. unnamed_no (λ name. true) (in_view families c.args.view.now) (instances rows c.args.world.now) request request.kind i get)
-    c.send_undenied.ensures.fitting
+    c.send_undenied.ensures.sent

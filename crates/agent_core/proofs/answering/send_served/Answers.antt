@@ -14,8 +14,8 @@ use Rattle.agent_core.proofs.ReadReplies.{read_more}
 use Rattle.agent_core.proofs.Passed.{reply_open, lacks_open}
 use Rattle.agent_core.proofs.answering.send_served.Goals as goal
 
-pub returns-clause-fitting : goal.returns-clause-fitting
-returns-clause-fitting g c =
+pub returns-clause-sent : goal.returns-clause-sent
+returns-clause-sent g c =
     let world = c.args.world.now in
     let rows = rows_of c.args.registry.now in
     let request = c.args.request.now in
@@ -27,4 +27,4 @@ returns-clause-fitting g c =
     read_more request c.send_kind.result c.send_kind.new.buffer.reply
     (reply_open world.policy.vacm.families view rows world request request.kind)
     (lacks_open world.policy.vacm.families view rows world request request.kind)
-    (subst (λ (t : Tables). over t.families) tables c.send_kind.ensures.fitting)
+    (subst (λ (t : Tables). over t.families) tables c.send_kind.ensures.sent)

@@ -5,8 +5,8 @@ use Rattle.message_core.specs.declared.reply.Reply.{Reply}
 use Rattle.agent_core.proofs.Sizes.{sent_fits, sent_long, front}
 use Rattle.agent_core.proofs.buffer.put_sized.Goals as goal
 
-pub returns-in-Ok-clause-fitting : goal.returns-in-Ok-clause-fitting
-returns-in-Ok-clause-fitting c =
+pub returns-in-Ok-clause-sent : goal.returns-in-Ok-clause-sent
+returns-in-Ok-clause-sent c =
     let r : Reply = answer_to c.args.request.now c.args.status c.args.index c.args.bindings.now in
     let index_fits : FitsSigned w32 c.args.index = search rules in
     let ok = simp to_z-of_z at c.in-Ok.ensures.ok in
@@ -14,8 +14,8 @@ returns-in-Ok-clause-fitting c =
     rw (to_z-of_z w32 c.args.index index_fits)
     (sent_fits r _ _ (omega (arith, len.0, len.1)) (front _ (canon_reply r) _ _ len.0 ok) len.0)
 
-pub returns-in-Err-clause-fitting : goal.returns-in-Err-clause-fitting
-returns-in-Err-clause-fitting c =
+pub returns-in-Err-clause-sent : goal.returns-in-Err-clause-sent
+returns-in-Err-clause-sent c =
     let r : Reply = answer_to c.args.request.now c.args.status c.args.index c.args.bindings.now in
     let index_fits : FitsSigned w32 c.args.index = search rules in
     let too_big = simp to_z-of_z at c.in-Err.ensures.too_big in

@@ -32,12 +32,12 @@ use Rattle.agent_core.proofs.sets.answer_set.Goals as goal
 pub returns-then-is_too_long-clause-done : goal.returns-then-is_too_long-clause-done
 returns-then-is_too_long-clause-done g c =
     let request : Request = c.args.request.now in
-    let fitting : SentReply = c.put_too_long-fitting.result in
+    let sent : SentReply = c.put_too_long-sent.result in
     let reported_as : List Denied → List Key → Option ℕ → Answered =
-    λ (denied : List Denied) (keys : List Key) (failed : Option ℕ). answered.Reply fitting.length (reported_audit request c.args.row c.args.view fitting denied keys) failed in
-    too_long_done c.args.registry.now c.args.world.now request c.args.row c.args.view fitting c.reported.result c.put_too_long-fitting.new.self
-    (sym c.is_too_long.ensures.too_long ∙ c.if-is_too_long.true) c.put_too_long-fitting.ensures.fitting
-    (c.put_too_long-fitting.ensures.bpdus ∙ c.is_too_long.ensures.bpdus ∙ c.requires.silent)
+    λ (denied : List Denied) (keys : List Key) (failed : Option ℕ). answered.Reply sent.length (reported_audit request c.args.row c.args.view sent denied keys) failed in
+    too_long_done c.args.registry.now c.args.world.now request c.args.row c.args.view sent c.reported.result c.put_too_long-sent.new.self
+    (sym c.is_too_long.ensures.too_long ∙ c.if-is_too_long.true) c.put_too_long-sent.ensures.sent
+    (c.put_too_long-sent.ensures.bpdus ∙ c.is_too_long.ensures.bpdus ∙ c.requires.silent)
     (c.reported.ensures ∙ ap (λ (a : SetReported). reported_as a.denied a.unrestored a.failed) c.plain_answer-none.ensures ∙ ap (λ (keys : List Key). reported_as [] keys None) c.new.ensures)
 
 pub set_answer-requires-clause-refused : goal.set_answer-requires-clause-refused
@@ -71,7 +71,7 @@ returns-clause-may g c =
     let notes : AreNotes (writings rows world request.bindings) (notes_in outcome) =
     subst (λ (bs : List Binding). AreNotes (writings rows world bs) (notes_in outcome)) c.as_slice-bindings.ensures c.in_ok-outcome.ensures.notes in
     subst (λ (ns : SetNotes). MayFailInSet rows world c.args.view request ns)
-    (sym (notes_reported_of c.vacm.result.now.families outcome c.in_ok-answer.answer c.reported-2.result request c.args.row c.args.view c.put-fitting.result c.in_ok-answer.ensures.reported c.reported-2.ensures))
+    (sym (notes_reported_of c.vacm.result.now.families outcome c.in_ok-answer.answer c.reported-2.result request c.args.row c.args.view c.put-sent.result c.in_ok-answer.ensures.reported c.reported-2.ensures))
     (may_fail outcome request (refusal_of rows world c.args.view request.bindings) (writings rows world request.bindings)
     (sym c.is_too_long.ensures.too_long ∙ c.if-is_too_long.false) refusal notes)
 
@@ -95,16 +95,16 @@ returns-clause-done g c =
     changed_is outcome (writings rows world request.bindings) world after c.changed-changed.result after_is c.in_ok-outcome.ensures.changed
     (c.changed-changed.ensures ∙ ap (λ (t : Table). unwrap_or (changed_in outcome) (not (same_settings t after.bridge.settings))) c.copied_settings-before.ensures) in
     let index_fits : FitsSigned w32 answer.index = search rules in
-    let put : IsSent (reply_within_limit (answer_to request answer.status answer.index request.bindings)) c.put-fitting.result c.put-fitting.new.self.reply =
-    subst (λ (bs : List Binding). IsSent (reply_within_limit (answer_to request answer.status answer.index bs)) c.put-fitting.result c.put-fitting.new.self.reply) same (rw (to_z-of_z w32 answer.index index_fits) at c.put-fitting.ensures.fitting) in
-    set_done objects world request c.args.row c.args.view outcome answer c.put-fitting.result c.put-fitting.new.self after c.settle.new.world c.run_set.new.registry
+    let put : IsSent (reply_within_limit (answer_to request answer.status answer.index request.bindings)) c.put-sent.result c.put-sent.new.self.reply =
+    subst (λ (bs : List Binding). IsSent (reply_within_limit (answer_to request answer.status answer.index bs)) c.put-sent.result c.put-sent.new.self.reply) same (rw (to_z-of_z w32 answer.index index_fits) at c.put-sent.ensures.sent) in
+    set_done objects world request c.args.row c.args.view outcome answer c.put-sent.result c.put-sent.new.self after c.settle.new.world c.run_set.new.registry
     c.reported-2.result c.vacm.result.now.families
     (sym c.is_too_long.ensures.too_long ∙ c.if-is_too_long.false) refusal after_is
     (families_are (refusal_in outcome) c.vacm.result.now.families after.policy.vacm.families world.policy.vacm.families (ap (λ (t : Tables). t.families) c.vacm.ensures)
     (families_kept outcome (writings rows world request.bindings) world after after_is))
     c.in_ok-answer.ensures.reported
     (settled_is world after c.settle.new.world c.changed-changed.result changed c.settle.ensures.world)
-    (c.put-fitting.ensures.bpdus ∙ c.settle.ensures.bpdus ∙ settled_bpdus_is world after c.changed-changed.result changed)
+    (c.put-sent.ensures.bpdus ∙ c.settle.ensures.bpdus ∙ settled_bpdus_is world after c.changed-changed.result changed)
     put objects_are c.reported-2.ensures
 
 pub returns-then-is_too_long-clause-by_plan : goal.returns-then-is_too_long-clause-by_plan
@@ -124,7 +124,7 @@ returns-clause-by_plan g c =
     let by_plan : FollowPlans (calls_of (refusal_in outcome) (writings rows world request.bindings) (notes_in outcome)) objects =
     subst (λ (bs : List Binding). FollowPlans (calls_of (refusal_in outcome) (writings rows world bs) (notes_in outcome)) objects) same c.in_ok-outcome.ensures.by_plan in
     fitting_plans objects world c.args.view request (notes_in outcome) _ (sym c.is_too_long.ensures.too_long ∙ c.if-is_too_long.false)
-    (notes_reported_of c.vacm.result.now.families outcome c.in_ok-answer.answer c.reported-2.result request c.args.row c.args.view c.put-fitting.result c.in_ok-answer.ensures.reported c.reported-2.ensures)
+    (notes_reported_of c.vacm.result.now.families outcome c.in_ok-answer.answer c.reported-2.result request c.args.row c.args.view c.put-sent.result c.in_ok-answer.ensures.reported c.reported-2.ensures)
     (subst (λ r. FollowPlans (calls_of r (writings rows world request.bindings) (notes_in outcome)) objects) refusal by_plan)
 
 pub returns-in_err-outcome-clause-takes : goal.returns-in_err-outcome-clause-takes
