@@ -279,35 +279,11 @@ fn send_read<O: MibObject>(
     if request.kind == Kind::Get && denied.is_empty() {
         return send_undenied::<O, Brand>(alloc, registry, world, request, buffer, Blank::new(1));
     }
-    send_allowed(alloc, registry, world, view, request, buffer)
-}
-
-// Puts the reply to a request that is allowed in a view into the buffer. Its steps are counted in a
-// new ledger, and by no clause here.
-fn send_allowed<O: MibObject>(
-    alloc: Global,
-    registry: &Registry<O>,
-    world: &World,
-    view: &Name,
-    request: &Request,
-    buffer: &mut Buffer,
-) -> Result<ReadReply, AllocError>
-    requires community { length request.now.community ≤ MAX_COMMUNITY }
-    requires encodable { AreEncodable request.now.bindings }
-    requires reads { request.now.kind ≢ Kind.Set }
-    ensures sent { IfOk result (λ read. IsSentRead (kind_reply (prefixes_of (rows_of registry.now))
-        (in_view world.now.policy.vacm.families view.now)
-        (instances (rows_of registry.now) world.now) request.now request.now.kind) request.now
-        (LacksNameOf (in_view world.now.policy.vacm.families view.now)
-        (instances (rows_of registry.now) world.now) request.now request.now.kind)
-        read buffer.new.reply) }
-    ensures bpdus { buffer.new.bpdus ≡ buffer.old.bpdus }
-    ensures err { OnErr result (buffer.new ≡ buffer.old) }
-{
     send_served::<O, Brand>(alloc, registry, world, view, request, buffer, Blank::new(1))
 }
 
-// The same, by the ledger of a blank.
+// Puts the reply to a request that is allowed in a view into the buffer. Its steps are counted in the
+// ledger of a blank, and by no clause here.
 fn send_served<O: MibObject, L: Ledger>(
     alloc: Global,
     registry: &Registry<O>,
