@@ -16,7 +16,7 @@ use Rattle.audit_core.specs.declared.denied.Denied.{Denied}
 use Rattle.decision.specs.Deciding.{decision_on}
 use Rattle.decision.specs.declared.keys.AccessKey.{AccessKey}
 use Rattle.decision.specs.declared.choice.Cause.{Cause}
-use Rattle.decision.specs.declared.choice.SetRefusal.{SetRefusal as Why}
+use Rattle.decision.specs.declared.choice.Refusal.{Refusal as Why}
 use Rattle.decision.specs.declared.choice.Decision.{Decision}
 use Rattle.decision.specs.declared.choice.Decision.TheVariants.{Drop, Empty, Refused, Allowed}
 use Rattle.rstp_settings.specs.declared.key.Key.{Key}

@@ -10,7 +10,7 @@ ghost use Rattle.agent_core.specs.Sets.{is_too_long, too_long_reply};
 ghost use Rattle.agent_core.specs.Answers.{IsSent};
 ghost use Rattle.agent_core.specs.Buffered.{bpdu_of};
 
-use crate::fitting_reply::SentReply;
+use crate::sent_reply::SentReply;
 use arrayvec::ArrayVec;
 use bridge_core::Bpdus;
 use frame_core::Bpdu;

@@ -14,7 +14,7 @@ ghost use Rattle.agent_core.specs.Answers.{IsDone, notes_reported, unnamed_repor
 use crate::answered::Answered;
 use crate::buffer::Buffer;
 use crate::denying::denied_variable;
-use crate::fitting_reply::SentReply;
+use crate::sent_reply::SentReply;
 use audit_core::{Audit, DeniedBindings, UnrestoredSpace};
 use decision::{AccessKey, Decision};
 use message_core::{ErrorStatus, Request};

@@ -5,7 +5,7 @@ use Rattle.std.specs.declared.io.ErrorKind.{ErrorKind}
 use Rattle.std.specs.declared.io.ErrorKind.TheVariants.{OutOfMemory}
 use Rattle.script_core.specs.declared.fault.RunFault.{RunFault}
 use Rattle.script_core.specs.declared.fault.RunFault.TheVariants.{Input as InputFailed, Output as OutputFailed, Memory as NoMemory, Stopped as Given}
-use Rattle.agent_script.specs.declared.session.Run.{Run}
+use Rattle.agent_script.specs.declared.session.ScriptEnd.{ScriptEnd}
 use Rattle.agent_program.specs.declared.opening.NotRun.{NotRun}
 use Rattle.agent_program.specs.declared.opening.NotRun.TheVariants.{Refused as IsRefused, Memory, NoRegistry, Stopped}
 use Rattle.agent_program.specs.declared.files.NotRead.{NotRead}
@@ -111,7 +111,7 @@ failure_of Memory = Refused
 failure_of NoRegistry = Refused
 failure_of (Stopped fault) = run_failure fault
 
-abbrev pub ended_by : Result Run NotRun → Result (Unit {0}) Failure
+abbrev pub ended_by : Result ScriptEnd NotRun → Result (Unit {0}) Failure
 ended_by (Ok run) = Ok tt
 ended_by (Err why) = Err (failure_of why)
 

@@ -2,7 +2,7 @@
 use Rattle.std.specs.Prelude.{◌≡◌, ℕ, List, Option, None, Result, Ok, Err}
 use Rattle.configuration.specs.declared.configuration.TheConstants.{BUILT_IN}
 use Rattle.setphase_core.specs.Objects.{ObjectState}
-use Rattle.agent_script.specs.declared.session.Run.{Run}
+use Rattle.agent_script.specs.declared.session.ScriptEnd.{ScriptEnd}
 use Rattle.agent_program.specs.declared.files.NotRead.{NotRead}
 use Rattle.agent_program.specs.declared.opening.NotRun.{NotRun}
 use Rattle.agent_program.specs.declared.failure.Failure.{Failure}
@@ -41,7 +41,7 @@ module _ {I O : Type 0} (remaining : I → Option (List ℕ)) (contents : O → 
   -- a run by these octets, over the objects that were handed in, ended the program so
   pub record RunsBy (objects : List ObjectState) (octets : List ℕ) (reader reader' : I)
       (writer writer' : O) (ended : Result (Unit {0}) Failure) : Type 0 where
-    pub result : Result Run NotRun
+    pub result : Result ScriptEnd NotRun
     pub run : IsRunBy remaining contents objects octets reader reader' writer writer' result
     pub is : ended ≡ ended_by result
 

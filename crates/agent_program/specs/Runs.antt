@@ -6,7 +6,7 @@ use Rattle.agent_script.specs.Runs.{IsScriptRun}
 use Rattle.setphase_core.specs.Objects.{ObjectState}
 use Rattle.setphase_core.specs.declared.world.World.{World}
 use Rattle.agent_script.specs.State.{Agent, opening_agent}
-use Rattle.agent_script.specs.declared.session.Run.{Run}
+use Rattle.agent_script.specs.declared.session.ScriptEnd.{ScriptEnd}
 use Rattle.agent_program.specs.declared.opening.NotRun.{NotRun}
 use Rattle.agent_program.specs.declared.opening.NotRun.TheVariants.{Refused, Memory, NoRegistry, Stopped}
 use Rattle.agent_program.specs.Agents.{IsWorldOf, MakeRegistry, HasFault}
@@ -27,7 +27,7 @@ module _ {I O : Type 0} (remaining : I → Option (List ℕ)) (contents : O → 
     pub unwritten : writer' ≡ writer
 
   -- What came of a script over this agent.
-  abbrev pub IsRunOver : Agent → I → I → O → O → Result Run NotRun → Type 0
+  abbrev pub IsRunOver : Agent → I → I → O → O → Result ScriptEnd NotRun → Type 0
   IsRunOver agent reader reader' writer writer' (Ok run) =
       IsScriptRun remaining contents agent reader reader' writer writer' (Ok run)
   IsRunOver agent reader reader' writer writer' (Err (Stopped fault)) =
@@ -39,7 +39,7 @@ module _ {I O : Type 0} (remaining : I → Option (List ℕ)) (contents : O → 
   -- These octets say a configuration, these objects make a registry, and a script was run over
   -- what they show of the world that the configuration opens.
   pub record HasRun (objects : List ObjectState) (octets : List ℕ) (reader reader' : I)
-      (writer writer' : O) (went : Result Run RunFault) : Type 0 where
+      (writer writer' : O) (went : Result ScriptEnd RunFault) : Type 0 where
     pub world : World
     pub is : IsWorldOf octets world
     pub makes : MakeRegistry objects
@@ -48,7 +48,7 @@ module _ {I O : Type 0} (remaining : I → Option (List ℕ)) (contents : O → 
   -- What came of objects and octets: a run; a refusal of what is no configuration, or of objects
   -- that make no registry; or, of a text that is not blank, want of memory before anything was
   -- read.
-  abbrev pub IsRunBy : List ObjectState → List ℕ → I → I → O → O → Result Run NotRun → Type 0
+  abbrev pub IsRunBy : List ObjectState → List ℕ → I → I → O → O → Result ScriptEnd NotRun → Type 0
   IsRunBy objects octets reader reader' writer writer' (Ok run) =
       HasRun objects octets reader reader' writer writer' (Ok run)
   IsRunBy objects octets reader reader' writer writer' (Err (Stopped fault)) =

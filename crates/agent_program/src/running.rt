@@ -4,7 +4,7 @@ ghost use Rattle.agent_script.specs.State.{opening_agent};
 ghost use Rattle.agent_program.specs.Runs.{IsRunOver, IsRunBy};
 
 use crate::opening::{NotRun, open, registry_of};
-use agent_script::{Run, run_script};
+use agent_script::{ScriptEnd, run_script};
 use setphase_core::{MibObject, Registry, World};
 use std::alloc::Global;
 use std::io::{Read, Write};
@@ -16,7 +16,7 @@ fn run_opened<M: MibObject, I: Read, O: Write>(
     world: World,
     reader: &mut I,
     writer: &mut O,
-) -> Result<Run, NotRun>
+) -> Result<ScriptEnd, NotRun>
     ensures { IsRunOver I.remaining O.contents (opening_agent registry world)
         reader.old reader.new writer.old writer.new result }
 {
@@ -40,7 +40,7 @@ pub fn run_octets<M: MibObject, I: Read, O: Write>(
     octets: &[u8],
     reader: &mut I,
     writer: &mut O,
-) -> Result<Run, NotRun>
+) -> Result<ScriptEnd, NotRun>
     ensures { IsRunBy I.remaining O.contents (map M.state objects.items) octets.now
         reader.old reader.new writer.old writer.new result }
 {

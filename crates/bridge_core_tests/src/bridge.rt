@@ -1,4 +1,4 @@
-//! Flat copies of a bridge, and bridges that there cannot be.
+//! Flat copies of a bridge.
 ghost use Rattle.std.specs.Prelude.{◌≡◌, IfOk};
 ghost use Rattle.bridge_core.specs.Bridge.{port_count};
 
@@ -52,27 +52,4 @@ fn a_flat_copy_is_the_bridge_until_it_changes(rt: HostRuntime) -> Result<(), Fai
     assert!(rt; !before.same(&bridge.flat(rt.alloc())?));
     assert!(rt; before.same(&copy.flat(rt.alloc())?));
     Ok(())
-}
-
-// A port of a speed that there is not.
-fn slow() -> PortConfig {
-    let mut config = port();
-    config.speed = 11;
-    config
-}
-
-#[test]
-fn the_first_fault_is_named(rt: HostRuntime) {
-    let group = Mac([0x01, 0x00, 0x00, 0x00, 0x00, 0x00]);
-    let (many, one, two) = ([port(); 33], [slow()], [port(), slow()]);
-    let rows: [(Mac, &[PortConfig], BridgeFault); 4] = [
-        (group, &[], BridgeFault::BadPorts),
-        (group, &many, BridgeFault::BadPorts),
-        (group, &one, BridgeFault::BadAddress),
-        (OWN, &two, BridgeFault::BadSpeed),
-    ];
-    for (address, ports, fault) in rows {
-        let refused = Bridge::new(rt.alloc(), address, ports).err();
-        assert_eq!(rt; refused, Some(fault), "{} ports", ports.len());
-    }
 }

@@ -1,6 +1,5 @@
-//! Tests of a bridge from outside: flat copies of it, which bridges there cannot be, and static rows
-//! that are not made or have no promised place. What is learned, where frames go and the spanning
-//! tree are rows of the stored scripts.
+//! Tests of a bridge from outside: flat copies of it, and places for static rows that are refused. What
+//! is learned, where frames go and the spanning tree are rows of the stored scripts.
 //!
 //! # Entry points
 //! None: the tests call what `bridge_core` offers.

@@ -58,54 +58,6 @@ fn set(rt: &impl Abort, bridge: &mut Bridge, index: StaticIndex, octet: u8) {
     let _ = bridge.settle();
 }
 
-// Ports that are set ahead of the row are kept, and settling drops them where it is not made.
-#[test]
-fn settling_drops_what_is_not_made(rt: HostRuntime) -> Result<(), Fail> {
-    let mut bridge = opened(rt.alloc())?;
-    assert_eq!(rt; allow(&mut bridge, ROW, &[0b0100_0000]), Ok(true));
-    assert_eq!(rt; bridge.allowed(ROW), PortSet::read(&[0b0100_0000]));
-    let _ = bridge.settle();
-    assert_eq!(rt; bridge.allowed(ROW), PortSet::first(3));
-    assert_eq!(rt; make(&mut bridge, ROW), Ok(true));
-    assert_eq!(rt; bridge.allowed(ROW), PortSet::first(3));
-    Ok(())
-}
-
-// Changes the ports of a row that is made, and asks for no place.
-fn change(bridge: &mut Bridge, index: StaticIndex, octets: &[u8]) -> bool
-    requires { length octets.now < 1000 }
-{
-    let known = bridge.is_static_index(index) && bridge.is_made(index);
-    if known && !has_other_port(bridge.ports(), octets) {
-        bridge.put_allowed(index, PortSet::read(octets));
-    }
-    known
-}
-
-// Makes a row no more that is made, and asks for no place.
-fn remove(bridge: &mut Bridge, index: StaticIndex) -> bool {
-    let known = bridge.is_static_index(index) && bridge.is_made(index);
-    if known {
-        bridge.put_made(index, false);
-    }
-    known
-}
-
-#[test]
-fn a_row_changes_and_goes_without_a_place(rt: HostRuntime) -> Result<(), Fail> {
-    let mut bridge = opened(rt.alloc())?;
-    set(&rt, &mut bridge, ROW, 0b0100_0000);
-    bridge.hold_static(0);
-    assert_eq!(rt; bridge.static_places(), 0);
-    assert!(rt; change(&mut bridge, ROW, &[0b0010_0000]));
-    assert_eq!(rt; bridge.allowed(ROW), PortSet::read(&[0b0010_0000]));
-    assert!(rt; remove(&mut bridge, ROW));
-    let _ = bridge.settle();
-    assert!(rt; !bridge.is_made(ROW));
-    assert_eq!(rt; bridge.allowed(ROW), PortSet::first(3));
-    Ok(())
-}
-
 // More than there can be memory for is refused, and a promise is no difference between two bridges.
 #[test]
 fn a_refused_promise_leaves_all_as_before(rt: HostRuntime) -> Result<(), Fail> {

@@ -115,66 +115,21 @@ fn are<O: MibObject>(alloc: Global, objects: &[O], names: &[&str]) -> Result<boo
     Ok(objects.len() == names.len())
 }
 
-// How a registry of objects with these names ends: how many objects it has, or why none takes them
-// and whether it hands back the same.
-type End = (Result<usize, RegistryFault>, bool);
-
-fn end_of<O: MibObject>(alloc: Global, objects: Vec<O>, names: &[&str]) -> Result<End, Fail> {
+// How many objects a registry of these has, or why none takes them.
+fn registered<O: MibObject>(objects: Vec<O>) -> Result<Result<usize, RegistryFault>, Fail> {
     if !are_named(objects.as_slice()) {
         return Err(Fail::from("names of objects"));
     }
     match Registry::new(objects) {
-        Ok(registry) => Ok((Ok(registry.len()), true)),
-        Err((fault, back)) => Ok((Err(fault), are(alloc, back.as_slice(), names)?)),
+        Ok(registry) => Ok(Ok(registry.len())),
+        Err((fault, _back)) => Ok(Err(fault)),
     }
-}
-
-// The columns, and their names, of which two are exchanged.
-fn exchanged() -> ([Column; 57], [&'static str; 57]) {
-    let (mut columns, mut names) = (COLUMNS, NAMES);
-    columns.swap(6, 7);
-    names.swap(6, 7);
-    (columns, names)
-}
-
-// The columns, and their names, of which one is there twice.
-fn doubled() -> ([Column; 57], [&'static str; 57]) {
-    let (mut columns, mut names) = (COLUMNS, NAMES);
-    columns[2] = COLUMNS[1];
-    names[2] = NAMES[1];
-    (columns, names)
-}
-
-// Whether the objects of these columns have these names, and how a registry of them ends.
-fn registration(
-    alloc: Global,
-    columns: [Column; 57],
-    names: [&'static str; 57],
-) -> Result<(bool, End), Fail> {
-    let objects = boxed(alloc, &columns)?;
-    let named = are(alloc, objects.as_slice(), &names)?;
-    Ok((named, end_of(alloc, objects, &names)?))
 }
 
 #[test]
 fn a_registry_takes_objects_in_order(rt: HostRuntime) -> Result<(), Fail> {
-    let all = registration(rt.alloc(), COLUMNS, NAMES)?;
-    assert_eq!(rt; all, (true, (Ok(57), true)));
-    Ok(())
-}
-
-#[test]
-fn a_registry_refuses_objects_out_of_order(rt: HostRuntime) -> Result<(), Fail> {
-    let (columns, names) = exchanged();
-    let unsorted = registration(rt.alloc(), columns, names)?;
-    assert_eq!(rt; unsorted, (true, (Err(RegistryFault::Unsorted), true)));
-    Ok(())
-}
-
-#[test]
-fn a_registry_refuses_an_object_that_is_there_twice(rt: HostRuntime) -> Result<(), Fail> {
-    let (columns, names) = doubled();
-    let nested = registration(rt.alloc(), columns, names)?;
-    assert_eq!(rt; nested, (true, (Err(RegistryFault::Nested), true)));
+    let objects = boxed(rt.alloc(), &COLUMNS)?;
+    assert!(rt; are(rt.alloc(), objects.as_slice(), &NAMES)?);
+    assert_eq!(rt; registered(objects)?, Ok(57));
     Ok(())
 }

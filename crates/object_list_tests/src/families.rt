@@ -1,5 +1,4 @@
-//! The rows of vacmViewTreeFamilyTable (RFC 3415): by which index each is found, and which comes
-//! behind which.
+//! The longest names of vacmViewTreeFamilyTable (RFC 3415).
 use crate::owners::all_objects;
 use crate::worlds::{port, world_under};
 use bridge_mib::Steady;
@@ -32,25 +31,8 @@ const MOST: Case = (
     true,
 );
 
-// By rising index: the shorter name first, of one length that of the lesser octets, and of one view
-// the shorter subtree.
-const ROWS: [Case; 6] = [ONE, SHORT, LONGER, OTHER, WIDE, MOST];
-
-// As the policy has them.
+// The rows, as the policy has them.
 const LISTED: [Case; 6] = [LONGER, MOST, ONE, WIDE, SHORT, OTHER];
-
-// Indexes that no row has, and the row behind each: none, one cut short, one number longer, of other
-// views, of another length of the subtree, and behind all.
-const MISSING: [(&[u32], Option<Case>); 8] = [
-    (&[], Some(ONE)),
-    (&[3, 111, 112, 115, 5, 1, 3, 3, 3], Some(SHORT)),
-    (&[3, 111, 112, 115, 5, 1, 3, 3, 3, 3, 0], Some(LONGER)),
-    (&[3, 111, 112, 114, 5, 1, 3, 3, 3, 3], Some(SHORT)),
-    (&[3, 111, 112, 117, 5, 1, 3, 3, 3, 3], Some(WIDE)),
-    (&[3, 111, 112, 115, 6, 1, 3, 3, 3, 3], Some(LONGER)),
-    (&[4, 119, 105, 100, 101, 2, 1], Some(WIDE)),
-    (&[33], None),
-];
 
 // Writes a row as the text of a policy has it.
 fn write_row(text: &mut Vec<u8>, row: &Case) -> Result<(), Fail> {
@@ -104,72 +86,6 @@ fn is_shown(which: Family, row: &Case, value: Option<Value>) -> bool {
         (Family::Type, Some(Value::Integer(number))) => number == if is_included { 1 } else { 2 },
         _ => false,
     }
-}
-
-// Whether this row comes behind an index, or none.
-fn comes_behind(
-    alloc: Global,
-    object: &Object<Steady>,
-    world: &World,
-    after: Option<&[u32]>,
-    row: Option<Case>,
-) -> Result<bool, Fail> {
-    match (object.next(world, after), row) {
-        (Some(index), Some(row)) => Ok(index.as_slice() == index_of(alloc, &row)?.as_slice()),
-        (index, row) => Ok(index.is_none() && row.is_none()),
-    }
-}
-
-// The managed object of a column.
-fn object_of(which: Family) -> Object<Steady> {
-    Object::over(Column::Family(which), &mut Some(Steady))
-}
-
-#[test]
-fn rows_are_walked_by_index(rt: HostRuntime) -> Result<(), Fail> {
-    let alloc = rt.alloc();
-    let world = world_of_families(alloc)?;
-    for which in [Family::Mask, Family::Type] {
-        let object = object_of(which);
-        let mut last = Vec::new(alloc);
-        for row in ROWS {
-            assert!(rt;
-                comes_behind(alloc, &object, &world, Some(&last), Some(row))?,
-                "{which:?}"
-            );
-            last = index_of(alloc, &row)?;
-            assert!(rt;
-                is_shown(which, &row, object.read(alloc, &world, &last)),
-                "{which:?}"
-            );
-        }
-        assert!(rt;
-            comes_behind(alloc, &object, &world, Some(&last), None)?,
-            "{which:?}"
-        );
-        assert!(rt;
-            comes_behind(alloc, &object, &world, None, Some(ONE))?,
-            "{which:?}"
-        );
-    }
-    Ok(())
-}
-
-#[test]
-fn no_row_has_another_index(rt: HostRuntime) -> Result<(), Fail> {
-    let alloc = rt.alloc();
-    let world = world_of_families(alloc)?;
-    for which in [Family::Mask, Family::Type] {
-        let object = object_of(which);
-        for (index, row) in MISSING {
-            assert!(rt; object.read(alloc, &world, index).is_none(), "{index:?}");
-            assert!(rt;
-                comes_behind(alloc, &object, &world, Some(index), row)?,
-                "{index:?}"
-            );
-        }
-    }
-    Ok(())
 }
 
 // The name of the instance of a row: that of a column of 12 numbers, and the index.

@@ -1,7 +1,6 @@
 //! Tests of the 57 objects of a bridge: what a registry makes of them as boxed ones, in how many
-//! comparisons it finds the object of a name, what each of them reserves for a Set, Sets of one of
-//! them whose device fails, Sets of as many static rows as there are places, and the rows of
-//! vacmViewTreeFamilyTable.
+//! comparisons it finds the object of a name, what each of them reserves for a Set, Sets of as many
+//! static rows as there are places, and the longest names of vacmViewTreeFamilyTable.
 //!
 //! # Entry points
 //! None: the tests call what `object_list` and `setphase_core` offer.
@@ -24,8 +23,6 @@ mod families;
 mod owners;
 #[cfg(test)]
 mod places;
-#[cfg(test)]
-mod sets;
 #[cfg(test)]
 mod static_sets;
 #[cfg(test)]

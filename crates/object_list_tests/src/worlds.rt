@@ -11,10 +11,7 @@ use std::test::Fail;
 
 const OWN: Mac = Mac([0x02, 0x00, 0x00, 0x00, 0x00, 0x0A]);
 
-// A policy of no rows.
-const NO_POLICY: &str = "contexts = []\ncommunity = []\ngroup = []\naccess = []\nfamily = []\n";
-
-// A policy of no rows but one view, `all`, of all of the bridge.
+// A policy of one view, `all`, of all of the bridge.
 const ALL_SEEN: &str = r#"contexts = []
 community = []
 group = []
@@ -38,12 +35,7 @@ pub fn port(ifindex: u32, speed: u32, full: bool) -> PortConfig
     }
 }
 
-/// A bridge of these ports, as it opens, under a policy of no rows.
-pub fn world_of(alloc: Global, ports: &[PortConfig]) -> Result<World, Fail> {
-    world_under(alloc, ports, NO_POLICY.as_bytes())
-}
-
-/// The same of these ports under a policy of one view, `all`, in which all of the bridge is.
+/// A bridge of these ports, as it opens, under a policy of one view, `all`, in which all of the bridge is.
 pub fn seen_world_of(alloc: Global, ports: &[PortConfig]) -> Result<World, Fail> {
     world_under(alloc, ports, ALL_SEEN.as_bytes())
 }

@@ -1,19 +1,16 @@
-//! Policies of 100,000 rows in each table, in orders that a table may be written in: they are taken,
-//! asked, and refused by the row that an operator has written twice.
-use community_core::{Policy, PolicyFault, PolicyTable, WrittenCommunity};
+//! Policies of 100,000 rows in each table, in orders that a table may be written in: they are taken, and
+//! asked.
+use community_core::{Policy, WrittenCommunity};
 use oid_core::Oid;
 use std::alloc::Global;
 use std::test::Fail;
 use vacm_core::{
-    Ask, FamilyAnswer, Level, Name, Octets, Rows, TableFault, Text, Vacm, VacmRows, VacmTable,
-    Verdict, ViewType, WrittenAccess, WrittenFamily, WrittenGroup, Wrong,
+    Ask, FamilyAnswer, Level, Name, Octets, Rows, Text, Vacm, VacmRows, Verdict, ViewType,
+    WrittenAccess, WrittenFamily, WrittenGroup,
 };
 
 /// How many rows each table has.
 const ROWS: u32 = 100_000;
-
-/// The place of a row that has the key of the one at place 12,345.
-const TWICE: u32 = 70_000;
 
 /// An order in which the rows of a table are written.
 #[derive(Clone, Copy, Debug)]
@@ -128,29 +125,11 @@ impl Numbered for WrittenCommunity {
     }
 }
 
-/// The numbers of the rows of a table, by their places.
-#[derive(Clone, Copy)]
-struct Numbers {
-    order: Order,
-    // Whether the row at the place [`TWICE`] has the number of an earlier one.
-    twice: bool,
-}
-
-impl Numbers {
-    fn at(self, place: u32) -> u32 {
-        if self.twice && place == TWICE {
-            self.order.number(12_345)
-        } else {
-            self.order.number(place)
-        }
-    }
-}
-
 // The rows of a table.
-fn many<R: Numbered>(alloc: Global, numbers: Numbers) -> Result<Rows<R>, Fail> {
+fn many<R: Numbered>(alloc: Global, order: Order) -> Result<Rows<R>, Fail> {
     let mut rows = Vec::new(alloc);
     for place in 0..ROWS {
-        rows.push(R::of(alloc, numbers.at(place))?)?;
+        rows.push(R::of(alloc, order.number(place))?)?;
     }
     Ok(Rows::new(rows))
 }
@@ -161,17 +140,13 @@ fn no_rows<R>(alloc: Global) -> Rows<R> {
 
 // A policy of as many rows in each table.
 fn policy(alloc: Global, order: Order) -> Result<Policy, Fail> {
-    let numbers = Numbers {
-        order,
-        twice: false,
-    };
     let rows = VacmRows {
-        groups: many(alloc, numbers)?,
-        access: many(alloc, numbers)?,
-        families: many(alloc, numbers)?,
+        groups: many(alloc, order)?,
+        access: many(alloc, order)?,
+        families: many(alloc, order)?,
         contexts: no_rows(alloc),
     };
-    let communities = many(alloc, numbers)?;
+    let communities = many(alloc, order)?;
     Ok(Policy::new(alloc, communities, Vacm::new(alloc, rows)?)?)
 }
 
@@ -223,99 +198,6 @@ fn many_rows_are_taken_and_asked(rt: HostRuntime) -> Result<(), Fail> {
             let decides = rows_decide(rt.alloc(), &policy, order, place)?;
             assert!(rt; decides, "{order:?}: {place}");
         }
-    }
-    Ok(())
-}
-
-// The fault of tables of access control in which one row stands twice.
-fn vacm_fault(alloc: Global, rows: VacmRows) -> Option<TableFault<VacmTable>> {
-    Vacm::new(alloc, rows).err()
-}
-
-// The same, where a group row does.
-fn group_fault(alloc: Global, order: Order) -> Result<Option<TableFault<VacmTable>>, Fail> {
-    let rows = VacmRows {
-        groups: many(alloc, Numbers { order, twice: true })?,
-        access: no_rows(alloc),
-        families: no_rows(alloc),
-        contexts: no_rows(alloc),
-    };
-    Ok(vacm_fault(alloc, rows))
-}
-
-fn access_fault(alloc: Global, order: Order) -> Result<Option<TableFault<VacmTable>>, Fail> {
-    let rows = VacmRows {
-        groups: no_rows(alloc),
-        access: many(alloc, Numbers { order, twice: true })?,
-        families: no_rows(alloc),
-        contexts: no_rows(alloc),
-    };
-    Ok(vacm_fault(alloc, rows))
-}
-
-fn family_fault(alloc: Global, order: Order) -> Result<Option<TableFault<VacmTable>>, Fail> {
-    let rows = VacmRows {
-        groups: no_rows(alloc),
-        access: no_rows(alloc),
-        families: many(alloc, Numbers { order, twice: true })?,
-        contexts: no_rows(alloc),
-    };
-    Ok(vacm_fault(alloc, rows))
-}
-
-fn empty_vacm(alloc: Global) -> Result<Vacm, Fail> {
-    let rows = VacmRows {
-        groups: no_rows(alloc),
-        access: no_rows(alloc),
-        families: no_rows(alloc),
-        contexts: no_rows(alloc),
-    };
-    Ok(Vacm::new(alloc, rows)?)
-}
-
-fn community_fault(alloc: Global, order: Order) -> Result<Option<PolicyFault>, Fail> {
-    let communities = many(alloc, Numbers { order, twice: true })?;
-    Ok(Policy::new(alloc, communities, empty_vacm(alloc)?).err())
-}
-
-// The fault of a table whose row at the place `TWICE` has the key of an earlier one.
-fn twice_in(table: VacmTable) -> Option<TableFault<VacmTable>> {
-    Some(TableFault::Row(table, TWICE as usize, Wrong::Duplicate))
-}
-
-#[test]
-fn a_group_row_that_stands_twice_is_named(rt: HostRuntime) -> Result<(), Fail> {
-    for order in ORDERS {
-        let fault = group_fault(rt.alloc(), order)?;
-        assert_eq!(rt; fault, twice_in(VacmTable::Groups), "{order:?}");
-    }
-    Ok(())
-}
-
-#[test]
-fn an_access_row_that_stands_twice_is_named(rt: HostRuntime) -> Result<(), Fail> {
-    for order in ORDERS {
-        let fault = access_fault(rt.alloc(), order)?;
-        assert_eq!(rt; fault, twice_in(VacmTable::Access), "{order:?}");
-    }
-    Ok(())
-}
-
-#[test]
-fn a_family_that_stands_twice_is_named(rt: HostRuntime) -> Result<(), Fail> {
-    for order in ORDERS {
-        let fault = family_fault(rt.alloc(), order)?;
-        assert_eq!(rt; fault, twice_in(VacmTable::Families), "{order:?}");
-    }
-    Ok(())
-}
-
-#[test]
-fn a_community_that_stands_twice_is_named(rt: HostRuntime) -> Result<(), Fail> {
-    let want = PolicyFault::Duplicate(PolicyTable::Communities, TWICE as usize);
-    for order in ORDERS {
-        let fault = community_fault(rt.alloc(), order)?;
-        assert_eq!(rt; fault, Some(want), "{order:?}");
     }
     Ok(())
 }
