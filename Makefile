@@ -8,7 +8,7 @@ run:
 serve:
 	tools/serve
 
-# Reads the words of documents, doc comments and printed texts; proves every crate, tries the must-fail edits, runs the tests and the programs; then runs the agent
+# Reads the words of documents, comments, printed texts and names; proves every crate, tries the must-fail edits, runs the tests and the programs; then runs the agent
 # so built over the stored scripts and over a random one, and serves it over UDP, where the manager and, if it is there, Net-SNMP ask
 # it, and where four clients ask it at the same time, which a script replays; then runs the manager by stored runs, in which the agent is played; last, where root has network namespaces, it tries the
 # feeder, and by it the agent between two hosts.

@@ -166,15 +166,15 @@ module _ {A W T C V P : Type 0} (worker_did : A → List Deed → A → Type 0) 
 
   -- Intervals lead from one place to another, each from the place to which the one before it led, and
   -- behind each the line went on: that of the latest first.
-  abbrev pub AreLaps : List (Place A W T C V P) → Place A W T C V P → Place A W T C V P → Type 0
-  AreLaps [] a b = b ≡ a
-  AreLaps (at ∷ before) a b = AreLaps before a at × (how : End) × HasPassedOn at b how true
+  abbrev pub AreIntervals : List (Place A W T C V P) → Place A W T C V P → Place A W T C V P → Type 0
+  AreIntervals [] a b = b ≡ a
+  AreIntervals (at ∷ before) a b = AreIntervals before a at × (how : End) × HasPassedOn at b how true
 
   -- so many of them
   pub record HasPassedIntervals (count : ℕ) (a b : Place A W T C V P) : Type 0 where
     pub places : List (Place A W T C V P)
     pub count_is : length places ≡ count
-    pub laps : AreLaps places a b
+    pub laps : AreIntervals places a b
 
   -- Intervals behind which the line went on, and one behind which it did not, as was reported to the
   -- watch last of all.

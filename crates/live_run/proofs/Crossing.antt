@@ -10,7 +10,7 @@ use denote.Hole.FixLaws.{layer_row}
 use Rattle.std.proofs.Crossing.{crosses}
 use Rattle.vacm_core.specs.contracts.radix.Radix as Radix
 use Rattle.vacm_core.specs.contracts.radix.Branch as Branch
-use Rattle.vacm_core.specs.contracts.radix.Run as Run
+use Rattle.vacm_core.specs.contracts.radix.Segment as Segment
 use Rattle.vacm_core.specs.contracts.radix.Radix.TheKnot as Knot
 use Rattle.vacm_core.specs.declared.radix.Radix.TheBlock as block
 use Rattle.vacm_core.specs.contracts.families.Families as families
@@ -44,7 +44,7 @@ use Rattle.std.proofs.sync.ledger.Book.TheSendSync as book
 use Rattle.rising.proofs.Sent.{latest_send}
 use Rattle.live_lock.specs.contracts.live.Live as live
 use Rattle.setphase_core.specs.declared.object.MibObject.{Ghosts}
-use Rattle.live_lock.specs.declared.run.Run.{Ghosts as RunGhosts}
+use Rattle.live_lock.specs.declared.run.Segment.{Ghosts as RunGhosts}
 use Rattle.std.specs.declared.sync.ledger.Ledger.{Ghosts as LedgerGhosts}
 use Rattle.rising.specs.declared.tokens.Rising.{Ghosts as RisingGhosts}
 
@@ -55,7 +55,7 @@ branch_layer : (h : block.the_members → RattleType) → ((j : block.the_member
 branch_layer h all = let T = Branch.the_layer h in recorded_send (Struct (S.shape T)) T.D T.to T.to_one (struct_send (S.shape T) (search (sendable, crosses, all) depth 20))
 
 run_layer : (h : block.the_members → RattleType) → ((j : block.the_members) → IsSend (h j)) → IsSend (layer_row Knot.ring block.member-Run h)
-run_layer h all = let T = Run.the_layer h in recorded_send (Struct (S.shape T)) T.D T.to T.to_one (struct_send (S.shape T) (search (sendable, crosses, all) depth 20))
+run_layer h all = let T = Segment.the_layer h in recorded_send (Struct (S.shape T)) T.D T.to T.to_one (struct_send (S.shape T) (search (sendable, crosses, all) depth 20))
 
 steps : (i : block.the_members) → Sends Knot.ring i
 steps block.member-Radix = record { send = radix_layer }
@@ -65,7 +65,7 @@ steps block.member-Run = record { send = run_layer }
 branch_hole_send : IsSend Branch.the_hole
 branch_hole_send = fix_send Knot.ring steps block.member-Branch
 
-run_hole_send : IsSend Run.the_hole
+run_hole_send : IsSend Segment.the_hole
 run_hole_send = fix_send Knot.ring steps block.member-Run
 
 radix_field_send : IsSend (Radix.the_field).row

@@ -95,24 +95,26 @@ fn name_of(alloc: Global, column: u32, row: &Case) -> Result<Vec<u32>, Fail> {
     Ok(name)
 }
 
-// The longest names that there are, of 128 numbers, by a registry of all objects.
+// How many numbers the name of a row's type has, and whether a registry of all objects gives it behind
+// this column of another row, with the row's value, and reads it.
+fn follows(alloc: Global, column: u32, before: &Case, row: &Case) -> Result<(usize, bool), Fail> {
+    let world = world_of_families(alloc)?;
+    let registry = all_objects(alloc)?;
+    let after = name_of(alloc, column, before)?;
+    let name = name_of(alloc, 4, row)?;
+    let found = registry.next(alloc, &world, &after)?.ok_or("an instance")?;
+    let is_named = found.name.as_slice() == name.as_slice();
+    let read = registry.read(alloc, &world, &name);
+    let are_shown = is_shown(Family::Type, row, Some(found.value))
+        && is_shown(Family::Type, row, read);
+    Ok((name.len(), is_named && are_shown))
+}
+
+// The longest names that there are have 128 numbers.
 #[test]
 fn a_registry_shows_names_of_128_numbers(rt: HostRuntime) -> Result<(), Fail> {
     let alloc = rt.alloc();
-    let world = world_of_families(alloc)?;
-    let registry = all_objects(alloc)?;
-    for (column, before, row) in [(3, MOST, ONE), (4, WIDE, MOST)] {
-        let after = name_of(alloc, column, &before)?;
-        let found = registry.next(alloc, &world, &after)?.ok_or("an instance")?;
-        let name = name_of(alloc, 4, &row)?;
-        assert_eq!(rt; (found.name.as_slice(), name.len()), (name.as_slice(), 128));
-        let read = registry.read(alloc, &world, &name);
-        assert!(rt;
-            is_shown(Family::Type, &row, Some(found.value)),
-            "{}",
-            row.0
-        );
-        assert!(rt; is_shown(Family::Type, &row, read), "{}", row.0);
-    }
+    assert_eq!(rt; follows(alloc, 3, &MOST, &ONE)?, (128, true));
+    assert_eq!(rt; follows(alloc, 4, &WIDE, &MOST)?, (128, true));
     Ok(())
 }
