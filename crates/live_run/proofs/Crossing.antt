@@ -44,7 +44,7 @@ use Rattle.std.proofs.sync.ledger.Book.TheSendSync as book
 use Rattle.rising.proofs.Sent.{latest_send}
 use Rattle.live_lock.specs.contracts.live.Live as live
 use Rattle.setphase_core.specs.declared.object.MibObject.{Ghosts}
-use Rattle.live_lock.specs.declared.run.Segment.{Ghosts as RunGhosts}
+use Rattle.live_lock.specs.declared.run.Run.{Ghosts as RunGhosts}
 use Rattle.std.specs.declared.sync.ledger.Ledger.{Ghosts as LedgerGhosts}
 use Rattle.rising.specs.declared.tokens.Rising.{Ghosts as RisingGhosts}
 
@@ -54,19 +54,19 @@ radix_layer h all = let T = Radix.the_layer h in recorded_send (Enum (E.shape T)
 branch_layer : (h : block.the_members → RattleType) → ((j : block.the_members) → IsSend (h j)) → IsSend (layer_row Knot.ring block.member-Branch h)
 branch_layer h all = let T = Branch.the_layer h in recorded_send (Struct (S.shape T)) T.D T.to T.to_one (struct_send (S.shape T) (search (sendable, crosses, all) depth 20))
 
-run_layer : (h : block.the_members → RattleType) → ((j : block.the_members) → IsSend (h j)) → IsSend (layer_row Knot.ring block.member-Run h)
+run_layer : (h : block.the_members → RattleType) → ((j : block.the_members) → IsSend (h j)) → IsSend (layer_row Knot.ring block.member-Segment h)
 run_layer h all = let T = Segment.the_layer h in recorded_send (Struct (S.shape T)) T.D T.to T.to_one (struct_send (S.shape T) (search (sendable, crosses, all) depth 20))
 
 steps : (i : block.the_members) → Sends Knot.ring i
 steps block.member-Radix = record { send = radix_layer }
 steps block.member-Branch = record { send = branch_layer }
-steps block.member-Run = record { send = run_layer }
+steps block.member-Segment = record { send = run_layer }
 
 branch_hole_send : IsSend Branch.the_hole
 branch_hole_send = fix_send Knot.ring steps block.member-Branch
 
 run_hole_send : IsSend Segment.the_hole
-run_hole_send = fix_send Knot.ring steps block.member-Run
+run_hole_send = fix_send Knot.ring steps block.member-Segment
 
 radix_field_send : IsSend (Radix.the_field).row
 radix_field_send = enum_send (E.shape Radix.the_type) (search (sendable, crosses, branch_hole_send, run_hole_send) depth 20)
