@@ -4,7 +4,7 @@
     bench/peer.py [--agentd FILE] [--snmpd FILE] [--seconds N] [--workers N] [--clients N] [--turns N]
 
 Both have the same instances under the same names: the tool walks agentd by GetNext and writes an `override` line of snmpd.conf
-for each. Then it asks each in turn, for N seconds (2 unless told), by N clients (4) with one request under way each, a Get and a
+for each. Then it asks each in turn, for N seconds (2 by default), by N clients (4) with one request under way each, a Get and a
 GetBulk of 20 from dot1dBase and from dot1dStp on; agentd has N workers (4), snmpd has one thread, as it has everywhere. Of N
 turns (3) the median counts. Before each measurement it asks once, and the two replies are to name the same instances. Exit
 status 1 where a program failed or a reply had an error. snmpd runs as whoever runs this tool, on a free port of 127.0.0.1.
@@ -119,22 +119,22 @@ class Peers:
             print(f"{kind:30} {rate:10,.0f} {other:10,.0f} {rate / other:6.2f} {used:10.1f} {other_used:9.1f}", flush=True)
 
 
-def run(asked_for, room):
+def run(asked_for, folder):
     """Starts both, and measures them."""
-    bench = udp.Bench(asked_for.agentd.resolve(), asked_for.seconds, False, room)
+    bench = udp.Bench(asked_for.agentd.resolve(), asked_for.seconds, False, folder)
     with udp.bound() as first_peer, udp.bound() as second_peer:
         snmp, first, second, other = udp.free_ports(4)
         places = {"snmp": snmp, "first": first, "second": second,
                   "first_peer": udp.port_of(first_peer), "second_peer": udp.port_of(second_peer)}
         texts = {key: f"{udp.HOST}:{port}" for key, port in places.items()}
         bench.configuration.write_text(
-            udp.CONFIGURATION.format(workers=asked_for.workers, rounds=udp.LAP, **texts))
+            udp.CONFIGURATION.format(workers=asked_for.workers, rounds=udp.INTERVAL, **texts))
         with udp.started(bench.agentd, "serve", "--forever", "--config", bench.configuration) as agent:
             instances = walked(agent, snmp)
-            conf = room / "snmpd.conf"
-            conf.write_text(f"agentaddress udp:{udp.HOST}:{other}\nrocommunity public 127.0.0.1\npersistentDir {room}\n"
+            conf = folder / "snmpd.conf"
+            conf.write_text(f"agentaddress udp:{udp.HOST}:{other}\nrocommunity public 127.0.0.1\npersistentDir {folder}\n"
                             + "".join(override(*instance) for instance in instances))
-            with udp.started(asked_for.snmpd, "-f", "-C", "-c", conf, "-Lf", room / "snmpd.log") as snmpd:
+            with udp.started(asked_for.snmpd, "-f", "-C", "-c", conf, "-Lf", folder / "snmpd.log") as snmpd:
                 print(f"{len(instances)} instances, {asked_for.workers} workers, {asked_for.clients} clients")
                 Peers(bench, asked_for.clients).measure(agent, snmp, snmpd, other, asked_for.turns)
 
@@ -151,8 +151,8 @@ def main():
     if not asked_for.agentd.is_file():
         sys.exit(f"no {asked_for.agentd}")
     signal.signal(signal.SIGTERM, lambda *_: sys.exit(1))
-    with tempfile.TemporaryDirectory() as room:
-        run(asked_for, pathlib.Path(room))
+    with tempfile.TemporaryDirectory() as folder:
+        run(asked_for, pathlib.Path(folder))
 
 
 main()

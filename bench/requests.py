@@ -159,9 +159,9 @@ def measure_all(agent, rows):
     agent.measure("Set of 64 variables", 64, f"set {COMMUNITY} 64 x {count} 6")
 
 
-def measure_scene(program, room, ports, rows, families):
+def measure_scene(program, folder, ports, rows, families):
     """Measures an agent of so many ports, that has learned so many rows, of which these families are seen."""
-    file = room / "bench.toml"
+    file = folder / "bench.toml"
     file.write_text(configuration(ports, families))
     print(f"{ports} ports, {rows} learned rows, {'all' if families is ALL else 'a part'} is seen")
     with Agent(program, file) as agent:
@@ -184,9 +184,9 @@ def measure_scene(program, room, ports, rows, families):
 
 def main():
     program = sys.argv[1]
-    with tempfile.TemporaryDirectory() as room:
+    with tempfile.TemporaryDirectory() as folder:
         for ports, rows, families in SCENES:
-            measure_scene(program, pathlib.Path(room), ports, rows, families)
+            measure_scene(program, pathlib.Path(folder), ports, rows, families)
 
 
 main()

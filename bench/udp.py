@@ -4,14 +4,14 @@
     bench/udp.py [--agentd FILE] [--seconds N] [--forever]
 
 For 1, 2 and 4 workers and for 1 and 4 clients, each with one request under way, it asks a fresh `agentd serve` for N seconds
-(2 unless told) and for as long an echo of the same requests, which has as many threads on one socket as the agent has workers.
+(2 by default) and for as long an echo of the same requests, which has as many threads on one socket as the agent has workers.
 Before each measurement it asks once, and the reply is to be of that request and without an error. A reply that did not come
 within a second is lost. The Sets are of 4096 and 8192 in turn, so that each changes something, if no other client's comes
-between. The last line tells by how much the agent's resident memory grew over the Gets of 1 worker and 1 client, by
+between. The last line gives by how much the agent's resident memory grew over the Gets of 1 worker and 1 client, by
 VmRSS in /proc. Exit status 1 where a first reply or the agent failed, or a reply had an error.
 
 An agent makes 1,000,000 rounds a worker and no more: with an N of more requests than that, the rest are lost. With `--forever`
-it is served so, by laps of 10,000 rounds, and first asked 30,000 Gets, so that its history is full and its laps have been let go.
+it is served so, by intervals of 10,000 rounds, and first asked 30,000 Gets, so that its history is full and its intervals have been dropped.
 
 The agent is that which `rt run` leaves in crates/agentd/out/agentd. A C compiler is needed, as `cc`, for bench/udp.c.
 """
@@ -36,7 +36,7 @@ CLIENTS = (1, 4)
 REQUEST_ID = 1
 MOST_SECONDS_TO_START = 20
 MOST_ROUNDS = 1_000_000
-LAP = 10_000  # rounds of a lap, where an agent is served without an end
+INTERVAL = 10_000  # rounds of an interval, where an agent is served without an end
 FIRST_REQUESTS = 30_000  # that such an agent is asked before it is measured
 SECONDS_TO_WARM = 0.5
 
@@ -237,12 +237,12 @@ class Counts:
 class Bench:
     """Measurements of one agent, in a folder of their own."""
 
-    def __init__(self, agentd, seconds, is_forever, room):
+    def __init__(self, agentd, seconds, is_forever, folder):
         self.agentd = agentd
         self.seconds = seconds
         self.is_forever = is_forever
-        self.configuration = room / "serve.toml"
-        self.udp = room / "udp"
+        self.configuration = folder / "serve.toml"
+        self.udp = folder / "udp"
         subprocess.run(["cc", "-O2", "-pthread", "-o", self.udp, BENCH / "udp.c"], check=True)
 
     def asked(self, process, port, kind, clients, seconds=None):
@@ -262,7 +262,7 @@ class Bench:
             return self.asked(process, port, kind, clients)
 
     def warm(self, process, port):
-        """Asks an agent that is served without an end until its history is full and each worker has made some laps."""
+        """Asks an agent that is served without an end until its history is full and each worker has made some intervals."""
         requests = 0
         while self.is_forever and requests < FIRST_REQUESTS:
             requests += self.asked(process, port, "Get", 4, SECONDS_TO_WARM).requests
@@ -274,7 +274,7 @@ class Bench:
             places = {"snmp": snmp, "first": first, "second": second,
                       "first_peer": port_of(first_peer), "second_peer": port_of(second_peer)}
             texts = {key: f"{HOST}:{port}" for key, port in places.items()}
-            rounds = LAP if self.is_forever else MOST_ROUNDS
+            rounds = INTERVAL if self.is_forever else MOST_ROUNDS
             self.configuration.write_text(CONFIGURATION.format(workers=workers, rounds=rounds, **texts))
             options = ["--forever"] if self.is_forever else []
             with started(self.agentd, "serve", *options, "--config", self.configuration) as process:
@@ -318,8 +318,8 @@ def main():
     if not asked.agentd.is_file():
         sys.exit(f"no {asked.agentd}")
     signal.signal(signal.SIGTERM, lambda *_: sys.exit(1))
-    with tempfile.TemporaryDirectory() as room:
-        bench = Bench(asked.agentd.resolve(), asked.seconds, asked.forever, pathlib.Path(room))
+    with tempfile.TemporaryDirectory() as folder:
+        bench = Bench(asked.agentd.resolve(), asked.seconds, asked.forever, pathlib.Path(folder))
         sys.exit(measure(bench) > 0)
 
 
