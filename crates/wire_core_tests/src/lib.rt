@@ -1,5 +1,5 @@
-//! Tests of wires and paces by their traits: in memory, over UDP on this machine, without an end, and
-//! failing at a call; and of those whose tasks are of one start, with the control socket.
+//! Tests of wires over UDP on this machine, also without an end, and of paces, by their traits; and of
+//! those whose tasks are of one start, with the control socket.
 //!
 //! # Entry points
 //! None: the tests call what `wire_core` and `control_socket` offer.

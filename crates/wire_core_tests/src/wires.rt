@@ -1,11 +1,10 @@
 //! What each wire gives and what each pace answers, by their traits.
-use std::alloc::Global;
 use std::net::{IpAddr, Ipv4Addr, Ipv6Addr, SocketAddr};
 use std::sync::Arc;
 use std::test::*;
 use wire_core::{
-    Cause, CountPace, FailingWire, LastingWire, MemoryWire, Pace, Received, SecondPace,
-    SendingSockets, Startup, UdpWire, Wire, WireFault, WireInput,
+    Cause, CountPace, LastingWire, Pace, Received, SecondPace, SendingSockets, Startup, UdpWire,
+    Wire, WireFault,
 };
 
 /// An address of this machine.
@@ -22,72 +21,6 @@ pub fn receipt<W: Wire>(wire: &mut W) -> Result<Option<(u16, usize, u8)>, &'stat
         Ok(Received::Closed) => Err("closed"),
         Err(_) => Err("fault"),
     }
-}
-
-// A wire with two datagrams, of which the second is cut, a quiet turn between them, and a fault.
-fn handed(alloc: Global) -> Result<MemoryWire, Fail> {
-    let mut wire = MemoryWire::new(alloc);
-    wire.give_datagram(loopback(1), &[7, 8])?;
-    wire.give(WireInput::Nothing)?;
-    wire.give_datagram(loopback(2), &[1, 2, 3, 4, 5])?;
-    wire.give(WireInput::Fault)?;
-    Ok(wire)
-}
-
-#[test]
-fn memory_gives_in_order_and_is_closed_then(rt: HostRuntime) -> Result<(), Fail> {
-    let mut wire = handed(rt.alloc())?;
-    let first = (receipt(&mut wire), receipt(&mut wire), receipt(&mut wire));
-    let last = (receipt(&mut wire), receipt(&mut wire), receipt(&mut wire));
-    assert_eq!(rt; first, (Ok(Some((1, 2, 7))), Ok(None), Ok(Some((2, 4, 1)))));
-    assert_eq!(rt; last, (Err("fault"), Err("closed"), Err("closed")));
-    assert_eq!(rt; wire.failures(), 1);
-    Ok(())
-}
-
-#[test]
-fn memory_keeps_what_is_sent(rt: HostRuntime) -> Result<(), Fail> {
-    let mut wire = MemoryWire::new(rt.alloc());
-    let sent = (
-        wire.send(loopback(1), &[9]),
-        wire.send(loopback(2), &[5, 6]),
-    );
-    let kept: (Option<u16>, Option<usize>) = (
-        wire.sent().get(0).map(|packet| packet.peer.port()),
-        wire.sent()
-            .get(1)
-            .map(|packet| packet.octets.as_slice().len()),
-    );
-    assert_eq!(rt; (sent, kept), ((Ok(()), Ok(())), (Some(1), Some(2))));
-    Ok(())
-}
-
-// What three calls of a wire gave that fails at one of them, how many it handed on that send, and
-// how often it failed.
-fn three_calls(alloc: Global, fails_at: u64) -> Result<([bool; 3], usize, u64), Fail> {
-    let mut wire = FailingWire::new(handed(alloc)?, fails_at);
-    let calls = [
-        receipt(&mut wire).is_ok(),
-        wire.send(loopback(1), &[9]).is_ok(),
-        receipt(&mut wire).is_ok(),
-    ];
-    Ok((calls, wire.wire().sent().len(), wire.failures()))
-}
-
-#[test]
-fn failing_wire_fails_at_its_call(rt: HostRuntime) -> Result<(), Fail> {
-    let alloc = rt.alloc();
-    let first = (three_calls(alloc, 0)?, three_calls(alloc, 1)?);
-    let second = (three_calls(alloc, 2)?, three_calls(alloc, 4)?);
-    assert_eq!(rt;
-        first,
-        (([true, true, true], 1, 0), ([false, true, true], 1, 1))
-    );
-    assert_eq!(rt;
-        second,
-        (([true, false, true], 0, 1), ([true, true, true], 1, 0))
-    );
-    Ok(())
 }
 
 #[test]
