@@ -1,5 +1,5 @@
 //! Tests of histories, and of runs over wires in memory: whole runs, the objects that come back from
-//! them, a policy that a history gets, and lines that go on interval by interval; of the line of an
+//! them, and lines that go on interval by interval; of the line of an
 //! audit that names all settings which may be unrestored; and of lines of audits that are kept beside
 //! a run, or offered to a queue and written.
 //!
@@ -34,8 +34,6 @@ mod histories;
 mod laps;
 #[cfg(test)]
 mod lending;
-#[cfg(test)]
-mod policies;
 #[cfg(test)]
 mod replayed;
 #[cfg(test)]
