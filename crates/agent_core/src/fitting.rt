@@ -165,7 +165,9 @@ fn keep(stands: &mut ArrayVec<Stand, MAX_STANDS>, most: usize, stand: Stand)
     requires within { length stands.old.items ≤ most }
     ensures { stands.new.items ≡ kept most stands.old.items stand }
 {
-    if stands.len() >= most {
+    if most == 1 {
+        stands.pop();
+    } else if stands.len() >= most {
         stands.remove(0);
     }
     stands.push(stand);

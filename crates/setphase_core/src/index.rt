@@ -13,6 +13,10 @@ use rstp_core::MAX_PORTS;
 fn write_number(number: u32, into: &mut Index)
     ensures { into.new.items ≡ number ∷ [] }
 {
+    if let [only] = into.as_mut_slice() {
+        *only = number;
+        return;
+    }
     into.clear();
     into.push(number);
 }
