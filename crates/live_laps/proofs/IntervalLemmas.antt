@@ -1,13 +1,12 @@
--- One interval more, and one line more.
-use Rattle.std.proofs.Common.{◌≡◌, ℕ, ◌+◌, Bool, true, List, [], ◌∷◌, ◌++◌, refl, ap, arith}
+-- One interval more.
+use Rattle.std.proofs.Common.{ℕ, ◌+◌, Bool, true, List, [], ◌∷◌, refl, arith}
 use Rattle.wire_core.specs.Acts.{Act}
 use Rattle.live_agent.specs.Deeds.{Deed}
 use Rattle.live_control.specs.Deeds.{Deed as ControlDeed}
 use Rattle.live_agent.specs.Lines.{RunStart}
 use Rattle.live_agent.specs.declared.trace.End.{End}
-use Rattle.live_laps.specs.declared.line.Watched.{Watched}
 use Rattle.live_laps.specs.Notes.{Note}
-use Rattle.live_laps.specs.Laps.{Place, HasPassedOn, HasPassedIntervals, AllGone}
+use Rattle.live_laps.specs.Laps.{Place, HasPassedOn, HasPassedIntervals}
 
 module _ {A W T C V P : Type 0} (worker_did : A → List Deed → A → Type 0) (worker_failures : A → ℕ)
     (went : W → List Act → W → Type 0) (failures : W → ℕ)
@@ -26,15 +25,3 @@ module _ {A W T C V P : Type 0} (worker_did : A → List Deed → A → Type 0) 
       → HasPassedIntervals worker_did worker_failures went failures ticker_did ticker_failures control_did watch_went pace_went s rounds (count + 1) a c
   interval_more count a b c how so_far interval =
       record { places = b ∷ so_far.places; count_is = omega (arith, so_far.count_is); laps = (so_far.laps, how, interval) }
-
--- a line more
-pub AllGone-snoc : {N : Type 0} (gone : N → ℕ → N → ℕ → End → Type 0) (olds news : List N) (ends : List End) (a b : N) (end : End)
-    (m n made : ℕ) → AllGone gone olds news ends m n → gone a 0 b made end
-    → AllGone gone (olds ++ a ∷ []) (news ++ b ∷ []) (ends ++ end ∷ []) m (n + made)
-AllGone-snoc gone [] [] [] a b end m n made all one = (made, one, ap (λ (k : ℕ). k + made) all)
-AllGone-snoc gone (x ∷ xs) (y ∷ ys) (e ∷ es) a b end m n made all one =
-    (all.0, all.1, AllGone-snoc gone xs ys es a b end (m + all.0) n made all.2 one)
-AllGone-snoc gone [] [] (e ∷ es) a b end m n made all one = absurd all
-AllGone-snoc gone [] (y ∷ ys) es a b end m n made all one = absurd all
-AllGone-snoc gone (x ∷ xs) [] es a b end m n made all one = absurd all
-AllGone-snoc gone (x ∷ xs) (y ∷ ys) [] a b end m n made all one = absurd all

@@ -1,6 +1,6 @@
 -- Lines that go on interval by interval: what each interval is, what is between two of them, and how
 -- lines went on side by side.
-use Rattle.std.specs.Prelude.{◌≡◌, ◌⊎◌, ◌||◌, ℕ, ◌+◌, Bool, true, false, List, [], ◌∷◌, ◌++◌, length, Result, Ok, Err, Vec}
+use Rattle.std.specs.Prelude.{◌≡◌, ◌⊎◌, ◌||◌, ℕ, Bool, true, false, List, [], ◌∷◌, length, Result, Ok, Err, Vec}
 use Rattle.std.specs.declared.alloc.AllocError.{AllocError}
 use Rattle.std.specs.declared.alloc.Global.{Global}
 use Rattle.wire_core.specs.Acts.{Act, one_more}
@@ -22,6 +22,7 @@ use Rattle.live_agent.specs.declared.trace.Item.TheVariants as item
 use Rattle.live_control.specs.Lines.{HasControlled}
 use Rattle.live_control.specs.Runs.{adds as control_adds}
 use Rattle.live_control.specs.declared.item.ControlItem.{ControlItem}
+use Rattle.live_run.specs.Crews.{AllGone}
 use Rattle.live_laps.specs.Lines.{name_of}
 use Rattle.live_laps.specs.Notes.{Note, interval_worked, interval_ticked, line_failed, line_ended, worked_in}
 use Rattle.live_laps.specs.declared.line.Line.{Line}
@@ -43,20 +44,12 @@ abbrev pub HasCommanded : {C : Type 0} → (C → List ControlDeed → C → Typ
 HasCommanded control_did s rounds ports a b m n end = (items : List ControlItem)
     × HasControlled control_did control_adds (λ counts. Unit) s ports rounds a b [] items m n end
 
--- Each of these went on so, and ended so; together they made the entries between two counts.
-abbrev pub AllGone : {N : Type 0} → (N → ℕ → N → ℕ → End → Type 0) → List N → List N → List End → ℕ → ℕ
-    → Type 0
-AllGone gone [] [] [] m n = n ≡ m
-AllGone gone (a ∷ olds) (b ∷ news) (end ∷ ends) m n =
-    (made : ℕ) × gone a 0 b made end × AllGone gone olds news ends (m + made) n
-AllGone gone _ _ _ m n = ⊥
-
 -- All of these went on over the history that was handed in, and this is what became of it: a legal
 -- one, which goes on from it by as many entries as they made.
-pub record HaveGone {N : Type 0} (gone : RunStart → ℕ → N → ℕ → N → ℕ → End → Type 0) (plan : Plan)
+pub record HaveGone {N : Type 0} (gone : RunStart → ℕ → ℕ → N → ℕ → N → ℕ → End → Type 0) (plan : Plan)
     (start later : History) (olds news : List N) (ends : List End) : Type 0 where
   pub entries : ℕ
-  pub lines : AllGone (gone (run_start_of start plan) plan.rounds) olds news ends 0 entries
+  pub lines : AllGone (gone (run_start_of start plan) plan.rounds) 0 olds news ends 0 entries
   pub held : IsHeld start later entries
   pub legal : IsHistory later
 
@@ -196,9 +189,9 @@ module _ {A W T C V P : Type 0} (worker_did : A → List Deed → A → Type 0) 
     (ticker_did : T → List Deed → T → Type 0) (ticker_failures : T → ℕ)
     (control_did : C → List ControlDeed → C → Type 0)
     (watch_went : V → List Note → V → Type 0) (pace_went : P → List Bool → P → Type 0) where
-  -- A line went on so between two counts of its thread's entries.
-  abbrev pub GoneOn : RunStart → ℕ → Watched A W T C V P → ℕ → Watched A W T C V P → ℕ → End → Type 0
-  GoneOn s rounds a m b n end = HasGoneOn worker_did worker_failures went failures ticker_did
+  -- A line went on so between two counts of its thread's entries, whichever its place.
+  abbrev pub GoneOn : RunStart → ℕ → ℕ → Watched A W T C V P → ℕ → Watched A W T C V P → ℕ → End → Type 0
+  GoneOn s rounds place a m b n end = HasGoneOn worker_did worker_failures went failures ticker_did
       ticker_failures control_did watch_went pace_went s rounds (place_of a m) (place_of b n) end
 
   -- All lines went on over the history that was handed in, and this is what became of it.

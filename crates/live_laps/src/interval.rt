@@ -4,7 +4,7 @@ ghost use Rattle.live_agent.specs.Lines.{run_start_of};
 ghost use Rattle.live_agent.specs.declared.trace.Item.{Item};
 ghost use Rattle.live_agent.specs.declared.trace.End.TheVariants as end;
 ghost use Rattle.live_laps.specs.Sums.{sum_of};
-ghost use Rattle.live_laps.specs.Laps.{IsInterval, IsShort, IsNoted, IsNotedInterval, HasFailed, GoesOn, HasGoneOn, place_of};
+ghost use Rattle.live_laps.specs.Laps.{IsInterval, IsShort, IsNoted, IsNotedInterval, HasFailed, GoesOn, place_of};
 ghost use Rattle.live_laps.specs.Notes.{Note};
 
 use crate::commands::command_interval;
@@ -16,6 +16,7 @@ use live_agent::{
 };
 use live_control::ControlWire;
 use live_lock::{Live, Run, Share};
+use live_run::{LineKind, LineTask};
 use setphase_core::MibObject;
 use std::sync::Wait;
 use wire_core::{Pace, Wire};
@@ -137,41 +138,44 @@ fn goes_on<A, W, T, C, V: Watch, P: Pace>(watched: &mut Watched<A, W, T, C, V, P
     }
 }
 
-/// A line goes on interval by interval until one ends it, or 2^64 - 1 are done. Each interval is
-/// reported once to its watch; so is each fault, behind which the line waits by its pace; and so is
-/// the end. Nothing is kept of an interval but its counts.
-pub fn run_intervals<
-    O: MibObject,
-    L: Run,
-    A: GatedWire,
-    W: Wire,
-    T: PacedWire,
-    C: ControlWire,
-    V: Watch,
-    P: Pace,
-    R: Wait,
->(
-    rt: &R,
-    plan: &Plan,
-    live: &Live<O, L>,
-    share: Share<L>,
-    watched: Watched<A, W, T, C, V, P>,
-) -> (Share<L>, Watched<A, W, T, C, V, P>, End)
-    requires { 0 < share.parts }
-    ensures laps { HasGoneOn A.did A.failures W.went W.failures T.did T.failures C.did V.went P.went
-        (run_start_of L.start plan.now) plan.now.rounds (place_of watched share.amount)
-        (place_of result.1 result.0.amount) result.2 }
-    ensures parts { result.0.parts ≡ share.parts }
-{
-    let mut share = share;
-    let mut watched = watched;
-    for _ in 0..u64::MAX {
-        let end = pass(rt, plan, live, &mut share, &mut watched);
-        if !goes_on(&mut watched, end) {
-            let name = watched.line.name();
-            watched.watch.ended(name, end);
-            return (share, watched, end);
+/// Lines that go on interval by interval.
+pub struct Intervals;
+
+impl LineKind for Intervals {
+    ghost use Rattle.std.specs.Prelude.{◌^◌};
+
+    ghost limit = { 2 ^ 32 };
+}
+
+impl<A: GatedWire, W: Wire, T: PacedWire, C: ControlWire, V: Watch, P: Pace> LineTask<
+    Intervals,
+    End,
+> for Watched<A, W, T, C, V, P> {
+    ghost use Rattle.live_laps.specs.Laps.{GoneOn};
+
+    ghost gone = { GoneOn A.did A.failures W.went W.failures T.did T.failures C.did V.went P.went };
+
+    /// Goes on interval by interval until one ends it, or 2^64 - 1 are done. Each interval is reported
+    /// once to its watch; so is each fault, behind which the line waits by its pace; and so is the end.
+    /// Nothing is kept of an interval but its counts.
+    fn run_line<O: MibObject, L: Run, R: Wait>(
+        self,
+        rt: &R,
+        plan: &Plan,
+        live: &Live<O, L>,
+        _place: usize,
+        share: Share<L>,
+    ) -> (Share<L>, Self, End) {
+        let mut share = share;
+        let mut watched = self;
+        for _ in 0..u64::MAX {
+            let end = pass(rt, plan, live, &mut share, &mut watched);
+            if !goes_on(&mut watched, end) {
+                let name = watched.line.name();
+                watched.watch.ended(name, end);
+                return (share, watched, end);
+            }
         }
+        (share, watched, End::Rounds)
     }
-    (share, watched, End::Rounds)
 }

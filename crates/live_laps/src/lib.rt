@@ -35,7 +35,6 @@ mod commands;
 mod crew;
 mod interval;
 mod line;
-mod line_task;
 mod serving;
 mod sum;
 mod watch;

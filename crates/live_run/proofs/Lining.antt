@@ -1,4 +1,4 @@
--- How many entries a line made, and one line more.
+-- How many entries a line made, and lists of lines.
 use Rattle.std.proofs.Common.{◌≡◌, ◌∙◌, ℕ, ◌+◌, ◌≤◌, inl, inr, List, [], ◌∷◌, ◌++◌, length, sym, ap, subst, arith}
 use Rattle.wire_core.specs.Acts.{Act}
 use Rattle.live_agent.specs.declared.trace.End.{End}
@@ -11,7 +11,7 @@ use Rattle.live_agent.specs.Runs.{HasRun, IsBehind, AreBehind, all_items, adds}
 use Rattle.live_agent.specs.Lines.{RunStart, HasLinked, HasLinkedAndRun, HasPortRun}
 use Rattle.live_agent.proofs.Recording.{run_traced, port_traced}
 use Rattle.live_agent.proofs.Running.{entered_one, entered_in-append}
-use Rattle.live_run.specs.Crews.{AllRan, entered_by}
+use Rattle.live_run.specs.Crews.{AllGone, AllRan, RanBetween, entered_by}
 
 -- ---- the entries of a line, from a share with nothing on it
 
@@ -121,17 +121,32 @@ module _ (kept : Vec Item Global → List Item → Vec Item Global → Type 0)
       let n = port_amount went s port rounds a b t.0 amount later how t.2 in
       rw (same_trace v w trace t.0 none left t.1, so) (port_rebased went s port rounds a b t.0 amount later how t.2, n)
 
--- ---- one line more
+-- ---- lists of lines
 
-pub AllRan-snoc : {W : Type 0} (HasRan : ℕ → W → W → Ran → Type 0) (n : ℕ) (xs ys : List W) (rs : List Ran) (a b : W) (r : Ran)
-    → AllRan HasRan n xs ys rs → HasRan (n + length xs) a b r → AllRan HasRan n (xs ++ a ∷ []) (ys ++ b ∷ []) (rs ++ r ∷ [])
-AllRan-snoc HasRan n [] [] [] a b r h one =
-    let e : n + 0 ≡ n = omega arith in (subst (λ (k : ℕ). HasRan k a b r) e one, tt)
-AllRan-snoc HasRan n (x ∷ xs) (y ∷ ys) (s ∷ rs) a b r h one =
-    let e : n + length (x ∷ xs) ≡ n + 1 + length xs = omega arith in
-    (h.0, AllRan-snoc HasRan (n + 1) xs ys rs a b r h.1 (subst (λ (k : ℕ). HasRan k a b r) e one))
-AllRan-snoc HasRan n _ _ _ a b r h one = absurd h
+all_more : {N E : Type 0} (gone : ℕ → N → ℕ → N → ℕ → E → Type 0) (place : ℕ) (olds news : List N) (ends : List E) (a b : N) (end : E) (m n made : ℕ)
+    → AllGone gone place olds news ends m n → gone (place + length olds) a 0 b made end
+    → AllGone gone place (olds ++ a ∷ []) (news ++ b ∷ []) (ends ++ end ∷ []) m (n + made)
+all_more gone place [] [] [] a b end m n made all one =
+    let at : place + 0 ≡ place = omega arith in (made, subst (λ (k : ℕ). gone k a 0 b made end) at one, ap (λ (k : ℕ). k + made) all)
+all_more gone place (x ∷ xs) (y ∷ ys) (e ∷ es) a b end m n made all one =
+    let at : place + length (x ∷ xs) ≡ place + 1 + length xs = omega arith in
+    (all.0, all.1, all_more gone (place + 1) xs ys es a b end (m + all.0) n made all.2 (subst (λ (k : ℕ). gone k a 0 b made end) at one))
+all_more gone place _ _ _ a b end m n made all one = absurd all
 
-pub entered_by-snoc : (rs : List Ran) (r : Ran) → entered_by (rs ++ r ∷ []) ≡ entered_by rs + entered_in r.trace
-entered_by-snoc [] r = omega arith
-entered_by-snoc (x ∷ rs) r = omega (arith, entered_by-snoc rs r)
+-- one line more, behind all others, from a share with nothing on it
+pub line_more : {N E : Type 0} (gone : ℕ → N → ℕ → N → ℕ → E → Type 0) (olds news : List N) (ends : List E) (a b : N) (end : E) (place none m n made total : ℕ)
+    → AllGone gone 0 olds news ends m n → gone place a none b made end → place ≡ length olds → none ≡ 0 → total ≡ n + made
+    → AllGone gone 0 (olds ++ a ∷ []) (news ++ b ∷ []) (ends ++ end ∷ []) m total
+line_more gone olds news ends a b end place none m n made total all one at is_none sum =
+    let behind : place ≡ 0 + length olds = omega (arith, at) in
+    rw sum (all_more gone 0 olds news ends a b end m n made all (rw (sym behind, sym is_none) one))
+
+-- lines that ran, each by the number of its place, which is one more at the next
+pub all_ran : {W : Type 0} (HasRan : ℕ → W → W → Ran → Type 0) (number : ℕ → ℕ) → ((place : ℕ) → number (place + 1) ≡ number place + 1)
+    → (place : ℕ) (olds news : List W) (rans : List Ran) (m n : ℕ) → AllGone (λ at. RanBetween (HasRan (number at))) place olds news rans m n
+    → AllRan HasRan (number place) olds news rans × (n ≡ m + entered_by rans)
+all_ran HasRan number next place [] [] [] m n all = (tt, omega (arith, all))
+all_ran HasRan number next place (x ∷ xs) (y ∷ ys) (r ∷ rs) m n all =
+    let rest = all_ran HasRan number next (place + 1) xs ys rs (m + all.0) n all.2 in
+    ((all.1.0, subst (λ (k : ℕ). AllRan HasRan k xs ys rs) (next place) rest.0), omega (arith, rest.1, all.1.1))
+all_ran HasRan number next place _ _ _ m n all = absurd all

@@ -1,16 +1,17 @@
 //! The lines of a run, each in a thread beside the others, over one history.
 ghost use Rattle.std.specs.Prelude.{◌≡◌, ◌+◌, ◌<◌, ◌≤◌, ◌^◌, [], vec_len, vec_capacity};
-ghost use Rattle.std.specs.Thread.{IsSend, IsSync};
+ghost use Rattle.std.specs.Thread.{IsSync};
 ghost use Rattle.history_core.specs.History.{IsHistory};
 ghost use Rattle.live_lock.specs.Sharing.{IsHeld};
 ghost use Rattle.live_agent.specs.Lines.{run_start_of};
 ghost use Rattle.live_agent.specs.Turns.{entered_in};
 ghost use Rattle.live_run.specs.Shared.{MayShare};
-ghost use Rattle.live_run.specs.Crews.{WorkerRan, PortRan, TickerRan, AllRan, CrewRan, entered_by, entered_of};
+ghost use Rattle.live_run.specs.Crews.{WorkerRan, PortRan, TickerRan, RanBetween, AllRan, CrewRan, MayBegin, HaveRun, entered_by, entered_of};
 
+use crate::line_task::{LineKind, LineTask, Ports, Tickers, Workers};
 use crate::lines::{Lines, Runs};
 use history_core::Kept;
-use live_agent::{GatedWire, PacedWire, Plan, Ran, port_run, ticker_run, worker_run};
+use live_agent::{GatedWire, PacedWire, Plan, Ran};
 use live_lock::{Live, Run, Share};
 use rising::Blank;
 use setphase_core::MibObject;
@@ -19,197 +20,54 @@ use std::sync::{Wait, ledger};
 use std::thread::{Threads, join};
 use wire_core::Wire;
 
-// One worker, which owns its share and its wire while it runs.
-fn work<O: MibObject, L: Run, A: GatedWire, R: Wait>(
-    rt: &R,
-    plan: &Plan,
-    live: &Live<O, L>,
-    worker: usize,
-    share: Share<L>,
-    wire: A,
-) -> (Share<L>, A, Ran)
-    requires { 0 < share.parts }
-    ensures ran { WorkerRan A.did A.failures (run_start_of L.start plan.now) plan.now.rounds worker
-        wire result.1 result.2 }
-    ensures amount { result.0.amount ≡ share.amount + entered_in result.2.trace }
-    ensures parts { result.0.parts ≡ share.parts }
-{
-    let mut share = share;
-    let mut wire = wire;
-    let items = Vec::new(plan.alloc);
-    let (end, items) = worker_run(rt, plan, live, &mut share, &mut wire, worker, items);
-    (share, wire, Ran::new(end, items))
-}
-
-// The same of a port.
-fn pass<O: MibObject, L: Run, W: Wire, R: Wait>(
-    rt: &R,
-    plan: &Plan,
-    live: &Live<O, L>,
-    port: u16,
-    share: Share<L>,
-    wire: W,
-) -> (Share<L>, W, Ran)
-    requires { 0 < share.parts }
-    ensures ran { PortRan W.went W.failures (run_start_of L.start plan.now) plan.now.rounds port wire
-        result.1 result.2 }
-    ensures amount { result.0.amount ≡ share.amount + entered_in result.2.trace }
-    ensures parts { result.0.parts ≡ share.parts }
-{
-    let mut share = share;
-    let mut wire = wire;
-    let items = Vec::new(plan.alloc);
-    let (end, items) = port_run(rt, plan, live, &mut share, &mut wire, port, items);
-    (share, wire, Ran::new(end, items))
-}
-
-// The same of the ticker.
-fn tick<O: MibObject, L: Run, T: PacedWire, R: Wait>(
-    rt: &R,
-    plan: &Plan,
-    live: &Live<O, L>,
-    share: Share<L>,
-    wire: T,
-) -> (Share<L>, T, Ran)
-    requires { 0 < share.parts }
-    ensures ran { TickerRan T.did T.failures (run_start_of L.start plan.now) plan.now.rounds wire
-        result.1 result.2 }
-    ensures amount { result.0.amount ≡ share.amount + entered_in result.2.trace }
-    ensures parts { result.0.parts ≡ share.parts }
-{
-    let mut share = share;
-    let mut wire = wire;
-    let items = Vec::new(plan.alloc);
-    let (end, items) = ticker_run(rt, plan, live, &mut share, &mut wire, items);
-    (share, wire, Ran::new(end, items))
-}
-
-// A worker for each wire, each in a thread beside the others. Gives back the share, the wires, and how
-// each ran, in their order.
-fn run_workers<
+/// Lines of a kind, each in a thread beside the others. Gives back the share, the lines, and how each
+/// ended, in their order.
+pub fn run_lines<
     O: MibObject + Send,
     L: Run + Send + Sync,
-    A: GatedWire + Send,
+    K: LineKind,
+    N: LineTask<K, E> + Send,
+    E: Send + Drop,
     R: Threads + Wait + Sync,
 >(
     rt: &R,
     plan: &Plan,
     live: &Live<O, L>,
-    share: Share<L>,
-    wires: Vec<A>,
-    runs: Vec<Ran>,
-) -> (Share<L>, Vec<A>, Vec<Ran>)
+    mut share: Share<L>,
+    mut lines: Vec<N>,
+    ends: Vec<E>,
+) -> (Share<L>, Vec<N>, Vec<E>)
     requires shared { MayShare O.row L.row O.MibObject L.start L.base_rise L.name L.parts L.rise }
-    requires parts { vec_len wires < share.parts }
-    requires empty { runs.items ≡ [] }
-    requires space { vec_len wires ≤ vec_capacity runs }
-    ensures ran { AllRan (WorkerRan A.did A.failures (run_start_of L.start plan.now)
-        plan.now.rounds) 0 wires.items result.1.items result.2.items }
-    ensures amount { result.0.amount ≡ share.amount + entered_by result.2.items }
-    ensures parts { result.0.parts ≡ share.parts }
-    ensures lens { (vec_len result.1 ≡ vec_len wires) × (vec_len result.2 ≡ vec_len wires) }
-    ensures wires { vec_capacity result.1 ≡ vec_capacity wires }
-    ensures runs { vec_capacity result.2 ≡ vec_capacity runs }
+    requires parts { vec_len lines < share.parts }
+    requires begin { MayBegin K.limit lines ends }
+    ensures { HaveRun (N.gone (run_start_of L.start plan.now) plan.now.rounds) lines ends share result }
 {
-    let mut share = share;
-    let mut wires = wires;
-    let Some(wire) = wires.pop() else {
-        return (share, wires, runs);
+    let Some(line) = lines.pop() else {
+        return (share, lines, ends);
     };
     let mine = share.split_off(1);
-    let worker = wires.len();
+    let place = lines.len();
     let (one, others) = join(
         rt,
-        move || -> (Share<L>, A, Ran)
-            requires { 0 < mine.parts }
-            ensures ran { WorkerRan A.did A.failures (run_start_of L.start plan.entry.now)
-                plan.entry.now.rounds worker wire result.1 result.2 }
-            ensures amount { result.0.amount ≡ mine.amount + entered_in result.2.trace }
+        move || -> (Share<L>, N, E)
+            requires { (place + 1 < K.limit) × (0 < mine.parts) }
+            ensures gone { N.gone (run_start_of L.start plan.entry.now) plan.entry.now.rounds place line mine.amount
+                result.1 result.0.amount result.2 }
             ensures parts { result.0.parts ≡ mine.parts }
-        { work(rt, plan, live, worker, mine, wire) },
-        move || -> (Share<L>, Vec<A>, Vec<Ran>)
+        { line.run_line(rt, plan, live, place, mine) },
+        move || -> (Share<L>, Vec<N>, Vec<E>)
             requires { IsSync R.row × MayShare O.row L.row O.MibObject L.start L.base_rise L.name L.parts L.rise
-                × (vec_len wires < share.parts)
-                × (runs.items ≡ []) × (vec_len wires ≤ vec_capacity runs) }
-            ensures ran { AllRan (WorkerRan A.did A.failures
-                (run_start_of L.start plan.entry.now) plan.entry.now.rounds) 0 wires.items
-                result.1.items result.2.items }
-            ensures amount { result.0.amount ≡ share.amount + entered_by result.2.items }
-            ensures parts { result.0.parts ≡ share.parts }
-            ensures lens { (vec_len result.1 ≡ vec_len wires)
-                × (vec_len result.2 ≡ vec_len wires) }
-            ensures wires { vec_capacity result.1 ≡ vec_capacity wires }
-            ensures runs { vec_capacity result.2 ≡ vec_capacity runs }
-        { run_workers(rt, plan, live, share, wires, runs) },
+                × (vec_len lines < share.parts) × MayBegin K.limit lines ends }
+            ensures { HaveRun (N.gone (run_start_of L.start plan.entry.now) plan.entry.now.rounds) lines ends share
+                result }
+        { run_lines::<O, L, K, N, E, R>(rt, plan, live, share, lines, ends) },
     );
-    let (mine, wire, ran) = one;
-    let (mut share, mut wires, mut runs) = others;
+    let (mine, line, end) = one;
+    let (mut share, mut lines, mut ends) = others;
     share.merge(mine);
-    wires.push_reserved(wire);
-    runs.push_reserved(ran);
-    (share, wires, runs)
-}
-
-// The same of the ports, from port 1 on.
-fn run_ports<O: MibObject + Send, L: Run + Send + Sync, W: Wire + Send, R: Threads + Wait + Sync>(
-    rt: &R,
-    plan: &Plan,
-    live: &Live<O, L>,
-    share: Share<L>,
-    wires: Vec<W>,
-    runs: Vec<Ran>,
-) -> (Share<L>, Vec<W>, Vec<Ran>)
-    requires shared { MayShare O.row L.row O.MibObject L.start L.base_rise L.name L.parts L.rise }
-    requires parts { vec_len wires < share.parts }
-    requires few { vec_len wires < 2 ^ 16 }
-    requires empty { runs.items ≡ [] }
-    requires space { vec_len wires ≤ vec_capacity runs }
-    ensures ran { AllRan (PortRan W.went W.failures (run_start_of L.start plan.now)
-        plan.now.rounds) 1 wires.items result.1.items result.2.items }
-    ensures amount { result.0.amount ≡ share.amount + entered_by result.2.items }
-    ensures parts { result.0.parts ≡ share.parts }
-    ensures lens { (vec_len result.1 ≡ vec_len wires) × (vec_len result.2 ≡ vec_len wires) }
-    ensures wires { vec_capacity result.1 ≡ vec_capacity wires }
-    ensures runs { vec_capacity result.2 ≡ vec_capacity runs }
-{
-    let mut share = share;
-    let mut wires = wires;
-    let Some(wire) = wires.pop() else {
-        return (share, wires, runs);
-    };
-    let mine = share.split_off(1);
-    let port = wires.len() as u16 + 1;
-    let (one, others) = join(
-        rt,
-        move || -> (Share<L>, W, Ran)
-            requires { 0 < mine.parts }
-            ensures ran { PortRan W.went W.failures (run_start_of L.start plan.entry.now)
-                plan.entry.now.rounds port wire result.1 result.2 }
-            ensures amount { result.0.amount ≡ mine.amount + entered_in result.2.trace }
-            ensures parts { result.0.parts ≡ mine.parts }
-        { pass(rt, plan, live, port, mine, wire) },
-        move || -> (Share<L>, Vec<W>, Vec<Ran>)
-            requires { IsSync R.row × MayShare O.row L.row O.MibObject L.start L.base_rise L.name L.parts L.rise
-                × (vec_len wires < share.parts)
-                × (vec_len wires < 2 ^ 16) × (runs.items ≡ [])
-                × (vec_len wires ≤ vec_capacity runs) }
-            ensures ran { AllRan (PortRan W.went W.failures
-                (run_start_of L.start plan.entry.now) plan.entry.now.rounds) 1 wires.items
-                result.1.items result.2.items }
-            ensures amount { result.0.amount ≡ share.amount + entered_by result.2.items }
-            ensures parts { result.0.parts ≡ share.parts }
-            ensures lens { (vec_len result.1 ≡ vec_len wires)
-                × (vec_len result.2 ≡ vec_len wires) }
-            ensures wires { vec_capacity result.1 ≡ vec_capacity wires }
-            ensures runs { vec_capacity result.2 ≡ vec_capacity runs }
-        { run_ports(rt, plan, live, share, wires, runs) },
-    );
-    let (mine, wire, ran) = one;
-    let (mut share, mut wires, mut runs) = others;
-    share.merge(mine);
-    wires.push_reserved(wire);
-    runs.push_reserved(ran);
-    (share, wires, runs)
+    lines.push_reserved(line);
+    ends.push_reserved(end);
+    (share, lines, ends)
 }
 
 // The ports, beside the ticker.
@@ -223,85 +81,41 @@ fn run_bridge<
     rt: &R,
     plan: &Plan,
     live: &Live<O, L>,
-    share: Share<L>,
+    mut share: Share<L>,
     ports: Vec<W>,
     ticker: T,
     runs: Vec<Ran>,
 ) -> (Share<L>, Vec<W>, Vec<Ran>, T, Ran)
     requires shared { MayShare O.row L.row O.MibObject L.start L.base_rise L.name L.parts L.rise }
     requires parts { vec_len ports + 1 < share.parts }
-    requires few { vec_len ports < 2 ^ 16 }
-    requires empty { runs.items ≡ [] }
-    requires space { vec_len ports ≤ vec_capacity runs }
-    ensures ports { AllRan (PortRan W.went W.failures (run_start_of L.start plan.now)
-        plan.now.rounds) 1 ports.items result.1.items result.2.items }
-    ensures ticker { TickerRan T.did T.failures (run_start_of L.start plan.now) plan.now.rounds
-        ticker result.3 result.4 }
-    ensures amount { result.0.amount
-        ≡ share.amount + (entered_by result.2.items + entered_in result.4.trace) }
+    requires begin { MayBegin (2 ^ 16) ports runs }
+    ensures ports { AllRan (PortRan W.went W.failures (run_start_of L.start plan.now) plan.now.rounds) 1
+        ports.items result.1.items result.2.items }
+    ensures ticker { TickerRan T.did T.failures (run_start_of L.start plan.now) plan.now.rounds ticker
+        result.3 result.4 }
+    ensures amount { result.0.amount ≡ share.amount + (entered_by result.2.items + entered_in result.4.trace) }
     ensures parts { result.0.parts ≡ share.parts }
 {
-    let mut share = share;
     let theirs = share.split_off(ports.len() as u64 + 1);
     let (passed, ticked) = join(
         rt,
         move || -> (Share<L>, Vec<W>, Vec<Ran>)
             requires { IsSync R.row × MayShare O.row L.row O.MibObject L.start L.base_rise L.name L.parts L.rise
-                × (vec_len ports < theirs.parts)
-                × (vec_len ports < 2 ^ 16) × (runs.items ≡ [])
-                × (vec_len ports ≤ vec_capacity runs) }
-            ensures ran { AllRan (PortRan W.went W.failures
-                (run_start_of L.start plan.entry.now) plan.entry.now.rounds) 1 ports.items
-                result.1.items result.2.items }
-            ensures amount { result.0.amount ≡ theirs.amount + entered_by result.2.items }
-            ensures parts { result.0.parts ≡ theirs.parts }
-        { run_ports(rt, plan, live, theirs, ports, runs) },
+                × (vec_len ports < theirs.parts) × MayBegin (2 ^ 16) ports runs }
+            ensures { HaveRun (λ place. RanBetween (PortRan W.went W.failures
+                (run_start_of L.start plan.entry.now) plan.entry.now.rounds (place + 1))) ports runs theirs result }
+        { run_lines::<O, L, Ports, W, Ran, R>(rt, plan, live, theirs, ports, runs) },
         move || -> (Share<L>, T, Ran)
             requires { 0 < share.parts }
-            ensures ran { TickerRan T.did T.failures (run_start_of L.start plan.entry.now)
-                plan.entry.now.rounds ticker result.1 result.2 }
-            ensures amount { result.0.amount ≡ share.amount + entered_in result.2.trace }
+            ensures ran { RanBetween (TickerRan T.did T.failures (run_start_of L.start plan.entry.now)
+                plan.entry.now.rounds) ticker share.amount result.1 result.0.amount result.2 }
             ensures parts { result.0.parts ≡ share.parts }
-        { tick(rt, plan, live, share, ticker) },
+        { <T as LineTask<Tickers, Ran>>::run_line(ticker, rt, plan, live, 0, share) },
     );
     let (theirs, ports, runs) = passed;
     let (mut share, ticker, ran) = ticked;
     share.merge(theirs);
     (share, ports, runs, ticker, ran)
-}
-
-// What the workers left, and what the ports and the ticker left, as what all lines left.
-fn gathered<L: Run, A, W, T>(
-    worked: (Share<L>, Vec<A>, Vec<Ran>),
-    bridged: (Share<L>, Vec<W>, Vec<Ran>, T, Ran),
-) -> (Share<L>, Lines<A, W, T>, Runs)
-    ensures amount { result.0.amount ≡ bridged.0.amount + worked.0.amount }
-    ensures parts { result.0.parts ≡ bridged.0.parts + worked.0.parts }
-    ensures lines { result.1 ≡ record {
-      workers = worked.1;
-      ports = bridged.1;
-      ticker = bridged.3;
-    } }
-    ensures runs { result.2 ≡ record {
-      workers = worked.2;
-      ports = bridged.2;
-      ticker = bridged.4;
-    } }
-{
-    let (theirs, workers, worker_runs) = worked;
-    let (mut share, ports, port_runs, ticker, ran) = bridged;
-    share.merge(theirs);
-    let lines = Lines {
-        workers,
-        ports,
-        ticker,
-    };
-    let runs = Runs {
-        workers: worker_runs,
-        ports: port_runs,
-        ticker: ran,
-    };
-    (share, lines, runs)
 }
 
 // All lines: the workers beside the ports beside the ticker.
@@ -316,17 +130,15 @@ fn run_crew<
     rt: &R,
     plan: &Plan,
     live: &Live<O, L>,
-    share: Share<L>,
+    mut share: Share<L>,
     lines: Lines<A, W, T>,
     worker_runs: Vec<Ran>,
     port_runs: Vec<Ran>,
 ) -> (Share<L>, Lines<A, W, T>, Runs)
     requires shared { MayShare O.row L.row O.MibObject L.start L.base_rise L.name L.parts L.rise }
     requires parts { vec_len lines.workers + vec_len lines.ports + 2 < share.parts }
-    requires few { (vec_len lines.workers < 2 ^ 16) × (vec_len lines.ports < 2 ^ 16) }
-    requires empty { (worker_runs.items ≡ []) × (port_runs.items ≡ []) }
-    requires space { (vec_len lines.workers ≤ vec_capacity worker_runs)
-        × (vec_len lines.ports ≤ vec_capacity port_runs) }
+    requires workers { MayBegin (2 ^ 16) lines.workers worker_runs }
+    requires ports { MayBegin (2 ^ 16) lines.ports port_runs }
     ensures crew { CrewRan A.did A.failures W.went W.failures T.did T.failures
         (run_start_of L.start plan.now) plan.now.rounds lines result.1 result.2 }
     ensures amount { result.0.amount ≡ share.amount + entered_of result.2 }
@@ -337,37 +149,40 @@ fn run_crew<
         ports,
         ticker,
     } = lines;
-    let mut share = share;
     let theirs = share.split_off(workers.len() as u64 + 1);
     let (worked, bridged) = join(
         rt,
         move || -> (Share<L>, Vec<A>, Vec<Ran>)
             requires { IsSync R.row × MayShare O.row L.row O.MibObject L.start L.base_rise L.name L.parts L.rise
-                × (vec_len workers < theirs.parts) × (worker_runs.items ≡ [])
-                × (vec_len workers ≤ vec_capacity worker_runs) }
-            ensures ran { AllRan (WorkerRan A.did A.failures
-                (run_start_of L.start plan.entry.now) plan.entry.now.rounds) 0 workers.items
-                result.1.items result.2.items }
-            ensures amount { result.0.amount ≡ theirs.amount + entered_by result.2.items }
-            ensures parts { result.0.parts ≡ theirs.parts }
-        { run_workers(rt, plan, live, theirs, workers, worker_runs) },
+                × (vec_len workers < theirs.parts) × MayBegin (2 ^ 16) workers worker_runs }
+            ensures { HaveRun (λ place. RanBetween (WorkerRan A.did A.failures
+                (run_start_of L.start plan.entry.now) plan.entry.now.rounds place)) workers worker_runs theirs result }
+        { run_lines::<O, L, Workers, A, Ran, R>(rt, plan, live, theirs, workers, worker_runs) },
         move || -> (Share<L>, Vec<W>, Vec<Ran>, T, Ran)
             requires { IsSync R.row × MayShare O.row L.row O.MibObject L.start L.base_rise L.name L.parts L.rise
-                × (vec_len ports + 1 < share.parts)
-                × (vec_len ports < 2 ^ 16) × (port_runs.items ≡ [])
-                × (vec_len ports ≤ vec_capacity port_runs) }
-            ensures ports { AllRan (PortRan W.went W.failures
-                (run_start_of L.start plan.entry.now) plan.entry.now.rounds) 1 ports.items
-                result.1.items result.2.items }
-            ensures ticker { TickerRan T.did T.failures
-                (run_start_of L.start plan.entry.now) plan.entry.now.rounds ticker result.3
-                result.4 }
-            ensures amount { result.0.amount
-                ≡ share.amount + (entered_by result.2.items + entered_in result.4.trace) }
+                × (vec_len ports + 1 < share.parts) × MayBegin (2 ^ 16) ports port_runs }
+            ensures ports { AllRan (PortRan W.went W.failures (run_start_of L.start plan.entry.now)
+                plan.entry.now.rounds) 1 ports.items result.1.items result.2.items }
+            ensures ticker { TickerRan T.did T.failures (run_start_of L.start plan.entry.now)
+                plan.entry.now.rounds ticker result.3 result.4 }
+            ensures amount { result.0.amount ≡ share.amount + (entered_by result.2.items + entered_in result.4.trace) }
             ensures parts { result.0.parts ≡ share.parts }
         { run_bridge(rt, plan, live, share, ports, ticker, port_runs) },
     );
-    gathered(worked, bridged)
+    let (theirs, workers, worker_runs) = worked;
+    let (mut share, ports, port_runs, ticker, ran) = bridged;
+    share.merge(theirs);
+    let lines = Lines {
+        workers,
+        ports,
+        ticker,
+    };
+    let runs = Runs {
+        workers: worker_runs,
+        ports: port_runs,
+        ticker: ran,
+    };
+    (share, lines, runs)
 }
 
 // A history under a lock, the lines over it, and the history again.
@@ -395,10 +210,8 @@ fn run_over<
     requires moved { moved.name ≡ L.base_rise }
     requires start { kept ≡ L.start }
     requires parts { vec_len lines.workers + vec_len lines.ports + 2 < blank.parts }
-    requires few { (vec_len lines.workers < 2 ^ 16) × (vec_len lines.ports < 2 ^ 16) }
-    requires empty { (worker_runs.items ≡ []) × (port_runs.items ≡ []) }
-    requires space { (vec_len lines.workers ≤ vec_capacity worker_runs)
-        × (vec_len lines.ports ≤ vec_capacity port_runs) }
+    requires workers { MayBegin (2 ^ 16) lines.workers worker_runs }
+    requires ports { MayBegin (2 ^ 16) lines.ports port_runs }
     ensures crew { CrewRan A.did A.failures W.went W.failures T.did T.failures
         (run_start_of L.start plan.now) plan.now.rounds lines result.1 result.2 }
     ensures held { IsHeld L.start result.0 (entered_of result.2) }

@@ -1,12 +1,12 @@
-use Rattle.std.proofs.Common.{◌≡◌, ◌∙◌, Bool, true, false, List, [], ◌∷◌, refl, sym, subst, inl}
+use Rattle.std.proofs.Common.{◌≡◌, ◌∙◌, true, false, [], ◌∷◌, refl, subst, inl}
 use Rattle.live_agent.specs.Lines.{run_start_of}
 use Rattle.live_laps.specs.Laps.{GoesOn, place_of}
 use Rattle.live_laps.specs.Notes.{line_ended}
 use Rattle.live_laps.proofs.IntervalLemmas.{interval_more}
-use Rattle.live_laps.proofs.interval.run_intervals.Goals as goal
+use Rattle.live_laps.proofs.interval.WatchedLineTaskIntervalsEnd.run_line.Goals as goal
 
-pub returns-then-not-goes_on-clause-laps : goal.returns-then-not-goes_on-clause-laps
-returns-then-not-goes_on-clause-laps g c =
+pub returns-then-not-goes_on-clause-gone : goal.returns-then-not-goes_on-clause-gone
+returns-then-not-goes_on-clause-gone g c =
     let over : c.goes_on.result ≡ false = c.if-not-goes_on.true in
     inl (record {
       count = c.loop.counter;

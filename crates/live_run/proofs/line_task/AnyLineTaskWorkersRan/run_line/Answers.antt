@@ -1,0 +1,9 @@
+use Rattle.std.proofs.Common.{◌≡◌, ◌++◌}
+use Rattle.live_agent.specs.Lines.{worker_deeds}
+use Rattle.live_run.proofs.Lining.{line_ran}
+use Rattle.live_run.proofs.line_task.AnyLineTaskWorkersRan.run_line.Goals as goal
+
+pub returns-clause-gone : goal.returns-clause-gone
+returns-clause-gone g c =
+    let ran = line_ran (λ a items b. b.items ≡ a.items ++ items) (λ a b items h. h) g.A.GatedWire.did (worker_deeds c.args.place) _ _ _ _ _ _ _ _ _ _ _ c.new-items.ensures.items c.new.ensures.trace c.new.ensures.end c.worker_run-end.ensures.run in
+    (record { run = ran.0; failed = rw c.new.ensures.end c.worker_run-end.ensures.failures }, ran.1)
