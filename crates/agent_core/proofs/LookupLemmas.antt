@@ -1,4 +1,4 @@
--- Looks so far, and those for one successor more.
+-- Lookups so far, and those for one successor more.
 use Rattle.std.proofs.Common.{◌≡◌, ◌≤◌, ◌+◌, ◌*◌, ℕ, Bool, true, false, cond, not, List, [], ◌∷◌, ◌++◌, ◌∙◌, length, length-append, filter, ap, sym, subst, refl, arith, All, Option, Some}
 use Rattle.std.proofs.Math.Nat.{add-mul, mul-le-mul_right}
 use Rattle.std.proofs.lemmas.List.Sums.{sum_by-cons}
