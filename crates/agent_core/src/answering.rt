@@ -121,7 +121,10 @@ fn answer_read<O: MibObject>(
     ensures err { OnErr result (buffer.new ≡ buffer.old) }
 {
     let denied = denied_bindings(alloc, world.policy.vacm(), &view, request)?;
-    let read = send_read(alloc, registry, world, &view, request, &denied, buffer)?;
+    let blank = Blank::new(1);
+    let read = send_read::<O, Brand>(
+        alloc, registry, world, &view, request, &denied, buffer, blank,
+    )?;
     let decision = Decision::Allowed { row, view };
     Ok(match read.unnamed {
         None => reply_with(request, decision, denied, read.sent),
@@ -252,8 +255,8 @@ pub fn short_reply(request: &Request, buffer: &mut Buffer) -> usize
 
 // Puts the reply to a request that is allowed in a view, and of which these bindings are denied, into
 // the buffer. A Get of which none is denied is answered as where every name is seen: so no name is
-// searched in the view again.
-fn send_read<O: MibObject>(
+// searched in the view again. Its steps are counted in the ledger of a blank, and by no clause here.
+fn send_read<O: MibObject, L: Ledger>(
     alloc: Global,
     registry: &Registry<O>,
     world: &World,
@@ -261,44 +264,16 @@ fn send_read<O: MibObject>(
     request: &Request,
     denied: &DeniedBindings,
     buffer: &mut Buffer,
+    blank: Blank,
 ) -> Result<ReadReply, AllocError>
     requires community { length request.now.community ≤ MAX_COMMUNITY }
     requires encodable { AreEncodable request.now.bindings }
     requires reads { request.now.kind ≢ Kind.Set }
     requires denied { denied.now ≡
         denied_in world.now.policy.vacm.families view.now request.now request.now.kind }
-    ensures sent { IfOk result (λ read. IsSentRead (kind_reply (prefixes_of (rows_of registry.now))
-        (in_view world.now.policy.vacm.families view.now)
-        (instances (rows_of registry.now) world.now) request.now request.now.kind) request.now
-        (LacksNameOf (in_view world.now.policy.vacm.families view.now)
-        (instances (rows_of registry.now) world.now) request.now request.now.kind)
-        read buffer.new.reply) }
-    ensures bpdus { buffer.new.bpdus ≡ buffer.old.bpdus }
-    ensures err { OnErr result (buffer.new ≡ buffer.old) }
-{
-    if request.kind == Kind::Get && denied.is_empty() {
-        return send_undenied::<O, Brand>(alloc, registry, world, request, buffer, Blank::new(1));
-    }
-    send_served::<O, Brand>(alloc, registry, world, view, request, buffer, Blank::new(1))
-}
-
-// Puts the reply to a request that is allowed in a view into the buffer. Its steps are counted in the
-// ledger of a blank, and by no clause here.
-fn send_served<O: MibObject, L: Ledger>(
-    alloc: Global,
-    registry: &Registry<O>,
-    world: &World,
-    view: &Name,
-    request: &Request,
-    buffer: &mut Buffer,
-    blank: Blank,
-) -> Result<ReadReply, AllocError>
-    requires community { length request.now.community ≤ MAX_COMMUNITY }
-    requires encodable { AreEncodable request.now.bindings }
     requires name { blank.name ≡ L.name }
     requires parts { blank.parts ≡ L.parts }
     requires some { 0 < blank.parts }
-    requires reads { request.now.kind ≢ Kind.Set }
     ensures sent { IfOk result (λ read. IsSentRead (kind_reply (prefixes_of (rows_of registry.now))
         (in_view world.now.policy.vacm.families view.now)
         (instances (rows_of registry.now) world.now) request.now request.now.kind) request.now
@@ -309,42 +284,18 @@ fn send_served<O: MibObject, L: Ledger>(
     ensures err { OnErr result (buffer.new ≡ buffer.old) }
 {
     let mut steps: Steps<L> = Steps::new(blank);
+    if request.kind == Kind::Get && denied.is_empty() {
+        let whole = Whole { registry, world };
+        return send_kind(alloc, &whole, request, buffer, &mut steps);
+    }
     let vacm = world.policy.vacm();
-    let source = Served {
+    let served = Served {
         registry,
         world,
         vacm,
         view,
     };
-    send_kind(alloc, &source, request, buffer, &mut steps)
-}
-
-// Puts the reply to a request where every name is seen into the buffer. It is for a Get, which asks
-// for no successor: nothing is counted in the ledger of the blank.
-fn send_undenied<O: MibObject, L: Ledger>(
-    alloc: Global,
-    registry: &Registry<O>,
-    world: &World,
-    request: &Request,
-    buffer: &mut Buffer,
-    blank: Blank,
-) -> Result<ReadReply, AllocError>
-    requires community { length request.now.community ≤ MAX_COMMUNITY }
-    requires encodable { AreEncodable request.now.bindings }
-    requires name { blank.name ≡ L.name }
-    requires parts { blank.parts ≡ L.parts }
-    requires some { 0 < blank.parts }
-    requires reads { request.now.kind ≢ Kind.Set }
-    ensures sent { IfOk result (λ read. IsSentRead (kind_reply (prefixes_of (rows_of registry.now))
-        (λ name. true) (instances (rows_of registry.now) world.now) request.now request.now.kind)
-        request.now (LacksNameOf (λ name. true) (instances (rows_of registry.now) world.now)
-        request.now request.now.kind) read buffer.new.reply) }
-    ensures bpdus { buffer.new.bpdus ≡ buffer.old.bpdus }
-    ensures err { OnErr result (buffer.new ≡ buffer.old) }
-{
-    let mut steps: Steps<L> = Steps::new(blank);
-    let source = Whole { registry, world };
-    send_kind(alloc, &source, request, buffer, &mut steps)
+    send_kind(alloc, &served, request, buffer, &mut steps)
 }
 
 // The answers to a request, by its kind, from any source and under any view.

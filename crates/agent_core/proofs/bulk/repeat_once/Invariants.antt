@@ -7,10 +7,10 @@ use Rattle.agent_core.proofs.bulk.repeat_once.Given as goal
 
 abbrev pub invariant-loop-binding : goal.invariant-loop-binding
 invariant-loop-binding g l = record {
-  whole : l.fitting.bindings ≡ l.fn.fitting.bindings ++ next_answers (visible (g.S.View.shows l.source) (g.S.Successors.instances l.source)) (take l.binding-index (names_of l.asked));
-  stands : AreStands (g.S.Successors.stands l.source) l.fitting.stands (names_of l.fitting.bindings);
+  whole : l.fitting.bindings ≡ l.fn.fitting.bindings ++ next_answers (visible (g.S.View.shows l.lookup.source.now) (g.S.Successors.instances l.lookup.source.now)) (take l.binding-index (names_of l.asked));
+  stands : AreStands (g.S.Successors.stands l.lookup.source.now) l.fitting.stands (names_of l.fitting.bindings);
   space : l.fitting.space ≡ l.fn.fitting.space;
   work :
-      let most = most_lookups (g.S.View.shows l.source) (g.S.Successors.instances l.source) in
+      let most = most_lookups (g.S.View.shows l.lookup.source.now) (g.S.Successors.instances l.lookup.source.now) in
       l.steps + length l.fn.fitting.bindings * most ≤ l.fn.steps + length l.fitting.bindings * most;
 }
