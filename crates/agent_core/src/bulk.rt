@@ -100,7 +100,8 @@ fn send_next<S: Successors<L>, L: Ledger>(
     spot: &mut Spot,
     steps: &mut Steps<L>,
 ) -> Result<bool, AllocError>
-    requires stands { AreStands (S.stands lookup.now.source.now) fitting.old.stands (names_of fitting.old.bindings) }
+    requires stands { AreStands (S.stands lookup.now.source.now) fitting.old.stands
+        (names_of fitting.old.bindings) }
     requires root { HasRoot name.now }
     ensures taken { IfOk result (λ taken. IsTrue taken →
         fitting.new.bindings ≡ fitting.old.bindings ++ next_answer (visible (S.shows lookup.now.source.now)
@@ -109,12 +110,14 @@ fn send_next<S: Successors<L>, L: Ledger>(
     ensures fits { IfOk result (λ taken.
         taken ≡ fit_into fitting.old.space (fitting.old.bindings ++ next_answer
         (visible (S.shows lookup.now.source.now) (S.instances lookup.now.source.now)) name.now ∷ [])) }
-    ensures stands { AreStands (S.stands lookup.now.source.now) fitting.new.stands (names_of fitting.new.bindings) }
+    ensures stands { AreStands (S.stands lookup.now.source.now) fitting.new.stands
+        (names_of fitting.new.bindings) }
     ensures space { fitting.new.space ≡ fitting.old.space }
     ensures err { OnErr result (fitting.new.bindings ≡ fitting.old.bindings) }
     ensures lacks { OnErr result
         (LacksName (S.shows lookup.now.source.now) (S.instances lookup.now.source.now) name.now) }
-    ensures work { steps.new ≤ steps.old + most_lookups (S.shows lookup.now.source.now) (S.instances lookup.now.source.now) }
+    ensures work { steps.new ≤ steps.old + most_lookups (S.shows lookup.now.source.now)
+        (S.instances lookup.now.source.now) }
 {
     let Lookup { alloc, source } = *lookup;
     let mut stand = stand_at(source, fitting, name);
@@ -134,24 +137,30 @@ fn repeat_once<S: Successors<L>, L: Ledger>(
     spot: &mut Spot,
     steps: &mut Steps<L>,
 ) -> Result<bool, AllocError>
-    requires stands { AreStands (S.stands lookup.now.source.now) fitting.old.stands (names_of fitting.old.bindings) }
+    requires stands { AreStands (S.stands lookup.now.source.now) fitting.old.stands
+        (names_of fitting.old.bindings) }
     requires encodable { AreEncodable asked.now }
     ensures whole { IfOk result (λ whole. IsTrue whole →
         fitting.new.bindings ≡ fitting.old.bindings ++ next_answers
         (visible (S.shows lookup.now.source.now) (S.instances lookup.now.source.now)) (names_of asked.now)) }
     ensures cut { IfOk result (λ whole. whole ≡ false → (more : List Binding) →
         IsFilled fitting.new.space (fitting.old.bindings ++ (next_answers
-        (visible (S.shows lookup.now.source.now) (S.instances lookup.now.source.now)) (names_of asked.now) ++ more))
+        (visible (S.shows lookup.now.source.now) (S.instances lookup.now.source.now))
+        (names_of asked.now) ++ more))
         fitting.new.bindings) }
-    ensures stands { AreStands (S.stands lookup.now.source.now) fitting.new.stands (names_of fitting.new.bindings) }
+    ensures stands { AreStands (S.stands lookup.now.source.now) fitting.new.stands
+        (names_of fitting.new.bindings) }
     ensures space { fitting.new.space ≡ fitting.old.space }
-    ensures work { let most = most_lookups (S.shows lookup.now.source.now) (S.instances lookup.now.source.now) in
+    ensures work { let most = most_lookups (S.shows lookup.now.source.now)
+        (S.instances lookup.now.source.now) in
         steps.new + length fitting.old.bindings * most
         ≤ steps.old + (length fitting.new.bindings + 1) * most }
-    ensures whole_work { let most = most_lookups (S.shows lookup.now.source.now) (S.instances lookup.now.source.now) in
+    ensures whole_work { let most = most_lookups (S.shows lookup.now.source.now)
+        (S.instances lookup.now.source.now) in
         IfOk result (λ whole. IsTrue whole →
         steps.new + length fitting.old.bindings * most ≤ steps.old + length fitting.new.bindings * most) }
-    ensures lacks { OnErr result (IsLacking (S.shows lookup.now.source.now) (S.instances lookup.now.source.now)
+    ensures lacks { OnErr result (IsLacking (S.shows lookup.now.source.now)
+        (S.instances lookup.now.source.now)
         (λ found. names_of asked.now) fitting.old.bindings (fitting.old.bindings ++ next_answers
         (visible (S.shows lookup.now.source.now) (S.instances lookup.now.source.now)) (names_of asked.now))
         fitting.new.bindings) }
@@ -173,7 +182,8 @@ fn send_successor<S: Successors<L>, L: Ledger>(
     spot: &mut Spot,
     steps: &mut Steps<L>,
 ) -> Result<bool, AllocError>
-    requires stands { AreStands (S.stands lookup.now.source.now) fitting.old.stands (names_of fitting.old.bindings) }
+    requires stands { AreStands (S.stands lookup.now.source.now) fitting.old.stands
+        (names_of fitting.old.bindings) }
     requires some { 1 ≤ back }
     requires there { back ≤ length fitting.old.bindings }
     ensures taken { let name = get_or (names_of fitting.old.bindings)
@@ -187,12 +197,15 @@ fn send_successor<S: Successors<L>, L: Ledger>(
         IfOk result (λ taken.
         taken ≡ fit_into fitting.old.space (fitting.old.bindings ++ next_answer
         (visible (S.shows lookup.now.source.now) (S.instances lookup.now.source.now)) name ∷ [])) }
-    ensures stands { AreStands (S.stands lookup.now.source.now) fitting.new.stands (names_of fitting.new.bindings) }
+    ensures stands { AreStands (S.stands lookup.now.source.now) fitting.new.stands
+        (names_of fitting.new.bindings) }
     ensures space { fitting.new.space ≡ fitting.old.space }
     ensures err { OnErr result (fitting.new.bindings ≡ fitting.old.bindings) }
-    ensures lacks { OnErr result (LacksName (S.shows lookup.now.source.now) (S.instances lookup.now.source.now)
+    ensures lacks { OnErr result (LacksName (S.shows lookup.now.source.now)
+        (S.instances lookup.now.source.now)
         (get_or (names_of fitting.old.bindings) (length fitting.old.bindings - back) [])) }
-    ensures work { steps.new ≤ steps.old + most_lookups (S.shows lookup.now.source.now) (S.instances lookup.now.source.now) }
+    ensures work { steps.new ≤ steps.old + most_lookups (S.shows lookup.now.source.now)
+        (S.instances lookup.now.source.now) }
 {
     let Lookup { alloc, source } = *lookup;
     let before = &fitting.last(back)[0];
@@ -213,7 +226,8 @@ fn repeat_last<S: Successors<L>, L: Ledger>(
     spot: &mut Spot,
     steps: &mut Steps<L>,
 ) -> Result<bool, AllocError>
-    requires stands { AreStands (S.stands lookup.now.source.now) fitting.old.stands (names_of fitting.old.bindings) }
+    requires stands { AreStands (S.stands lookup.now.source.now) fitting.old.stands
+        (names_of fitting.old.bindings) }
     requires columns { columns ≤ length fitting.old.bindings }
     ensures whole { let last = drop (length fitting.old.bindings - columns) fitting.old.bindings in
         IfOk result (λ whole. IsTrue whole →
@@ -222,14 +236,18 @@ fn repeat_last<S: Successors<L>, L: Ledger>(
     ensures cut { let last = drop (length fitting.old.bindings - columns) fitting.old.bindings in
         IfOk result (λ whole. whole ≡ false → (more : List Binding) →
         IsFilled fitting.new.space (fitting.old.bindings ++ (next_answers
-        (visible (S.shows lookup.now.source.now) (S.instances lookup.now.source.now)) (names_of last) ++ more))
+        (visible (S.shows lookup.now.source.now) (S.instances lookup.now.source.now)) (names_of last)
+        ++ more))
         fitting.new.bindings) }
-    ensures stands { AreStands (S.stands lookup.now.source.now) fitting.new.stands (names_of fitting.new.bindings) }
+    ensures stands { AreStands (S.stands lookup.now.source.now) fitting.new.stands
+        (names_of fitting.new.bindings) }
     ensures space { fitting.new.space ≡ fitting.old.space }
-    ensures work { let most = most_lookups (S.shows lookup.now.source.now) (S.instances lookup.now.source.now) in
+    ensures work { let most = most_lookups (S.shows lookup.now.source.now)
+        (S.instances lookup.now.source.now) in
         steps.new + length fitting.old.bindings * most
         ≤ steps.old + (length fitting.new.bindings + 1) * most }
-    ensures whole_work { let most = most_lookups (S.shows lookup.now.source.now) (S.instances lookup.now.source.now) in
+    ensures whole_work { let most = most_lookups (S.shows lookup.now.source.now)
+        (S.instances lookup.now.source.now) in
         IfOk result (λ whole. IsTrue whole →
         steps.new + length fitting.old.bindings * most ≤ steps.old + length fitting.new.bindings * most) }
     ensures lacks { let last = drop (length fitting.old.bindings - columns) fitting.old.bindings in
@@ -266,14 +284,18 @@ fn repeat_further<S: Successors<L>, L: Ledger>(
     spot: &mut Spot,
     steps: &mut Steps<L>,
 ) -> Result<(), AllocError>
-    requires stands { AreStands (S.stands lookup.now.source.now) fitting.old.stands (names_of fitting.old.bindings) }
+    requires stands { AreStands (S.stands lookup.now.source.now) fitting.old.stands
+        (names_of fitting.old.bindings) }
     requires columns { columns ≤ length fitting.old.bindings }
     ensures filled { let last = drop (length fitting.old.bindings - columns) fitting.old.bindings in
         OnOk result (IsFilled fitting.old.space (fitting.old.bindings ++ further
-        (visible (S.shows lookup.now.source.now) (S.instances lookup.now.source.now)) most last) fitting.new.bindings) }
-    ensures stands { AreStands (S.stands lookup.now.source.now) fitting.new.stands (names_of fitting.new.bindings) }
+        (visible (S.shows lookup.now.source.now)
+        (S.instances lookup.now.source.now)) most last) fitting.new.bindings) }
+    ensures stands { AreStands (S.stands lookup.now.source.now) fitting.new.stands
+        (names_of fitting.new.bindings) }
     ensures space { fitting.new.space ≡ fitting.old.space }
-    ensures work { let most = most_lookups (S.shows lookup.now.source.now) (S.instances lookup.now.source.now) in
+    ensures work { let most = most_lookups (S.shows lookup.now.source.now)
+        (S.instances lookup.now.source.now) in
         steps.new + length fitting.old.bindings * most
         ≤ steps.old + (length fitting.new.bindings + 1) * most }
     ensures lacks { let last = drop (length fitting.old.bindings - columns) fitting.old.bindings in
@@ -302,19 +324,24 @@ fn repeat<S: Successors<L>, L: Ledger>(
     spot: &mut Spot,
     steps: &mut Steps<L>,
 ) -> Result<(), AllocError>
-    requires stands { AreStands (S.stands lookup.now.source.now) fitting.old.stands (names_of fitting.old.bindings) }
+    requires stands { AreStands (S.stands lookup.now.source.now) fitting.old.stands
+        (names_of fitting.old.bindings) }
     requires encodable { AreEncodable asked.now }
     ensures filled { OnOk result (IsFilled fitting.old.space (fitting.old.bindings ++ repetitions
         (visible (S.shows lookup.now.source.now)
         (S.instances lookup.now.source.now)) most (names_of asked.now)) fitting.new.bindings) }
-    ensures stands { AreStands (S.stands lookup.now.source.now) fitting.new.stands (names_of fitting.new.bindings) }
+    ensures stands { AreStands (S.stands lookup.now.source.now) fitting.new.stands
+        (names_of fitting.new.bindings) }
     ensures space { fitting.new.space ≡ fitting.old.space }
-    ensures work { let most = most_lookups (S.shows lookup.now.source.now) (S.instances lookup.now.source.now) in
+    ensures work { let most = most_lookups (S.shows lookup.now.source.now)
+        (S.instances lookup.now.source.now) in
         steps.new + length fitting.old.bindings * most
         ≤ steps.old + (length fitting.new.bindings + 1) * most }
-    ensures lacks { OnErr result (IsLacking (S.shows lookup.now.source.now) (S.instances lookup.now.source.now)
+    ensures lacks { OnErr result (IsLacking (S.shows lookup.now.source.now)
+        (S.instances lookup.now.source.now)
         (bulk_names (names_of asked.now) 0) fitting.old.bindings (fitting.old.bindings ++ repetitions
-        (visible (S.shows lookup.now.source.now) (S.instances lookup.now.source.now)) most (names_of asked.now))
+        (visible (S.shows lookup.now.source.now) (S.instances lookup.now.source.now)) most
+        (names_of asked.now))
         fitting.new.bindings) }
 {
     if most == 0 {
@@ -336,20 +363,25 @@ fn send_list<S: Successors<L>, L: Ledger>(
     spot: &mut Spot,
     steps: &mut Steps<L>,
 ) -> Result<(), AllocError>
-    requires stands { AreStands (S.stands lookup.now.source.now) fitting.old.stands (names_of fitting.old.bindings) }
+    requires stands { AreStands (S.stands lookup.now.source.now) fitting.old.stands
+        (names_of fitting.old.bindings) }
     requires once { once ≤ length asked.now }
     requires encodable { AreEncodable asked.now }
     ensures filled { OnOk result (IsFilled fitting.old.space (fitting.old.bindings ++ bulk_list
         (visible (S.shows lookup.now.source.now) (S.instances lookup.now.source.now)) once most
         (names_of asked.now)) fitting.new.bindings) }
-    ensures stands { AreStands (S.stands lookup.now.source.now) fitting.new.stands (names_of fitting.new.bindings) }
+    ensures stands { AreStands (S.stands lookup.now.source.now) fitting.new.stands
+        (names_of fitting.new.bindings) }
     ensures space { fitting.new.space ≡ fitting.old.space }
-    ensures work { let most = most_lookups (S.shows lookup.now.source.now) (S.instances lookup.now.source.now) in
+    ensures work { let most = most_lookups (S.shows lookup.now.source.now)
+        (S.instances lookup.now.source.now) in
         steps.new + length fitting.old.bindings * most
         ≤ steps.old + (length fitting.new.bindings + 1) * most }
-    ensures lacks { OnErr result (IsLacking (S.shows lookup.now.source.now) (S.instances lookup.now.source.now)
+    ensures lacks { OnErr result (IsLacking (S.shows lookup.now.source.now)
+        (S.instances lookup.now.source.now)
         (bulk_names (names_of asked.now) once) fitting.old.bindings (fitting.old.bindings ++ bulk_list
-        (visible (S.shows lookup.now.source.now) (S.instances lookup.now.source.now)) once most (names_of asked.now))
+        (visible (S.shows lookup.now.source.now) (S.instances lookup.now.source.now)) once most
+        (names_of asked.now))
         fitting.new.bindings) }
 {
     let (first, columns) = asked.split_at(once);
